@@ -1,0 +1,64 @@
+-- Routines as trees, without where they lie in memory. A text is the list of its bytes.
+use Rattle.std.specs.Prelude.{ℕ, List, Option}
+use Rattle.mj_ast.specs.declared.expr.Scope.{Scope}
+use Rattle.mj_ast.specs.declared.expr.UnaryOp.{UnaryOp}
+use Rattle.mj_ast.specs.declared.expr.BinaryOp.{BinaryOp}
+use Rattle.mj_ast.specs.declared.routine.Mark.{Mark}
+
+mutual
+  -- an operand, and then operators with theirs, which are applied from left to right
+  pub data Expr : Type 0 where
+    Chain : (first : Operand) (rest : Tails) → Expr
+
+  -- operators with their right operands, in order
+  pub data Tails : Type 0 where
+    Done : Tails
+    Then : (op : BinaryOp) (operand : Operand) (rest : Tails) → Tails
+
+  -- what stands between binary operators: a quoted text, or the canonic text of the number that digits read; the
+  -- value of a variable; an operator and its operand; an expression in parentheses
+  pub data Operand : Type 0 where
+    Literal : (value : List ℕ) → Operand
+    Value : (v : Variable) → Operand
+    Unary : (op : UnaryOp) (operand : Operand) → Operand
+    Group : (e : Expr) → Operand
+
+  -- a local or a global, with its subscripts
+  pub data Variable : Type 0 where
+    Var : (scope : Scope) (word : List ℕ) (subscripts : Exprs) → Variable
+
+  -- expressions, in order
+  pub data Exprs : Type 0 where
+    No : Exprs
+    More : (e : Expr) (rest : Exprs) → Exprs
+
+-- an argument of SET: a destination and the value that it gets
+pub record Assignment : Type 0 where
+  pub destination : Variable
+  pub value : Expr
+
+-- an argument of WRITE: the text of an expression, or a run of format marks
+pub data Output : Type 0 where
+  Shown : (e : Expr) → Output
+  Format : (marks : List Mark) → Output
+
+-- what a command does, with its arguments
+pub data Command : Type 0 where
+  Set : (arguments : List Assignment) → Command
+  Write : (arguments : List Output) → Command
+  Halt : Command
+
+-- a command with its postcondition, if it has one
+pub record Step : Type 0 where
+  pub condition : Option Expr
+  pub command : Command
+
+-- a line: its label, a name or digits as they were spelled, and its commands
+pub record Line : Type 0 where
+  pub label : Option (List ℕ)
+  pub steps : List Step
+
+-- a routine: its name and its lines, of which the first is line 1
+pub record Routine : Type 0 where
+  pub name : List ℕ
+  pub lines : List Line

@@ -1,0 +1,67 @@
+-- The trees that the program keeps, without where they lie in memory.
+use Rattle.std.specs.Prelude.{List, [], ◌∷◌, map, option_map}
+use Rattle.mj_ast.specs.declared.expr.Expr as expr
+use Rattle.mj_ast.specs.declared.expr.Tail as tail
+use Rattle.mj_ast.specs.declared.expr.Operand as operand
+use Rattle.mj_ast.specs.declared.expr.Variable as variable
+use Rattle.mj_ast.specs.declared.routine.Assignment as assignment
+use Rattle.mj_ast.specs.declared.routine.Output as kept_output
+use Rattle.mj_ast.specs.declared.routine.Output.TheVariants as output
+use Rattle.mj_ast.specs.declared.routine.Command as kept_command
+use Rattle.mj_ast.specs.declared.routine.Command.TheVariants as command
+use Rattle.mj_ast.specs.declared.routine.Step as step
+use Rattle.mj_ast.specs.declared.routine.Line as line
+use Rattle.mj_ast.specs.declared.routine.Routine as routine
+use Rattle.mj_ast.specs.Syntax.{Expr, Chain, Tails, Done, Then, Operand, Literal, Value, Unary, Group, Variable, Var, Exprs, No, More, Assignment, Output, Shown, Format, Command, Set, Write, Halt, Step, Line, Routine}
+
+abbrev mutual
+  pub operand_of : operand.Operand → Operand
+  operand_of (operand.Literal t) = Literal t
+  operand_of (operand.Variable v) = Value (variable_of v)
+  operand_of (operand.Unary' op p x) = Unary op (operand_of x)
+  operand_of (operand.Group' p e) = Group (expr_of e)
+
+  pub expr_of : expr.Expr → Expr
+  expr_of (expr.Expr' first shape row) = Chain (operand_of first) (tail_row row)
+
+  pub variable_of : variable.Variable → Variable
+  variable_of (variable.Variable' scope word shape row) = Var scope word (expr_row row)
+
+  pub tail_row : {m : _} → expr.Row_of-Tail m → Tails
+  tail_row expr.end_of-Tail = Done
+  tail_row (expr.more_of-Tail op x rest) = Then op (operand_of x) (tail_row rest)
+
+  pub expr_row : {m : _} → variable.Row_of-Expr m → Exprs
+  expr_row variable.end_of-Expr = No
+  expr_row (variable.more_of-Expr e rest) = More (expr_of e) (expr_row rest)
+
+-- operators and operands that are kept in a list
+abbrev pub tails_of : List tail.Tail → Tails
+tails_of [] = Done
+tails_of (t ∷ ts) = Then t.op (operand_of t.operand) (tails_of ts)
+
+-- expressions that are kept in a list
+abbrev pub exprs_of : List expr.Expr → Exprs
+exprs_of [] = No
+exprs_of (e ∷ es) = More (expr_of e) (exprs_of es)
+
+abbrev pub assignment_of : assignment.Assignment → Assignment
+assignment_of a = record { destination = variable_of a.destination; value = expr_of a.value }
+
+abbrev pub output_of : kept_output.Output → Output
+output_of (output.Value e) = Shown (expr_of e)
+output_of (output.Format marks) = Format marks.items
+
+abbrev pub command_of : kept_command.Command → Command
+command_of (command.Set v) = Set (map assignment_of v.items)
+command_of (command.Write v) = Write (map output_of v.items)
+command_of command.Halt = Halt
+
+abbrev pub step_of : step.Step → Step
+step_of s = record { condition = option_map expr_of s.condition; command = command_of s.command }
+
+abbrev pub line_of : line.Line → Line
+line_of l = record { label = l.label; steps = map step_of l.steps.items }
+
+abbrev pub routine_of : routine.Routine → Routine
+routine_of r = record { name = r.name; lines = map line_of r.lines.items }

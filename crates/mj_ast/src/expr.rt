@@ -1,0 +1,73 @@
+// Expressions.
+
+use mj_text::Text;
+
+/// Whose a variable is: the job's own, or shared by all jobs.
+#[derive(Clone, Copy, PartialEq, Eq, Debug)]
+pub enum Scope {
+    Local,
+    Global,
+}
+
+/// An operator before its operand.
+#[derive(Clone, Copy, PartialEq, Eq, Debug)]
+pub enum UnaryOp {
+    /// `+`
+    Plus,
+    /// `-`
+    Minus,
+}
+
+/// An operator between two operands.
+#[derive(Clone, Copy, PartialEq, Eq, Debug)]
+pub enum BinaryOp {
+    /// `+`
+    Add,
+    /// `-`
+    Subtract,
+    /// `*`
+    Multiply,
+    /// `_`
+    Join,
+    /// `=`
+    Equal,
+}
+
+/// An operand, and then operators with theirs, which are applied from left to right.
+#[derive(Drop)]
+#[cycle(expr)]
+pub struct Expr {
+    pub first: Operand,
+    pub rest: Vec<Tail>,
+}
+
+/// An operator and its right operand.
+#[derive(Drop)]
+#[cycle(expr)]
+pub struct Tail {
+    pub op: BinaryOp,
+    pub operand: Operand,
+}
+
+/// What stands between binary operators.
+#[derive(Drop)]
+#[cycle(expr)]
+pub enum Operand {
+    /// a quoted text, or the canonic text of the number that digits read
+    Literal(Text),
+    /// the value of a variable
+    Variable(Variable),
+    /// an operator and its operand
+    Unary(UnaryOp, Box<Operand>),
+    /// an expression in parentheses
+    Group(Box<Expr>),
+}
+
+/// A local or a global, with its subscripts.
+#[derive(Drop)]
+#[cycle(expr)]
+pub struct Variable {
+    pub scope: Scope,
+    pub word: Text,
+    pub subscripts: Vec<Expr>,
+}

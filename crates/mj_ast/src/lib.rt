@@ -1,0 +1,11 @@
+// Routines as trees: what the reader gives and the assembler takes.
+//
+// The trees are plain data. `specs/Syntax.antt` has them without where they lie in memory, which is what the meaning of
+// routines is defined on, and `specs/Trees.antt` leads from the one to the other.
+#![tactic(auto)]
+
+mod expr;
+mod routine;
+
+pub use expr::{BinaryOp, Expr, Operand, Scope, Tail, UnaryOp, Variable};
+pub use routine::{Assignment, Command, Line, Mark, Output, Routine, Step};
