@@ -1,0 +1,2 @@
+-- What the clauses of this crate, and of those above it, cite.
+pub mod Number
