@@ -1,6 +1,7 @@
 -- The definitions at worked rows: what each says is what a reader of the language expects.
 use Rattle.std.proofs.Common.{◌≡◌, refl, [], Ok, Err}
-use lib.Chars.{codes}
+use Rattle.std.specs.Prelude.{codes}
+use Rattle.std.specs.Fmt.{digits}
 use Rattle.mj_text.specs.declared.fault.Fault.TheVariants.{Divide as DivideFault, Fraction, Range}
 use Rattle.mj_oper.specs.declared.op.Op.TheVariants.{Add, Multiply, Quotient, Remainder, Divide, Join, Is, IsNot}
 use Rattle.mj_oper.specs.declared.op.TruthOp.TheVariants.{Equal, Greater, Contains, Follows, SortsAfter, And, Or}
@@ -9,24 +10,31 @@ use Rattle.mj_oper.specs.Operators.{binary_value, unary_value}
 
 -- 2+3*4, from left to right
 sum : binary_value Add (codes "2") (codes "3") ≡ Ok (codes "5")
+unfolding digits
 sum = refl
 
 product : binary_value Multiply (codes "5") (codes "4") ≡ Ok (codes "20")
+unfolding digits
 product = refl
 
 reading_stops_at_a_letter : binary_value Add (codes "2x") (codes "3") ≡ Ok (codes "5")
+unfolding digits
 reading_stops_at_a_letter = refl
 
 quotient_towards_0 : binary_value Quotient (codes "-7") (codes "2") ≡ Ok (codes "-3")
+unfolding digits
 quotient_towards_0 = refl
 
 remainder_above_0 : binary_value Remainder (codes "-7") (codes "2") ≡ Ok (codes "1")
+unfolding digits
 remainder_above_0 = refl
 
 remainder_below_0 : binary_value Remainder (codes "7") (codes "-2") ≡ Ok (codes "-1")
+unfolding digits
 remainder_below_0 = refl
 
 whole_division : binary_value Divide (codes "-12") (codes "4") ≡ Ok (codes "-3")
+unfolding digits
 whole_division = refl
 
 division_by_0 : binary_value Quotient (codes "5") (codes "0") ≡ Err DivideFault
@@ -82,9 +90,11 @@ not_a_text : unary_value Not (codes "a") ≡ Ok (codes "1")
 not_a_text = refl
 
 signs : unary_value Minus (codes "-+-5x") ≡ Ok (codes "-5")
+unfolding digits
 signs = refl
 
 no_negative_0 : unary_value Minus (codes "a") ≡ Ok (codes "0")
+unfolding digits
 no_negative_0 = refl
 
 not_out_of_range : unary_value Not (codes "9999999999999999999") ≡ Err Range

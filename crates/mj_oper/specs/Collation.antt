@@ -1,14 +1,10 @@
 -- The subscript order, until the crate below has it.
-use Rattle.std.specs.Prelude.{ℕ, Bool, List, [], ◌∷◌, if◌then◌else◌}
+use Rattle.std.specs.Prelude.{ℕ, List, [], ◌∷◌, if◌then◌else◌}
 use Rattle.std.specs.declared.cmp.Ordering.{Ordering}
 use Rattle.std.specs.declared.cmp.Ordering.TheVariants.{Less, Equal, Greater}
 use Rattle.std.specs.Ordering.{nat_cmp, int_cmp}
 use Rattle.std.specs.Cmp.Lexicographic.{slice_cmp}
-use Rattle.std.specs.Str.{bytes_eq}
-use Rattle.mj_oper.specs.Number.{number_of, canonic_text}
-
-abbrev pub is_canonic : List ℕ → Bool
-is_canonic t = bytes_eq (canonic_text (number_of t)) t
+use Rattle.mj_num.specs.Number.{number_of, is_canonic}
 
 abbrev pub subscript_cmp : List ℕ → List ℕ → Ordering
 subscript_cmp [] [] = Equal
