@@ -1,0 +1,3 @@
+pub mod CollationLaws
+pub mod Names
+pub mod Examples
