@@ -1,2 +1,3 @@
 pub mod Syntax
 pub mod Trees
+pub mod Tokens

@@ -6,6 +6,8 @@
 
 mod expr;
 mod routine;
+mod sign;
 
 pub use expr::{BinaryOp, Expr, Operand, Scope, Tail, UnaryOp, Variable};
 pub use routine::{Assignment, Command, Line, Mark, Output, Routine, Step};
+pub use sign::Sign;
