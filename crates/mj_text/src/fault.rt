@@ -1,5 +1,7 @@
 // Why a job ends on its own account.
 
+ghost use Rattle.std.specs.Prelude.{◌≡◌};
+
 use std::alloc::{AllocError, AllocFailed};
 use thiserror::Error;
 
@@ -72,6 +74,40 @@ pub enum Fault {
     /// more values than formals
     #[error("F22 PARAMS")]
     Params,
+}
+
+impl Fault {
+    ghost use Rattle.mj_text.specs.Code.{code_of};
+
+    /// Its number, 1 to 22: the digits after the F of its printed name.
+    pub fn code(self) -> u32
+        ensures { result ≡ code_of self }
+    {
+        match self {
+            Fault::Undefined => 1,
+            Fault::Divide => 2,
+            Fault::Fraction => 3,
+            Fault::Range => 4,
+            Fault::Length => 5,
+            Fault::Subscript => 6,
+            Fault::Select => 7,
+            Fault::NoLine => 8,
+            Fault::Quit => 9,
+            Fault::QuitInTransaction => 10,
+            Fault::NoTransaction => 11,
+            Fault::NoRestart => 12,
+            Fault::InTransaction => 13,
+            Fault::Overlap => 14,
+            Fault::NoDevice => 15,
+            Fault::Device => 16,
+            Fault::Depth => 17,
+            Fault::Limit => 18,
+            Fault::Steps => 19,
+            Fault::ForIndex => 20,
+            Fault::Char => 21,
+            Fault::Params => 22,
+        }
+    }
 }
 
 /// Why a call gives no value: the job's fault, or want of memory.

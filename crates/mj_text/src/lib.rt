@@ -7,4 +7,4 @@ mod fault;
 mod text;
 
 pub use fault::{Failure, Fault};
-pub use text::{Digits, Text, TEXT_LIMIT};
+pub use text::{Digits, TEXT_LIMIT, Text};

@@ -1,11 +1,20 @@
 // A text, and the room in which one that is kept as a number is spelled.
 
-ghost use Rattle.std.specs.Prelude.{◌≡◌, ◌≤◌, ◌<◌, ◌+◌, ◌-◌, ◌↔◌, ◌++◌, [], length, take, drop, IfOk, OnErr, OnOk};
+ghost use Rattle.std.specs.Prelude.{◌≡◌, ◌≤◌, ◌<◌, ◌+◌, ◌-◌, ◌↔◌, ◌++◌, [], length, take, drop, IsTrue, IfOk, IfSome, IsOkUnless};
+ghost use Rattle.std.specs.Fmt.{signed_decimal};
+ghost use Rattle.std.specs.Ordering.{nat_cmp};
+ghost use Rattle.std.specs.Cmp.Lexicographic.{slice_cmp};
+ghost use Rattle.memchr.specs.Find.{FindsNeedle};
 ghost use Rattle.mj_text.specs.declared.fault.Failure.TheVariants as failure;
 ghost use Rattle.mj_text.specs.declared.fault.Fault.TheVariants as fault;
+ghost use Rattle.mj_text.specs.Kept.{IsWhole};
+ghost use Rattle.mj_text.specs.Find.{find_from};
 
 use crate::fault::{Failure, Fault};
+use itoa::Buffer;
+use memchr::memmem;
 use std::alloc::{AllocError, Global};
+use std::cmp::Ordering;
 use std::marker::Model;
 
 /// The greatest number of bytes of a text.
@@ -14,30 +23,43 @@ pub const TEXT_LIMIT: usize = 32_767;
 /// Room for the spelling of a text that is kept as a number. One serves any number of texts, one after the other.
 #[derive(Drop)]
 pub struct Digits {
-    room: [u8; 20],
+    room: Buffer,
 }
 
 impl Digits {
     /// Room, which holds nothing yet.
     pub fn new() -> Digits {
-        Digits { room: [0; 20] }
+        Digits {
+            room: Buffer::new(),
+        }
     }
 }
 
 /// A list of at most [`TEXT_LIMIT`] bytes.
 #[derive(Drop)]
 pub struct Text {
-    kept: Vec<u8>,
+    alloc: Global,
+    kept: Kept,
+}
+
+#[derive(Drop)]
+enum Kept {
+    // A whole number, not spelled yet.
+    Number(i64),
+    // Any bytes, which may spell a number too.
+    Bytes(Vec<u8>),
 }
 
 impl Model for Text {
-    ghost use Rattle.std.specs.Prelude.{List, ℕ, ◌≤◌, length};
+    ghost use Rattle.std.specs.Prelude.{List, ℕ};
 
     ghost Value = { List ℕ };
 
-    ghost view = { λ t. t.kept.items };
+    ghost use Rattle.mj_text.specs.Kept.{bytes_of, IsWithin};
 
-    ghost invariant = { λ t. length t.kept.items ≤ 32767 };
+    ghost view = { λ t. bytes_of t.kept };
+
+    ghost invariant = { λ t. IsWithin t.kept };
 }
 
 impl Text {
@@ -45,20 +67,32 @@ impl Text {
     pub fn new(alloc: Global) -> Text
         ensures { result ≡ [] }
     {
-        Text { kept: Vec::new(alloc) }
+        Text {
+            alloc,
+            kept: Kept::Bytes(Vec::new(alloc)),
+        }
     }
 
-    /// A text of these bytes. More than the limit are `LENGTH`.
+    /// A text of these bytes. More than the limit are `Length`.
     pub fn from(alloc: Global, bytes: &[u8]) -> Result<Text, Failure>
         ensures ok { IfOk result (λ t. t ≡ bytes.now) }
         ensures long { (result ≡ Err (failure.Fault fault.Length)) ↔ (TEXT_LIMIT < length bytes.now) }
+        ensures within { length bytes.now ≤ TEXT_LIMIT → IsOkUnless result failure.Memory }
     {
         if bytes.len() > TEXT_LIMIT {
             return Err(Failure::Fault(Fault::Length));
         }
-        match Vec::from_slice(alloc, bytes) {
-            Ok(kept) => Ok(Text { kept }),
-            Err(_) => Err(Failure::Memory),
+        Ok(Text::within(alloc, bytes)?)
+    }
+
+    /// The decimal spelling of a whole number: `-` before a negative one, no leading zeros. It takes no memory.
+    pub fn from_number(alloc: Global, number: i64) -> Text
+        requires { IsWhole number }
+        ensures { result ≡ signed_decimal number }
+    {
+        Text {
+            alloc,
+            kept: Kept::Number(number),
         }
     }
 
@@ -67,7 +101,14 @@ impl Text {
         ensures value { result ≡ length self.now }
         ensures limit { result ≤ TEXT_LIMIT }
     {
-        self.kept.len()
+        self.bytes(&mut Digits::new()).len()
+    }
+
+    /// Whether it has no byte.
+    pub fn is_empty(&self) -> bool
+        ensures { IsTrue result ↔ (self.now ≡ []) }
+    {
+        self.len() == 0
     }
 
     /// Its bytes, in order. Those of a number are spelled into `digits`.
@@ -75,7 +116,145 @@ impl Text {
         ensures value { result.now ≡ self.now }
         ensures limit { length result.now ≤ TEXT_LIMIT }
     {
-        let _ = digits;
-        self.kept.as_slice()
+        match &self.kept {
+            Kept::Number(number) => digits.room.format(*number).as_bytes(),
+            Kept::Bytes(bytes) => bytes.as_slice(),
+        }
     }
+
+    /// The number that it spells, where that is at hand. `None` says nothing: the text may spell a number or not.
+    pub fn number(&self) -> Option<i64>
+        ensures { IfSome result (λ n. IsWhole n × (self.now ≡ signed_decimal n)) }
+    {
+        match &self.kept {
+            Kept::Number(number) => Some(*number),
+            Kept::Bytes(_) => None,
+        }
+    }
+
+    /// Its bytes and then those of `other`. More than the limit are `Length`.
+    pub fn join(&self, other: &Text) -> Result<Text, Failure>
+        ensures ok { IfOk result (λ t. t ≡ self.now ++ other.now) }
+        ensures long { (result ≡ Err (failure.Fault fault.Length)) ↔ (TEXT_LIMIT < length self.now + length other.now) }
+        ensures within { length self.now + length other.now ≤ TEXT_LIMIT → IsOkUnless result failure.Memory }
+    {
+        let mut digits = Digits::new();
+        let mut other_digits = Digits::new();
+        let front = self.bytes(&mut digits);
+        let back = other.bytes(&mut other_digits);
+        if front.len() + back.len() > TEXT_LIMIT {
+            return Err(Failure::Fault(Fault::Length));
+        }
+        Ok(Text::joined(self.alloc, front, back)?)
+    }
+
+    /// Its bytes from place `start` up to place `end`, which isn't in it. Places count from 0. Those past its end hold nothing.
+    pub fn cut(&self, start: usize, end: usize) -> Result<Text, AllocError>
+        ensures { IfOk result (λ t. t ≡ take (end - start) (drop start self.now)) }
+    {
+        let mut digits = Digits::new();
+        let bytes = self.bytes(&mut digits);
+        let end = end.min(bytes.len());
+        let start = start.min(end);
+        Text::within(self.alloc, &bytes[start..end])
+    }
+
+    /// The least place from `start` on at which `part` stands. An empty part stands at each place, also at the text's end.
+    pub fn find(&self, part: &Text, start: usize) -> Option<usize>
+        ensures value { result ≡ find_from self.now part.now start }
+        ensures place { FindsNeedle self.now part.now start result }
+    {
+        let mut digits = Digits::new();
+        let mut part_digits = Digits::new();
+        let bytes = self.bytes(&mut digits);
+        let part = part.bytes(&mut part_digits);
+        if start > bytes.len() {
+            return None;
+        }
+        match memmem::find(&bytes[start..], part) {
+            Some(place) => Some(place + start),
+            None => None,
+        }
+    }
+
+    /// The same text once more.
+    pub fn try_clone(&self) -> Result<Text, AllocError>
+        ensures { IfOk result (λ t. t ≡ self.now) }
+    {
+        match &self.kept {
+            Kept::Number(number) => Ok(Text {
+                alloc: self.alloc,
+                kept: Kept::Number(*number),
+            }),
+            Kept::Bytes(bytes) => Text::within(self.alloc, bytes.as_slice()),
+        }
+    }
+
+    /// How it compares with `other` byte by byte, a proper front first.
+    pub fn cmp_bytes(&self, other: &Text) -> Ordering
+        ensures { result ≡ slice_cmp nat_cmp self.now other.now }
+    {
+        let mut digits = Digits::new();
+        let mut other_digits = Digits::new();
+        self.bytes(&mut digits).cmp(other.bytes(&mut other_digits))
+    }
+
+    // A text of bytes that are within the limit.
+    fn within(alloc: Global, bytes: &[u8]) -> Result<Text, AllocError>
+        requires { length bytes.now ≤ TEXT_LIMIT }
+        ensures { IfOk result (λ t. t ≡ bytes.now) }
+    {
+        Ok(Text {
+            alloc,
+            kept: Kept::Bytes(Vec::from_slice(alloc, bytes)?),
+        })
+    }
+
+    // A text of two lists of bytes, which together are within the limit.
+    fn joined(alloc: Global, front: &[u8], back: &[u8]) -> Result<Text, AllocError>
+        requires { length front.now + length back.now ≤ TEXT_LIMIT }
+        ensures { IfOk result (λ t. t ≡ front.now ++ back.now) }
+    {
+        let mut bytes = Vec::with_capacity(alloc, front.len() + back.len())?;
+        bytes.extend_from_slice(front)?;
+        bytes.extend_from_slice(back)?;
+        Ok(Text {
+            alloc,
+            kept: Kept::Bytes(bytes),
+        })
+    }
+}
+
+impl Clone for Text {
+    ghost is_clone = { λ t copy. copy ≡ t };
+
+    fn clone(&self) -> Result<Text, AllocError> {
+        self.try_clone()
+    }
+}
+
+impl PartialEq for Text {
+    ghost use Rattle.std.specs.Prelude.{◌≡◌, ◌↔◌, IsTrue};
+    ghost use Rattle.std.specs.Str.{bytes_eq};
+    ghost use Rattle.std.specs.Cmp.{partial_equiv_from_equiv};
+    ghost use Rattle.std.specs.Cmp.Lexicographic.{nat_list_eq_equiv};
+
+    ghost eq = { bytes_eq };
+
+    ghost laws = { partial_equiv_from_equiv nat_list_eq_equiv };
+
+    fn eq(&self, other: &Text) -> bool
+        ensures same { IsTrue result ↔ (self.now ≡ other.now) }
+        ensures value { result ≡ bytes_eq self.now other.now }
+    {
+        let mut digits = Digits::new();
+        let mut other_digits = Digits::new();
+        self.bytes(&mut digits) == other.bytes(&mut other_digits)
+    }
+}
+
+impl Eq for Text {
+    ghost use Rattle.std.specs.Cmp.Lexicographic.{nat_list_eq_equiv};
+
+    ghost laws = { nat_list_eq_equiv };
 }
