@@ -1,0 +1,30 @@
+-- The tokens that the program keeps, without where their bytes lie.
+use Rattle.std.specs.Prelude.{ℕ, ◌==◌, true, false, List, [], ◌∷◌, map}
+use Rattle.mj_ast.specs.Tokens.{Token, Word, Digits, Quoted, Signed, Blank, Comment, Unclosed, Stray}
+use Rattle.mj_lex.specs.declared.token.Token as kept
+use Rattle.mj_lex.specs.declared.token.Token.TheVariants as token
+use Rattle.mj_lex.specs.declared.token.Lexeme as lexeme
+
+-- the content of a quoted text, of which the bytes between the quotes are given: of two quotes in a row one
+abbrev mutual
+  pub undoubled : List ℕ → List ℕ
+  undoubled [] = []
+  undoubled (b ∷ bs) = b ∷ elim (b == 34) [ true ↦ undoubled_behind bs | false ↦ undoubled bs ]
+
+  -- behind the first of two quotes
+  pub undoubled_behind : List ℕ → List ℕ
+  undoubled_behind [] = []
+  undoubled_behind (b ∷ bs) = undoubled bs
+
+abbrev pub token_seen : kept.Token → Token
+token_seen (token.Word w) = Word w.now
+token_seen (token.Digits d) = Digits d.now
+token_seen (token.Quoted q) = Quoted (undoubled q.now)
+token_seen (token.Sign s) = Signed s
+token_seen token.Blank = Blank
+token_seen (token.Comment c) = Comment c.now
+token_seen (token.Unclosed u) = Unclosed (undoubled u.now)
+token_seen (token.Stray b) = Stray b
+
+abbrev pub tokens_seen : List lexeme.Lexeme → List Token
+tokens_seen ls = map (λ l. token_seen l.token) ls

@@ -1,0 +1,117 @@
+// The token at the front of the bytes of a line.
+
+ghost use Rattle.std.specs.Prelude.{◌≡◌, ◌<◌, ◌≤◌, ◌+◌, [], length, take_while, IfSome, IfOk, MatchOption};
+
+use crate::token::{Lexeme, Token};
+use mj_ast::Sign;
+use std::alloc::{AllocError, Global};
+
+/// What a byte begins.
+#[derive(Clone, Copy)]
+enum Class {
+    Word,
+    Digit,
+    Quote,
+    Blank,
+    Comment,
+    Sign(Sign),
+    Other,
+}
+
+fn begun_by(byte: u8) -> Class {
+    match byte {
+        b'A'..=b'Z' | b'a'..=b'z' | b'%' => Class::Word,
+        b'0'..=b'9' => Class::Digit,
+        b' ' | b'\t' => Class::Blank,
+        b'"' => Class::Quote,
+        b';' => Class::Comment,
+        b'+' => Class::Sign(Sign::Plus),
+        b'-' => Class::Sign(Sign::Minus),
+        b'*' => Class::Sign(Sign::Star),
+        b'_' => Class::Sign(Sign::Underscore),
+        b'=' => Class::Sign(Sign::Equals),
+        b'^' => Class::Sign(Sign::Caret),
+        b'(' => Class::Sign(Sign::Open),
+        b')' => Class::Sign(Sign::Close),
+        b',' => Class::Sign(Sign::Comma),
+        b':' => Class::Sign(Sign::Colon),
+        b'!' => Class::Sign(Sign::Exclamation),
+        _ => Class::Other,
+    }
+}
+
+/// How many letters and digits stand in front.
+fn word_length(bytes: &[u8]) -> usize
+    ensures { result ≤ length bytes.now }
+{
+    bytes
+        .iter()
+        .position(|byte| !byte.is_ascii_alphanumeric())
+        .unwrap_or(bytes.len())
+}
+
+/// How many digits stand in front.
+fn digits_length(bytes: &[u8]) -> usize
+    ensures { result ≤ length bytes.now }
+{
+    bytes
+        .iter()
+        .position(|byte| !byte.is_ascii_digit())
+        .unwrap_or(bytes.len())
+}
+
+/// The quoted text from behind its opening quote on, and what follows it.
+fn quoted(bytes: &[u8]) -> (Token<'_>, &[u8])
+    ensures { length result.1.now ≤ length bytes.now }
+{
+    let mut at = 0;
+    'content: while at < bytes.len() {
+        if bytes[at] != b'"' {
+            at += 1;
+        } else if at + 1 < bytes.len() && bytes[at + 1] == b'"' {
+            at += 2;
+        } else {
+            return (Token::Quoted(&bytes[..at]), &bytes[at + 1..]);
+        }
+    }
+    (Token::Unclosed(bytes), &bytes[bytes.len()..])
+}
+
+/// The token at the front, and the bytes behind it.
+fn front(bytes: &[u8]) -> Option<(Token<'_>, &[u8])>
+    ensures { MatchOption result (bytes.now ≡ []) (λ x. length x.1.now < length bytes.now) }
+{
+    let (first, rest) = match bytes {
+        [] => return None,
+        [first, rest @ ..] => (*first, rest),
+    };
+    Some(match begun_by(first) {
+        Class::Word => {
+            let n = word_length(rest);
+            (Token::Word(&bytes[..n + 1]), &rest[n..])
+        }
+        Class::Digit => {
+            let n = digits_length(rest);
+            (Token::Digits(&bytes[..n + 1]), &rest[n..])
+        }
+        Class::Quote => quoted(rest),
+        Class::Blank => (Token::Blank, rest),
+        Class::Comment => (Token::Comment(rest), &rest[rest.len()..]),
+        Class::Sign(sign) => (Token::Sign(sign), rest),
+        Class::Other => (Token::Stray(first), rest),
+    })
+}
+
+/// The tokens of a line, from the left.
+pub fn tokens<'a>(alloc: Global, line: &'a [u8]) -> Result<Vec<Lexeme<'a>>, AllocError> {
+    let mut lexemes = Vec::new(alloc);
+    let mut rest = line;
+    'tokens: while let Some((token, behind)) = front(rest) {
+        lexemes.push(Lexeme {
+            token,
+            at: line.len() - rest.len(),
+        })?;
+        rest = behind;
+    }
+    Ok(lexemes)
+}

@@ -1,0 +1,67 @@
+// Tokens, and what is read off them.
+
+ghost use Rattle.std.specs.Prelude.{◌≡◌, ◌∷◌, [], IfOk, MatchOption};
+ghost use Rattle.std.specs.Prelude.{IfErr, ◌<◌, ◌↔◌, length};
+ghost use Rattle.mj_lex.specs.Seen.{token_seen, tokens_seen, undoubled};
+ghost use Rattle.mj_text.specs.declared.fault.Failure.TheVariants as failure;
+ghost use Rattle.mj_text.specs.declared.fault.Fault.TheVariants as fault;
+
+use mj_ast::Sign;
+use mj_text::{Failure, TEXT_LIMIT, Text};
+use std::alloc::Global;
+
+/// A token of a line, with its bytes where they matter.
+#[derive(Clone, Copy)]
+pub enum Token<'a> {
+    /// a letter or `%`, then letters and digits
+    Word(&'a [u8]),
+    /// digits
+    Digits(&'a [u8]),
+    /// a quoted text: the bytes between its quotes, in which each quote is doubled
+    Quoted(&'a [u8]),
+    /// a sign
+    Sign(Sign),
+    /// one space or tab
+    Blank,
+    /// the bytes behind a `;`, up to the line's end
+    Comment(&'a [u8]),
+    /// the bytes behind a quote that isn't closed, up to the line's end
+    Unclosed(&'a [u8]),
+    /// any other byte
+    Stray(u8),
+}
+
+/// A token, and how many bytes of its line stand before it.
+#[derive(Clone, Copy)]
+pub struct Lexeme<'a> {
+    pub token: Token<'a>,
+    pub at: usize,
+}
+
+/// The first token, and those behind it.
+pub fn next<'a, 't>(tokens: &'t [Lexeme<'a>]) -> Option<(Token<'a>, &'t [Lexeme<'a>])>
+    ensures { MatchOption result (tokens.now ≡ []) (λ x. tokens_seen tokens.now ≡ token_seen x.0 ∷ tokens_seen x.1.now) }
+{
+    match tokens {
+        [] => None,
+        [first, rest @ ..] => Some((first.token, rest)),
+    }
+}
+
+/// The content of a quoted text, from the bytes between its quotes: of two quotes in a row one. Content above the limit of
+/// a text is `LENGTH`.
+pub fn unquoted(alloc: Global, bytes: &[u8]) -> Result<Text, Failure>
+    ensures ok { IfOk result (λ t. t ≡ undoubled bytes.now) }
+    ensures long { (result ≡ Err (failure.Fault fault.Length)) → TEXT_LIMIT < length (undoubled bytes.now) }
+{
+    let mut content = Vec::new(alloc);
+    let mut rest = bytes;
+    'content: while let [first, behind @ ..] = rest {
+        content.push(*first)?;
+        rest = match behind {
+            [_, more @ ..] if *first == b'"' => more,
+            _ => behind,
+        };
+    }
+    Text::from(alloc, content.as_slice())
+}
