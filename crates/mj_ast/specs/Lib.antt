@@ -1,3 +1,4 @@
 pub mod Syntax
 pub mod Trees
 pub mod Tokens
+pub mod Expressions
