@@ -1,9 +1,11 @@
 -- How a text is kept, and which list of bytes that is.
 use Rattle.std.specs.Prelude.{ℕ, ℤ, pos, negsuc, ◌≤◌, ◌≤ℤ◌, List, length}
+use Rattle.std.specs.Arc.{arc_slice_items}
 use Rattle.std.specs.Fmt.{signed_decimal}
 use Rattle.mj_text.specs.declared.text.TheConstants.{TEXT_LIMIT}
 use Rattle.mj_text.specs.declared.text.Kept.{Kept}
-use Rattle.mj_text.specs.declared.text.Kept.TheVariants.{Number, Bytes}
+use Rattle.mj_text.specs.declared.text.Kept.TheVariants.{Number, Short, Long}
+use Rattle.mj_text.specs.Short.{short_bytes}
 
 -- a whole number of the language: at most 10^18 - 1 in magnitude (this profile)
 abbrev pub IsWhole : ℤ → Type 0
@@ -12,9 +14,11 @@ IsWhole n = (negsuc 999999999999999998 ≤ℤ n) × (n ≤ℤ pos 99999999999999
 -- the bytes of a text: those of a number are its decimal spelling
 abbrev pub bytes_of : Kept → List ℕ
 bytes_of (Number n) = signed_decimal n
-bytes_of (Bytes v) = v.items
+bytes_of (Short s) = short_bytes s
+bytes_of (Long shared) = arc_slice_items shared
 
 -- what is kept is a whole number, or bytes within the limit
 abbrev pub IsWithin : Kept → Type 0
 IsWithin (Number n) = IsWhole n
-IsWithin (Bytes v) = length v.items ≤ TEXT_LIMIT
+IsWithin (Short s) = s.len ≤ 22
+IsWithin (Long shared) = length (arc_slice_items shared) ≤ TEXT_LIMIT

@@ -4,6 +4,7 @@
 #![tactic(auto)]
 
 mod fault;
+mod short;
 mod text;
 
 pub use fault::{Failure, Fault};

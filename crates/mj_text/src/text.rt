@@ -11,11 +11,13 @@ ghost use Rattle.mj_text.specs.Kept.{IsWhole};
 ghost use Rattle.mj_text.specs.Find.{find_from};
 
 use crate::fault::{Failure, Fault};
+use crate::short::{SHORT_LIMIT, Short};
 use itoa::Buffer;
 use memchr::memmem;
 use std::alloc::{AllocError, Global};
 use std::cmp::Ordering;
 use std::marker::Model;
+use std::sync::ArcSlice;
 
 /// The greatest number of bytes of a text.
 pub const TEXT_LIMIT: usize = 32_767;
@@ -46,8 +48,10 @@ pub struct Text {
 enum Kept {
     // A whole number, not spelled yet.
     Number(i64),
-    // Any bytes, which may spell a number too.
-    Bytes(Vec<u8>),
+    // Few bytes, which may spell a number too.
+    Short(Short),
+    // More bytes, which every clone shares.
+    Long(ArcSlice<u8>),
 }
 
 impl Model for Text {
@@ -69,7 +73,7 @@ impl Text {
     {
         Text {
             alloc,
-            kept: Kept::Bytes(Vec::new(alloc)),
+            kept: Kept::Short(Short::of(&[], &[])),
         }
     }
 
@@ -82,7 +86,7 @@ impl Text {
         if bytes.len() > TEXT_LIMIT {
             return Err(Failure::Fault(Fault::Length));
         }
-        Ok(Text::within(alloc, bytes)?)
+        Ok(Text::joined(alloc, bytes, &[])?)
     }
 
     /// The decimal spelling of a whole number: `-` before a negative one, no leading zeros. It takes no memory.
@@ -118,7 +122,8 @@ impl Text {
     {
         match &self.kept {
             Kept::Number(number) => digits.room.format(*number).as_bytes(),
-            Kept::Bytes(bytes) => bytes.as_slice(),
+            Kept::Short(short) => short.bytes(),
+            Kept::Long(bytes) => bytes.as_slice(),
         }
     }
 
@@ -128,7 +133,7 @@ impl Text {
     {
         match &self.kept {
             Kept::Number(number) => Some(*number),
-            Kept::Bytes(_) => None,
+            Kept::Short(_) | Kept::Long(_) => None,
         }
     }
 
@@ -156,7 +161,7 @@ impl Text {
         let bytes = self.bytes(&mut digits);
         let end = end.min(bytes.len());
         let start = start.min(end);
-        Text::within(self.alloc, &bytes[start..end])
+        Text::joined(self.alloc, &bytes[start..end], &[])
     }
 
     /// The least place from `start` on at which `part` stands. An empty part stands at each place, also at the text's end.
@@ -181,13 +186,15 @@ impl Text {
     pub fn try_clone(&self) -> Result<Text, AllocError>
         ensures { IfOk result (λ t. t ≡ self.now) }
     {
-        match &self.kept {
-            Kept::Number(number) => Ok(Text {
-                alloc: self.alloc,
-                kept: Kept::Number(*number),
-            }),
-            Kept::Bytes(bytes) => Text::within(self.alloc, bytes.as_slice()),
-        }
+        let kept = match &self.kept {
+            Kept::Number(number) => Kept::Number(*number),
+            Kept::Short(short) => Kept::Short(*short),
+            Kept::Long(bytes) => Kept::Long(bytes.clone()?),
+        };
+        Ok(Text {
+            alloc: self.alloc,
+            kept,
+        })
     }
 
     /// How it compares with `other` byte by byte, a proper front first.
@@ -199,28 +206,24 @@ impl Text {
         self.bytes(&mut digits).cmp(other.bytes(&mut other_digits))
     }
 
-    // A text of bytes that are within the limit.
-    fn within(alloc: Global, bytes: &[u8]) -> Result<Text, AllocError>
-        requires { length bytes.now ≤ TEXT_LIMIT }
-        ensures { IfOk result (λ t. t ≡ bytes.now) }
-    {
-        Ok(Text {
-            alloc,
-            kept: Kept::Bytes(Vec::from_slice(alloc, bytes)?),
-        })
-    }
-
     // A text of two lists of bytes, which together are within the limit.
     fn joined(alloc: Global, front: &[u8], back: &[u8]) -> Result<Text, AllocError>
         requires { length front.now + length back.now ≤ TEXT_LIMIT }
         ensures { IfOk result (λ t. t ≡ front.now ++ back.now) }
     {
-        let mut bytes = Vec::with_capacity(alloc, front.len() + back.len())?;
+        let len = front.len() + back.len();
+        if len <= SHORT_LIMIT {
+            return Ok(Text {
+                alloc,
+                kept: Kept::Short(Short::of(front, back)),
+            });
+        }
+        let mut bytes = Vec::with_capacity(alloc, len)?;
         bytes.extend_from_slice(front)?;
         bytes.extend_from_slice(back)?;
         Ok(Text {
             alloc,
-            kept: Kept::Bytes(bytes),
+            kept: Kept::Long(ArcSlice::from_vec(bytes)?),
         })
     }
 }
