@@ -1,3 +1,4 @@
 pub mod ShortLemmas
+pub mod NumberLemmas
 pub mod FindLemmas
 pub mod Examples

@@ -16,6 +16,7 @@ use itoa::Buffer;
 use memchr::memmem;
 use std::alloc::{AllocError, Global};
 use std::cmp::Ordering;
+use std::fmt;
 use std::marker::Model;
 use std::sync::ArcSlice;
 
@@ -23,7 +24,7 @@ use std::sync::ArcSlice;
 pub const TEXT_LIMIT: usize = 32_767;
 
 /// Room for the spelling of a text that is kept as a number. One serves any number of texts, one after the other.
-#[derive(Drop)]
+#[derive(Default, Drop)]
 pub struct Digits {
     room: Buffer,
 }
@@ -150,6 +151,12 @@ impl Text {
         if front.len() + back.len() > TEXT_LIMIT {
             return Err(Failure::Fault(Fault::Length));
         }
+        if back.is_empty() {
+            return Ok(self.try_clone()?);
+        }
+        if front.is_empty() {
+            return Ok(other.try_clone()?);
+        }
         Ok(Text::joined(self.alloc, front, back)?)
     }
 
@@ -161,6 +168,9 @@ impl Text {
         let bytes = self.bytes(&mut digits);
         let end = end.min(bytes.len());
         let start = start.min(end);
+        if end - start == bytes.len() {
+            return self.try_clone();
+        }
         Text::joined(self.alloc, &bytes[start..end], &[])
     }
 
@@ -250,9 +260,10 @@ impl PartialEq for Text {
         ensures same { IsTrue result ↔ (self.now ≡ other.now) }
         ensures value { result ≡ bytes_eq self.now other.now }
     {
-        let mut digits = Digits::new();
-        let mut other_digits = Digits::new();
-        self.bytes(&mut digits) == other.bytes(&mut other_digits)
+        match (&self.kept, &other.kept) {
+            (Kept::Number(number), Kept::Number(other)) => *number == *other,
+            _ => self.bytes(&mut Digits::new()) == other.bytes(&mut Digits::new()),
+        }
     }
 }
 
@@ -260,4 +271,14 @@ impl Eq for Text {
     ghost use Rattle.std.specs.Cmp.Lexicographic.{nat_list_eq_equiv};
 
     ghost laws = { nat_list_eq_equiv };
+}
+
+impl fmt::Debug for Text {
+    fn fmt<W: fmt::Write>(&self, f: &mut fmt::Formatter<W>) -> fmt::Result {
+        f.write_str("\"")?;
+        for &byte in self.bytes(&mut Digits::new()) {
+            write!(f, "{}", byte.escape_ascii())?;
+        }
+        f.write_str("\"")
+    }
 }

@@ -1,4 +1,3 @@
-use Rattle.std.proofs.Common.{rules, ◌+◌, ◌-◌, length}
 use Rattle.mj_text.proofs.ShortLemmas.{take-two_writes}
 use Rattle.mj_text.proofs.short.Short.of.Goals as goal
 
