@@ -1,6 +1,6 @@
 // Tokens, and what is read off them.
 
-ghost use Rattle.std.specs.Prelude.{◌≡◌, ◌∷◌, [], IfOk, MatchOption};
+ghost use Rattle.std.specs.Prelude.{IfSome, ◌+◌, ◌≡◌, ◌∷◌, [], IfOk, MatchOption};
 ghost use Rattle.std.specs.Prelude.{IfErr, ◌<◌, ◌↔◌, length};
 ghost use Rattle.mj_lex.specs.Seen.{token_seen, tokens_seen, undoubled};
 ghost use Rattle.mj_text.specs.declared.fault.Failure.TheVariants as failure;
@@ -40,7 +40,8 @@ pub struct Lexeme<'a> {
 
 /// The first token, and those behind it.
 pub fn next<'a, 't>(tokens: &'t [Lexeme<'a>]) -> Option<(Token<'a>, &'t [Lexeme<'a>])>
-    ensures { MatchOption result (tokens.now ≡ []) (λ x. tokens_seen tokens.now ≡ token_seen x.0 ∷ tokens_seen x.1.now) }
+    ensures seen { MatchOption result (tokens.now ≡ []) (λ x. tokens_seen tokens.now ≡ token_seen x.0 ∷ tokens_seen x.1.now) }
+    ensures shorter { IfSome result (λ x. length tokens.now ≡ length x.1.now + 1) }
 {
     match tokens {
         [] => None,
