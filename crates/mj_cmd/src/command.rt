@@ -1,0 +1,141 @@
+// Commands and their arguments.
+
+ghost use Rattle.std.specs.Prelude.{◌<◌, ◌≤◌, IfOk, length};
+
+use crate::keyword::{keyword_of, Keyword};
+use crate::parts::{behind_sign, blank, may_end, sign, stuck};
+use mj_ast::{Assignment, Command, Expr, Mark, Output, Sign, Step};
+use mj_expr::{expression, variable, Stop};
+use mj_lex::{next, Lexeme, Token};
+use std::alloc::Global;
+
+/// `variable = expression`
+fn assignment<'a, 't>(alloc: Global, tokens: &'t [Lexeme<'a>]) -> Result<(Assignment, &'t [Lexeme<'a>]), Stop>
+    ensures { IfOk result (λ x. length x.1.now < length tokens.now) }
+{
+    let (destination, rest) = variable(alloc, tokens, 0)?;
+    let rest = sign(rest, Sign::Equals)?;
+    let (value, rest) = expression(alloc, rest, 0)?;
+    Ok((Assignment { destination, value }, rest))
+}
+
+/// The arguments of SET.
+fn assignments<'a, 't>(alloc: Global, tokens: &'t [Lexeme<'a>]) -> Result<(Vec<Assignment>, &'t [Lexeme<'a>]), Stop>
+    ensures { IfOk result (λ x. length x.1.now < length tokens.now) }
+{
+    let mut arguments = Vec::new(alloc);
+    let (first, mut rest) = assignment(alloc, tokens)?;
+    arguments.push(first)?;
+    'commas: while let Some(behind) = behind_sign(rest, Sign::Comma) {
+        let (argument, behind) = assignment(alloc, behind)?;
+        arguments.push(argument)?;
+        rest = behind;
+    }
+    Ok((arguments, rest))
+}
+
+/// How many `!` stand in front.
+fn marks(tokens: &[Lexeme]) -> usize
+    ensures { result ≤ length tokens.now }
+{
+    tokens
+        .iter()
+        .position(|lexeme| !matches!(lexeme.token, Token::Sign(Sign::Exclamation)))
+        .unwrap_or(tokens.len())
+}
+
+/// An argument of WRITE: a format, or an expression.
+fn output<'a, 't>(alloc: Global, tokens: &'t [Lexeme<'a>]) -> Result<(Output, &'t [Lexeme<'a>]), Stop>
+    ensures { IfOk result (λ x. length x.1.now < length tokens.now) }
+{
+    let count = marks(tokens);
+    if count > 0 {
+        let marks = vec![in alloc; Mark::NewLine; count]?;
+        return Ok((Output::Format(marks), &tokens[count..]));
+    }
+    let (value, rest) = expression(alloc, tokens, 0)?;
+    Ok((Output::Value(value), rest))
+}
+
+/// The arguments of WRITE.
+fn outputs<'a, 't>(alloc: Global, tokens: &'t [Lexeme<'a>]) -> Result<(Vec<Output>, &'t [Lexeme<'a>]), Stop>
+    ensures { IfOk result (λ x. length x.1.now < length tokens.now) }
+{
+    let mut arguments = Vec::new(alloc);
+    let (first, mut rest) = output(alloc, tokens)?;
+    arguments.push(first)?;
+    'commas: while let Some(behind) = behind_sign(rest, Sign::Comma) {
+        let (argument, behind) = output(alloc, behind)?;
+        arguments.push(argument)?;
+        rest = behind;
+    }
+    Ok((arguments, rest))
+}
+
+/// A postcondition, if there is one.
+fn condition<'a, 't>(alloc: Global, tokens: &'t [Lexeme<'a>]) -> Result<(Option<Expr>, &'t [Lexeme<'a>]), Stop>
+    ensures { IfOk result (λ x. length x.1.now ≤ length tokens.now) }
+{
+    match behind_sign(tokens, Sign::Colon) {
+        None => Ok((None, tokens)),
+        Some(behind) => {
+            let (condition, rest) = expression(alloc, behind, 0)?;
+            Ok((Some(condition), rest))
+        }
+    }
+}
+
+/// What follows a command with arguments.
+fn behind_arguments<'a, 't>(tokens: &'t [Lexeme<'a>]) -> Result<&'t [Lexeme<'a>], Stop>
+    ensures { IfOk result (λ x. length x.now ≤ length tokens.now) }
+{
+    if may_end(tokens) {
+        Ok(tokens)
+    } else {
+        Err(stuck(tokens))
+    }
+}
+
+/// What follows a command without arguments: nothing, or a blank and then a second one, a comment or nothing.
+fn behind_no_arguments<'a, 't>(tokens: &'t [Lexeme<'a>]) -> Result<&'t [Lexeme<'a>], Stop>
+    ensures { IfOk result (λ x. length x.now ≤ length tokens.now) }
+{
+    match next(tokens) {
+        None => Ok(tokens),
+        Some((Token::Blank, rest)) => behind_arguments(rest),
+        Some(_) => Err(stuck(tokens)),
+    }
+}
+
+/// The command behind its word and its postcondition.
+fn command<'a, 't>(alloc: Global, keyword: Keyword, tokens: &'t [Lexeme<'a>]) -> Result<(Command, &'t [Lexeme<'a>]), Stop>
+    ensures { IfOk result (λ x. length x.1.now ≤ length tokens.now) }
+{
+    match keyword {
+        Keyword::Set => {
+            let (arguments, rest) = assignments(alloc, blank(tokens)?)?;
+            Ok((Command::Set(arguments), behind_arguments(rest)?))
+        }
+        Keyword::Write => {
+            let (arguments, rest) = outputs(alloc, blank(tokens)?)?;
+            Ok((Command::Write(arguments), behind_arguments(rest)?))
+        }
+        Keyword::Halt => Ok((Command::Halt, behind_no_arguments(tokens)?)),
+    }
+}
+
+/// A command, up to where it ends.
+pub fn step<'a, 't>(alloc: Global, tokens: &'t [Lexeme<'a>]) -> Result<(Step, &'t [Lexeme<'a>]), Stop>
+    ensures { IfOk result (λ x. length x.1.now < length tokens.now) }
+{
+    let (word, rest) = match next(tokens) {
+        Some((Token::Word(word), rest)) => (word, rest),
+        _ => return Err(stuck(tokens)),
+    };
+    let Some(keyword) = keyword_of(word) else {
+        return Err(stuck(tokens));
+    };
+    let (condition, rest) = condition(alloc, rest)?;
+    let (command, rest) = command(alloc, keyword, rest)?;
+    Ok((Step { condition, command }, rest))
+}

@@ -1,0 +1,12 @@
+// Commands and lines, read from the tokens of a line.
+//
+// `line` reads the tokens of a whole line: the tree that they spell, or why there is none. Where the grammar can't go on
+// it is the token there that is named, by how many tokens are left from it on (none at the line's end).
+#![tactic(auto)]
+
+mod command;
+mod keyword;
+mod lines;
+mod parts;
+
+pub use lines::line;
