@@ -1,7 +1,13 @@
 -- Rows of the definitions.
-use Rattle.std.proofs.Common.{◌≡◌, [], ◌∷◌, refl, codes}
+use Rattle.std.proofs.Common.{◌≡◌, [], ◌∷◌, Some, None, inl, inr, lit≤, refl, codes}
+use Rattle.std.specs.Fmt.{digits}
 use Rattle.mj_ast.specs.declared.sign.Sign.TheVariants.{Star, Equals, Comma, Exclamation, Open}
 use Rattle.mj_ast.specs.Tokens.{Word, Digits, Quoted, Signed, Blank, Comment, Unclosed, Stray, lexemes, tokens, column}
+use Rattle.mj_ast.specs.declared.keyword.Keyword.TheVariants as keyword
+use Rattle.mj_ast.specs.Syntax.{Chain, Done, Literal, Shown, Write, Halt, Step}
+use Rattle.mj_ast.specs.Commands.{keyword_of}
+use Rattle.mj_ast.specs.Lines.{SpellsLine}
+use Rattle.mj_ast.specs.Routines.{lines_of}
 
 -- two blanks are two tokens, and a word is a longest one
 blanks : tokens (codes " SET  X1=007") ≡ Blank ∷ Word (codes "SET") ∷ Blank ∷ Blank ∷ Word (codes "X1") ∷ Signed Equals ∷ Digits (codes "007") ∷ []
@@ -9,9 +15,9 @@ unfolding lexemes
 blanks = refl
 
 -- digits end where a letter comes, and `%` is in no word but as its first byte
-digits : tokens (codes "1A%B") ≡ Digits (codes "1") ∷ Word (codes "A") ∷ Word (codes "%B") ∷ []
+number : tokens (codes "1A%B") ≡ Digits (codes "1") ∷ Word (codes "A") ∷ Word (codes "%B") ∷ []
 unfolding lexemes
-digits = refl
+number = refl
 
 -- a doubled quote is one of the content
 quotes : tokens (codes "\"a\"\"b\",\"\";c \"") ≡ Quoted (codes "a\"b") ∷ Signed Comma ∷ Quoted [] ∷ Comment (codes "c \"") ∷ []
@@ -40,3 +46,54 @@ strays = refl
 end_column : column (codes " H ") 9 ≡ 4
 unfolding lexemes
 end_column = refl
+
+-- ---- commands and lines
+
+keywords : keyword_of (codes "wRiTe") ≡ Some keyword.Write
+keywords = refl
+
+no_keyword : keyword_of (codes "HANG") ≡ None
+no_keyword = refl
+
+-- the lines of a file: one byte 13 before a byte 10 is dropped, a last line without byte 10 keeps it
+file_lines : lines_of (65 ∷ 13 ∷ 13 ∷ 10 ∷ 10 ∷ 66 ∷ 13 ∷ []) ≡ (65 ∷ 13 ∷ []) ∷ [] ∷ (66 ∷ 13 ∷ []) ∷ []
+file_lines = refl
+
+no_line : lines_of [] ≡ []
+no_line = refl
+
+one_line : lines_of (65 ∷ 10 ∷ []) ≡ (65 ∷ []) ∷ []
+one_line = refl
+
+-- `007` is the number 7, and HALT may stand behind two blanks
+abbrev writes_seven : Step
+writes_seven = record { condition = None; command = Write (Shown (Chain (Literal (55 ∷ [])) Done) ∷ []) }
+
+abbrev halts : Step
+halts = record { condition = None; command = Halt }
+
+spelled_line : SpellsLine (tokens (codes "A w 007  H ;c")) (record { label = Some (65 ∷ []); steps = writes_seven ∷ halts ∷ [] })
+unfolding lexemes digits
+spelled_line = (
+  Word (65 ∷ []) ∷ [],
+  tokens (codes " w 007  H ;c"),
+  refl,
+  inl (refl, lit≤ tt),
+  (
+    1,
+    tokens (codes "w 007"),
+    tokens (codes "  H ;c"),
+    lit≤ tt,
+    refl,
+    (119 ∷ [], [], tokens (codes " 007"), refl, refl, refl, (tokens (codes "007"), refl, refl)),
+    (
+      2,
+      tokens (codes "H"),
+      tokens (codes " ;c"),
+      lit≤ tt,
+      refl,
+      (72 ∷ [], [], [], refl, refl, refl, refl),
+      inr (1, 99 ∷ [], lit≤ tt, refl),
+    ),
+  ),
+)

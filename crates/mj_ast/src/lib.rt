@@ -5,9 +5,11 @@
 #![tactic(auto)]
 
 mod expr;
+mod keyword;
 mod routine;
 mod sign;
 
 pub use expr::{BinaryOp, Expr, Operand, Scope, Tail, UnaryOp, Variable};
+pub use keyword::Keyword;
 pub use routine::{Assignment, Command, Line, Mark, Output, Routine, Step};
 pub use sign::Sign;

@@ -1,0 +1,9 @@
+// The commands, by their words.
+
+/// The word of a command.
+#[derive(Clone, Copy, PartialEq, Eq, Debug)]
+pub enum Keyword {
+    Set,
+    Write,
+    Halt,
+}
