@@ -1,6 +1,6 @@
 // Tokens, and what is read off them.
 
-ghost use Rattle.std.specs.Prelude.{IfSome, ◌+◌, ◌≡◌, ◌∷◌, [], IfOk, MatchOption};
+ghost use Rattle.std.specs.Prelude.{IfSome, IsOkUnless, ◌≤◌, ◌+◌, ◌≡◌, ◌∷◌, [], IfOk, MatchOption};
 ghost use Rattle.std.specs.Prelude.{IfErr, ◌<◌, ◌↔◌, length};
 ghost use Rattle.mj_lex.specs.Seen.{token_seen, tokens_seen, undoubled};
 ghost use Rattle.mj_text.specs.declared.fault.Failure.TheVariants as failure;
@@ -54,6 +54,7 @@ pub fn next<'a, 't>(tokens: &'t [Lexeme<'a>]) -> Option<(Token<'a>, &'t [Lexeme<
 pub fn unquoted(alloc: Global, bytes: &[u8]) -> Result<Text, Failure>
     ensures ok { IfOk result (λ t. t ≡ undoubled bytes.now) }
     ensures long { (result ≡ Err (failure.Fault fault.Length)) → TEXT_LIMIT < length (undoubled bytes.now) }
+    ensures within { length (undoubled bytes.now) ≤ TEXT_LIMIT → IsOkUnless result failure.Memory }
 {
     let mut content = Vec::new(alloc);
     let mut rest = bytes;
