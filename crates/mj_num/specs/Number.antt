@@ -2,7 +2,7 @@
 -- A text is the list of its bytes, a number a ℤ. `+` is byte 43, `-` is 45, and the digits are 48 to 57.
 use Rattle.std.specs.Prelude.{ℕ, zero, suc, ◌+◌, ◌-◌, ◌*◌, ◌/◌, ◌^◌, ◌<◌, Bool, true, false, not, ◌&&◌, ◌==◌, nat_lt, if◌then◌else◌, List, [], ◌∷◌, length, ℤ, pos, negsuc, ◌+ℤ◌, ◌-ℤ◌, ◌*ℤ◌, neg_ℤ, unsigned_abs, int_div, Result, Ok, Err}
 use Rattle.std.specs.Char.{is_ascii_digit}
-use Rattle.std.specs.Str.{all_ascii_digits}
+use Rattle.std.specs.List.{list_all}
 use Rattle.std.specs.Fmt.{signed_decimal}
 use Rattle.mj_text.specs.declared.fault.Fault.{Fault}
 use Rattle.mj_text.specs.declared.fault.Fault.TheVariants.{Divide, Fraction, Range}
@@ -44,7 +44,7 @@ reading text = ranged (number_of text)
 -- one to eighteen digits of which the first isn't `0`
 abbrev pub is_magnitude : List ℕ → Bool
 is_magnitude [] = false
-is_magnitude (c ∷ cs) = not (c == 48) && all_ascii_digits (c ∷ cs) && nat_lt (length cs) 18
+is_magnitude (c ∷ cs) = not (c == 48) && list_all is_ascii_digit (c ∷ cs) && nat_lt (length cs) 18
 
 -- A canonic text (this profile): `0`, or an optional `-` and one to eighteen digits of which the first isn't `0`.
 abbrev pub is_canonic : List ℕ → Bool

@@ -1,8 +1,12 @@
 // Numbers of the language: whole numbers of magnitude at most 10^18 - 1.
 //
 // What a text reads as, which texts are canonic, how a number is written, and the arithmetic. A contract sees a `Num` as a
-// whole number, and each call is exactly its definition in `specs/Number.antt`. No call but `to_text` may need memory.
+// whole number, and each call gives exactly what its definition in `specs/Number.antt` gives. No call takes memory but
+// `to_text`.
 #![tactic(auto)]
 
-/// The greatest magnitude of a number.
-pub const NUMBER_LIMIT: i64 = 999_999_999_999_999_999;
+mod digits;
+mod num;
+
+pub use digits::{is_canonic, is_canonic_bytes};
+pub use num::Num;
