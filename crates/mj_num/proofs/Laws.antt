@@ -7,7 +7,9 @@ use Rattle.std.specs.Prelude.{unsigned_abs}
 use Rattle.std.specs.Int.{IsInRange as IsBetween}
 use Rattle.std.specs.Char.{is_ascii_digit}
 use Rattle.std.specs.List.{list_all}
-use Rattle.std.specs.Fmt.{decimal}
+use Rattle.std.specs.Fmt.{decimal, signed_decimal}
+use Rattle.std.proofs.lemmas.Int.{ints}
+use Rattle.mj_text.specs.Kept.{IsWhole}
 use Rattle.mj_num.specs.Number.{number_with_digits, number_of, IsInRange, is_in_range, reading, is_magnitude, is_canonic, canonic_text}
 
 -- ---- digits
@@ -178,3 +180,19 @@ length-canonic_text (negsuc n) h = omega (arith, length-decimal-le 18 (suc n) (o
 pub canonic_text_nonempty : (z : ℤ) → IsInRange z → 0 < length (canonic_text z)
 canonic_text_nonempty (pos n) h = decimal_nonempty n (omega arith)
 canonic_text_nonempty (negsuc n) h = omega arith
+
+-- ---- a text that is kept as a number
+
+pub IsInRange-whole : (z : ℤ) → IsWhole z → IsInRange z
+IsInRange-whole (pos n) h = omega (arith, ints)
+IsInRange-whole (negsuc n) h = omega (arith, ints)
+
+pub IsWhole-from : (z : ℤ) → IsInRange z → IsWhole z
+IsWhole-from (pos n) h = (omega (arith, ints), omega (arith, ints))
+IsWhole-from (negsuc n) h = (omega (arith, ints), omega (arith, ints))
+
+pub reading-kept : (text : List ℕ) (z : ℤ) → IsWhole z × (text ≡ signed_decimal z) → reading text ≡ Ok z
+reading-kept text z h = ap reading h.1 ∙ reading-canonic_text z (IsInRange-whole z h.0)
+
+pub is_canonic-kept : (text : List ℕ) (z : ℤ) → IsWhole z × (text ≡ signed_decimal z) → is_canonic text ≡ true
+is_canonic-kept text z h = ap is_canonic h.1 ∙ is_canonic-canonic_text z (IsInRange-whole z h.0)

@@ -63,6 +63,8 @@ pub fn is_canonic_bytes(bytes: &[u8]) -> bool
 pub fn is_canonic(text: &Text) -> bool
     ensures { result ≡ canonic_test text.now }
 {
-    let mut digits = Digits::new();
-    is_canonic_bytes(text.bytes(&mut digits))
+    match text.number() {
+        Some(_) => true,
+        None => is_canonic_bytes(text.bytes(&mut Digits::new())),
+    }
 }

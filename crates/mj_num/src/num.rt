@@ -4,7 +4,7 @@ ghost use Rattle.std.specs.Prelude.{◌≡◌, neg_ℤ, int_lt, IfOk};
 ghost use Rattle.mj_num.specs.Number.{ranged, reading, canonic_text, is_zero, number_of_truth, IsInRange, sum_of, difference_of, product_of, quotient_of, remainder_of, exact_quotient_of};
 
 use crate::digits::magnitude;
-use mj_text::{Digits, Failure, Fault, Text};
+use mj_text::{Digits, Fault, Text};
 use std::alloc::Global;
 use std::marker::Model;
 
@@ -71,8 +71,17 @@ impl Num {
     pub fn read(text: &Text) -> Result<Num, Fault>
         ensures { result ≡ reading text.now }
     {
-        let mut digits = Digits::new();
-        Num::read_bytes(text.bytes(&mut digits))
+        match text.number() {
+            Some(value) => Ok(Num { value }),
+            None => Num::read_bytes(text.bytes(&mut Digits::new())),
+        }
+    }
+
+    /// Its spelling. It takes no memory.
+    pub fn to_text(self, alloc: Global) -> Text
+        ensures { result ≡ canonic_text self }
+    {
+        Text::from_number(alloc, self.value)
     }
 
     /// Its value.
