@@ -1,4 +1,4 @@
 pub mod Kept
 pub mod Short
 pub mod Find
-pub mod Code
+pub mod Fault

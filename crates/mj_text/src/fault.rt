@@ -1,4 +1,4 @@
-// Why a job ends on its own account.
+//! Why a job ends on its own account.
 
 ghost use Rattle.std.specs.Prelude.{◌≡◌};
 
@@ -7,77 +7,56 @@ use thiserror::Error;
 
 /// A fault: the job writes one line with its code and its name, and ends.
 #[derive(Clone, Copy, PartialEq, Eq, Debug, Error)]
+#[error("{}", self.name())]
 pub enum Fault {
     /// a variable, or a node, without a value is read
-    #[error("F1 UNDEF")]
     Undefined,
     /// a division by 0
-    #[error("F2 DIVIDE")]
     Divide,
     /// a quotient that is no whole number
-    #[error("F3 FRACTION")]
     Fraction,
     /// a number above 10^18 - 1 in magnitude
-    #[error("F4 RANGE")]
     Range,
     /// a text above its limit
-    #[error("F5 LENGTH")]
     Length,
     /// an empty subscript, or a text that is no name text
-    #[error("F6 SUBSCRIPT")]
     Subscript,
     /// no condition of `$SELECT` is true
-    #[error("F7 SELECT")]
     Select,
     /// no such routine, label or line
-    #[error("F8 NOLINE")]
     NoLine,
     /// a QUIT with a value where none is wanted, or without one where one is
-    #[error("F9 QUIT")]
     Quit,
     /// a QUIT that leaves the frame of the outermost TSTART
-    #[error("F10 TXQUIT")]
     QuitInTransaction,
     /// no transaction is open
-    #[error("F11 NOTX")]
     NoTransaction,
     /// a restart of a transaction that can't be restarted
-    #[error("F12 NORESTART")]
     NoRestart,
     /// what can't be done in a transaction
-    #[error("F13 INTX")]
     InTransaction,
     /// a MERGE of names of which one is above the other, or that are equal
-    #[error("F14 OVERLAP")]
     Overlap,
     /// a device that there isn't
-    #[error("F15 NODEVICE")]
     NoDevice,
     /// a device that failed
-    #[error("F16 DEVICE")]
     Device,
     /// a frame too many
-    #[error("F17 DEPTH")]
     Depth,
     /// a limit is passed
-    #[error("F18 LIMIT")]
     Limit,
     /// an ask too many
-    #[error("F19 STEPS")]
     Steps,
     /// a FOR whose variable lost its value
-    #[error("F20 FORINDEX")]
     ForIndex,
     /// a code that is no byte
-    #[error("F21 CHAR")]
     Char,
     /// more values than formals
-    #[error("F22 PARAMS")]
     Params,
 }
 
 impl Fault {
-    ghost use Rattle.mj_text.specs.Code.{code_of};
+    ghost use Rattle.mj_text.specs.Fault.{code_of, name_of};
 
     /// Its number, 1 to 22: the digits after the F of its printed name.
     pub fn code(self) -> u32
@@ -106,6 +85,36 @@ impl Fault {
             Fault::ForIndex => 20,
             Fault::Char => 21,
             Fault::Params => 22,
+        }
+    }
+
+    /// What is printed of it: its number after an F, a space, and its name in capitals.
+    pub fn name(self) -> &'static str
+        ensures { result.now ≡ name_of self }
+    {
+        match self {
+            Fault::Undefined => "F1 UNDEF",
+            Fault::Divide => "F2 DIVIDE",
+            Fault::Fraction => "F3 FRACTION",
+            Fault::Range => "F4 RANGE",
+            Fault::Length => "F5 LENGTH",
+            Fault::Subscript => "F6 SUBSCRIPT",
+            Fault::Select => "F7 SELECT",
+            Fault::NoLine => "F8 NOLINE",
+            Fault::Quit => "F9 QUIT",
+            Fault::QuitInTransaction => "F10 TXQUIT",
+            Fault::NoTransaction => "F11 NOTX",
+            Fault::NoRestart => "F12 NORESTART",
+            Fault::InTransaction => "F13 INTX",
+            Fault::Overlap => "F14 OVERLAP",
+            Fault::NoDevice => "F15 NODEVICE",
+            Fault::Device => "F16 DEVICE",
+            Fault::Depth => "F17 DEPTH",
+            Fault::Limit => "F18 LIMIT",
+            Fault::Steps => "F19 STEPS",
+            Fault::ForIndex => "F20 FORINDEX",
+            Fault::Char => "F21 CHAR",
+            Fault::Params => "F22 PARAMS",
         }
     }
 }

@@ -1,4 +1,4 @@
-// A few bytes, kept in the value itself.
+//! A few bytes, kept in the value itself.
 
 ghost use Rattle.std.specs.Prelude.{◌≡◌, ◌≤◌, ◌+◌, ◌++◌, length};
 

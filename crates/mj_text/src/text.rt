@@ -1,4 +1,4 @@
-// A text, and the room in which one that is kept as a number is spelled.
+//! A text, and the room in which one that is kept as a number is spelled.
 
 ghost use Rattle.std.specs.Prelude.{◌≡◌, ◌≤◌, ◌<◌, ◌+◌, ◌-◌, ◌↔◌, ◌++◌, [], length, take, drop, IsTrue, IfOk, IfSome, IsOkUnless};
 ghost use Rattle.std.specs.Fmt.{signed_decimal};
