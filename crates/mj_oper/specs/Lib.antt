@@ -1,2 +1,1 @@
-pub mod Collation
 pub mod Operators

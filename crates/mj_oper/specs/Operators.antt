@@ -1,10 +1,15 @@
 -- What each operator gives: a text, seen as the list of its bytes, or the fault that stands in its place.
 -- ISO/IEC 11756:1999, 7.2 (binary operators) and 7.1.4.10 (unary operators); the faults are this profile's.
-use Rattle.std.specs.Prelude.{ℕ, ◌==◌, nat_lt, nat_le, length, Bool, true, false, not, ◌&&◌, ◌||◌, List, [], ◌∷◌, ◌++◌, ℤ, neg_ℤ, int_lt, Result, Ok, Err, if◌then◌else◌}
+use Rattle.std.specs.Prelude.{◌≡◌, ℕ, nat_le, length, Bool, true, false, not, ◌&&◌, ◌||◌, List, [], ◌∷◌, ◌++◌, ℤ, neg_ℤ, int_lt, Result, Ok, Err, IsOk, if◌then◌else◌}
 use Rattle.std.specs.Str.{bytes_eq}
-use Rattle.std.specs.Ordering.{is_gt}
+use Rattle.std.specs.Ordering.{is_gt, nat_cmp}
+use Rattle.std.specs.Cmp.Lexicographic.{slice_cmp}
+use Rattle.std.specs.Option.{is_some}
 use Rattle.mj_text.specs.declared.fault.Fault.{Fault}
 use Rattle.mj_text.specs.declared.fault.Fault.TheVariants.{Length}
+use Rattle.mj_text.specs.declared.fault.Failure.{Failure}
+use Rattle.mj_text.specs.declared.fault.Failure.TheVariants.{Fault as FaultFailure, Memory}
+use Rattle.mj_text.specs.Find.{first_place}
 use Rattle.mj_num.specs.Number.{reading, canonic_text, truth_of, sum_of, difference_of, product_of, quotient_of, remainder_of, exact_quotient_of}
 use Rattle.mj_oper.specs.declared.op.Op.{Op}
 use Rattle.mj_oper.specs.declared.op.Op.TheVariants.{Add, Subtract, Multiply, Quotient, Remainder, Divide, Join, Is, IsNot}
@@ -12,7 +17,7 @@ use Rattle.mj_oper.specs.declared.op.TruthOp.{TruthOp}
 use Rattle.mj_oper.specs.declared.op.TruthOp.TheVariants.{Equal, Less, Greater, Contains, Follows, SortsAfter, And, Or}
 use Rattle.mj_oper.specs.declared.op.UnaryOp.{UnaryOp}
 use Rattle.mj_oper.specs.declared.op.UnaryOp.TheVariants.{Plus, Minus, Not}
-use Rattle.mj_oper.specs.Collation.{subscript_cmp}
+use Rattle.mj_subs.specs.Collation.{subscript_cmp}
 
 -- what follows from a value, unless a fault stands in its place
 abbrev pub then_value : {A B : Type 0} → Result A Fault → (A → Result B Fault) → Result B Fault
@@ -31,30 +36,14 @@ number_text r = then_value r (λ z. Ok (canonic_text z))
 abbrev pub joined : List ℕ → List ℕ → Result (List ℕ) Fault
 joined a b = if nat_le (length (a ++ b)) 32767 then Ok (a ++ b) else Err Length
 
--- whether the bytes of b stand at the front of a
-abbrev pub begins_with : List ℕ → List ℕ → Bool
-begins_with a [] = true
-begins_with [] (y ∷ b) = false
-begins_with (x ∷ a) (y ∷ b) = x == y && begins_with a b
-
--- `[`: whether b stands somewhere in a
-abbrev pub contains : List ℕ → List ℕ → Bool
-contains [] b = begins_with [] b
-contains (x ∷ a) b = begins_with (x ∷ a) b || contains a b
-
--- `]`: whether a comes after b by bytes, a proper front coming first
-abbrev pub follows : List ℕ → List ℕ → Bool
-follows [] b = false
-follows (x ∷ a) [] = true
-follows (x ∷ a) (y ∷ b) = if x == y then follows a b else nat_lt y x
-
--- whether what a truth operator says holds. `&` and `!` read both sides, whatever the first one is.
+-- whether what a truth operator says holds: `[` where b stands somewhere in a; `]` where a comes after b by bytes, a proper
+-- front coming first. `&` and `!` read both sides, whatever the first one is.
 abbrev pub holds : TruthOp → List ℕ → List ℕ → Result Bool Fault
 holds Equal a b = Ok (bytes_eq a b)
 holds Less a b = on_numbers (λ m n. Ok (int_lt m n)) a b
 holds Greater a b = on_numbers (λ m n. Ok (int_lt n m)) a b
-holds Contains a b = Ok (contains a b)
-holds Follows a b = Ok (follows a b)
+holds Contains a b = Ok (is_some (first_place b a))
+holds Follows a b = Ok (is_gt (slice_cmp nat_cmp a b))
 holds SortsAfter a b = Ok (is_gt (subscript_cmp a b))
 holds And a b = on_numbers (λ m n. Ok (truth_of m && truth_of n)) a b
 holds Or a b = on_numbers (λ m n. Ok (truth_of m || truth_of n)) a b
@@ -85,3 +74,14 @@ abbrev pub unary_value : UnaryOp → List ℕ → Result (List ℕ) Fault
 unary_value Plus a = number_text (reading a)
 unary_value Minus a = number_text (then_value (reading a) (λ m. Ok (neg_ℤ m)))
 unary_value Not a = then_value (truth_value a) (λ h. Ok (truth_text (not h)))
+
+-- a fault as a failure of a call
+abbrev pub failing : {A : Type 0} → Result A Fault → Result A Failure
+failing (Ok a) = Ok a
+failing (Err e) = Err (FaultFailure e)
+
+-- what a call that may want memory answers for such a value: the text, the fault, or Memory where a text is meant
+abbrev pub Answers : Result (List ℕ) Fault → Result (List ℕ) Failure → Type 0
+Answers value (Ok text) = value ≡ Ok text
+Answers value (Err (FaultFailure fault)) = value ≡ Err fault
+Answers value (Err Memory) = IsOk value

@@ -3,6 +3,8 @@
 // Each call gives exactly what specs/Operators.antt says, and each fault exactly where it says so. No call changes anything.
 #![tactic(auto)]
 
+mod apply;
 mod op;
 
+pub use apply::{binary, truth, unary};
 pub use op::{Op, TruthOp, UnaryOp};
