@@ -1,3 +1,1 @@
-pub mod CollationLaws
-pub mod Names
 pub mod Examples

@@ -1,2 +1,4 @@
 pub mod Name
 pub mod Collation
+pub mod Tag
+pub mod Laws

@@ -1,5 +1,7 @@
 -- Names of variables and of their nodes: which is above which, and which overlap.
-use Rattle.std.specs.Prelude.{◌≡◌, ℕ, Bool, true, false, ◌&&◌, ◌||◌, ◌⊎◌, List, [], ◌∷◌, length, nat_le, nat_eq, ⊤}
+use Rattle.std.specs.Prelude.{◌≡◌, ℕ, Bool, true, false, ◌&&◌, ◌||◌, ◌⊎◌, List, [], ◌∷◌, ◌==◌, length, nat_lt, ⊤}
+use Rattle.std.specs.Char.{is_ascii_alphabetic, is_ascii_alphanumeric}
+use Rattle.std.specs.List.{list_all}
 use Rattle.std.specs.Str.{bytes_eq}
 use Rattle.std.specs.Cmp.Lexicographic.{pointwise}
 
@@ -9,23 +11,10 @@ pub record Name : Type 0 where
   pub word : List ℕ
   pub subscripts : List (List ℕ)
 
--- a letter, `A` to `Z` or `a` to `z`
-abbrev pub is_letter : ℕ → Bool
-is_letter c = (nat_le 65 c && nat_le c 90) || (nat_le 97 c && nat_le c 122)
-
--- a digit, `0` to `9`
-abbrev pub is_digit : ℕ → Bool
-is_digit c = nat_le 48 c && nat_le c 57
-
--- letters and digits alone
-abbrev pub is_word_rest : List ℕ → Bool
-is_word_rest [] = true
-is_word_rest (c ∷ cs) = (is_letter c || is_digit c) && is_word_rest cs
-
--- a word: a letter or `%`, then letters and digits (7.1.1: name), of 1 to 31 bytes (this profile)
+-- a word (7.1.2: name): a letter or `%`, then letters and digits, of 1 to 31 bytes (this profile)
 abbrev pub is_word : List ℕ → Bool
 is_word [] = false
-is_word (c ∷ cs) = (is_letter c || nat_eq c 37) && is_word_rest cs && nat_le (length cs) 30
+is_word (c ∷ cs) = (is_ascii_alphabetic c || c == 37) && list_all is_ascii_alphanumeric cs && nat_lt (length cs) 31
 
 -- the first list of subscripts is a proper front of the second
 abbrev pub IsProperFront : List (List ℕ) → List (List ℕ) → Type 0
@@ -49,6 +38,12 @@ is_proper_front ss [] = false
 is_proper_front [] (t ∷ ts) = true
 is_proper_front (s ∷ ss) (t ∷ ts) = bytes_eq s t && is_proper_front ss ts
 
+-- the test of lists that agree as far as both go: they are equal, or one is a proper front of the other
+abbrev pub are_in_line : List (List ℕ) → List (List ℕ) → Bool
+are_in_line [] ts = true
+are_in_line (s ∷ ss) [] = true
+are_in_line (s ∷ ss) (t ∷ ts) = bytes_eq s t && are_in_line ss ts
+
 -- the test of equal kinds
 abbrev pub kinds_eq : Bool → Bool → Bool
 kinds_eq true b = b
@@ -65,4 +60,4 @@ is_above m n = kinds_eq m.global n.global && bytes_eq m.word n.word && is_proper
 
 -- the test of `Overlaps`
 abbrev pub overlaps : Name → Name → Bool
-overlaps m n = names_eq m n || is_above m n || is_above n m
+overlaps m n = kinds_eq m.global n.global && bytes_eq m.word n.word && are_in_line m.subscripts n.subscripts

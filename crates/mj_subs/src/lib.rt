@@ -4,3 +4,13 @@
 // kind, its word and its subscripts. Every comparison is its definition in `Collation`, `above` and `overlap` those in `Name`, and
 // none of them takes memory.
 #![tactic(auto)]
+
+mod name;
+mod sub;
+mod subs;
+mod word;
+
+pub use name::Name;
+pub use sub::Sub;
+pub use subs::{SUBSCRIPT_LIMIT, Subs};
+pub use word::{WORD_LIMIT, is_word};
