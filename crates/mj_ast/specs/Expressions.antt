@@ -41,6 +41,10 @@ depth_limit = 64
 abbrev pub width_limit : ℕ
 width_limit = 31
 
+-- the most bytes of a text
+abbrev pub text_limit : ℕ
+text_limit = 32767
+
 -- digits are a constant by the number that they read, if it is in range
 abbrev pub constant_of : Result ℤ Fault → Symbol
 constant_of (Ok z) = Constant (canonic_text z)
@@ -50,7 +54,7 @@ constant_of (Err fault) = Other
 abbrev pub symbol : Token → Symbol
 symbol (Word w) = if nat_le (length w) name_limit then Name w else Overlong
 symbol (Digits ds) = constant_of (reading ds)
-symbol (Quoted value) = Constant value
+symbol (Quoted value) = if nat_le (length value) text_limit then Constant value else Other
 symbol (Signed s) = Mark s
 symbol _ = Other
 

@@ -1,0 +1,53 @@
+-- The trees that the program makes, without where they lie in memory.
+use Rattle.std.proofs.Common.{◌≡◌, ℕ, ◌+◌, List, [], ◌∷◌, ◌++◌, length, refl, ap, ◌∙◌, sym, Vec, Global, arith}
+use mathlib.Core.Former.{Count}
+use Rattle.mj_ast.specs.declared.expr.Scope.{Scope}
+use Rattle.mj_ast.specs.declared.expr.Expr as expr
+use Rattle.mj_ast.specs.declared.expr.Tail.{Tail}
+use Rattle.mj_ast.specs.declared.expr.Operand as operand
+use Rattle.mj_ast.specs.declared.expr.Variable as variable
+use Rattle.mj_ast.specs.Syntax.{Expr, Chain, Tails, Done, Then, Operand, Variable, Var, Exprs, No, More}
+use Rattle.mj_ast.specs.Trees.{operand_of, expr_of, variable_of, tail_row, expr_row, tails_of, exprs_of}
+use Rattle.mj_ast.specs.Expressions.{count}
+use Rattle.mj_expr.specs.Machine.{and_then, and_more}
+
+abbrev tails_in : expr.Expr → (n : Count) × expr.Row_of-Tail n
+tails_in (expr.Expr' first shape row) = (_, row)
+
+abbrev list_in : variable.Variable → (n : Count) × variable.Row_of-Expr n
+list_in (variable.Variable' scope word shape row) = (_, row)
+
+tail_row_items : (n : _) (row : expr.Row_of-Tail n) → tail_row row ≡ tails_of (expr.items-the_row-Tail n row)
+tail_row_items n expr.end_of-Tail = refl
+tail_row_items n (expr.more_of-Tail op x rest) = ap (λ (ts : Tails). Then op (operand_of x) ts) (tail_row_items _ rest)
+
+expr_row_items : (n : _) (row : variable.Row_of-Expr n) → expr_row row ≡ exprs_of (variable.items-the_row-Expr n row)
+expr_row_items n variable.end_of-Expr = refl
+expr_row_items n (variable.more_of-Expr e rest) = ap (λ (es : Exprs). More (expr_of e) es) (expr_row_items _ rest)
+
+-- an expression of an operand and a list of others
+pub expr_made : (first : operand.Operand) (rest : Vec Tail Global) → expr_of (expr.roll-Expr (record { first = first; rest = rest })) ≡ Chain (operand_of first) (tails_of rest.items)
+unfolding expr.roll-Expr denote.Hole.Carrier.roll
+expr_made first rest =
+    let row = tails_in (expr.roll-Expr (record { first = first; rest = rest })) in
+    ap (λ (ts : Tails). Chain (operand_of first) ts) (tail_row_items row.0 row.1 ∙ ap tails_of (expr.items_hidden-the_row-Tail-0 rest))
+
+-- a variable of its parts
+pub variable_made : (scope : Scope) (word : List ℕ) (es : Vec expr.Expr Global) → variable_of (variable.roll-Variable (record { scope = scope; word = word; subscripts = es })) ≡ Var scope word (exprs_of es.items)
+unfolding variable.roll-Variable denote.Hole.Carrier.roll
+variable_made scope word es =
+    let row = list_in (variable.roll-Variable (record { scope = scope; word = word; subscripts = es })) in
+    ap (λ (xs : Exprs). Var scope word xs) (expr_row_items row.0 row.1 ∙ ap exprs_of (variable.items_hidden-the_row-Expr-1 es))
+
+-- another at the end
+pub tails_push : (ts : List Tail) (t : Tail) → tails_of (ts ++ t ∷ []) ≡ and_then (tails_of ts) t.op (operand_of t.operand)
+tails_push [] t = refl
+tails_push (u ∷ ts) t = ap (λ (r : Tails). Then u.op (operand_of u.operand) r) (tails_push ts t)
+
+pub exprs_push : (es : List expr.Expr) (e : expr.Expr) → exprs_of (es ++ e ∷ []) ≡ and_more (exprs_of es) (expr_of e)
+exprs_push [] e = refl
+exprs_push (f ∷ es) e = ap (λ (r : Exprs). More (expr_of f) r) (exprs_push es e)
+
+pub count_exprs : (es : List expr.Expr) → count (exprs_of es) ≡ length es
+count_exprs [] = refl
+count_exprs (e ∷ es) = let h = count_exprs es in omega arith

@@ -1,0 +1,48 @@
+use Rattle.std.proofs.Common.{◌≡◌, ◌<◌, ◌+◌, ◌*◌, ℕ, length, List, Bool}
+use Rattle.mj_ast.specs.declared.expr.Scope.{Scope}
+use Rattle.mj_ast.specs.Syntax.{No}
+use Rattle.mj_ast.specs.Trees.{operand_of, tails_of, exprs_of}
+use Rattle.mj_expr.specs.Machine.{Outer, Place, Front, InList, Wanted, Held, run, outer_depth, place_depth, is_full}
+use Rattle.mj_expr.specs.Reads.{symbols_seen, limits, HasNoBinary}
+use Rattle.mj_expr.specs.Lists.{behind_list}
+use Rattle.mj_expr.proofs.read.+parse.Given as goal
+
+abbrev pub decreases-list : goal.decreases-list
+decreases-list l = 4 * length l.tokens.now + 2
+
+abbrev pub decreases-group : goal.decreases-group
+decreases-group l = 4 * length l.tokens.now + 2
+
+abbrev pub decreases-expr : goal.decreases-expr
+decreases-expr l = 4 * length l.tokens.now + 1
+
+abbrev pub decreases-named : goal.decreases-named
+decreases-named l = 4 * length l.tokens.now
+
+abbrev pub decreases-global : goal.decreases-global
+decreases-global l = 4 * length l.tokens.now + 1
+
+abbrev pub decreases-operand : goal.decreases-operand
+decreases-operand l = 4 * length l.tokens.now
+
+pub record IsReadSo (Goes : Type 0) (Falls : Type 0) : Type 0 where
+  pub reads : Goes
+  pub shorter : Falls
+
+abbrev pub invariant-expr-joins : goal.invariant-expr-joins
+invariant-expr-joins l = IsReadSo
+    ((o : Outer) → (d : ℕ) → outer_depth o + l.room ≡ d → is_full (limits 0) o ≡ l.full →
+      run (limits d) (symbols_seen l.tokens) (Wanted (Front o)) ≡ run (limits d) (symbols_seen l.rest) (Held (operand_of l.first) (tails_of l.tails.items) o))
+    (length l.rest < length l.tokens)
+
+abbrev pub decreases-expr-joins : goal.decreases-expr-joins
+decreases-expr-joins l = length l.rest
+
+abbrev pub invariant-list-commas : goal.invariant-list-commas
+invariant-list-commas l = IsReadSo
+    ((scope : Scope) → (word : List ℕ) → (p : Place) → (d : ℕ) → place_depth p + 1 + l.room ≡ d →
+      run (limits d) (symbols_seen l.tokens) (Wanted (Front (InList scope word No p))) ≡ run (limits d) (symbols_seen l.rest) (behind_list scope word (exprs_of l.subscripts.items) p))
+    ((length l.rest < length l.tokens) × (0 < length l.subscripts.items) × HasNoBinary (symbols_seen l.rest))
+
+abbrev pub decreases-list-commas : goal.decreases-list-commas
+decreases-list-commas l = length l.rest

@@ -1,0 +1,261 @@
+-- Reads symbols from the left, one at a time: what is open, and what may come next.
+use Rattle.std.specs.Prelude.{ℕ, ◌+◌, List, [], ◌∷◌, length, nat_lt, Bool, false, not, if◌then◌else◌, Option, Some, None}
+use Rattle.mj_ast.specs.declared.sign.Sign.{Sign}
+use Rattle.mj_ast.specs.declared.sign.Sign.TheVariants.{Plus, Minus, Star, Underscore, Equals, Caret, Open, Close, Comma}
+use Rattle.mj_ast.specs.declared.expr.Scope.{Scope}
+use Rattle.mj_ast.specs.declared.expr.Scope.TheVariants.{Local, Global}
+use Rattle.mj_ast.specs.declared.expr.UnaryOp.{UnaryOp}
+use Rattle.mj_ast.specs.declared.expr.UnaryOp.TheVariants as unary
+use Rattle.mj_ast.specs.declared.expr.BinaryOp.{BinaryOp}
+use Rattle.mj_ast.specs.declared.expr.BinaryOp.TheVariants as binary
+use Rattle.mj_ast.specs.Syntax.{Expr, Chain, Tails, Done, Then, Operand, Literal, Value, Unary, Group, Variable, Var, Exprs, No, More}
+use Rattle.mj_ast.specs.Expressions.{Symbol, Constant, Name, Overlong, Mark, Other, count}
+
+-- the unary operator of a sign
+abbrev pub unary_of : Sign → Option UnaryOp
+unary_of Plus = Some unary.Plus
+unary_of Minus = Some unary.Minus
+unary_of _ = None
+
+-- the binary operator of a sign
+abbrev pub binary_of : Sign → Option BinaryOp
+binary_of Plus = Some binary.Add
+binary_of Minus = Some binary.Subtract
+binary_of Star = Some binary.Multiply
+binary_of Underscore = Some binary.Join
+binary_of Equals = Some binary.Equal
+binary_of _ = None
+
+-- with another operator and its operand behind
+abbrev pub and_then : Tails → BinaryOp → Operand → Tails
+and_then Done op x = Then op x Done
+and_then (Then o y rest) op x = Then o y (and_then rest op x)
+
+-- with another expression behind
+abbrev pub and_more : Exprs → Expr → Exprs
+and_more No e = More e No
+and_more (More f rest) e = More f (and_more rest e)
+
+-- ---- what is open
+
+mutual
+  -- where an expression stands: alone, in parentheses, or in a list of subscripts behind those before it
+  pub data Outer : Type 0 where
+    Alone : Outer
+    InGroup : (c : Within) → Outer
+    InList : (scope : Scope) (word : List ℕ) (before : Exprs) (p : Place) → Outer
+
+  -- where an operand stands: at the front of an expression, behind a binary operator, behind a unary one
+  pub data Within : Type 0 where
+    Front : (o : Outer) → Within
+    Right : (first : Operand) (rest : Tails) (op : BinaryOp) (o : Outer) → Within
+    Under : (op : UnaryOp) (c : Within) → Within
+
+  -- where a variable stands: as an operand, or alone
+  pub data Place : Type 0 where
+    AsOperand : (c : Within) → Place
+    AsTarget : Place
+
+-- how many levels are open there
+abbrev mutual
+  pub outer_depth : Outer → ℕ
+  outer_depth Alone = 0
+  outer_depth (InGroup c) = depth_of c + 1
+  outer_depth (InList scope word before p) = place_depth p + 1
+
+  pub depth_of : Within → ℕ
+  depth_of (Front o) = outer_depth o
+  depth_of (Right first rest op o) = outer_depth o
+  depth_of (Under op c) = depth_of c + 1
+
+  pub place_depth : Place → ℕ
+  place_depth (AsOperand c) = depth_of c
+  place_depth AsTarget = 0
+
+-- the innermost expression that it stands in
+abbrev pub outer_of : Within → Outer
+outer_of (Front o) = o
+outer_of (Right first rest op o) = o
+outer_of (Under op c) = outer_of c
+
+-- ---- states
+
+pub data State : Type 0 where
+  -- an operand is wanted
+  Wanted : (c : Within) → State
+  -- a variable is wanted
+  Sought : (p : Place) → State
+  -- a name is wanted, behind a `^`
+  Marked : (p : Place) → State
+  -- a name was read
+  Named : (scope : Scope) (word : List ℕ) (p : Place) → State
+  -- an expression was read, which may go on
+  Held : (first : Operand) (rest : Tails) (o : Outer) → State
+  -- a variable was read, and that is all
+  Got : (v : Variable) → State
+
+-- an operand was read
+abbrev pub filled : Operand → Within → State
+filled x (Front o) = Held x Done o
+filled x (Right first rest op o) = Held first (and_then rest op x) o
+filled x (Under op c) = filled (Unary op x) c
+
+-- a variable was read
+abbrev pub placed : Variable → Place → State
+placed v (AsOperand c) = filled (Value v) c
+placed v AsTarget = Got v
+
+-- an expression was read
+abbrev pub held : Expr → Outer → State
+held (Chain first rest) o = Held first rest o
+
+-- ---- steps
+
+-- how many levels may be open at once, and how many subscripts a list may have
+pub record Limits : Type 0 where
+  pub depth : ℕ
+  pub width : ℕ
+
+pub data Next : Type 0 where
+  Go : (s : State) → Next
+  Stuck : Next
+  Deep : Next
+  Long : Next
+
+-- another level
+abbrev pub opens : Limits → ℕ → State → Next
+opens m depth s = if nat_lt depth m.depth then Go s else Deep
+
+-- the comma behind an expression
+abbrev pub comma : Limits → Expr → Outer → Next
+comma m e (InList scope word before p) = if nat_lt (count before + 1) m.width then Go (Wanted (Front (InList scope word (and_more before e) p))) else Long
+comma m e _ = Stuck
+
+-- the list that it stands in has no room for another
+abbrev pub is_full : Limits → Outer → Bool
+is_full m (InList scope word before p) = not (nat_lt (count before + 1) m.width)
+is_full m _ = false
+
+-- a comma that stands where an operand is wanted
+abbrev pub stray_comma : Limits → Outer → Next
+stray_comma m o = if is_full m o then Long else Stuck
+
+abbrev pub close : Expr → Outer → Next
+close e Alone = Stuck
+close e (InGroup c) = Go (filled (Group e) c)
+close e (InList scope word before p) = Go (placed (Var scope word (and_more before e)) p)
+
+-- where an operand is wanted
+abbrev pub want_other : Limits → Within → Sign → Next
+want_other m c Caret = Go (Marked (AsOperand c))
+want_other m c Open = opens m (depth_of c) (Wanted (Front (InGroup c)))
+want_other m c Comma = stray_comma m (outer_of c)
+want_other m c _ = Stuck
+
+abbrev pub want_sign : Limits → Within → Sign → Option UnaryOp → Next
+want_sign m c s (Some op) = opens m (depth_of c) (Wanted (Under op c))
+want_sign m c s None = want_other m c s
+
+abbrev pub want : Limits → Within → Symbol → Next
+want m c (Constant value) = Go (filled (Literal value) c)
+want m c (Name word) = Go (Named Local word (AsOperand c))
+want m c (Mark s) = want_sign m c s (unary_of s)
+want m c _ = Stuck
+
+-- where a variable is wanted
+abbrev pub seek : Place → Symbol → Next
+seek p (Name word) = Go (Named Local word p)
+seek p (Mark Caret) = Go (Marked p)
+seek p _ = Stuck
+
+-- behind a `^`
+abbrev pub is_full_in : Limits → Place → Bool
+is_full_in m (AsOperand c) = is_full m (outer_of c)
+is_full_in m AsTarget = false
+
+abbrev pub after_caret : Limits → Place → Symbol → Next
+after_caret m p (Name word) = Go (Named Global word p)
+after_caret m p (Mark Comma) = if is_full_in m p then Long else Stuck
+after_caret m p _ = Stuck
+
+-- behind an expression
+abbrev pub hold_other : Limits → Expr → Outer → Sign → Next
+hold_other m e o Close = close e o
+hold_other m e o Comma = comma m e o
+hold_other m e o _ = Stuck
+
+abbrev pub hold_sign : Limits → Operand → Tails → Outer → Sign → Option BinaryOp → Next
+hold_sign m x r o s (Some op) = Go (Wanted (Right x r op o))
+hold_sign m x r o s None = hold_other m (Chain x r) o s
+
+abbrev pub hold : Limits → Operand → Tails → Outer → Symbol → Next
+hold m x r o (Mark s) = hold_sign m x r o s (binary_of s)
+hold m x r o _ = Stuck
+
+-- at a state behind an expression or a variable
+abbrev pub on : Limits → State → Symbol → Next
+on m (Held x r o) k = hold m x r o k
+on m _ k = Stuck
+
+abbrev pub after_name : Limits → Scope → List ℕ → Place → Symbol → Next
+after_name m scope word p (Mark Open) = opens m (place_depth p) (Wanted (Front (InList scope word No p)))
+after_name m scope word p k = on m (placed (Var scope word No) p) k
+
+abbrev pub step : Limits → State → Symbol → Next
+step m (Wanted c) k = want m c k
+step m (Sought p) k = seek p k
+step m (Marked p) k = after_caret m p k
+step m (Named scope word p) k = after_name m scope word p k
+step m (Held x r o) k = hold m x r o k
+step m (Got v) k = Stuck
+
+-- ---- runs
+
+pub data Phrase : Type 0 where
+  Whole : (e : Expr) → Phrase
+  Target : (v : Variable) → Phrase
+
+pub data Outcome : Type 0 where
+  -- the phrase, and what is left
+  Accept : (phrase : Phrase) (rest : List Symbol) → Outcome
+  -- how many symbols are left where none goes on
+  StuckAt : (left : ℕ) → Outcome
+  -- how many are left where a level too many opens
+  DeepAt : (left : ℕ) → Outcome
+  -- a word or a list is too long
+  TooLong : Outcome
+
+-- no phrase goes on here
+abbrev pub refused : List Symbol → Outcome
+refused [] = StuckAt 0
+refused (Overlong ∷ ks) = TooLong
+refused (k ∷ ks) = StuckAt (length (k ∷ ks))
+
+-- the same where an operand is wanted, in a list that is full or isn't
+abbrev pub refused_in : Bool → List Symbol → Outcome
+refused_in full (Mark Comma ∷ ks) = if full then TooLong else StuckAt (length (Mark Comma ∷ ks))
+refused_in full ks = refused ks
+
+abbrev pub ends : State → List Symbol → Outcome
+ends (Held x r Alone) ks = Accept (Whole (Chain x r)) ks
+ends (Got v) ks = Accept (Target v) ks
+ends _ ks = refused ks
+
+-- where no step goes on
+abbrev pub finish : State → List Symbol → Outcome
+finish (Named scope word p) ks = ends (placed (Var scope word No) p) ks
+finish s ks = ends s ks
+
+abbrev pub goes : (State → Outcome) → Outcome → ℕ → Next → Outcome
+goes run out left (Go s) = run s
+goes run out left Stuck = out
+goes run out left Deep = DeepAt left
+goes run out left Long = TooLong
+
+abbrev pub run : Limits → List Symbol → State → Outcome
+run m [] s = finish s []
+run m (k ∷ ks) s = goes (run m ks) (finish s (k ∷ ks)) (length (k ∷ ks)) (step m s k)
+
+-- one step, and on
+abbrev pub turn : Limits → List Symbol → State → Symbol → Next → Outcome
+turn m ks s k x = goes (run m ks) (finish s (k ∷ ks)) (length (k ∷ ks)) x

@@ -1,0 +1,77 @@
+-- What a function that reads a part of a line returns.
+use Rattle.std.specs.Prelude.{ℕ, ◌≡◌, ◌≤◌, List, [], ◌∷◌, length, map, Result, Ok, Err, Option, Some, None, Bool, false}
+use Rattle.mj_ast.specs.declared.sign.Sign.TheVariants.{Caret, Open, Comma, Close}
+use Rattle.mj_ast.specs.declared.sign.Sign.{Sign}
+use Rattle.mj_ast.specs.declared.expr.BinaryOp.{BinaryOp}
+use Rattle.mj_ast.specs.Expressions.{Symbol, Constant, Name, Mark, Other, Overlong, symbol, width_limit}
+use Rattle.mj_lex.specs.declared.token.Lexeme.{Lexeme}
+use Rattle.mj_lex.specs.Seen.{tokens_seen}
+use Rattle.mj_expr.specs.Machine.{Limits, State, Outcome, StuckAt, DeepAt, TooLong, run, unary_of, binary_of}
+use Rattle.mj_expr.specs.declared.stop.Stop.{Stop}
+use Rattle.mj_expr.specs.declared.stop.Stop.TheVariants.{Stuck, Deep, Long, Memory}
+use Rattle.mj_expr.specs.declared.token.Head.{Head}
+use Rattle.mj_expr.specs.declared.token.Head.TheVariants as head
+
+abbrev pub symbols_seen : List Lexeme → List Symbol
+symbols_seen ls = map symbol (tokens_seen ls)
+
+-- so many levels, and lists of the length that is allowed
+abbrev pub limits : ℕ → Limits
+limits depth = record { depth = depth; width = width_limit }
+
+abbrev pub Refuses : Stop → Outcome → Type 0
+Refuses Memory o = Unit {0}
+Refuses (Stuck left) o = o ≡ StuckAt left
+Refuses (Deep left) o = o ≡ DeepAt left
+Refuses Long o = o ≡ TooLong
+
+-- The symbols are read on from the state: up to the rest with the state that holds the tree, or up to the refusal.
+abbrev pub Reads : {X T : Type 0} → (X → T) → (X → List Lexeme) → Result X Stop → ℕ → List Lexeme → State → (T → State) → Type 0
+Reads tree rest (Ok x) d ls s holding = run (limits d) (symbols_seen ls) s ≡ run (limits d) (symbols_seen (rest x)) (holding (tree x))
+Reads tree rest (Err e) d ls s holding = Refuses e (run (limits d) (symbols_seen ls) s)
+
+-- no operand begins with it
+abbrev pub BeginsNone : Symbol → Type 0
+BeginsNone (Constant value) = ⊥
+BeginsNone (Name word) = ⊥
+BeginsNone (Mark Caret) = ⊥
+BeginsNone (Mark Open) = ⊥
+BeginsNone (Mark s) = unary_of s ≡ None
+BeginsNone _ = Unit {0}
+
+-- what an operand begins with, by its symbol
+abbrev pub IsHead : Head → Symbol → Type 0
+IsHead (head.Constant text) k = k ≡ Constant text
+IsHead (head.Name word) k = (k ≡ Name word.now) × (length word.now ≤ 31)
+IsHead head.Caret k = k ≡ Mark Caret
+IsHead head.Open k = k ≡ Mark Open
+IsHead (head.Unary s op) k = (k ≡ Mark s) × (unary_of s ≡ Some op)
+IsHead head.Nothing k = BeginsNone k
+
+-- the sign of this binary operator stands in front
+pub record StartsBinary (op : BinaryOp) (ks rest : List Symbol) : Type 0 where
+  pub sign : Sign
+  pub starts : ks ≡ Mark sign ∷ rest
+  pub means : binary_of sign ≡ Some op
+
+-- no binary operator stands in front
+abbrev pub HasNoBinary : List Symbol → Type 0
+HasNoBinary (Mark s ∷ ks) = binary_of s ≡ None
+HasNoBinary _ = Unit {0}
+
+-- no such sign stands in front
+abbrev pub HasNoOpen : List Symbol → Type 0
+HasNoOpen (Mark Open ∷ ks) = ⊥
+HasNoOpen _ = Unit {0}
+
+abbrev pub HasNoComma : List Symbol → Type 0
+HasNoComma (Mark Comma ∷ ks) = ⊥
+HasNoComma _ = Unit {0}
+
+abbrev pub HasNoClose : List Symbol → Type 0
+HasNoClose (Mark Close ∷ ks) = ⊥
+HasNoClose _ = Unit {0}
+
+abbrev pub HasNoName : List Symbol → Type 0
+HasNoName (Name word ∷ ks) = ⊥
+HasNoName _ = Unit {0}

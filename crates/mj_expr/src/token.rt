@@ -1,0 +1,196 @@
+// What a token is to an expression.
+
+ghost use Rattle.std.specs.Prelude.{◌≡◌, ◌∷◌, ◌<◌, ◌≤◌, [], length, IfOk, MatchOption};
+ghost use Rattle.mj_ast.specs.Expressions.{symbol, constant_of, Constant, Name, Mark, Other};
+ghost use Rattle.mj_ast.specs.declared.sign.Sign.TheVariants.{Open, Close, Comma};
+ghost use Rattle.mj_expr.specs.Machine.{unary_of, binary_of, refused_in};
+ghost use Rattle.mj_expr.specs.Reads.{symbols_seen, Refuses, IsHead, StartsBinary, HasNoBinary, HasNoOpen, HasNoComma, HasNoClose, HasNoName};
+ghost use Rattle.mj_num.specs.Number.{reading};
+ghost use Rattle.mj_lex.specs.Seen.{token_seen};
+
+use crate::stop::Stop;
+use mj_ast::{BinaryOp, Sign, UnaryOp};
+use mj_lex::{Lexeme, Token, next, unquoted};
+use mj_text::{Failure, Text};
+use std::alloc::{AllocError, Global};
+
+/// The most bytes of a name.
+const NAME_LIMIT: usize = 31;
+
+/// What an operand may begin with.
+pub(crate) enum Head<'a> {
+    Constant(Text),
+    Name(&'a [u8]),
+    Caret,
+    Open,
+    Unary(Sign, UnaryOp),
+    Nothing,
+}
+
+/// The canonic text of the number that digits read, if it is in range.
+fn number_text(_alloc: Global, _digits: &[u8]) -> Option<Text>
+    ensures { MatchOption result (constant_of (reading _digits.now) ≡ Other) (λ t. constant_of (reading _digits.now) ≡ Constant t) }
+{
+    None
+}
+
+fn unary(sign: Sign) -> Option<UnaryOp>
+    ensures { result ≡ unary_of sign }
+{
+    match sign {
+        Sign::Plus => Some(UnaryOp::Plus),
+        Sign::Minus => Some(UnaryOp::Minus),
+        _ => None,
+    }
+}
+
+fn binary(sign: Sign) -> Option<BinaryOp>
+    ensures { result ≡ binary_of sign }
+{
+    match sign {
+        Sign::Plus => Some(BinaryOp::Add),
+        Sign::Minus => Some(BinaryOp::Subtract),
+        Sign::Star => Some(BinaryOp::Multiply),
+        Sign::Underscore => Some(BinaryOp::Join),
+        Sign::Equals => Some(BinaryOp::Equal),
+        _ => None,
+    }
+}
+
+fn sign_head<'a>(sign: Sign) -> Head<'a>
+    ensures { IsHead result (Mark sign) }
+{
+    match sign {
+        Sign::Caret => Head::Caret,
+        Sign::Open => Head::Open,
+        _ => match unary(sign) {
+            Some(op) => Head::Unary(sign, op),
+            None => Head::Nothing,
+        },
+    }
+}
+
+pub(crate) fn head_of<'a>(alloc: Global, token: Token<'a>) -> Result<Head<'a>, AllocError>
+    ensures { IfOk result (λ h. IsHead h (symbol (token_seen token.entry))) }
+{
+    match token {
+        Token::Digits(digits) => match number_text(alloc, digits) {
+            Some(text) => Ok(Head::Constant(text)),
+            None => Ok(Head::Nothing),
+        },
+        Token::Quoted(bytes) => match unquoted(alloc, bytes) {
+            Ok(text) => Ok(Head::Constant(text)),
+            Err(Failure::Fault(_)) => Ok(Head::Nothing),
+            Err(Failure::Memory) => Err(AllocError),
+        },
+        Token::Word(word) => {
+            if word.len() <= NAME_LIMIT {
+                Ok(Head::Name(word))
+            } else {
+                Ok(Head::Nothing)
+            }
+        }
+        Token::Sign(sign) => Ok(sign_head(sign)),
+        Token::Blank | Token::Comment(_) | Token::Unclosed(_) | Token::Stray(_) => Ok(Head::Nothing),
+    }
+}
+
+/// The token in front and the tokens behind it.
+pub(crate) fn taken<'a, 't>(tokens: &'t [Lexeme<'a>]) -> Option<(Token<'a>, &'t [Lexeme<'a>])>
+    ensures { MatchOption result (symbols_seen tokens.now ≡ []) (λ x. (symbols_seen tokens.now ≡ symbol (token_seen x.0) ∷ symbols_seen x.1.now) × (length x.1.now < length tokens.now)) }
+{
+    next(tokens)
+}
+
+/// The binary operator in front and the tokens behind it.
+pub(crate) fn behind_binary<'a, 't>(tokens: &'t [Lexeme<'a>]) -> Option<(BinaryOp, &'t [Lexeme<'a>])>
+    ensures { MatchOption result (HasNoBinary (symbols_seen tokens.now)) (λ x. StartsBinary x.0 (symbols_seen tokens.now) (symbols_seen x.1.now) × (length x.1.now < length tokens.now)) }
+{
+    match taken(tokens) {
+        Some((Token::Sign(sign), rest)) => match binary(sign) {
+            Some(op) => Some((op, rest)),
+            None => None,
+        },
+        _ => None,
+    }
+}
+
+/// The tokens behind a sign in front.
+pub(crate) fn behind_open<'a, 't>(tokens: &'t [Lexeme<'a>]) -> Option<&'t [Lexeme<'a>]>
+    ensures { MatchOption result (HasNoOpen (symbols_seen tokens.now)) (λ x. (symbols_seen tokens.now ≡ Mark Open ∷ symbols_seen x.now) × (length x.now < length tokens.now)) }
+{
+    match taken(tokens) {
+        Some((Token::Sign(Sign::Open), rest)) => Some(rest),
+        _ => None,
+    }
+}
+
+/// The tokens behind a comma in front.
+pub(crate) fn behind_comma<'a, 't>(tokens: &'t [Lexeme<'a>]) -> Option<&'t [Lexeme<'a>]>
+    ensures { MatchOption result (HasNoComma (symbols_seen tokens.now)) (λ x. (symbols_seen tokens.now ≡ Mark Comma ∷ symbols_seen x.now) × (length x.now < length tokens.now)) }
+{
+    match taken(tokens) {
+        Some((Token::Sign(Sign::Comma), rest)) => Some(rest),
+        _ => None,
+    }
+}
+
+/// The tokens behind a closing parenthesis in front.
+pub(crate) fn behind_close<'a, 't>(tokens: &'t [Lexeme<'a>]) -> Option<&'t [Lexeme<'a>]>
+    ensures { MatchOption result (HasNoClose (symbols_seen tokens.now)) (λ x. (symbols_seen tokens.now ≡ Mark Close ∷ symbols_seen x.now) × (length x.now < length tokens.now)) }
+{
+    match taken(tokens) {
+        Some((Token::Sign(Sign::Close), rest)) => Some(rest),
+        _ => None,
+    }
+}
+
+/// The name in front and the tokens behind it.
+pub(crate) fn behind_name<'a, 't>(tokens: &'t [Lexeme<'a>]) -> Option<(&'a [u8], &'t [Lexeme<'a>])>
+    ensures { MatchOption result (HasNoName (symbols_seen tokens.now)) (λ x. (symbols_seen tokens.now ≡ Name x.0.now ∷ symbols_seen x.1.now) × (length x.1.now < length tokens.now) × (length x.0.now ≤ 31)) }
+{
+    match taken(tokens) {
+        Some((Token::Word(word), rest)) => {
+            if word.len() <= NAME_LIMIT {
+                Some((word, rest))
+            } else {
+                None
+            }
+        }
+        _ => None,
+    }
+}
+
+/// A name as a text.
+pub(crate) fn name_text(alloc: Global, word: &[u8]) -> Result<Text, AllocError>
+    requires { length word.now ≤ 31 }
+    ensures { IfOk result (λ t. t ≡ word.now) }
+{
+    match Text::from(alloc, word) {
+        Ok(text) => Ok(text),
+        Err(_) => Err(AllocError),
+    }
+}
+
+/// Why nothing is given where no phrase goes on. A comma in a list that is full is too long.
+pub(crate) fn refusal(tokens: &[Lexeme<'_>], full: bool) -> Stop
+    ensures { Refuses result (refused_in full (symbols_seen tokens.now)) }
+{
+    match taken(tokens) {
+        Some((Token::Word(word), _)) => {
+            if word.len() <= NAME_LIMIT {
+                Stop::Stuck(tokens.len())
+            } else {
+                Stop::Long
+            }
+        }
+        Some((Token::Sign(Sign::Comma), _)) => {
+            if full {
+                Stop::Long
+            } else {
+                Stop::Stuck(tokens.len())
+            }
+        }
+        _ => Stop::Stuck(tokens.len()),
+    }
+}
