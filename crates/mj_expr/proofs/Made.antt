@@ -1,12 +1,12 @@
 -- The trees that the program makes, without where they lie in memory.
-use Rattle.std.proofs.Common.{◌≡◌, ℕ, ◌+◌, List, [], ◌∷◌, ◌++◌, length, refl, ap, ◌∙◌, sym, Vec, Global, arith}
+use Rattle.std.proofs.Common.{◌≡◌, ℕ, List, [], ◌∷◌, ◌++◌, length, refl, ap, ◌∙◌, Vec, Global, arith}
 use mathlib.Core.Former.{Count}
 use Rattle.mj_ast.specs.declared.expr.Scope.{Scope}
 use Rattle.mj_ast.specs.declared.expr.Expr as expr
 use Rattle.mj_ast.specs.declared.expr.Tail.{Tail}
 use Rattle.mj_ast.specs.declared.expr.Operand as operand
 use Rattle.mj_ast.specs.declared.expr.Variable as variable
-use Rattle.mj_ast.specs.Syntax.{Expr, Chain, Tails, Done, Then, Operand, Variable, Var, Exprs, No, More}
+use Rattle.mj_ast.specs.Syntax.{Chain, Tails, Then, Var, Exprs, More}
 use Rattle.mj_ast.specs.Trees.{operand_of, expr_of, variable_of, tail_row, expr_row, tails_of, exprs_of}
 use Rattle.mj_ast.specs.Expressions.{count}
 use Rattle.mj_expr.specs.Machine.{and_then, and_more}

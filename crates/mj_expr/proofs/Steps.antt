@@ -1,15 +1,14 @@
 -- Steps of the machine.
-use Rattle.std.proofs.Common.{◌≡◌, ℕ, ◌+◌, ◌<◌, ◌≤◌, List, [], ◌∷◌, ◌++◌, length, refl, ap, sym, ◌∙◌, arith, Bool, true, false, Result, Ok, Err, nat_lt, nat_le, Option, Some, None, subst}
+use Rattle.std.proofs.Common.{◌≡◌, ℕ, ◌+◌, ◌<◌, ◌≤◌, List, [], ◌∷◌, refl, ap, sym, ◌∙◌, arith, Bool, true, false, Result, Ok, Err, nat_lt, nat_le, Option, Some, None, subst}
 use Rattle.std.proofs.lemmas.Bool.Decides.{nat_tests}
 use Rattle.std.specs.Prelude.{cond, not}
 use Rattle.std.specs.Result.{IsErrAnd}
-use Rattle.mj_ast.specs.declared.sign.Sign.{Sign}
 use Rattle.mj_ast.specs.declared.sign.Sign.TheVariants.{Plus, Minus, Star, Underscore, Equals, Caret, Open, Close, Comma, Colon, Exclamation}
 use Rattle.mj_ast.specs.declared.expr.BinaryOp.{BinaryOp}
 use Rattle.mj_ast.specs.declared.expr.Scope.{Scope}
 use Rattle.mj_ast.specs.Syntax.{Expr, Chain, Tails, Done, Operand, Value, Unary, Variable, Var, Exprs, No, More}
-use Rattle.mj_ast.specs.Expressions.{Symbol, Constant, Name, Overlong, Mark, Other, count, width_limit}
-use Rattle.mj_expr.specs.Machine.{Outer, Alone, InGroup, InList, Within, Front, Right, Under, Place, AsOperand, AsTarget, State, Wanted, Named, Held, Got, filled, placed, held, Limits, Next, Go, Stuck, Deep, Long, Outcome, TooLong, step, on, run, goes, turn, finish, ends, refused, refused_in, and_more, and_then, is_full, hold_sign, place_depth}
+use Rattle.mj_ast.specs.Expressions.{Symbol, Constant, Name, Overlong, Mark, Other, count}
+use Rattle.mj_expr.specs.Machine.{Outer, Alone, InList, Within, Front, Right, Under, Place, AsOperand, AsTarget, State, Wanted, Named, Held, Got, filled, placed, held, Limits, Go, Deep, Long, Outcome, Accept, TooLong, Whole, Target, run, turn, refused_in, and_more, and_then, hold_sign, place_depth}
 use Rattle.mj_expr.specs.Reads.{limits, symbols_seen, Reads, Refuses, HasNoBinary, HasNoOpen, HasNoComma, HasNoClose, StartsBinary}
 use Rattle.mj_expr.specs.Lists.{behind_from, behind_list}
 use Rattle.mj_expr.specs.declared.stop.Stop.{Stop}
@@ -187,3 +186,27 @@ open_goes m ks scope word p h = ap (λ (b : Bool). turn m ks (Named scope word p
 -- a list with one more is full
 pub full_is : (n k : ℕ) → n ≡ k → not (nat_lt (n + 1) 31) ≡ nat_le 31 (k + 1)
 full_is n k e = grind (arith, nat_tests)
+
+-- an expression that can't go on is whole
+pub whole_done : (m : Limits) (e : Expr) (ks : List Symbol) → HasNoBinary ks → run m ks (held e Alone) ≡ Accept (Whole e) ks
+whole_done m (Chain x r) [] h = refl
+whole_done m (Chain x r) (Constant v ∷ ks) h = refl
+whole_done m (Chain x r) (Name w ∷ ks) h = refl
+whole_done m (Chain x r) (Overlong ∷ ks) h = refl
+whole_done m (Chain x r) (Other ∷ ks) h = refl
+whole_done m (Chain x r) (Mark Plus ∷ ks) h = absurd (some_none _ h)
+whole_done m (Chain x r) (Mark Minus ∷ ks) h = absurd (some_none _ h)
+whole_done m (Chain x r) (Mark Star ∷ ks) h = absurd (some_none _ h)
+whole_done m (Chain x r) (Mark Underscore ∷ ks) h = absurd (some_none _ h)
+whole_done m (Chain x r) (Mark Equals ∷ ks) h = absurd (some_none _ h)
+whole_done m (Chain x r) (Mark Caret ∷ ks) h = refl
+whole_done m (Chain x r) (Mark Open ∷ ks) h = refl
+whole_done m (Chain x r) (Mark Close ∷ ks) h = refl
+whole_done m (Chain x r) (Mark Comma ∷ ks) h = refl
+whole_done m (Chain x r) (Mark Colon ∷ ks) h = refl
+whole_done m (Chain x r) (Mark Exclamation ∷ ks) h = refl
+
+-- a variable is whole
+pub target_done : (m : Limits) (v : Variable) (ks : List Symbol) → run m ks (Got v) ≡ Accept (Target v) ks
+target_done m v [] = refl
+target_done m v (k ∷ ks) = refl

@@ -9,7 +9,7 @@ use Rattle.mj_ast.specs.declared.expr.UnaryOp.TheVariants as unary
 use Rattle.mj_ast.specs.declared.expr.BinaryOp.{BinaryOp}
 use Rattle.mj_ast.specs.declared.expr.BinaryOp.TheVariants as binary
 use Rattle.mj_ast.specs.Syntax.{Expr, Chain, Tails, Done, Then, Operand, Literal, Value, Unary, Group, Variable, Var, Exprs, No, More}
-use Rattle.mj_ast.specs.Expressions.{Symbol, Constant, Name, Overlong, Mark, Other, count}
+use Rattle.mj_ast.specs.Expressions.{Symbol, Constant, Name, Overlong, Mark, count}
 
 -- the unary operator of a sign
 abbrev pub unary_of : Sign → Option UnaryOp

@@ -1,12 +1,12 @@
 -- What a function that reads a part of a line returns.
-use Rattle.std.specs.Prelude.{ℕ, ◌≡◌, ◌≤◌, List, [], ◌∷◌, length, map, Result, Ok, Err, Option, Some, None, Bool, false}
+use Rattle.std.specs.Prelude.{ℕ, ◌≡◌, ◌≤◌, List, ◌∷◌, length, map, Result, Ok, Err, Some, None}
 use Rattle.mj_ast.specs.declared.sign.Sign.TheVariants.{Caret, Open, Comma, Close}
 use Rattle.mj_ast.specs.declared.sign.Sign.{Sign}
 use Rattle.mj_ast.specs.declared.expr.BinaryOp.{BinaryOp}
-use Rattle.mj_ast.specs.Expressions.{Symbol, Constant, Name, Mark, Other, Overlong, symbol, width_limit}
+use Rattle.mj_ast.specs.Expressions.{Symbol, Constant, Name, Mark, symbol, width_limit}
 use Rattle.mj_lex.specs.declared.token.Lexeme.{Lexeme}
 use Rattle.mj_lex.specs.Seen.{tokens_seen}
-use Rattle.mj_expr.specs.Machine.{Limits, State, Outcome, StuckAt, DeepAt, TooLong, run, unary_of, binary_of}
+use Rattle.mj_expr.specs.Machine.{Limits, State, Phrase, Outcome, Accept, StuckAt, DeepAt, TooLong, run, unary_of, binary_of}
 use Rattle.mj_expr.specs.declared.stop.Stop.{Stop}
 use Rattle.mj_expr.specs.declared.stop.Stop.TheVariants.{Stuck, Deep, Long, Memory}
 use Rattle.mj_expr.specs.declared.token.Head.{Head}
@@ -29,6 +29,11 @@ Refuses Long o = o ≡ TooLong
 abbrev pub Reads : {X T : Type 0} → (X → T) → (X → List Lexeme) → Result X Stop → ℕ → List Lexeme → State → (T → State) → Type 0
 Reads tree rest (Ok x) d ls s holding = run (limits d) (symbols_seen ls) s ≡ run (limits d) (symbols_seen (rest x)) (holding (tree x))
 Reads tree rest (Err e) d ls s holding = Refuses e (run (limits d) (symbols_seen ls) s)
+
+-- what a whole run gives
+abbrev pub Gives : {X : Type 0} → (X → Phrase) → (X → List Lexeme) → Result X Stop → Outcome → Type 0
+Gives phrase rest (Ok x) o = o ≡ Accept (phrase x) (symbols_seen (rest x))
+Gives phrase rest (Err e) o = Refuses e o
 
 -- no operand begins with it
 abbrev pub BeginsNone : Symbol → Type 0
@@ -67,6 +72,10 @@ HasNoOpen _ = Unit {0}
 abbrev pub HasNoComma : List Symbol → Type 0
 HasNoComma (Mark Comma ∷ ks) = ⊥
 HasNoComma _ = Unit {0}
+
+abbrev pub HasNoCaret : List Symbol → Type 0
+HasNoCaret (Mark Caret ∷ ks) = ⊥
+HasNoCaret _ = Unit {0}
 
 abbrev pub HasNoClose : List Symbol → Type 0
 HasNoClose (Mark Close ∷ ks) = ⊥

@@ -1,8 +1,13 @@
-// Expressions, read from tokens.
+// Expressions and variables, read from the tokens of a line.
+//
+// `expression` and `variable` read one from the front of the tokens, as far as it goes, and give its tree and the tokens
+// behind it, or say at which token no expression goes on so, or a level too many opens.
 #![tactic(auto)]
 
+mod phrase;
 mod read;
 mod stop;
 mod token;
 
+pub use phrase::{DEPTH_LIMIT, expression, variable};
 pub use stop::Stop;

@@ -4,11 +4,14 @@ ghost use Rattle.std.specs.Prelude.{◌≡◌, ◌<◌, ◌≤◌, ◌+◌, ℕ,
 ghost use Rattle.mj_ast.specs.declared.expr.Scope.{Scope};
 ghost use Rattle.mj_ast.specs.Syntax.{No, Var, Group};
 ghost use Rattle.mj_ast.specs.Trees.{operand_of, expr_of, variable_of, exprs_of};
-ghost use Rattle.mj_expr.specs.Machine.{Outer, Within, Place, Front, InGroup, InList, Wanted, Marked, Named, filled, placed, held, outer_depth, depth_of, place_depth, outer_of, is_full, is_full_in};
+ghost use Rattle.mj_expr.specs.Machine.{Outer, Within, Place, AsTarget, Front, InGroup, InList, Wanted, Sought, Marked, Named, Got, filled, placed, held, outer_depth, depth_of, place_depth, outer_of, is_full, is_full_in};
 ghost use Rattle.mj_expr.specs.Reads.{symbols_seen, limits, Reads, HasNoBinary};
 
 use crate::stop::Stop;
-use crate::token::{Head, behind_binary, behind_close, behind_comma, behind_name, behind_open, head_of, name_text, refusal, taken};
+use crate::token::{
+    Head, behind_binary, behind_caret, behind_close, behind_comma, behind_name, behind_open,
+    head_of, name_text, refusal, taken,
+};
 use mj_ast::{Expr, Operand, Scope, Tail, Variable};
 use mj_lex::Lexeme;
 use std::alloc::Global;
@@ -113,9 +116,23 @@ fn named<'a, 't>(
                 return Err(Stop::Deep(tokens.len()));
             }
             let (subscripts, rest) = list(alloc, rest, room - 1)?;
-            Ok((Variable { scope, word, subscripts }, rest))
+            Ok((
+                Variable {
+                    scope,
+                    word,
+                    subscripts,
+                },
+                rest,
+            ))
         }
-        None => Ok((Variable { scope, word, subscripts: Vec::new(alloc) }, tokens)),
+        None => Ok((
+            Variable {
+                scope,
+                word,
+                subscripts: Vec::new(alloc),
+            },
+            tokens,
+        )),
     }
 }
 
@@ -166,5 +183,23 @@ fn list<'a, 't>(
     match behind_close(rest) {
         Some(rest) => Ok((subscripts, rest)),
         None => Err(refusal(rest, false)),
+    }
+}
+
+/// The variable in front and the tokens behind it, where it can't go on.
+pub(crate) fn sought<'a, 't>(
+    alloc: Global,
+    tokens: &'t [Lexeme<'a>],
+    room: usize,
+) -> Result<(Variable, &'t [Lexeme<'a>]), Stop>
+    ensures shorter { IfOk result (λ x. length x.1.now < length tokens.now) }
+    ensures reads { Reads (λ x. variable_of x.0) (λ x. x.1.now) result room tokens.now (Sought AsTarget) (λ v. Got v) }
+{
+    match behind_name(tokens) {
+        Some((word, rest)) => named(alloc, Scope::Local, word, rest, room),
+        None => match behind_caret(tokens) {
+            Some(rest) => global(alloc, rest, room, false),
+            None => Err(refusal(tokens, false)),
+        },
     }
 }

@@ -2,16 +2,17 @@
 
 ghost use Rattle.std.specs.Prelude.{◌≡◌, ◌∷◌, ◌<◌, ◌≤◌, [], length, IfOk, MatchOption};
 ghost use Rattle.mj_ast.specs.Expressions.{symbol, constant_of, Constant, Name, Mark, Other};
-ghost use Rattle.mj_ast.specs.declared.sign.Sign.TheVariants.{Open, Close, Comma};
+ghost use Rattle.mj_ast.specs.declared.sign.Sign.TheVariants.{Caret, Open, Close, Comma};
 ghost use Rattle.mj_expr.specs.Machine.{unary_of, binary_of, refused_in};
-ghost use Rattle.mj_expr.specs.Reads.{symbols_seen, Refuses, IsHead, StartsBinary, HasNoBinary, HasNoOpen, HasNoComma, HasNoClose, HasNoName};
+ghost use Rattle.mj_expr.specs.Reads.{symbols_seen, Refuses, IsHead, StartsBinary, HasNoBinary, HasNoOpen, HasNoComma, HasNoClose, HasNoCaret, HasNoName};
 ghost use Rattle.mj_num.specs.Number.{reading};
 ghost use Rattle.mj_lex.specs.Seen.{token_seen};
 
 use crate::stop::Stop;
 use mj_ast::{BinaryOp, Sign, UnaryOp};
 use mj_lex::{Lexeme, Token, next, unquoted};
-use mj_text::{Failure, Text};
+use mj_num::Num;
+use mj_text::{Failure, TEXT_LIMIT, Text};
 use std::alloc::{AllocError, Global};
 
 /// The most bytes of a name.
@@ -28,10 +29,13 @@ pub(crate) enum Head<'a> {
 }
 
 /// The canonic text of the number that digits read, if it is in range.
-fn number_text(_alloc: Global, _digits: &[u8]) -> Option<Text>
-    ensures { MatchOption result (constant_of (reading _digits.now) ≡ Other) (λ t. constant_of (reading _digits.now) ≡ Constant t) }
+fn number_text(alloc: Global, digits: &[u8]) -> Option<Text>
+    ensures { MatchOption result (constant_of (reading digits.now) ≡ Other) (λ t. constant_of (reading digits.now) ≡ Constant t) }
 {
-    None
+    match Num::read_bytes(digits) {
+        Ok(number) => Some(number.to_text(alloc)),
+        Err(_) => None,
+    }
 }
 
 fn unary(sign: Sign) -> Option<UnaryOp>
@@ -79,7 +83,11 @@ pub(crate) fn head_of<'a>(alloc: Global, token: Token<'a>) -> Result<Head<'a>, A
             None => Ok(Head::Nothing),
         },
         Token::Quoted(bytes) => match unquoted(alloc, bytes) {
-            Ok(text) => Ok(Head::Constant(text)),
+            Ok(text) => {
+                let length = text.len();
+                prove!(length <= TEXT_LIMIT);
+                Ok(Head::Constant(text))
+            }
             Err(Failure::Fault(_)) => Ok(Head::Nothing),
             Err(Failure::Memory) => Err(AllocError),
         },
@@ -91,7 +99,9 @@ pub(crate) fn head_of<'a>(alloc: Global, token: Token<'a>) -> Result<Head<'a>, A
             }
         }
         Token::Sign(sign) => Ok(sign_head(sign)),
-        Token::Blank | Token::Comment(_) | Token::Unclosed(_) | Token::Stray(_) => Ok(Head::Nothing),
+        Token::Blank | Token::Comment(_) | Token::Unclosed(_) | Token::Stray(_) => Ok(
+            Head::Nothing,
+        ),
     }
 }
 
@@ -103,7 +113,9 @@ pub(crate) fn taken<'a, 't>(tokens: &'t [Lexeme<'a>]) -> Option<(Token<'a>, &'t 
 }
 
 /// The binary operator in front and the tokens behind it.
-pub(crate) fn behind_binary<'a, 't>(tokens: &'t [Lexeme<'a>]) -> Option<(BinaryOp, &'t [Lexeme<'a>])>
+pub(crate) fn behind_binary<'a, 't>(
+    tokens: &'t [Lexeme<'a>],
+) -> Option<(BinaryOp, &'t [Lexeme<'a>])>
     ensures { MatchOption result (HasNoBinary (symbols_seen tokens.now)) (λ x. StartsBinary x.0 (symbols_seen tokens.now) (symbols_seen x.1.now) × (length x.1.now < length tokens.now)) }
 {
     match taken(tokens) {
@@ -121,6 +133,16 @@ pub(crate) fn behind_open<'a, 't>(tokens: &'t [Lexeme<'a>]) -> Option<&'t [Lexem
 {
     match taken(tokens) {
         Some((Token::Sign(Sign::Open), rest)) => Some(rest),
+        _ => None,
+    }
+}
+
+/// The tokens behind a `^` in front.
+pub(crate) fn behind_caret<'a, 't>(tokens: &'t [Lexeme<'a>]) -> Option<&'t [Lexeme<'a>]>
+    ensures { MatchOption result (HasNoCaret (symbols_seen tokens.now)) (λ x. (symbols_seen tokens.now ≡ Mark Caret ∷ symbols_seen x.now) × (length x.now < length tokens.now)) }
+{
+    match taken(tokens) {
+        Some((Token::Sign(Sign::Caret), rest)) => Some(rest),
         _ => None,
     }
 }

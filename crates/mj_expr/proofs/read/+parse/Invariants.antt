@@ -1,4 +1,4 @@
-use Rattle.std.proofs.Common.{◌≡◌, ◌<◌, ◌+◌, ◌*◌, ℕ, length, List, Bool}
+use Rattle.std.proofs.Common.{◌≡◌, ◌<◌, ◌+◌, ◌*◌, ℕ, length, List}
 use Rattle.mj_ast.specs.declared.expr.Scope.{Scope}
 use Rattle.mj_ast.specs.Syntax.{No}
 use Rattle.mj_ast.specs.Trees.{operand_of, tails_of, exprs_of}
@@ -32,7 +32,7 @@ pub record IsReadSo (Goes : Type 0) (Falls : Type 0) : Type 0 where
 abbrev pub invariant-expr-joins : goal.invariant-expr-joins
 invariant-expr-joins l = IsReadSo
     ((o : Outer) → (d : ℕ) → outer_depth o + l.room ≡ d → is_full (limits 0) o ≡ l.full →
-      run (limits d) (symbols_seen l.tokens) (Wanted (Front o)) ≡ run (limits d) (symbols_seen l.rest) (Held (operand_of l.first) (tails_of l.tails.items) o))
+    run (limits d) (symbols_seen l.tokens) (Wanted (Front o)) ≡ run (limits d) (symbols_seen l.rest) (Held (operand_of l.first) (tails_of l.tails.items) o))
     (length l.rest < length l.tokens)
 
 abbrev pub decreases-expr-joins : goal.decreases-expr-joins
@@ -41,7 +41,7 @@ decreases-expr-joins l = length l.rest
 abbrev pub invariant-list-commas : goal.invariant-list-commas
 invariant-list-commas l = IsReadSo
     ((scope : Scope) → (word : List ℕ) → (p : Place) → (d : ℕ) → place_depth p + 1 + l.room ≡ d →
-      run (limits d) (symbols_seen l.tokens) (Wanted (Front (InList scope word No p))) ≡ run (limits d) (symbols_seen l.rest) (behind_list scope word (exprs_of l.subscripts.items) p))
+    run (limits d) (symbols_seen l.tokens) (Wanted (Front (InList scope word No p))) ≡ run (limits d) (symbols_seen l.rest) (behind_list scope word (exprs_of l.subscripts.items) p))
     ((length l.rest < length l.tokens) × (0 < length l.subscripts.items) × HasNoBinary (symbols_seen l.rest))
 
 abbrev pub decreases-list-commas : goal.decreases-list-commas
