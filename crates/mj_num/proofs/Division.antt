@@ -1,11 +1,14 @@
 -- Division: where quotients and remainders lie, and the remainder of the language against the one that is never negative.
-use Rattle.std.proofs.Common.{◌≡◌, ◌≢◌, ℕ, zero, suc, ◌+◌, ◌-◌, ◌/◌, ◌%◌, ◌<◌, ◌≤◌, ℤ, pos, negsuc, ◌+ℤ◌, neg_ℤ, ◌<ℤ◌, false, refl, ap, ◌∙◌, ◌⊎◌, inl, inr, ⊎_elim, arith}
+use Rattle.std.proofs.Common.{Bool, true, cond, subst, Ok, Err, Result, sym, ◌≤ℤ◌, ◌≡◌, ◌≢◌, ℕ, zero, suc, ◌+◌, ◌-◌, ◌/◌, ◌%◌, ◌<◌, ◌≤◌, ℤ, pos, negsuc, ◌+ℤ◌, neg_ℤ, ◌<ℤ◌, false, refl, ap, ◌∙◌, ◌⊎◌, inl, inr, ⊎_elim, arith}
 use Rattle.std.proofs.Math.Nat.{suc-mod, mod-eq_of_lt, mod_self, div-add-mod, mod-lt, zero-mod, div-le_self}
 use Rattle.std.proofs.lemmas.Bool.{cases_lt, true≢false}
 use Rattle.std.proofs.lemmas.Int.{ints}
 use Rattle.std.specs.Prelude.{unsigned_abs}
 use Rattle.std.specs.Int.{int_rem_euclid}
-use Rattle.mj_num.specs.Number.{is_zero, IsInRange, quotient, remainder}
+use Rattle.std.specs.Prelude.{IfOk}
+use Rattle.mj_text.specs.declared.fault.Fault.{Fault}
+use Rattle.mj_text.specs.declared.fault.Fault.TheVariants.{Divide, Range}
+use Rattle.mj_num.specs.Number.{is_zero, IsInRange, is_in_range, quotient, remainder, remainder_of, IsUpTo}
 
 -- the next number's remainder is 0 where one more is the divisor, and else one more
 next_remainder : (n m : ℕ) → 0 < m → ((suc n % m ≡ 0) × (n % m + 1 ≡ m)) ⊎ ((suc n % m ≡ n % m + 1) × (n % m + 1 < m))
@@ -79,3 +82,27 @@ IsInRange-remainder a d nz h = omega (arith, unsigned_abs-remainder a d nz)
 
 pub IsInRange-quotient : (a d : ℤ) → IsInRange a → IsInRange (quotient a d)
 IsInRange-quotient a d h = omega (arith, unsigned_abs-quotient a d)
+
+pub IsUpTo-remainder : (a d : ℤ) → is_zero d ≡ false → IsUpTo d (remainder a d)
+IsUpTo-remainder a d nz = record { above = from_zero a d; below = to_zero a d }
+  where
+    from_zero : (a d : ℤ) → pos 0 <ℤ d → (pos 0 ≤ℤ remainder a d) × (remainder a d <ℤ d)
+    from_zero (pos a) (pos m) h = rw (remainder-positive a m (omega (arith, ints))) (omega (arith, ints, mod-lt a {m = m} (omega (arith, ints))), omega (arith, ints, mod-lt a {m = m} (omega (arith, ints))))
+    from_zero (negsuc a) (pos m) h = rw (remainder-of_negative a m (omega (arith, ints))) (omega (arith, ints), omega (arith, ints))
+    from_zero a (negsuc b) h = absurd (omega (arith, ints))
+
+    to_zero : (a d : ℤ) → d <ℤ pos 0 → (d <ℤ remainder a d) × (remainder a d ≤ℤ pos 0)
+    to_zero a (pos m) h = absurd (omega (arith, ints))
+    to_zero (pos zero) (negsuc b) h = let e : remainder (pos 0) (negsuc b) ≡ pos 0 = omega (arith, ints) in rw e (omega (arith, ints), omega (arith, ints))
+    to_zero (pos (suc a)) (negsuc b) h = rw (remainder-by_negative a b) (omega (arith, ints), omega (arith, ints))
+    to_zero (negsuc a) (negsuc b) h =
+        rw (remainder-negative a b) (omega (arith, ints, mod-lt (suc a) {m = suc b} (omega arith)), omega (arith, ints))
+
+-- what the operator gives lies from 0 to the divisor
+pub remainder_of_lies : (a d : ℤ) (r : Result ℤ Fault) → r ≡ remainder_of a d → IfOk r (IsUpTo d)
+remainder_of_lies a d r e = subst (λ r. IfOk r (IsUpTo d)) (sym e) (by (is_zero d) (is_in_range (remainder a d)) (IsUpTo-remainder a d))
+  where
+    by : (b t : Bool) → (b ≡ false → IsUpTo d (remainder a d)) → IfOk (cond b (Err Divide) (cond t (Ok (remainder a d)) (Err Range))) (IsUpTo d)
+    by true t h = tt
+    by false true h = h refl
+    by false false h = tt

@@ -1,6 +1,6 @@
 -- Numbers: what a text reads as, how a number is written, and whole-number arithmetic.
 -- A text is the list of its bytes, a number a ℤ. `+` is byte 43, `-` is 45, and the digits are 48 to 57.
-use Rattle.std.specs.Prelude.{ℕ, zero, suc, ◌+◌, ◌-◌, ◌*◌, ◌/◌, ◌^◌, ◌<◌, Bool, true, false, not, ◌&&◌, ◌==◌, nat_lt, if◌then◌else◌, List, [], ◌∷◌, length, ℤ, pos, negsuc, ◌+ℤ◌, ◌-ℤ◌, ◌*ℤ◌, neg_ℤ, unsigned_abs, int_div, Result, Ok, Err}
+use Rattle.std.specs.Prelude.{ℕ, zero, suc, ◌+◌, ◌-◌, ◌*◌, ◌/◌, ◌^◌, ◌<◌, Bool, true, false, not, ◌&&◌, ◌==◌, nat_lt, if◌then◌else◌, List, [], ◌∷◌, length, ℤ, pos, negsuc, ◌+ℤ◌, ◌-ℤ◌, ◌*ℤ◌, neg_ℤ, ◌≤ℤ◌, ◌<ℤ◌, unsigned_abs, int_div, Result, Ok, Err}
 use Rattle.std.specs.Char.{is_ascii_digit}
 use Rattle.std.specs.List.{list_all}
 use Rattle.std.specs.Fmt.{signed_decimal}
@@ -87,6 +87,11 @@ floor_quotient (negsuc a) (negsuc b) = pos (suc a / suc b)
 -- what b leaves of a, b not 0: `a - b * floor(a / b)`, which is 0 or has the sign of b
 abbrev pub remainder : ℤ → ℤ → ℤ
 remainder a b = a -ℤ (b *ℤ floor_quotient a b)
+
+-- r lies from 0 to d, and is not d
+pub record IsUpTo (d r : ℤ) : Type 0 where
+  pub above : pos 0 <ℤ d → (pos 0 ≤ℤ r) × (r <ℤ d)
+  pub below : d <ℤ pos 0 → (d <ℤ r) × (r ≤ℤ pos 0)
 
 -- the operators on two numbers, each with the fault that it ends by
 

@@ -1,7 +1,7 @@
 // A number, and the arithmetic.
 
 ghost use Rattle.std.specs.Prelude.{◌≡◌, neg_ℤ, int_lt, IfOk};
-ghost use Rattle.mj_num.specs.Number.{ranged, reading, canonic_text, is_zero, number_of_truth, IsInRange, sum_of, difference_of, product_of, quotient_of, remainder_of, exact_quotient_of};
+ghost use Rattle.mj_num.specs.Number.{ranged, reading, canonic_text, is_zero, number_of_truth, IsInRange, IsUpTo, sum_of, difference_of, product_of, quotient_of, remainder_of, exact_quotient_of};
 
 use crate::digits::magnitude;
 use mj_text::{Digits, Fault, Text};
@@ -149,7 +149,8 @@ impl Num {
 
     /// What is left of `self` by the quotient that is rounded down: 0, or of the divisor's sign.
     pub fn rem(self, other: Num) -> Result<Num, Fault>
-        ensures { result ≡ remainder_of self other }
+        ensures value { result ≡ remainder_of self other }
+        ensures place { IfOk result (IsUpTo other) }
     {
         if other.is_zero() {
             return Err(Fault::Divide);

@@ -6,7 +6,7 @@ use Rattle.std.specs.Int.{int_rem_euclid}
 use lib.Signed.{mag}
 use Rattle.mj_text.specs.declared.fault.Fault.TheVariants.{Divide}
 use Rattle.mj_num.specs.Number.{ranged, is_zero, IsInRange, remainder, remainder_of}
-use Rattle.mj_num.proofs.Division.{remainder-positive_divisor, remainder-whole, remainder-negative_divisor, IsInRange-remainder}
+use Rattle.mj_num.proofs.Division.{remainder-positive_divisor, remainder-whole, remainder-negative_divisor, IsInRange-remainder, remainder_of_lies}
 use Rattle.mj_num.proofs.num.Num.rem.Goals as goal
 
 -- what the code's casts make of a number
@@ -58,13 +58,15 @@ kept a d r ha hd nz e small which =
 pub returns-then-left-ne0 : goal.returns-then-left-ne0
 returns-then-left-ne0 c =
     let nz = ap is_zero c.other.view_is ∙ sym c.is_zero.ensures ∙ c.if-is_zero.false in
-    c.new.ensures
+    let is = c.new.ensures
     ∙ moved c.self.inside.value c.other.inside.value c.rem_euclid-left.result c.self.invariant c.other.invariant nz c.rem_euclid-left.ensures.value c.rem_euclid-left.type_inv c.if-other-lt0.true c.if-left-ne0.true
-    ∙ (λ i. remainder_of (c.self.view_is i) (c.other.view_is i))
+    ∙ (λ i. remainder_of (c.self.view_is i) (c.other.view_is i)) in
+    record { value = is; place = remainder_of_lies c.args.self c.args.other c.new.result is }
 
 pub returns-else-other-lt0 : goal.returns-else-other-lt0
 returns-else-other-lt0 c =
     let nz = ap is_zero c.other.view_is ∙ sym c.is_zero.ensures ∙ c.if-is_zero.false in
-    c.new-else-other-lt0.ensures
+    let is = c.new-else-other-lt0.ensures
     ∙ kept c.self.inside.value c.other.inside.value c.rem_euclid-left.result c.self.invariant c.other.invariant nz c.rem_euclid-left.ensures.value c.rem_euclid-left.type_inv c.else-other-lt0.either
-    ∙ (λ i. remainder_of (c.self.view_is i) (c.other.view_is i))
+    ∙ (λ i. remainder_of (c.self.view_is i) (c.other.view_is i)) in
+    record { value = is; place = remainder_of_lies c.args.self c.args.other c.new-else-other-lt0.result is }
