@@ -1,0 +1,76 @@
+-- The values of expressions, strictly from left to right (ISO/IEC 11756:1999, 7).
+use Rattle.std.specs.Prelude.{ℕ, List, [], ◌∷◌, Option, None, Some, Bool, true, false, Result, Ok, Err, length, nat_lt, if◌then◌else◌}
+use Rattle.mj_text.specs.declared.fault.Fault.{Fault}
+use Rattle.mj_text.specs.declared.fault.Fault.TheVariants.{Undefined, Subscript, Limit}
+use Rattle.mj_subs.specs.Name.{Name}
+use Rattle.mj_ask.specs.declared.ask.Ask.TheVariants as asks
+use Rattle.mj_ask.specs.declared.ask.Reply.{Reply}
+use Rattle.mj_ask.specs.declared.ask.Reply.TheVariants as replies
+use Rattle.mj_oper.specs.Operators.{binary_value, unary_value, truth_value}
+use Rattle.mj_ast.specs.declared.expr.Scope.{Scope}
+use Rattle.mj_ast.specs.declared.expr.Scope.TheVariants as scopes
+use Rattle.mj_ast.specs.Syntax.{Expr, Chain, Tails, Done, Then, Operand, Literal, Value, Unary, Group, Variable, Var, Exprs, No, More}
+use Rattle.mj_semantics.specs.State.{value_of}
+use Rattle.mj_semantics.specs.Operations.{binary_op, unary_op}
+use Rattle.mj_semantics.specs.Outcome.{Timed, turn, look, ask, need, given}
+
+-- whether a list of subscripts has an empty one
+abbrev pub has_empty : List (List ℕ) → Bool
+has_empty [] = false
+has_empty ([] ∷ ss) = true
+has_empty ((b ∷ s) ∷ ss) = has_empty ss
+
+abbrev pub is_global : Scope → Bool
+is_global scopes.Local = false
+is_global scopes.Global = true
+
+-- a name, once all its subscripts have their values: an empty one is SUBSCRIPT, more than 31 are LIMIT (this profile)
+abbrev pub name_of : Scope → List ℕ → List (List ℕ) → Result Name Fault
+name_of scope word ss =
+    if has_empty ss then Err Subscript
+    else if nat_lt 31 (length ss) then Err Limit
+    else Ok (record { global = is_global scope; word = word; subscripts = ss })
+
+-- the value that a reply brings
+abbrev pub value_told : Reply → Option (List ℕ)
+value_told replies.Done = None
+value_told (replies.Value v) = v
+
+-- the value of a name: that of a local is at hand, that of a global is asked for (7.1.2); without one it is UNDEF
+abbrev pub read : Name → (List ℕ → Timed) → Timed
+read x rest =
+    if x.global
+    then ask (asks.Value x) (λ r. need Undefined (value_told r) rest)
+    else look (λ s. need Undefined (value_of x s.locals) rest)
+
+abbrev mutual
+  -- the value of an expression, and then the rest with it (7.2): each operator is applied once its right side has its
+  -- value, to all that stands left of it
+  pub ev : Expr → (List ℕ → Timed) → Timed
+  ev (Chain x ts) rest = ev_operand x (λ v. ev_tails v ts rest)
+
+  pub ev_tails : List ℕ → Tails → (List ℕ → Timed) → Timed
+  ev_tails v Done rest = rest v
+  ev_tails v (Then op x ts) rest =
+      ev_operand x (λ w. turn (given (binary_value (binary_op op) v w) (λ u. ev_tails u ts rest)))
+
+  -- 7.1: a literal, a variable, an operator with its operand, an expression in parentheses
+  pub ev_operand : Operand → (List ℕ → Timed) → Timed
+  ev_operand (Literal t) rest = turn (rest t)
+  ev_operand (Value v) rest = ev_name v (λ x. read x rest)
+  ev_operand (Unary op x) rest = ev_operand x (λ v. turn (given (unary_value (unary_op op) v) rest))
+  ev_operand (Group e) rest = ev e rest
+
+  -- the name that a variable is: its subscripts in order, and then the whole
+  pub ev_name : Variable → (Name → Timed) → Timed
+  ev_name (Var scope word es) rest = ev_all es (λ ss. turn (given (name_of scope word ss) rest))
+
+  -- the values of expressions, in order
+  pub ev_all : Exprs → (List (List ℕ) → Timed) → Timed
+  ev_all No rest = rest []
+  ev_all (More e es) rest = ev e (λ v. ev_all es (λ vs. rest (v ∷ vs)))
+
+-- one of two rests, by a postcondition (8.1.4), which is tested in a turn of its own
+abbrev pub when : Option Expr → Timed → Timed → Timed
+when None done skipped = done
+when (Some e) done skipped = ev e (λ v. turn (given (truth_value v) (λ b. if b then done else skipped)))

@@ -1,0 +1,88 @@
+-- How a run that is fed with replies stops, and the words that the rows of the language are written in.
+use Rattle.std.specs.Prelude.{ℕ, zero, suc, ◌==◌, List, [], ◌∷◌, ◌++◌, Option, Some, None, Result, Ok, Err, nat_lt, if◌then◌else◌}
+use Rattle.mj_text.specs.declared.fault.Fault.{Fault}
+use Rattle.mj_text.specs.declared.fault.Fault.TheVariants.{Steps}
+use Rattle.mj_ask.specs.declared.ask.Ask.{Ask}
+use Rattle.mj_ask.specs.declared.ask.Ask.TheVariants.{DeviceWrite, DeviceEnd, Halt}
+use Rattle.mj_ask.specs.declared.ask.Reply.{Reply}
+use Rattle.mj_semantics.specs.State.{State, Locals, Place, places, place_of, counted}
+use Rattle.mj_semantics.specs.Faults.{fault_line}
+
+-- the replies are used up at an ask, with the locals and the frames' places there, the innermost first; or the run is
+-- over; or its turns are used up
+pub data Outcome : Type 0 where
+  Needs : (a : Ask) (locals : Locals) (places : List Place) → Outcome
+  Ended : Outcome
+  More : Outcome
+
+-- how a run goes on from a state, for some turns and with the replies to come
+abbrev pub Handler : Type 0
+Handler = ℕ → State → List Reply → Outcome
+
+-- what is left to do: given its turns, what a restart goes on with, the state and the replies to come
+abbrev pub Timed : Type 0
+Timed = ℕ → Handler → State → List Reply → Outcome
+
+-- one turn of those that it may take, and then the rest
+abbrev pub turn : Timed → Timed
+turn rest zero = λ h s replies. More
+turn rest (suc n) = rest n
+
+-- the rest, by the state
+abbrev pub look : (State → Timed) → Timed
+look rest = λ n h s. rest s n h s
+
+-- a change of the state, and then the rest
+abbrev pub change : (State → State) → Timed → Timed
+change f rest = λ n h s. rest n h (f s)
+
+-- an ask that is made in any case, and then the rest with its reply
+abbrev pub asking : Ask → (Reply → Timed) → Timed
+asking a rest n h s [] = Needs a s.locals (places s)
+asking a rest n h s (r ∷ replies) = rest r n h s replies
+
+-- the job is over, which takes a turn to see
+abbrev pub over : Timed
+over = turn (λ n h s replies. Ended)
+
+-- the name of the principal device: `0`
+abbrev pub principal : List ℕ
+principal = 48 ∷ []
+
+-- the last asks of a job, each in a turn: its sessions end, and then the job (8.2.7, HALT)
+abbrev pub halt : Option Fault → Timed
+halt f = turn (asking (Halt f) (λ r. over))
+
+abbrev pub end : Option Fault → Timed
+end f = turn (asking (DeviceEnd principal) (λ r. halt f))
+
+-- what a fault writes (this profile): its line, at the beginning of a line of the device
+abbrev pub fault_bytes : Fault → State → List ℕ
+fault_bytes f s = (if s.column == 0 then [] else 10 ∷ []) ++ fault_line f (place_of s) ++ 10 ∷ []
+
+-- a fault writes its line, in a turn, and ends the job
+abbrev pub fault : Fault → Timed
+fault f = turn (look (λ s. asking (DeviceWrite principal (fault_bytes f s)) (λ r. end (Some f))))
+
+-- how many asks a job may make before its ending (this profile)
+abbrev pub steps_limit : ℕ
+steps_limit = 1000000
+
+-- an ask, and then the rest with its reply; where as many as a job may make were replied to, STEPS in its place
+abbrev pub ask : Ask → (Reply → Timed) → Timed
+ask a rest = look (λ s.
+    if nat_lt s.replied steps_limit then asking a (λ r. change counted (rest r)) else fault Steps)
+
+-- an ask of which the reply changes nothing
+abbrev pub tell : Ask → Timed → Timed
+tell a rest = ask a (λ r. rest)
+
+-- the rest with a value, or the fault where there is none
+abbrev pub need : {A : Type 0} → Fault → Option A → (A → Timed) → Timed
+need f None rest = fault f
+need f (Some v) rest = rest v
+
+-- the rest with a result, or its fault
+abbrev pub given : {A : Type 0} → Result A Fault → (A → Timed) → Timed
+given (Ok v) rest = rest v
+given (Err f) rest = fault f

@@ -1,0 +1,69 @@
+-- What a job holds for itself, and what changes it.
+use Rattle.std.specs.Prelude.{ℕ, ◌+◌, ◌==◌, List, [], ◌∷◌, Option, Some, None, map, if◌then◌else◌}
+use Rattle.std.specs.FinMap as finite
+use Rattle.mj_subs.specs.Name.{Name}
+use Rattle.mj_subs.specs.Collation.{name_cmp}
+
+-- the locals that have a value, with it, by rising names
+abbrev pub Locals : Type 0
+Locals = List (Name × List ℕ)
+
+abbrev pub value_of : Name → Locals → Option (List ℕ)
+value_of x locals = finite.find name_cmp x locals
+
+abbrev pub with_value : Name → List ℕ → Locals → Locals
+with_value x v locals = finite.put name_cmp x v locals
+
+-- a line of a routine, by the routine's name; a routine's first line is line 1
+pub record Place : Type 0 where
+  pub routine : List ℕ
+  pub line : ℕ
+
+-- a frame: the line where it stands
+pub record Frame : Type 0 where
+  pub place : Place
+
+-- the locals; the frames, the innermost first; the column of the principal device, `$X` (8.2.25, WRITE); how many asks
+-- were replied to
+pub record State : Type 0 where
+  pub locals : Locals
+  pub frames : List Frame
+  pub column : ℕ
+  pub replied : ℕ
+
+-- Questions.
+
+abbrev pub places : State → List Place
+places s = map (λ f. f.place) s.frames
+
+-- the place of the innermost frame, if there is a frame
+abbrev pub place_of : State → Option Place
+place_of s = elim s.frames [ [] ↦ None | f ∷ fs ↦ Some f.place ]
+
+-- Changes.
+
+abbrev pub set_local : Name → List ℕ → State → State
+set_local x v s = record s { locals = with_value x v s.locals }
+
+abbrev pub pushed : Place → State → State
+pushed p s = record s { frames = record { place = p } ∷ s.frames }
+
+abbrev pub at_place : Place → State → State
+at_place p s = record s { frames = elim s.frames [ [] ↦ [] | f ∷ fs ↦ record f { place = p } ∷ fs ] }
+
+-- one more ask was replied to
+abbrev pub counted : State → State
+counted s = record s { replied = s.replied + 1 }
+
+-- the column after a byte (this profile): a line feed, a form feed and a carriage return lead to the line's start, any
+-- other byte one to the right
+abbrev pub column_after_byte : ℕ → ℕ → ℕ
+column_after_byte column b = if b == 10 then 0 else if b == 12 then 0 else if b == 13 then 0 else column + 1
+
+abbrev pub column_after : ℕ → List ℕ → ℕ
+column_after column [] = column
+column_after column (b ∷ bytes) = column_after (column_after_byte column b) bytes
+
+-- these bytes were written to the principal device
+abbrev pub wrote : List ℕ → State → State
+wrote bytes s = record s { column = column_after s.column bytes }
