@@ -1,0 +1,68 @@
+// Why a routine is refused.
+
+use arrayvec::ArrayString;
+use thiserror::Error;
+
+/// The name of a routine, for a message.
+pub type RoutineName = ArrayString<31>;
+
+/// Why a routine is refused, with its name and the place: lines and columns count from 1, and the column of a line's end is
+/// one past its length.
+#[derive(Debug, Drop, Error)]
+pub enum LoadError {
+    /// its name is no word; the file is named by the caller
+    #[error("L1")]
+    Name,
+    /// the grammar can't go on
+    #[error("L2 {routine}:{line}:{column}")]
+    Stuck {
+        routine: RoutineName,
+        line: usize,
+        column: usize,
+    },
+    /// a label that an earlier line has
+    #[error("L3 {routine}:{line}")]
+    Twice { routine: RoutineName, line: usize },
+    /// a line, the routine, a word or a list of subscripts is over its limit
+    #[error("L5 {routine}:{line}")]
+    Long { routine: RoutineName, line: usize },
+    /// an expression nests too deep
+    #[error("L6 {routine}:{line}:{column}")]
+    Deep {
+        routine: RoutineName,
+        line: usize,
+        column: usize,
+    },
+    /// an allocation was refused
+    #[error("memory")]
+    Memory,
+}
+
+/// Why a line is refused.
+#[derive(Clone, Copy, PartialEq, Eq, Debug)]
+pub enum Refusal {
+    Stuck(usize),
+    Twice,
+    Long,
+    Deep(usize),
+    Memory,
+}
+
+/// The refusal of a routine for one of its lines.
+pub fn at_line(refusal: Refusal, routine: RoutineName, line: usize) -> LoadError {
+    match refusal {
+        Refusal::Stuck(column) => LoadError::Stuck {
+            routine,
+            line,
+            column,
+        },
+        Refusal::Twice => LoadError::Twice { routine, line },
+        Refusal::Long => LoadError::Long { routine, line },
+        Refusal::Deep(column) => LoadError::Deep {
+            routine,
+            line,
+            column,
+        },
+        Refusal::Memory => LoadError::Memory,
+    }
+}

@@ -1,0 +1,105 @@
+// Routines.
+
+ghost use Rattle.std.specs.Prelude.{◌≡◌, ◌≤◌, ◌<◌, length};
+
+use crate::error::{LoadError, Refusal, RoutineName, at_line};
+use crate::file::first_line;
+use mj_ast::{Line, Routine};
+use mj_expr::Stop;
+use mj_lex::{Lexeme, Token, tokens};
+use mj_text::Text;
+use std::alloc::Global;
+use std::collections::BTreeSet;
+use std::str;
+
+/// The most bytes of a line, without its end.
+pub const LINE_LIMIT: usize = 8_192;
+
+/// The most lines of a routine.
+pub const ROUTINE_LIMIT: usize = 10_000;
+
+/// The name, if it is a word of a length that a name may have.
+fn word(name: &[u8]) -> Option<RoutineName> {
+    let (first, rest) = match name {
+        [] => return None,
+        [first, rest @ ..] => (*first, rest),
+    };
+    if !(first.is_ascii_alphabetic() || first == b'%') || !rest.iter().all(|b| b.is_ascii_alphanumeric()) {
+        return None;
+    }
+    RoutineName::from(str::from_utf8(name).ok()?).ok()
+}
+
+/// The column of the token from which on so many are left, or of the line's end.
+fn column(line: &[u8], lexemes: &[Lexeme], left: usize) -> usize {
+    if left == 0 || lexemes.len() < left {
+        return line.len() + 1;
+    }
+    lexemes[lexemes.len() - left].at.saturating_add(1)
+}
+
+/// The label of a line, as far as its first token says.
+fn label<'a>(lexemes: &[Lexeme<'a>]) -> Option<&'a [u8]> {
+    match lexemes.first()?.token {
+        Token::Word(bytes) | Token::Digits(bytes) => Some(bytes),
+        _ => None,
+    }
+}
+
+/// The tree of a line, and its label.
+fn line_tree<'a>(alloc: Global, line: &'a [u8], labels: &BTreeSet<&'a [u8]>) -> Result<(Line, Option<&'a [u8]>), Refusal> {
+    if line.len() > LINE_LIMIT {
+        return Err(Refusal::Long);
+    }
+    let lexemes = match tokens(alloc, line) {
+        Ok(lexemes) => lexemes,
+        Err(_) => return Err(Refusal::Memory),
+    };
+    let label = label(&lexemes);
+    let twice = match label {
+        Some(label) => labels.contains(&label),
+        None => false,
+    };
+    match mj_cmd::line(alloc, &lexemes) {
+        Err(Stop::Memory) => Err(Refusal::Memory),
+        Err(Stop::Long) => Err(Refusal::Long),
+        _ if twice => Err(Refusal::Twice),
+        Err(Stop::Stuck(left)) => Err(Refusal::Stuck(column(line, &lexemes, left))),
+        Err(Stop::Deep(left)) => Err(Refusal::Deep(column(line, &lexemes, left))),
+        Ok(tree) => Ok((tree, label)),
+    }
+}
+
+/// Reads a routine of this name from the bytes of its file.
+pub fn read(alloc: Global, name: &[u8], bytes: &[u8]) -> Result<Routine, LoadError> {
+    let Some(routine) = word(name) else {
+        return Err(LoadError::Name);
+    };
+    let Ok(name) = Text::from(alloc, name) else {
+        return Err(LoadError::Memory);
+    };
+    let mut lines = Vec::new(alloc);
+    let mut labels = BTreeSet::new(alloc);
+    let mut rest = bytes;
+    'lines: while let Some((line, behind)) = first_line(rest) {
+        let number = lines.len() + 1;
+        if number > ROUTINE_LIMIT {
+            return Err(at_line(Refusal::Long, routine, number));
+        }
+        match line_tree(alloc, line, &labels) {
+            Ok((tree, label)) => {
+                if lines.push(tree).is_err() {
+                    return Err(LoadError::Memory);
+                }
+                if let Some(label) = label {
+                    if labels.insert(label).is_err() {
+                        return Err(LoadError::Memory);
+                    }
+                }
+            }
+            Err(refusal) => return Err(at_line(refusal, routine, number)),
+        }
+        rest = behind;
+    }
+    Ok(Routine { name, lines })
+}
