@@ -139,4 +139,4 @@ not_empty (suc n) h = omega arith
 
 pub is_empty_list : (xs : List ℕ) → true ≡ (length xs == 0) → xs ≡ without_return xs
 is_empty_list [] h = refl
-is_empty_list (x ∷ xs) h = cc
+is_empty_list (x ∷ xs) h = absurd (let P : Bool → Type 0 = λ b. elim b [ true ↦ Unit {0} | false ↦ ⊥ ] in subst P h tt)
