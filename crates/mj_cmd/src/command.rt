@@ -2,15 +2,18 @@
 
 ghost use Rattle.std.specs.Prelude.{◌<◌, ◌≤◌, IfOk, length};
 
-use crate::keyword::{keyword_of, Keyword};
+use crate::keyword::{Keyword, keyword_of};
 use crate::parts::{behind_sign, blank, may_end, sign, stuck};
 use mj_ast::{Assignment, Command, Expr, Mark, Output, Sign, Step};
-use mj_expr::{expression, variable, Stop};
-use mj_lex::{next, Lexeme, Token};
+use mj_expr::{Stop, expression, variable};
+use mj_lex::{Lexeme, Token, next};
 use std::alloc::Global;
 
 /// `variable = expression`
-fn assignment<'a, 't>(alloc: Global, tokens: &'t [Lexeme<'a>]) -> Result<(Assignment, &'t [Lexeme<'a>]), Stop>
+fn assignment<'a, 't>(
+    alloc: Global,
+    tokens: &'t [Lexeme<'a>],
+) -> Result<(Assignment, &'t [Lexeme<'a>]), Stop>
     ensures { IfOk result (λ x. length x.1.now < length tokens.now) }
 {
     let (destination, rest) = variable(alloc, tokens, 0)?;
@@ -20,7 +23,10 @@ fn assignment<'a, 't>(alloc: Global, tokens: &'t [Lexeme<'a>]) -> Result<(Assign
 }
 
 /// The arguments of SET.
-fn assignments<'a, 't>(alloc: Global, tokens: &'t [Lexeme<'a>]) -> Result<(Vec<Assignment>, &'t [Lexeme<'a>]), Stop>
+fn assignments<'a, 't>(
+    alloc: Global,
+    tokens: &'t [Lexeme<'a>],
+) -> Result<(Vec<Assignment>, &'t [Lexeme<'a>]), Stop>
     ensures { IfOk result (λ x. length x.1.now < length tokens.now) }
 {
     let mut arguments = Vec::new(alloc);
@@ -45,7 +51,10 @@ fn marks(tokens: &[Lexeme]) -> usize
 }
 
 /// An argument of WRITE: a format, or an expression.
-fn output<'a, 't>(alloc: Global, tokens: &'t [Lexeme<'a>]) -> Result<(Output, &'t [Lexeme<'a>]), Stop>
+fn output<'a, 't>(
+    alloc: Global,
+    tokens: &'t [Lexeme<'a>],
+) -> Result<(Output, &'t [Lexeme<'a>]), Stop>
     ensures { IfOk result (λ x. length x.1.now < length tokens.now) }
 {
     let count = marks(tokens);
@@ -58,7 +67,10 @@ fn output<'a, 't>(alloc: Global, tokens: &'t [Lexeme<'a>]) -> Result<(Output, &'
 }
 
 /// The arguments of WRITE.
-fn outputs<'a, 't>(alloc: Global, tokens: &'t [Lexeme<'a>]) -> Result<(Vec<Output>, &'t [Lexeme<'a>]), Stop>
+fn outputs<'a, 't>(
+    alloc: Global,
+    tokens: &'t [Lexeme<'a>],
+) -> Result<(Vec<Output>, &'t [Lexeme<'a>]), Stop>
     ensures { IfOk result (λ x. length x.1.now < length tokens.now) }
 {
     let mut arguments = Vec::new(alloc);
@@ -73,7 +85,10 @@ fn outputs<'a, 't>(alloc: Global, tokens: &'t [Lexeme<'a>]) -> Result<(Vec<Outpu
 }
 
 /// A postcondition, if there is one.
-fn condition<'a, 't>(alloc: Global, tokens: &'t [Lexeme<'a>]) -> Result<(Option<Expr>, &'t [Lexeme<'a>]), Stop>
+fn condition<'a, 't>(
+    alloc: Global,
+    tokens: &'t [Lexeme<'a>],
+) -> Result<(Option<Expr>, &'t [Lexeme<'a>]), Stop>
     ensures { IfOk result (λ x. length x.1.now ≤ length tokens.now) }
 {
     match behind_sign(tokens, Sign::Colon) {
@@ -108,7 +123,11 @@ fn behind_no_arguments<'a, 't>(tokens: &'t [Lexeme<'a>]) -> Result<&'t [Lexeme<'
 }
 
 /// The command behind its word and its postcondition.
-fn command<'a, 't>(alloc: Global, keyword: Keyword, tokens: &'t [Lexeme<'a>]) -> Result<(Command, &'t [Lexeme<'a>]), Stop>
+fn command<'a, 't>(
+    alloc: Global,
+    keyword: Keyword,
+    tokens: &'t [Lexeme<'a>],
+) -> Result<(Command, &'t [Lexeme<'a>]), Stop>
     ensures { IfOk result (λ x. length x.1.now ≤ length tokens.now) }
 {
     match keyword {
@@ -125,7 +144,10 @@ fn command<'a, 't>(alloc: Global, keyword: Keyword, tokens: &'t [Lexeme<'a>]) ->
 }
 
 /// A command, up to where it ends.
-pub fn step<'a, 't>(alloc: Global, tokens: &'t [Lexeme<'a>]) -> Result<(Step, &'t [Lexeme<'a>]), Stop>
+pub fn step<'a, 't>(
+    alloc: Global,
+    tokens: &'t [Lexeme<'a>],
+) -> Result<(Step, &'t [Lexeme<'a>]), Stop>
     ensures { IfOk result (λ x. length x.1.now < length tokens.now) }
 {
     let (word, rest) = match next(tokens) {

@@ -3,15 +3,18 @@
 ghost use Rattle.std.specs.Prelude.{◌<◌, ◌≤◌, IfOk, length};
 
 use crate::command::step;
-use crate::parts::{behind_blanks, stuck, WORD_LIMIT};
+use crate::parts::{WORD_LIMIT, behind_blanks, stuck};
 use mj_ast::{Line, Step};
 use mj_expr::Stop;
-use mj_lex::{next, Lexeme, Token};
+use mj_lex::{Lexeme, Token, next};
 use mj_text::Text;
 use std::alloc::Global;
 
 /// A label, if one stands in front.
-fn label<'a, 't>(alloc: Global, tokens: &'t [Lexeme<'a>]) -> Result<(Option<Text>, &'t [Lexeme<'a>]), Stop>
+fn label<'a, 't>(
+    alloc: Global,
+    tokens: &'t [Lexeme<'a>],
+) -> Result<(Option<Text>, &'t [Lexeme<'a>]), Stop>
     ensures { IfOk result (λ x. length x.1.now ≤ length tokens.now) }
 {
     let (bytes, rest) = match next(tokens) {

@@ -4,7 +4,7 @@ ghost use Rattle.std.specs.Prelude.{◌<◌, ◌≤◌, IfOk, IfSome, length};
 
 use mj_ast::Sign;
 use mj_expr::Stop;
-use mj_lex::{next, Lexeme, Token};
+use mj_lex::{Lexeme, Token, next};
 
 /// The most bytes of a word.
 pub const WORD_LIMIT: usize = 31;

@@ -67,7 +67,7 @@ before_newline [] = tt
 before_newline (b ∷ bs) = before_on b bs (b == 10) refl (before_newline bs)
 
 cut_on : (b : ℕ) (bs : List ℕ) (e : Bool) → (b == 10) ≡ e → (position_or_len is_newline bs < length bs → bs ≡ take (position_or_len is_newline bs) bs ++ 10 ∷ drop (position_or_len is_newline bs + 1) bs)
-  → count_on e bs < length (b ∷ bs) → (b ∷ bs) ≡ take (count_on e bs) (b ∷ bs) ++ 10 ∷ drop (count_on e bs + 1) (b ∷ bs)
+    → count_on e bs < length (b ∷ bs) → (b ∷ bs) ≡ take (count_on e bs) (b ∷ bs) ++ 10 ∷ drop (count_on e bs + 1) (b ∷ bs)
 cut_on b bs true h g l = ap (λ (x : ℕ). x ∷ bs) (eqb-true b 10 h)
 cut_on b bs false h g l =
     let n : ℕ = position_or_len is_newline bs in
@@ -129,9 +129,9 @@ line_before bs k h =
     let rest : take (length bs - (n + 1)) (drop (n + 1) bs) ≡ drop (n + 1) bs = take_all (length bs - (n + 1)) (drop (n + 1) bs) (omega (arith, length-drop (n + 1) bs)) in
     let P : ℕ → Type 0 = λ i. lines_of bs ≡ without_return (take i bs) ∷ lines_of (take (length bs - (i + 1)) (drop (i + 1) bs)) in
     subst P both.1 (
-      ap lines_of (cut_at_newline bs less)
-      ∙ lines_cut (take n bs) (drop (n + 1) bs) (before_newline bs)
-      ∙ ap (λ (xs : List ℕ). without_return (take n bs) ∷ lines_of xs) (sym rest))
+    ap lines_of (cut_at_newline bs less)
+    ∙ lines_cut (take n bs) (drop (n + 1) bs) (before_newline bs)
+    ∙ ap (λ (xs : List ℕ). without_return (take n bs) ∷ lines_of xs) (sym rest))
 
 pub not_empty : (n : ℕ) → false ≡ (n == 0) → 0 < n
 not_empty zero h = absurd (let P : Bool → Type 0 = λ b. elim b [ true ↦ ⊥ | false ↦ Unit {0} ] in subst P h tt)
@@ -139,4 +139,4 @@ not_empty (suc n) h = omega arith
 
 pub is_empty_list : (xs : List ℕ) → true ≡ (length xs == 0) → xs ≡ without_return xs
 is_empty_list [] h = refl
-is_empty_list (x ∷ xs) h = absurd (let P : Bool → Type 0 = λ b. elim b [ true ↦ Unit {0} | false ↦ ⊥ ] in subst P h tt)
+is_empty_list (x ∷ xs) h = let e : length (x ∷ xs) ≡ 0 = eqb-true (length (x ∷ xs)) 0 (sym h) in absurd (omega (arith, e))

@@ -22,10 +22,16 @@ pub enum LoadError {
     },
     /// a label that an earlier line has
     #[error("L3 {routine}:{line}")]
-    Twice { routine: RoutineName, line: usize },
+    Twice {
+        routine: RoutineName,
+        line: usize,
+    },
     /// a line, the routine, a word or a list of subscripts is over its limit
     #[error("L5 {routine}:{line}")]
-    Long { routine: RoutineName, line: usize },
+    Long {
+        routine: RoutineName,
+        line: usize,
+    },
     /// an expression nests too deep
     #[error("L6 {routine}:{line}:{column}")]
     Deep {

@@ -24,7 +24,9 @@ fn word(name: &[u8]) -> Option<RoutineName> {
         [] => return None,
         [first, rest @ ..] => (*first, rest),
     };
-    if !(first.is_ascii_alphabetic() || first == b'%') || !rest.iter().all(|b| b.is_ascii_alphanumeric()) {
+    if !(first.is_ascii_alphabetic() || first == b'%')
+        || !rest.iter().all(|b| b.is_ascii_alphanumeric())
+    {
         return None;
     }
     RoutineName::from(str::from_utf8(name).ok()?).ok()
@@ -47,7 +49,11 @@ fn label<'a>(lexemes: &[Lexeme<'a>]) -> Option<&'a [u8]> {
 }
 
 /// The tree of a line, and its label.
-fn line_tree<'a>(alloc: Global, line: &'a [u8], labels: &BTreeSet<&'a [u8]>) -> Result<(Line, Option<&'a [u8]>), Refusal> {
+fn line_tree<'a>(
+    alloc: Global,
+    line: &'a [u8],
+    labels: &BTreeSet<&'a [u8]>,
+) -> Result<(Line, Option<&'a [u8]>), Refusal> {
     if line.len() > LINE_LIMIT {
         return Err(Refusal::Long);
     }

@@ -11,8 +11,8 @@ returns-then-line-eq13 c =
 pub returns-else-not-is_empty : goal.returns-else-not-is_empty
 returns-else-not-is_empty c =
     elim c.else-not-is_empty.branch [
-      else-not-is_empty-via-then-not-is_empty+else-line-eq13 w ↦
-        let some : 0 < length c.args.line.now = not_empty (length c.args.line.now) w.if-not-is_empty.ensures in
-        others_stay c.args.line.now (length c.args.line.now - 1) (omega arith) w.if-line-eq13.false
-    | else-not-is_empty-via-else-not-is_empty w ↦ is_empty_list c.args.line.now w.if-not-is_empty.ensures
+      | else-not-is_empty-via-then-not-is_empty+else-line-eq13 w ↦
+          let some : 0 < length c.args.line.now = not_empty (length c.args.line.now) w.if-not-is_empty.ensures in
+          others_stay c.args.line.now (length c.args.line.now - 1) (omega arith) w.if-line-eq13.false
+      | else-not-is_empty-via-else-not-is_empty w ↦ is_empty_list c.args.line.now w.if-not-is_empty.ensures
     ]
