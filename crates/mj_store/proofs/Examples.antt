@@ -2,7 +2,7 @@
 use Rattle.std.proofs.Common.{◌≡◌, ℕ, Bool, true, false, List, [], ◌∷◌, Option, Some, None, refl}
 use Rattle.std.specs.Prelude.{codes}
 use Rattle.mj_subs.specs.Name.{Name}
-use Rattle.mj_store.specs.declared.Direction.TheVariants.{Forward, Backward}
+use Rattle.mj_store.specs.declared.store.Direction.TheVariants.{Forward, Backward}
 use Rattle.mj_store.specs.Questions.{Content, Subtree, value_at, data_at, order_at, query_at, subtree_at}
 use Rattle.mj_store.specs.Changes.{after_set, after_kill, after_put}
 

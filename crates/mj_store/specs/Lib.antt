@@ -1,3 +1,4 @@
 pub mod Nodes
 pub mod Questions
 pub mod Changes
+pub mod Runs

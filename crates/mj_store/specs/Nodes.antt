@@ -6,8 +6,8 @@ use Rattle.std.specs.List.{filter, filter_map, fold, list_any}
 use Rattle.std.specs.declared.cmp.Ordering.{Ordering}
 use Rattle.std.specs.Ordering.{is_lt, eq_by_cmp, flip_args}
 use Rattle.std.specs.Cmp.Lexicographic.{slice_cmp}
-use Rattle.mj_store.specs.declared.Direction.{Direction}
-use Rattle.mj_store.specs.declared.Direction.TheVariants.{Forward, Backward}
+use Rattle.mj_store.specs.declared.store.Direction.{Direction}
+use Rattle.mj_store.specs.declared.store.Direction.TheVariants.{Forward, Backward}
 
 -- of two, the one that stands first in an order
 abbrev pub first_of : {K : Type 0} → (K → K → Ordering) → Option K → K → Option K

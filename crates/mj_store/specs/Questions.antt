@@ -7,7 +7,7 @@ use Rattle.std.specs.FinMap.{find}
 use Rattle.mj_subs.specs.Name.{Name, kinds_eq}
 use Rattle.mj_subs.specs.Collation.{subscript_cmp, name_cmp}
 use Rattle.mj_store.specs.Nodes.{is_empty, but_last, last_of, after_front, next_past, next_after, data_of, first_subscripts}
-use Rattle.mj_store.specs.declared.Direction.{Direction}
+use Rattle.mj_store.specs.declared.store.Direction.{Direction}
 
 -- names with their texts. That of a store is in the order of names, each name once
 abbrev pub Content : Type 0

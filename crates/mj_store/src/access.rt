@@ -1,0 +1,99 @@
+// Lists of accesses to a store.
+
+ghost use Rattle.std.specs.Prelude.{◌≡◌, ℕ, take, IfOk, OnOk, OnErr};
+ghost use Rattle.mj_store.specs.Runs.{answer_of, after_access, answers_of, after_accesses};
+
+use crate::nodes::Nodes;
+use crate::store::{Direction, Store};
+use mj_subs::{Name, Sub};
+use mj_text::Text;
+use std::alloc::{AllocError, Global};
+
+/// A question to a store, or a change of it.
+#[derive(Drop)]
+pub enum Access {
+    /// the text of a name
+    Value(Name),
+    /// whether a text stands at a name, and whether one stands below it
+    Data(Name),
+    /// the next subscript in a direction
+    Order(Name, Direction),
+    /// the next name with a text
+    Query(Name),
+    /// what stands at a name and below it
+    Subtree(Name),
+    /// a name gets a text
+    Set(Name, Text),
+    /// a name goes, with all below it
+    Kill(Name),
+    /// names below a name get texts
+    Put(Name, Nodes),
+}
+
+/// What an access is answered.
+#[derive(Drop)]
+pub enum Answer {
+    /// the text, if there is one
+    Value(Option<Text>),
+    /// 0, 1, 10 or 11
+    Data(u8),
+    /// the subscript, if there is one
+    Order(Option<Sub>),
+    /// the name, if there is one
+    Query(Option<Name>),
+    /// the nodes
+    Subtree(Nodes),
+    /// a change is done
+    Done,
+}
+
+/// Makes the accesses in order, and gives the answer to each. After want of memory a front of them has been made.
+pub fn run<S: Store>(
+    alloc: Global,
+    store: &mut S,
+    accesses: &[Access],
+) -> Result<Vec<Answer>, AllocError>
+    ensures answers { IfOk result (λ answers. answers.items ≡ answers_of accesses.now (S.contents store.old)) }
+    ensures content { OnOk result (S.contents store.new ≡ after_accesses accesses.now (S.contents store.old)) }
+    ensures front { OnErr result ((k : ℕ) × (S.contents store.new ≡ after_accesses (take k accesses.now) (S.contents store.old))) }
+{
+    let mut answers = Vec::with_capacity(alloc, accesses.len())?;
+    for access in accesses {
+        let answer = perform(store, access)?;
+        answers.push(answer)?;
+    }
+    Ok(answers)
+}
+
+// Makes one access.
+fn perform<S: Store>(store: &mut S, access: &Access) -> Result<Answer, AllocError>
+    ensures answer { IfOk result (λ a. a ≡ answer_of access.now (S.contents store.old)) }
+    ensures content { OnOk result (S.contents store.new ≡ after_access access.now (S.contents store.old)) }
+    ensures unchanged { OnErr result (S.contents store.new ≡ S.contents store.old) }
+{
+    Ok(match access {
+        Access::Value(name) => match store.value(name) {
+            None => Answer::Value(None),
+            Some(text) => Answer::Value(Some(text.try_clone()?)),
+        },
+        Access::Data(name) => Answer::Data(store.data(name)),
+        Access::Order(name, direction) => match store.order(name, *direction) {
+            None => Answer::Order(None),
+            Some(next) => Answer::Order(Some(next.try_clone()?)),
+        },
+        Access::Query(name) => Answer::Query(store.query(name)?),
+        Access::Subtree(name) => Answer::Subtree(store.subtree(name)?),
+        Access::Set(name, text) => {
+            store.set(name, text)?;
+            Answer::Done
+        }
+        Access::Kill(name) => {
+            store.kill(name);
+            Answer::Done
+        }
+        Access::Put(name, nodes) => {
+            store.put(name, nodes)?;
+            Answer::Done
+        }
+    })
+}

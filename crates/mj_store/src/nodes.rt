@@ -1,0 +1,48 @@
+// What stands at a name and below it.
+
+ghost use Rattle.std.specs.Prelude.{◌≡◌, ◌++◌, ◌∷◌, [], if◌then◌else◌, is_ok, IfOk};
+
+use mj_subs::Subs;
+use mj_text::Text;
+use std::alloc::{AllocError, Global};
+use std::marker::Model;
+
+/// Lists of subscripts, each with a text: what stands at a name and below it, by the subscripts that follow the name's.
+#[derive(Drop)]
+pub struct Nodes {
+    list: Vec<(Subs, Text)>,
+}
+
+impl Model for Nodes {
+    ghost use Rattle.mj_store.specs.Questions.{Subtree};
+
+    ghost Value = { Subtree };
+
+    ghost view = { λ n. n.list.items };
+}
+
+impl Nodes {
+    /// No nodes.
+    pub fn new(alloc: Global) -> Nodes
+        ensures { result ≡ [] }
+    {
+        Nodes {
+            list: Vec::new(alloc),
+        }
+    }
+
+    /// The nodes, in order.
+    pub fn as_slice(&self) -> &[(Subs, Text)]
+        ensures { result.now ≡ self.now }
+    {
+        &self.list
+    }
+
+    /// One more, at the end.
+    pub fn push(&mut self, subscripts: Subs, text: Text) -> Result<(), AllocError>
+        ensures { self.new ≡ (if is_ok result then self.old ++ (subscripts, text) ∷ [] else self.old) }
+    {
+        self.list.push((subscripts, text))?;
+        Ok(())
+    }
+}
