@@ -1,9 +1,9 @@
 -- The questions and the changes on small contents.
-use Rattle.std.proofs.Common.{◌≡◌, ℕ, Bool, true, false, List, [], ◌∷◌, Option, Some, None, refl}
+use Rattle.std.proofs.Common.{◌≡◌, ℕ, true, List, [], ◌∷◌, Option, Some, None, refl}
 use Rattle.std.specs.Prelude.{codes}
 use Rattle.mj_subs.specs.Name.{Name}
 use Rattle.mj_store.specs.declared.store.Direction.TheVariants.{Forward, Backward}
-use Rattle.mj_store.specs.Questions.{Content, Subtree, value_at, data_at, order_at, query_at, subtree_at}
+use Rattle.mj_store.specs.Questions.{Content, value_at, data_at, order_at, query_at, subtree_at}
 use Rattle.mj_store.specs.Changes.{after_set, after_kill, after_put}
 
 -- a global of the word w with subscripts p

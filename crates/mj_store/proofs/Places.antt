@@ -8,7 +8,7 @@ use Rattle.std.specs.Option.{is_none}
 use Rattle.std.proofs.lemmas.List.{at_drop_more, get_or_default}
 use Rattle.mj_subs.specs.Name.{Name}
 use Rattle.mj_subs.specs.Collation.{subscript_cmp, name_cmp}
-use Rattle.mj_subs.proofs.CollationLaws.{name_cmp_total}
+use Rattle.mj_subs.specs.Laws.Total.{name_cmp_total}
 use Rattle.mj_store.specs.declared.store.Direction.{Direction}
 use Rattle.mj_store.specs.Nodes.{is_empty, but_last, last_of, first_subscripts, next_past}
 use Rattle.mj_store.specs.Questions.{Content, with_subscripts, rest_of, subtree_at, order_under, order_at}

@@ -1,7 +1,7 @@
 -- How a content changes.
-use Rattle.std.specs.Prelude.{ℕ, List, ◌++◌}
+use Rattle.std.specs.Prelude.{ℕ, ◌+◌, Bool, List, ◌++◌, length, nat_lt}
 use Rattle.std.specs.Option.{is_none}
-use Rattle.std.specs.List.{filter, fold}
+use Rattle.std.specs.List.{filter, fold, list_any}
 use Rattle.std.specs.FinMap.{put}
 use Rattle.mj_subs.specs.Name.{Name}
 use Rattle.mj_subs.specs.Collation.{name_cmp}
@@ -22,3 +22,7 @@ followed_by n p = with_subscripts n (n.subscripts ++ p)
 -- MERGE (8.2): n followed by each list of the subtree has the list's text, one after the other. Nothing goes
 abbrev pub after_put : Content → Name → Subtree → Content
 after_put content n nodes = fold (λ c e. after_set c (followed_by n e.0) e.1) content nodes
+
+-- whether that would give a name more subscripts than the 31 that it can have (this profile)
+abbrev pub is_too_deep : Name → Subtree → Bool
+is_too_deep n nodes = list_any (λ e. nat_lt 31 (length n.subscripts + length e.0)) nodes

@@ -1,13 +1,13 @@
 -- What a list of accesses answers, and what it leaves.
-use Rattle.std.specs.Prelude.{List, [], ◌∷◌}
+use Rattle.std.specs.Prelude.{cond, List, [], ◌∷◌}
 use Rattle.mj_store.specs.Questions.{Content, value_at, data_at, order_at, query_at, subtree_at}
-use Rattle.mj_store.specs.Changes.{after_set, after_kill, after_put}
+use Rattle.mj_store.specs.Changes.{after_set, after_kill, after_put, is_too_deep}
 use Rattle.mj_store.specs.declared.access.Access.{Access}
 use Rattle.mj_store.specs.declared.access.Access.TheVariants as access
 use Rattle.mj_store.specs.declared.access.Answer.{Answer}
 use Rattle.mj_store.specs.declared.access.Answer.TheVariants as answer
 
--- the answer to an access. A change is answered that it is done
+-- the answer to an access. A change is answered that it is done, or that it would give a name too many subscripts
 abbrev pub answer_of : Access → Content → Answer
 answer_of (access.Value n) content = answer.Value (value_at content n)
 answer_of (access.Data n) content = answer.Data (data_at content n)
@@ -16,13 +16,13 @@ answer_of (access.Query n) content = answer.Query (query_at content n)
 answer_of (access.Subtree n) content = answer.Subtree (subtree_at content n)
 answer_of (access.Set n text) content = answer.Done
 answer_of (access.Kill n) content = answer.Done
-answer_of (access.Put n nodes) content = answer.Done
+answer_of (access.Put n nodes) content = cond (is_too_deep n nodes) answer.Limit answer.Done
 
--- what an access leaves. A question leaves all as it is
+-- what an access leaves. A question leaves all as it is, and so does what would give a name too many subscripts
 abbrev pub after_access : Access → Content → Content
 after_access (access.Set n text) content = after_set content n text
 after_access (access.Kill n) content = after_kill content n
-after_access (access.Put n nodes) content = after_put content n nodes
+after_access (access.Put n nodes) content = cond (is_too_deep n nodes) content (after_put content n nodes)
 after_access _ content = content
 
 -- the answers to a list of accesses, each on what those before it leave

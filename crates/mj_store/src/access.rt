@@ -6,7 +6,7 @@ ghost use Rattle.mj_store.specs.Runs.{answer_of, after_access, answers_of, after
 use crate::nodes::Nodes;
 use crate::store::{Direction, Store};
 use mj_subs::{Name, Sub};
-use mj_text::Text;
+use mj_text::{Failure, Fault, Text};
 use std::alloc::{AllocError, Global};
 
 /// A question to a store, or a change of it.
@@ -45,6 +45,8 @@ pub enum Answer {
     Subtree(Nodes),
     /// a change is done
     Done,
+    /// a change would give a name too many subscripts, and isn't done
+    Limit,
 }
 
 /// Makes the accesses in order, and gives the answer to each. After want of memory a front of them has been made.
@@ -92,8 +94,11 @@ fn perform<S: Store>(store: &mut S, access: &Access) -> Result<Answer, AllocErro
             Answer::Done
         }
         Access::Put(name, nodes) => {
-            store.put(name, nodes)?;
-            Answer::Done
+            match store.put(name, nodes) {
+                Ok(()) => Answer::Done,
+                Err(Failure::Fault(Fault::Limit)) => Answer::Limit,
+                Err(_) => return Err(AllocError),
+            }
         }
     })
 }

@@ -1,10 +1,10 @@
 // A store that is kept as a plain list.
 
-ghost use Rattle.std.specs.Prelude.{◌≡◌, ◌||◌, ℕ, List, [], length, ◌<◌, ◌≤◌, IfOk, IfErr, OnOk, OnErr, option_copied, slice_set, slice_index_or, T};
+ghost use Rattle.std.specs.Prelude.{◌≡◌, ◌||◌, ◌++◌, ℕ, List, [], length, ◌<◌, ◌≤◌, IfOk, IfErr, OnOk, OnErr, option_copied, slice_set, slice_index_or, T};
 ghost use Rattle.std.specs.Cmp.Lexicographic.{slice_cmp};
 ghost use Rattle.std.specs.List.{insert};
 ghost use Rattle.mj_subs.specs.Name as name_spec;
-ghost use Rattle.mj_store.specs.Changes.{after_set, after_kill, after_put, followed_by};
+ghost use Rattle.mj_store.specs.Changes.{after_set, after_kill, after_put, followed_by, is_too_deep as is_too_deep_spec};
 ghost use Rattle.std.specs.Ordering.{is_lt};
 ghost use Rattle.std.specs.FinMap.{is_sorted, put};
 ghost use Rattle.mj_subs.specs.Collation.{name_cmp, subscript_cmp};
@@ -13,8 +13,8 @@ ghost use Rattle.mj_store.specs.Questions.{with_subscripts, rest_of, value_at, d
 
 use crate::nodes::Nodes;
 use crate::store::{Direction, Store};
-use mj_subs::{Name, Sub, Subs, cmp_lists};
-use mj_text::Text;
+use mj_subs::{Name, SUBSCRIPT_LIMIT, Sub, Subs};
+use mj_text::{Failure, Fault, Text};
 use std::alloc::{AllocError, Global};
 use std::cmp::Ordering;
 use std::marker::Model;
@@ -100,10 +100,13 @@ impl Store for Flat {
         kill(&mut self.entries, name);
     }
 
-    fn put(&mut self, name: &Name, nodes: &Nodes) -> Result<(), AllocError> {
+    fn put(&mut self, name: &Name, nodes: &Nodes) -> Result<(), Failure> {
+        if is_too_deep(name, nodes.as_slice()) {
+            return Err(Failure::Fault(Fault::Limit));
+        }
         let mut changed = self.try_clone()?;
         for node in nodes.as_slice() {
-            let name = followed(self.alloc, name, node.0.as_slice())?;
+            let name = followed(name, node.0.as_slice())?;
             changed.set(&name, &node.1)?;
         }
         *self = changed;
@@ -169,7 +172,7 @@ fn order<'a>(
 fn is_past(direction: Direction, last: &Sub, next: &Sub) -> bool
     ensures { result ≡ (is_empty last.now || is_lt (along direction subscript_cmp last.now next.now)) }
 {
-    last.text().is_empty()
+    last.is_empty()
         || match direction {
             Direction::Forward => last.cmp(next).is_lt(),
             Direction::Backward => next.cmp(last).is_lt(),
@@ -227,21 +230,17 @@ fn lesser<'a>(best: Option<&'a [Sub]>, next: &'a [Sub]) -> &'a [Sub]
 fn compare(a: &[Sub], b: &[Sub]) -> Ordering
     ensures { result ≡ slice_cmp subscript_cmp a.now b.now }
 {
-    cmp_lists(a, b)
+    a.cmp(b)
 }
 
 // What stands at the name and below it.
-fn subtree(
-    alloc: Global,
-    entries: &[(Name, Text)],
-    name: &Name,
-) -> Result<Nodes, AllocError>
+fn subtree(alloc: Global, entries: &[(Name, Text)], name: &Name) -> Result<Nodes, AllocError>
     ensures { IfOk result (λ nodes. nodes ≡ subtree_at entries.now name.now) }
 {
     let mut nodes = Nodes::new(alloc);
     for entry in entries {
         if let Some(rest) = after(name, name.subscripts().as_slice(), &entry.0) {
-            nodes.push(Subs::from(alloc, rest)?, entry.1.try_clone()?)?;
+            nodes.push(subs_of(alloc, rest)?, entry.1.try_clone()?)?;
         }
     }
     Ok(nodes)
@@ -263,11 +262,7 @@ fn place(entries: &[(Name, Text)], name: &Name) -> Result<usize, usize>
 }
 
 // Gives the name a text.
-fn set(
-    entries: &mut Vec<(Name, Text)>,
-    name: &Name,
-    text: &Text,
-) -> Result<(), AllocError>
+fn set(entries: &mut Vec<(Name, Text)>, name: &Name, text: &Text) -> Result<(), AllocError>
     ensures ok { OnOk result (entries.new.items ≡ after_set entries.old.items name.now text.now) }
     ensures err { OnErr result (entries.new.items ≡ entries.old.items) }
 {
@@ -282,6 +277,16 @@ fn set(
     Ok(())
 }
 
+// Whether a list would follow the name with more subscripts than a name can have.
+fn is_too_deep(name: &Name, nodes: &[(Subs, Text)]) -> bool
+    ensures { result ≡ is_too_deep_spec name.now nodes.now }
+{
+    let above = name.subscripts().len();
+    nodes
+        .iter()
+        .any(|node| SUBSCRIPT_LIMIT < above + node.0.len())
+}
+
 // Takes the name and every name below it out.
 fn kill(entries: &mut Vec<(Name, Text)>, name: &Name)
     ensures { entries.new.items ≡ after_kill entries.old.items name.now }
@@ -293,26 +298,49 @@ fn kill(entries: &mut Vec<(Name, Text)>, name: &Name)
 fn renamed(alloc: Global, name: &Name, list: &[Sub]) -> Result<Name, AllocError>
     ensures { IfOk result (λ n. n ≡ with_subscripts name.now list.now) }
 {
-    Ok(Name::new(
-        name.is_global(),
-        name.word().try_clone()?,
-        Subs::from(alloc, list)?,
-    ))
+    like(name, subs_of(alloc, list)?)
 }
 
 // The name followed by more subscripts.
-fn followed(alloc: Global, name: &Name, more: &[Sub]) -> Result<Name, AllocError>
+fn followed(name: &Name, more: &[Sub]) -> Result<Name, AllocError>
     ensures { IfOk result (λ n. n ≡ followed_by name.now more.now) }
 {
     let mut list = name.subscripts().try_clone()?;
+    extend(&mut list, more)?;
+    like(name, list)
+}
+
+// A name of the kind and the word of another.
+fn like(name: &Name, list: Subs) -> Result<Name, AllocError>
+    ensures { IfOk result (λ n. n ≡ with_subscripts name.now list) }
+{
+    let word = name.word().try_clone()?;
+    Ok(if name.is_global() {
+        Name::global(word, list)
+    } else {
+        Name::local(word, list)
+    })
+}
+
+// A list of these subscripts, of which there are no more than a list can have.
+fn subs_of(alloc: Global, list: &[Sub]) -> Result<Subs, AllocError>
+    ensures { IfOk result (λ s. s ≡ list.now) }
+{
+    let mut subs = Subs::new(alloc);
+    extend(&mut subs, list)?;
+    Ok(subs)
+}
+
+// Puts the subscripts at the end of a list in which there is room for them.
+fn extend(list: &mut Subs, more: &[Sub]) -> Result<(), AllocError>
+    ensures { OnOk result (list.new ≡ list.old ++ more.now) }
+{
     for sub in more {
-        list.push(sub.try_clone()?)?;
+        if list.push(sub.try_clone()?).is_err() {
+            return Err(AllocError);
+        }
     }
-    Ok(Name::new(
-        name.is_global(),
-        name.word().try_clone()?,
-        list,
-    ))
+    Ok(())
 }
 
 // The subscripts that a key has after those of `front`, where it is of the name's kind and word and begins with them.

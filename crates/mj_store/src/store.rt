@@ -1,14 +1,16 @@
 // What every store offers.
 
-ghost use Rattle.std.specs.Prelude.{◌≡◌, IfOk, OnOk, OnErr, option_copied, T};
+ghost use Rattle.std.specs.Prelude.{◌≡◌, ◌↔◌, IfOk, IsTrue, OnOk, OnErr, option_copied, T};
 ghost use Rattle.std.specs.FinMap.{is_sorted};
 ghost use Rattle.mj_subs.specs.Collation.{name_cmp};
 ghost use Rattle.mj_store.specs.Questions.{Content, value_at, data_at, order_at, query_at, subtree_at};
-ghost use Rattle.mj_store.specs.Changes.{after_set, after_kill, after_put};
+ghost use Rattle.mj_store.specs.Changes.{after_set, after_kill, after_put, is_too_deep};
+ghost use Rattle.mj_text.specs.declared.fault.Failure.TheVariants as failure;
+ghost use Rattle.mj_text.specs.declared.fault.Fault.TheVariants as fault;
 
 use crate::nodes::Nodes;
 use mj_subs::{Name, Sub};
-use mj_text::Text;
+use mj_text::{Failure, Text};
 use std::alloc::AllocError;
 
 /// Which way an order is walked.
@@ -59,8 +61,10 @@ pub trait Store {
     fn kill(&mut self, name: &Name)
         ensures { contents self.new ≡ after_kill (contents self.old) name.now };
 
-    /// The name followed by each list of subscripts has that list's text from now on. Nothing goes.
-    fn put(&mut self, name: &Name, nodes: &Nodes) -> Result<(), AllocError>
+    /// The name followed by each list of subscripts has that list's text from now on. Nothing goes. `Limit` where that gives a name too
+    /// many subscripts.
+    fn put(&mut self, name: &Name, nodes: &Nodes) -> Result<(), Failure>
         ensures ok { OnOk result (contents self.new ≡ after_put (contents self.old) name.now nodes.now) }
+        ensures limit { (result ≡ Err (failure.Fault fault.Limit)) ↔ IsTrue (is_too_deep name.now nodes.now) }
         ensures err { OnErr result (contents self.new ≡ contents self.old) };
 }

@@ -1,5 +1,4 @@
-use Rattle.std.proofs.Common.{◌≡◌, ℕ, ◌+◌, ◌<◌, ◌++◌, List, ap, sym, ◌∙◌, arith, length, rules}
-use Rattle.mj_store.specs.Runs.{answers_of}
+use Rattle.std.proofs.Common.{◌∙◌}
 use Rattle.mj_store.proofs.Runs.{after_next, answers_next, on_err_always}
 use Rattle.mj_store.proofs.access.run.Goals as goal
 

@@ -1,4 +1,4 @@
-use Rattle.std.proofs.Common.{◌≡◌, ℕ, take, drop, ◌++◌}
+use Rattle.std.proofs.Common.{◌≡◌, take, drop, ◌++◌}
 use Rattle.mj_store.specs.Runs.{answers_of, after_accesses}
 use Rattle.mj_store.proofs.access.run.Given as goal
 

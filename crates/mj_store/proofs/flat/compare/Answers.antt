@@ -1,6 +1,6 @@
 use Rattle.std.proofs.Common.{◌∙◌}
-use Rattle.mj_subs.proofs.CollationLaws.{subscripts_cmp-slice}
+use Rattle.mj_subs.specs.Laws.Total.{subscripts_cmp-slice}
 use Rattle.mj_store.proofs.flat.compare.Goals as goal
 
 pub returns : goal.returns
-returns c = c.cmp_lists.ensures ∙ subscripts_cmp-slice c.args.a.now c.args.b.now
+returns c = c.cmp.ensures ∙ subscripts_cmp-slice c.args.a.now c.args.b.now

@@ -1,4 +1,4 @@
-use Rattle.std.proofs.Common.{◌≡◌, ◌||◌, drop, None}
+use Rattle.std.proofs.Common.{◌≡◌, ◌||◌, drop}
 use Rattle.std.specs.Prelude.{option_copied}
 use Rattle.std.specs.List.{fold, filter}
 use Rattle.std.specs.Ordering.{is_lt}

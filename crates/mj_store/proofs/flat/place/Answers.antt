@@ -1,4 +1,4 @@
-use Rattle.std.proofs.Common.{sym, ◌∙◌}
+use Rattle.std.proofs.Common.{sym}
 use Rattle.mj_store.proofs.Places.{put_there}
 use Rattle.mj_store.proofs.flat.place.Goals as goal
 

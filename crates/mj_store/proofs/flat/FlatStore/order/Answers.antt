@@ -13,4 +13,4 @@ returns c =
     let next : Content → Option (List ℕ) = λ content. next_past subscript_cmp c.args.direction (is_empty last) last (first_subscripts (subtree_at content (with_subscripts c.args.name.now front))) in
     c.order.ensures
     ∙ ap next (c.deref.ensures.value ∙ c.self.view_is)
-    ∙ sym (order_of_split c.args.self.now c.args.name.now c.args.direction front last (sym c.subscripts.ensures ∙ sym c.as_slice.ensures ∙ c.in_ok-last.ensures.cases.0))
+    ∙ sym (order_of_split c.args.self.now c.args.name.now c.args.direction front last (sym c.subscripts.ensures ∙ sym c.as_slice.ensures.value ∙ c.in_ok-last.ensures.cases.0))

@@ -1,6 +1,6 @@
 use Rattle.std.proofs.Common.{◌≡◌, ◌++◌, take}
-use Rattle.mj_store.proofs.flat.followed.Given as goal
+use Rattle.mj_store.proofs.flat.extend.Given as goal
 
 -- those so far are added
 abbrev pub invariant-loop-sub : goal.invariant-loop-sub
-invariant-loop-sub l = l.list ≡ l.name.subscripts ++ take l.sub-index l.more
+invariant-loop-sub l = l.list ≡ l.fn.list ++ take l.sub-index l.more
