@@ -1,0 +1,7 @@
+pub mod Rows
+pub mod Agree
+pub mod Follows
+pub mod Lines
+pub mod Labels
+pub mod Emitted
+pub mod Examples

@@ -1,0 +1,19 @@
+use Rattle.std.proofs.Common.{◌≡◌, ◌+◌, ◌++◌, drop, length, map}
+use Rattle.mj_ast.specs.Trees.{line_of}
+use Rattle.mj_asm.specs.Code.{lines_code, starts}
+use Rattle.mj_asm.specs.Correct.{labels_of}
+use Rattle.mj_asm.proofs.emit.assemble.Given as goal
+
+-- what was made so far, and what is left to make
+abbrev pub invariant-loop-line : goal.invariant-loop-line
+invariant-loop-line l = record {
+  name : l.unit.name ≡ l.fn.routine.name;
+  number : l.number ≡ l.line-index;
+  instrs :
+      l.unit.instrs.items ++ lines_code (length l.unit.instrs.items) (l.number + 1) (map line_of (drop l.line-index l.line-items))
+      ≡ lines_code 0 1 (map line_of l.line-items);
+  starts :
+      l.unit.starts.items ++ starts (length l.unit.instrs.items) (l.number + 1) (map line_of (drop l.line-index l.line-items))
+      ≡ starts 0 1 (map line_of l.line-items);
+  labels : l.unit.labels.items ++ labels_of (l.number + 1) (map line_of (drop l.line-index l.line-items)) ≡ labels_of 1 (map line_of l.line-items);
+}

@@ -1,0 +1,113 @@
+// The instructions of expressions.
+
+ghost use Rattle.std.specs.Prelude.{◌≡◌, [], ◌∷◌, ◌++◌, IfOk, OnOk};
+ghost use Rattle.mj_ast.specs.Trees.{operand_of, expr_of, variable_of, tails_of, exprs_of};
+ghost use Rattle.mj_semantics.specs.Operations as operations;
+ghost use Rattle.mj_asm.specs.Code.{operand_code, expr_code, tails_code, exprs_code, subscripts_code};
+ghost use Rattle.mj_asm.specs.Code as code_spec;
+
+use mj_ast::{BinaryOp, Expr, Operand, Tail, UnaryOp, Variable};
+use mj_oper::{Op, TruthOp};
+use mj_pcode::{Instr, Reference};
+use std::alloc::AllocError;
+
+/// One more instruction.
+pub fn put(code: &mut Vec<Instr>, instr: Instr) -> Result<(), AllocError>
+    ensures { OnOk result (code.new.items ≡ code.old.items ++ instr ∷ []) }
+{
+    code.push(instr)?;
+    Ok(())
+}
+
+/// An expression, whose value comes onto the stack.
+#[cycle(emit)]
+pub fn emit_expr(code: &mut Vec<Instr>, e: &Expr) -> Result<(), AllocError>
+    ensures { OnOk result (code.new.items ≡ code.old.items ++ expr_code (expr_of e.now)) }
+{
+    emit_operand(code, &e.first)?;
+    emit_tails(code, &e.rest)
+}
+
+// Operators, with what stands left of them on the stack.
+#[cycle(emit)]
+fn emit_tails(code: &mut Vec<Instr>, tails: &[Tail]) -> Result<(), AllocError>
+    ensures { OnOk result (code.new.items ≡ code.old.items ++ tails_code (tails_of tails.now)) }
+{
+    for tail in tails {
+        emit_operand(code, &tail.operand)?;
+        put(code, Instr::Binary(binary_op(tail.op)))?;
+    }
+    Ok(())
+}
+
+#[cycle(emit)]
+fn emit_operand(code: &mut Vec<Instr>, operand: &Operand) -> Result<(), AllocError>
+    ensures { OnOk result (code.new.items ≡ code.old.items ++ operand_code (operand_of operand.now)) }
+{
+    match operand {
+        Operand::Literal(text) => {
+            let text = text.try_clone()?;
+            put(code, Instr::Push(text))
+        }
+        Operand::Variable(variable) => {
+            emit_subscripts(code, variable)?;
+            let reference = reference(variable)?;
+            put(code, Instr::Load(reference))
+        }
+        Operand::Unary(op, inner) => {
+            emit_operand(code, inner)?;
+            put(code, Instr::Unary(unary_op(*op)))
+        }
+        Operand::Group(e) => emit_expr(code, e),
+    }
+}
+
+/// A variable's subscripts, whose values come onto the stack in order.
+#[cycle(emit)]
+pub fn emit_subscripts(code: &mut Vec<Instr>, variable: &Variable) -> Result<(), AllocError>
+    ensures { OnOk result (code.new.items ≡ code.old.items ++ subscripts_code (variable_of variable.now)) }
+{
+    emit_all(code, &variable.subscripts)
+}
+
+#[cycle(emit)]
+fn emit_all(code: &mut Vec<Instr>, expressions: &[Expr]) -> Result<(), AllocError>
+    ensures { OnOk result (code.new.items ≡ code.old.items ++ exprs_code (exprs_of expressions.now)) }
+{
+    for expression in expressions {
+        emit_expr(code, expression)?;
+    }
+    Ok(())
+}
+
+/// A variable whose subscripts lie on the stack.
+pub fn reference(variable: &Variable) -> Result<Reference, AllocError>
+    ensures { IfOk result (λ r. r ≡ code_spec.reference (variable_of variable.now)) }
+{
+    Ok(Reference {
+        scope: variable.scope,
+        word: variable.word.try_clone()?,
+        count: variable.subscripts.len(),
+    })
+}
+
+fn binary_op(op: BinaryOp) -> Op
+    ensures { result ≡ operations.binary_op op }
+{
+    match op {
+        BinaryOp::Add => Op::Add,
+        BinaryOp::Subtract => Op::Subtract,
+        BinaryOp::Multiply => Op::Multiply,
+        BinaryOp::Join => Op::Join,
+        BinaryOp::Equal => Op::Is(TruthOp::Equal),
+    }
+}
+
+fn unary_op(op: UnaryOp) -> mj_oper::UnaryOp
+    ensures { result ≡ operations.unary_op op }
+{
+    match op {
+        UnaryOp::Plus => mj_oper::UnaryOp::Plus,
+        UnaryOp::Minus => mj_oper::UnaryOp::Minus,
+    }
+}

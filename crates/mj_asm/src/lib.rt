@@ -1,0 +1,10 @@
+// From a routine's tree to its p-code.
+//
+// `assemble` gives the unit of a routine. That it does what the routine does, turn by turn and with whatever replies, is
+// `IsUnitOf` of `specs/Correct.antt`.
+#![tactic(auto)]
+
+mod emit;
+mod expr;
+
+pub use emit::assemble;
