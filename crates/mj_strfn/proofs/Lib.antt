@@ -1,1 +1,3 @@
 pub mod Examples
+pub mod PieceLaws
+pub mod ByteLaws

@@ -1,12 +1,14 @@
 -- What each string function gives: a text, seen as the list of its bytes, or the fault that stands in its place.
 -- The arguments are texts; those that stand for numbers are read here, from left to right, before anything else is looked at.
 -- ISO/IEC 11756:1999, 7.1.5; the limits, the faults and the edge cases are this profile's.
-use Rattle.std.specs.Prelude.{ℕ, zero, suc, ◌+◌, ◌-◌, ◌==◌, max, nat_le, Bool, true, ◌||◌, List, [], ◌∷◌, ◌++◌, length, take, drop, reverse, replicate, ℤ, pos, negsuc, int_lt, Option, Some, None, Result, Ok, Err, if◌then◌else◌}
+use Rattle.std.specs.Prelude.{◌≡◌, ℕ, zero, suc, ◌+◌, ◌-◌, ◌==◌, max, nat_le, nat_lt, Bool, true, ◌||◌, List, [], ◌∷◌, ◌++◌, length, take, drop, reverse, replicate, ℤ, pos, negsuc, int_lt, Option, Some, None, Result, Ok, Err, IsOk, ⊤, if◌then◌else◌}
 use Rattle.std.specs.List.{flat_map}
 use Rattle.mj_text.specs.declared.fault.Fault.{Fault}
 use Rattle.mj_text.specs.declared.fault.Fault.TheVariants.{Length, Char}
+use Rattle.mj_text.specs.declared.fault.Failure.{Failure}
+use Rattle.mj_text.specs.declared.fault.Failure.TheVariants.{Fault as FaultFailure, Memory}
 use Rattle.mj_num.specs.Number.{reading, canonic_text}
-use Rattle.mj_strfn.specs.Find.{find_from}
+use Rattle.mj_text.specs.Find.{find_from}
 use Rattle.mj_strfn.specs.Pieces.{pieces, joined}
 
 -- ---- numbers and places
@@ -22,8 +24,8 @@ number_or default None = Ok default
 number_or default (Some t) = reading t
 
 -- two arguments that stand for the first and the last place: the first is 1 where it is left out, the last is the first
-abbrev pub from_to : {A : Type 0} → Option (List ℕ) → Option (List ℕ) → (ℤ → ℤ → Result A Fault) → Result A Fault
-from_to a b f = then_value (number_or (pos 1) a) (λ m. then_value (number_or m b) (λ n. f m n))
+abbrev pub from_to : Option (List ℕ) → Option (List ℕ) → Result (ℤ × ℤ) Fault
+from_to a b = then_value (number_or (pos 1) a) (λ m. then_value (number_or m b) (λ n. Ok (m, n)))
 
 -- a number as a place: what lies below 0 counts as 0, where nothing stands
 abbrev pub place : ℤ → ℕ
@@ -33,6 +35,23 @@ place (negsuc n) = 0
 -- what stands at the places from a to b, the first place being 1
 abbrev pub places : {A : Type 0} → ℤ → ℤ → List A → List A
 places a b xs = let first = max 1 (place a) in take (place b + 1 - first) (drop (first - 1) xs)
+
+-- a fault as a failure of a call
+abbrev pub failing : {A : Type 0} → Result A Fault → Result A Failure
+failing (Ok a) = Ok a
+failing (Err e) = Err (FaultFailure e)
+
+-- what a call that may want memory answers for such a value: the text, the fault, or Memory where a text is meant
+abbrev pub Answers : Result (List ℕ) Fault → Result (List ℕ) Failure → Type 0
+Answers value (Ok text) = value ≡ Ok text
+Answers value (Err (FaultFailure fault)) = value ≡ Err fault
+Answers value (Err Memory) = IsOk value
+
+-- the same, but that Memory may come before a fault
+abbrev pub AnswersOrMemory : Result (List ℕ) Fault → Result (List ℕ) Failure → Type 0
+AnswersOrMemory value (Ok text) = value ≡ Ok text
+AnswersOrMemory value (Err (FaultFailure fault)) = value ≡ Err fault
+AnswersOrMemory value (Err Memory) = ⊤
 
 -- a text, unless it has more bytes than a text may
 abbrev pub within_limit : List ℕ → Result (List ℕ) Fault
@@ -62,16 +81,19 @@ ascii_value s k = then_value (number_or (pos 1) k) (λ m. Ok (canonic_text (code
 
 -- ---- $CHAR (7.1.5.2)
 
--- the byte of a code: none below 0, CHAR above 255
+-- the byte of a code, or none below 0; CHAR above 255
 abbrev pub byte_of : ℤ → Result (List ℕ) Fault
-byte_of (pos n) = if nat_le n 255 then Ok (n ∷ []) else Err Char
+byte_of (pos n) = if nat_lt n 256 then Ok (n ∷ []) else Err Char
 byte_of (negsuc n) = Ok []
+
+-- the byte of the code that a text reads as
+abbrev pub byte_of_text : List ℕ → Result (List ℕ) Fault
+byte_of_text t = then_value (reading t) byte_of
 
 -- the bytes of the codes that the texts read as; each is read and looked at before the next
 abbrev pub bytes_of_codes : List (List ℕ) → Result (List ℕ) Fault
 bytes_of_codes [] = Ok []
-bytes_of_codes (t ∷ ts) =
-    then_value (reading t) (λ n. then_value (byte_of n) (λ b. then_value (bytes_of_codes ts) (λ bs. Ok (b ++ bs))))
+bytes_of_codes (t ∷ ts) = then_value (byte_of_text t) (λ b. then_value (bytes_of_codes ts) (λ bs. Ok (b ++ bs)))
 
 -- `$CHAR(n1,..)`
 abbrev pub char_value : List (List ℕ) → Result (List ℕ) Fault
@@ -81,7 +103,7 @@ char_value ts = then_value (bytes_of_codes ts) within_limit
 
 -- `$EXTRACT(s,a,b)`: the bytes at the places from a to b
 abbrev pub extract_value : List ℕ → Option (List ℕ) → Option (List ℕ) → Result (List ℕ) Fault
-extract_value s a b = from_to a b (λ m n. Ok (places m n s))
+extract_value s a b = then_value (from_to a b) (λ r. Ok (places r.0 r.1 s))
 
 -- ---- $FIND (7.1.5.5)
 
@@ -126,7 +148,7 @@ some_pieces s (x ∷ d) a b = joined (x ∷ d) (places a b (pieces (x ∷ d) s))
 
 -- `$PIECE(s,d,a,b)`
 abbrev pub piece_value : List ℕ → List ℕ → Option (List ℕ) → Option (List ℕ) → Result (List ℕ) Fault
-piece_value s d a b = from_to a b (λ m n. Ok (some_pieces s d m n))
+piece_value s d a b = then_value (from_to a b) (λ r. Ok (some_pieces s d r.0 r.1))
 
 -- ---- SET of $PIECE (8.2.19)
 
@@ -137,15 +159,21 @@ assigns_nothing (x ∷ d) a b = int_lt b (pos 1) || int_lt b a
 
 -- the first and the last piece that `SET $PIECE(v,d,a,b)` assigns, from 1 on, if it assigns any
 abbrev pub assigned_pieces : List ℕ → Option (List ℕ) → Option (List ℕ) → Result (Option (ℕ × ℕ)) Fault
-assigned_pieces d a b = from_to a b (λ m n. Ok (if assigns_nothing d m n then None else Some (max 1 (place m), place n)))
+assigned_pieces d a b =
+    then_value (from_to a b) (λ r. Ok (if assigns_nothing d r.0 r.1 then None else Some (max 1 (place r.0), place r.1)))
 
--- the new value where the pieces from `first` to `last` become e: the pieces before, with empty ones where there are too few,
--- then e, then the pieces after
-abbrev pub set_piece_value : List ℕ → List ℕ → ℕ × ℕ → List ℕ → Result (List ℕ) Fault
-set_piece_value old d range e =
+-- the pieces, joined again, where those of a range give way to e
+abbrev pub with_pieces : List ℕ → List ℕ → ℕ × ℕ → List ℕ → List ℕ
+with_pieces old d range e =
     let ps = pieces d old in
     let before = range.0 - 1 in
-    within_limit (joined d (take before (ps ++ replicate before []) ++ e ∷ drop range.1 ps))
+    joined d (take before (ps ++ replicate before []) ++ e ∷ drop range.1 ps)
+
+-- the new value where the pieces from `first` to `last` become e: the pieces before, with empty ones where there are too few,
+-- then e, then the pieces after. By an empty separator there are no pieces to set: the value stays.
+abbrev pub set_piece_value : List ℕ → List ℕ → ℕ × ℕ → List ℕ → Result (List ℕ) Fault
+set_piece_value old [] range e = Ok old
+set_piece_value old (x ∷ d) range e = within_limit (with_pieces old (x ∷ d) range e)
 
 -- ---- $REVERSE (7.1.5.16)
 

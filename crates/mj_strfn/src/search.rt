@@ -1,0 +1,58 @@
+// The pieces of a text, found by searches for the separator.
+
+ghost use Rattle.std.specs.Prelude.{◌≡◌, ◌≤◌, ◌<◌, ◌+◌, length, take, MatchOption};
+ghost use Rattle.mj_strfn.specs.Pieces.{pieces, joined, IsBehind, IsBehindFirst};
+
+use memchr::memmem::Finder;
+
+/// How many pieces there are.
+pub(crate) fn count(bytes: &[u8], separator: &[u8]) -> usize
+    requires some { 0 < length separator.now }
+    requires limit { length bytes.now ≤ 32767 }
+    ensures value { result ≡ length (pieces separator.now bytes.now) }
+    ensures limit { result ≤ length bytes.now + 1 }
+{
+    let finder = Finder::new(separator);
+    let mut rest = bytes;
+    let mut ended: usize = 0;
+    while let Some(more) = behind_first(rest, &finder) {
+        rest = more;
+        ended += 1;
+    }
+    ended + 1
+}
+
+/// What stands behind the first `skipped` pieces and their separators, if there are more pieces.
+pub(crate) fn behind<'a>(bytes: &'a [u8], separator: &[u8], skipped: u64) -> Option<&'a [u8]>
+    requires { 0 < length separator.now }
+    ensures { MatchOption result (length (pieces separator.now bytes.now) ≤ skipped) (λ rest. IsBehind separator.now bytes.now skipped rest.now) }
+{
+    let finder = Finder::new(separator);
+    let mut rest = bytes;
+    for _piece in 0..skipped {
+        rest = behind_first(rest, &finder)?;
+    }
+    Some(rest)
+}
+
+/// What stands behind the first occurrence of the separator.
+fn behind_first<'a>(bytes: &'a [u8], separator: &Finder) -> Option<&'a [u8]>
+    requires { 0 < length separator.now }
+    ensures { MatchOption result (length (pieces separator.now bytes.now) ≡ 1) (λ rest. IsBehindFirst separator.now bytes.now rest.now) }
+{
+    let place = separator.find(bytes)?;
+    Some(&bytes[place + separator.needle().len()..])
+}
+
+/// The first `wanted` pieces, all where there are no more.
+pub(crate) fn front<'a>(bytes: &'a [u8], separator: &[u8], wanted: u64) -> &'a [u8]
+    requires some { 0 < length separator.now }
+    requires wanted { 0 < wanted }
+    ensures value { result.now ≡ joined separator.now (take wanted (pieces separator.now bytes.now)) }
+    ensures limit { length result.now ≤ length bytes.now }
+{
+    match behind(bytes, separator, wanted) {
+        Some(rest) => &bytes[..bytes.len() - rest.len() - separator.len()],
+        None => bytes,
+    }
+}
