@@ -1,6 +1,6 @@
 // Routines.
 
-ghost use Rattle.std.specs.Prelude.{◌≡◌, ◌≤◌, ◌<◌, length};
+ghost use Rattle.std.specs.Prelude.{◌≡◌, ◌≤◌, ◌<◌, IfOk, IfSome, length};
 
 use crate::error::{LoadError, Refusal, RoutineName, at_line};
 use crate::file::first_line;
@@ -19,7 +19,9 @@ pub const LINE_LIMIT: usize = 8_192;
 pub const ROUTINE_LIMIT: usize = 10_000;
 
 /// The name, if it is a word of a length that a name may have.
-fn word(name: &[u8]) -> Option<RoutineName> {
+fn word(name: &[u8]) -> Option<RoutineName>
+    ensures { IfSome result (λ _. length name.now ≤ 31) }
+{
     let (first, rest) = match name {
         [] => return None,
         [first, rest @ ..] => (*first, rest),
@@ -77,7 +79,10 @@ fn line_tree<'a>(
 }
 
 /// Reads a routine of this name from the bytes of its file.
-pub fn read(alloc: Global, name: &[u8], bytes: &[u8]) -> Result<Routine, LoadError> {
+pub fn read(alloc: Global, name: &[u8], bytes: &[u8]) -> Result<Routine, LoadError>
+    ensures name { IfOk result (λ routine. (routine.name ≡ name.now) × (length routine.name ≤ 31)) }
+    ensures lines { IfOk result (λ routine. length routine.lines.items ≤ ROUTINE_LIMIT) }
+{
     let Some(routine) = word(name) else {
         return Err(LoadError::Name);
     };
