@@ -1,0 +1,42 @@
+-- What one job is told that runs alone: by globals that are a plain list of names with texts, and by devices that take every
+-- byte.
+use Rattle.std.specs.Prelude.{◌≡◌, ℕ, List, [], ◌∷◌, ⊤}
+use Rattle.mj_subs.specs.Name.{Name}
+use Rattle.mj_ask.specs.declared.ask.Ask.{Ask}
+use Rattle.mj_ask.specs.declared.ask.Ask.TheVariants as asks
+use Rattle.mj_ask.specs.declared.ask.Reply.{Reply}
+use Rattle.mj_ask.specs.declared.ask.Reply.TheVariants as replies
+use Rattle.mj_store.specs.Questions.{Content, value_at}
+use Rattle.mj_store.specs.Changes.{after_set}
+
+-- the asks of a job and their replies, in order
+abbrev pub Log : Type 0
+Log = List (Ask × Reply)
+
+-- the reply to an ask: what the globals say, and that all else is done
+abbrev pub reply_to : Content → Ask → Reply
+reply_to globals (asks.DeviceBegin device) = replies.Done
+reply_to globals (asks.DeviceWrite device bytes) = replies.Done
+reply_to globals (asks.DeviceEnd device) = replies.Done
+reply_to globals (asks.Value name) = replies.Value (value_at globals name)
+reply_to globals (asks.Set name value) = replies.Done
+reply_to globals (asks.Halt fault) = replies.Done
+
+-- the globals after an ask
+abbrev pub globals_after : Content → Ask → Content
+globals_after globals (asks.DeviceBegin device) = globals
+globals_after globals (asks.DeviceWrite device bytes) = globals
+globals_after globals (asks.DeviceEnd device) = globals
+globals_after globals (asks.Value name) = globals
+globals_after globals (asks.Set name value) = after_set globals name value
+globals_after globals (asks.Halt fault) = globals
+
+-- the globals after all asks of a log
+abbrev pub globals_of : Content → Log → Content
+globals_of globals [] = globals
+globals_of globals (e ∷ log) = globals_of (globals_after globals e.0) log
+
+-- each reply of the log is the one to its ask, by the globals after the asks before it
+abbrev pub Served : Content → Log → Type 0
+Served globals [] = ⊤
+Served globals (e ∷ log) = (e.1 ≡ reply_to globals e.0) × Served (globals_after globals e.0) log

@@ -1,0 +1,64 @@
+// Files, and the names of the routines in them.
+
+use crate::stop::Stop;
+use std::alloc::{AllocError, Global};
+use std::fs::File;
+use std::io::{ErrorKind, Read};
+use std::rt::Files;
+
+/// The most reads after which a file must have ended.
+const READS_LIMIT: u64 = 1_000_000_000;
+
+/// The bytes of a file.
+pub fn file_bytes<'a, R: Files + AllocGlobal>(rt: &R, file: &'a str) -> Result<Vec<u8>, Stop<'a>> {
+    match File::open(rt, file) {
+        Ok(mut reader) => whole(rt.alloc(), &mut reader, file),
+        Err(error) if error.kind() == ErrorKind::OutOfMemory => Err(Stop::Memory),
+        Err(_) => Err(Stop::File(file)),
+    }
+}
+
+/// All bytes of a reader, which messages call by this name.
+pub fn whole<'a, R: Read>(
+    alloc: Global,
+    reader: &mut R,
+    name: &'a str,
+) -> Result<Vec<u8>, Stop<'a>> {
+    let mut bytes = Vec::new(alloc);
+    let mut part = [0u8; 4096];
+    for _ in 0..READS_LIMIT {
+        match reader.read(&mut part) {
+            Ok(0) => return Ok(bytes),
+            Ok(count) => bytes.extend_from_slice(&part[..count])?,
+            Err(error) if error.kind() == ErrorKind::Interrupted => {}
+            Err(_) => return Err(Stop::File(name)),
+        }
+    }
+    Err(Stop::File(name))
+}
+
+/// What the name of a file says before its last point. A leading point isn't one.
+fn stem(file: &str) -> &str {
+    let name = match file.rsplit_once('/') {
+        Some((_, name)) => name,
+        None => file,
+    };
+    match name.rsplit_once('.') {
+        Some((stem, _)) if !stem.is_empty() => stem,
+        _ => name,
+    }
+}
+
+/// The name of the routine in a file: the stem of the file's name, in which a first `_` stands for `%`.
+pub fn routine_name(alloc: Global, file: &str) -> Result<Vec<u8>, AllocError> {
+    let mut name = Vec::new(alloc);
+    let rest = match stem(file).strip_prefix('_') {
+        Some(rest) => {
+            name.push(b'%')?;
+            rest
+        }
+        None => stem(file),
+    };
+    name.extend_from_slice(rest.as_bytes())?;
+    Ok(name)
+}

@@ -1,0 +1,72 @@
+// Why the program ends before its end.
+
+use mj_rou::LoadError;
+use mj_text::{Digits, Text};
+use std::alloc::AllocError;
+use std::{fmt, str};
+use thiserror::Error;
+
+/// Why the program stops: what it prints of it, on one line.
+#[derive(Debug, Drop, Error)]
+pub enum Stop<'a> {
+    /// a value on the command line isn't of its form
+    #[error("bad {0}")]
+    Value(&'a str),
+    /// a file can't be read or written
+    #[error("file {0}")]
+    File(&'a str),
+    /// the name of a routine's file gives no word
+    #[error("L1 {0}")]
+    Name(&'a str),
+    /// a routine is refused
+    #[error("{0}")]
+    Routine(LoadError),
+    /// a routine has the name of an earlier one
+    #[error("L4 {0}")]
+    Twice(Word),
+    /// an allocation was refused
+    #[error("memory")]
+    Memory,
+}
+
+impl<'a> From<AllocError> for Stop<'a> {
+    fn from(_error: AllocError) -> Stop<'a> {
+        Stop::Memory
+    }
+}
+
+/// The exit status of a run in which a job faulted.
+pub const FAULTED: u8 = 1;
+/// The exit status where a routine is refused.
+pub const REFUSED: u8 = 2;
+/// The exit status where the command line is wrong.
+pub const WORDS: u8 = 3;
+/// The exit status where memory or a file fails.
+pub const FAILED: u8 = 4;
+
+impl Stop<'_> {
+    /// The exit status that goes with it.
+    pub fn status(&self) -> u8 {
+        match self {
+            Stop::Name(_) | Stop::Routine(_) | Stop::Twice(_) => REFUSED,
+            Stop::Value(_) => WORDS,
+            Stop::File(_) | Stop::Memory => FAILED,
+        }
+    }
+}
+
+/// A word, for a message.
+#[derive(Debug, Drop)]
+pub struct Word {
+    pub name: Text,
+}
+
+impl fmt::Display for Word {
+    fn fmt<W: fmt::Write>(&self, f: &mut fmt::Formatter<W>) -> fmt::Result {
+        let mut digits = Digits::new();
+        match str::from_utf8(self.name.bytes(&mut digits)) {
+            Ok(name) => f.write_str(name),
+            Err(_) => Err(fmt::Error),
+        }
+    }
+}

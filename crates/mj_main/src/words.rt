@@ -1,0 +1,61 @@
+// The words of the command line.
+
+use clap::error::ErrorKind;
+use clap::{Arg, ArgAction, ArgMatches, Command, Error};
+use std::alloc::{AllocError, Global};
+use std::convert::AsStr;
+
+/// What the words ask for.
+#[derive(Drop)]
+pub enum Order<'a> {
+    /// to run these routines' files, with one job that starts at this entry
+    Run { start: &'a str, files: Vec<&'a str> },
+}
+
+/// Reads the words, of which the first is the program's name. An error has the text for the user.
+pub fn read_words<'a, S: AsStr>(alloc: Global, words: &'a [S]) -> Result<Order<'a>, Error> {
+    let mut command = command(alloc)?;
+    let matches = command.try_get_matches_from_mut(words)?;
+    match matches.subcommand() {
+        Some(("run", found)) => Ok(run_order(alloc, found)?),
+        _ => Err(command.error(ErrorKind::MissingSubcommand, "a command is required")?),
+    }
+}
+
+fn run_order<'a>(alloc: Global, found: &ArgMatches<'a>) -> Result<Order<'a>, AllocError> {
+    let mut files = Vec::new(alloc);
+    if let Some(given) = found.get_strs("routines") {
+        files.extend_from_slice(given)?;
+    }
+    let start = match found.get_str("start") {
+        Some(start) => start,
+        None => "",
+    };
+    Ok(Order::Run { start, files })
+}
+
+fn command<'a>(alloc: Global) -> Result<Command<'a>, AllocError> {
+    Command::new(alloc, "mj")
+        .about("An M (MUMPS) system, proved")
+        .subcommand_required(true)
+        .subcommand(run_command(alloc)?)
+}
+
+fn run_command<'a>(alloc: Global) -> Result<Command<'a>, AllocError> {
+    let start = Arg::new(alloc, "start")
+        .long("start")
+        .value_name("ENTRY")
+        .help("Where the job starts: label^ROUTINE or ^ROUTINE")
+        .action(ArgAction::Set)
+        .required(true);
+    let routines = Arg::new(alloc, "routines")
+        .value_name("ROUTINE")
+        .help("The files of the routines")
+        .action(ArgAction::Append)
+        .num_args(1..)
+        .required(true);
+    Command::new(alloc, "run")
+        .about("Runs routines, and prints what they write")
+        .arg(start)?
+        .arg(routines)
+}
