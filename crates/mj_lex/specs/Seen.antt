@@ -1,6 +1,8 @@
 -- The tokens that the program keeps, without where their bytes lie.
-use Rattle.std.specs.Prelude.{ℕ, ◌==◌, true, false, List, [], ◌∷◌, map}
-use Rattle.mj_ast.specs.Tokens.{Token, Word, Digits, Quoted, Signed, Blank, Comment, Unclosed, Stray}
+use Rattle.std.specs.Prelude.{◌≡◌, drop, ℕ, ◌==◌, true, false, List, [], ◌∷◌, map}
+use Rattle.mj_ast.specs.Tokens.{Class, AWord, ADigit, AQuote, ABlank, AComment, ASign, Nothing, class_of, front_of, Token, Word, Digits, Quoted, Signed, Blank, Comment, Unclosed, Stray}
+use Rattle.mj_lex.specs.declared.front.Class as kept_class
+use Rattle.mj_lex.specs.declared.front.Class.TheVariants as class
 use Rattle.mj_lex.specs.declared.token.Token as kept
 use Rattle.mj_lex.specs.declared.token.Token.TheVariants as token
 use Rattle.mj_lex.specs.declared.token.Lexeme as lexeme
@@ -28,3 +30,17 @@ token_seen (token.Stray b) = Stray b
 
 abbrev pub tokens_seen : List lexeme.Lexeme → List Token
 tokens_seen ls = map (λ l. token_seen l.token) ls
+
+abbrev pub class_seen : kept_class.Class → Class
+class_seen class.Word = AWord
+class_seen class.Digit = ADigit
+class_seen class.Quote = AQuote
+class_seen class.Blank = ABlank
+class_seen class.Comment = AComment
+class_seen (class.Sign s) = ASign s
+class_seen class.Other = Nothing
+
+-- the token is at the front of the bytes, and the rest behind it
+abbrev pub BeginsWith : List ℕ → Token → List ℕ → Type 0
+BeginsWith [] t rest = ⊥
+BeginsWith (b ∷ bs) t rest = (t ≡ (front_of (class_of b) b bs).0) × (rest ≡ drop (front_of (class_of b) b bs).1 bs)

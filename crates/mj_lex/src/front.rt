@@ -1,6 +1,8 @@
 // The token at the front of the bytes of a line.
 
-ghost use Rattle.std.specs.Prelude.{◌≡◌, ◌<◌, ◌≤◌, ◌+◌, [], length, take_while, IfSome, IfOk, MatchOption};
+ghost use Rattle.std.specs.Prelude.{◌≡◌, ◌<◌, ◌≤◌, ◌+◌, [], length, take_while, IfSome, IfOk, MatchOption, take_while};
+ghost use Rattle.mj_ast.specs.Tokens.{class_of, is_digit, continues_word};
+ghost use Rattle.mj_lex.specs.Seen.{class_seen};
 
 use crate::token::{Lexeme, Token};
 use mj_ast::Sign;
@@ -18,7 +20,9 @@ enum Class {
     Other,
 }
 
-fn begun_by(byte: u8) -> Class {
+fn begun_by(byte: u8) -> Class
+    ensures { class_seen result ≡ class_of byte }
+{
     match byte {
         b'A'..=b'Z' | b'a'..=b'z' | b'%' => Class::Word,
         b'0'..=b'9' => Class::Digit,
@@ -40,24 +44,32 @@ fn begun_by(byte: u8) -> Class {
     }
 }
 
+fn is_word_byte(byte: u8) -> bool
+    ensures { result ≡ continues_word byte }
+{
+    matches!(byte, b'A'..=b'Z' | b'a'..=b'z' | b'0'..=b'9')
+}
+
+fn is_digit_byte(byte: u8) -> bool
+    ensures { result ≡ is_digit byte }
+{
+    matches!(byte, b'0'..=b'9')
+}
+
 /// How many letters and digits stand in front.
 fn word_length(bytes: &[u8]) -> usize
-    ensures { result ≤ length bytes.now }
+    ensures value { result ≡ length (take_while continues_word bytes.now) }
+    ensures within { result ≤ length bytes.now }
 {
-    bytes
-        .iter()
-        .position(|byte| !byte.is_ascii_alphanumeric())
-        .unwrap_or(bytes.len())
+    bytes.iter().take_while(|byte| is_word_byte(**byte)).count()
 }
 
 /// How many digits stand in front.
 fn digits_length(bytes: &[u8]) -> usize
-    ensures { result ≤ length bytes.now }
+    ensures value { result ≡ length (take_while is_digit bytes.now) }
+    ensures within { result ≤ length bytes.now }
 {
-    bytes
-        .iter()
-        .position(|byte| !byte.is_ascii_digit())
-        .unwrap_or(bytes.len())
+    bytes.iter().take_while(|byte| is_digit_byte(**byte)).count()
 }
 
 /// The quoted text from behind its opening quote on, and what follows it.
