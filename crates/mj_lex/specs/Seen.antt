@@ -1,6 +1,6 @@
 -- The tokens that the program keeps, without where their bytes lie.
-use Rattle.std.specs.Prelude.{◌≡◌, drop, ℕ, ◌==◌, true, false, List, [], ◌∷◌, map}
-use Rattle.mj_ast.specs.Tokens.{Class, AWord, ADigit, AQuote, ABlank, AComment, ASign, Nothing, class_of, front_of, Token, Word, Digits, Quoted, Signed, Blank, Comment, Unclosed, Stray}
+use Rattle.std.specs.Prelude.{◌≡◌, ◌+◌, length, drop, ℕ, ◌==◌, true, false, List, [], ◌∷◌, map}
+use Rattle.mj_ast.specs.Tokens.{Lexeme, Class, AWord, ADigit, AQuote, ABlank, AComment, ASign, Nothing, class_of, front_of, Token, Word, Digits, Quoted, Signed, Blank, Comment, Unclosed, Stray}
 use Rattle.mj_lex.specs.declared.front.Class as kept_class
 use Rattle.mj_lex.specs.declared.front.Class.TheVariants as class
 use Rattle.mj_lex.specs.declared.token.Token as kept
@@ -44,3 +44,12 @@ class_seen class.Other = Nothing
 abbrev pub BeginsWith : List ℕ → Token → List ℕ → Type 0
 BeginsWith [] t rest = ⊥
 BeginsWith (b ∷ bs) t rest = (t ≡ (front_of (class_of b) b bs).0) × (rest ≡ drop (front_of (class_of b) b bs).1 bs)
+
+-- tokens with how many bytes stand before each, of which n stand before the first
+abbrev pub placed : ℕ → List Lexeme → List (Token × ℕ)
+placed n [] = []
+placed n (l ∷ ls) = (l.token, n) ∷ placed (n + length l.slice) ls
+
+-- the tokens that the program keeps, with their places
+abbrev pub places_seen : List lexeme.Lexeme → List (Token × ℕ)
+places_seen ls = map (λ l. (token_seen l.token, l.at)) ls

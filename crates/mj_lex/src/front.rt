@@ -1,8 +1,8 @@
 // The token at the front of the bytes of a line.
 
-ghost use Rattle.std.specs.Prelude.{◌≡◌, ◌<◌, ◌≤◌, ◌+◌, [], length, take_while, IfSome, IfOk, MatchOption, take_while};
-ghost use Rattle.mj_ast.specs.Tokens.{class_of, is_digit, continues_word};
-ghost use Rattle.mj_lex.specs.Seen.{class_seen};
+ghost use Rattle.std.specs.Prelude.{◌∷◌, ◌≡◌, ◌<◌, ◌≤◌, ◌+◌, [], length, take_while, IfSome, IfOk, MatchOption, drop};
+ghost use Rattle.mj_ast.specs.Tokens.{front_of, lexemes, quotation, quoted_token, class_of, is_digit, continues_word};
+ghost use Rattle.mj_lex.specs.Seen.{BeginsWith, placed, places_seen, class_seen, token_seen};
 
 use crate::token::{Lexeme, Token};
 use mj_ast::Sign;
@@ -69,12 +69,17 @@ fn digits_length(bytes: &[u8]) -> usize
     ensures value { result ≡ length (take_while is_digit bytes.now) }
     ensures within { result ≤ length bytes.now }
 {
-    bytes.iter().take_while(|byte| is_digit_byte(**byte)).count()
+    bytes
+        .iter()
+        .take_while(|byte| is_digit_byte(**byte))
+        .count()
 }
 
 /// The quoted text from behind its opening quote on, and what follows it.
 fn quoted(bytes: &[u8]) -> (Token<'_>, &[u8])
-    ensures { length result.1.now ≤ length bytes.now }
+    ensures token { token_seen result.0 ≡ quoted_token (quotation bytes.now) }
+    ensures rest { result.1.now ≡ drop (quotation bytes.now).width bytes.now }
+    ensures within { length result.1.now ≤ length bytes.now }
 {
     let mut at = 0;
     'content: while at < bytes.len() {
@@ -89,15 +94,24 @@ fn quoted(bytes: &[u8]) -> (Token<'_>, &[u8])
     (Token::Unclosed(bytes), &bytes[bytes.len()..])
 }
 
-/// The token at the front, and the bytes behind it.
-fn front(bytes: &[u8]) -> Option<(Token<'_>, &[u8])>
-    ensures { MatchOption result (bytes.now ≡ []) (λ x. length x.1.now < length bytes.now) }
+/// The first byte, and those behind it.
+fn first(bytes: &[u8]) -> Option<(u8, &[u8])>
+    ensures { MatchOption result (bytes.now ≡ []) (λ x. bytes.now ≡ x.0 ∷ x.1.now) }
 {
-    let (first, rest) = match bytes {
-        [] => return None,
-        [first, rest @ ..] => (*first, rest),
-    };
-    Some(match begun_by(first) {
+    match bytes {
+        [] => None,
+        [first, rest @ ..] => Some((*first, rest)),
+    }
+}
+
+/// The token that a first byte begins, and the bytes behind it, where these stand behind the first.
+fn begun<'a>(bytes: &'a [u8], first: u8, rest: &'a [u8]) -> (Token<'a>, &'a [u8])
+    requires { bytes.now ≡ first ∷ rest.now }
+    ensures token { token_seen result.0 ≡ (front_of (class_of first) first rest.now).0 }
+    ensures rest { result.1.now ≡ drop (front_of (class_of first) first rest.now).1 rest.now }
+    ensures within { length result.1.now ≤ length rest.now }
+{
+    match begun_by(first) {
         Class::Word => {
             let n = word_length(rest);
             (Token::Word(&bytes[..n + 1]), &rest[n..])
@@ -111,11 +125,24 @@ fn front(bytes: &[u8]) -> Option<(Token<'_>, &[u8])>
         Class::Comment => (Token::Comment(rest), &rest[rest.len()..]),
         Class::Sign(sign) => (Token::Sign(sign), rest),
         Class::Other => (Token::Stray(first), rest),
-    })
+    }
+}
+
+/// The token at the front, and the bytes behind it.
+fn front(bytes: &[u8]) -> Option<(Token<'_>, &[u8])>
+    ensures token { MatchOption result (bytes.now ≡ []) (λ x. BeginsWith bytes.now (token_seen x.0) x.1.now) }
+    ensures shorter { IfSome result (λ x. length x.1.now < length bytes.now) }
+{
+    match first(bytes) {
+        None => None,
+        Some((byte, rest)) => Some(begun(bytes, byte, rest)),
+    }
 }
 
 /// The tokens of a line, from the left.
-pub fn tokens<'a>(alloc: Global, line: &'a [u8]) -> Result<Vec<Lexeme<'a>>, AllocError> {
+pub fn tokens<'a>(alloc: Global, line: &'a [u8]) -> Result<Vec<Lexeme<'a>>, AllocError>
+    ensures { IfOk result (λ v. places_seen v.items ≡ placed 0 (lexemes line.now)) }
+{
     let mut lexemes = Vec::new(alloc);
     let mut rest = line;
     'tokens: while let Some((token, behind)) = front(rest) {
