@@ -1,0 +1,4 @@
+pub mod Names
+pub mod Units
+pub mod Starts
+pub mod Examples

@@ -1,0 +1,76 @@
+// An image.
+
+ghost use Rattle.std.specs.Prelude.{◌≡◌};
+ghost use Rattle.mj_load.specs.Image.{IsImage, IsStart};
+
+use crate::find::{Start, line_in, unit_of};
+use mj_ask::Entry;
+use mj_ast::Routine;
+use mj_pcode::Unit;
+use std::marker::Model;
+
+/// Routines that are loaded together, with their p-code.
+#[derive(Drop)]
+pub struct Image {
+    routines: Vec<Routine>,
+    units: Vec<Unit>,
+}
+
+impl Model for Image {
+    ghost use Rattle.mj_ast.specs.contracts.routine.Routine as routine;
+    ghost use Rattle.mj_pcode.specs.contracts.instr.Unit as unit;
+    ghost use Rattle.std.specs.Coded.{codes};
+    ghost use Rattle.mj_load.specs.Image.{Loaded, IsImage};
+
+    ghost Value = { Loaded };
+
+    ghost coded = { Prim.hlevel (codes, routine.the_row.coded, unit.the_row.coded) };
+
+    ghost view = { λ i. record { routines = i.routines.items; units = i.units.items } };
+
+    ghost invariant = { λ i. IsImage (record { routines = i.routines.items; units = i.units.items }) };
+}
+
+impl Image {
+    /// The routines, in the order in which they were given.
+    pub fn routines(&self) -> &[Routine]
+        ensures { result.now ≡ self.now.routines }
+    {
+        self.routines.as_slice()
+    }
+
+    /// The p-code of each routine, in their order.
+    pub fn units(&self) -> &[Unit]
+        ensures which { result.now ≡ self.now.units }
+        ensures are { IsImage self.now }
+    {
+        self.units.as_slice()
+    }
+
+    /// Where a job starts that is started at this entry, if there is such a line.
+    pub fn find(&self, entry: &Entry) -> Option<Start>
+        ensures { IsStart self.now entry.now result }
+    {
+        let Some(place) = unit_of(&self.units, &entry.routine) else {
+            return None;
+        };
+        let unit = &self.units[place];
+        let line = line_in(unit, &entry.label);
+        match unit.starts.get(line.saturating_sub(1)) {
+            None => None,
+            Some(pc) => Some(Start {
+                unit: place,
+                line: line as u32,
+                pc: *pc,
+            }),
+        }
+    }
+}
+
+/// An image of these routines and their units.
+pub fn make_image(routines: Vec<Routine>, units: Vec<Unit>) -> Image
+    requires { IsImage (record { routines = routines.items; units = units.items }) }
+    ensures { result ≡ record { routines = routines.items; units = units.items } }
+{
+    Image { routines, units }
+}

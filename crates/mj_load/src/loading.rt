@@ -1,0 +1,78 @@
+// Loading.
+
+ghost use Rattle.std.specs.Prelude.{◌≡◌, ◌<◌, ◌↔◌, ℕ, [], List, Option, Some, Err, All, IfOk, MatchOption, length, slice_index_or};
+ghost use Rattle.std.specs.List.{list_any};
+ghost use Rattle.std.specs.Str.{bytes_eq};
+ghost use Rattle.mj_ast.specs.declared.routine.Routine.{Routine};
+ghost use Rattle.mj_load.specs.Image.{IsWithinLimits, AreUnits, repeated, names_of};
+
+use crate::image::{Image, make_image};
+use mj_asm::assemble;
+use mj_ast::Routine;
+use mj_pcode::Unit;
+use mj_text::Text;
+use std::alloc::{AllocError, Global};
+
+/// Why routines are not loaded.
+#[derive(Debug, Drop)]
+pub enum LoadError {
+    /// an earlier routine has this one's name
+    Twice { name: Text },
+    /// an allocation was refused
+    Memory,
+}
+
+impl From<AllocError> for LoadError {
+    ghost use Rattle.std.specs.Prelude.{◌≡◌};
+    ghost use Rattle.mj_load.specs.declared.loading.LoadError.TheVariants.{Memory};
+
+    ghost from_gives = { λ _ e. e ≡ Memory };
+
+    fn from(_e: AllocError) -> LoadError {
+        LoadError::Memory
+    }
+}
+
+/// An image of these routines.
+pub fn load(alloc: Global, mut routines: Vec<Routine>) -> Result<Image, LoadError>
+    requires { All IsWithinLimits routines.items }
+    ensures ok { IfOk result (λ image. image.routines ≡ routines.items) }
+    ensures twice { (name : List ℕ) → (result ≡ Err (LoadError.Twice name)) ↔ (repeated [] (names_of routines.items) ≡ Some name) }
+{
+    if let Some(k) = second(&routines) {
+        let routine = routines.swap_remove(k);
+        return Err(LoadError::Twice { name: routine.name });
+    }
+    let units = units_of(alloc, &routines)?;
+    Ok(make_image(routines, units))
+}
+
+// The place of the first routine whose name an earlier one has.
+fn second(routines: &[Routine]) -> Option<usize>
+    ensures { MatchOption result (repeated [] (names_of routines.now) ≡ None) (λ k. (k < length routines.now) × ((d : Routine) → repeated [] (names_of routines.now) ≡ Some (slice_index_or routines.now k d).name)) }
+{
+    for (k, routine) in routines.iter().enumerate() {
+        if has_name(&routines[..k], &routine.name) {
+            return Some(k);
+        }
+    }
+    None
+}
+
+fn has_name(routines: &[Routine], name: &Text) -> bool
+    ensures { result ≡ list_any (λ r. bytes_eq r.name name.now) routines.now }
+{
+    routines.iter().any(|routine| routine.name == *name)
+}
+
+// The code of each of these routines.
+fn units_of(alloc: Global, routines: &[Routine]) -> Result<Vec<Unit>, AllocError>
+    requires { All IsWithinLimits routines.now }
+    ensures { IfOk result (λ units. AreUnits routines.now units.items) }
+{
+    let mut units = Vec::with_capacity(alloc, routines.len())?;
+    for routine in routines {
+        units.push(assemble(alloc, routine)?)?;
+    }
+    Ok(units)
+}
