@@ -1,2 +1,5 @@
 pub mod Made
 pub mod Steps
+pub mod Zipper
+pub mod Complete
+pub mod Facts

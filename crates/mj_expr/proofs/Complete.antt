@@ -1,0 +1,157 @@
+-- What the grammar has, the machine reads.
+use Rattle.std.proofs.Common.{◌≡◌, ℕ, ◌+◌, ◌≤◌, ◌<◌, max, List, [], ◌∷◌, ◌++◌, refl, ap, sym, ◌∙◌, IsTrue, Bool, true, append_assoc, append-nil, arith, nat_lt, Option, Some, None}
+use Rattle.std.specs.Prelude.{cond}
+use Rattle.mj_ast.specs.declared.sign.Sign.{Sign}
+use Rattle.mj_ast.specs.declared.sign.Sign.TheVariants.{Caret, Open, Close, Comma}
+use Rattle.mj_ast.specs.declared.expr.Scope.{Scope}
+use Rattle.mj_ast.specs.declared.expr.Scope.TheVariants.{Local, Global}
+use Rattle.mj_ast.specs.declared.expr.UnaryOp.{UnaryOp}
+use Rattle.mj_ast.specs.declared.expr.UnaryOp.TheVariants as unary
+use Rattle.mj_ast.specs.declared.expr.BinaryOp.{BinaryOp}
+use Rattle.mj_ast.specs.declared.expr.BinaryOp.TheVariants as binary
+use Rattle.mj_ast.specs.Syntax.{Expr, Chain, Tails, Done, Then, Operand, Literal, Value, Unary, Group, Variable, Var, Exprs, No, More}
+use Rattle.mj_ast.specs.Expressions.{Symbol, Name, Mark, scoped, unary_sign, binary_sign, expr_symbols, tails_symbols, operand_symbols, variable_symbols, list_symbols, more_symbols, count, expr_nesting, tails_nesting, operand_nesting, variable_nesting, list_nesting, exprs_nesting, expr_width, tails_width, operand_width, variable_width, exprs_width}
+use Rattle.mj_expr.specs.Machine.{Outer, Alone, InGroup, InList, Within, Front, Right, Under, Place, AsOperand, AsTarget, State, Wanted, Sought, Named, Held, Limits, Phrase, Whole, Target, Accept, and_then, and_more, filled, placed, held, outer_depth, depth_of, place_depth, run, turn, Go, Deep, Long, unary_of, binary_of, want_sign, hold_sign}
+use Rattle.mj_expr.specs.Reads.{HasNoOpen, HasNoBinary}
+use Rattle.mj_expr.proofs.Steps.{named_ends, less_true, open_goes, joined, joined_more, joined_last, whole_done, target_done}
+use Rattle.mj_expr.proofs.Zipper.{Kind, AnExpression, AVariable, Fits, phrase_symbols, start, count-more}
+
+unary_again : (op : UnaryOp) → unary_of (unary_sign op) ≡ Some op
+unary_again unary.Plus = refl
+unary_again unary.Minus = refl
+
+binary_again : (op : BinaryOp) → binary_of (binary_sign op) ≡ Some op
+binary_again binary.Add = refl
+binary_again binary.Subtract = refl
+binary_again binary.Multiply = refl
+binary_again binary.Join = refl
+binary_again binary.Equal = refl
+
+group_opens : (m : Limits) (ks : List Symbol) (c : Within) → depth_of c < m.depth → run m (Mark Open ∷ ks) (Wanted c) ≡ run m ks (Wanted (Front (InGroup c)))
+group_opens m ks c h = ap (λ (b : Bool). turn m ks (Wanted c) (Mark Open) (cond b (Go (Wanted (Front (InGroup c)))) Deep)) (less_true (depth_of c) m.depth h)
+
+unary_opens : (m : Limits) (op : UnaryOp) (ks : List Symbol) (c : Within) → depth_of c < m.depth → run m (Mark (unary_sign op) ∷ ks) (Wanted c) ≡ run m ks (Wanted (Under op c))
+unary_opens m op ks c h =
+    ap (λ (q : Option UnaryOp). turn m ks (Wanted c) (Mark (unary_sign op)) (want_sign m c (unary_sign op) q)) (unary_again op)
+    ∙ ap (λ (b : Bool). turn m ks (Wanted c) (Mark (unary_sign op)) (cond b (Go (Wanted (Under op c))) Deep)) (less_true (depth_of c) m.depth h)
+
+binary_joins : (m : Limits) (op : BinaryOp) (ks : List Symbol) (x : Operand) (r : Tails) (o : Outer) → run m (Mark (binary_sign op) ∷ ks) (Held x r o) ≡ run m ks (Wanted (Right x r op o))
+binary_joins m op ks x r o = ap (λ (q : Option BinaryOp). turn m ks (Held x r o) (Mark (binary_sign op)) (hold_sign m x r o (binary_sign op) q)) (binary_again op)
+
+group_closes : (m : Limits) (ks : List Symbol) (e : Expr) (c : Within) → run m (Mark Close ∷ ks) (held e (InGroup c)) ≡ run m ks (filled (Group e) c)
+group_closes m ks (Chain x r) c = refl
+
+list_closes : (m : Limits) (ks : List Symbol) (scope : Scope) (word : List ℕ) (es : Exprs) (e : Expr) (p : Place) → run m (Mark Close ∷ ks) (held e (InList scope word es p)) ≡ run m ks (placed (Var scope word (and_more es e)) p)
+list_closes m ks scope word es (Chain x r) p = refl
+
+list_goes : (m : Limits) (ks : List Symbol) (scope : Scope) (word : List ℕ) (es : Exprs) (e : Expr) (p : Place) → count es + 1 < m.width → run m (Mark Comma ∷ ks) (held e (InList scope word es p)) ≡ run m ks (Wanted (Front (InList scope word (and_more es e) p)))
+list_goes m ks scope word es (Chain x r) p h = ap (λ (b : Bool). turn m ks (Held x r (InList scope word es p)) (Mark Comma) (cond b (Go (Wanted (Front (InList scope word (and_more es (Chain x r)) p)))) Long)) (less_true (count es + 1) m.width h)
+
+-- a variable at the front
+wanted_variable : (m : Limits) (v : Variable) (ks : List Symbol) (c : Within) → run m (variable_symbols v ++ ks) (Wanted c) ≡ run m (variable_symbols v ++ ks) (Sought (AsOperand c))
+wanted_variable m (Var Local word es) ks c = refl
+wanted_variable m (Var Global word es) ks c = refl
+
+sought_name : (m : Limits) (scope : Scope) (word : List ℕ) (xs ks : List Symbol) (p : Place) → run m (scoped scope (Name word ∷ xs) ++ ks) (Sought p) ≡ run m (xs ++ ks) (Named scope word p)
+sought_name m Local word xs ks p = refl
+sought_name m Global word xs ks p = refl
+
+-- with others behind
+abbrev pub tails_joined : Tails → Tails → Tails
+tails_joined Done s = s
+tails_joined (Then op x r) s = Then op x (tails_joined r s)
+
+tails_joined-done : (r : Tails) → tails_joined r Done ≡ r
+tails_joined-done Done = refl
+tails_joined-done (Then op x r) = ap (λ (t : Tails). Then op x t) (tails_joined-done r)
+
+tails_joined-then : (q : Tails) (op : BinaryOp) (x : Operand) (r : Tails) → tails_joined (and_then q op x) r ≡ tails_joined q (Then op x r)
+tails_joined-then Done op x r = refl
+tails_joined-then (Then o y q) op x r = ap (λ (t : Tails). Then o y t) (tails_joined-then q op x r)
+
+binary_no_open : (op : BinaryOp) (ks : List Symbol) → HasNoOpen (Mark (binary_sign op) ∷ ks)
+binary_no_open binary.Add ks = tt
+binary_no_open binary.Subtract ks = tt
+binary_no_open binary.Multiply ks = tt
+binary_no_open binary.Join ks = tt
+binary_no_open binary.Equal ks = tt
+
+tails_no_open : (r : Tails) (ks : List Symbol) → HasNoOpen ks → HasNoOpen (tails_symbols r ++ ks)
+tails_no_open Done ks h = h
+tails_no_open (Then op x r) ks h = binary_no_open op ((operand_symbols x ++ tails_symbols r) ++ ks)
+
+more_no_open : (es : Exprs) (ks : List Symbol) → HasNoOpen (more_symbols es ++ ks)
+more_no_open No ks = tt
+more_no_open (More e es) ks = tt
+
+mutual
+  pub complete_expr : (e : Expr) (m : Limits) (o : Outer) (ks : List Symbol) → expr_nesting e + outer_depth o ≤ m.depth → expr_width e ≤ m.width → HasNoOpen ks →
+      run m (expr_symbols e ++ ks) (Wanted (Front o)) ≡ run m ks (held e o)
+  complete_expr (Chain x r) m o ks n w h =
+      ap (λ (zs : List Symbol). run m zs (Wanted (Front o))) (append_assoc (operand_symbols x) (tails_symbols r) ks)
+      ∙ complete_operand x m (Front o) (tails_symbols r ++ ks) (omega arith) (omega arith) (tails_no_open r ks h)
+      ∙ complete_tails r m x Done o ks (omega arith) (omega arith) h
+
+  complete_tails : (r : Tails) (m : Limits) (x : Operand) (q : Tails) (o : Outer) (ks : List Symbol) → tails_nesting r + outer_depth o ≤ m.depth → tails_width r ≤ m.width → HasNoOpen ks →
+      run m (tails_symbols r ++ ks) (Held x q o) ≡ run m ks (Held x (tails_joined q r) o)
+  complete_tails Done m x q o ks n w h = ap (λ (t : Tails). run m ks (Held x t o)) (sym (tails_joined-done q))
+  complete_tails (Then op y r) m x q o ks n w h =
+      ap (λ (zs : List Symbol). run m (Mark (binary_sign op) ∷ zs) (Held x q o)) (append_assoc (operand_symbols y) (tails_symbols r) ks)
+      ∙ binary_joins m op (operand_symbols y ++ (tails_symbols r ++ ks)) x q o
+      ∙ complete_operand y m (Right x q op o) (tails_symbols r ++ ks) (omega arith) (omega arith) (tails_no_open r ks h)
+      ∙ complete_tails r m x (and_then q op y) o ks (omega arith) (omega arith) h
+      ∙ ap (λ (t : Tails). run m ks (Held x t o)) (tails_joined-then q op y r)
+
+  complete_operand : (x : Operand) (m : Limits) (c : Within) (ks : List Symbol) → operand_nesting x + depth_of c ≤ m.depth → operand_width x ≤ m.width → HasNoOpen ks →
+      run m (operand_symbols x ++ ks) (Wanted c) ≡ run m ks (filled x c)
+  complete_operand (Literal value) m c ks n w h = refl
+  complete_operand (Value v) m c ks n w h = wanted_variable m v ks c ∙ complete_variable v m (AsOperand c) ks n w h
+  complete_operand (Unary op x) m c ks n w h =
+      unary_opens m op (operand_symbols x ++ ks) c (omega arith)
+      ∙ complete_operand x m (Under op c) ks (omega arith) w h
+  complete_operand (Group e) m c ks n w h =
+      group_opens m ((expr_symbols e ++ Mark Close ∷ []) ++ ks) c (omega arith)
+      ∙ ap (λ (zs : List Symbol). run m zs (Wanted (Front (InGroup c)))) (append_assoc (expr_symbols e) (Mark Close ∷ []) ks)
+      ∙ complete_expr e m (InGroup c) (Mark Close ∷ ks) (omega arith) w tt
+      ∙ group_closes m ks e c
+
+  pub complete_variable : (v : Variable) (m : Limits) (p : Place) (ks : List Symbol) → variable_nesting v + place_depth p ≤ m.depth → variable_width v ≤ m.width → HasNoOpen ks →
+      run m (variable_symbols v ++ ks) (Sought p) ≡ run m ks (placed v p)
+  complete_variable (Var scope word es) m p ks n w h =
+      sought_name m scope word (list_symbols es) ks p
+      ∙ complete_list es m scope word p ks n w h
+
+  complete_list : (es : Exprs) (m : Limits) (scope : Scope) (word : List ℕ) (p : Place) (ks : List Symbol) → list_nesting es + place_depth p ≤ m.depth → max (count es) (exprs_width es) ≤ m.width → HasNoOpen ks →
+      run m (list_symbols es ++ ks) (Named scope word p) ≡ run m ks (placed (Var scope word es) p)
+  complete_list No m scope word p ks n w h = named_ends m scope word p ks h
+  complete_list (More e r) m scope word p ks n w h =
+      open_goes m ((expr_symbols e ++ more_symbols r) ++ ks) scope word p (omega arith)
+      ∙ ap (λ (zs : List Symbol). run m zs (Wanted (Front (InList scope word No p)))) (append_assoc (expr_symbols e) (more_symbols r) ks)
+      ∙ complete_expr e m (InList scope word No p) (more_symbols r ++ ks) (omega arith) (omega arith) (more_no_open r ks)
+      ∙ complete_more r m scope word No e p ks (omega arith) (omega arith) (omega arith)
+
+  complete_more : (r : Exprs) (m : Limits) (scope : Scope) (word : List ℕ) (done : Exprs) (e : Expr) (p : Place) (ks : List Symbol) → exprs_nesting r + place_depth p + 1 ≤ m.depth → exprs_width r ≤ m.width → count done + 1 + count r ≤ m.width →
+      run m (more_symbols r ++ ks) (held e (InList scope word done p)) ≡ run m ks (placed (Var scope word (joined done (More e r))) p)
+  complete_more No m scope word done e p ks n w t =
+      list_closes m ks scope word done e p ∙ ap (λ (es : Exprs). run m ks (placed (Var scope word es) p)) (sym (joined_last done e))
+  complete_more (More f r) m scope word done e p ks n w t =
+      list_goes m ((expr_symbols f ++ more_symbols r) ++ ks) scope word done e p (omega arith)
+      ∙ ap (λ (zs : List Symbol). run m zs (Wanted (Front (InList scope word (and_more done e) p)))) (append_assoc (expr_symbols f) (more_symbols r) ks)
+      ∙ complete_expr f m (InList scope word (and_more done e) p) (more_symbols r ++ ks) (omega arith) (omega arith) (more_no_open r ks)
+      ∙ complete_more r m scope word (and_more done e) f p ks (omega arith) (omega arith) (omega (arith, count-more done e))
+      ∙ ap (λ (es : Exprs). run m ks (placed (Var scope word es) p)) (joined_more done e (More f r))
+
+-- ---- phrases
+
+-- where a phrase can't go on
+abbrev pub Ceases : Kind → List Symbol → Type 0
+Ceases AnExpression ks = HasNoOpen ks × HasNoBinary ks
+Ceases AVariable ks = HasNoOpen ks
+
+pub complete_phrase : (K : Kind) (p : Phrase) (m : Limits) (ks : List Symbol) → Fits K m p → Ceases K ks → run m (phrase_symbols p ++ ks) (start K) ≡ Accept p ks
+complete_phrase AnExpression (Whole e) m ks f h =
+    complete_expr e m Alone ks (let n = f.nests in omega arith) f.lists h.0 ∙ whole_done m e ks h.1
+complete_phrase AnExpression (Target v) m ks f h = absurd f.kind
+complete_phrase AVariable (Target v) m ks f h =
+    complete_variable v m AsTarget ks (let n = f.nests in omega arith) f.lists h ∙ target_done m v ks
+complete_phrase AVariable (Whole e) m ks f h = absurd f.kind
