@@ -229,18 +229,18 @@ held_facts K m x r o Other = λ l i. refl
 
 -- ---- other facts from these
 
-weaken : (K : Kind) (m : Limits) (R S : List Symbol → Type 0) (L M : Type 0) (at : Limits → Next) (k : Symbol) (x : Next) → ((ks : List Symbol) → S ks → R ks) → (L → M) → Facts K m R L at k x → Facts K m S M at k x
+pub weaken : (K : Kind) (m : Limits) (R S : List Symbol → Type 0) (L M : Type 0) (at : Limits → Next) (k : Symbol) (x : Next) → ((ks : List Symbol) → S ks → R ks) → (L → M) → Facts K m R L at k x → Facts K m S M at k x
 weaken K m R S L M at k (Go s) g t f = (λ ks h. f.0 ks (g ks h), f.1)
 weaken K m R S L M at k Stuck g t f = f
 weaken K m R S L M at k Deep g t f = (f.0, λ ks h. f.1 ks (g ks h))
 weaken K m R S L M at k Long g t f = t f
 
 -- at a step that is refused whatever was read
-long_as : (l : Limits) (y : List Symbol) (s : State) (k : Symbol) (x : Next) → step l s k ≡ x → x ≡ Long → run l (k ∷ y) s ≡ TooLong
+pub long_as : (l : Limits) (y : List Symbol) (s : State) (k : Symbol) (x : Next) → step l s k ≡ x → x ≡ Long → run l (k ∷ y) s ≡ TooLong
 long_as l y s k x e f = ap (turn l y s k) (e ∙ f)
 
 -- what is known behind an expression, for a state that steps as it does
-from_held : (K : Kind) (m : Limits) (R : List Symbol → Type 0) (t : State) (x : Operand) (r : Tails) (o : Outer) (k : Symbol) →
+pub from_held : (K : Kind) (m : Limits) (R : List Symbol → Type 0) (t : State) (x : Operand) (r : Tails) (o : Outer) (k : Symbol) →
     ((ks : List Symbol) → R ks → HasRead K m (Held x r o) ks) → ((l : Limits) → step l t k ≡ step l (Held x r o) k) →
     Facts K m R (LongFacts K m R t k) (λ l. step l (Held x r o) k) k (step m (Held x r o) k)
 from_held K m R t x r o k g same =
@@ -254,7 +254,7 @@ from_held K m R t x r o k g same =
 
 -- ---- where an operand is wanted
 
-filled_outer : (x : Operand) (c : Within) → (y : Operand) × (r : Tails) × (filled x c ≡ Held y r (outer_of c))
+pub filled_outer : (x : Operand) (c : Within) → (y : Operand) × (r : Tails) × (filled x c ≡ Held y r (outer_of c))
 filled_outer x (Front o) = (x, Done, refl)
 filled_outer x (Right first rest op o) = (first, and_then rest op x, refl)
 filled_outer x (Under op c) = filled_outer (Unary op x) c
@@ -269,7 +269,7 @@ full_same m l Alone e = refl
 full_same m l (InGroup c) e = refl
 full_same m l (InList scope word es p) e = ap (λ (w : ℕ). not (nat_lt (count es + 1) w)) e
 
-room_stays : (m l : Limits) (o : Outer) → is_full m o ≡ false → IsMore m l → is_full l o ≡ false
+pub room_stays : (m l : Limits) (o : Outer) → is_full m o ≡ false → IsMore m l → is_full l o ≡ false
 room_stays m l Alone e i = refl
 room_stays m l (InGroup c) e i = refl
 room_stays m l (InList scope word es p) e i = room_as (count es + 1) m.width l.width (nat_lt (count es + 1) m.width) refl e i.width
@@ -282,7 +282,7 @@ room_stays m l (InList scope word es p) e i = room_as (count es + 1) m.width l.w
         true_false h = cc
 
 -- a comma behind an expression in a full list
-full_comma : (l : Limits) (y : List Symbol) (x : Operand) (r : Tails) (o : Outer) → is_full l o ≡ true → run l (Mark Comma ∷ y) (Held x r o) ≡ TooLong
+pub full_comma : (l : Limits) (y : List Symbol) (x : Operand) (r : Tails) (o : Outer) → is_full l o ≡ true → run l (Mark Comma ∷ y) (Held x r o) ≡ TooLong
 full_comma l y x r Alone e = absurd (let h : false ≡ true = e in cc)
 full_comma l y x r (InGroup c) e = absurd (let h : false ≡ true = e in cc)
 full_comma l y x r (InList scope word es p) e = full_as (nat_lt (count es + 1) l.width) refl
@@ -292,7 +292,7 @@ full_comma l y x r (InList scope word es p) e = full_as (nat_lt (count es + 1) l
     full_as false f = ap (λ (b : Bool). turn l y (Held x r (InList scope word es p)) (Mark Comma) (cond b (Go (Wanted (Front (InList scope word (and_more es (Chain x r)) p)))) Long)) f
 
 -- with one more subscript, where the list is full
-full_opened : (K : Kind) (m : Limits) (x : Operand) (r : Tails) (o : Outer) → is_full m o ≡ true → (s : State) × ((ks : List Symbol) → HasRead K m (Held x r o) ks → HasRead K (wider m) s (ks ++ Mark Comma ∷ []))
+pub full_opened : (K : Kind) (m : Limits) (x : Operand) (r : Tails) (o : Outer) → is_full m o ≡ true → (s : State) × ((ks : List Symbol) → HasRead K m (Held x r o) ks → HasRead K (wider m) s (ks ++ Mark Comma ∷ []))
 full_opened K m x r Alone e = absurd (let h : false ≡ true = e in cc)
 full_opened K m x r (InGroup c) e = absurd (let h : false ≡ true = e in cc)
 full_opened K m x r (InList scope word es p) e =

@@ -3,3 +3,5 @@ pub mod Steps
 pub mod Zipper
 pub mod Complete
 pub mod Facts
+pub mod States
+pub mod Ends
