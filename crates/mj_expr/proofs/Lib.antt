@@ -5,3 +5,4 @@ pub mod Complete
 pub mod Facts
 pub mod States
 pub mod Ends
+pub mod Told

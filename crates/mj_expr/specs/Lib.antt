@@ -1,3 +1,4 @@
 pub mod Machine
 pub mod Reads
 pub mod Lists
+pub mod Phrases

@@ -1,0 +1,197 @@
+-- What a run says of the tokens.
+use Rattle.std.proofs.Common.{◌≡◌, ℕ, ◌+◌, ◌-◌, ◌≤◌, ◌<◌, max, List, [], ◌∷◌, ◌++◌, length, drop, refl, ap, sym, ◌∙◌, subst, append_assoc, append-nil, arith, map, ◌⊎◌, inl, inr, nat_le, Bool, true, false, length-append}
+use Rattle.std.specs.Prelude.{cond, pos, Result, Ok, Err, ℤ}
+use Rattle.std.proofs.Math.Seq.{drop-append_seam}
+use Rattle.std.proofs.lemmas.List.{map-append}
+use Rattle.std.proofs.lemmas.Bool.Decides.{nat_tests}
+use Rattle.mj_num.specs.Number.{canonic_text, reading}
+use Rattle.mj_text.specs.declared.fault.Fault.{Fault}
+use Rattle.mj_ast.specs.declared.sign.Sign.{Sign}
+use Rattle.mj_ast.specs.declared.sign.Sign.TheVariants.{Close, Comma}
+use Rattle.mj_ast.specs.declared.expr.Scope.{Scope}
+use Rattle.mj_ast.specs.declared.expr.Scope.TheVariants.{Local, Global}
+use Rattle.mj_ast.specs.Syntax.{Expr, Chain, Operand, Literal, Value, Tails, Variable, Var, No}
+use Rattle.mj_ast.specs.Tokens.{Token, Word, Digits, Quoted, Signed, Blank, Comment, Unclosed, Stray}
+use Rattle.mj_ast.specs.Expressions.{Symbol, Constant, Name, Overlong, Mark, Other, symbol, constant_of, name_limit, text_limit, width_limit, Phrases, expressions, variables, Spells, IsWithin, Begins, BeginsWithin, expr_symbols, variable_symbols, expr_nesting, variable_nesting, expr_width, variable_width}
+use Rattle.mj_ast.specs.Lines.{Filler}
+use Rattle.mj_expr.specs.Machine.{Outer, Alone, InGroup, InList, Within, Front, Right, Under, Place, AsOperand, AsTarget, State, Wanted, Sought, Marked, Named, Held, Got, filled, placed, depth_of, place_depth, outer_depth, Limits, Next, Stuck, Deep, Phrase, Whole, Target, Outcome, Accept, StuckAt, DeepAt, TooLong, refused, ends, finish, step, run, turn}
+use Rattle.mj_expr.specs.Phrases.{IsRead, IsStuck, IsDeep, IsLastComma, IsLongWord, IsOverlong, IsLong}
+use Rattle.mj_expr.specs.Reads.{limits}
+use Rattle.mj_expr.proofs.Zipper.{Kind, AnExpression, AVariable, IsKind, Fits, HasRead, Good, OuterGood, PlaceGood, good_depth, place_good_depth, outer_good_depth, plug, outer_plug, place_plug, plug_symbols, outer_plug_symbols, place_plug_symbols, plug_fits, outer_plug_fits, place_plug_fits, before, outer_before, place_before, after, outer_after, place_after, sofar, phrase_symbols, phrase_nesting, phrase_width, start, ForExpression, ForVariable}
+use Rattle.mj_expr.proofs.Complete.{Ceases, complete_phrase}
+use Rattle.mj_expr.proofs.Facts.{IsMore, deeper, wider, LongFacts, filled_outer}
+use Rattle.mj_expr.proofs.States.{variable_read}
+use Rattle.mj_expr.proofs.Ends.{Along, Stops, Halts, EndsDeep, EndsLong, EndsAs, run_ends}
+
+-- ---- tokens of symbols
+
+pub record Split (ks : List Token) (xs ys : List Symbol) : Type 0 where
+  pub front : List Token
+  pub back : List Token
+  pub cut : ks ≡ front ++ back
+  pub first : map symbol front ≡ xs
+  pub last : map symbol back ≡ ys
+
+tail_same : (x y : Symbol) (xs ys : List Symbol) → x ∷ xs ≡ y ∷ ys → xs ≡ ys
+tail_same x y xs ys e = cc
+
+head_same : (x y : Symbol) (xs ys : List Symbol) → x ∷ xs ≡ y ∷ ys → x ≡ y
+head_same x y xs ys e = cc
+
+cons_nil : (x : Symbol) (xs : List Symbol) → x ∷ xs ≡ [] → ⊥
+cons_nil x xs e = cc
+
+pub split : (xs : List Symbol) (ks : List Token) (ys : List Symbol) → map symbol ks ≡ xs ++ ys → Split ks xs ys
+split [] ks ys e = record { front = []; back = ks; cut = refl; first = refl; last = e }
+split (x ∷ xs) [] ys e = absurd (cons_nil x (xs ++ ys) (sym e))
+split (x ∷ xs) (k ∷ ks) ys e =
+    let s = split xs ks ys (tail_same (symbol k) x (map symbol ks) (xs ++ ys) e) in
+    record {
+      front = k ∷ s.front; back = s.back; cut = ap (λ (zs : List Token). k ∷ zs) s.cut;
+      first = ap (λ (z : Symbol). z ∷ map symbol s.front) (head_same (symbol k) x (map symbol ks) (xs ++ ys) e) ∙ ap (λ (zs : List Symbol). x ∷ zs) s.first;
+      last = s.last;
+    }
+
+-- the tokens that close what is open
+mutual
+  outer_closers : (o : Outer) → (ts : List Token) × (map symbol ts ≡ outer_after o)
+  outer_closers Alone = ([], refl)
+  outer_closers (InGroup c) = let h = closers c in (Signed Close ∷ h.0, ap (λ (zs : List Symbol). Mark Close ∷ zs) h.1)
+  outer_closers (InList scope word es p) = let h = place_closers p in (Signed Close ∷ h.0, ap (λ (zs : List Symbol). Mark Close ∷ zs) h.1)
+
+  closers : (c : Within) → (ts : List Token) × (map symbol ts ≡ after c)
+  closers (Front o) = outer_closers o
+  closers (Right first rest op o) = outer_closers o
+  closers (Under op c) = closers c
+
+  place_closers : (p : Place) → (ts : List Token) × (map symbol ts ≡ place_after p)
+  place_closers (AsOperand c) = closers c
+  place_closers AsTarget = ([], refl)
+
+-- a shortest way to the end
+pub record GoesOn (K : Kind) (m : Limits) (ks : List Symbol) : Type 0 where
+  pub more : List Token
+  pub phrase : Phrase
+  pub spelled : ks ++ map symbol more ≡ phrase_symbols phrase
+  pub fits : Fits K m phrase
+
+goes_on : (K : Kind) (m : Limits) (p : Phrase) (xs ys zs ks : List Symbol) (tokens closing : List Token) → Fits K m p → phrase_symbols p ≡ xs ++ (ys ++ zs) → map symbol closing ≡ zs → xs ++ ys ≡ ks ++ map symbol tokens → GoesOn K m ks
+goes_on K m p xs ys zs ks tokens closing f e g h = record {
+  more = tokens ++ closing;
+  phrase = p;
+  spelled =
+    ap (λ (v : List Symbol). ks ++ v) (map-append symbol tokens closing ∙ ap (λ (v : List Symbol). map symbol tokens ++ v) g)
+    ∙ sym (append_assoc ks (map symbol tokens) zs) ∙ ap (λ (v : List Symbol). v ++ zs) (sym h) ∙ append_assoc xs ys zs ∙ sym e;
+  fits = f;
+}
+
+pub read_goes : (K : Kind) (m : Limits) (s : State) (ks : List Symbol) → HasRead K m s ks → GoesOn K m ks
+read_goes K m (Wanted c) ks h =
+    let t : Operand = Literal (canonic_text (pos 0)) in
+    goes_on K m (plug c t) (before c) (Constant (canonic_text (pos 0)) ∷ []) (after c) ks (Digits (48 ∷ []) ∷ []) (closers c).0
+      (plug_fits c K m t h.good (omega (arith, good_depth K m c h.good)) (omega arith)) (plug_symbols c t) (closers c).1
+      (ap (λ (v : List Symbol). v ++ Constant (canonic_text (pos 0)) ∷ []) h.read)
+read_goes K m (Sought p) ks h =
+    let v : Variable = Var Local (65 ∷ []) No in
+    goes_on K m (place_plug p v) (place_before p) (Name (65 ∷ []) ∷ []) (place_after p) ks (Word (65 ∷ []) ∷ []) (place_closers p).0
+      (place_plug_fits p K m v h.good (omega (arith, place_good_depth K m p h.good)) (omega arith)) (place_plug_symbols p v) (place_closers p).1
+      (ap (λ (u : List Symbol). u ++ Name (65 ∷ []) ∷ []) h.read)
+read_goes K m (Marked p) ks h =
+    let v : Variable = Var Global (65 ∷ []) No in
+    goes_on K m (place_plug p v) (place_before p) (variable_symbols v) (place_after p) ks (Word (65 ∷ []) ∷ []) (place_closers p).0
+      (place_plug_fits p K m v h.good (omega (arith, place_good_depth K m p h.good)) (omega arith)) (place_plug_symbols p v) (place_closers p).1
+      (sym (append_assoc (place_before p) _ (Name (65 ∷ []) ∷ [])) ∙ ap (λ (u : List Symbol). u ++ Name (65 ∷ []) ∷ []) h.read)
+read_goes K m (Named scope word p) ks h =
+    let v : Variable = Var scope word No in
+    goes_on K m (place_plug p v) (place_before p) (variable_symbols v) (place_after p) ks [] (place_closers p).0
+      (place_plug_fits p K m v h.good (omega (arith, place_good_depth K m p h.good)) (omega arith)) (place_plug_symbols p v) (place_closers p).1
+      (h.read ∙ sym (append-nil ks))
+read_goes K m (Held x r o) ks h =
+    goes_on K m (outer_plug o (Chain x r)) (outer_before o) (expr_symbols (Chain x r)) (outer_after o) ks [] (outer_closers o).0
+      (outer_plug_fits o K m (Chain x r) h.good.0 h.good.1 h.good.2) (outer_plug_symbols o (Chain x r)) (outer_closers o).1
+      (h.read ∙ sym (append-nil ks))
+read_goes K m (Got v) ks h = record { more = []; phrase = Target v; spelled = append-nil ks ∙ sym h.read; fits = place_plug_fits AsTarget K m v h.good.0 (omega (arith, h.good.1)) h.good.2 }
+
+pub start_read : (K : Kind) (m : Limits) → HasRead K m (start K) []
+start_read AnExpression m = record { good = tt; read = refl }
+start_read AVariable m = record { good = tt; read = refl }
+
+-- ---- ends
+
+refused_accept : (ks : List Symbol) (p : Phrase) (r : List Symbol) → refused ks ≡ Accept p r → ⊥
+refused_accept [] p r e = cc
+refused_accept (Overlong ∷ ks) p r e = cc
+refused_accept (Constant v ∷ ks) p r e = cc
+refused_accept (Name w ∷ ks) p r e = cc
+refused_accept (Mark s ∷ ks) p r e = cc
+refused_accept (Other ∷ ks) p r e = cc
+
+-- a state that accepts a phrase has read it, and accepts it before anything
+pub record Accepts (K : Kind) (m : Limits) (s : State) (ks : List Symbol) (p : Phrase) (r front : List Symbol) : Type 0 where
+  pub rest : ks ≡ r
+  pub again : (ls : List Symbol) → finish s ls ≡ Accept p ls
+  pub fits : Fits K m p
+  pub spelled : phrase_symbols p ≡ front
+
+accept_rest : (p q : Phrase) (r t : List Symbol) → Accept p r ≡ Accept q t → r ≡ t
+accept_rest p q r t e = cc
+
+accept_phrase : (p q : Phrase) (r t : List Symbol) → Accept p r ≡ Accept q t → p ≡ q
+accept_phrase p q r t e = cc
+
+whole_accepts : (K : Kind) (m : Limits) (e : Expr) (s : State) (ks : List Symbol) (p : Phrase) (r front : List Symbol) → ((ls : List Symbol) → finish s ls ≡ Accept (Whole e) ls) → ForExpression K → expr_nesting e + 0 ≤ m.depth → expr_width e ≤ m.width → expr_symbols e ≡ front → finish s ks ≡ Accept p r → Accepts K m s ks p r front
+whole_accepts K m e s ks p r front again k n w read h =
+    let same : Whole e ≡ p = accept_phrase (Whole e) p ks r (sym (again ks) ∙ h) in
+    let P : Phrase → Type 0 = λ q. Accepts K m s ks q r front in
+    subst P same (record { rest = accept_rest (Whole e) p ks r (sym (again ks) ∙ h); again = again; fits = outer_plug_fits Alone K m e k n w; spelled = read })
+
+target_accepts : (K : Kind) (m : Limits) (v : Variable) (s : State) (ks : List Symbol) (p : Phrase) (r front : List Symbol) → ((ls : List Symbol) → finish s ls ≡ Accept (Target v) ls) → ForVariable K → variable_nesting v ≤ m.depth → variable_width v ≤ m.width → variable_symbols v ≡ front → finish s ks ≡ Accept p r → Accepts K m s ks p r front
+target_accepts K m v s ks p r front again k n w read h =
+    let same : Target v ≡ p = accept_phrase (Target v) p ks r (sym (again ks) ∙ h) in
+    let P : Phrase → Type 0 = λ q. Accepts K m s ks q r front in
+    subst P same (record { rest = accept_rest (Target v) p ks r (sym (again ks) ∙ h); again = again; fits = place_plug_fits AsTarget K m v k (omega arith) w; spelled = read })
+
+held_accepts : (K : Kind) (m : Limits) (x : Operand) (t : Tails) (o : Outer) (s : State) (ks : List Symbol) (p : Phrase) (r front : List Symbol) → ((ls : List Symbol) → finish s ls ≡ ends (Held x t o) ls) → HasRead K m (Held x t o) front → finish s ks ≡ Accept p r → Accepts K m s ks p r front
+held_accepts K m x t Alone s ks p r front again h e = whole_accepts K m (Chain x t) s ks p r front again h.good.0 h.good.1 h.good.2 h.read e
+held_accepts K m x t (InGroup c) s ks p r front again h e = absurd (refused_accept ks p r (sym (again ks) ∙ e))
+held_accepts K m x t (InList scope word es q) s ks p r front again h e = absurd (refused_accept ks p r (sym (again ks) ∙ e))
+
+named_accepts : (K : Kind) (m : Limits) (scope : Scope) (word : List ℕ) (q : Place) (ks : List Symbol) (p : Phrase) (r front : List Symbol) → HasRead K m (placed (Var scope word No) q) front → finish (Named scope word q) ks ≡ Accept p r → Accepts K m (Named scope word q) ks p r front
+named_accepts K m scope word (AsOperand c) ks p r front h e =
+    let f = filled_outer (Value (Var scope word No)) c in
+    let P : State → Type 0 = λ s. HasRead K m s front in
+    held_accepts K m f.0 f.1 _ (Named scope word (AsOperand c)) ks p r front (λ ls. ap (λ (s : State). ends s ls) f.2) (subst P f.2 h) e
+named_accepts K m scope word AsTarget ks p r front h e = target_accepts K m (Var scope word No) (Named scope word AsTarget) ks p r front (λ ls. refl) h.good.0 h.good.1 h.good.2 h.read e
+
+pub accepts : (K : Kind) (m : Limits) (s : State) (ks : List Symbol) (p : Phrase) (r front : List Symbol) → HasRead K m s front → finish s ks ≡ Accept p r → Accepts K m s ks p r front
+accepts K m (Wanted c) ks p r front h e = absurd (refused_accept ks p r e)
+accepts K m (Sought q) ks p r front h e = absurd (refused_accept ks p r e)
+accepts K m (Marked q) ks p r front h e = absurd (refused_accept ks p r e)
+accepts K m (Named scope word q) ks p r front h e = named_accepts K m scope word q ks p r front (variable_read K m scope word q front h) e
+accepts K m (Held x t o) ks p r front h e = held_accepts K m x t o (Held x t o) ks p r front (λ ls. refl) h e
+accepts K m (Got v) ks p r front h e = target_accepts K m v (Got v) ks p r front (λ ls. refl) h.good.0 h.good.1 h.good.2 h.read e
+
+-- ---- kinds of phrases
+
+pub record Wraps {T : Type 0} (K : Kind) (P : Phrases T) : Type 0 where
+  pub wrap : T → Phrase
+  pub kind : (t : T) → IsKind K (wrap t)
+  pub symbols : (t : T) → phrase_symbols (wrap t) ≡ P.symbols t
+  pub nesting : (t : T) → phrase_nesting (wrap t) ≡ P.nesting t
+  pub width : (t : T) → phrase_width (wrap t) ≡ P.width t
+  pub unwrap : (p : Phrase) → IsKind K p → (t : T) × (wrap t ≡ p)
+  pub once : (t u : T) → wrap t ≡ wrap u → t ≡ u
+
+unwrap_expr : (p : Phrase) → IsKind AnExpression p → (t : Expr) × (Whole t ≡ p)
+unwrap_expr (Whole e) k = (e, refl)
+unwrap_expr (Target v) k = absurd k
+
+unwrap_variable : (p : Phrase) → IsKind AVariable p → (t : Variable) × (Target t ≡ p)
+unwrap_variable (Whole e) k = absurd k
+unwrap_variable (Target v) k = (v, refl)
+
+pub wraps_expressions : Wraps AnExpression expressions
+wraps_expressions = record { wrap = Whole; kind = λ t. tt; symbols = λ t. refl; nesting = λ t. refl; width = λ t. refl; unwrap = unwrap_expr; once = λ t u e. cc }
+
+pub wraps_variables : Wraps AVariable variables
+wraps_variables = record { wrap = Target; kind = λ t. tt; symbols = λ t. refl; nesting = λ t. refl; width = λ t. refl; unwrap = unwrap_variable; once = λ t u e. cc }

@@ -1,0 +1,77 @@
+-- What is read at the front of the tokens, and what a refusal says.
+use Rattle.std.specs.Prelude.{ℕ, ◌≡◌, ◌+◌, ◌<◌, List, [], ◌∷◌, ◌++◌, length, Result, Ok, Err}
+use Rattle.mj_ast.specs.declared.sign.Sign.TheVariants.{Comma}
+use Rattle.mj_ast.specs.Tokens.{Token, Word, Signed}
+use Rattle.mj_ast.specs.Lines.{Filler}
+use Rattle.mj_ast.specs.Expressions.{Phrases, Spells, IsWithin, Begins, BeginsWithin, name_limit, width_limit}
+use Rattle.mj_expr.specs.declared.stop.Stop.{Stop}
+use Rattle.mj_expr.specs.declared.stop.Stop.TheVariants.{Stuck, Deep, Long, Memory}
+
+-- The tokens up to the rest spell the tree, within the limits, and no other tree. With the next token they begin no phrase.
+pub record IsRead {T : Type 0} (P : Phrases T) (depth : ℕ) (ks : List Token) (t : T) (rest : List Token) : Type 0 where
+  pub front : List Token
+  pub cut : ks ≡ front ++ rest
+  pub spells : Spells P front t
+  pub within : IsWithin P depth width_limit t
+  pub only : (u : T) → Spells P front u → u ≡ t
+  pub ends : (k : Token) (more : List Token) → rest ≡ k ∷ more → Begins P (front ++ k ∷ []) → ⊥
+
+-- The tokens up to those that are left begin a phrase within the limits and spell none, and with the next one, if there is
+-- one, they begin none, whatever the limits.
+pub record IsStuck {T : Type 0} (P : Phrases T) (depth : ℕ) (ks : List Token) (left : ℕ) : Type 0 where
+  pub front : List Token
+  pub rest : List Token
+  pub cut : ks ≡ front ++ rest
+  pub place : length rest ≡ left
+  pub before : BeginsWithin P depth width_limit front
+  pub whole : (t : T) → Spells P front t → ⊥
+  pub at : (k : Token) (more : List Token) → rest ≡ k ∷ more → Begins P (front ++ k ∷ []) → ⊥
+
+-- The tokens up to those that are left begin a phrase within the limits. With the next one they begin one that nests one
+-- level deeper than is allowed, and none that nests less.
+pub record IsDeep {T : Type 0} (P : Phrases T) (depth : ℕ) (ks : List Token) (left : ℕ) : Type 0 where
+  pub front : List Token
+  pub token : Token
+  pub more : List Token
+  pub cut : ks ≡ front ++ token ∷ more
+  pub place : length (token ∷ more) ≡ left
+  pub before : BeginsWithin P depth width_limit front
+  pub at : BeginsWithin P (depth + 1) width_limit (front ++ token ∷ [])
+  pub beyond : BeginsWithin P depth width_limit (front ++ token ∷ []) → ⊥
+
+-- With a comma behind them the tokens begin a phrase, but none whose lists of subscripts are short enough, however deep. It
+-- is so too where an operand is still missing before the comma.
+pub record IsLastComma {T : Type 0} (P : Phrases T) (ks : List Token) : Type 0 where
+  pub filler : List Token
+  pub fills : Filler filler
+  pub begins : Begins P (ks ++ (filler ++ Signed Comma ∷ []))
+  pub too_long : (depth : ℕ) → BeginsWithin P depth width_limit (ks ++ (filler ++ Signed Comma ∷ [])) → ⊥
+
+-- a word that no phrase goes on with and that is over its limit, where no phrase ends before it
+pub record IsLongWord {T : Type 0} (P : Phrases T) (front : List Token) (word : List ℕ) : Type 0 where
+  pub long : name_limit < length word
+  pub whole : (t : T) → Spells P front t → ⊥
+  pub at : Begins P (front ++ Word word ∷ []) → ⊥
+
+-- a word over its limit, or a comma with which a list has too many
+abbrev pub IsOverlong : {T : Type 0} → Phrases T → List Token → Token → Type 0
+IsOverlong P front (Word word) = IsLongWord P front word
+IsOverlong P front (Signed Comma) = IsLastComma P front
+IsOverlong P front k = ⊥
+
+-- The tokens up to some place begin a phrase within the limits, and there stands a word over its limit, or a comma with
+-- which a list of subscripts has too many.
+pub record IsLong {T : Type 0} (P : Phrases T) (depth : ℕ) (ks : List Token) : Type 0 where
+  pub front : List Token
+  pub token : Token
+  pub more : List Token
+  pub cut : ks ≡ front ++ token ∷ more
+  pub before : BeginsWithin P depth width_limit front
+  pub overlong : IsOverlong P front token
+
+-- what a refusal says; want of memory says nothing of the tokens
+abbrev pub IsRefused : {T : Type 0} → Phrases T → ℕ → List Token → Stop → Type 0
+IsRefused P depth ks (Stuck left) = IsStuck P depth ks left
+IsRefused P depth ks (Deep left) = IsDeep P depth ks left
+IsRefused P depth ks Long = IsLong P depth ks
+IsRefused P depth ks Memory = Unit {0}
