@@ -6,3 +6,4 @@ pub mod Facts
 pub mod States
 pub mod Ends
 pub mod Told
+pub mod Said

@@ -32,13 +32,13 @@ pub record Split (ks : List Token) (xs ys : List Symbol) : Type 0 where
   pub first : map symbol front ≡ xs
   pub last : map symbol back ≡ ys
 
-tail_same : (x y : Symbol) (xs ys : List Symbol) → x ∷ xs ≡ y ∷ ys → xs ≡ ys
+pub tail_same : (x y : Symbol) (xs ys : List Symbol) → x ∷ xs ≡ y ∷ ys → xs ≡ ys
 tail_same x y xs ys e = cc
 
-head_same : (x y : Symbol) (xs ys : List Symbol) → x ∷ xs ≡ y ∷ ys → x ≡ y
+pub head_same : (x y : Symbol) (xs ys : List Symbol) → x ∷ xs ≡ y ∷ ys → x ≡ y
 head_same x y xs ys e = cc
 
-cons_nil : (x : Symbol) (xs : List Symbol) → x ∷ xs ≡ [] → ⊥
+pub cons_nil : (x : Symbol) (xs : List Symbol) → x ∷ xs ≡ [] → ⊥
 cons_nil x xs e = cc
 
 pub split : (xs : List Symbol) (ks : List Token) (ys : List Symbol) → map symbol ks ≡ xs ++ ys → Split ks xs ys
@@ -133,10 +133,10 @@ pub record Accepts (K : Kind) (m : Limits) (s : State) (ks : List Symbol) (p : P
   pub fits : Fits K m p
   pub spelled : phrase_symbols p ≡ front
 
-accept_rest : (p q : Phrase) (r t : List Symbol) → Accept p r ≡ Accept q t → r ≡ t
+pub accept_rest : (p q : Phrase) (r t : List Symbol) → Accept p r ≡ Accept q t → r ≡ t
 accept_rest p q r t e = cc
 
-accept_phrase : (p q : Phrase) (r t : List Symbol) → Accept p r ≡ Accept q t → p ≡ q
+pub accept_phrase : (p q : Phrase) (r t : List Symbol) → Accept p r ≡ Accept q t → p ≡ q
 accept_phrase p q r t e = cc
 
 whole_accepts : (K : Kind) (m : Limits) (e : Expr) (s : State) (ks : List Symbol) (p : Phrase) (r front : List Symbol) → ((ls : List Symbol) → finish s ls ≡ Accept (Whole e) ls) → ForExpression K → expr_nesting e + 0 ≤ m.depth → expr_width e ≤ m.width → expr_symbols e ≡ front → finish s ks ≡ Accept p r → Accepts K m s ks p r front

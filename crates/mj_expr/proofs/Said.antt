@@ -1,0 +1,337 @@
+-- What a run says of the tokens, in the grammar's words.
+use Rattle.std.proofs.Common.{◌≡◌, ℕ, ◌+◌, ◌-◌, ◌≤◌, ◌<◌, max, List, [], ◌∷◌, ◌++◌, length, drop, refl, ap, sym, ◌∙◌, subst, append_assoc, append-nil, arith, map, ◌⊎◌, inl, inr, nat_le, Bool, true, false, length-append}
+use Rattle.std.specs.Prelude.{cond, Result, Ok, Err, ℤ}
+use Rattle.std.proofs.Math.Seq.{drop-append_seam}
+use Rattle.std.proofs.lemmas.List.{map-append, length-map}
+use Rattle.std.proofs.lemmas.Bool.Decides.{nat_tests}
+use Rattle.mj_num.specs.Number.{reading}
+use Rattle.mj_text.specs.declared.fault.Fault.{Fault}
+use Rattle.mj_ast.specs.declared.sign.Sign.{Sign}
+use Rattle.mj_ast.specs.declared.sign.Sign.TheVariants.{Comma}
+use Rattle.mj_ast.specs.declared.expr.Scope.{Scope}
+use Rattle.mj_ast.specs.Syntax.{Chain, Var, No}
+use Rattle.mj_ast.specs.Tokens.{Token, Word, Digits, Quoted, Signed, Blank, Comment, Unclosed, Stray}
+use Rattle.mj_ast.specs.Expressions.{Symbol, Constant, Name, Overlong, Mark, Other, symbol, constant_of, name_limit, text_limit, width_limit, Phrases, Spells, IsWithin, Begins, BeginsWithin}
+use Rattle.mj_expr.specs.Machine.{Alone, InGroup, InList, Place, AsOperand, AsTarget, State, Wanted, Sought, Marked, Named, Held, Got, placed, Limits, Next, Stuck, Deep, Phrase, Whole, Target, Outcome, Accept, StuckAt, DeepAt, TooLong, refused, ends, finish, step, run, turn}
+use Rattle.mj_expr.specs.Phrases.{IsRead, IsStuck, IsDeep, IsLastComma, IsLongWord, IsOverlong, IsLong}
+use Rattle.mj_expr.specs.Reads.{limits}
+use Rattle.mj_expr.proofs.Zipper.{Kind, AnExpression, AVariable, Fits, HasRead, phrase_symbols, phrase_nesting, phrase_width, start}
+use Rattle.mj_expr.proofs.Complete.{Ceases, complete_phrase}
+use Rattle.mj_expr.proofs.Facts.{IsMore, deeper, wider}
+use Rattle.mj_expr.proofs.Ends.{Stops, Halts, EndsDeep, EndsLong, EndsAs, run_ends}
+use Rattle.mj_expr.proofs.Told.{Split, split, GoesOn, read_goes, start_read, accepts, accept_rest, accept_phrase, cons_nil, head_same, tail_same, Wraps}
+
+ceases_none : (K : Kind) → Ceases K []
+ceases_none AnExpression = (tt, tt)
+ceases_none AVariable = tt
+
+-- ---- how a state refuses
+
+refused_stuck : (ks : List Symbol) (n : ℕ) → refused ks ≡ StuckAt n → length ks ≡ n
+refused_stuck [] n e = cc
+refused_stuck (Overlong ∷ ks) n e = absurd (let f : TooLong ≡ StuckAt n = e in cc)
+refused_stuck (Constant v ∷ ks) n e = cc
+refused_stuck (Name w ∷ ks) n e = cc
+refused_stuck (Mark s ∷ ks) n e = cc
+refused_stuck (Other ∷ ks) n e = cc
+
+ends_stuck : (s : State) (ks : List Symbol) (n : ℕ) → ends s ks ≡ StuckAt n → length ks ≡ n
+ends_stuck (Wanted c) ks n e = refused_stuck ks n e
+ends_stuck (Sought p) ks n e = refused_stuck ks n e
+ends_stuck (Marked p) ks n e = refused_stuck ks n e
+ends_stuck (Named scope word p) ks n e = refused_stuck ks n e
+ends_stuck (Held x r Alone) ks n e = absurd (let f : Accept (Whole (Chain x r)) ks ≡ StuckAt n = e in cc)
+ends_stuck (Held x r (InGroup c)) ks n e = refused_stuck ks n e
+ends_stuck (Held x r (InList scope word es p)) ks n e = refused_stuck ks n e
+ends_stuck (Got v) ks n e = absurd (let f : Accept (Target v) ks ≡ StuckAt n = e in cc)
+
+finish_stuck : (s : State) (ks : List Symbol) (n : ℕ) → finish s ks ≡ StuckAt n → length ks ≡ n
+finish_stuck (Wanted c) ks n e = refused_stuck ks n e
+finish_stuck (Sought p) ks n e = refused_stuck ks n e
+finish_stuck (Marked p) ks n e = refused_stuck ks n e
+finish_stuck (Named scope word p) ks n e = ends_stuck (placed (Var scope word No) p) ks n e
+finish_stuck (Held x r o) ks n e = ends_stuck (Held x r o) ks n e
+finish_stuck (Got v) ks n e = ends_stuck (Got v) ks n e
+
+refused_long : (ks : List Symbol) → refused ks ≡ TooLong → (y : List Symbol) × (ks ≡ Overlong ∷ y)
+refused_long [] e = absurd (let f : StuckAt 0 ≡ TooLong = e in cc)
+refused_long (Overlong ∷ ks) e = (ks, refl)
+refused_long (Constant v ∷ ks) e = absurd (let f : StuckAt (length (Constant v ∷ ks)) ≡ TooLong = e in cc)
+refused_long (Name w ∷ ks) e = absurd (let f : StuckAt (length (Name w ∷ ks)) ≡ TooLong = e in cc)
+refused_long (Mark s ∷ ks) e = absurd (let f : StuckAt (length (Mark s ∷ ks)) ≡ TooLong = e in cc)
+refused_long (Other ∷ ks) e = absurd (let f : StuckAt (length (Other ∷ ks)) ≡ TooLong = e in cc)
+
+ends_long : (s : State) (ks : List Symbol) → ends s ks ≡ TooLong → (y : List Symbol) × (ks ≡ Overlong ∷ y)
+ends_long (Wanted c) ks e = refused_long ks e
+ends_long (Sought p) ks e = refused_long ks e
+ends_long (Marked p) ks e = refused_long ks e
+ends_long (Named scope word p) ks e = refused_long ks e
+ends_long (Held x r Alone) ks e = absurd (let f : Accept (Whole (Chain x r)) ks ≡ TooLong = e in cc)
+ends_long (Held x r (InGroup c)) ks e = refused_long ks e
+ends_long (Held x r (InList scope word es p)) ks e = refused_long ks e
+ends_long (Got v) ks e = absurd (let f : Accept (Target v) ks ≡ TooLong = e in cc)
+
+finish_long : (s : State) (ks : List Symbol) → finish s ks ≡ TooLong → (y : List Symbol) × (ks ≡ Overlong ∷ y)
+finish_long (Wanted c) ks e = refused_long ks e
+finish_long (Sought p) ks e = refused_long ks e
+finish_long (Marked p) ks e = refused_long ks e
+finish_long (Named scope word p) ks e = ends_long (placed (Var scope word No) p) ks e
+finish_long (Held x r o) ks e = ends_long (Held x r o) ks e
+finish_long (Got v) ks e = ends_long (Got v) ks e
+
+-- ---- tokens by their symbols
+
+pub record Uncons (b : List Token) (x : Symbol) (xs : List Symbol) : Type 0 where
+  pub token : Token
+  pub more : List Token
+  pub is : b ≡ token ∷ more
+  pub head : symbol token ≡ x
+  pub tail : map symbol more ≡ xs
+
+uncons : (b : List Token) (x : Symbol) (xs : List Symbol) → map symbol b ≡ x ∷ xs → Uncons b x xs
+uncons [] x xs e = absurd (cons_nil x xs (sym e))
+uncons (k ∷ ks) x xs e = record { token = k; more = ks; is = refl; head = head_same (symbol k) x (map symbol ks) xs e; tail = tail_same (symbol k) x (map symbol ks) xs e }
+
+constant_overlong : (r : Result ℤ Fault) → constant_of r ≡ Overlong → ⊥
+constant_overlong (Ok z) e = cc
+constant_overlong (Err f) e = cc
+
+constant_mark : (r : Result ℤ Fault) (s : Sign) → constant_of r ≡ Mark s → ⊥
+constant_mark (Ok z) s e = cc
+constant_mark (Err f) s e = cc
+
+choice_overlong : (b : Bool) (v : List ℕ) → cond b (Constant v) Other ≡ Overlong → ⊥
+choice_overlong true v e = cc
+choice_overlong false v e = cc
+
+choice_mark : (b : Bool) (v : List ℕ) (s : Sign) → cond b (Constant v) Other ≡ Mark s → ⊥
+choice_mark true v s e = cc
+choice_mark false v s e = cc
+
+word_mark : (b : Bool) (w : List ℕ) (s : Sign) → cond b (Name w) Overlong ≡ Mark s → ⊥
+word_mark true w s e = cc
+word_mark false w s e = cc
+
+word_long : (w : List ℕ) (b : Bool) → nat_le (length w) 31 ≡ b → cond b (Name w) Overlong ≡ Overlong → 31 < length w
+word_long w true f e = absurd (let g : Name w ≡ Overlong = e in cc)
+word_long w false f e = grind (arith, nat_tests)
+
+overlong_word : (k : Token) → symbol k ≡ Overlong → (w : List ℕ) × (k ≡ Word w) × (31 < length w)
+overlong_word (Word w) e = (w, refl, word_long w (nat_le (length w) 31) refl e)
+overlong_word (Digits ds) e = absurd (constant_overlong (reading ds) e)
+overlong_word (Quoted v) e = absurd (choice_overlong (nat_le (length v) text_limit) v e)
+overlong_word (Signed s) e = absurd (let f : Mark s ≡ Overlong = e in cc)
+overlong_word Blank e = absurd (let f : Other ≡ Overlong = e in cc)
+overlong_word (Comment t) e = absurd (let f : Other ≡ Overlong = e in cc)
+overlong_word (Unclosed t) e = absurd (let f : Other ≡ Overlong = e in cc)
+overlong_word (Stray b) e = absurd (let f : Other ≡ Overlong = e in cc)
+
+comma_token : (k : Token) → symbol k ≡ Mark Comma → k ≡ Signed Comma
+comma_token (Word w) e = absurd (word_mark (nat_le (length w) 31) w Comma e)
+comma_token (Digits ds) e = absurd (constant_mark (reading ds) Comma e)
+comma_token (Quoted v) e = absurd (choice_mark (nat_le (length v) text_limit) v Comma e)
+comma_token (Signed s) e = let f : Mark s ≡ Mark Comma = e in let g : s ≡ Comma = cc in ap Signed g
+comma_token Blank e = absurd (let f : Other ≡ Mark Comma = e in cc)
+comma_token (Comment t) e = absurd (let f : Other ≡ Mark Comma = e in cc)
+comma_token (Unclosed t) e = absurd (let f : Other ≡ Mark Comma = e in cc)
+comma_token (Stray b) e = absurd (let f : Other ≡ Mark Comma = e in cc)
+
+pub drop_back : (front back ks : List Token) (n : ℕ) → ks ≡ front ++ back → length back ≡ n → drop (length ks - n) ks ≡ back
+drop_back front back ks n e f =
+    let P : List Token → Type 0 = λ zs. drop (length zs - n) zs ≡ back in
+    let at : length (front ++ back) - n ≡ length front = omega (arith, length-append front back, f) in
+    subst P (sym e) (ap (λ (i : ℕ). drop i (front ++ back)) at ∙ drop-append_seam front back)
+
+-- ---- phrases of one kind
+
+module _ {T : Type 0} (K : Kind) (P : Phrases T) (W : Wraps K P) where
+  accepted : (l : Limits) (zs : List Symbol) (t : T) → zs ≡ P.symbols t → P.nesting t ≤ l.depth → P.width t ≤ l.width → run l zs (start K) ≡ Accept (W.wrap t) []
+  accepted l zs t e n w =
+      ap (λ (v : List Symbol). run l v (start K)) (e ∙ sym (W.symbols t) ∙ sym (append-nil (phrase_symbols (W.wrap t))))
+      ∙ complete_phrase K (W.wrap t) l [] (record { kind = W.kind t; nests = omega (arith, W.nesting t, n); lists = omega (arith, W.width t, w) }) (ceases_none K)
+
+  begun : (m : Limits) (front : List Token) (s : State) (xs : List Symbol) → map symbol front ≡ xs → HasRead K m s xs → BeginsWithin P m.depth m.width front
+  begun m front s xs e h =
+      let g = read_goes K m s xs h in
+      let u = W.unwrap g.phrase g.fits.kind in
+      record {
+        rest = g.more;
+        tree = u.0;
+        spells = map-append symbol front g.more ∙ ap (λ (v : List Symbol). v ++ map symbol g.more) e ∙ g.spelled ∙ ap phrase_symbols (sym u.1) ∙ W.symbols u.0;
+        within = record { nests = omega (arith, g.fits.nests, ap phrase_nesting u.1, W.nesting u.0); lists = omega (arith, g.fits.lists, ap phrase_width u.1, W.width u.0) };
+      }
+
+  -- the symbols of a front, a token and what follows
+  spelled_at : (front : List Token) (k : Token) (rest : List Token) (xs : List Symbol) → map symbol front ≡ xs → map symbol ((front ++ k ∷ []) ++ rest) ≡ xs ++ symbol k ∷ map symbol rest
+  spelled_at front k rest xs e =
+      ap (λ (v : List Token). map symbol v) (append_assoc front (k ∷ []) rest) ∙ map-append symbol front (k ∷ rest) ∙ ap (λ (v : List Symbol). v ++ symbol k ∷ map symbol rest) e
+
+  abbrev bigger : Limits → T → Limits
+  bigger m t = record { depth = max m.depth (P.nesting t); width = max m.width (P.width t) }
+
+  more_bigger : (m : Limits) (t : T) → IsMore m (bigger m t)
+  more_bigger m t = record { depth = omega arith; width = omega arith }
+
+  stops_at : (m : Limits) (back : List Symbol) (s : State) (k : Symbol) (y : List Symbol) → back ≡ k ∷ y → Stops m back s → (l : Limits) → IsMore m l → step l s k ≡ Stuck
+  stops_at m back s k y e h = let Q : List Symbol → Type 0 = λ z. Stops m z s in subst Q e h
+
+  -- with the token at which it halts, nothing begins a phrase
+  halts_none : (m : Limits) (ks : List Symbol) (o : Outcome) (h : Halts K m (start K) ks o) (front : List Token) (k : Token) (y : List Symbol) → map symbol front ≡ h.front → h.back ≡ symbol k ∷ y → Begins P (front ++ k ∷ []) → ⊥
+  halts_none m ks o h front k y e f b =
+      let l = bigger m b.tree in
+      let rest = map symbol b.rest in
+      let whole : run l (h.front ++ symbol k ∷ rest) (start K) ≡ Accept (W.wrap b.tree) [] = accepted l (h.front ++ symbol k ∷ rest) b.tree (sym (spelled_at front k b.rest h.front e) ∙ b.spells) (omega arith) (omega arith) in
+      let there : run l (h.front ++ symbol k ∷ rest) (start K) ≡ finish h.end (symbol k ∷ rest) =
+          h.along.runs l (symbol k ∷ rest) (more_bigger m b.tree) ∙ ap (turn l rest h.end (symbol k)) (stops_at m h.back h.end (symbol k) y f h.stops l (more_bigger m b.tree)) in
+      let a = accepts K m h.end (symbol k ∷ rest) (W.wrap b.tree) [] h.front (h.along.reads [] (start_read K m)) (sym there ∙ whole) in
+      cons_nil (symbol k) rest a.rest
+
+  -- where it halts and accepts nothing, the front is no phrase
+  halts_whole : (m : Limits) (ks : List Symbol) (o : Outcome) (h : Halts K m (start K) ks o) (front : List Token) → map symbol front ≡ h.front → ((p : Phrase) (r : List Symbol) → Accept p r ≡ o → ⊥) → (t : T) → Spells P front t → ⊥
+  halts_whole m ks o h front e never t s =
+      let l = bigger m t in
+      let whole : run l (h.front ++ []) (start K) ≡ Accept (W.wrap t) [] = accepted l (h.front ++ []) t (append-nil h.front ∙ sym e ∙ s) (omega arith) (omega arith) in
+      let there : run l (h.front ++ []) (start K) ≡ finish h.end [] = h.along.runs l [] (more_bigger m t) in
+      let a = accepts K m h.end [] (W.wrap t) [] h.front (h.along.reads [] (start_read K m)) (sym there ∙ whole) in
+      never (W.wrap t) h.back (sym (a.again h.back) ∙ h.gives)
+
+  same_tree : (ks : List Token) (t u : T) → Spells P ks t → Spells P ks u → u ≡ t
+  same_tree ks t u e f =
+      let l : Limits = record { depth = max (P.nesting t) (P.nesting u); width = max (P.width t) (P.width u) } in
+      W.once u t (accept_phrase (W.wrap u) (W.wrap t) [] [] (sym (accepted l (map symbol ks) u f (omega arith) (omega arith)) ∙ accepted l (map symbol ks) t e (omega arith) (omega arith)))
+
+  -- READ
+  pub said_read : (d : ℕ) (ks : List Token) (t : T) (r : List Symbol) → run (limits d) (map symbol ks) (start K) ≡ Accept (W.wrap t) r → IsRead P d ks t (drop (length ks - length r) ks)
+  said_read d ks t r e =
+      let Q : Outcome → Type 0 = λ o. EndsAs K (limits d) (start K) (map symbol ks) o in
+      let h : Halts K (limits d) (start K) (map symbol ks) (Accept (W.wrap t) r) = subst Q e (run_ends (map symbol ks) K (limits d) (start K) (omega arith)) in
+      let s = split h.front ks h.back h.cut in
+      let a = accepts K (limits d) h.end h.back (W.wrap t) r h.front (h.along.reads [] (start_read K (limits d))) h.gives in
+      let spells : Spells P s.front t = s.first ∙ sym a.spelled ∙ W.symbols t in
+      let R : List Token → Type 0 = λ rest. IsRead P d ks t rest in
+      subst R (sym (drop_back s.front s.back ks (length r) s.cut (sym (length-map s.back symbol) ∙ ap length (s.last ∙ a.rest))))
+        (record {
+          front = s.front;
+          cut = s.cut;
+          spells = spells;
+          within = record { nests = omega (arith, a.fits.nests, W.nesting t); lists = omega (arith, a.fits.lists, W.width t) };
+          only = λ u f. same_tree s.front t u spells f;
+          ends = λ k more f b. halts_none (limits d) (map symbol ks) (Accept (W.wrap t) r) h s.front k (map symbol more) s.first (sym s.last ∙ ap (λ (v : List Token). map symbol v) f) b;
+        })
+
+  -- STUCK
+  pub said_stuck : (d : ℕ) (ks : List Token) (n : ℕ) → run (limits d) (map symbol ks) (start K) ≡ StuckAt n → IsStuck P d ks n
+  said_stuck d ks n e =
+      let Q : Outcome → Type 0 = λ o. EndsAs K (limits d) (start K) (map symbol ks) o in
+      let h : Halts K (limits d) (start K) (map symbol ks) (StuckAt n) = subst Q e (run_ends (map symbol ks) K (limits d) (start K) (omega arith)) in
+      let s = split h.front ks h.back h.cut in
+      record {
+        front = s.front;
+        rest = s.back;
+        cut = s.cut;
+        place = sym (length-map s.back symbol) ∙ ap length s.last ∙ finish_stuck h.end h.back n h.gives;
+        before = begun (limits d) s.front h.end h.front s.first (h.along.reads [] (start_read K (limits d)));
+        whole = halts_whole (limits d) (map symbol ks) (StuckAt n) h s.front s.first (λ p r f. cc);
+        at = λ k more f b. halts_none (limits d) (map symbol ks) (StuckAt n) h s.front k (map symbol more) s.first (sym s.last ∙ ap (λ (v : List Token). map symbol v) f) b;
+      }
+
+  -- DEEP
+  pub said_deep : (d : ℕ) (ks : List Token) (n : ℕ) → run (limits d) (map symbol ks) (start K) ≡ DeepAt n → IsDeep P d ks n
+  said_deep d ks n e =
+      let Q : Outcome → Type 0 = λ o. EndsAs K (limits d) (start K) (map symbol ks) o in
+      let h : EndsDeep K (limits d) (start K) (map symbol ks) n = subst Q e (run_ends (map symbol ks) K (limits d) (start K) (omega arith)) in
+      let s = split h.front ks (h.token ∷ h.back) h.cut in
+      let c = uncons s.back h.token h.back s.last in
+      let read = h.along.reads [] (start_read K (limits d)) in
+      record {
+        front = s.front;
+        token = c.token;
+        more = c.more;
+        cut = s.cut ∙ ap (λ (v : List Token). s.front ++ v) c.is;
+        place = sym (length-map (c.token ∷ c.more) symbol) ∙ ap (λ (v : List Symbol). length (symbol c.token ∷ v)) c.tail ∙ ap (λ (v : Symbol). length (v ∷ h.back)) c.head ∙ h.left;
+        before = begun (limits d) s.front h.end h.front s.first read;
+        at = begun (deeper (limits d)) (s.front ++ c.token ∷ []) h.over (h.front ++ h.token ∷ [])
+          (map-append symbol s.front (c.token ∷ []) ∙ ap (λ (v : List Symbol). v ++ symbol c.token ∷ []) s.first ∙ ap (λ (v : Symbol). h.front ++ v ∷ []) c.head) (h.opened h.front read);
+        beyond = λ b.
+          let rest = map symbol b.rest in
+          let whole : run (limits d) (h.front ++ symbol c.token ∷ rest) (start K) ≡ Accept (W.wrap b.tree) [] = accepted (limits d) (h.front ++ symbol c.token ∷ rest) b.tree (sym (spelled_at s.front c.token b.rest h.front s.first) ∙ b.spells) b.within.nests b.within.lists in
+          let there : run (limits d) (h.front ++ symbol c.token ∷ rest) (start K) ≡ DeepAt (length (symbol c.token ∷ rest)) =
+              h.along.runs (limits d) (symbol c.token ∷ rest) (record { depth = omega arith; width = omega arith })
+              ∙ ap (λ (v : Symbol). run (limits d) (v ∷ rest) h.end) c.head
+              ∙ ap (turn (limits d) rest h.end h.token) h.steps in
+          let clash : Accept (W.wrap b.tree) [] ≡ DeepAt (length (symbol c.token ∷ rest)) = sym whole ∙ there in
+          cc;
+      }
+
+  -- LONG
+  long_word : (d : ℕ) (ks : List Token) → Halts K (limits d) (start K) (map symbol ks) TooLong → IsLong P d ks
+  long_word d ks h =
+      let s = split h.front ks h.back h.cut in
+      let f = finish_long h.end h.back h.gives in
+      let c = uncons s.back Overlong f.0 (s.last ∙ f.1) in
+      let w = overlong_word c.token c.head in
+      let O : Token → Type 0 = λ k. IsOverlong P s.front k in
+      let N : Token → Type 0 = λ k. Begins P (s.front ++ k ∷ []) → ⊥ in
+      record {
+        front = s.front;
+        token = c.token;
+        more = c.more;
+        cut = s.cut ∙ ap (λ (v : List Token). s.front ++ v) c.is;
+        before = begun (limits d) s.front h.end h.front s.first (h.along.reads [] (start_read K (limits d)));
+        overlong = subst O (sym w.1) (record {
+          long = w.2;
+          whole = halts_whole (limits d) (map symbol ks) TooLong h s.front s.first (λ p r g. cc);
+          at = subst N w.1 (λ b. halts_none (limits d) (map symbol ks) TooLong h s.front c.token f.0 s.first (f.1 ∙ ap (λ (v : Symbol). v ∷ f.0) (sym c.head)) b);
+        });
+      }
+
+  long_comma : (d : ℕ) (ks : List Token) → EndsLong K (limits d) (start K) (map symbol ks) → IsLong P d ks
+  long_comma d ks h =
+      let s = split h.front ks (h.token ∷ h.back) h.cut in
+      let c = uncons s.back h.token h.back s.last in
+      let read = h.along.reads [] (start_read K (limits d)) in
+      let comma : c.token ≡ Signed Comma = comma_token c.token (c.head ∙ h.long.comma) in
+      let O : Token → Type 0 = λ k. IsOverlong P s.front k in
+      let fill = h.long.filler in
+      let opened = begun (wider (limits d)) (s.front ++ (fill ++ Signed Comma ∷ [])) h.long.over (h.front ++ (map symbol fill ++ h.token ∷ []))
+            ( map-append symbol s.front (fill ++ Signed Comma ∷ [])
+              ∙ ap (λ (v : List Symbol). v ++ map symbol (fill ++ Signed Comma ∷ [])) s.first
+              ∙ ap (λ (v : List Symbol). h.front ++ v) (map-append symbol fill (Signed Comma ∷ []) ∙ ap (λ (v : Symbol). map symbol fill ++ v ∷ []) (sym h.long.comma)) )
+            (h.long.opened h.front read) in
+      record {
+        front = s.front;
+        token = c.token;
+        more = c.more;
+        cut = s.cut ∙ ap (λ (v : List Token). s.front ++ v) c.is;
+        before = begun (limits d) s.front h.end h.front s.first read;
+        overlong = subst O (sym comma) (record {
+          filler = fill;
+          fills = h.long.fills;
+          begins = record { rest = opened.rest; tree = opened.tree; spells = opened.spells };
+          too_long = λ depth b.
+            let l : Limits = record { depth = max d depth; width = width_limit } in
+            let rest = map symbol b.rest in
+            let zs = h.front ++ (map symbol fill ++ Mark Comma ∷ rest) in
+            let same : map symbol ((s.front ++ (fill ++ Signed Comma ∷ [])) ++ b.rest) ≡ zs =
+                ap (λ (v : List Token). map symbol v) (append_assoc s.front (fill ++ Signed Comma ∷ []) b.rest ∙ ap (λ (v : List Token). s.front ++ v) (append_assoc fill (Signed Comma ∷ []) b.rest))
+                ∙ map-append symbol s.front (fill ++ Signed Comma ∷ b.rest)
+                ∙ ap (λ (v : List Symbol). v ++ map symbol (fill ++ Signed Comma ∷ b.rest)) s.first
+                ∙ ap (λ (v : List Symbol). h.front ++ v) (map-append symbol fill (Signed Comma ∷ b.rest)) in
+            let whole : run l zs (start K) ≡ Accept (W.wrap b.tree) [] = accepted l zs b.tree (sym same ∙ b.spells) (omega (arith, b.within.nests)) b.within.lists in
+            let there : run l zs (start K) ≡ TooLong =
+                h.along.runs l (map symbol fill ++ Mark Comma ∷ rest) (record { depth = omega arith; width = omega arith })
+                ∙ ap (λ (v : Symbol). run l (map symbol fill ++ v ∷ rest) h.end) (sym h.long.comma)
+                ∙ h.long.local l rest (omega arith) refl in
+            let clash : Accept (W.wrap b.tree) [] ≡ TooLong = sym whole ∙ there in
+            cc;
+        });
+      }
+
+  long_as : (d : ℕ) (ks : List Token) → Halts K (limits d) (start K) (map symbol ks) TooLong ⊎ EndsLong K (limits d) (start K) (map symbol ks) → IsLong P d ks
+  long_as d ks (inl h) = long_word d ks h
+  long_as d ks (inr h) = long_comma d ks h
+
+  pub said_long : (d : ℕ) (ks : List Token) → run (limits d) (map symbol ks) (start K) ≡ TooLong → IsLong P d ks
+  said_long d ks e =
+      let Q : Outcome → Type 0 = λ o. EndsAs K (limits d) (start K) (map symbol ks) o in
+      long_as d ks (subst Q e (run_ends (map symbol ks) K (limits d) (start K) (omega arith)))
