@@ -1,8 +1,7 @@
 -- What the grammar has, the machine reads.
-use Rattle.std.proofs.Common.{◌≡◌, ℕ, ◌+◌, ◌≤◌, ◌<◌, max, List, [], ◌∷◌, ◌++◌, refl, ap, sym, ◌∙◌, IsTrue, Bool, true, append_assoc, append-nil, arith, nat_lt, Option, Some, None}
+use Rattle.std.proofs.Common.{◌≡◌, ℕ, ◌+◌, ◌≤◌, ◌<◌, max, List, [], ◌∷◌, ◌++◌, refl, ap, sym, ◌∙◌, Bool, append_assoc, arith, Option, Some}
 use Rattle.std.specs.Prelude.{cond}
-use Rattle.mj_ast.specs.declared.sign.Sign.{Sign}
-use Rattle.mj_ast.specs.declared.sign.Sign.TheVariants.{Caret, Open, Close, Comma}
+use Rattle.mj_ast.specs.declared.sign.Sign.TheVariants.{Open, Close, Comma}
 use Rattle.mj_ast.specs.declared.expr.Scope.{Scope}
 use Rattle.mj_ast.specs.declared.expr.Scope.TheVariants.{Local, Global}
 use Rattle.mj_ast.specs.declared.expr.UnaryOp.{UnaryOp}
@@ -11,7 +10,7 @@ use Rattle.mj_ast.specs.declared.expr.BinaryOp.{BinaryOp}
 use Rattle.mj_ast.specs.declared.expr.BinaryOp.TheVariants as binary
 use Rattle.mj_ast.specs.Syntax.{Expr, Chain, Tails, Done, Then, Operand, Literal, Value, Unary, Group, Variable, Var, Exprs, No, More}
 use Rattle.mj_ast.specs.Expressions.{Symbol, Name, Mark, scoped, unary_sign, binary_sign, expr_symbols, tails_symbols, operand_symbols, variable_symbols, list_symbols, more_symbols, count, expr_nesting, tails_nesting, operand_nesting, variable_nesting, list_nesting, exprs_nesting, expr_width, tails_width, operand_width, variable_width, exprs_width}
-use Rattle.mj_expr.specs.Machine.{Outer, Alone, InGroup, InList, Within, Front, Right, Under, Place, AsOperand, AsTarget, State, Wanted, Sought, Named, Held, Limits, Phrase, Whole, Target, Accept, and_then, and_more, filled, placed, held, outer_depth, depth_of, place_depth, run, turn, Go, Deep, Long, unary_of, binary_of, want_sign, hold_sign}
+use Rattle.mj_expr.specs.Machine.{Outer, Alone, InGroup, InList, Within, Front, Right, Under, Place, AsOperand, AsTarget, Wanted, Sought, Named, Held, Limits, Phrase, Whole, Target, Accept, and_then, and_more, filled, placed, held, outer_depth, depth_of, place_depth, run, turn, Go, Deep, Long, unary_of, binary_of, want_sign, hold_sign}
 use Rattle.mj_expr.specs.Reads.{HasNoOpen, HasNoBinary}
 use Rattle.mj_expr.proofs.Steps.{named_ends, less_true, open_goes, joined, joined_more, joined_last, whole_done, target_done}
 use Rattle.mj_expr.proofs.Zipper.{Kind, AnExpression, AVariable, Fits, phrase_symbols, start, count-more}

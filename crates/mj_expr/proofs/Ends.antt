@@ -1,15 +1,11 @@
 -- How a run ends.
-use Rattle.std.proofs.Common.{◌≡◌, ℕ, ◌+◌, ◌≤◌, List, [], ◌∷◌, ◌++◌, length, refl, ap, sym, ◌∙◌, subst, append_assoc, append-nil, arith, map, ◌⊎◌, inl, inr}
-use Rattle.mj_ast.specs.declared.sign.Sign.TheVariants.{Comma}
-use Rattle.mj_ast.specs.declared.expr.Scope.{Scope}
-use Rattle.mj_ast.specs.Syntax.{Chain, Value, Var, No}
-use Rattle.mj_ast.specs.Tokens.{Token}
-use Rattle.mj_ast.specs.Expressions.{Symbol, Constant, Name, Overlong, Mark, Other, symbol}
-use Rattle.mj_ast.specs.Lines.{Filler}
-use Rattle.mj_expr.specs.Machine.{Outer, Alone, InGroup, InList, Place, AsOperand, AsTarget, State, Wanted, Sought, Marked, Named, Held, Got, placed, Limits, Next, Go, Stuck, Deep, Long, Phrase, Whole, Target, Outcome, Accept, StuckAt, DeepAt, TooLong, refused, ends, finish, step, run, turn}
-use Rattle.mj_expr.proofs.Zipper.{Kind, HasRead, sofar}
-use Rattle.mj_expr.proofs.Facts.{IsMore, deeper, wider, Facts, LongFacts, filled_outer}
-use Rattle.mj_expr.proofs.States.{step_facts, variable_read}
+use Rattle.std.proofs.Common.{◌≡◌, ℕ, ◌≤◌, List, [], ◌∷◌, ◌++◌, length, refl, ap, sym, ◌∙◌, subst, append_assoc, append-nil, ◌⊎◌, inl, inr}
+use Rattle.mj_ast.specs.Syntax.{Chain, Var, No}
+use Rattle.mj_ast.specs.Expressions.{Symbol, Constant, Name, Overlong, Mark, Other}
+use Rattle.mj_expr.specs.Machine.{Alone, InGroup, InList, State, Wanted, Sought, Marked, Named, Held, Got, placed, Limits, Next, Go, Stuck, Deep, Long, Whole, Target, Outcome, Accept, StuckAt, DeepAt, TooLong, refused, ends, finish, step, run, turn}
+use Rattle.mj_expr.proofs.Zipper.{Kind, HasRead}
+use Rattle.mj_expr.proofs.Facts.{IsMore, deeper, Facts, LongFacts}
+use Rattle.mj_expr.proofs.States.{step_facts}
 
 -- The machine goes from s along ks to e.
 pub record Along (K : Kind) (m : Limits) (s : State) (ks : List Symbol) (e : State) : Type 0 where

@@ -1,20 +1,19 @@
 -- What is known of a step.
-use Rattle.std.proofs.Common.{◌≡◌, ℕ, ◌+◌, ◌≤◌, ◌<◌, List, [], ◌∷◌, ◌++◌, refl, ap, sym, ◌∙◌, subst, IsTrue, Bool, true, false, append_assoc, append-nil, arith, nat_lt, Option, Some, None, map}
+use Rattle.std.proofs.Common.{◌≡◌, ℕ, ◌+◌, ◌≤◌, ◌<◌, List, [], ◌∷◌, ◌++◌, refl, ap, sym, ◌∙◌, Bool, true, false, append_assoc, arith, nat_lt, Option, Some, None, map}
 use Rattle.std.specs.Prelude.{cond, not}
 use Rattle.std.proofs.lemmas.Bool.Decides.{nat_tests}
 use Rattle.mj_ast.specs.declared.sign.Sign.{Sign}
 use Rattle.mj_ast.specs.declared.sign.Sign.TheVariants.{Plus, Minus, Star, Underscore, Equals, Caret, Open, Close, Comma, Colon, Exclamation}
 use Rattle.mj_ast.specs.declared.expr.Scope.{Scope}
-use Rattle.mj_ast.specs.declared.expr.Scope.TheVariants.{Local, Global}
 use Rattle.mj_ast.specs.declared.expr.UnaryOp.{UnaryOp}
 use Rattle.mj_ast.specs.declared.expr.BinaryOp.{BinaryOp}
-use Rattle.mj_ast.specs.Syntax.{Expr, Chain, Tails, Done, Operand, Literal, Value, Unary, Group, Variable, Var, Exprs, No, More}
-use Rattle.mj_ast.specs.Tokens.{Token, Word, Digits}
-use Rattle.mj_ast.specs.Expressions.{Symbol, Constant, Name, Overlong, Mark, Other, symbol, scoped, unary_sign, binary_sign, expr_symbols, operand_symbols, variable_symbols, count, expr_nesting, expr_width, exprs_width, exprs_nesting}
-use Rattle.mj_ast.specs.Lines.{Filler, no_filler, digits_filler, word_filler}
-use Rattle.mj_expr.specs.Machine.{Outer, Alone, InGroup, InList, Within, Front, Right, Under, Place, AsOperand, AsTarget, State, Wanted, Sought, Marked, Named, Held, Got, Limits, Next, Go, Stuck, Deep, Long, Outcome, TooLong, and_then, and_more, filled, placed, held, outer_of, outer_depth, depth_of, place_depth, run, turn, step, opens, unary_of, binary_of, want_sign, want_other, hold_sign, hold_other, comma, close, stray_comma, is_full, is_full_in, after_name, after_caret, on}
-use Rattle.mj_expr.proofs.Steps.{filled_holds, less_true, less_false}
-use Rattle.mj_expr.proofs.Zipper.{Kind, HasRead, IsGood, Good, OuterGood, PlaceGood, good_depth, place_good_depth, filled_read, placed_read, before, outer_before, place_before, sofar, listed, listed-more, list_symbols-more, scoped-append, exprs_nesting-more, exprs_width-more, count-more, list_nesting-more}
+use Rattle.mj_ast.specs.Syntax.{Chain, Tails, Done, Operand, Literal, Unary, Group, Var, Exprs}
+use Rattle.mj_ast.specs.Tokens.{Token}
+use Rattle.mj_ast.specs.Expressions.{Symbol, Constant, Name, Overlong, Mark, Other, symbol, scoped, unary_sign, binary_sign, expr_symbols, count}
+use Rattle.mj_ast.specs.Lines.{Filler, no_filler}
+use Rattle.mj_expr.specs.Machine.{Outer, Alone, InGroup, InList, Within, Front, Right, Under, Place, AsOperand, AsTarget, State, Wanted, Held, Limits, Next, Go, Stuck, Deep, Long, TooLong, and_then, and_more, filled, placed, outer_of, run, turn, step, opens, unary_of, binary_of, hold_sign, hold_other, comma, is_full}
+use Rattle.mj_expr.proofs.Steps.{less_true, less_false}
+use Rattle.mj_expr.proofs.Zipper.{Kind, HasRead, Good, OuterGood, PlaceGood, good_depth, filled_read, placed_read, outer_before, place_before, listed, listed-more, list_symbols-more, scoped-append, exprs_nesting-more, exprs_width-more, count-more, list_nesting-more}
 
 -- ---- limits
 
@@ -131,28 +130,30 @@ pub comma_read : (K : Kind) (m l : Limits) (scope : Scope) (word : List ℕ) (es
     HasRead K m (Held x r (InList scope word es p)) ks → HasRead K l (Wanted (Front (InList scope word (and_more es (Chain x r)) p))) (ks ++ Mark Comma ∷ [])
 comma_read K m l scope word es p x r ks i w h = record {
   good =
-    let g = h.good in
-    ( place_good_more p K m l i g.0.0
-    , omega (arith, g.0.1, i.depth)
-    , omega (arith, exprs_nesting-more es (Chain x r), g.0.2, g.1, i.depth)
-    , omega (arith, exprs_width-more es (Chain x r), g.0.3, g.2, i.width)
-    , omega (arith, count-more es (Chain x r)) );
+      let g = h.good in (
+        place_good_more p K m l i g.0.0,
+        omega (arith, g.0.1, i.depth),
+        omega (arith, exprs_nesting-more es (Chain x r), g.0.2, g.1, i.depth),
+        omega (arith, exprs_width-more es (Chain x r), g.0.3, g.2, i.width),
+        omega (arith, count-more es (Chain x r)),
+      );
   read =
-    ap (λ (zs : List Symbol). place_before p ++ scoped scope (Name word ∷ Mark Open ∷ zs)) (listed-more es (Chain x r))
-    ∙ ap (λ (zs : List Symbol). place_before p ++ scoped scope (Name word ∷ Mark Open ∷ zs)) (sym (append_assoc (listed es) (expr_symbols (Chain x r)) (Mark Comma ∷ [])))
-    ∙ ap (λ (zs : List Symbol). place_before p ++ zs) (sym (scoped-append scope (Name word ∷ Mark Open ∷ (listed es ++ expr_symbols (Chain x r))) (Mark Comma ∷ [])))
-    ∙ sym (append_assoc (place_before p) (scoped scope (Name word ∷ Mark Open ∷ (listed es ++ expr_symbols (Chain x r)))) (Mark Comma ∷ []))
-    ∙ ap (λ (zs : List Symbol). (place_before p ++ zs) ++ Mark Comma ∷ []) (sym (scoped-append scope (Name word ∷ Mark Open ∷ listed es) (expr_symbols (Chain x r))))
-    ∙ ap (λ (zs : List Symbol). zs ++ Mark Comma ∷ []) (sym (append_assoc (place_before p) (scoped scope (Name word ∷ Mark Open ∷ listed es)) (expr_symbols (Chain x r))) ∙ h.read);
+      ap (λ (zs : List Symbol). place_before p ++ scoped scope (Name word ∷ Mark Open ∷ zs)) (listed-more es (Chain x r))
+      ∙ ap (λ (zs : List Symbol). place_before p ++ scoped scope (Name word ∷ Mark Open ∷ zs)) (sym (append_assoc (listed es) (expr_symbols (Chain x r)) (Mark Comma ∷ [])))
+      ∙ ap (λ (zs : List Symbol). place_before p ++ zs) (sym (scoped-append scope (Name word ∷ Mark Open ∷ (listed es ++ expr_symbols (Chain x r))) (Mark Comma ∷ [])))
+      ∙ sym (append_assoc (place_before p) (scoped scope (Name word ∷ Mark Open ∷ (listed es ++ expr_symbols (Chain x r)))) (Mark Comma ∷ []))
+      ∙ ap (λ (zs : List Symbol). (place_before p ++ zs) ++ Mark Comma ∷ []) (sym (scoped-append scope (Name word ∷ Mark Open ∷ listed es) (expr_symbols (Chain x r))))
+      ∙ ap (λ (zs : List Symbol). zs ++ Mark Comma ∷ []) (sym (append_assoc (place_before p) (scoped scope (Name word ∷ Mark Open ∷ listed es)) (expr_symbols (Chain x r))) ∙ h.read);
 }
 
 comma_as : (K : Kind) (m : Limits) (scope : Scope) (word : List ℕ) (es : Exprs) (p : Place) (x : Operand) (r : Tails) (b : Bool) → nat_lt (count es + 1) m.width ≡ b →
     Facts K m (HasRead K m (Held x r (InList scope word es p))) (HeldLong K m (HasRead K m (Held x r (InList scope word es p))) (λ l. comma l (Chain x r) (InList scope word es p)) (Mark Comma))
-      (λ l. comma l (Chain x r) (InList scope word es p)) (Mark Comma) (cond b (Go (Wanted (Front (InList scope word (and_more es (Chain x r)) p)))) Long)
+    (λ l. comma l (Chain x r) (InList scope word es p)) (Mark Comma) (cond b (Go (Wanted (Front (InList scope word (and_more es (Chain x r)) p)))) Long)
 comma_as K m scope word es p x r true e =
-    let n : count es + 1 < m.width = grind (arith, nat_tests) in
-    ( λ ks h. comma_read K m m scope word es p x r ks (record { depth = omega arith; width = omega arith }) (omega arith) h
-    , λ l i. ap (λ (b : Bool). cond b (Go (Wanted (Front (InList scope word (and_more es (Chain x r)) p)))) Long) (less_true (count es + 1) l.width (omega (arith, i.width))) )
+    let n : count es + 1 < m.width = grind (arith, nat_tests) in (
+      λ ks h. comma_read K m m scope word es p x r ks (record { depth = omega arith; width = omega arith }) (omega arith) h,
+      λ l i. ap (λ (b : Bool). cond b (Go (Wanted (Front (InList scope word (and_more es (Chain x r)) p)))) Long) (less_true (count es + 1) l.width (omega (arith, i.width))),
+    )
 comma_as K m scope word es p x r false e =
     let n : m.width ≤ count es + 1 = grind (arith, nat_tests) in
     record {
@@ -171,21 +172,21 @@ comma_facts K m x r (InList scope word es p) = comma_as K m scope word es p x r 
 group_closed : (K : Kind) (m : Limits) (c : Within) (x : Operand) (r : Tails) (ks : List Symbol) → HasRead K m (Held x r (InGroup c)) ks → HasRead K m (filled (Group (Chain x r)) c) (ks ++ Mark Close ∷ [])
 group_closed K m c x r ks h =
     filled_read c K m (Group (Chain x r)) _ h.good.0.0 (let n = h.good.1 in omega arith) h.good.2
-      (sym (simp append_assoc) ∙ ap (λ (zs : List Symbol). zs ++ Mark Close ∷ []) h.read)
+    (sym (simp append_assoc) ∙ ap (λ (zs : List Symbol). zs ++ Mark Close ∷ []) h.read)
 
 list_closed : (K : Kind) (m : Limits) (scope : Scope) (word : List ℕ) (es : Exprs) (p : Place) (x : Operand) (r : Tails) (ks : List Symbol) → HasRead K m (Held x r (InList scope word es p)) ks →
     HasRead K m (placed (Var scope word (and_more es (Chain x r))) p) (ks ++ Mark Close ∷ [])
 list_closed K m scope word es p x r ks h =
     let g = h.good in
     placed_read p K m (Var scope word (and_more es (Chain x r))) _ g.0.0
-      (omega (arith, list_nesting-more es (Chain x r), g.0.2, g.1))
-      (omega (arith, exprs_width-more es (Chain x r), count-more es (Chain x r), g.0.3, g.0.4, g.2))
-      ( ap (λ (zs : List Symbol). place_before p ++ scoped scope (Name word ∷ zs)) (list_symbols-more es (Chain x r))
-        ∙ ap (λ (zs : List Symbol). place_before p ++ scoped scope (Name word ∷ Mark Open ∷ zs)) (sym (append_assoc (listed es) (expr_symbols (Chain x r)) (Mark Close ∷ [])))
-        ∙ ap (λ (zs : List Symbol). place_before p ++ zs) (sym (scoped-append scope (Name word ∷ Mark Open ∷ (listed es ++ expr_symbols (Chain x r))) (Mark Close ∷ [])))
-        ∙ sym (append_assoc (place_before p) (scoped scope (Name word ∷ Mark Open ∷ (listed es ++ expr_symbols (Chain x r)))) (Mark Close ∷ []))
-        ∙ ap (λ (zs : List Symbol). (place_before p ++ zs) ++ Mark Close ∷ []) (sym (scoped-append scope (Name word ∷ Mark Open ∷ listed es) (expr_symbols (Chain x r))))
-        ∙ ap (λ (zs : List Symbol). zs ++ Mark Close ∷ []) (sym (append_assoc (place_before p) (scoped scope (Name word ∷ Mark Open ∷ listed es)) (expr_symbols (Chain x r))) ∙ h.read) )
+    (omega (arith, list_nesting-more es (Chain x r), g.0.2, g.1))
+    (omega (arith, exprs_width-more es (Chain x r), count-more es (Chain x r), g.0.3, g.0.4, g.2))
+    (ap (λ (zs : List Symbol). place_before p ++ scoped scope (Name word ∷ zs)) (list_symbols-more es (Chain x r))
+    ∙ ap (λ (zs : List Symbol). place_before p ++ scoped scope (Name word ∷ Mark Open ∷ zs)) (sym (append_assoc (listed es) (expr_symbols (Chain x r)) (Mark Close ∷ [])))
+    ∙ ap (λ (zs : List Symbol). place_before p ++ zs) (sym (scoped-append scope (Name word ∷ Mark Open ∷ (listed es ++ expr_symbols (Chain x r))) (Mark Close ∷ [])))
+    ∙ sym (append_assoc (place_before p) (scoped scope (Name word ∷ Mark Open ∷ (listed es ++ expr_symbols (Chain x r)))) (Mark Close ∷ []))
+    ∙ ap (λ (zs : List Symbol). (place_before p ++ zs) ++ Mark Close ∷ []) (sym (scoped-append scope (Name word ∷ Mark Open ∷ listed es) (expr_symbols (Chain x r))))
+    ∙ ap (λ (zs : List Symbol). zs ++ Mark Close ∷ []) (sym (append_assoc (place_before p) (scoped scope (Name word ∷ Mark Open ∷ listed es)) (expr_symbols (Chain x r))) ∙ h.read))
 
 abbrev HeldL : Kind → Limits → Operand → Tails → Outer → Sign → (Limits → Next) → Type 0
 HeldL K m x r o s at = HeldLong K m (HasRead K m (Held x r o)) at (Mark s)
@@ -212,11 +213,12 @@ joined_facts K m x r o s (Some op) e = (
   λ ks h. record {
     good = h.good;
     read =
-      sym (append_assoc (outer_before o) (expr_symbols (Chain x r)) (Mark (binary_sign op) ∷ []))
-      ∙ ap (λ (zs : List Symbol). zs ++ Mark (binary_sign op) ∷ []) h.read
-      ∙ ap (λ (z : Sign). ks ++ Mark z ∷ []) (sym (binary_back s op e));
+        sym (append_assoc (outer_before o) (expr_symbols (Chain x r)) (Mark (binary_sign op) ∷ []))
+        ∙ ap (λ (zs : List Symbol). zs ++ Mark (binary_sign op) ∷ []) h.read
+        ∙ ap (λ (z : Sign). ks ++ Mark z ∷ []) (sym (binary_back s op e));
   },
-  λ l i. refl)
+  λ l i. refl,
+)
 joined_facts K m x r o s None e = other_facts K m x r o s
 
 pub held_facts : (K : Kind) (m : Limits) (x : Operand) (r : Tails) (o : Outer) (k : Symbol) →
@@ -245,12 +247,15 @@ pub from_held : (K : Kind) (m : Limits) (R : List Symbol → Type 0) (t : State)
     Facts K m R (LongFacts K m R t k) (λ l. step l (Held x r o) k) k (step m (Held x r o) k)
 from_held K m R t x r o k g same =
     weaken K m (HasRead K m (Held x r o)) R (HeldLong K m (HasRead K m (Held x r o)) (λ l. step l (Held x r o) k) k) (LongFacts K m R t k) (λ l. step l (Held x r o) k) k (step m (Held x r o) k) g
-      (λ h. record {
-        comma = h.comma; filler = []; fills = no_filler; over = h.over;
-        opened = λ ks q. h.opened ks (g ks q);
-        local = λ l y d w. long_as l y t k _ (same l) (h.stays l w);
-      })
-      (held_facts K m x r o k)
+    (λ h. record {
+      comma = h.comma;
+      filler = [];
+      fills = no_filler;
+      over = h.over;
+      opened = λ ks q. h.opened ks (g ks q);
+      local = λ l y d w. long_as l y t k _ (same l) (h.stays l w);
+    })
+    (held_facts K m x r o k)
 
 -- ---- where an operand is wanted
 

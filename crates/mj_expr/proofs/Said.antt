@@ -1,25 +1,29 @@
 -- What a run says of the tokens, in the grammar's words.
-use Rattle.std.proofs.Common.{◌≡◌, ℕ, ◌+◌, ◌-◌, ◌≤◌, ◌<◌, max, List, [], ◌∷◌, ◌++◌, length, drop, refl, ap, sym, ◌∙◌, subst, append_assoc, append-nil, arith, map, ◌⊎◌, inl, inr, nat_le, Bool, true, false, length-append}
+use Rattle.std.proofs.Common.{◌≡◌, ℕ, ◌-◌, ◌≤◌, ◌<◌, max, List, [], ◌∷◌, ◌++◌, length, take, drop, refl, ap, sym, ◌∙◌, subst, append_assoc, append-nil, arith, map, ◌⊎◌, inl, inr, nat_le, Bool, true, false, length-append}
 use Rattle.std.specs.Prelude.{cond, Result, Ok, Err, ℤ}
-use Rattle.std.proofs.Math.Seq.{drop-append_seam}
-use Rattle.std.proofs.lemmas.List.{map-append, length-map}
+use Rattle.std.proofs.Math.Seq.{drop-append_seam, take-length}
+use Rattle.std.specs.Result.{IfErr, IsErrAnd}
+use Rattle.std.proofs.lemmas.List.{map-append, length-map, length-drop, drop-map}
 use Rattle.std.proofs.lemmas.Bool.Decides.{nat_tests}
 use Rattle.mj_num.specs.Number.{reading}
 use Rattle.mj_text.specs.declared.fault.Fault.{Fault}
 use Rattle.mj_ast.specs.declared.sign.Sign.{Sign}
 use Rattle.mj_ast.specs.declared.sign.Sign.TheVariants.{Comma}
-use Rattle.mj_ast.specs.declared.expr.Scope.{Scope}
 use Rattle.mj_ast.specs.Syntax.{Chain, Var, No}
 use Rattle.mj_ast.specs.Tokens.{Token, Word, Digits, Quoted, Signed, Blank, Comment, Unclosed, Stray}
-use Rattle.mj_ast.specs.Expressions.{Symbol, Constant, Name, Overlong, Mark, Other, symbol, constant_of, name_limit, text_limit, width_limit, Phrases, Spells, IsWithin, Begins, BeginsWithin}
-use Rattle.mj_expr.specs.Machine.{Alone, InGroup, InList, Place, AsOperand, AsTarget, State, Wanted, Sought, Marked, Named, Held, Got, placed, Limits, Next, Stuck, Deep, Phrase, Whole, Target, Outcome, Accept, StuckAt, DeepAt, TooLong, refused, ends, finish, step, run, turn}
-use Rattle.mj_expr.specs.Phrases.{IsRead, IsStuck, IsDeep, IsLastComma, IsLongWord, IsOverlong, IsLong}
-use Rattle.mj_expr.specs.Reads.{limits}
-use Rattle.mj_expr.proofs.Zipper.{Kind, AnExpression, AVariable, Fits, HasRead, phrase_symbols, phrase_nesting, phrase_width, start}
+use Rattle.mj_ast.specs.Expressions.{Symbol, Constant, Name, Overlong, Mark, Other, symbol, constant_of, text_limit, width_limit, Phrases, Spells, Begins, BeginsWithin}
+use Rattle.mj_expr.specs.Machine.{Alone, InGroup, InList, State, Wanted, Sought, Marked, Named, Held, Got, placed, Limits, Stuck, Phrase, Whole, Target, Outcome, Accept, StuckAt, DeepAt, TooLong, refused, ends, finish, step, run, turn}
+use Rattle.mj_expr.specs.Phrases.{IsRead, IsStuck, IsDeep, IsOverlong, IsLong, IsRefused}
+use Rattle.mj_expr.specs.Reads.{limits, symbols_seen, Refuses}
+use Rattle.mj_expr.specs.declared.stop.Stop.{Stop}
+use Rattle.mj_expr.specs.declared.stop.Stop.TheVariants as stop
+use Rattle.mj_lex.specs.Seen.{token_seen, tokens_seen}
+use Rattle.mj_lex.specs.declared.token.Lexeme.{Lexeme}
+use Rattle.mj_expr.proofs.Zipper.{Kind, AnExpression, AVariable, HasRead, phrase_symbols, phrase_nesting, phrase_width, start}
 use Rattle.mj_expr.proofs.Complete.{Ceases, complete_phrase}
 use Rattle.mj_expr.proofs.Facts.{IsMore, deeper, wider}
 use Rattle.mj_expr.proofs.Ends.{Stops, Halts, EndsDeep, EndsLong, EndsAs, run_ends}
-use Rattle.mj_expr.proofs.Told.{Split, split, GoesOn, read_goes, start_read, accepts, accept_rest, accept_phrase, cons_nil, head_same, tail_same, Wraps}
+use Rattle.mj_expr.proofs.Told.{split, read_goes, start_read, accepts, accept_phrase, cons_nil, head_same, tail_same, Wraps}
 
 ceases_none : (K : Kind) → Ceases K []
 ceases_none AnExpression = (tt, tt)
@@ -182,7 +186,7 @@ module _ {T : Type 0} (K : Kind) (P : Phrases T) (W : Wraps K P) where
       let rest = map symbol b.rest in
       let whole : run l (h.front ++ symbol k ∷ rest) (start K) ≡ Accept (W.wrap b.tree) [] = accepted l (h.front ++ symbol k ∷ rest) b.tree (sym (spelled_at front k b.rest h.front e) ∙ b.spells) (omega arith) (omega arith) in
       let there : run l (h.front ++ symbol k ∷ rest) (start K) ≡ finish h.end (symbol k ∷ rest) =
-          h.along.runs l (symbol k ∷ rest) (more_bigger m b.tree) ∙ ap (turn l rest h.end (symbol k)) (stops_at m h.back h.end (symbol k) y f h.stops l (more_bigger m b.tree)) in
+      h.along.runs l (symbol k ∷ rest) (more_bigger m b.tree) ∙ ap (turn l rest h.end (symbol k)) (stops_at m h.back h.end (symbol k) y f h.stops l (more_bigger m b.tree)) in
       let a = accepts K m h.end (symbol k ∷ rest) (W.wrap b.tree) [] h.front (h.along.reads [] (start_read K m)) (sym there ∙ whole) in
       cons_nil (symbol k) rest a.rest
 
@@ -210,14 +214,14 @@ module _ {T : Type 0} (K : Kind) (P : Phrases T) (W : Wraps K P) where
       let spells : Spells P s.front t = s.first ∙ sym a.spelled ∙ W.symbols t in
       let R : List Token → Type 0 = λ rest. IsRead P d ks t rest in
       subst R (sym (drop_back s.front s.back ks (length r) s.cut (sym (length-map s.back symbol) ∙ ap length (s.last ∙ a.rest))))
-        (record {
-          front = s.front;
-          cut = s.cut;
-          spells = spells;
-          within = record { nests = omega (arith, a.fits.nests, W.nesting t); lists = omega (arith, a.fits.lists, W.width t) };
-          only = λ u f. same_tree s.front t u spells f;
-          ends = λ k more f b. halts_none (limits d) (map symbol ks) (Accept (W.wrap t) r) h s.front k (map symbol more) s.first (sym s.last ∙ ap (λ (v : List Token). map symbol v) f) b;
-        })
+      (record {
+        front = s.front;
+        cut = s.cut;
+        spells = spells;
+        within = record { nests = omega (arith, a.fits.nests, W.nesting t); lists = omega (arith, a.fits.lists, W.width t) };
+        only = λ u f. same_tree s.front t u spells f;
+        ends = λ k more f b. halts_none (limits d) (map symbol ks) (Accept (W.wrap t) r) h s.front k (map symbol more) s.first (sym s.last ∙ ap (λ (v : List Token). map symbol v) f) b;
+      })
 
   -- STUCK
   pub said_stuck : (d : ℕ) (ks : List Token) (n : ℕ) → run (limits d) (map symbol ks) (start K) ≡ StuckAt n → IsStuck P d ks n
@@ -251,16 +255,16 @@ module _ {T : Type 0} (K : Kind) (P : Phrases T) (W : Wraps K P) where
         place = sym (length-map (c.token ∷ c.more) symbol) ∙ ap (λ (v : List Symbol). length (symbol c.token ∷ v)) c.tail ∙ ap (λ (v : Symbol). length (v ∷ h.back)) c.head ∙ h.left;
         before = begun (limits d) s.front h.end h.front s.first read;
         at = begun (deeper (limits d)) (s.front ++ c.token ∷ []) h.over (h.front ++ h.token ∷ [])
-          (map-append symbol s.front (c.token ∷ []) ∙ ap (λ (v : List Symbol). v ++ symbol c.token ∷ []) s.first ∙ ap (λ (v : Symbol). h.front ++ v ∷ []) c.head) (h.opened h.front read);
+            (map-append symbol s.front (c.token ∷ []) ∙ ap (λ (v : List Symbol). v ++ symbol c.token ∷ []) s.first ∙ ap (λ (v : Symbol). h.front ++ v ∷ []) c.head) (h.opened h.front read);
         beyond = λ b.
-          let rest = map symbol b.rest in
-          let whole : run (limits d) (h.front ++ symbol c.token ∷ rest) (start K) ≡ Accept (W.wrap b.tree) [] = accepted (limits d) (h.front ++ symbol c.token ∷ rest) b.tree (sym (spelled_at s.front c.token b.rest h.front s.first) ∙ b.spells) b.within.nests b.within.lists in
-          let there : run (limits d) (h.front ++ symbol c.token ∷ rest) (start K) ≡ DeepAt (length (symbol c.token ∷ rest)) =
-              h.along.runs (limits d) (symbol c.token ∷ rest) (record { depth = omega arith; width = omega arith })
-              ∙ ap (λ (v : Symbol). run (limits d) (v ∷ rest) h.end) c.head
-              ∙ ap (turn (limits d) rest h.end h.token) h.steps in
-          let clash : Accept (W.wrap b.tree) [] ≡ DeepAt (length (symbol c.token ∷ rest)) = sym whole ∙ there in
-          cc;
+            let rest = map symbol b.rest in
+            let whole : run (limits d) (h.front ++ symbol c.token ∷ rest) (start K) ≡ Accept (W.wrap b.tree) [] = accepted (limits d) (h.front ++ symbol c.token ∷ rest) b.tree (sym (spelled_at s.front c.token b.rest h.front s.first) ∙ b.spells) b.within.nests b.within.lists in
+            let there : run (limits d) (h.front ++ symbol c.token ∷ rest) (start K) ≡ DeepAt (length (symbol c.token ∷ rest)) =
+            h.along.runs (limits d) (symbol c.token ∷ rest) (record { depth = omega arith; width = omega arith })
+            ∙ ap (λ (v : Symbol). run (limits d) (v ∷ rest) h.end) c.head
+            ∙ ap (turn (limits d) rest h.end h.token) h.steps in
+            let clash : Accept (W.wrap b.tree) [] ≡ DeepAt (length (symbol c.token ∷ rest)) = sym whole ∙ there in
+            cc;
       }
 
   -- LONG
@@ -294,10 +298,10 @@ module _ {T : Type 0} (K : Kind) (P : Phrases T) (W : Wraps K P) where
       let O : Token → Type 0 = λ k. IsOverlong P s.front k in
       let fill = h.long.filler in
       let opened = begun (wider (limits d)) (s.front ++ (fill ++ Signed Comma ∷ [])) h.long.over (h.front ++ (map symbol fill ++ h.token ∷ []))
-            ( map-append symbol s.front (fill ++ Signed Comma ∷ [])
-              ∙ ap (λ (v : List Symbol). v ++ map symbol (fill ++ Signed Comma ∷ [])) s.first
-              ∙ ap (λ (v : List Symbol). h.front ++ v) (map-append symbol fill (Signed Comma ∷ []) ∙ ap (λ (v : Symbol). map symbol fill ++ v ∷ []) (sym h.long.comma)) )
-            (h.long.opened h.front read) in
+      (map-append symbol s.front (fill ++ Signed Comma ∷ [])
+      ∙ ap (λ (v : List Symbol). v ++ map symbol (fill ++ Signed Comma ∷ [])) s.first
+      ∙ ap (λ (v : List Symbol). h.front ++ v) (map-append symbol fill (Signed Comma ∷ []) ∙ ap (λ (v : Symbol). map symbol fill ++ v ∷ []) (sym h.long.comma)))
+      (h.long.opened h.front read) in
       record {
         front = s.front;
         token = c.token;
@@ -309,21 +313,21 @@ module _ {T : Type 0} (K : Kind) (P : Phrases T) (W : Wraps K P) where
           fills = h.long.fills;
           begins = record { rest = opened.rest; tree = opened.tree; spells = opened.spells };
           too_long = λ depth b.
-            let l : Limits = record { depth = max d depth; width = width_limit } in
-            let rest = map symbol b.rest in
-            let zs = h.front ++ (map symbol fill ++ Mark Comma ∷ rest) in
-            let same : map symbol ((s.front ++ (fill ++ Signed Comma ∷ [])) ++ b.rest) ≡ zs =
-                ap (λ (v : List Token). map symbol v) (append_assoc s.front (fill ++ Signed Comma ∷ []) b.rest ∙ ap (λ (v : List Token). s.front ++ v) (append_assoc fill (Signed Comma ∷ []) b.rest))
-                ∙ map-append symbol s.front (fill ++ Signed Comma ∷ b.rest)
-                ∙ ap (λ (v : List Symbol). v ++ map symbol (fill ++ Signed Comma ∷ b.rest)) s.first
-                ∙ ap (λ (v : List Symbol). h.front ++ v) (map-append symbol fill (Signed Comma ∷ b.rest)) in
-            let whole : run l zs (start K) ≡ Accept (W.wrap b.tree) [] = accepted l zs b.tree (sym same ∙ b.spells) (omega (arith, b.within.nests)) b.within.lists in
-            let there : run l zs (start K) ≡ TooLong =
-                h.along.runs l (map symbol fill ++ Mark Comma ∷ rest) (record { depth = omega arith; width = omega arith })
-                ∙ ap (λ (v : Symbol). run l (map symbol fill ++ v ∷ rest) h.end) (sym h.long.comma)
-                ∙ h.long.local l rest (omega arith) refl in
-            let clash : Accept (W.wrap b.tree) [] ≡ TooLong = sym whole ∙ there in
-            cc;
+              let l : Limits = record { depth = max d depth; width = width_limit } in
+              let rest = map symbol b.rest in
+              let zs = h.front ++ (map symbol fill ++ Mark Comma ∷ rest) in
+              let same : map symbol ((s.front ++ (fill ++ Signed Comma ∷ [])) ++ b.rest) ≡ zs =
+              ap (λ (v : List Token). map symbol v) (append_assoc s.front (fill ++ Signed Comma ∷ []) b.rest ∙ ap (λ (v : List Token). s.front ++ v) (append_assoc fill (Signed Comma ∷ []) b.rest))
+              ∙ map-append symbol s.front (fill ++ Signed Comma ∷ b.rest)
+              ∙ ap (λ (v : List Symbol). v ++ map symbol (fill ++ Signed Comma ∷ b.rest)) s.first
+              ∙ ap (λ (v : List Symbol). h.front ++ v) (map-append symbol fill (Signed Comma ∷ b.rest)) in
+              let whole : run l zs (start K) ≡ Accept (W.wrap b.tree) [] = accepted l zs b.tree (sym same ∙ b.spells) (omega (arith, b.within.nests)) b.within.lists in
+              let there : run l zs (start K) ≡ TooLong =
+              h.along.runs l (map symbol fill ++ Mark Comma ∷ rest) (record { depth = omega arith; width = omega arith })
+              ∙ ap (λ (v : Symbol). run l (map symbol fill ++ v ∷ rest) h.end) (sym h.long.comma)
+              ∙ h.long.local l rest (omega arith) refl in
+              let clash : Accept (W.wrap b.tree) [] ≡ TooLong = sym whole ∙ there in
+              cc;
         });
       }
 
@@ -335,3 +339,43 @@ module _ {T : Type 0} (K : Kind) (P : Phrases T) (W : Wraps K P) where
   said_long d ks e =
       let Q : Outcome → Type 0 = λ o. EndsAs K (limits d) (start K) (map symbol ks) o in
       long_as d ks (subst Q e (run_ends (map symbol ks) K (limits d) (start K) (omega arith)))
+
+  -- what is left
+  pub said_rest : (d : ℕ) (ks : List Token) (p : Phrase) (r : List Symbol) → run (limits d) (map symbol ks) (start K) ≡ Accept p r → map symbol (drop (length ks - length r) ks) ≡ r
+  said_rest d ks p r e =
+      let Q : Outcome → Type 0 = λ o. EndsAs K (limits d) (start K) (map symbol ks) o in
+      let h : Halts K (limits d) (start K) (map symbol ks) (Accept p r) = subst Q e (run_ends (map symbol ks) K (limits d) (start K) (omega arith)) in
+      let s = split h.front ks h.back h.cut in
+      let a = accepts K (limits d) h.end h.back p r h.front (h.along.reads [] (start_read K (limits d))) h.gives in
+      ap (λ (v : List Token). map symbol v) (drop_back s.front s.back ks (length r) s.cut (sym (length-map s.back symbol) ∙ ap length (s.last ∙ a.rest))) ∙ s.last ∙ a.rest
+
+  -- what a refusal says
+  pub said_refused : (d : ℕ) (ks : List Token) (x : Stop) → Refuses x (run (limits d) (map symbol ks) (start K)) → IsRefused P d ks x
+  said_refused d ks stop.Memory e = tt
+  said_refused d ks (stop.Stuck n) e = said_stuck d ks n e
+  said_refused d ks (stop.Deep n) e = said_deep d ks n e
+  said_refused d ks stop.Long e = said_long d ks e
+
+  pub refused_as : {X : Type 0} (d : ℕ) (ks : List Token) (r : Result X Stop) (x : Stop) → IsErrAnd r (λ e. e ≡ x) → Refuses x (run (limits d) (map symbol ks) (start K)) → IfErr r (λ e. IsRefused P d ks e)
+  refused_as d ks (Ok y) x e h = tt
+  refused_as d ks (Err y) x e h = let Q : Stop → Type 0 = λ v. IsRefused P d ks v in subst Q (sym e) (said_refused d ks x h)
+
+-- ---- the tokens that the program keeps
+
+-- the end of the tokens, as long as the rest
+abbrev pub end_of : List Lexeme → List Lexeme → List Lexeme
+end_of ls rest = let n = length ls - length rest in take (length ls - n) (drop n ls)
+
+pub tokens_end : (ls rest : List Lexeme) → tokens_seen (end_of ls rest) ≡ drop (length (tokens_seen ls) - length (symbols_seen rest)) (tokens_seen ls)
+tokens_end ls rest =
+    let n = length ls - length rest in
+    let all : take (length ls - n) (drop n ls) ≡ drop n ls = ap (λ (i : ℕ). take i (drop n ls)) (sym (length-drop n ls)) ∙ take-length (drop n ls) in
+    let same : length (tokens_seen ls) - length (symbols_seen rest) ≡ n = omega (arith, length-map ls (λ l. token_seen l.token), length-map rest (λ l. token_seen l.token), length-map (tokens_seen rest) symbol) in
+    ap tokens_seen all ∙ sym (drop-map (λ l. token_seen l.token) n ls) ∙ ap (λ (i : ℕ). drop i (tokens_seen ls)) (sym same)
+
+pub read_end : {T : Type 0} (K : Kind) (P : Phrases T) (W : Wraps K P) (d : ℕ) (ls rest : List Lexeme) (t : T) → run (limits d) (symbols_seen ls) (start K) ≡ Accept (W.wrap t) (symbols_seen rest) → IsRead P d (tokens_seen ls) t (tokens_seen (end_of ls rest))
+read_end K P W d ls rest t e = let Q : List Token → Type 0 = λ v. IsRead P d (tokens_seen ls) t v in subst Q (sym (tokens_end ls rest)) (said_read K P W d (tokens_seen ls) t (symbols_seen rest) e)
+
+pub runs_end : {T : Type 0} (K : Kind) (P : Phrases T) (W : Wraps K P) (d : ℕ) (ls rest : List Lexeme) (p : Phrase) → run (limits d) (symbols_seen ls) (start K) ≡ Accept p (symbols_seen rest) → run (limits d) (symbols_seen ls) (start K) ≡ Accept p (symbols_seen (end_of ls rest))
+runs_end K P W d ls rest p e =
+    e ∙ ap (λ (v : List Symbol). Accept p v) (sym (said_rest K P W d (tokens_seen ls) p (symbols_seen rest) e) ∙ ap (λ (v : List Token). map symbol v) (sym (tokens_end ls rest)))

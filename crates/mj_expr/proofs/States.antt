@@ -1,17 +1,17 @@
 -- What is known of a step, from each state.
-use Rattle.std.proofs.Common.{◌≡◌, ℕ, ◌+◌, ◌≤◌, ◌<◌, List, [], ◌∷◌, ◌++◌, refl, ap, sym, ◌∙◌, subst, Bool, true, false, append_assoc, arith, Option, Some, None, map}
+use Rattle.std.proofs.Common.{◌≡◌, ℕ, ◌+◌, ◌≤◌, List, [], ◌∷◌, ◌++◌, refl, ap, sym, ◌∙◌, subst, Bool, true, false, append_assoc, arith, Option, Some, None}
 use Rattle.std.specs.Prelude.{cond, pos}
 use Rattle.mj_num.specs.Number.{canonic_text}
 use Rattle.mj_ast.specs.declared.sign.Sign.{Sign}
 use Rattle.mj_ast.specs.declared.sign.Sign.TheVariants.{Plus, Minus, Star, Underscore, Equals, Caret, Open, Close, Comma, Colon, Exclamation}
 use Rattle.mj_ast.specs.declared.expr.Scope.{Scope}
-use Rattle.mj_ast.specs.declared.expr.Scope.TheVariants.{Local, Global}
+use Rattle.mj_ast.specs.declared.expr.Scope.TheVariants.{Global}
 use Rattle.mj_ast.specs.declared.expr.UnaryOp.{UnaryOp}
 use Rattle.mj_ast.specs.Syntax.{Operand, Literal, Value, Tails, Variable, Var, No}
-use Rattle.mj_ast.specs.Tokens.{Token, Word, Digits}
-use Rattle.mj_ast.specs.Expressions.{Symbol, Constant, Name, Overlong, Mark, Other, symbol, scoped, unary_sign}
+use Rattle.mj_ast.specs.Tokens.{Word, Digits}
+use Rattle.mj_ast.specs.Expressions.{Symbol, Constant, Name, Overlong, Mark, Other, scoped}
 use Rattle.mj_ast.specs.Lines.{digits_filler, word_filler}
-use Rattle.mj_expr.specs.Machine.{Outer, InGroup, InList, Within, Front, Under, Place, AsOperand, AsTarget, State, Wanted, Sought, Marked, Named, Held, Got, Limits, Next, Go, Stuck, Deep, Long, TooLong, filled, placed, outer_of, depth_of, place_depth, run, turn, step, unary_of, want_sign, want_other, stray_comma, is_full, on}
+use Rattle.mj_expr.specs.Machine.{InGroup, InList, Within, Front, Under, Place, AsOperand, AsTarget, State, Wanted, Sought, Marked, Named, Held, Got, Limits, Next, Go, Stuck, Deep, Long, TooLong, filled, placed, outer_of, depth_of, place_depth, run, step, unary_of, want_sign, want_other, stray_comma, is_full, on}
 use Rattle.mj_expr.proofs.Zipper.{Kind, HasRead, Good, good_depth, place_good_depth, placed_read, before, place_before, scoped-append}
 use Rattle.mj_expr.proofs.Facts.{IsMore, deeper, wider, more_deeper, good_more, place_good_more, unary_back, Facts, LongFacts, opens_facts, from_held, filled_outer, constant_read, full_same, room_stays, full_comma, full_opened}
 
@@ -35,9 +35,9 @@ stray_long K m c e =
       fills = digits_filler;
       over = o.0;
       opened = λ ks h.
-        let r : HasRead K m (Held f.0 f.1 (outer_of c)) (ks ++ Constant zero_text ∷ []) = let P : State → Type 0 = λ s. HasRead K m s (ks ++ Constant zero_text ∷ []) in subst P f.2 (constant_read K m c zero_text ks h) in
-        let Q : List Symbol → Type 0 = λ zs. HasRead K (wider m) o.0 zs in
-        subst Q (append_assoc ks (Constant zero_text ∷ []) (Mark Comma ∷ [])) (o.1 (ks ++ Constant zero_text ∷ []) r);
+          let r : HasRead K m (Held f.0 f.1 (outer_of c)) (ks ++ Constant zero_text ∷ []) = let P : State → Type 0 = λ s. HasRead K m s (ks ++ Constant zero_text ∷ []) in subst P f.2 (constant_read K m c zero_text ks h) in
+          let Q : List Symbol → Type 0 = λ zs. HasRead K (wider m) o.0 zs in
+          subst Q (append_assoc ks (Constant zero_text ∷ []) (Mark Comma ∷ [])) (o.1 (ks ++ Constant zero_text ∷ []) r);
       local = λ l y d w. ap (λ (s : State). run l (Mark Comma ∷ y) s) f.2 ∙ full_comma l y f.0 f.1 (outer_of c) (full_same m l (outer_of c) w ∙ e);
     }
 
@@ -54,8 +54,8 @@ want_other_facts : (K : Kind) (m : Limits) (c : Within) (s : Sign) →
 want_other_facts K m c Caret = (λ ks h. record { good = h.good; read = ap (λ (zs : List Symbol). zs ++ Mark Caret ∷ []) h.read }, λ l i. refl)
 want_other_facts K m c Open =
     opens_facts K m (HasRead K m (Wanted c)) (LongFacts K m (HasRead K m (Wanted c)) (Wanted c) (Mark Open)) (Mark Open) (depth_of c) (Wanted (Front (InGroup c)))
-      (λ d ks h. frame_read K m m c (Front (InGroup c)) Open ks refl (h.good, omega arith) h)
-      (λ ks h. frame_read K m (deeper m) c (Front (InGroup c)) Open ks refl (good_more c K m (deeper m) (more_deeper m) h.good, omega (arith, good_depth K m c h.good)) h)
+    (λ d ks h. frame_read K m m c (Front (InGroup c)) Open ks refl (h.good, omega arith) h)
+    (λ ks h. frame_read K m (deeper m) c (Front (InGroup c)) Open ks refl (good_more c K m (deeper m) (more_deeper m) h.good, omega (arith, good_depth K m c h.good)) h)
 want_other_facts K m c Comma = stray_as K m c (is_full m (outer_of c)) refl
 want_other_facts K m c Plus = λ l i. refl
 want_other_facts K m c Minus = λ l i. refl
@@ -71,8 +71,8 @@ want_sign_facts : (K : Kind) (m : Limits) (c : Within) (s : Sign) (q : Option Un
 want_sign_facts K m c s (Some op) e =
     let same : before (Under op c) ≡ before c ++ Mark s ∷ [] = ap (λ (z : Sign). before c ++ Mark z ∷ []) (sym (unary_back s op e)) in
     opens_facts K m (HasRead K m (Wanted c)) (LongFacts K m (HasRead K m (Wanted c)) (Wanted c) (Mark s)) (Mark s) (depth_of c) (Wanted (Under op c))
-      (λ d ks h. frame_read K m m c (Under op c) s ks same (h.good, omega arith) h)
-      (λ ks h. frame_read K m (deeper m) c (Under op c) s ks same (good_more c K m (deeper m) (more_deeper m) h.good, omega (arith, good_depth K m c h.good)) h)
+    (λ d ks h. frame_read K m m c (Under op c) s ks same (h.good, omega arith) h)
+    (λ ks h. frame_read K m (deeper m) c (Under op c) s ks same (good_more c K m (deeper m) (more_deeper m) h.good, omega (arith, good_depth K m c h.good)) h)
 want_sign_facts K m c s None e = want_other_facts K m c s
 
 want_facts : (K : Kind) (m : Limits) (c : Within) (k : Symbol) → FactsAt K m (Wanted c) k
@@ -122,11 +122,11 @@ caret_long K m c e =
       fills = word_filler;
       over = o.0;
       opened = λ ks h.
-        let r : HasRead K m (Held f.0 f.1 (outer_of c)) (ks ++ Name (65 ∷ []) ∷ []) =
-            let P : State → Type 0 = λ s. HasRead K m s (ks ++ Name (65 ∷ []) ∷ []) in
-            subst P f.2 (variable_read K m Global (65 ∷ []) (AsOperand c) (ks ++ Name (65 ∷ []) ∷ []) (marked_read K m (AsOperand c) (65 ∷ []) ks h)) in
-        let Q : List Symbol → Type 0 = λ zs. HasRead K (wider m) o.0 zs in
-        subst Q (append_assoc ks (Name (65 ∷ []) ∷ []) (Mark Comma ∷ [])) (o.1 (ks ++ Name (65 ∷ []) ∷ []) r);
+          let r : HasRead K m (Held f.0 f.1 (outer_of c)) (ks ++ Name (65 ∷ []) ∷ []) =
+          let P : State → Type 0 = λ s. HasRead K m s (ks ++ Name (65 ∷ []) ∷ []) in
+          subst P f.2 (variable_read K m Global (65 ∷ []) (AsOperand c) (ks ++ Name (65 ∷ []) ∷ []) (marked_read K m (AsOperand c) (65 ∷ []) ks h)) in
+          let Q : List Symbol → Type 0 = λ zs. HasRead K (wider m) o.0 zs in
+          subst Q (append_assoc ks (Name (65 ∷ []) ∷ []) (Mark Comma ∷ [])) (o.1 (ks ++ Name (65 ∷ []) ∷ []) r);
       local = λ l y d w. named_comma l y f.0 f.1 f.2 (full_same m l (outer_of c) w ∙ e);
     }
   where
@@ -163,9 +163,9 @@ list_opened : (K : Kind) (m l : Limits) (scope : Scope) (word : List ℕ) (p : P
 list_opened K m l scope word p ks i w d h = record {
   good = (place_good_more p K m l i h.good, d, omega arith, omega arith, omega (arith, i.width));
   read =
-    ap (λ (zs : List Symbol). place_before p ++ zs) (sym (scoped-append scope (Name word ∷ []) (Mark Open ∷ [])))
-    ∙ sym (append_assoc (place_before p) (scoped scope (Name word ∷ [])) (Mark Open ∷ []))
-    ∙ ap (λ (zs : List Symbol). zs ++ Mark Open ∷ []) h.read;
+      ap (λ (zs : List Symbol). place_before p ++ zs) (sym (scoped-append scope (Name word ∷ []) (Mark Open ∷ [])))
+      ∙ sym (append_assoc (place_before p) (scoped scope (Name word ∷ [])) (Mark Open ∷ []))
+      ∙ ap (λ (zs : List Symbol). zs ++ Mark Open ∷ []) h.read;
 }
 
 -- what isn't an opening parenthesis
@@ -174,8 +174,8 @@ behind_variable K m scope word (AsOperand c) k same =
     let f = filled_outer (Value (Var scope word No)) c in
     let g : (l : Limits) → step l (Named scope word (AsOperand c)) k ≡ step l (Held f.0 f.1 (outer_of c)) k = λ l. same l ∙ ap (λ (s : State). step l s k) f.2 in
     as_held K m (HasRead K m (Named scope word (AsOperand c))) (Named scope word (AsOperand c)) k (λ l. step l (Held f.0 f.1 (outer_of c)) k) (g m) g
-      (from_held K m (HasRead K m (Named scope word (AsOperand c))) (Named scope word (AsOperand c)) f.0 f.1 (outer_of c) k
-        (λ ks h. let P : State → Type 0 = λ s. HasRead K m s ks in subst P f.2 (variable_read K m scope word (AsOperand c) ks h)) g)
+    (from_held K m (HasRead K m (Named scope word (AsOperand c))) (Named scope word (AsOperand c)) f.0 f.1 (outer_of c) k
+    (λ ks h. let P : State → Type 0 = λ s. HasRead K m s ks in subst P f.2 (variable_read K m scope word (AsOperand c) ks h)) g)
   where
     as_held : (K : Kind) (m : Limits) (R : List Symbol → Type 0) (t : State) (k : Symbol) (at : Limits → Next) → step m t k ≡ at m → ((l : Limits) → step l t k ≡ at l) →
         Facts K m R (LongFacts K m R t k) at k (at m) → Facts K m R (LongFacts K m R t k) (λ l. step l t k) k (step m t k)
@@ -198,8 +198,8 @@ on_is l v AsTarget k = refl
 named_facts : (K : Kind) (m : Limits) (scope : Scope) (word : List ℕ) (p : Place) (k : Symbol) → 1 ≤ m.width → FactsAt K m (Named scope word p) k
 named_facts K m scope word p (Mark Open) w =
     opens_facts K m (HasRead K m (Named scope word p)) (LongFacts K m (HasRead K m (Named scope word p)) (Named scope word p) (Mark Open)) (Mark Open) (place_depth p) (Wanted (Front (InList scope word No p)))
-      (λ d ks h. list_opened K m m scope word p ks (record { depth = omega arith; width = omega arith }) w (omega arith) h)
-      (λ ks h. list_opened K m (deeper m) scope word p ks (more_deeper m) w (omega (arith, place_good_depth K m p h.good)) h)
+    (λ d ks h. list_opened K m m scope word p ks (record { depth = omega arith; width = omega arith }) w (omega arith) h)
+    (λ ks h. list_opened K m (deeper m) scope word p ks (more_deeper m) w (omega (arith, place_good_depth K m p h.good)) h)
 named_facts K m scope word p k w = behind_variable K m scope word p k (λ l. on_is l (Var scope word No) p k)
 
 -- ---- any state

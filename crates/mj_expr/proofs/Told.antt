@@ -1,27 +1,18 @@
 -- What a run says of the tokens.
-use Rattle.std.proofs.Common.{◌≡◌, ℕ, ◌+◌, ◌-◌, ◌≤◌, ◌<◌, max, List, [], ◌∷◌, ◌++◌, length, drop, refl, ap, sym, ◌∙◌, subst, append_assoc, append-nil, arith, map, ◌⊎◌, inl, inr, nat_le, Bool, true, false, length-append}
-use Rattle.std.specs.Prelude.{cond, pos, Result, Ok, Err, ℤ}
-use Rattle.std.proofs.Math.Seq.{drop-append_seam}
+use Rattle.std.proofs.Common.{◌≡◌, ℕ, ◌+◌, ◌≤◌, List, [], ◌∷◌, ◌++◌, refl, ap, sym, ◌∙◌, subst, append_assoc, append-nil, arith, map}
+use Rattle.std.specs.Prelude.{pos}
 use Rattle.std.proofs.lemmas.List.{map-append}
-use Rattle.std.proofs.lemmas.Bool.Decides.{nat_tests}
-use Rattle.mj_num.specs.Number.{canonic_text, reading}
-use Rattle.mj_text.specs.declared.fault.Fault.{Fault}
-use Rattle.mj_ast.specs.declared.sign.Sign.{Sign}
-use Rattle.mj_ast.specs.declared.sign.Sign.TheVariants.{Close, Comma}
+use Rattle.mj_num.specs.Number.{canonic_text}
+use Rattle.mj_ast.specs.declared.sign.Sign.TheVariants.{Close}
 use Rattle.mj_ast.specs.declared.expr.Scope.{Scope}
 use Rattle.mj_ast.specs.declared.expr.Scope.TheVariants.{Local, Global}
 use Rattle.mj_ast.specs.Syntax.{Expr, Chain, Operand, Literal, Value, Tails, Variable, Var, No}
-use Rattle.mj_ast.specs.Tokens.{Token, Word, Digits, Quoted, Signed, Blank, Comment, Unclosed, Stray}
-use Rattle.mj_ast.specs.Expressions.{Symbol, Constant, Name, Overlong, Mark, Other, symbol, constant_of, name_limit, text_limit, width_limit, Phrases, expressions, variables, Spells, IsWithin, Begins, BeginsWithin, expr_symbols, variable_symbols, expr_nesting, variable_nesting, expr_width, variable_width}
-use Rattle.mj_ast.specs.Lines.{Filler}
-use Rattle.mj_expr.specs.Machine.{Outer, Alone, InGroup, InList, Within, Front, Right, Under, Place, AsOperand, AsTarget, State, Wanted, Sought, Marked, Named, Held, Got, filled, placed, depth_of, place_depth, outer_depth, Limits, Next, Stuck, Deep, Phrase, Whole, Target, Outcome, Accept, StuckAt, DeepAt, TooLong, refused, ends, finish, step, run, turn}
-use Rattle.mj_expr.specs.Phrases.{IsRead, IsStuck, IsDeep, IsLastComma, IsLongWord, IsOverlong, IsLong}
-use Rattle.mj_expr.specs.Reads.{limits}
-use Rattle.mj_expr.proofs.Zipper.{Kind, AnExpression, AVariable, IsKind, Fits, HasRead, Good, OuterGood, PlaceGood, good_depth, place_good_depth, outer_good_depth, plug, outer_plug, place_plug, plug_symbols, outer_plug_symbols, place_plug_symbols, plug_fits, outer_plug_fits, place_plug_fits, before, outer_before, place_before, after, outer_after, place_after, sofar, phrase_symbols, phrase_nesting, phrase_width, start, ForExpression, ForVariable}
-use Rattle.mj_expr.proofs.Complete.{Ceases, complete_phrase}
-use Rattle.mj_expr.proofs.Facts.{IsMore, deeper, wider, LongFacts, filled_outer}
+use Rattle.mj_ast.specs.Tokens.{Token, Word, Digits, Signed}
+use Rattle.mj_ast.specs.Expressions.{Symbol, Constant, Name, Overlong, Mark, Other, symbol, Phrases, expressions, variables, expr_symbols, variable_symbols, expr_nesting, variable_nesting, expr_width, variable_width}
+use Rattle.mj_expr.specs.Machine.{Outer, Alone, InGroup, InList, Within, Front, Right, Under, Place, AsOperand, AsTarget, State, Wanted, Sought, Marked, Named, Held, Got, placed, Limits, Phrase, Whole, Target, Accept, refused, ends, finish}
+use Rattle.mj_expr.proofs.Zipper.{Kind, AnExpression, AVariable, IsKind, Fits, HasRead, good_depth, place_good_depth, plug, outer_plug, place_plug, plug_symbols, outer_plug_symbols, place_plug_symbols, plug_fits, outer_plug_fits, place_plug_fits, before, outer_before, place_before, after, outer_after, place_after, phrase_symbols, phrase_nesting, phrase_width, start, ForExpression, ForVariable}
+use Rattle.mj_expr.proofs.Facts.{filled_outer}
 use Rattle.mj_expr.proofs.States.{variable_read}
-use Rattle.mj_expr.proofs.Ends.{Along, Stops, Halts, EndsDeep, EndsLong, EndsAs, run_ends}
 
 -- ---- tokens of symbols
 
@@ -47,7 +38,9 @@ split (x ∷ xs) [] ys e = absurd (cons_nil x (xs ++ ys) (sym e))
 split (x ∷ xs) (k ∷ ks) ys e =
     let s = split xs ks ys (tail_same (symbol k) x (map symbol ks) (xs ++ ys) e) in
     record {
-      front = k ∷ s.front; back = s.back; cut = ap (λ (zs : List Token). k ∷ zs) s.cut;
+      front = k ∷ s.front;
+      back = s.back;
+      cut = ap (λ (zs : List Token). k ∷ zs) s.cut;
       first = ap (λ (z : Symbol). z ∷ map symbol s.front) (head_same (symbol k) x (map symbol ks) (xs ++ ys) e) ∙ ap (λ (zs : List Symbol). x ∷ zs) s.first;
       last = s.last;
     }
@@ -80,8 +73,8 @@ goes_on K m p xs ys zs ks tokens closing f e g h = record {
   more = tokens ++ closing;
   phrase = p;
   spelled =
-    ap (λ (v : List Symbol). ks ++ v) (map-append symbol tokens closing ∙ ap (λ (v : List Symbol). map symbol tokens ++ v) g)
-    ∙ sym (append_assoc ks (map symbol tokens) zs) ∙ ap (λ (v : List Symbol). v ++ zs) (sym h) ∙ append_assoc xs ys zs ∙ sym e;
+      ap (λ (v : List Symbol). ks ++ v) (map-append symbol tokens closing ∙ ap (λ (v : List Symbol). map symbol tokens ++ v) g)
+      ∙ sym (append_assoc ks (map symbol tokens) zs) ∙ ap (λ (v : List Symbol). v ++ zs) (sym h) ∙ append_assoc xs ys zs ∙ sym e;
   fits = f;
 }
 
@@ -89,27 +82,27 @@ pub read_goes : (K : Kind) (m : Limits) (s : State) (ks : List Symbol) → HasRe
 read_goes K m (Wanted c) ks h =
     let t : Operand = Literal (canonic_text (pos 0)) in
     goes_on K m (plug c t) (before c) (Constant (canonic_text (pos 0)) ∷ []) (after c) ks (Digits (48 ∷ []) ∷ []) (closers c).0
-      (plug_fits c K m t h.good (omega (arith, good_depth K m c h.good)) (omega arith)) (plug_symbols c t) (closers c).1
-      (ap (λ (v : List Symbol). v ++ Constant (canonic_text (pos 0)) ∷ []) h.read)
+    (plug_fits c K m t h.good (omega (arith, good_depth K m c h.good)) (omega arith)) (plug_symbols c t) (closers c).1
+    (ap (λ (v : List Symbol). v ++ Constant (canonic_text (pos 0)) ∷ []) h.read)
 read_goes K m (Sought p) ks h =
     let v : Variable = Var Local (65 ∷ []) No in
     goes_on K m (place_plug p v) (place_before p) (Name (65 ∷ []) ∷ []) (place_after p) ks (Word (65 ∷ []) ∷ []) (place_closers p).0
-      (place_plug_fits p K m v h.good (omega (arith, place_good_depth K m p h.good)) (omega arith)) (place_plug_symbols p v) (place_closers p).1
-      (ap (λ (u : List Symbol). u ++ Name (65 ∷ []) ∷ []) h.read)
+    (place_plug_fits p K m v h.good (omega (arith, place_good_depth K m p h.good)) (omega arith)) (place_plug_symbols p v) (place_closers p).1
+    (ap (λ (u : List Symbol). u ++ Name (65 ∷ []) ∷ []) h.read)
 read_goes K m (Marked p) ks h =
     let v : Variable = Var Global (65 ∷ []) No in
     goes_on K m (place_plug p v) (place_before p) (variable_symbols v) (place_after p) ks (Word (65 ∷ []) ∷ []) (place_closers p).0
-      (place_plug_fits p K m v h.good (omega (arith, place_good_depth K m p h.good)) (omega arith)) (place_plug_symbols p v) (place_closers p).1
-      (sym (append_assoc (place_before p) _ (Name (65 ∷ []) ∷ [])) ∙ ap (λ (u : List Symbol). u ++ Name (65 ∷ []) ∷ []) h.read)
+    (place_plug_fits p K m v h.good (omega (arith, place_good_depth K m p h.good)) (omega arith)) (place_plug_symbols p v) (place_closers p).1
+    (sym (append_assoc (place_before p) _ (Name (65 ∷ []) ∷ [])) ∙ ap (λ (u : List Symbol). u ++ Name (65 ∷ []) ∷ []) h.read)
 read_goes K m (Named scope word p) ks h =
     let v : Variable = Var scope word No in
     goes_on K m (place_plug p v) (place_before p) (variable_symbols v) (place_after p) ks [] (place_closers p).0
-      (place_plug_fits p K m v h.good (omega (arith, place_good_depth K m p h.good)) (omega arith)) (place_plug_symbols p v) (place_closers p).1
-      (h.read ∙ sym (append-nil ks))
+    (place_plug_fits p K m v h.good (omega (arith, place_good_depth K m p h.good)) (omega arith)) (place_plug_symbols p v) (place_closers p).1
+    (h.read ∙ sym (append-nil ks))
 read_goes K m (Held x r o) ks h =
     goes_on K m (outer_plug o (Chain x r)) (outer_before o) (expr_symbols (Chain x r)) (outer_after o) ks [] (outer_closers o).0
-      (outer_plug_fits o K m (Chain x r) h.good.0 h.good.1 h.good.2) (outer_plug_symbols o (Chain x r)) (outer_closers o).1
-      (h.read ∙ sym (append-nil ks))
+    (outer_plug_fits o K m (Chain x r) h.good.0 h.good.1 h.good.2) (outer_plug_symbols o (Chain x r)) (outer_closers o).1
+    (h.read ∙ sym (append-nil ks))
 read_goes K m (Got v) ks h = record { more = []; phrase = Target v; spelled = append-nil ks ∙ sym h.read; fits = place_plug_fits AsTarget K m v h.good.0 (omega (arith, h.good.1)) h.good.2 }
 
 pub start_read : (K : Kind) (m : Limits) → HasRead K m (start K) []
@@ -182,16 +175,22 @@ pub record Wraps {T : Type 0} (K : Kind) (P : Phrases T) : Type 0 where
   pub unwrap : (p : Phrase) → IsKind K p → (t : T) × (wrap t ≡ p)
   pub once : (t u : T) → wrap t ≡ wrap u → t ≡ u
 
-unwrap_expr : (p : Phrase) → IsKind AnExpression p → (t : Expr) × (Whole t ≡ p)
+pub unwrap_expr : (p : Phrase) → IsKind AnExpression p → (t : Expr) × (Whole t ≡ p)
 unwrap_expr (Whole e) k = (e, refl)
 unwrap_expr (Target v) k = absurd k
 
-unwrap_variable : (p : Phrase) → IsKind AVariable p → (t : Variable) × (Target t ≡ p)
+pub unwrap_variable : (p : Phrase) → IsKind AVariable p → (t : Variable) × (Target t ≡ p)
 unwrap_variable (Whole e) k = absurd k
 unwrap_variable (Target v) k = (v, refl)
 
-pub wraps_expressions : Wraps AnExpression expressions
-wraps_expressions = record { wrap = Whole; kind = λ t. tt; symbols = λ t. refl; nesting = λ t. refl; width = λ t. refl; unwrap = unwrap_expr; once = λ t u e. cc }
+pub whole_once : (e f : Expr) → Whole e ≡ Whole f → e ≡ f
+whole_once e f h = cc
 
-pub wraps_variables : Wraps AVariable variables
-wraps_variables = record { wrap = Target; kind = λ t. tt; symbols = λ t. refl; nesting = λ t. refl; width = λ t. refl; unwrap = unwrap_variable; once = λ t u e. cc }
+pub target_once : (v w : Variable) → Target v ≡ Target w → v ≡ w
+target_once v w h = cc
+
+abbrev pub wraps_expressions : Wraps AnExpression expressions
+wraps_expressions = record { wrap = Whole; kind = λ t. tt; symbols = λ t. refl; nesting = λ t. refl; width = λ t. refl; unwrap = unwrap_expr; once = whole_once }
+
+abbrev pub wraps_variables : Wraps AVariable variables
+wraps_variables = record { wrap = Target; kind = λ t. tt; symbols = λ t. refl; nesting = λ t. refl; width = λ t. refl; unwrap = unwrap_variable; once = target_once }

@@ -6,7 +6,7 @@ use Rattle.mj_ast.specs.declared.expr.Scope.TheVariants.{Local, Global}
 use Rattle.mj_ast.specs.declared.expr.BinaryOp.{BinaryOp}
 use Rattle.mj_ast.specs.Syntax.{Expr, Chain, Tails, Done, Then, Operand, Value, Unary, Group, Variable, Var, Exprs, No, More}
 use Rattle.mj_ast.specs.Expressions.{Symbol, Name, Mark, scoped, unary_sign, binary_sign, expr_symbols, tails_symbols, operand_symbols, variable_symbols, list_symbols, more_symbols, count, expr_nesting, tails_nesting, operand_nesting, variable_nesting, list_nesting, exprs_nesting, expr_width, tails_width, operand_width, variable_width, exprs_width}
-use Rattle.mj_expr.specs.Machine.{Outer, Alone, InGroup, InList, Within, Front, Right, Under, Place, AsOperand, AsTarget, State, Wanted, Sought, Marked, Named, Held, Got, Limits, Phrase, Whole, Target, and_then, and_more, filled, placed, held, outer_depth, depth_of, place_depth}
+use Rattle.mj_expr.specs.Machine.{Outer, Alone, InGroup, InList, Within, Front, Right, Under, Place, AsOperand, AsTarget, State, Wanted, Sought, Marked, Named, Held, Got, Limits, Phrase, Whole, Target, and_then, and_more, filled, placed, outer_depth, depth_of, place_depth}
 
 -- ---- spelling of what grows at its end
 
@@ -225,8 +225,8 @@ mutual
   outer_plug_fits (InGroup c) K m e g n w = plug_fits c K m (Group e) g.0 (omega arith) w
   outer_plug_fits (InList scope word es p) K m e g n w =
       place_plug_fits p K m (Var scope word (and_more es e)) g.0
-        (omega (arith, list_nesting-more es e, g.2))
-        (omega (arith, exprs_width-more es e, count-more es e, g.3, g.4))
+      (omega (arith, list_nesting-more es e, g.2))
+      (omega (arith, exprs_width-more es e, count-more es e, g.3, g.4))
 
   pub plug_fits : (c : Within) (K : Kind) (m : Limits) (x : Operand) → Good K m c → operand_nesting x + depth_of c ≤ m.depth → operand_width x ≤ m.width → Fits K m (plug c x)
   plug_fits (Front o) K m x g n w = outer_plug_fits o K m (Chain x Done) g (omega arith) (omega arith)

@@ -1,5 +1,5 @@
 -- What is read at the front of the tokens, and what a refusal says.
-use Rattle.std.specs.Prelude.{ℕ, ◌≡◌, ◌+◌, ◌<◌, List, [], ◌∷◌, ◌++◌, length, Result, Ok, Err}
+use Rattle.std.specs.Prelude.{ℕ, ◌≡◌, ◌+◌, ◌<◌, List, [], ◌∷◌, ◌++◌, length}
 use Rattle.mj_ast.specs.declared.sign.Sign.TheVariants.{Comma}
 use Rattle.mj_ast.specs.Tokens.{Token, Word, Signed}
 use Rattle.mj_ast.specs.Lines.{Filler}
