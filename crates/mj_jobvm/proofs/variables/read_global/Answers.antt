@@ -1,0 +1,18 @@
+use Rattle.std.proofs.Common.{◌+◌, ◌∷◌, drop, ◌∙◌}
+use Rattle.mj_text.specs.declared.fault.Fault.TheVariants.{Steps, Undefined}
+use Rattle.mj_ask.specs.declared.ask.Ask.TheVariants.{Value}
+use Rattle.mj_semantics.specs.Outcome.{fault, need}
+use Rattle.mj_semantics.specs.Evaluation.{read, value_told}
+use Rattle.mj_jobvm.specs.Kept.{stack_of, state_of, replied}
+use Rattle.mj_jobvm.proofs.Asks.{does_as, no_more, read_asks}
+use Rattle.mj_jobvm.proofs.variables.read_global.Goals as goal
+
+pub returns-then-machine-ge-STEPS_LIMIT-clause-ok : goal.returns-then-machine-ge-STEPS_LIMIT-clause-ok
+returns-then-machine-ge-STEPS_LIMIT-clause-ok c =
+    let old = c.args.machine.now in
+    does_as (λ next. read c.args.name (λ v. next (c.args.pc + 1) (v ∷ drop c.args.count (stack_of old)))) (λ next. fault Steps)
+    old (replied c.args.given) c.fail.result c.fail.new.machine
+    (λ next n replies.
+    read_asks c.args.name (λ v. next (c.args.pc + 1) (v ∷ drop c.args.count (stack_of old))) n (state_of old) replies c.requires.global
+    ∙ no_more (Value c.args.name) (λ r. need Undefined (value_told r) (λ v. next (c.args.pc + 1) (v ∷ drop c.args.count (stack_of old)))) n (state_of old) replies c.if-machine-ge-STEPS_LIMIT.true)
+    (c.fail.ensures (replied c.args.given))

@@ -1,0 +1,64 @@
+-- A job's value, and that it is at a point of its routines' run.
+use Rattle.std.specs.Prelude.{◌≡◌, ℕ, suc, ◌+◌, List, [], ◌∷◌, ◌++◌, Option, Some, None, IfSome, IsTrue, ◌⊎◌, map}
+use Rattle.mj_ask.specs.declared.ask.Ask.{Ask}
+use Rattle.mj_ask.specs.declared.ask.Reply.{Reply}
+use Rattle.mj_ask.specs.declared.entry.Entry.{Entry}
+use Rattle.mj_ask.specs.Fits.{fits}
+use Rattle.mj_ast.specs.Syntax.{Routine}
+use Rattle.mj_semantics.specs.State.{Locals, Place, places}
+use Rattle.mj_semantics.specs.Outcome.{Outcome, Needs, More}
+use Rattle.mj_semantics.specs.Outcome as outcomes
+use Rattle.mj_semantics.specs.Job.{next}
+use Rattle.mj_jobvm.specs.Standing.{Standing, Code, onward}
+
+-- the asks of a job and their replies, in order
+abbrev pub Log : Type 0
+Log = List (Ask × Reply)
+
+-- the replies of a log
+abbrev pub replies_of : Log → List Reply
+replies_of log = map (λ e. e.1) log
+
+-- the turns that were over when the last reply of the log was taken, after which the run asked for it
+abbrev pub TurnsBefore : List Routine → Entry → Log → ℕ → Type 0
+TurnsBefore routines entry log m =
+    ((log ≡ []) × (m ≡ 0))
+    ⊎ ((earlier : Log) × (a : Ask) × (r : Reply) × (locals : Locals) × (at : List Place) × (log ≡ earlier ++ (a, r) ∷ [])
+    × (next routines entry m (replies_of earlier) ≡ More)
+    × (next routines entry (m + 1) (replies_of earlier) ≡ Needs a locals at))
+
+-- each entry's ask is the one that the job makes after the replies before it, and its reply fits it
+pub data IsTrace (routines : List Routine) (entry : Entry) : Log → Type 0 where
+  begins : IsTrace routines entry []
+  goes_on : (log : Log) (a : Ask) (r : Reply) (n : ℕ) (locals : Locals) (at : List Place)
+      → IsTrace routines entry log → next routines entry n (replies_of log) ≡ Needs a locals at → IsTrue (fits a r)
+      → IsTrace routines entry (log ++ (a, r) ∷ [])
+
+-- what a caller may know of a job: its log, what it asks, the turns since the last reply, and where it stands
+pub record Run : Type 0 where
+  pub log : Log
+  pub pending : Option Ask
+  pub spent : ℕ
+  pub at : Standing
+
+-- the job is at a point of the run of its routines from its entry, by this code, with the replies of its log
+pub record IsRun (routines : List Routine) (entry : Entry) (code : Code) (job : Run) : Type 0 where
+  pub before : ℕ
+  pub counted : TurnsBefore routines entry job.log before
+  pub trace : IsTrace routines entry job.log
+  -- what is left of the run is what the routines mean after as many turns
+  pub rest : (n : ℕ) (replies : List Reply) → onward code n job.at replies ≡ next routines entry (before + job.spent + n) (replies_of job.log ++ replies)
+  -- and with an ask pending, the run needs its reply
+  pub asks : IfSome job.pending (λ a. (job.at.given ≡ None) × ((n : ℕ) → onward code (suc n) job.at [] ≡ Needs a job.at.state.locals (places job.at.state)))
+
+-- a job that asks, or ran as far as it was let, or has ended
+pub data Report : Type 0 where
+  Asks Ran Ended : Report
+
+-- what a call of `advance` tells, and what stands beside it
+abbrev pub Told : List Routine → Entry → Report → Run → Type 0
+Told routines entry Asks job =
+    (a : Ask) × (job.pending ≡ Some a) × ((n : ℕ) × (next routines entry n (replies_of job.log) ≡ Needs a job.at.state.locals (places job.at.state)))
+Told routines entry Ran job =
+    (m : ℕ) × TurnsBefore routines entry job.log m × (next routines entry (m + job.spent) (replies_of job.log) ≡ More)
+Told routines entry Ended job = (n : ℕ) × (next routines entry n (replies_of job.log) ≡ outcomes.Ended)

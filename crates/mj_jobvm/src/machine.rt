@@ -1,0 +1,41 @@
+// A job's machine: where it stands, and how a turn of it goes.
+
+ghost use Rattle.std.specs.Prelude.{◌*◌, ◌≤◌};
+
+use crate::control::Control;
+use crate::frame::Place;
+use crate::locals::Locals;
+use mj_ask::Ask;
+use mj_text::Text;
+
+/// How many asks a job may make before its ending.
+pub const STEPS_LIMIT: u64 = 1_000_000;
+
+/// Where a job stands.
+#[derive(Drop)]
+pub struct Machine {
+    pub control: Control,
+    // the topmost last
+    pub stack: Vec<Text>,
+    pub locals: Locals,
+    // the innermost last
+    pub frames: Vec<Place>,
+    // of the principal device
+    pub column: u64,
+    // asks that were replied to
+    pub replied: u64,
+    ghost bounded: { (column ≤ 32767 * replied) × (replied ≤ 1000000) },
+}
+
+/// How a turn goes.
+#[derive(Drop)]
+pub enum Step {
+    /// it is over
+    Next,
+    /// it is over, and took the reply that was given
+    Took,
+    /// it needs the reply to an ask
+    Asks(Ask),
+    /// the job is over
+    Ends,
+}

@@ -1,0 +1,77 @@
+// What the instructions do that ask nothing.
+
+ghost use Rattle.std.specs.Prelude.{◌≡◌, ℕ, ◌+◌, ◌<◌, ◌≤◌, ◌^◌, length, Option, Some, None, IfOk, OnErr};
+ghost use Rattle.mj_ask.specs.declared.ask.Reply.{Reply};
+ghost use Rattle.mj_semantics.specs.Outcome as told;
+ghost use Rattle.mj_pcode.specs.declared.instr.Instr.TheVariants as instrs;
+ghost use Rattle.mj_pcode.specs.Machine.{act};
+ghost use Rattle.mj_jobvm.specs.Kept.{standing, stack_of, Does};
+
+use crate::control::Control;
+use crate::frame::Place;
+use crate::machine::{Machine, Step};
+use crate::moves::move_to;
+use crate::stack;
+use mj_pcode::Unit;
+use mj_text::{Fault, Text};
+use std::alloc::AllocError;
+
+/// A fault, which is told of in the next turn.
+pub fn fail(fault: Fault, machine: &mut Machine) -> Step
+    ensures { (reply : Option Reply) → Does (λ next. told.fault fault) machine.old reply result machine.new }
+{
+    machine.control = Control::Faulted(fault);
+    Step::Next
+}
+
+/// A line is entered.
+pub fn enter_line(
+    unit: &Unit,
+    pc: usize,
+    line: u32,
+    machine: &mut Machine,
+) -> Result<Step, AllocError>
+    requires next { pc + 1 < 2 ^ 64 }
+    requires short { length unit.now.name ≤ 31 }
+    ensures ok { IfOk result (λ step. (reply : Option Reply) → Does (λ next. act unit.now (Some (instrs.Line line)) next pc (stack_of machine.old)) machine.old reply step machine.new) }
+    ensures err { OnErr result ((reply : Option Reply) → standing machine.new reply ≡ standing machine.old reply) }
+{
+    let routine = unit.name.try_clone()?;
+    move_to(&mut machine.frames, Place { routine, line });
+    machine.control = Control::At(pc + 1);
+    Ok(Step::Next)
+}
+
+/// A text is put on the stack.
+pub fn push(unit: &Unit, pc: usize, text: &Text, machine: &mut Machine) -> Result<Step, AllocError>
+    requires { pc + 1 < 2 ^ 64 }
+    ensures ok { IfOk result (λ step. (reply : Option Reply) → Does (λ next. act unit.now (Some (instrs.Push text.now)) next pc (stack_of machine.old)) machine.old reply step machine.new) }
+    ensures err { OnErr result ((reply : Option Reply) → standing machine.new reply ≡ standing machine.old reply) }
+{
+    let text = text.try_clone()?;
+    stack::replace(&mut machine.stack, 0, text)?;
+    machine.control = Control::At(pc + 1);
+    Ok(Step::Next)
+}
+
+/// The end of the unit.
+pub fn leave(unit: &Unit, pc: usize, machine: &mut Machine) -> Result<Step, AllocError>
+    requires lines { length unit.now.starts.items < 2 ^ 32 }
+    requires short { length unit.now.name ≤ 31 }
+    ensures ok { IfOk result (λ step. (reply : Option Reply) → Does (λ next. act unit.now None next pc (stack_of machine.old)) machine.old reply step machine.new) }
+    ensures err { OnErr result ((reply : Option Reply) → standing machine.new reply ≡ standing machine.old reply) }
+{
+    let routine = unit.name.try_clone()?;
+    let line = unit.starts.len() as u32;
+    move_to(&mut machine.frames, Place { routine, line });
+    machine.control = Control::Closing(None);
+    Ok(Step::Next)
+}
+
+/// The job ends.
+pub fn halt(machine: &mut Machine) -> Step
+    ensures { (reply : Option Reply) → Does (λ next. told.end None) machine.old reply result machine.new }
+{
+    machine.control = Control::Closing(None);
+    Step::Next
+}

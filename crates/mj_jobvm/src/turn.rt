@@ -1,0 +1,108 @@
+// A turn, wherever a job stands.
+
+ghost use Rattle.std.specs.Prelude.{◌≡◌, ◌+◌, ◌<◌, ◌≤◌, ◌^◌, length, option_map, option_copied, Option, Some, IfOk, OnErr};
+ghost use Rattle.mj_ask.specs.declared.ask.Reply as replies;
+ghost use Rattle.mj_pcode.specs.Machine.{act};
+ghost use Rattle.mj_jobvm.specs.Standing as standings;
+ghost use Rattle.mj_jobvm.specs.Kept.{standing, stack_of, Does, replied, target_at, told, left_of};
+ghost use Rattle.mj_jobvm.specs.Units.{unit_at, IsFit};
+
+use crate::asking::principal;
+use crate::control::Control;
+use crate::ending::{close, finish, tell_fault};
+use crate::format::write_marks;
+use crate::frame::Place;
+use crate::machine::{Machine, STEPS_LIMIT, Step};
+use crate::quiet::{enter_line, fail, halt, leave, push};
+use crate::target::Target;
+use crate::values::{apply_binary, apply_unary, test, write};
+use crate::variables::{check, load, store};
+use mj_ask::{Ask, Reply};
+use mj_pcode::{Instr, Unit};
+use mj_text::Fault;
+use std::alloc::{AllocError, Global};
+
+/// An instruction.
+pub fn obey(
+    alloc: Global,
+    unit: &Unit,
+    pc: usize,
+    instr: &Instr,
+    machine: &mut Machine,
+    given: Option<&Reply>,
+) -> Result<Step, AllocError>
+    requires next { pc + 1 < 2 ^ 64 }
+    requires short { length unit.now.name ≤ 31 }
+{
+    match instr {
+        Instr::Line(line) => enter_line(unit, pc, *line, machine),
+        Instr::Push(text) => push(unit, pc, text, machine),
+        Instr::Load(reference) => load(alloc, pc, reference, machine, given),
+        Instr::Unary(op) => apply_unary(alloc, pc, *op, machine),
+        Instr::Binary(op) => apply_binary(alloc, pc, *op, machine),
+        Instr::Check(reference) => check(alloc, pc, reference, machine),
+        Instr::Store(reference) => store(alloc, pc, reference, machine, given),
+        Instr::Write => write(alloc, pc, machine, given),
+        Instr::Format(marks) => write_marks(alloc, pc, marks, machine, given),
+        Instr::Unless(target) => test(alloc, pc, *target, machine),
+        Instr::Halt => Ok(halt(machine)),
+    }
+}
+
+/// The job begins.
+pub fn begin(
+    alloc: Global,
+    target: Option<&Target>,
+    machine: &mut Machine,
+    given: Option<&Reply>,
+) -> Result<Step, AllocError>
+    ensures ok { IfOk result (λ step. Does (standings.begin (target_at target.entry)) machine.old (replied given.entry) step machine.new) }
+    ensures err { OnErr result ((reply : Option replies.Reply) → standing machine.new reply ≡ standing machine.old reply) }
+{
+    if machine.replied >= STEPS_LIMIT {
+        return Ok(fail(Fault::Steps, machine));
+    }
+    if given.is_none() {
+        return Ok(Step::Asks(Ask::DeviceBegin(principal(alloc))));
+    }
+    match target {
+        None => machine.control = Control::Faulted(Fault::NoLine),
+        Some(target) => {
+            let routine = target.place.routine.try_clone()?;
+            machine.frames.push(Place {
+                routine,
+                line: target.place.line,
+            })?;
+            machine.stack.clear();
+            machine.control = Control::At(target.pc);
+        }
+    }
+    machine.replied += 1;
+    Ok(Step::Took)
+}
+
+/// A turn. With want of memory the machine stands where it stood.
+pub fn turn(
+    alloc: Global,
+    unit: Option<&Unit>,
+    target: Option<&Target>,
+    machine: &mut Machine,
+    given: Option<&Reply>,
+) -> Result<Step, AllocError>
+    requires { IsFit (unit_at unit) }
+{
+    match machine.control {
+        Control::Begin => begin(alloc, target, machine, given),
+        Control::At(pc) => match unit {
+            None => Ok(Step::Ends),
+            Some(unit) => match unit.instrs.get(pc) {
+                None => leave(unit, pc, machine),
+                Some(instr) => obey(alloc, unit, pc, instr, machine, given),
+            },
+        },
+        Control::Faulted(fault) => tell_fault(alloc, fault, machine, given),
+        Control::Closing(fault) => Ok(close(alloc, fault, machine, given)),
+        Control::Halting(fault) => Ok(finish(fault, machine, given)),
+        Control::Over => Ok(Step::Ends),
+    }
+}

@@ -1,0 +1,192 @@
+// Reading and assigning variables.
+
+ghost use Rattle.std.specs.Prelude.{◌≡◌, ◌+◌, ◌<◌, ◌^◌, ◌∷◌, drop, List, ℕ, Option, true, false, IfOk, OnErr};
+ghost use Rattle.mj_ask.specs.declared.ask.Reply as replies;
+ghost use Rattle.mj_semantics.specs.Outcome as told;
+ghost use Rattle.mj_semantics.specs.Commands as commands;
+ghost use Rattle.mj_semantics.specs.Evaluation as evaluation;
+ghost use Rattle.mj_pcode.specs.Machine.{top, below, operands};
+ghost use Rattle.mj_jobvm.specs.Kept.{standing, stack_of, Does, replied};
+
+use crate::control::Control;
+use crate::machine::{Machine, STEPS_LIMIT, Step};
+use crate::names::name_of;
+use crate::quiet::fail;
+use crate::stack;
+use mj_ask::{Ask, Reply};
+use mj_pcode::Reference;
+use mj_subs::Name;
+use mj_text::{Fault, Text};
+use std::alloc::{AllocError, Global};
+
+/// The value of a variable is put in the place of its subscripts.
+pub fn load(
+    alloc: Global,
+    pc: usize,
+    reference: &Reference,
+    machine: &mut Machine,
+    given: Option<&Reply>,
+) -> Result<Step, AllocError>
+    requires { pc + 1 < 2 ^ 64 }
+    ensures ok { IfOk result (λ step. Does (λ next. told.given (evaluation.name_of reference.now.scope reference.now.word (operands reference.now.count (stack_of machine.old))) (λ x. evaluation.read x (λ v. next (pc + 1) (v ∷ drop reference.now.count (stack_of machine.old))))) machine.old (replied given.entry) step machine.new) }
+    ensures err { OnErr result ((reply : Option replies.Reply) → standing machine.new reply ≡ standing machine.old reply) }
+{
+    let name = match name_of(
+        alloc,
+        reference,
+        stack::topmost(&machine.stack, reference.count),
+    )? {
+        Ok(name) => name,
+        Err(fault) => return Ok(fail(fault, machine)),
+    };
+    if name.is_global() {
+        return read_global(pc, reference.count, name, machine, given);
+    }
+    read_local(pc, reference.count, &name, machine)
+}
+
+fn read_local(
+    pc: usize,
+    count: usize,
+    name: &Name,
+    machine: &mut Machine,
+) -> Result<Step, AllocError>
+    requires next { pc + 1 < 2 ^ 64 }
+    requires local { name.now.global ≡ false }
+    ensures ok { IfOk result (λ step. (reply : Option replies.Reply) → Does (λ next. evaluation.read name.now (λ v. next (pc + 1) (v ∷ drop count (stack_of machine.old)))) machine.old reply step machine.new) }
+    ensures err { OnErr result ((reply : Option replies.Reply) → standing machine.new reply ≡ standing machine.old reply) }
+{
+    match machine.locals.get(name) {
+        Some(value) => {
+            let value = value.try_clone()?;
+            stack::replace(&mut machine.stack, count, value)?;
+            machine.control = Control::At(pc + 1);
+            Ok(Step::Next)
+        }
+        None => Ok(fail(Fault::Undefined, machine)),
+    }
+}
+
+fn read_global(
+    pc: usize,
+    count: usize,
+    name: Name,
+    machine: &mut Machine,
+    given: Option<&Reply>,
+) -> Result<Step, AllocError>
+    requires next { pc + 1 < 2 ^ 64 }
+    requires global { name.global ≡ true }
+    ensures ok { IfOk result (λ step. Does (λ next. evaluation.read name (λ v. next (pc + 1) (v ∷ drop count (stack_of machine.old)))) machine.old (replied given.entry) step machine.new) }
+    ensures err { OnErr result ((reply : Option replies.Reply) → standing machine.new reply ≡ standing machine.old reply) }
+{
+    if machine.replied >= STEPS_LIMIT {
+        return Ok(fail(Fault::Steps, machine));
+    }
+    match given {
+        None => Ok(Step::Asks(Ask::Value(name))),
+        Some(Reply::Value(Some(value))) => {
+            let value = value.try_clone()?;
+            stack::replace(&mut machine.stack, count, value)?;
+            machine.replied += 1;
+            machine.control = Control::At(pc + 1);
+            Ok(Step::Took)
+        }
+        Some(Reply::Value(None) | Reply::Done) => {
+            machine.replied += 1;
+            machine.control = Control::Faulted(Fault::Undefined);
+            Ok(Step::Took)
+        }
+    }
+}
+
+/// The subscripts on the stack make the variable's name, or fail.
+pub fn check(
+    alloc: Global,
+    pc: usize,
+    reference: &Reference,
+    machine: &mut Machine,
+) -> Result<Step, AllocError>
+    requires { pc + 1 < 2 ^ 64 }
+    ensures ok { IfOk result (λ step. (reply : Option replies.Reply) → Does (λ next. told.given (evaluation.name_of reference.now.scope reference.now.word (operands reference.now.count (stack_of machine.old))) (λ x. next (pc + 1) (stack_of machine.old))) machine.old reply step machine.new) }
+    ensures err { OnErr result ((reply : Option replies.Reply) → standing machine.new reply ≡ standing machine.old reply) }
+{
+    if let Err(fault) = name_of(
+        alloc,
+        reference,
+        stack::topmost(&machine.stack, reference.count),
+    )? {
+        return Ok(fail(fault, machine));
+    }
+    machine.control = Control::At(pc + 1);
+    Ok(Step::Next)
+}
+
+/// The topmost operand is assigned to the variable whose subscripts lie below it, and all are taken off.
+pub fn store(
+    alloc: Global,
+    pc: usize,
+    reference: &Reference,
+    machine: &mut Machine,
+    given: Option<&Reply>,
+) -> Result<Step, AllocError>
+    requires { pc + 1 < 2 ^ 64 }
+    ensures ok { IfOk result (λ step. Does (λ next. told.given (evaluation.name_of reference.now.scope reference.now.word (operands reference.now.count (below (stack_of machine.old)))) (λ x. commands.store x (top (stack_of machine.old)) (next (pc + 1) (drop reference.now.count (below (stack_of machine.old)))))) machine.old (replied given.entry) step machine.new) }
+    ensures err { OnErr result ((reply : Option replies.Reply) → standing machine.new reply ≡ standing machine.old reply) }
+{
+    let none = Text::new(alloc);
+    let value = stack::top(&machine.stack, &none).try_clone()?;
+    let subscripts = stack::topmost(stack::under(&machine.stack), reference.count);
+    let name = match name_of(alloc, reference, subscripts)? {
+        Ok(name) => name,
+        Err(fault) => return Ok(fail(fault, machine)),
+    };
+    if name.is_global() {
+        return set_global(pc, reference.count, name, value, machine, given);
+    }
+    set_local(pc, reference.count, name, value, machine)
+}
+
+fn set_local(
+    pc: usize,
+    count: usize,
+    name: Name,
+    value: Text,
+    machine: &mut Machine,
+) -> Result<Step, AllocError>
+    requires next { pc + 1 < 2 ^ 64 }
+    requires local { name.global ≡ false }
+    ensures ok { IfOk result (λ step. (reply : Option replies.Reply) → Does (λ next. commands.store name value (next (pc + 1) (drop count (below (stack_of machine.old))))) machine.old reply step machine.new) }
+    ensures err { OnErr result ((reply : Option replies.Reply) → standing machine.new reply ≡ standing machine.old reply) }
+{
+    machine.locals.set(name, value)?;
+    stack::take_off_under(&mut machine.stack, count);
+    machine.control = Control::At(pc + 1);
+    Ok(Step::Next)
+}
+
+fn set_global(
+    pc: usize,
+    count: usize,
+    name: Name,
+    value: Text,
+    machine: &mut Machine,
+    given: Option<&Reply>,
+) -> Result<Step, AllocError>
+    requires next { pc + 1 < 2 ^ 64 }
+    requires global { name.global ≡ true }
+    ensures ok { IfOk result (λ step. Does (λ next. commands.store name value (next (pc + 1) (drop count (below (stack_of machine.old))))) machine.old (replied given.entry) step machine.new) }
+    ensures err { OnErr result ((reply : Option replies.Reply) → standing machine.new reply ≡ standing machine.old reply) }
+{
+    if machine.replied >= STEPS_LIMIT {
+        return Ok(fail(Fault::Steps, machine));
+    }
+    match given {
+        None => Ok(Step::Asks(Ask::Set(name, value))),
+        Some(_) => {
+            stack::take_off_under(&mut machine.stack, count);
+            machine.replied += 1;
+            machine.control = Control::At(pc + 1);
+            Ok(Step::Took)
+        }
+    }
+}
