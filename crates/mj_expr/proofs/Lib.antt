@@ -7,3 +7,4 @@ pub mod States
 pub mod Ends
 pub mod Told
 pub mod Said
+pub mod Examples

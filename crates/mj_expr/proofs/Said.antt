@@ -83,6 +83,32 @@ finish_long (Named scope word p) ks e = ends_long (placed (Var scope word No) p)
 finish_long (Held x r o) ks e = ends_long (Held x r o) ks e
 finish_long (Got v) ks e = ends_long (Got v) ks e
 
+overlong_refused : (ks : List Symbol) (n : ℕ) → refused (Overlong ∷ ks) ≡ StuckAt n → ⊥
+overlong_refused ks n e = let f : TooLong ≡ StuckAt n = e in cc
+
+overlong_ends : (s : State) (ks : List Symbol) (n : ℕ) → ends s (Overlong ∷ ks) ≡ StuckAt n → ⊥
+overlong_ends (Wanted c) ks n e = overlong_refused ks n e
+overlong_ends (Sought p) ks n e = overlong_refused ks n e
+overlong_ends (Marked p) ks n e = overlong_refused ks n e
+overlong_ends (Named scope word p) ks n e = overlong_refused ks n e
+overlong_ends (Held x r Alone) ks n e = let f : Accept (Whole (Chain x r)) (Overlong ∷ ks) ≡ StuckAt n = e in cc
+overlong_ends (Held x r (InGroup c)) ks n e = overlong_refused ks n e
+overlong_ends (Held x r (InList scope word es p)) ks n e = overlong_refused ks n e
+overlong_ends (Got v) ks n e = let f : Accept (Target v) (Overlong ∷ ks) ≡ StuckAt n = e in cc
+
+overlong_finish : (s : State) (ks : List Symbol) (n : ℕ) → finish s (Overlong ∷ ks) ≡ StuckAt n → ⊥
+overlong_finish (Wanted c) ks n e = overlong_refused ks n e
+overlong_finish (Sought p) ks n e = overlong_refused ks n e
+overlong_finish (Marked p) ks n e = overlong_refused ks n e
+overlong_finish (Named scope word p) ks n e = overlong_ends (placed (Var scope word No) p) ks n e
+overlong_finish (Held x r o) ks n e = overlong_ends (Held x r o) ks n e
+overlong_finish (Got v) ks n e = overlong_ends (Got v) ks n e
+
+-- a state that is stuck at a word is stuck at a name
+stuck_short : (s : State) (word : List ℕ) (ks : List Symbol) (n : ℕ) (b : Bool) → nat_le (length word) 31 ≡ b → finish s (cond b (Name word) Overlong ∷ ks) ≡ StuckAt n → length word ≤ 31
+stuck_short s word ks n true e f = grind (arith, nat_tests)
+stuck_short s word ks n false e f = absurd (overlong_finish s ks n f)
+
 -- ---- tokens by their symbols
 
 pub record Uncons (b : List Token) (x : Symbol) (xs : List Symbol) : Type 0 where
@@ -237,6 +263,7 @@ module _ {T : Type 0} (K : Kind) (P : Phrases T) (W : Wraps K P) where
         before = begun (limits d) s.front h.end h.front s.first (h.along.reads [] (start_read K (limits d)));
         whole = halts_whole (limits d) (map symbol ks) (StuckAt n) h s.front s.first (λ p r f. cc);
         at = λ k more f b. halts_none (limits d) (map symbol ks) (StuckAt n) h s.front k (map symbol more) s.first (sym s.last ∙ ap (λ (v : List Token). map symbol v) f) b;
+        short = λ word more f. stuck_short h.end word (map symbol more) n (nat_le (length word) 31) refl (ap (λ (v : List Symbol). finish h.end v) (ap (λ (v : List Token). map symbol v) (sym f) ∙ s.last) ∙ h.gives);
       }
 
   -- DEEP

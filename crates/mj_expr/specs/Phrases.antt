@@ -1,5 +1,5 @@
 -- What is read at the front of the tokens, and what a refusal says.
-use Rattle.std.specs.Prelude.{ℕ, ◌≡◌, ◌+◌, ◌<◌, List, [], ◌∷◌, ◌++◌, length}
+use Rattle.std.specs.Prelude.{ℕ, ◌≡◌, ◌+◌, ◌<◌, ◌≤◌, List, [], ◌∷◌, ◌++◌, length}
 use Rattle.mj_ast.specs.declared.sign.Sign.TheVariants.{Comma}
 use Rattle.mj_ast.specs.Tokens.{Token, Word, Signed}
 use Rattle.mj_ast.specs.Lines.{Filler}
@@ -17,7 +17,7 @@ pub record IsRead {T : Type 0} (P : Phrases T) (depth : ℕ) (ks : List Token) (
   pub ends : (k : Token) (more : List Token) → rest ≡ k ∷ more → Begins P (front ++ k ∷ []) → ⊥
 
 -- The tokens up to those that are left begin a phrase within the limits and spell none, and with the next one, if there is
--- one, they begin none, whatever the limits.
+-- one, they begin none, whatever the limits. That one is no word over its limit.
 pub record IsStuck {T : Type 0} (P : Phrases T) (depth : ℕ) (ks : List Token) (left : ℕ) : Type 0 where
   pub front : List Token
   pub rest : List Token
@@ -26,6 +26,7 @@ pub record IsStuck {T : Type 0} (P : Phrases T) (depth : ℕ) (ks : List Token) 
   pub before : BeginsWithin P depth width_limit front
   pub whole : (t : T) → Spells P front t → ⊥
   pub at : (k : Token) (more : List Token) → rest ≡ k ∷ more → Begins P (front ++ k ∷ []) → ⊥
+  pub short : (word : List ℕ) (more : List Token) → rest ≡ Word word ∷ more → length word ≤ name_limit
 
 -- The tokens up to those that are left begin a phrase within the limits. With the next one they begin one that nests one
 -- level deeper than is allowed, and none that nests less.

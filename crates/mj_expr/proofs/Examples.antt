@@ -1,0 +1,60 @@
+-- Worked rows of the machine.
+use Rattle.std.proofs.Common.{◌≡◌, ℕ, [], ◌∷◌, refl, map}
+use Rattle.mj_ast.specs.declared.sign.Sign.TheVariants.{Plus, Minus, Equals, Caret, Open, Close, Comma}
+use Rattle.mj_ast.specs.declared.expr.Scope.TheVariants.{Local, Global}
+use Rattle.mj_ast.specs.declared.expr.UnaryOp.TheVariants as unary
+use Rattle.mj_ast.specs.declared.expr.BinaryOp.TheVariants as binary
+use Rattle.mj_ast.specs.Syntax.{Chain, Done, Then, Literal, Value, Unary, Group, Var, No, More}
+use Rattle.mj_ast.specs.Tokens.{Token, Word, Quoted, Signed, Blank, Unclosed}
+use Rattle.mj_ast.specs.Expressions.{symbol, expr_symbols, expr_nesting}
+use Rattle.mj_expr.specs.Machine.{Wanted, Sought, Front, Alone, AsTarget, Limits, Whole, Target, Accept, StuckAt, DeepAt, TooLong, run}
+
+abbrev levels : ℕ → Limits
+levels n = record { depth = n; width = 2 }
+
+abbrev a : Token
+a = Word (65 ∷ [])
+
+-- `A+-"x"` is whole before a blank
+whole_row : run (levels 1) (map symbol (a ∷ Signed Plus ∷ Signed Minus ∷ Quoted (120 ∷ []) ∷ Blank ∷ [])) (Wanted (Front Alone))
+    ≡ Accept (Whole (Chain (Value (Var Local (65 ∷ []) No)) (Then binary.Add (Unary unary.Minus (Literal (120 ∷ []))) Done))) (map symbol (Blank ∷ []))
+whole_row = refl
+
+-- `A+-"x"` opens a level too many at the `-` where none may be opened
+deep_row : run (levels 0) (map symbol (a ∷ Signed Plus ∷ Signed Minus ∷ Quoted (120 ∷ []) ∷ [])) (Wanted (Front Alone)) ≡ DeepAt 2
+deep_row = refl
+
+-- `(A` is stuck at the end
+open_row : run (levels 1) (map symbol (Signed Open ∷ a ∷ [])) (Wanted (Front Alone)) ≡ StuckAt 0
+open_row = refl
+
+-- `A(` and an unclosed quote are stuck at the quote
+quote_row : run (levels 1) (map symbol (a ∷ Signed Open ∷ Unclosed (120 ∷ []) ∷ [])) (Wanted (Front Alone)) ≡ StuckAt 1
+quote_row = refl
+
+-- `^A=` is a variable before the `=`, and goes on as an expression
+target_row : run (levels 1) (map symbol (Signed Caret ∷ a ∷ Signed Equals ∷ [])) (Sought AsTarget) ≡ Accept (Target (Var Global (65 ∷ []) No)) (map symbol (Signed Equals ∷ []))
+target_row = refl
+
+equals_row : run (levels 1) (map symbol (Signed Caret ∷ a ∷ Signed Equals ∷ [])) (Wanted (Front Alone)) ≡ StuckAt 0
+equals_row = refl
+
+-- `A(A,A` may have no third subscript, where lists have two
+long_row : run (levels 1) (map symbol (a ∷ Signed Open ∷ a ∷ Signed Comma ∷ a ∷ Signed Comma ∷ [])) (Wanted (Front Alone)) ≡ TooLong
+long_row = refl
+
+-- nor where an operand is missing before the comma
+missing_row : run (levels 1) (map symbol (a ∷ Signed Open ∷ a ∷ Signed Comma ∷ Signed Comma ∷ [])) (Wanted (Front Alone)) ≡ TooLong
+missing_row = refl
+
+-- `A((B),"x")` as symbols, and how deep it nests
+spelling_row : expr_symbols (Chain (Value (Var Local (65 ∷ []) (More (Chain (Group (Chain (Value (Var Local (66 ∷ []) No)) Done)) Done) (More (Chain (Literal (120 ∷ [])) Done) No)))) Done)
+    ≡ map symbol (a ∷ Signed Open ∷ Signed Open ∷ Word (66 ∷ []) ∷ Signed Close ∷ Signed Comma ∷ Quoted (120 ∷ []) ∷ Signed Close ∷ [])
+spelling_row = refl
+
+nesting_row : expr_nesting (Chain (Value (Var Local (65 ∷ []) (More (Chain (Group (Chain (Value (Var Local (66 ∷ []) No)) Done)) Done) No))) Done) ≡ 2
+nesting_row = refl
+
+-- `-A+-B` nests one level deep
+unary_row : expr_nesting (Chain (Unary unary.Minus (Value (Var Local (65 ∷ []) No))) (Then binary.Add (Unary unary.Minus (Value (Var Local (66 ∷ []) No))) Done)) ≡ 1
+unary_row = refl
