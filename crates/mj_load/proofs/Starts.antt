@@ -72,6 +72,8 @@ leads image entry place pc f at =
       unit_there = f.u;
       at = f.at;
       name = f.same;
+      short = omega (arith, f.within.short, ap length f.code.name);
+      few = omega (arith, f.code.starts, f.code.few);
       pc = sym begins;
       entered_there =
           ap (entered_in entry) f.lines
@@ -86,7 +88,7 @@ leads image entry place pc f at =
 -- the unit that a look-up gives
 pub looked : (image : Loaded) → IsImage image → (entry : Entry) (place : ℕ) (seen : List unit.Unit) → Some place ≡ place_of entry.routine 0 seen → seen ≡ image.units → FoundAt image.routines image.units entry.routine place
 looked image whole entry place seen e same =
-    found_at image.routines image.units entry.routine place whole.units (sym (e ∙ ap (place_of entry.routine 0) same))
+    found_at image.routines image.units entry.routine place whole.within whole.units (sym (e ∙ ap (place_of entry.routine 0) same))
 
 pub looked_up : (image : Loaded) (entry : Entry) (place : ℕ) (f : FoundAt image.routines image.units entry.routine place) (u : unit.Unit) → u ≡ get_or image.units place u → u ≡ f.u
 looked_up image entry place f u e = e ∙ get_or_from_slice_get image.units place f.u u f.at

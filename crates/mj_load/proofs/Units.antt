@@ -2,7 +2,7 @@
 use Rattle.std.proofs.Common.{◌≡◌, ℕ, suc, ◌+◌, ◌<◌, List, [], ◌∷◌, ◌++◌, Bool, true, false, Option, Some, None, length, get_or, take, map, refl, sym, ap, ◌∙◌, subst, arith}
 use Rattle.std.proofs.lemmas.List.{take_more}
 use Rattle.std.proofs.lemmas.Slice.Eq.{bytes_eq-Decides}
-use Rattle.std.specs.Prelude.{slice_get, if◌then◌else◌, cond}
+use Rattle.std.specs.Prelude.{All, slice_get, if◌then◌else◌, cond}
 use Rattle.std.specs.List.{position_from}
 use Rattle.std.specs.Str.{bytes_eq}
 use Rattle.mj_ast.specs.declared.routine.Routine.{Routine}
@@ -10,7 +10,7 @@ use Rattle.mj_ast.specs.Trees.{routine_of}
 use Rattle.mj_semantics.specs.Lines.{lines_of}
 use Rattle.mj_pcode.specs.declared.instr.Unit as unit
 use Rattle.mj_asm.specs.Correct.{IsUnitOf}
-use Rattle.mj_load.specs.Image.{AreUnits}
+use Rattle.mj_load.specs.Image.{IsWithinLimits, AreUnits}
 
 added : (rs : List Routine) (us : List unit.Unit) (r : Routine) (u : unit.Unit) → AreUnits rs us → IsUnitOf (routine_of r) u → AreUnits (rs ++ r ∷ []) (us ++ u ∷ [])
 added [] [] r u h k = (k, tt)
@@ -29,6 +29,7 @@ pub record FoundAt (rs : List Routine) (us : List unit.Unit) (name : List ℕ) (
   pub u : unit.Unit
   pub at : slice_get us j ≡ Some u
   pub code : IsUnitOf (routine_of routine) u
+  pub within : IsWithinLimits routine
   pub same : u.name ≡ name
   pub lines : lines_of (map routine_of rs) name ≡ (routine_of routine).lines
 
@@ -58,10 +59,10 @@ record Place (rs : List Routine) (us : List unit.Unit) (name : List ℕ) (i k : 
 some_same : (a b : ℕ) → ◌≡◌ {A = Option ℕ} (Some a) (Some b) → a ≡ b
 some_same a b e = cc
 
-placed : (rs : List Routine) (us : List unit.Unit) (name : List ℕ) (i k : ℕ) → AreUnits rs us → place_of name i us ≡ Some k → Place rs us name i k
-placed rs [] name i k h e = let p : ◌≡◌ {A = Option ℕ} None (Some k) = e in cc
-placed [] (u ∷ us) name i k h e = absurd h
-placed (r ∷ rs) (u ∷ us) name i k h e = go (bytes_eq u.name name) refl (placed rs us name (i + 1) k h.1)
+placed : (rs : List Routine) (us : List unit.Unit) (name : List ℕ) (i k : ℕ) → All IsWithinLimits rs → AreUnits rs us → place_of name i us ≡ Some k → Place rs us name i k
+placed rs [] name i k w h e = let p : ◌≡◌ {A = Option ℕ} None (Some k) = e in cc
+placed [] (u ∷ us) name i k w h e = absurd h
+placed (r ∷ rs) (u ∷ us) name i k w h e = go (bytes_eq u.name name) refl (placed rs us name (i + 1) k (λ j d lt. w (suc j) d (omega (arith, lt))) h.1)
   where
     go : (t : Bool) → bytes_eq u.name name ≡ t → (place_of name (i + 1) us ≡ Some k → Place rs us name (i + 1) k) → Place (r ∷ rs) (u ∷ us) name i k
     go true b later =
@@ -69,7 +70,7 @@ placed (r ∷ rs) (u ∷ us) name i k h e = go (bytes_eq u.name name) refl (plac
         record {
           j = 0;
           here = omega (arith, p);
-          found = record { routine = r; u = u; at = refl; code = h.0; same = (bytes_eq-Decides u.name name).0 b; lines = in_front r rs u name true h.0 b };
+          found = record { routine = r; u = u; at = refl; code = h.0; within = w 0 r (omega arith); same = (bytes_eq-Decides u.name name).0 b; lines = in_front r rs u name true h.0 b };
         }
     go false b later =
         let q = later (sym (ap (λ v. cond v (Some i) (place_of name (i + 1) us)) b) ∙ e) in
@@ -81,13 +82,14 @@ placed (r ∷ rs) (u ∷ us) name i k h e = go (bytes_eq u.name name) refl (plac
             u = q.found.u;
             at = q.found.at;
             code = q.found.code;
+            within = q.found.within;
             same = q.found.same;
             lines = in_front r rs u name false h.0 b ∙ q.found.lines;
           };
         }
 
-pub found_at : (rs : List Routine) (us : List unit.Unit) (name : List ℕ) (k : ℕ) → AreUnits rs us → place_of name 0 us ≡ Some k → FoundAt rs us name k
-found_at rs us name k h e =
-    let p = placed rs us name 0 k h e in
+pub found_at : (rs : List Routine) (us : List unit.Unit) (name : List ℕ) (k : ℕ) → All IsWithinLimits rs → AreUnits rs us → place_of name 0 us ≡ Some k → FoundAt rs us name k
+found_at rs us name k w h e =
+    let p = placed rs us name 0 k w h e in
     let same : p.j ≡ k = omega (arith, p.here) in
     subst (FoundAt rs us name) same p.found

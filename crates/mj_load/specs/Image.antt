@@ -63,6 +63,8 @@ pub record Leads (image : Loaded) (entry : Entry) (start : Start) : Type 0 where
   pub unit_there : unit.Unit
   pub at : slice_get image.units start.unit ≡ Some unit_there
   pub name : unit_there.name ≡ entry.routine
+  pub short : length unit_there.name ≤ 31
+  pub few : length unit_there.starts.items < 2 ^ 32
   pub pc : start.pc ≡ start_of unit_there start.line
   pub entered_there : entered (routines_of image) entry ≡ Some (record { routine = entry.routine; line = start.line })
   pub does :
