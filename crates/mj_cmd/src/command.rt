@@ -4,36 +4,36 @@ ghost use Rattle.std.specs.Prelude.{◌<◌, ◌≤◌, IfOk, length};
 
 use crate::keyword::{Keyword, keyword_of};
 use crate::parts::{behind_sign, blank, may_end, sign, stuck};
+use crate::phrase::Phrases;
 use mj_ast::{Assignment, Command, Expr, Mark, Output, Sign, Step};
-use mj_expr::{Stop, expression, variable};
+use mj_expr::Stop;
 use mj_lex::{Lexeme, Token, next};
-use std::alloc::Global;
 
 /// `variable = expression`
 fn assignment<'a, 't>(
-    alloc: Global,
+    phrases: Phrases,
     tokens: &'t [Lexeme<'a>],
 ) -> Result<(Assignment, &'t [Lexeme<'a>]), Stop>
-    ensures { IfOk result (λ x. length x.1.now < length tokens.now) }
+    ensures { IfOk result (λ x. length x.1.now ≤ length tokens.now) }
 {
-    let (destination, rest) = variable(alloc, tokens, 0)?;
+    let (destination, rest) = phrases.variable(tokens)?;
     let rest = sign(rest, Sign::Equals)?;
-    let (value, rest) = expression(alloc, rest, 0)?;
+    let (value, rest) = phrases.expression(rest)?;
     Ok((Assignment { destination, value }, rest))
 }
 
 /// The arguments of SET.
 fn assignments<'a, 't>(
-    alloc: Global,
+    phrases: Phrases,
     tokens: &'t [Lexeme<'a>],
 ) -> Result<(Vec<Assignment>, &'t [Lexeme<'a>]), Stop>
-    ensures { IfOk result (λ x. length x.1.now < length tokens.now) }
+    ensures { IfOk result (λ x. length x.1.now ≤ length tokens.now) }
 {
-    let mut arguments = Vec::new(alloc);
-    let (first, mut rest) = assignment(alloc, tokens)?;
+    let mut arguments = Vec::new(phrases.alloc);
+    let (first, mut rest) = assignment(phrases, tokens)?;
     arguments.push(first)?;
     'commas: while let Some(behind) = behind_sign(rest, Sign::Comma) {
-        let (argument, behind) = assignment(alloc, behind)?;
+        let (argument, behind) = assignment(phrases, behind)?;
         arguments.push(argument)?;
         rest = behind;
     }
@@ -52,32 +52,32 @@ fn marks(tokens: &[Lexeme]) -> usize
 
 /// An argument of WRITE: a format, or an expression.
 fn output<'a, 't>(
-    alloc: Global,
+    phrases: Phrases,
     tokens: &'t [Lexeme<'a>],
 ) -> Result<(Output, &'t [Lexeme<'a>]), Stop>
-    ensures { IfOk result (λ x. length x.1.now < length tokens.now) }
+    ensures { IfOk result (λ x. length x.1.now ≤ length tokens.now) }
 {
     let count = marks(tokens);
     if count > 0 {
-        let marks = vec![in alloc; Mark::NewLine; count]?;
+        let marks = vec![in phrases.alloc; Mark::NewLine; count]?;
         return Ok((Output::Format(marks), &tokens[count..]));
     }
-    let (value, rest) = expression(alloc, tokens, 0)?;
+    let (value, rest) = phrases.expression(tokens)?;
     Ok((Output::Value(value), rest))
 }
 
 /// The arguments of WRITE.
 fn outputs<'a, 't>(
-    alloc: Global,
+    phrases: Phrases,
     tokens: &'t [Lexeme<'a>],
 ) -> Result<(Vec<Output>, &'t [Lexeme<'a>]), Stop>
-    ensures { IfOk result (λ x. length x.1.now < length tokens.now) }
+    ensures { IfOk result (λ x. length x.1.now ≤ length tokens.now) }
 {
-    let mut arguments = Vec::new(alloc);
-    let (first, mut rest) = output(alloc, tokens)?;
+    let mut arguments = Vec::new(phrases.alloc);
+    let (first, mut rest) = output(phrases, tokens)?;
     arguments.push(first)?;
     'commas: while let Some(behind) = behind_sign(rest, Sign::Comma) {
-        let (argument, behind) = output(alloc, behind)?;
+        let (argument, behind) = output(phrases, behind)?;
         arguments.push(argument)?;
         rest = behind;
     }
@@ -86,7 +86,7 @@ fn outputs<'a, 't>(
 
 /// A postcondition, if there is one.
 fn condition<'a, 't>(
-    alloc: Global,
+    phrases: Phrases,
     tokens: &'t [Lexeme<'a>],
 ) -> Result<(Option<Expr>, &'t [Lexeme<'a>]), Stop>
     ensures { IfOk result (λ x. length x.1.now ≤ length tokens.now) }
@@ -94,7 +94,7 @@ fn condition<'a, 't>(
     match behind_sign(tokens, Sign::Colon) {
         None => Ok((None, tokens)),
         Some(behind) => {
-            let (condition, rest) = expression(alloc, behind, 0)?;
+            let (condition, rest) = phrases.expression(behind)?;
             Ok((Some(condition), rest))
         }
     }
@@ -124,7 +124,7 @@ fn behind_no_arguments<'a, 't>(tokens: &'t [Lexeme<'a>]) -> Result<&'t [Lexeme<'
 
 /// The command behind its word and its postcondition.
 fn command<'a, 't>(
-    alloc: Global,
+    phrases: Phrases,
     keyword: Keyword,
     tokens: &'t [Lexeme<'a>],
 ) -> Result<(Command, &'t [Lexeme<'a>]), Stop>
@@ -132,11 +132,11 @@ fn command<'a, 't>(
 {
     match keyword {
         Keyword::Set => {
-            let (arguments, rest) = assignments(alloc, blank(tokens)?)?;
+            let (arguments, rest) = assignments(phrases, blank(tokens)?)?;
             Ok((Command::Set(arguments), behind_arguments(rest)?))
         }
         Keyword::Write => {
-            let (arguments, rest) = outputs(alloc, blank(tokens)?)?;
+            let (arguments, rest) = outputs(phrases, blank(tokens)?)?;
             Ok((Command::Write(arguments), behind_arguments(rest)?))
         }
         Keyword::Halt => Ok((Command::Halt, behind_no_arguments(tokens)?)),
@@ -145,7 +145,7 @@ fn command<'a, 't>(
 
 /// A command, up to where it ends.
 pub fn step<'a, 't>(
-    alloc: Global,
+    phrases: Phrases,
     tokens: &'t [Lexeme<'a>],
 ) -> Result<(Step, &'t [Lexeme<'a>]), Stop>
     ensures { IfOk result (λ x. length x.1.now < length tokens.now) }
@@ -157,7 +157,7 @@ pub fn step<'a, 't>(
     let Some(keyword) = keyword_of(word) else {
         return Err(stuck(tokens));
     };
-    let (condition, rest) = condition(alloc, rest)?;
-    let (command, rest) = command(alloc, keyword, rest)?;
+    let (condition, rest) = condition(phrases, rest)?;
+    let (command, rest) = command(phrases, keyword, rest)?;
     Ok((Step { condition, command }, rest))
 }

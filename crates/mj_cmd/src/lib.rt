@@ -4,9 +4,11 @@
 // it is the token there that is named, by how many tokens are left from it on (none at the line's end).
 #![tactic(auto)]
 
+mod beyond;
 mod command;
 mod keyword;
 mod lines;
 mod parts;
+mod phrase;
 
 pub use lines::line;

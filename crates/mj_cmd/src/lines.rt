@@ -4,6 +4,7 @@ ghost use Rattle.std.specs.Prelude.{◌<◌, ◌≤◌, IfOk, length};
 
 use crate::command::step;
 use crate::parts::{WORD_LIMIT, behind_blanks, stuck};
+use crate::phrase::Phrases;
 use mj_ast::{Line, Step};
 use mj_expr::Stop;
 use mj_lex::{Lexeme, Token, next};
@@ -31,11 +32,11 @@ fn label<'a, 't>(
 }
 
 /// The commands behind the blanks in front, up to a comment or the line's end.
-fn steps(alloc: Global, tokens: &[Lexeme]) -> Result<Vec<Step>, Stop> {
-    let mut steps = Vec::new(alloc);
+fn steps(phrases: Phrases, tokens: &[Lexeme]) -> Result<Vec<Step>, Stop> {
+    let mut steps = Vec::new(phrases.alloc);
     let mut rest = behind_blanks(tokens);
     'steps: while let Some((Token::Word(_), _)) = next(rest) {
-        let (read, behind) = step(alloc, rest)?;
+        let (read, behind) = step(phrases, rest)?;
         steps.push(read)?;
         rest = behind_blanks(behind);
     }
@@ -47,9 +48,9 @@ fn steps(alloc: Global, tokens: &[Lexeme]) -> Result<Vec<Step>, Stop> {
     }
 }
 
-/// The line that the tokens spell.
-pub fn line(alloc: Global, tokens: &[Lexeme]) -> Result<Line, Stop> {
-    let (label, rest) = label(alloc, tokens)?;
+/// The line in front, its phrases read in this way.
+fn line_by(phrases: Phrases, tokens: &[Lexeme]) -> Result<Line, Stop> {
+    let (label, rest) = label(phrases.alloc, tokens)?;
     let begins = match next(rest) {
         None | Some((Token::Blank, _)) => true,
         Some((Token::Comment(_), _)) => label.is_none(),
@@ -58,6 +59,28 @@ pub fn line(alloc: Global, tokens: &[Lexeme]) -> Result<Line, Stop> {
     if !begins {
         return Err(stuck(rest));
     }
-    let steps = steps(alloc, rest)?;
+    let steps = steps(phrases, rest)?;
     Ok(Line { label, steps })
+}
+
+/// The line that the tokens spell. A level too many doesn't end the search for a word or a list over its limit.
+pub fn line(alloc: Global, tokens: &[Lexeme]) -> Result<Line, Stop> {
+    let limited = Phrases {
+        alloc,
+        limited: true,
+    };
+    match line_by(limited, tokens) {
+        Err(Stop::Deep(left)) => {
+            let unlimited = Phrases {
+                alloc,
+                limited: false,
+            };
+            match line_by(unlimited, tokens) {
+                Err(Stop::Long) => Err(Stop::Long),
+                Err(Stop::Memory) => Err(Stop::Memory),
+                _ => Err(Stop::Deep(left)),
+            }
+        }
+        read => read,
+    }
 }

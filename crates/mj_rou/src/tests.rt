@@ -70,7 +70,7 @@ fn lines_are_read_or_refused(rt: HostRuntime) {
 
 #[test]
 fn limits_are_kept(rt: HostRuntime) {
-    let rows: [(&[u8], &[u8], usize, &[u8], &str); 14] = [
+    let rows: [(&[u8], &[u8], usize, &[u8], &str); 17] = [
         (b";", b"c", 8_191, b"\r\n", "ok"),
         (b";", b"c", 8_192, b"\r\n", "L5 R:1"),
         (b"", b"\n", 10_000, b"", "ok"),
@@ -85,6 +85,9 @@ fn limits_are_kept(rt: HostRuntime) {
         (b" W X(1", b",1", 29, b",,", "L5 R:1"),
         (b" W X(1", b",1", 28, b",,", "L2 R:1:64"),
         (b" WRITE ", b"(", 65, b"ABCDEFGHIJKLMNOPQRSTUVWXYZABCDEF", "L5 R:1"),
+        (b" WRITE ", b"(", 65, b"1,ABCDEFGHIJKLMNOPQRSTUVWXYZABCDEF", "L6 R:1:72"),
+        (b" WRITE ", b"-", 65, b"1 S X(1)=ABCDEFGHIJKLMNOPQRSTUVWXYZABCDEF", "L5 R:1"),
+        (b" W 1,", b"-", 65, b"X(1)*2  S ^(", "L6 R:1:70"),
     ];
     for (front, middle, times, back, wanted) in rows {
         let bytes = around(rt.alloc(), front, middle, times, back).expect(&rt, "memory");

@@ -1,8 +1,8 @@
-use Rattle.std.proofs.Common.{◌<◌, length}
+use Rattle.std.proofs.Common.{◌≤◌, length}
 use Rattle.mj_cmd.proofs.command.outputs.Given as goal
 
 abbrev pub invariant-commas : goal.invariant-commas
-invariant-commas l = length l.rest < length l.tokens
+invariant-commas l = length l.rest ≤ length l.tokens
 
 abbrev pub decreases-commas : goal.decreases-commas
 decreases-commas l = length l.rest

@@ -1,0 +1,56 @@
+// The phrases of commands: expressions and variables, with their trees, or without them and however deep they nest.
+
+ghost use Rattle.std.specs.Prelude.{◌≤◌, IfOk, length};
+
+use crate::beyond::beyond;
+use mj_ast::{Expr, Operand, Scope, Variable};
+use mj_expr::Stop;
+use mj_lex::Lexeme;
+use mj_text::Text;
+use std::alloc::Global;
+
+/// How the phrases of a line are read: within the depth limit, or only up to where they end.
+#[derive(Clone, Copy)]
+pub struct Phrases {
+    pub alloc: Global,
+    pub limited: bool,
+}
+
+impl Phrases {
+    /// An expression, from nesting level 0 on. Where depth doesn't matter its tree stands for any.
+    pub fn expression<'a, 't>(
+        self,
+        tokens: &'t [Lexeme<'a>],
+    ) -> Result<(Expr, &'t [Lexeme<'a>]), Stop>
+        ensures { IfOk result (λ x. length x.1.now ≤ length tokens.now) }
+    {
+        if self.limited {
+            return mj_expr::expression(self.alloc, tokens, 0);
+        }
+        let rest = beyond(self.alloc, tokens, true)?;
+        let any = Expr {
+            first: Operand::Literal(Text::new(self.alloc)),
+            rest: Vec::new(self.alloc),
+        };
+        Ok((any, rest))
+    }
+
+    /// A variable, likewise.
+    pub fn variable<'a, 't>(
+        self,
+        tokens: &'t [Lexeme<'a>],
+    ) -> Result<(Variable, &'t [Lexeme<'a>]), Stop>
+        ensures { IfOk result (λ x. length x.1.now ≤ length tokens.now) }
+    {
+        if self.limited {
+            return mj_expr::variable(self.alloc, tokens, 0);
+        }
+        let rest = beyond(self.alloc, tokens, false)?;
+        let any = Variable {
+            scope: Scope::Local,
+            word: Text::new(self.alloc),
+            subscripts: Vec::new(self.alloc),
+        };
+        Ok((any, rest))
+    }
+}
