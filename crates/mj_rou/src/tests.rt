@@ -12,7 +12,13 @@ fn outcome(alloc: Global, bytes: &[u8]) -> Result<String, AllocError> {
 }
 
 /// `front`, then `middle` so many times, then `back`.
-fn around(alloc: Global, front: &[u8], middle: &[u8], times: usize, back: &[u8]) -> Result<Vec<u8>, AllocError> {
+fn around(
+    alloc: Global,
+    front: &[u8],
+    middle: &[u8],
+    times: usize,
+    back: &[u8],
+) -> Result<Vec<u8>, AllocError> {
     let mut bytes = Vec::from_slice(alloc, front)?;
     for _ in 0..times {
         bytes.extend_from_slice(middle)?;
@@ -84,9 +90,27 @@ fn limits_are_kept(rt: HostRuntime) {
         (b" W X(1", b",1", 30, b",,", "L5 R:1"),
         (b" W X(1", b",1", 29, b",,", "L5 R:1"),
         (b" W X(1", b",1", 28, b",,", "L2 R:1:64"),
-        (b" WRITE ", b"(", 65, b"ABCDEFGHIJKLMNOPQRSTUVWXYZABCDEF", "L5 R:1"),
-        (b" WRITE ", b"(", 65, b"1,ABCDEFGHIJKLMNOPQRSTUVWXYZABCDEF", "L6 R:1:72"),
-        (b" WRITE ", b"-", 65, b"1 S X(1)=ABCDEFGHIJKLMNOPQRSTUVWXYZABCDEF", "L5 R:1"),
+        (
+            b" WRITE ",
+            b"(",
+            65,
+            b"ABCDEFGHIJKLMNOPQRSTUVWXYZABCDEF",
+            "L5 R:1",
+        ),
+        (
+            b" WRITE ",
+            b"(",
+            65,
+            b"1,ABCDEFGHIJKLMNOPQRSTUVWXYZABCDEF",
+            "L6 R:1:72",
+        ),
+        (
+            b" WRITE ",
+            b"-",
+            65,
+            b"1 S X(1)=ABCDEFGHIJKLMNOPQRSTUVWXYZABCDEF",
+            "L5 R:1",
+        ),
         (b" W 1,", b"-", 65, b"X(1)*2  S ^(", "L6 R:1:70"),
     ];
     for (front, middle, times, back, wanted) in rows {
@@ -100,7 +124,9 @@ fn limits_are_kept(rt: HostRuntime) {
 fn names_are_words(rt: HostRuntime) {
     assert!(rt; read(rt.alloc(), b"%A1", b"").is_ok());
     for name in [&b"1A"[..], b"", b"A%", b"ABCDEFGHIJKLMNOPQRSTUVWXYZABCDEF"] {
-        let refusal = read(rt.alloc(), name, b" W (").err().expect(&rt, "a refusal");
+        let refusal = read(rt.alloc(), name, b" W (")
+            .err()
+            .expect(&rt, "a refusal");
         let given = format!(in rt.alloc(); "{refusal}").expect(&rt, "memory");
         assert_eq!(rt; given.as_str(), "L1");
     }
