@@ -33,6 +33,8 @@ pub fn obey(
 ) -> Result<Step, AllocError>
     requires next { pc + 1 < 2 ^ 64 }
     requires short { length unit.now.name ≤ 31 }
+    ensures ok { IfOk result (λ step. Does (λ next. act unit.now (Some instr.now) next pc (stack_of machine.old)) machine.old (replied given.entry) step machine.new) }
+    ensures err { OnErr result ((reply : Option replies.Reply) → standing machine.new reply ≡ standing machine.old reply) }
 {
     match instr {
         Instr::Line(line) => enter_line(unit, pc, *line, machine),
@@ -90,6 +92,8 @@ pub fn turn(
     given: Option<&Reply>,
 ) -> Result<Step, AllocError>
     requires { IsFit (unit_at unit) }
+    ensures ok { IfOk result (λ step. standings.Steps (record { unit = unit_at unit.entry; target = target_at target.entry }) (standing machine.old (replied given.entry)) (told step) (standing machine.new (left_of step (replied given.entry)))) }
+    ensures err { OnErr result ((reply : Option replies.Reply) → standing machine.new reply ≡ standing machine.old reply) }
 {
     match machine.control {
         Control::Begin => begin(alloc, target, machine, given),

@@ -31,7 +31,7 @@ first_run = refl
 -- SET X=1,X(2)=X+1 WRITE X(2)_X,Y
 undefined : asks (
     line (cmd (Set (record { destination = local (codes "X"); value = one (lit (codes "1")) }
-      ∷ record { destination = local_at (codes "X") (one (lit (codes "2"))); value = Chain (Value (local (codes "X"))) (Then Add (lit (codes "1")) Done) } ∷ []))
+    ∷ record { destination = local_at (codes "X") (one (lit (codes "2"))); value = Chain (Value (local (codes "X"))) (Then Add (lit (codes "1")) Done) } ∷ []))
     ∷ cmd (Write (Shown (Chain (Value (local_at (codes "X") (one (lit (codes "2"))))) (Then Join (Value (local (codes "X"))) Done)) ∷ Shown (one (Value (local (codes "Y")))) ∷ [])) ∷ []) ∷ [])
     (done 5 [])
     ≡ ask.DeviceBegin zero_name ∷ ask.DeviceWrite zero_name (codes "21")
@@ -50,8 +50,8 @@ no_line = refl
 conditions : asks (
     line (cmd (Write (Shown (one (lit (codes "a"))) ∷ Format (NewLine ∷ []) ∷ [])) ∷ [])
     ∷ line (cmd_if (Chain (lit (codes "1")) (Then Equal (lit (codes "2")) Done)) (Write (Shown (one (lit (codes "b"))) ∷ []))
-      ∷ cmd_if (Chain (lit (codes "x")) (Then Equal (lit (codes "0")) Done)) (Write (Shown (one (lit (codes "c"))) ∷ []))
-      ∷ cmd_if (one (Unary Minus (lit (codes "3")))) (Write (Shown (one (lit (codes "d"))) ∷ [])) ∷ [])
+    ∷ cmd_if (Chain (lit (codes "x")) (Then Equal (lit (codes "0")) Done)) (Write (Shown (one (lit (codes "c"))) ∷ []))
+    ∷ cmd_if (one (Unary Minus (lit (codes "3")))) (Write (Shown (one (lit (codes "d"))) ∷ [])) ∷ [])
     ∷ line (cmd_if (one (lit (codes "0"))) Halt ∷ cmd (Write (Shown (one (lit [])) ∷ [])) ∷ cmd_if (one (lit (codes "1"))) (Write (Shown (one (lit (codes "e"))) ∷ [])) ∷ [])
     ∷ []) (done 6 [])
     ≡ ask.DeviceBegin zero_name ∷ ask.DeviceWrite zero_name (codes "a") ∷ ask.DeviceWrite zero_name (10 ∷ [])
