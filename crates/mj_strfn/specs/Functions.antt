@@ -1,6 +1,6 @@
 -- What each string function gives: a text, seen as the list of its bytes, or the fault that stands in its place.
 -- The arguments are texts; those that stand for numbers are read here, from left to right, before anything else is looked at.
--- ISO/IEC 11756:1999, 7.1.5; the limits, the faults and the edge cases are this profile's.
+-- ISO/IEC 11756:1999, 7.1.5 (functions) and 8.2 (SET); the limits, the faults and the edge cases are this profile's.
 use Rattle.std.specs.Prelude.{◌≡◌, ℕ, zero, suc, ◌+◌, ◌-◌, ◌==◌, max, nat_le, nat_lt, Bool, true, ◌||◌, List, [], ◌∷◌, ◌++◌, length, take, drop, reverse, replicate, ℤ, pos, negsuc, int_lt, Option, Some, None, Result, Ok, Err, IsOk, ⊤, if◌then◌else◌}
 use Rattle.std.specs.List.{flat_map}
 use Rattle.mj_text.specs.declared.fault.Fault.{Fault}
@@ -61,7 +61,7 @@ within_limit s = if nat_le (length s) 32767 then Ok s else Err Length
 abbrev pub number_text : ℕ → List ℕ
 number_text n = canonic_text (pos n)
 
--- ---- $ASCII (7.1.5.1)
+-- ---- $ASCII
 
 -- the code of the byte at a place that counts from 0, -1 past the end
 abbrev pub code_behind : ℕ → List ℕ → ℤ
@@ -79,7 +79,7 @@ code_at (pos (suc n)) s = code_behind n s
 abbrev pub ascii_value : List ℕ → Option (List ℕ) → Result (List ℕ) Fault
 ascii_value s k = then_value (number_or (pos 1) k) (λ m. Ok (canonic_text (code_at m s)))
 
--- ---- $CHAR (7.1.5.2)
+-- ---- $CHAR
 
 -- the byte of a code, or none below 0; CHAR above 255
 abbrev pub byte_of : ℤ → Result (List ℕ) Fault
@@ -99,13 +99,13 @@ bytes_of_codes (t ∷ ts) = then_value (byte_of_text t) (λ b. then_value (bytes
 abbrev pub char_value : List (List ℕ) → Result (List ℕ) Fault
 char_value ts = then_value (bytes_of_codes ts) within_limit
 
--- ---- $EXTRACT (7.1.5.4)
+-- ---- $EXTRACT
 
 -- `$EXTRACT(s,a,b)`: the bytes at the places from a to b
 abbrev pub extract_value : List ℕ → Option (List ℕ) → Option (List ℕ) → Result (List ℕ) Fault
 extract_value s a b = then_value (from_to a b) (λ r. Ok (places r.0 r.1 s))
 
--- ---- $FIND (7.1.5.5)
+-- ---- $FIND
 
 -- the place behind a place that counts from 0 and the n bytes that stand there, which counts from 1; 0 for none
 abbrev pub place_behind : ℕ → Option ℕ → ℕ
@@ -121,13 +121,13 @@ found_behind s (y ∷ t) k = place_behind (length (y ∷ t)) (find_from s (y ∷
 abbrev pub find_value : List ℕ → List ℕ → Option (List ℕ) → Result (List ℕ) Fault
 find_value s t k = then_value (number_or (pos 1) k) (λ m. Ok (number_text (found_behind s t (max 1 (place m)))))
 
--- ---- $JUSTIFY (7.1.5.8)
+-- ---- $JUSTIFY
 
 -- `$JUSTIFY(s,w)`: blanks before s up to w bytes
 abbrev pub justify_value : List ℕ → List ℕ → Result (List ℕ) Fault
 justify_value s w = then_value (reading w) (λ m. within_limit (replicate (place m - length s) 32 ++ s))
 
--- ---- $LENGTH (7.1.5.9)
+-- ---- $LENGTH
 
 -- how many pieces a text has; none where the separator is empty
 abbrev pub piece_count : List ℕ → List ℕ → ℕ
@@ -139,7 +139,7 @@ abbrev pub length_value : List ℕ → Option (List ℕ) → List ℕ
 length_value s None = number_text (length s)
 length_value s (Some d) = number_text (piece_count s d)
 
--- ---- $PIECE (7.1.5.12)
+-- ---- $PIECE
 
 -- the pieces from a to b with the separator between them; nothing where the separator is empty
 abbrev pub some_pieces : List ℕ → List ℕ → ℤ → ℤ → List ℕ
@@ -150,7 +150,7 @@ some_pieces s (x ∷ d) a b = joined (x ∷ d) (places a b (pieces (x ∷ d) s))
 abbrev pub piece_value : List ℕ → List ℕ → Option (List ℕ) → Option (List ℕ) → Result (List ℕ) Fault
 piece_value s d a b = then_value (from_to a b) (λ r. Ok (some_pieces s d r.0 r.1))
 
--- ---- SET of $PIECE (8.2.19)
+-- ---- SET of $PIECE
 
 -- whether nothing is assigned: the separator is empty, the last piece lies below 1 or below the first
 abbrev pub assigns_nothing : List ℕ → ℤ → ℤ → Bool
@@ -175,13 +175,13 @@ abbrev pub set_piece_value : List ℕ → List ℕ → ℕ × ℕ → List ℕ �
 set_piece_value old [] range e = Ok old
 set_piece_value old (x ∷ d) range e = within_limit (with_pieces old (x ∷ d) range e)
 
--- ---- $REVERSE (7.1.5.16)
+-- ---- $REVERSE
 
 -- `$REVERSE(s)`
 abbrev pub reverse_value : List ℕ → List ℕ
 reverse_value s = reverse s
 
--- ---- $TRANSLATE (7.1.5.20)
+-- ---- $TRANSLATE
 
 -- what becomes of byte c: the byte of b at the first place at which c stands in a, or nothing where b has none there; c itself
 -- where it doesn't stand in a
