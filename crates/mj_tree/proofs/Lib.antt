@@ -1,0 +1,3 @@
+pub mod Nest
+pub mod Puts
+pub mod Kills

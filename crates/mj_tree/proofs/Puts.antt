@@ -1,0 +1,163 @@
+-- A text that is put into a node is put into one of its children, or is its own.
+use Rattle.std.proofs.Common.{◌≡◌, ℕ, ◌+◌, ◌<◌, Bool, true, false, cond, ◌&&◌, List, [], ◌∷◌, ◌++◌, length, Option, Some, None, refl, sym, ap, ◌∙◌, subst, arith, Result, Ok, Err, OnOk, OnErr}
+use Rattle.std.specs.Prelude.{T}
+use Rattle.std.specs.declared.cmp.Ordering.{Ordering}
+use Rattle.std.specs.declared.cmp.Ordering.TheVariants.{Less, Equal, Greater}
+use Rattle.std.specs.Ordering.{is_eq, is_lt, ordering_then, match_ordering}
+use Rattle.std.specs.Cmp.{IsTotalOrder, tied_itself}
+use Rattle.std.specs.Cmp.Lexicographic.{slice_cmp}
+use Rattle.std.specs.FinMap.{IsAntisymmetric, put, is_sorted}
+use Rattle.std.specs.FinMap.Entries.{by_order, below_all, is_sorted-put}
+use Rattle.std.specs.Map.{lookup, set_value}
+use Rattle.std.specs.BTreeMap.{is_at, insert_entry}
+use Rattle.mj_tree.specs.Nest.{own, under, below, AreFilled, nodes_of}
+use Rattle.mj_tree.proofs.Nest.{first_so, second_so, is_less, lookup_before}
+
+both_so : (a b : Bool) → T a → T b → T (a && b)
+both_so true b p q = q
+both_so false b p q = p
+
+module _ {K : Type 0} (R : K → K → Ordering) (o : IsTotalOrder R) where
+  before_less : {X : Type 0} (s t : K) (ks : List (K × X)) → R s t ≡ Less → T (below_all R t ks) → T (below_all R s ks)
+  before_less s t [] e h = tt
+  before_less s t (k ∷ ks) e h =
+      both_so (is_lt (R s k.0)) (below_all R s ks) (subst (λ r. T (is_lt r)) (sym (o.trans s t k.0 e (is_less _ (first_so _ _ h)))) tt) (before_less s t ks e (second_so _ _ h))
+
+  -- an entry of a map goes where `put` puts it
+  insert_entry-put : {X : Type 0} (ks : List (K × X)) (s : K) (w : X) → insert_entry R ks s w ≡ put R s w ks
+  insert_entry-put [] s w = refl
+  insert_entry-put (k ∷ ks) s w =
+      elim (R s k.0) as (λ r. match_ordering r ((s, w) ∷ k ∷ ks) ((k.0, w) ∷ ks) (k ∷ insert_entry R ks s w) ≡ by_order r ((s, w) ∷ k ∷ ks) ((k.0, w) ∷ ks) (k ∷ put R s w ks)) [ Less ↦ refl | Equal ↦ refl | Greater ↦ ap (λ r. k ∷ r) (insert_entry-put ks s w) ]
+
+  pub sorted_insert : {X : Type 0} (ks : List (K × X)) (s : K) (w : X) → T (is_sorted R ks) → T (is_sorted R (insert_entry R ks s w))
+  sorted_insert ks s w h = subst (λ es. T (is_sorted R es)) (sym (insert_entry-put ks s w)) (is_sorted-put R o s w ks h)
+
+  -- where the key is there, its value is written over
+  pub insert-set_value : {X : Type 0} (ks : List (K × X)) (s : K) (c w : X) → T (is_sorted R ks) → lookup (is_at (R s)) ks ≡ Some c → insert_entry R ks s w ≡ set_value (is_at (R s)) ks w
+  insert-set_value [] s c w h there = absurd cc
+  insert-set_value (k ∷ ks) s c w h there =
+      elim (R s k.0) as (λ r. R s k.0 ≡ r → cond (is_eq r) (Some k.1) (lookup (is_at (R s)) ks) ≡ Some c → match_ordering r ((s, w) ∷ k ∷ ks) ((k.0, w) ∷ ks) (k ∷ insert_entry R ks s w) ≡ cond (is_eq r) ((k.0, w) ∷ ks) (k ∷ set_value (is_at (R s)) ks w)) [
+        | Less ↦ λ e l. let none = lookup_before R s ks (before_less s k.0 ks e (first_so _ _ h)) in absurd (cc (none, l))
+        | Equal ↦ λ e l. refl
+        | Greater ↦ λ e l. ap (λ r. k ∷ r) (insert-set_value ks s c w (second_so _ _ h) l)
+      ] refl there
+
+module _ {K V : Type 0} (R : K → K → Ordering) where
+  pub put_own : (v : V) (text : Option V) (ks : List (K × List (List K × V))) → AreFilled ks → put (slice_cmp R) [] v (own text ++ below ks) ≡ own (Some v) ++ below ks
+  put_own v None [] h = refl
+  put_own v None ((s, []) ∷ ks) h = absurd (omega (arith, h.0))
+  put_own v None ((s, e ∷ es) ∷ ks) h = refl
+  put_own v (Some text) ks h = refl
+
+  put_over : (s t : K) (p : List K) (v : V) (nodes rest : List (List K × V)) → R s t ≡ Greater → put (slice_cmp R) (s ∷ p) v (under t nodes ++ rest) ≡ under t nodes ++ put (slice_cmp R) (s ∷ p) v rest
+  put_over s t p v [] rest h = refl
+  put_over s t p v (e ∷ es) rest h =
+      ap (λ r. by_order (ordering_then r (slice_cmp R p e.0)) ((s ∷ p, v) ∷ (t ∷ e.0, e.1) ∷ (under t es ++ rest)) ((t ∷ e.0, v) ∷ (under t es ++ rest)) ((t ∷ e.0, e.1) ∷ put (slice_cmp R) (s ∷ p) v (under t es ++ rest))) h
+      ∙ ap (λ (r : List (List K × V)). (t ∷ e.0, e.1) ∷ r) (put_over s t p v es rest h)
+
+  put_first : (s : K) (p : List K) (v : V) (ks : List (K × List (List K × V))) → T (below_all R s ks) → AreFilled ks → put (slice_cmp R) (s ∷ p) v (below ks) ≡ (s ∷ p, v) ∷ below ks
+  put_first s p v [] h f = refl
+  put_first s p v ((t, []) ∷ ks) h f = absurd (omega (arith, f.0))
+  put_first s p v ((t, e ∷ es) ∷ ks) h f =
+      ap (λ r. by_order (ordering_then r (slice_cmp R p e.0)) ((s ∷ p, v) ∷ (t ∷ e.0, e.1) ∷ (under t es ++ below ks)) ((t ∷ e.0, v) ∷ (under t es ++ below ks)) ((t ∷ e.0, e.1) ∷ put (slice_cmp R) (s ∷ p) v (under t es ++ below ks))) (is_less _ (first_so _ _ h))
+
+  pub filled_put : (p : List K) (v : V) (nodes : List (List K × V)) → 0 < length (put (slice_cmp R) p v nodes)
+  filled_put p v [] = omega arith
+  filled_put p v (e ∷ es) =
+      elim (slice_cmp R p e.0) as (λ r. 0 < length (by_order r ((p, v) ∷ e ∷ es) ((e.0, v) ∷ es) (e ∷ put (slice_cmp R) p v es))) [ Less ↦ omega arith | Equal ↦ omega arith | Greater ↦ omega arith ]
+
+  pub filled_insert : (ks : List (K × List (List K × V))) (s : K) (nodes : List (List K × V)) → AreFilled ks → 0 < length nodes → AreFilled (insert_entry R ks s nodes)
+  filled_insert [] s nodes f n = (n, tt)
+  filled_insert (k ∷ ks) s nodes f n =
+      elim (R s k.0) as (λ r. AreFilled (match_ordering r ((s, nodes) ∷ k ∷ ks) ((k.0, nodes) ∷ ks) (k ∷ insert_entry R ks s nodes))) [ Less ↦ (n, f) | Equal ↦ (n, f.1) | Greater ↦ (f.0, filled_insert ks s nodes f.1 n) ]
+
+  module _ (o : IsTotalOrder R) where
+    put_same : (s : K) (p : List K) (v : V) (nodes : List (List K × V)) (ks : List (K × List (List K × V))) → T (below_all R s ks) → AreFilled ks → put (slice_cmp R) (s ∷ p) v (under s nodes ++ below ks) ≡ under s (put (slice_cmp R) p v nodes) ++ below ks
+    put_same s p v [] ks h f = put_first s p v ks h f
+    put_same s p v (e ∷ es) ks h f =
+        ap (λ r. by_order (ordering_then r (slice_cmp R p e.0)) ((s ∷ p, v) ∷ (s ∷ e.0, e.1) ∷ (under s es ++ below ks)) ((s ∷ e.0, v) ∷ (under s es ++ below ks)) ((s ∷ e.0, e.1) ∷ put (slice_cmp R) (s ∷ p) v (under s es ++ below ks))) (tied_itself o s)
+        ∙ elim (slice_cmp R p e.0) as (λ r. by_order r ((s ∷ p, v) ∷ (s ∷ e.0, e.1) ∷ (under s es ++ below ks)) ((s ∷ e.0, v) ∷ (under s es ++ below ks)) ((s ∷ e.0, e.1) ∷ put (slice_cmp R) (s ∷ p) v (under s es ++ below ks)) ≡ under s (by_order r ((p, v) ∷ e ∷ es) ((e.0, v) ∷ es) (e ∷ put (slice_cmp R) p v es)) ++ below ks) [
+            | Less ↦ refl
+            | Equal ↦ refl
+            | Greater ↦ ap (λ (r : List (List K × V)). (s ∷ e.0, e.1) ∷ r) (put_same s p v es ks h f)
+          ]
+
+    put_below : IsAntisymmetric R → (s : K) (p : List K) (v : V) (ks : List (K × List (List K × V))) → T (is_sorted R ks) → AreFilled ks → put (slice_cmp R) (s ∷ p) v (below ks) ≡ below (insert_entry R ks s (put (slice_cmp R) p v (nodes_of (lookup (is_at (R s)) ks))))
+    put_below same s p v [] h f = refl
+    put_below same s p v (k ∷ ks) h f =
+        elim (R s k.0) as (λ r. R s k.0 ≡ r → put (slice_cmp R) (s ∷ p) v (under k.0 k.1 ++ below ks) ≡ below (match_ordering r ((s, put (slice_cmp R) p v (nodes_of (cond (is_eq r) (Some k.1) (lookup (is_at (R s)) ks)))) ∷ k ∷ ks) ((k.0, put (slice_cmp R) p v (nodes_of (cond (is_eq r) (Some k.1) (lookup (is_at (R s)) ks)))) ∷ ks) (k ∷ insert_entry R ks s (put (slice_cmp R) p v (nodes_of (cond (is_eq r) (Some k.1) (lookup (is_at (R s)) ks))))))) [
+          | Less ↦ λ e.
+              let late = before_less R o s k.0 ks e (first_so _ _ h) in
+              put_first s p v (k ∷ ks) (both_so (is_lt (R s k.0)) (below_all R s ks) (subst (λ r. T (is_lt r)) (sym e) tt) late) f
+              ∙ ap (λ (l : Option (List (List K × V))). under s (put (slice_cmp R) p v (nodes_of l)) ++ (under k.0 k.1 ++ below ks)) (sym (lookup_before R s ks late))
+          | Equal ↦ λ e. ap (λ (t : K). put (slice_cmp R) (t ∷ p) v (under k.0 k.1 ++ below ks)) (same s k.0 e) ∙ put_same k.0 p v k.1 ks (first_so _ _ h) f.1
+          | Greater ↦ λ e. put_over s k.0 p v k.1 (below ks) e ∙ ap (λ (r : List (List K × V)). under k.0 k.1 ++ r) (put_below same s p v ks (second_so _ _ h) f.1)
+        ] refl
+
+    -- a text below the first of some subscripts is put into the child there
+    pub put_child : IsAntisymmetric R → (s : K) (p : List K) (v : V) (text : Option V) (ks : List (K × List (List K × V))) → T (is_sorted R ks) → AreFilled ks → put (slice_cmp R) (s ∷ p) v (own text ++ below ks) ≡ own text ++ below (insert_entry R ks s (put (slice_cmp R) p v (nodes_of (lookup (is_at (R s)) ks))))
+    put_child same s p v None ks h f = put_below same s p v ks h f
+    put_child same s p v (Some text) ks h f = ap (λ (r : List (List K × V)). ([], text) ∷ r) (put_below same s p v ks h f)
+
+-- ---- what a write through the child at a subscript leaves
+
+module _ {K V : Type 0} (R : K → K → Ordering) where
+  set_value_same : (ks : List (K × List (List K × V))) (s : K) (c : List (List K × V)) → lookup (is_at (R s)) ks ≡ Some c → set_value (is_at (R s)) ks c ≡ ks
+  set_value_same [] s c there = refl
+  set_value_same (k ∷ ks) s c there =
+      elim (is_eq (R s k.0)) as (λ b. cond b (Some k.1) (lookup (is_at (R s)) ks) ≡ Some c → cond b ((k.0, c) ∷ ks) (k ∷ set_value (is_at (R s)) ks c) ≡ k ∷ ks) [
+        | true ↦ λ e. let same : k.1 ≡ c = cc in ap (λ (n : List (List K × V)). (k.0, n) ∷ ks) (sym same)
+        | false ↦ λ e. ap (λ r. k ∷ r) (set_value_same ks s c e)
+      ] there
+
+  filled_set_value : (ks : List (K × List (List K × V))) (s : K) (w : List (List K × V)) → AreFilled ks → 0 < length w → AreFilled (set_value (is_at (R s)) ks w)
+  filled_set_value [] s w f n = tt
+  filled_set_value (k ∷ ks) s w f n =
+      elim (is_eq (R s k.0)) as (λ b. AreFilled (cond b ((k.0, w) ∷ ks) (k ∷ set_value (is_at (R s)) ks w))) [ true ↦ (n, f.1) | false ↦ (f.0, filled_set_value ks s w f.1 n) ]
+
+  pub filled_lookup : (ks : List (K × List (List K × V))) (s : K) (c : List (List K × V)) → AreFilled ks → lookup (is_at (R s)) ks ≡ Some c → 0 < length c
+  filled_lookup [] s c f there = absurd cc
+  filled_lookup (k ∷ ks) s c f there =
+      elim (is_eq (R s k.0)) as (λ b. cond b (Some k.1) (lookup (is_at (R s)) ks) ≡ Some c → 0 < length c) [
+        | true ↦ λ e. let same : k.1 ≡ c = cc in subst (λ (n : List (List K × V)). 0 < length n) same f.0
+        | false ↦ λ e. filled_lookup ks s c f.1 e
+      ] there
+
+  pub filled_after : {A E : Type 0} (r : Result A E) (p : List K) (v : V) (c w : List (List K × V)) → OnOk r (w ≡ put (slice_cmp R) p v c) → OnErr r (w ≡ c) → 0 < length c → 0 < length w
+  filled_after (Ok x) p v c w ok err n = subst (λ (m : List (List K × V)). 0 < length m) (sym ok) (filled_put R p v c)
+  filled_after (Err e) p v c w ok err n = subst (λ (m : List (List K × V)). 0 < length m) (sym err) n
+
+  module _ (o : IsTotalOrder R) (ks es : List (K × List (List K × V))) (s : K) (c w : List (List K × V)) (written : es ≡ set_value (is_at (R s)) ks w) (there : lookup (is_at (R s)) ks ≡ Some c) (h : T (is_sorted R ks)) (f : AreFilled ks) where
+    pub sorted_written : T (is_sorted R es)
+    sorted_written = subst (λ (xs : List (K × List (List K × V))). T (is_sorted R xs)) (insert-set_value R o ks s c w h there ∙ sym written) (sorted_insert R o ks s w h)
+
+    pub filled_written : 0 < length w → AreFilled es
+    filled_written n = subst AreFilled (sym written) (filled_set_value ks s w f n)
+
+    pub put_written : IsAntisymmetric R → (p : List K) (v : V) (text : Option V) → w ≡ put (slice_cmp R) p v c → own text ++ below es ≡ put (slice_cmp R) (s ∷ p) v (own text ++ below ks)
+    put_written same p v text is =
+        let nested = put_child R o same s p v text ks h f in
+        ap (λ (xs : List (K × List (List K × V))). own text ++ below xs) (written ∙ ap (set_value (is_at (R s)) ks) (is ∙ ap (λ (l : Option (List (List K × V))). put (slice_cmp R) p v (nodes_of l)) (sym there)) ∙ sym (insert-set_value R o ks s c (put (slice_cmp R) p v (nodes_of (lookup (is_at (R s)) ks))) h there))
+        ∙ sym nested
+
+    pub same_written : (text : Option V) → w ≡ c → own text ++ below es ≡ own text ++ below ks
+    same_written text is = ap (λ (xs : List (K × List (List K × V))). own text ++ below xs) (written ∙ ap (set_value (is_at (R s)) ks) is ∙ set_value_same ks s c there)
+
+  module _ (o : IsTotalOrder R) (ks es : List (K × List (List K × V))) (s : K) (p : List K) (v : V) (n : List (List K × V)) (added : es ≡ insert_entry R ks s n) (fresh : n ≡ put (slice_cmp R) p v []) (h : T (is_sorted R ks)) (f : AreFilled ks) where
+    pub sorted_added : T (is_sorted R es)
+    sorted_added = subst (λ (xs : List (K × List (List K × V))). T (is_sorted R xs)) (sym added) (sorted_insert R o ks s n h)
+
+    pub filled_added : AreFilled es
+    filled_added = subst AreFilled (sym added) (filled_insert R ks s n f (subst (λ (m : List (List K × V)). 0 < length m) (sym fresh) (filled_put R p v [])))
+
+    pub put_added : IsAntisymmetric R → (text : Option V) → lookup (is_at (R s)) ks ≡ None → own text ++ below es ≡ put (slice_cmp R) (s ∷ p) v (own text ++ below ks)
+    put_added same text none =
+        ap (λ (xs : List (K × List (List K × V))). own text ++ below xs) (added ∙ ap (insert_entry R ks s) (fresh ∙ ap (λ (l : Option (List (List K × V))). put (slice_cmp R) p v (nodes_of l)) (sym none)))
+        ∙ sym (put_child R o same s p v text ks h f)
+
+-- where the child may not have been added, and all is then as it was
+pub sound_either : {K V A E : Type 0} (R : K → K → Ordering) (o : IsTotalOrder R) (r : Result A E) (ks es : List (K × List (List K × V))) (s : K) (n : List (List K × V)) → OnOk r (es ≡ insert_entry R ks s n) → OnErr r (es ≡ ks) → 0 < length n → T (is_sorted R ks) × AreFilled ks → T (is_sorted R es) × AreFilled es
+sound_either {K} {V} R o (Ok x) ks es s n ok err filled h =
+    subst (λ (xs : List (K × List (List K × V))). T (is_sorted R xs) × AreFilled xs) (sym ok) (sorted_insert R o ks s n h.0, filled_insert R ks s n h.1 filled)
+sound_either {K} {V} R o (Err e) ks es s n ok err filled h =
+    subst (λ (xs : List (K × List (List K × V))). T (is_sorted R xs) × AreFilled xs) (sym err) h

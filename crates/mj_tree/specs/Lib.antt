@@ -1,0 +1,2 @@
+pub mod Nest
+pub mod Falls

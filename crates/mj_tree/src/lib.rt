@@ -1,0 +1,4 @@
+// Trees: the nodes of one word.
+#![tactic(auto)]
+
+mod node;

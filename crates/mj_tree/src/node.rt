@@ -1,0 +1,175 @@
+ghost use Rattle.std.specs.Prelude.{◌≡◌, ◌↔◌, [], ◌∷◌, option_copied, IsTrue, IfOk, OnOk, OnErr};
+ghost use Rattle.std.specs.FinMap.{find, put};
+ghost use Rattle.std.specs.Cmp.Lexicographic.{slice_cmp};
+ghost use Rattle.mj_subs.specs.Collation.{subscript_cmp};
+
+ghost use Rattle.std.specs.BTreeMap.{insert_entry, is_at};
+ghost use Rattle.std.specs.Map.{remove_entry};
+ghost use Rattle.mj_store.specs.Nodes.{subtree, data_of};
+ghost use Rattle.mj_tree.specs.Nest.{nodes_of, without};
+
+use mj_subs::Sub;
+use mj_text::Text;
+use std::alloc::{AllocError, Global};
+use std::collections::BTreeMap;
+use std::marker::Model;
+
+#[derive(Drop)]
+pub struct Node {
+    text: Option<Text>,
+    children: BTreeMap<Sub, Node>,
+}
+
+impl Model for Node {
+    ghost use Rattle.mj_store.specs.Questions.{Subtree};
+
+    ghost Value = { Subtree };
+
+    ghost use Rattle.std.specs.Prelude.{T, ◌++◌};
+    ghost use Rattle.std.specs.FinMap.{is_sorted};
+    ghost use Rattle.mj_subs.specs.Collation.{subscript_cmp};
+    ghost use Rattle.mj_tree.specs.Nest.{own, below, weight, AreFilled};
+
+    ghost view = { λ a. own a.text ++ below a.children.entries };
+
+    ghost invariant = { λ a. T (is_sorted subscript_cmp a.children.entries) × AreFilled a.children.entries };
+
+    ghost size = { weight };
+
+    ghost use Rattle.mj_tree.specs.Falls.{child_le-weight};
+
+    ghost size_decreases = { λ a h. child_le-weight a.text a.children.entries h.1 };
+}
+
+impl Node {
+    pub fn new(alloc: Global) -> Node
+        ensures { result ≡ [] }
+    {
+        Node {
+            text: None,
+            children: BTreeMap::new(alloc),
+        }
+    }
+
+    // The node at a list of subscripts. None stands where nothing does.
+    fn at(&self, path: &[Sub]) -> Option<&Node>
+        ensures { nodes_of (option_copied result) ≡ subtree subscript_cmp path.now self.now }
+    {
+        match path {
+            [] => Some(self),
+            [sub, rest @ ..] => match self.children.get(sub) {
+                None => None,
+                Some(child) => child.at(rest),
+            },
+        }
+    }
+
+    /// The text at a list of subscripts.
+    pub fn value(&self, path: &[Sub]) -> Option<&Text>
+        ensures { option_copied result ≡ find (slice_cmp subscript_cmp) path.now self.now }
+    {
+        match self.at(path) {
+            None => None,
+            Some(node) => node.text.as_ref(),
+        }
+    }
+
+    /// Whether a text stands there, and whether one stands below.
+    pub fn data(&self, path: &[Sub]) -> u8
+        ensures { result ≡ data_of (subtree subscript_cmp path.now self.now) }
+    {
+        match self.at(path) {
+            None => 0,
+            Some(node) => match (node.text.is_some(), node.children.is_empty()) {
+                (false, true) => 0,
+                (true, true) => 1,
+                (false, false) => 10,
+                (true, false) => 11,
+            },
+        }
+    }
+
+    /// Whether no text stands at it or below.
+    pub fn is_empty(&self) -> bool
+        ensures { IsTrue result ↔ (self.now ≡ []) }
+    {
+        self.text.is_none() && self.children.is_empty()
+    }
+
+    /// Takes out what stands at the place and below it.
+    pub fn kill(&mut self, path: &[Sub])
+        ensures { self.new ≡ without subscript_cmp path.now self.old }
+    {
+        match path {
+            [] => {
+                self.text = None;
+                self.children.clear();
+            }
+            [sub, rest @ ..] => {
+                let Some(child) = self.children.get_mut(sub) else {
+                    return;
+                };
+                child.kill(rest);
+                if child.is_empty() {
+                    remove(&mut self.children, sub);
+                }
+            }
+        }
+    }
+
+    /// Gives a text to the place.
+    pub fn set(&mut self, alloc: Global, path: &[Sub], text: Text) -> Result<(), AllocError>
+        ensures ok { OnOk result (self.new ≡ put (slice_cmp subscript_cmp) path.now text self.old) }
+        ensures err { OnErr result (self.new ≡ self.old) }
+    {
+        match path {
+            [] => {
+                self.text = Some(text);
+                Ok(())
+            }
+            [sub, rest @ ..] => match self.children.get_mut(sub) {
+                Some(child) => child.set(alloc, rest, text),
+                None => {
+                    let child = chain(alloc, rest, text)?;
+                    add(&mut self.children, sub, child)
+                }
+            },
+        }
+    }
+}
+
+// A node with one text, at a list of subscripts.
+fn chain(alloc: Global, path: &[Sub], text: Text) -> Result<Node, AllocError>
+    ensures { IfOk result (λ n. n ≡ (path.now, text) ∷ []) }
+{
+    match path {
+        [] => Ok(Node {
+            text: Some(text),
+            children: BTreeMap::new(alloc),
+        }),
+        [sub, rest @ ..] => {
+            let mut children = BTreeMap::new(alloc);
+            add(&mut children, sub, chain(alloc, rest, text)?)?;
+            Ok(Node {
+                text: None,
+                children,
+            })
+        }
+    }
+}
+
+// One child more, or another one in place of that at its subscript.
+fn add(children: &mut BTreeMap<Sub, Node>, sub: &Sub, child: Node) -> Result<(), AllocError>
+    ensures ok { OnOk result (children.new.entries ≡ insert_entry subscript_cmp children.old.entries sub.now child) }
+    ensures err { OnErr result (children.new.entries ≡ children.old.entries) }
+{
+    children.insert(sub.try_clone()?, child)?;
+    Ok(())
+}
+
+// The child at a subscript goes, if there is one.
+fn remove(children: &mut BTreeMap<Sub, Node>, sub: &Sub)
+    ensures { children.new.entries ≡ remove_entry (is_at (subscript_cmp sub.now)) children.old.entries }
+{
+    let _gone = children.remove(sub);
+}
