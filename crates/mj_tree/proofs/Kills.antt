@@ -72,9 +72,9 @@ module _ {K V : Type 0} (R : K → K → Ordering) where
       without-append (s ∷ p) (under k.0 k.1) (below ks)
       ∙ ap (λ (xs : List (List K × V)). xs ++ without R (s ∷ p) (below ks)) (without-under s k.0 p k.1)
       ∙ elim (is_eq (R s k.0)) as (λ b. cond b (Some k.1) (lookup (is_at (R s)) ks) ≡ None → under k.0 (cond b (without R p k.1) k.1) ++ without R (s ∷ p) (below ks) ≡ under k.0 k.1 ++ below ks) [
-          | true ↦ λ e. absurd cc
-          | false ↦ λ e. ap (λ (xs : List (List K × V)). under k.0 k.1 ++ xs) (without_none s p ks e)
-        ] none
+        | true ↦ λ e. absurd cc
+        | false ↦ λ e. ap (λ (xs : List (List K × V)). under k.0 k.1 ++ xs) (without_none s p ks e)
+      ] none
 
   -- else it goes from that child
   without_child : IsTotalOrder R → (s : K) (p : List K) (ks : List (K × List (List K × V))) (c : List (List K × V)) → T (is_sorted R ks) → lookup (is_at (R s)) ks ≡ Some c → without R (s ∷ p) (below ks) ≡ below (set_value (is_at (R s)) ks (without R p c))
@@ -83,10 +83,10 @@ module _ {K V : Type 0} (R : K → K → Ordering) where
       without-append (s ∷ p) (under k.0 k.1) (below ks)
       ∙ ap (λ (xs : List (List K × V)). xs ++ without R (s ∷ p) (below ks)) (without-under s k.0 p k.1)
       ∙ elim (R s k.0) as (λ r. R s k.0 ≡ r → cond (is_eq r) (Some k.1) (lookup (is_at (R s)) ks) ≡ Some c → under k.0 (cond (is_eq r) (without R p k.1) k.1) ++ without R (s ∷ p) (below ks) ≡ below (cond (is_eq r) ((k.0, without R p c) ∷ ks) (k ∷ set_value (is_at (R s)) ks (without R p c)))) [
-          | Less ↦ λ e l. ap (λ (xs : List (List K × V)). under k.0 k.1 ++ xs) (without_child o s p ks c (second_so _ _ h) l)
-          | Equal ↦ λ e l. let same : k.1 ≡ c = cc in (λ i. under k.0 (without R p (same i)) ++ without_none s p ks (lookup_before R s ks (tied_before R o s k.0 ks e (first_so _ _ h))) i)
-          | Greater ↦ λ e l. ap (λ (xs : List (List K × V)). under k.0 k.1 ++ xs) (without_child o s p ks c (second_so _ _ h) l)
-        ] refl there
+        | Less ↦ λ e l. ap (λ (xs : List (List K × V)). under k.0 k.1 ++ xs) (without_child o s p ks c (second_so _ _ h) l)
+        | Equal ↦ λ e l. let same : k.1 ≡ c = cc in (λ i. under k.0 (without R p (same i)) ++ without_none s p ks (lookup_before R s ks (tied_before R o s k.0 ks e (first_so _ _ h))) i)
+        | Greater ↦ λ e l. ap (λ (xs : List (List K × V)). under k.0 k.1 ++ xs) (without_child o s p ks c (second_so _ _ h) l)
+      ] refl there
 
   kept_own : (s : K) (p : List K) (text : Option V) (ks : List (K × List (List K × V))) → without R (s ∷ p) (own text ++ below ks) ≡ own text ++ without R (s ∷ p) (below ks)
   kept_own s p None ks = refl
@@ -129,8 +129,8 @@ module _ {K V : Type 0} (R : K → K → Ordering) where
     pub kill_removed : (es fs : List (K × List (List K × V))) (text : Option V) → es ≡ set_value (is_at (R s)) ks w → fs ≡ remove_entry (is_at (R s)) es → w ≡ [] → own text ++ below fs ≡ without R (s ∷ p) (own text ++ below ks)
     kill_removed es fs text written removed empty =
         ap (λ (xs : List (List K × V)). own text ++ xs)
-          (ap below removed
-          ∙ below-remove_entry es s (ap (lookup (is_at (R s))) written ∙ lookup-set_value ks s c w there ∙ ap (λ (n : List (List K × V)). Some n) empty))
+        (ap below removed
+        ∙ below-remove_entry es s (ap (lookup (is_at (R s))) written ∙ lookup-set_value ks s c w there ∙ ap (λ (n : List (List K × V)). Some n) empty))
         ∙ kill_written es text written
 
 pub no_children : {K V : Type 0} (ks : List (K × List (List K × V))) → length ks ≡ 0 → below ks ≡ []

@@ -153,10 +153,10 @@ module _ {K V : Type 0} (R : K → K → Ordering) where
         subtree-append (s ∷ p) (under k.0 k.1) (below ks)
         ∙ ap (λ (xs : List (List K × V)). xs ++ subtree R (s ∷ p) (below ks)) (subtree-under s k.0 p k.1)
         ∙ elim (R s k.0) as (λ r. R s k.0 ≡ r → cond (is_eq r) (subtree R p k.1) [] ++ subtree R (s ∷ p) (below ks) ≡ subtree R p (nodes_of (cond (is_eq r) (Some k.1) (lookup (is_at (R s)) ks)))) [
-            | Less ↦ λ e. subtree_below s p ks (second_so _ _ h)
-            | Equal ↦ λ e. ap (λ (xs : List (List K × V)). subtree R p k.1 ++ xs) (subtree_before s p ks (tied_before R o s k.0 ks e (first_so _ _ h))) ∙ append_nil (subtree R p k.1)
-            | Greater ↦ λ e. subtree_below s p ks (second_so _ _ h)
-          ] refl
+          | Less ↦ λ e. subtree_below s p ks (second_so _ _ h)
+          | Equal ↦ λ e. ap (λ (xs : List (List K × V)). subtree R p k.1 ++ xs) (subtree_before s p ks (tied_before R o s k.0 ks e (first_so _ _ h))) ∙ append_nil (subtree R p k.1)
+          | Greater ↦ λ e. subtree_below s p ks (second_so _ _ h)
+        ] refl
 
     -- what stands at and below a list of subscripts is what stands there in the child at the first of them
     pub subtree_child : (s : K) (p : List K) (text : Option V) (ks : List (K × List (List K × V))) → T (is_sorted R ks) → subtree R (s ∷ p) (own text ++ below ks) ≡ subtree R p (nodes_of (lookup (is_at (R s)) ks))

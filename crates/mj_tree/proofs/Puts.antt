@@ -77,10 +77,10 @@ module _ {K V : Type 0} (R : K → K → Ordering) where
     put_same s p v (e ∷ es) ks h f =
         ap (λ r. by_order (ordering_then r (slice_cmp R p e.0)) ((s ∷ p, v) ∷ (s ∷ e.0, e.1) ∷ (under s es ++ below ks)) ((s ∷ e.0, v) ∷ (under s es ++ below ks)) ((s ∷ e.0, e.1) ∷ put (slice_cmp R) (s ∷ p) v (under s es ++ below ks))) (tied_itself o s)
         ∙ elim (slice_cmp R p e.0) as (λ r. by_order r ((s ∷ p, v) ∷ (s ∷ e.0, e.1) ∷ (under s es ++ below ks)) ((s ∷ e.0, v) ∷ (under s es ++ below ks)) ((s ∷ e.0, e.1) ∷ put (slice_cmp R) (s ∷ p) v (under s es ++ below ks)) ≡ under s (by_order r ((p, v) ∷ e ∷ es) ((e.0, v) ∷ es) (e ∷ put (slice_cmp R) p v es)) ++ below ks) [
-            | Less ↦ refl
-            | Equal ↦ refl
-            | Greater ↦ ap (λ (r : List (List K × V)). (s ∷ e.0, e.1) ∷ r) (put_same s p v es ks h f)
-          ]
+          | Less ↦ refl
+          | Equal ↦ refl
+          | Greater ↦ ap (λ (r : List (List K × V)). (s ∷ e.0, e.1) ∷ r) (put_same s p v es ks h f)
+        ]
 
     put_below : IsAntisymmetric R → (s : K) (p : List K) (v : V) (ks : List (K × List (List K × V))) → T (is_sorted R ks) → AreFilled ks → put (slice_cmp R) (s ∷ p) v (below ks) ≡ below (insert_entry R ks s (put (slice_cmp R) p v (nodes_of (lookup (is_at (R s)) ks))))
     put_below same s p v [] h f = refl

@@ -1,8 +1,9 @@
+// A node: a text of its own, and children by their subscripts.
+
 ghost use Rattle.std.specs.Prelude.{◌≡◌, ◌↔◌, [], ◌∷◌, option_copied, IsTrue, IfOk, OnOk, OnErr};
 ghost use Rattle.std.specs.FinMap.{find, put};
 ghost use Rattle.std.specs.Cmp.Lexicographic.{slice_cmp};
 ghost use Rattle.mj_subs.specs.Collation.{subscript_cmp};
-
 ghost use Rattle.std.specs.BTreeMap.{insert_entry, is_at};
 ghost use Rattle.std.specs.Map.{remove_entry};
 ghost use Rattle.mj_store.specs.Nodes.{subtree, data_of};
@@ -14,6 +15,7 @@ use std::alloc::{AllocError, Global};
 use std::collections::BTreeMap;
 use std::marker::Model;
 
+/// What stands at a list of subscripts and below it. No child is without a text at it or below.
 #[derive(Drop)]
 pub struct Node {
     text: Option<Text>,
@@ -42,6 +44,7 @@ impl Model for Node {
 }
 
 impl Node {
+    /// A node without a text at it or below.
     pub fn new(alloc: Global) -> Node
         ensures { result ≡ [] }
     {

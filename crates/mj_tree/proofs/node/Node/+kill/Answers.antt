@@ -31,19 +31,21 @@ invariant_of-self-then-is_empty t c =
     let written = (c.get_mut.follows.holds c.kill.new.self).0 in
     let there = sym c.in-Some.ensures.value in
     let removed = c.remove.ensures ∙ ap (λ (xs : List (List ℕ × Subtree)). remove_entry (is_at (subscript_cmp c.sub-item.result)) xs) written in
-    subst (λ (xs : List (List ℕ × Subtree)). T (is_sorted subscript_cmp xs) × AreFilled xs) (sym removed)
-      (sorted_removed subscript_cmp c.sub-item.result (set_value (is_at (subscript_cmp c.sub-item.result)) ks c.kill.new.self) (sorted_written subscript_cmp subscript_cmp_total ks (set_value (is_at (subscript_cmp c.sub-item.result)) ks c.kill.new.self) c.sub-item.result c.in-Some.child.now c.kill.new.self refl there c.self.invariant.0 c.self.invariant.1),
-       filled_removed subscript_cmp c.sub-item.result ks c.kill.new.self c.self.invariant.1)
+    subst (λ (xs : List (List ℕ × Subtree)). T (is_sorted subscript_cmp xs) × AreFilled xs) (sym removed) (
+      sorted_removed subscript_cmp c.sub-item.result (set_value (is_at (subscript_cmp c.sub-item.result)) ks c.kill.new.self) (sorted_written subscript_cmp subscript_cmp_total ks (set_value (is_at (subscript_cmp c.sub-item.result)) ks c.kill.new.self) c.sub-item.result c.in-Some.child.now c.kill.new.self refl there c.self.invariant.0 c.self.invariant.1),
+      filled_removed subscript_cmp c.sub-item.result ks c.kill.new.self c.self.invariant.1,
+    )
 
 pub invariant_of-self-else-is_empty : goal.invariant_of-self-else-is_empty
 invariant_of-self-else-is_empty t c =
     let ks = c.self.inside.children.entries in
     let es = (c.get_mut.follows.lender c.kill.new.self).entries in
     let written = (c.get_mut.follows.holds c.kill.new.self).0 in
-    let there = sym c.in-Some.ensures.value in
-    (sorted_written subscript_cmp subscript_cmp_total ks es c.sub-item.result c.in-Some.child.now c.kill.new.self written there c.self.invariant.0 c.self.invariant.1,
-     filled_written subscript_cmp subscript_cmp_total ks es c.sub-item.result c.in-Some.child.now c.kill.new.self written there c.self.invariant.0 c.self.invariant.1
-       (some_node c.kill.new.self (λ e. let f : false ≡ true = c.if-is_empty.ensures.1 e in absurd cc)))
+    let there = sym c.in-Some.ensures.value in (
+      sorted_written subscript_cmp subscript_cmp_total ks es c.sub-item.result c.in-Some.child.now c.kill.new.self written there c.self.invariant.0 c.self.invariant.1,
+      filled_written subscript_cmp subscript_cmp_total ks es c.sub-item.result c.in-Some.child.now c.kill.new.self written there c.self.invariant.0 c.self.invariant.1
+          (some_node c.kill.new.self (λ e. let f : false ≡ true = c.if-is_empty.ensures.1 e in absurd cc)),
+    )
 
 pub returns-then-is_empty : goal.returns-then-is_empty
 returns-then-is_empty t c =
