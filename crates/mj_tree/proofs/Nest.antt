@@ -1,17 +1,17 @@
 -- What is asked of a node is asked of one of its children, or of its own text, and what changes in a child changes in the node.
-use Rattle.std.proofs.Common.{◌≡◌, ℕ, zero, suc, ◌-◌, take, ◌+◌, ◌<◌, ◌≤◌, Bool, true, false, cond, not, ◌&&◌, List, [], ◌∷◌, ◌++◌, map, length, get_or, drop, Option, Some, None, refl, sym, ap, ◌∙◌, subst, arith}
+use Rattle.std.proofs.Common.{◌≡◌, ℕ, zero, suc, ◌-◌, take, ◌+◌, ◌<◌, ◌≤◌, Bool, true, false, cond, not, ◌&&◌, List, [], ◌∷◌, ◌++◌, length, get_or, drop, Option, Some, None, refl, sym, ap, ◌∙◌, subst, arith}
 use Rattle.std.specs.Prelude.{T}
 use Rattle.std.specs.declared.cmp.Ordering.{Ordering}
 use Rattle.std.specs.declared.cmp.Ordering.TheVariants.{Less, Equal, Greater}
 use Rattle.std.specs.Ordering.{is_eq, is_lt, eq_by_cmp, ordering_then}
-use Rattle.std.specs.Cmp.{IsTotalOrder, tied_itself}
+use Rattle.std.specs.Cmp.{IsTotalOrder}
 use Rattle.std.specs.Cmp.Lexicographic.{slice_cmp}
-use Rattle.std.specs.FinMap.{IsAntisymmetric, find, put, is_sorted}
-use Rattle.std.specs.FinMap.Entries.{by_order, below_all}
-use Rattle.std.specs.List.{filter, filter_map, cons_option, list_any}
+use Rattle.std.specs.FinMap.{find, is_sorted}
+use Rattle.std.specs.FinMap.Entries.{below_all}
+use Rattle.std.specs.List.{filter_map, cons_option, list_any}
 use Rattle.std.specs.Option.{option_map, is_none, is_some}
 use Rattle.std.specs.Map.{lookup}
-use Rattle.std.specs.BTreeMap.{is_at, insert_entry}
+use Rattle.std.specs.BTreeMap.{is_at}
 use Rattle.mj_store.specs.Nodes.{is_empty, after_front, subtree, data_of}
 use Rattle.mj_tree.specs.Nest.{own, under, below, AreFilled, nodes_of}
 

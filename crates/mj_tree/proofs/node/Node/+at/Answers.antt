@@ -1,4 +1,4 @@
-use Rattle.std.proofs.Common.{◌≡◌, ℕ, ◌-◌, List, take, drop, length, Option, sym, ap, ◌∙◌}
+use Rattle.std.proofs.Common.{ℕ, ◌-◌, List, take, drop, length, Option, sym, ap, ◌∙◌}
 use Rattle.mj_subs.specs.Collation.{subscript_cmp}
 use Rattle.mj_subs.specs.Laws.Total.{subscript_cmp_total}
 use Rattle.mj_store.specs.Nodes.{subtree}

@@ -1,4 +1,4 @@
-use Rattle.std.proofs.Common.{◌≡◌, ℕ, ◌-◌, ◌<◌, List, [], ◌∷◌, take, drop, length, sym, ap, ◌∙◌, subst, arith}
+use Rattle.std.proofs.Common.{ℕ, ◌-◌, ◌<◌, List, take, drop, length, sym, ap, ◌∙◌, subst, arith}
 use Rattle.std.specs.FinMap.{put}
 use Rattle.std.specs.BTreeMap.{BTreeMap, insert_entry}
 use Rattle.std.specs.Cmp.Lexicographic.{slice_cmp}
@@ -8,7 +8,7 @@ use Rattle.mj_subs.specs.Laws.Total.{subscript_cmp_total}
 use Rattle.mj_subs.specs.Laws.Ties.{subscript_cmp-IsAntisymmetric}
 use Rattle.mj_store.specs.Questions.{Subtree}
 use Rattle.mj_tree.proofs.Nest.{first_and_rest, no_elements}
-use Rattle.mj_tree.proofs.Puts.{put_own, sorted_written, filled_written, put_written, same_written, filled_lookup, filled_after, sorted_added, filled_added, put_added, sound_either}
+use Rattle.mj_tree.proofs.Puts.{put_own, sorted_written, filled_written, put_written, same_written, filled_lookup, filled_after, put_added, sound_either}
 use Rattle.mj_tree.proofs.node.Node.+set.Goals as goal
 
 pub returns-in-empty-clause-ok : goal.returns-in-empty-clause-ok

@@ -1,4 +1,4 @@
-use Rattle.std.proofs.Common.{◌≡◌, ℕ, List, [], sym, ap, ◌∙◌}
+use Rattle.std.proofs.Common.{[], sym, ap, ◌∙◌}
 use Rattle.std.specs.FinMap.{find}
 use Rattle.std.specs.Cmp.Lexicographic.{slice_cmp}
 use Rattle.mj_subs.specs.Collation.{subscript_cmp}
