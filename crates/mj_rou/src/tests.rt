@@ -5,10 +5,11 @@ use std::alloc::{AllocError, Global};
 
 /// What reading gives: `ok`, or the refusal's text.
 fn outcome(alloc: Global, bytes: &[u8]) -> Result<String, AllocError> {
-    match read(alloc, b"R", bytes) {
-        Ok(_) => format!(in alloc; "ok"),
-        Err(refusal) => format!(in alloc; "{refusal}"),
+    let given = read(alloc, b"R", bytes);
+    if let Err(refusal) = &given {
+        return format!(in alloc; "{refusal}");
     }
+    format!(in alloc; "ok")
 }
 
 /// `front`, then `middle` so many times, then `back`.
