@@ -1,8 +1,7 @@
 // Name texts: the spelling of a name of a variable or of one of its nodes, as `^A("x""y",2)`.
 //
-// There is one spelling a name: `spell` writes it, and `read_name` reads it and nothing else. Both take time linear in the bytes. The
-// spelling is `name_text` of `specs/Spelling.antt`, and the reading `name_of` of `specs/Reading.antt`, of which it is proved that it
-// finds exactly the names whose spelling the text is.
+// There is one spelling a name: `spell` writes it, `name_text` of `specs/Spelling.antt`. `read_name` finds the name that a text spells
+// (`IsReading` of `specs/Reading.antt`): it accepts the name texts of formed names and nothing else. Both take time linear in the bytes.
 #![tactic(auto)]
 
 mod parts;

@@ -1,6 +1,6 @@
 // A list of subscripts.
 
-ghost use Rattle.std.specs.Prelude.{◌≡◌, ◌≤◌, ◌↔◌, [], ◌∷◌, ◌++◌, length, IsTrue, IfOk, OnOk, OnErr, slice_get};
+ghost use Rattle.std.specs.Prelude.{◌≡◌, ◌<◌, ◌≤◌, ◌↔◌, [], ◌∷◌, ◌++◌, length, IsTrue, IsSome, IfOk, OnOk, OnErr, slice_get};
 ghost use Rattle.std.specs.Slice.Iter.{iter_rest};
 ghost use Rattle.std.specs.Iterator.Adapters.{IterYieldsInOrder};
 ghost use Rattle.std.specs.Option.{option_copied, option_to_list};
@@ -62,7 +62,8 @@ impl Subs {
 
     /// Takes the last subscript away, if there is one.
     pub fn pop(&mut self) -> Option<Sub>
-        ensures { self.old ≡ self.new ++ option_to_list result }
+        ensures items { self.old ≡ self.new ++ option_to_list result }
+        ensures variant { IsSome result ↔ (0 < length self.old) }
     {
         self.kept.pop()
     }
