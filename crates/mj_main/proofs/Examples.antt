@@ -1,9 +1,8 @@
 -- The service and the output of one job alone, on rows.
-use Rattle.std.proofs.Common.{◌≡◌, ℕ, List, [], ◌∷◌, Option, None, Some, true, refl, codes}
+use Rattle.std.proofs.Common.{◌≡◌, [], ◌∷◌, None, Some, true, refl, codes}
 use Rattle.mj_subs.specs.Name.{Name}
 use Rattle.mj_ask.specs.declared.ask.Ask.TheVariants as asks
 use Rattle.mj_ask.specs.declared.ask.Reply.TheVariants as replies
-use Rattle.mj_store.specs.Questions.{Content}
 use Rattle.mj_main.specs.Service.{Log, reply_to, globals_of, Served}
 use Rattle.mj_main.specs.Output.{output_of, principal}
 

@@ -1,0 +1,1 @@
+ SET ^A=2+3*4 WRITE ^A,! HALT

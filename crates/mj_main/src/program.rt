@@ -1,0 +1,79 @@
+// The program.
+
+use crate::alone::one;
+use crate::routines::loaded;
+use crate::stop::{FAILED, FAULTED, Stop, WORDS};
+use crate::words::{Order, read_words};
+use clap::Error;
+use clap::error::ErrorKind;
+use mj_ask::Entry;
+use std::convert::AsStr;
+use std::io::{Read, Write};
+use std::rt::Files;
+
+/// Does what the words ask for, of which the first is the program's name, and gives the exit status: 0; 1 where a job faulted; 2
+/// where a routine is refused; 3 where the words are wrong; 4 where memory or a file fails. What the job writes goes to `out`; a
+/// refusal goes to `err`, on one line, but the text on wrong words, which is clap's.
+pub fn run<R, S, I, O, E>(rt: &R, words: &[S], _input: &mut I, out: &mut O, err: &mut E) -> u8
+where
+    R: Files + AllocGlobal,
+    S: AsStr,
+    I: Read,
+    O: Write,
+    E: Write,
+{
+    let done = match read_words(rt.alloc(), words) {
+        Ok(order) => obey(rt, &order, out),
+        Err(error) => tell(&error, out, err),
+    };
+    match done {
+        Ok(status) => status,
+        Err(stop) => {
+            // Where this can't be written either, the status alone tells.
+            let _ = writeln!(err, "{stop}");
+            stop.status()
+        }
+    }
+}
+
+// Does it, and gives the exit status.
+fn obey<'a, R: Files + AllocGlobal, O: Write>(
+    rt: &R,
+    order: &Order<'a>,
+    out: &mut O,
+) -> Result<u8, Stop<'a>> {
+    match order {
+        Order::Run { start, files } => {
+            let Some(entry) = Entry::read(rt.alloc(), start.as_bytes())? else {
+                return Err(Stop::Value(*start));
+            };
+            let image = loaded(rt, files)?;
+            let done = one(rt.alloc(), &image, entry)?;
+            print(done.output(), out)?;
+            Ok(if done.has_faulted() { FAULTED } else { 0 })
+        }
+    }
+}
+
+// The text on words that are no order: help, which was asked for, or what is wrong.
+fn tell<'a, O: Write, E: Write>(error: &Error, out: &mut O, err: &mut E) -> Result<u8, Stop<'a>> {
+    if error.kind() == ErrorKind::OutOfMemory {
+        return Err(Stop::Memory);
+    }
+    if error.use_stderr() {
+        let _ = write!(err, "{error}");
+        return Ok(WORDS);
+    }
+    match write!(out, "{error}") {
+        Ok(()) => Ok(0),
+        Err(_) => Err(Stop::File("-")),
+    }
+}
+
+// Writes all bytes.
+fn print<'a, O: Write>(bytes: &[u8], out: &mut O) -> Result<(), Stop<'a>> {
+    if out.write_all(bytes).is_err() || out.flush().is_err() {
+        return Err(Stop::File("-"));
+    }
+    Ok(())
+}

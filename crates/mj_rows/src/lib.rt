@@ -1,0 +1,6 @@
+// Rows: runs of the whole program, from the words of the command line to what it prints and its exit status. Their expected values
+// were written down before the program ran.
+#![tactic(auto)]
+
+#[cfg(test)]
+mod runs;
