@@ -3,7 +3,8 @@
 ghost use Rattle.std.specs.Prelude.{◌≡◌, ℕ, ◌+◌, ◌<◌, ◌^◌, ◌∷◌, drop, map, List, Option, Some, Result, IfOk, OnErr, if◌then◌else◌};
 ghost use Rattle.mj_text.specs.declared.fault.Fault as faults;
 ghost use Rattle.mj_ask.specs.declared.ask.Reply as replies;
-ghost use Rattle.mj_oper.specs.Operators.{Answers, unary_value, binary_value, truth_value};
+ghost use Rattle.mj_text.specs.Failing.{Answers};
+ghost use Rattle.mj_oper.specs.Operators.{unary_value, binary_value, truth_value};
 ghost use Rattle.mj_semantics.specs.Outcome as told;
 ghost use Rattle.mj_semantics.specs.Commands as commands;
 ghost use Rattle.mj_pcode.specs.Machine.{top, below};

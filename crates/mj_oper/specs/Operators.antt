@@ -1,14 +1,13 @@
 -- What each operator gives: a text, seen as the list of its bytes, or the fault that stands in its place.
 -- ISO/IEC 11756:1999, 7.2 (binary operators) and 7.1.4 (unary operators); the faults are this profile's.
-use Rattle.std.specs.Prelude.{◌≡◌, ℕ, nat_le, length, Bool, true, false, not, ◌&&◌, ◌||◌, List, [], ◌∷◌, ◌++◌, ℤ, neg_ℤ, int_lt, Result, Ok, Err, IsOk, if◌then◌else◌}
+use Rattle.std.specs.Prelude.{◌≡◌, ℕ, nat_le, length, Bool, true, false, not, ◌&&◌, ◌||◌, List, [], ◌∷◌, ◌++◌, ℤ, neg_ℤ, int_lt, Result, Ok, Err, if◌then◌else◌}
 use Rattle.std.specs.Str.{bytes_eq}
 use Rattle.std.specs.Ordering.{is_gt, nat_cmp}
 use Rattle.std.specs.Cmp.Lexicographic.{slice_cmp}
 use Rattle.std.specs.Option.{is_some}
 use Rattle.mj_text.specs.declared.fault.Fault.{Fault}
 use Rattle.mj_text.specs.declared.fault.Fault.TheVariants.{Length}
-use Rattle.mj_text.specs.declared.fault.Failure.{Failure}
-use Rattle.mj_text.specs.declared.fault.Failure.TheVariants.{Fault as FaultFailure, Memory}
+use Rattle.mj_text.specs.Failing.{then_value}
 use Rattle.mj_text.specs.Find.{first_place}
 use Rattle.mj_num.specs.Number.{reading, canonic_text, truth_of, sum_of, difference_of, product_of, quotient_of, remainder_of, exact_quotient_of}
 use Rattle.mj_oper.specs.declared.op.Op.{Op}
@@ -18,11 +17,6 @@ use Rattle.mj_oper.specs.declared.op.TruthOp.TheVariants.{Equal, Less, Greater, 
 use Rattle.mj_oper.specs.declared.op.UnaryOp.{UnaryOp}
 use Rattle.mj_oper.specs.declared.op.UnaryOp.TheVariants.{Plus, Minus, Not}
 use Rattle.mj_subs.specs.Collation.{subscript_cmp}
-
--- what follows from a value, unless a fault stands in its place
-abbrev pub then_value : {A B : Type 0} → Result A Fault → (A → Result B Fault) → Result B Fault
-then_value (Ok a) f = f a
-then_value (Err e) f = Err e
 
 -- the numeric readings of both sides, the left one first, and what follows from them
 abbrev pub on_numbers : {A : Type 0} → (ℤ → ℤ → Result A Fault) → List ℕ → List ℕ → Result A Fault
@@ -74,14 +68,3 @@ abbrev pub unary_value : UnaryOp → List ℕ → Result (List ℕ) Fault
 unary_value Plus a = number_text (reading a)
 unary_value Minus a = number_text (then_value (reading a) (λ m. Ok (neg_ℤ m)))
 unary_value Not a = then_value (truth_value a) (λ h. Ok (truth_text (not h)))
-
--- a fault as a failure of a call
-abbrev pub failing : {A : Type 0} → Result A Fault → Result A Failure
-failing (Ok a) = Ok a
-failing (Err e) = Err (FaultFailure e)
-
--- what a call that may want memory answers for such a value: the text, the fault, or Memory where a text is meant
-abbrev pub Answers : Result (List ℕ) Fault → Result (List ℕ) Failure → Type 0
-Answers value (Ok text) = value ≡ Ok text
-Answers value (Err (FaultFailure fault)) = value ≡ Err fault
-Answers value (Err Memory) = IsOk value

@@ -3,7 +3,8 @@
 ghost use Rattle.std.specs.Prelude.{◌≡◌, true, SomeIff};
 ghost use Rattle.mj_num.specs.Number.{reading, number_of, is_canonic as is_canonic_of};
 ghost use Rattle.mj_subs.specs.Collation.{subscript_cmp};
-ghost use Rattle.mj_oper.specs.Operators.{binary_value, unary_value, holds as holds_of, truth_value, truth_text as text_of_truth, failing, Answers};
+ghost use Rattle.mj_text.specs.Failing.{failing, Answers};
+ghost use Rattle.mj_oper.specs.Operators.{binary_value, unary_value, holds as holds_of, truth_value, truth_text as text_of_truth};
 
 use crate::op::{Op, TruthOp, UnaryOp};
 use mj_num::{Num, is_canonic};

@@ -11,7 +11,7 @@ use Rattle.mj_semantics.specs.Outcome.{Timed, turn, change, tell, end, fault, pr
 use Rattle.mj_semantics.specs.Points.{Ways}
 use Rattle.mj_semantics.specs.Evaluation.{ev, ev_name, when}
 
--- SET (8.2.21).
+-- SET (8.2.18).
 
 -- a name gets a value: a local at once, a global by an ask
 abbrev pub store : Name → List ℕ → Timed → Timed

@@ -7,11 +7,11 @@ use Rattle.mj_subs.specs.Name.{Name}
 use Rattle.mj_subs.specs.Collation.{name_cmp}
 use Rattle.mj_store.specs.Questions.{Content, Subtree, with_subscripts, rest_of}
 
--- SET (8.2): the name has this text, in its place
+-- SET (8.2.18): the name has this text, in its place
 abbrev pub after_set : Content → Name → List ℕ → Content
 after_set content n text = put name_cmp n text content
 
--- KILL (8.2): the name and every name below it are gone
+-- KILL (8.2.11): the name and every name below it are gone
 abbrev pub after_kill : Content → Name → Content
 after_kill content n = filter (λ e. is_none (rest_of n e.0)) content
 
@@ -19,7 +19,7 @@ after_kill content n = filter (λ e. is_none (rest_of n e.0)) content
 abbrev pub followed_by : Name → List (List ℕ) → Name
 followed_by n p = with_subscripts n (n.subscripts ++ p)
 
--- MERGE (8.2): n followed by each list of the subtree has the list's text, one after the other. Nothing goes
+-- MERGE (8.2.13): n followed by each list of the subtree has the list's text, one after the other. Nothing goes
 abbrev pub after_put : Content → Name → Subtree → Content
 after_put content n nodes = fold (λ c e. after_set c (followed_by n e.0) e.1) content nodes
 

@@ -33,7 +33,7 @@ rest_of n m = cond (same_word n m) (after_front subscript_cmp n.subscripts m.sub
 abbrev pub value_at : Content → Name → Option (List ℕ)
 value_at content n = find name_cmp n content
 
--- what stands at a name and below it (8.2: the source of MERGE)
+-- what stands at a name and below it (8.2.13: the source of MERGE)
 abbrev pub subtree_at : Content → Name → Subtree
 subtree_at content n = filter_map (λ e. option_map (λ l. (l, e.1)) (rest_of n e.0)) content
 

@@ -9,7 +9,8 @@ use Rattle.mj_text.specs.declared.fault.Failure.TheVariants.{Fault as FaultFailu
 use Rattle.mj_num.specs.Number.{canonic_text}
 use Rattle.mj_strfn.specs.declared.translation.Becomes.{Becomes}
 use Rattle.mj_strfn.specs.declared.translation.Becomes.TheVariants.{Itself, Byte, Nothing}
-use Rattle.mj_strfn.specs.Functions.{then_value, number_or, failing, ascii_value, Answers, place, code_behind, code_at, byte_of_text, bytes_of_codes, char_value, within_limit, becomes, AnswersOrMemory}
+use Rattle.mj_text.specs.Failing.{then_value, failing, Answers}
+use Rattle.mj_strfn.specs.Functions.{number_or, ascii_value, place, code_behind, code_at, byte_of_text, bytes_of_codes, char_value, within_limit, becomes, AnswersOrMemory}
 use Rattle.mj_strfn.specs.Parts.{AnswersByte}
 use Rattle.mj_strfn.specs.Table.{bytes_of, IsTable}
 

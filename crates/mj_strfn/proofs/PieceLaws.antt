@@ -7,7 +7,8 @@ use Rattle.std.proofs.lemmas.Slice.Eq.{bytes_eq-Decides}
 use Rattle.memchr.specs.Find.{OccursAt, FindsNeedle}
 use Rattle.memchr.proofs.lemmas.MatchLemmas.{OccursAt-part, OccursAt-from_part, OccursAt-split}
 use Rattle.mj_strfn.specs.Pieces.{pieces_behind, pieces, joined, ended, IsBehind, IsBehindFirst}
-use Rattle.mj_strfn.specs.Functions.{place, piece_count, some_pieces, set_piece_value, with_pieces, within_limit, Answers}
+use Rattle.mj_text.specs.Failing.{Answers}
+use Rattle.mj_strfn.specs.Functions.{place, piece_count, some_pieces, set_piece_value, with_pieces, within_limit}
 use Rattle.std.specs.Result.{is_ok}
 use Rattle.mj_text.specs.declared.fault.Fault.{Fault}
 use Rattle.mj_text.specs.declared.fault.Fault.TheVariants.{Length}

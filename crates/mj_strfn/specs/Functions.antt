@@ -1,7 +1,7 @@
 -- What each string function gives: a text, seen as the list of its bytes, or the fault that stands in its place.
 -- The arguments are texts; those that stand for numbers are read here, from left to right, before anything else is looked at.
--- ISO/IEC 11756:1999, 7.1.5 (functions) and 8.2 (SET); the limits, the faults and the edge cases are this profile's.
-use Rattle.std.specs.Prelude.{◌≡◌, ℕ, zero, suc, ◌+◌, ◌-◌, ◌==◌, max, nat_le, nat_lt, Bool, true, ◌||◌, List, [], ◌∷◌, ◌++◌, length, take, drop, reverse, replicate, ℤ, pos, negsuc, int_lt, Option, Some, None, Result, Ok, Err, IsOk, ⊤, if◌then◌else◌}
+-- ISO/IEC 11756:1999, 7.1.5 (functions) and 8.2.18 (SET); the limits, the faults and the edge cases are this profile's.
+use Rattle.std.specs.Prelude.{◌≡◌, ℕ, zero, suc, ◌+◌, ◌-◌, ◌==◌, max, nat_le, nat_lt, Bool, true, ◌||◌, List, [], ◌∷◌, ◌++◌, length, take, drop, reverse, replicate, ℤ, pos, negsuc, int_lt, Option, Some, None, Result, Ok, Err, ⊤, if◌then◌else◌}
 use Rattle.std.specs.List.{flat_map}
 use Rattle.mj_text.specs.declared.fault.Fault.{Fault}
 use Rattle.mj_text.specs.declared.fault.Fault.TheVariants.{Length, Char}
@@ -9,14 +9,10 @@ use Rattle.mj_text.specs.declared.fault.Failure.{Failure}
 use Rattle.mj_text.specs.declared.fault.Failure.TheVariants.{Fault as FaultFailure, Memory}
 use Rattle.mj_num.specs.Number.{reading, canonic_text}
 use Rattle.mj_text.specs.Find.{find_from}
+use Rattle.mj_text.specs.Failing.{then_value}
 use Rattle.mj_strfn.specs.Pieces.{pieces, joined}
 
 -- ---- numbers and places
-
--- what follows from a value, unless a fault stands in its place
-abbrev pub then_value : {A B : Type 0} → Result A Fault → (A → Result B Fault) → Result B Fault
-then_value (Ok a) f = f a
-then_value (Err e) f = Err e
 
 -- an argument that stands for a number and may be left out
 abbrev pub number_or : ℤ → Option (List ℕ) → Result ℤ Fault
@@ -35,17 +31,6 @@ place (negsuc n) = 0
 -- what stands at the places from a to b, the first place being 1
 abbrev pub places : {A : Type 0} → ℤ → ℤ → List A → List A
 places a b xs = let first = max 1 (place a) in take (place b + 1 - first) (drop (first - 1) xs)
-
--- a fault as a failure of a call
-abbrev pub failing : {A : Type 0} → Result A Fault → Result A Failure
-failing (Ok a) = Ok a
-failing (Err e) = Err (FaultFailure e)
-
--- what a call that may want memory answers for such a value: the text, the fault, or Memory where a text is meant
-abbrev pub Answers : Result (List ℕ) Fault → Result (List ℕ) Failure → Type 0
-Answers value (Ok text) = value ≡ Ok text
-Answers value (Err (FaultFailure fault)) = value ≡ Err fault
-Answers value (Err Memory) = IsOk value
 
 -- the same, but that Memory may come before a fault
 abbrev pub AnswersOrMemory : Result (List ℕ) Fault → Result (List ℕ) Failure → Type 0

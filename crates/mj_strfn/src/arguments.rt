@@ -3,7 +3,8 @@
 ghost use Rattle.std.specs.Prelude.{◌≡◌, ◌≤◌, ◌<◌, ◌^◌, ℤ, length, IfOk, OnErr};
 ghost use Rattle.std.specs.Option.{option_copied};
 ghost use Rattle.mj_num.specs.Number.{reading};
-ghost use Rattle.mj_strfn.specs.Functions.{number_or as number_or_default, from_to, failing, number_text, place as place_of};
+ghost use Rattle.mj_text.specs.Failing.{failing};
+ghost use Rattle.mj_strfn.specs.Functions.{number_or as number_or_default, from_to, number_text, place as place_of};
 ghost use Rattle.mj_text.specs.declared.fault.Failure.TheVariants as failure;
 
 use mj_num::Num;

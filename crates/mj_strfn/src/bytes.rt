@@ -2,7 +2,8 @@
 
 ghost use Rattle.std.specs.Prelude.{◌≡◌, Ok};
 ghost use Rattle.std.specs.Option.{option_copied};
-ghost use Rattle.mj_strfn.specs.Functions.{ascii_value, char_value, extract_value, find_value, justify_value, reverse_value, failing, byte_of_text, Answers, AnswersOrMemory};
+ghost use Rattle.mj_text.specs.Failing.{failing, Answers};
+ghost use Rattle.mj_strfn.specs.Functions.{ascii_value, char_value, extract_value, find_value, justify_value, reverse_value, byte_of_text, AnswersOrMemory};
 ghost use Rattle.mj_strfn.specs.Parts.{AnswersByte};
 
 use crate::arguments::{count_text, first_and_last, number, number_or, place};

@@ -2,7 +2,8 @@
 
 ghost use Rattle.std.specs.Prelude.{◌≡◌, Ok, Some};
 ghost use Rattle.std.specs.Option.{option_copied};
-ghost use Rattle.mj_strfn.specs.Functions.{translate_value, Answers};
+ghost use Rattle.mj_text.specs.Failing.{Answers};
+ghost use Rattle.mj_strfn.specs.Functions.{translate_value};
 ghost use Rattle.mj_strfn.specs.Table.{IsTable};
 
 use mj_text::{Digits, Failure, Text};

@@ -1,6 +1,6 @@
 // A list of subscripts.
 
-ghost use Rattle.std.specs.Prelude.{◌≡◌, ◌<◌, ◌≤◌, ◌↔◌, [], ◌∷◌, ◌++◌, length, IsTrue, IsSome, IfOk, OnOk, OnErr, slice_get};
+ghost use Rattle.std.specs.Prelude.{◌≡◌, ◌<◌, ◌≤◌, ◌↔◌, [], ◌∷◌, ◌++◌, length, IsTrue, IsSome, IsOkUnless, IfOk, OnOk, OnErr, slice_get};
 ghost use Rattle.std.specs.Slice.Iter.{iter_rest};
 ghost use Rattle.std.specs.Iterator.Adapters.{IterYieldsInOrder};
 ghost use Rattle.std.specs.Option.{option_copied, option_to_list};
@@ -49,6 +49,7 @@ impl Subs {
     pub fn push(&mut self, sub: Sub) -> Result<(), Failure>
         ensures ok { OnOk result (self.new ≡ self.old ++ sub ∷ []) }
         ensures full { (result ≡ Err (failure.Fault fault.Limit)) ↔ (length self.old ≡ SUBSCRIPT_LIMIT) }
+        ensures within { length self.old < SUBSCRIPT_LIMIT → IsOkUnless result failure.Memory }
         ensures err { OnErr result (self.new ≡ self.old) }
     {
         if self.len() == SUBSCRIPT_LIMIT {

@@ -2,3 +2,4 @@ pub mod Kept
 pub mod Short
 pub mod Find
 pub mod Fault
+pub mod Failing

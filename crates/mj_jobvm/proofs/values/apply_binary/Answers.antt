@@ -1,5 +1,6 @@
 use Rattle.std.proofs.Common.{◌≡◌, List, ℕ, reverse, ap, ◌∙◌, subst}
-use Rattle.mj_oper.specs.Operators.{binary_value, Answers}
+use Rattle.mj_text.specs.Failing.{Answers}
+use Rattle.mj_oper.specs.Operators.{binary_value}
 use Rattle.mj_pcode.specs.Machine.{top, below}
 use Rattle.mj_jobvm.specs.Kept.{stack_of}
 use Rattle.mj_jobvm.proofs.values.apply_binary.Goals as goal

@@ -1,5 +1,6 @@
 use Rattle.std.proofs.Common.{◌≡◌, reverse, ap, ◌∙◌}
-use Rattle.mj_oper.specs.Operators.{unary_value, failing}
+use Rattle.mj_text.specs.Failing.{failing}
+use Rattle.mj_oper.specs.Operators.{unary_value}
 use Rattle.mj_pcode.specs.Machine.{top}
 use Rattle.mj_jobvm.specs.Kept.{stack_of}
 use Rattle.mj_jobvm.proofs.Asks.{answers_failing}

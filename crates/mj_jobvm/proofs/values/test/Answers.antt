@@ -1,6 +1,7 @@
 use Rattle.std.proofs.Common.{◌≡◌, ◌+◌, drop, reverse, sym, ap, ◌∙◌}
 use Rattle.std.specs.Prelude.{Err, if◌then◌else◌}
-use Rattle.mj_oper.specs.Operators.{truth_value, failing}
+use Rattle.mj_text.specs.Failing.{failing}
+use Rattle.mj_oper.specs.Operators.{truth_value}
 use Rattle.mj_semantics.specs.Outcome.{given, fault}
 use Rattle.mj_pcode.specs.Machine.{top}
 use Rattle.mj_jobvm.specs.Kept.{stack_of, state_of}
