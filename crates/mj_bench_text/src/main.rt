@@ -1,0 +1,61 @@
+// How long the string functions and `_` take: nanoseconds a call and picoseconds a byte of the text, for texts of 10, 1,000 and
+// 30,000 bytes. With the word `text` it measures; without one it says so.
+#![tactic(auto)]
+
+mod work;
+
+use mj_text::Failure;
+use std::time::Instant;
+use std::{env, io};
+use work::{Sample, WORKS, Work, once};
+
+// the bytes that are worked through for each figure
+const BYTES: u64 = 4_000_000;
+
+const SIZES: [u32; 3] = [10, 1_000, 30_000];
+
+fn main(rt: HostRuntime) -> io::Result<()> {
+    let words: Vec<String> = env::args(&rt)?.collect(rt.alloc())?;
+    match words.get(1) {
+        Some(word) if word.as_str() == "text" => measure_all(&rt),
+        _ => {
+            println!(rt; "usage: mj_bench_text text")?;
+            Ok(())
+        }
+    }
+}
+
+fn measure_all(rt: &HostRuntime) -> io::Result<()> {
+    for work in WORKS {
+        for size in SIZES {
+            measure(rt, work, size)?;
+        }
+    }
+    Ok(())
+}
+
+fn measure(rt: &HostRuntime, work: Work, size: u32) -> io::Result<()> {
+    let sample = match Sample::new(rt.alloc(), size) {
+        Ok(sample) => sample,
+        Err(_) => return Err(io::Error::from(io::ErrorKind::OutOfMemory)),
+    };
+    let rounds = BYTES / u64::from(size.max(1));
+    let start = Instant::now(rt)?;
+    let mut failures = 0_u64;
+    for _ in 0..rounds {
+        if let Err(Failure::Memory) = once(rt.alloc(), work, &sample) {
+            failures = failures.saturating_add(1);
+        }
+    }
+    let nanos = start.elapsed(rt)?.as_nanos();
+    let calls = u128::from(rounds.max(1));
+    println!(rt;
+        "{} {} {} ns/call {} ps/byte, {} refused",
+        work.name(),
+        size,
+        nanos / calls,
+        nanos.saturating_mul(1000) / calls / u128::from(size.max(1)),
+        failures
+    )?;
+    Ok(())
+}
