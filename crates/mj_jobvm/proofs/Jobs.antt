@@ -1,32 +1,87 @@
 -- A job stays at a point of its routines' run.
-use Rattle.std.proofs.Common.{◌≡◌, ℕ, suc, ◌+◌, List, [], ◌∷◌, ◌++◌, Option, Some, None, inl, inr, refl, sym, ap, ◌∙◌, arith, append-nil}
-use Rattle.std.specs.Prelude.{IsTrue}
+use Rattle.std.proofs.Common.{◌≡◌, ℕ, suc, ◌+◌, ◌≤◌, List, [], ◌∷◌, ◌++◌, Option, Some, None, Bool, true, false, inl, inr, refl, sym, ap, ◌∙◌, subst, arith, append-nil}
+use Rattle.std.specs.Prelude.{IsTrue, nat_lt}
+use Rattle.std.proofs.lemmas.Bool.{ltb-true, ltb-false}
 use Rattle.mj_ask.specs.declared.ask.Ask.{Ask}
 use Rattle.mj_ask.specs.declared.ask.Reply.{Reply}
 use Rattle.mj_ask.specs.declared.entry.Entry.{Entry}
 use Rattle.mj_ask.specs.Fits.{fits}
 use Rattle.mj_ast.specs.Syntax.{Routine}
-use Rattle.mj_semantics.specs.State.{places}
-use Rattle.mj_semantics.specs.Outcome.{Outcome, Needs, More}
+use Rattle.mj_semantics.specs.State.{State, places}
+use Rattle.mj_semantics.specs.Outcome.{Outcome, Needs, More, Handler}
 use Rattle.mj_semantics.specs.Outcome as outcomes
 use Rattle.mj_semantics.specs.Job.{next, no_restart}
-use Rattle.mj_jobvm.specs.Standing.{Standing, Code, left, given_first, onward, Steps, Told as Turned}
+use Rattle.mj_pcode.specs.declared.instr.Unit.{Unit}
+use Rattle.mj_pcode.specs.Machine.{Stack}
+use Rattle.mj_jobvm.specs.declared.control.Control.{Control}
+use Rattle.mj_jobvm.specs.declared.control.Control.TheVariants as controls
+use Rattle.mj_jobvm.specs.declared.job.Turn.TheVariants as reports
+use Rattle.mj_jobvm.specs.Standing.{Standing, Code, from, left, given_first, onward, Steps}
 use Rattle.mj_jobvm.specs.Standing as turns
-use Rattle.mj_jobvm.specs.Run.{Log, Run, replies_of, TurnsBefore, IsTrace, begins, goes_on, IsRun, Report, Told}
-use Rattle.mj_jobvm.specs.Run as reports
+use Rattle.mj_jobvm.specs.Run.{Log, Run, replies_of, begins, goes_on, IsRun}
+use Rattle.mj_jobvm.specs.Told.{Told}
 
 abbrev pub run : Log → Option Ask → ℕ → Standing → Run
 run log pending spent at = record { log = log; pending = pending; spent = spent; at = at }
 
+-- without a turn nothing is done
+idle_from : (u : Option Unit) (pc : ℕ) (stack : Stack) (h : Handler) (s : State) (replies : List Reply) → from u pc stack 0 h s replies ≡ More
+idle_from None pc stack h s replies = refl
+idle_from (Some u) pc stack h s replies = refl
+
+idle_left : (code : Code) (control : Control) (stack : Stack) (s : State) (replies : List Reply) → left code control stack 0 no_restart s replies ≡ More
+idle_left code controls.Begin stack s replies = refl
+idle_left code (controls.At pc) stack s replies = idle_from code.unit pc stack no_restart s replies
+idle_left code (controls.Faulted f) stack s replies = refl
+idle_left code (controls.Closing f) stack s replies = refl
+idle_left code (controls.Halting f) stack s replies = refl
+idle_left code controls.Over stack s replies = refl
+
+idle : (code : Code) (at : Standing) (replies : List Reply) → onward code 0 at replies ≡ More
+idle code at replies = idle_left code at.control at.stack at.state (given_first at.given replies)
+
+-- a fact of each number up to one, and of the next
+one_further : (P : ℕ → Type 0) (m : ℕ) → ((n : ℕ) → n ≤ m → P n) → P (m + 1) → (n : ℕ) → n ≤ m + 1 → P n
+one_further P m up here n le = by (nat_lt m n) refl
+  where
+    along : (a b : ℕ) → a ≡ b → P a → P b
+    along a b e p = subst P e p
+
+    by : (b : Bool) → nat_lt m n ≡ b → P n
+    by true e = along (m + 1) n (let h = ltb-true m n e in omega (arith, h)) here
+    by false e = up n (ltb-false m n e)
+
 module _ (routines : List Routine) (entry : Entry) (code : Code) where
+  -- what the routines do with the log
+  now : (log : Log) (pending : Option Ask) (spent n : ℕ) (at : Standing) (r : IsRun routines entry code (run log pending spent at))
+      → onward code n at [] ≡ next routines entry (r.before + r.turns + n) (replies_of log)
+  now log pending spent n at r = r.rest n [] ∙ ap (next routines entry (r.before + r.turns + n)) (append-nil (replies_of log))
+
   pub started : (at : Standing) → ((n : ℕ) (replies : List Reply) → onward code n at replies ≡ next routines entry n replies)
       → IsRun routines entry code (run [] None 0 at)
   started at h = record {
     before = 0;
     counted = inl (refl, refl);
     trace = begins;
+    turns = 0;
+    within = omega arith;
+    going = λ n le. ap (λ k. next routines entry k []) (let e : 0 + n ≡ 0 = omega arith in e);
     rest = λ n replies. h n replies ∙ ap (λ k. next routines entry k replies) (let e : n ≡ 0 + 0 + n = omega arith in e);
     asks = tt;
+  }
+
+  -- fewer turns may be counted than are over
+  pub fewer : (log : Log) (pending : Option Ask) (counted spent : ℕ) (at : Standing) → counted ≤ spent
+      → IsRun routines entry code (run log pending spent at) → IsRun routines entry code (run log pending counted at)
+  fewer log pending counted spent at le r = record {
+    before = r.before;
+    counted = r.counted;
+    trace = r.trace;
+    turns = r.turns;
+    within = let w = r.within in omega (arith, w, le);
+    going = r.going;
+    rest = r.rest;
+    asks = r.asks;
   }
 
   -- a turn
@@ -36,7 +91,12 @@ module _ (routines : List Routine) (entry : Entry) (code : Code) where
     before = r.before;
     counted = r.counted;
     trace = r.trace;
-    rest = λ n replies. sym (h n replies) ∙ r.rest (suc n) replies ∙ ap (λ k. next routines entry k (replies_of log ++ replies)) (let e : r.before + spent + suc n ≡ r.before + (spent + 1) + n = omega arith in e);
+    turns = r.turns + 1;
+    within = let w = r.within in omega (arith, w);
+    going = one_further (λ n. next routines entry (r.before + n) (replies_of log) ≡ More) r.turns r.going
+        (ap (λ k. next routines entry k (replies_of log)) (let e : r.before + (r.turns + 1) ≡ r.before + r.turns + 1 = omega arith in e)
+        ∙ sym (now log None spent 1 old r) ∙ h 0 [] ∙ idle code new []);
+    rest = λ n replies. sym (h n replies) ∙ r.rest (suc n) replies ∙ ap (λ k. next routines entry k (replies_of log ++ replies)) (let e : r.before + r.turns + suc n ≡ r.before + (r.turns + 1) + n = omega arith in e);
     asks = tt;
   }
 
@@ -44,62 +104,75 @@ module _ (routines : List Routine) (entry : Entry) (code : Code) where
   pub asking : (log : Log) (spent : ℕ) (a : Ask) (old : Standing) → old.given ≡ None
       → ((n : ℕ) → onward code (suc n) old [] ≡ Needs a old.state.locals (places old.state))
       → IsRun routines entry code (run log None spent old) → IsRun routines entry code (run log (Some a) spent old)
-  asking log spent a old g h r = record { before = r.before; counted = r.counted; trace = r.trace; rest = r.rest; asks = (g, h) }
-
-  -- what the routines do with the log
-  now : (log : Log) (pending : Option Ask) (spent n : ℕ) (at : Standing) (r : IsRun routines entry code (run log pending spent at))
-      → onward code n at [] ≡ next routines entry (r.before + spent + n) (replies_of log)
-  now log pending spent n at r = r.rest n [] ∙ ap (next routines entry (r.before + spent + n)) (append-nil (replies_of log))
+  asking log spent a old g h r = record {
+    before = r.before;
+    counted = r.counted;
+    trace = r.trace;
+    turns = r.turns;
+    within = r.within;
+    going = r.going;
+    rest = r.rest;
+    asks = (g, h);
+  }
 
   -- a run asks within the turns that it asks in
   pub needs : (log : Log) (spent : ℕ) (a : Ask) (at : Standing) (r : IsRun routines entry code (run log (Some a) spent at))
-      → next routines entry (r.before + spent + 1) (replies_of log) ≡ Needs a at.state.locals (places at.state)
+      → next routines entry (r.before + r.turns + 1) (replies_of log) ≡ Needs a at.state.locals (places at.state)
   needs log spent a at r = sym (now log (Some a) spent 1 at r) ∙ r.asks.1 0
 
   pub told_asks : (log : Log) (spent : ℕ) (a : Ask) (at : Standing) → IsRun routines entry code (run log (Some a) spent at)
       → Told routines entry reports.Asks (run log (Some a) spent at)
-  told_asks log spent a at r = (a, refl, (r.before + spent + 1, needs log spent a at r))
+  told_asks log spent a at r = (a, refl, (r.before + r.turns + 1, needs log spent a at r))
 
-  -- with turns used up the run is still going, where a turn comes next
-  pub told_ran : (log : Log) (pending : Option Ask) (spent : ℕ) (at : Standing) → ((replies : List Reply) → onward code 0 at replies ≡ More)
-      → IsRun routines entry code (run log pending spent at) → Told routines entry reports.Ran (run log pending spent at)
-  told_ran log pending spent at h r = (
-    r.before,
-    r.counted,
-    ap (λ k. next routines entry k (replies_of log)) (let e : r.before + spent ≡ r.before + spent + 0 = omega arith in e)
-        ∙ sym (now log pending spent 0 at r) ∙ h [],
-  )
+  -- what is told again while an ask is pending
+  pub told_again : (job : Run) (a : Ask) → job.pending ≡ Some a → IsRun routines entry code job → Told routines entry reports.Asks job
+  told_again job a e r =
+      let P : Option Ask → Type 0 = λ p. IsRun routines entry code (run job.log p job.spent job.at) in
+      let pending : IsRun routines entry code (run job.log (Some a) job.spent job.at) = subst P e r in
+      (a, e, (pending.before + pending.turns + 1, needs job.log job.spent a job.at pending))
+
+  pub told_ran : (log : Log) (pending : Option Ask) (spent : ℕ) (at : Standing) → IsRun routines entry code (run log pending spent at)
+      → Told routines entry reports.Ran (run log pending spent at)
+  told_ran log pending spent at r = (r.before, r.counted, r.going spent r.within)
 
   pub told_ended : (log : Log) (pending : Option Ask) (spent : ℕ) (at : Standing)
       → ((n : ℕ) (replies : List Reply) → onward code (suc n) at replies ≡ outcomes.Ended)
       → IsRun routines entry code (run log pending spent at) → Told routines entry reports.Ended (run log pending spent at)
-  told_ended log pending spent at h r = (r.before + spent + 1, sym (now log pending spent 1 at r) ∙ h 0 [])
+  told_ended log pending spent at h r = (r.before + r.turns + 1, sym (now log pending spent 1 at r) ∙ h 0 [])
 
   replies_more : (log : Log) (a : Ask) (r : Reply) (replies : List Reply) → replies_of log ++ r ∷ replies ≡ replies_of (log ++ (a, r) ∷ []) ++ replies
   replies_more [] a r replies = refl
   replies_more (e ∷ log) a r replies = ap (λ rs. e.1 ∷ rs) (replies_more log a r replies)
 
   -- a reply
-  pub answered : (log : Log) (spent : ℕ) (a : Ask) (r : Reply) (at : Standing) → ((replies : List Reply) → onward code 0 at replies ≡ More)
+  pub answered : (log : Log) (spent : ℕ) (a : Ask) (r : Reply) (at : Standing)
       → IsTrue (fits a r) → IsRun routines entry code (run log (Some a) spent at)
       → IsRun routines entry code (run (log ++ (a, r) ∷ []) None 0 (record at { given = Some r }))
-  answered log spent a r at idle fit is = record {
-    before = is.before + spent;
-    counted = inr (
-      log,
-      a,
-      r,
-      at.state.locals,
-      places at.state,
-      refl,
-      ap (λ k. next routines entry k (replies_of log)) (let e : is.before + spent ≡ is.before + spent + 0 = omega arith in e)
-          ∙ sym (now log (Some a) spent 0 at is) ∙ idle [],
-      needs log spent a at is,
-    );
-    trace = goes_on log a r (is.before + spent + 1) at.state.locals (places at.state) is.trace (needs log spent a at is) fit;
-    rest = λ n replies. ap (λ g. left code at.control at.stack n no_restart at.state (given_first g (r ∷ replies))) (sym is.asks.0)
-        ∙ is.rest n (r ∷ replies)
-        ∙ ap (next routines entry (is.before + spent + n)) (replies_more log a r replies)
-        ∙ ap (λ k. next routines entry k (replies_of (log ++ (a, r) ∷ []) ++ replies)) (let e : is.before + spent + n ≡ is.before + spent + 0 + n = omega arith in e);
-    asks = tt;
-  }
+  answered log spent a r at fit is =
+      let after : (n : ℕ) (replies : List Reply) → left code at.control at.stack n no_restart at.state (r ∷ replies) ≡ next routines entry (is.before + is.turns + n) (replies_of (log ++ (a, r) ∷ []) ++ replies) =
+      λ n replies. ap (λ g. left code at.control at.stack n no_restart at.state (given_first g (r ∷ replies))) (sym is.asks.0)
+      ∙ is.rest n (r ∷ replies)
+      ∙ ap (next routines entry (is.before + is.turns + n)) (replies_more log a r replies) in
+      record {
+        before = is.before + is.turns;
+        counted = inr (
+          log,
+          a,
+          r,
+          at.state.locals,
+          places at.state,
+          refl,
+          is.going is.turns (let le : is.turns ≤ is.turns = omega arith in le),
+          needs log spent a at is,
+        );
+        trace = goes_on log a r (is.before + is.turns + 1) at.state.locals (places at.state) is.trace (needs log spent a at is) fit;
+        turns = 0;
+        within = omega arith;
+        going = λ n le. ap (λ k. next routines entry k (replies_of (log ++ (a, r) ∷ []))) (let e : is.before + is.turns + n ≡ is.before + is.turns + 0 = omega (arith, le) in e)
+            ∙ ap (next routines entry (is.before + is.turns + 0)) (sym (append-nil (replies_of (log ++ (a, r) ∷ []))))
+            ∙ sym (after 0 [])
+            ∙ idle_left code at.control at.stack at.state (r ∷ []);
+        rest = λ n replies. after n replies
+            ∙ ap (λ k. next routines entry k (replies_of (log ++ (a, r) ∷ []) ++ replies)) (let e : is.before + is.turns + n ≡ is.before + is.turns + 0 + n = omega arith in e);
+        asks = tt;
+      }

@@ -1,4 +1,7 @@
 pub mod Jobs
+pub mod Opening
+pub mod Advance
+pub mod Answered
 pub mod Operands
 pub mod Innermost
 pub mod Asks

@@ -1,13 +1,12 @@
--- A job's value, and that it is at a point of its routines' run.
-use Rattle.std.specs.Prelude.{◌≡◌, ℕ, suc, ◌+◌, List, [], ◌∷◌, ◌++◌, Option, Some, None, IfSome, IsTrue, ◌⊎◌, map}
+-- That a job is at a point of its routines' run.
+use Rattle.std.specs.Prelude.{◌≡◌, ℕ, suc, ◌+◌, ◌≤◌, List, [], ◌∷◌, ◌++◌, Option, None, IfSome, IsTrue, ◌⊎◌, map}
 use Rattle.mj_ask.specs.declared.ask.Ask.{Ask}
 use Rattle.mj_ask.specs.declared.ask.Reply.{Reply}
 use Rattle.mj_ask.specs.declared.entry.Entry.{Entry}
 use Rattle.mj_ask.specs.Fits.{fits}
 use Rattle.mj_ast.specs.Syntax.{Routine}
 use Rattle.mj_semantics.specs.State.{Locals, Place, places}
-use Rattle.mj_semantics.specs.Outcome.{Outcome, Needs, More}
-use Rattle.mj_semantics.specs.Outcome as outcomes
+use Rattle.mj_semantics.specs.Outcome.{Needs, More}
 use Rattle.mj_semantics.specs.Job.{next}
 use Rattle.mj_jobvm.specs.Standing.{Standing, Code, onward}
 
@@ -19,7 +18,8 @@ Log = List (Ask × Reply)
 abbrev pub replies_of : Log → List Reply
 replies_of log = map (λ e. e.1) log
 
--- the turns that were over when the last reply of the log was taken, after which the run asked for it
+-- the turns that were over when the last reply of the log was taken, after which the run asked for it; none where there was
+-- no reply yet
 abbrev pub TurnsBefore : List Routine → Entry → Log → ℕ → Type 0
 TurnsBefore routines entry log m =
     ((log ≡ []) × (m ≡ 0))
@@ -34,7 +34,8 @@ pub data IsTrace (routines : List Routine) (entry : Entry) : Log → Type 0 wher
       → IsTrace routines entry log → next routines entry n (replies_of log) ≡ Needs a locals at → IsTrue (fits a r)
       → IsTrace routines entry (log ++ (a, r) ∷ [])
 
--- what a caller may know of a job: its log, what it asks, the turns since the last reply, and where it stands
+-- what a caller may know of a job: its log, what it asks, the turns that it counted since the last reply, and where it
+-- stands
 pub record Run : Type 0 where
   pub log : Log
   pub pending : Option Ask
@@ -46,19 +47,12 @@ pub record IsRun (routines : List Routine) (entry : Entry) (code : Code) (job : 
   pub before : ℕ
   pub counted : TurnsBefore routines entry job.log before
   pub trace : IsTrace routines entry job.log
+  -- the turns that are over since the last reply, which are at least those that it counted
+  pub turns : ℕ
+  pub within : job.spent ≤ turns
+  -- at none of them the run was over, or asked
+  pub going : (n : ℕ) → n ≤ turns → next routines entry (before + n) (replies_of job.log) ≡ More
   -- what is left of the run is what the routines mean after as many turns
-  pub rest : (n : ℕ) (replies : List Reply) → onward code n job.at replies ≡ next routines entry (before + job.spent + n) (replies_of job.log ++ replies)
+  pub rest : (n : ℕ) (replies : List Reply) → onward code n job.at replies ≡ next routines entry (before + turns + n) (replies_of job.log ++ replies)
   -- and with an ask pending, the run needs its reply
   pub asks : IfSome job.pending (λ a. (job.at.given ≡ None) × ((n : ℕ) → onward code (suc n) job.at [] ≡ Needs a job.at.state.locals (places job.at.state)))
-
--- a job that asks, or ran as far as it was let, or has ended
-pub data Report : Type 0 where
-  Asks Ran Ended : Report
-
--- what a call of `advance` tells, and what stands beside it
-abbrev pub Told : List Routine → Entry → Report → Run → Type 0
-Told routines entry Asks job =
-    (a : Ask) × (job.pending ≡ Some a) × ((n : ℕ) × (next routines entry n (replies_of job.log) ≡ Needs a job.at.state.locals (places job.at.state)))
-Told routines entry Ran job =
-    (m : ℕ) × TurnsBefore routines entry job.log m × (next routines entry (m + job.spent) (replies_of job.log) ≡ More)
-Told routines entry Ended job = (n : ℕ) × (next routines entry n (replies_of job.log) ≡ outcomes.Ended)

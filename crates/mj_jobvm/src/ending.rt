@@ -28,7 +28,7 @@ pub fn tell_fault(
         machine.control = Control::Closing(Some(fault));
         return Ok(Step::Took);
     }
-    let line = fault_text(alloc, fault, &machine.frames, machine.column)?;
+    let line = fault_text(alloc, fault, machine)?;
     Ok(Step::Asks(Ask::DeviceWrite(principal(alloc), line)))
 }
 

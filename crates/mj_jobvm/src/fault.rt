@@ -2,30 +2,27 @@
 
 ghost use Rattle.std.specs.Prelude.{◌≡◌, ◌≤◌, ◌+◌, ◌++◌, length, IfOk, OnOk};
 ghost use Rattle.mj_semantics.specs.Faults.{place_text};
-ghost use Rattle.mj_jobvm.specs.Written.{last_place, written};
+ghost use Rattle.mj_semantics.specs.State.{place_of};
+ghost use Rattle.mj_semantics.specs.Outcome.{fault_bytes};
+ghost use Rattle.mj_jobvm.specs.Kept.{state_of};
 
-use crate::frame::Place;
+use crate::machine::Machine;
 use itoa::Buffer;
 use mj_text::{Digits, Failure, Fault, Text};
 use std::alloc::{AllocError, Global};
 
-/// The line that tells of a fault in the innermost of these frames, which lies last, or in none; with its end, and at the
-/// beginning of a line of the device, whose column this is.
-pub fn fault_text(
-    alloc: Global,
-    fault: Fault,
-    frames: &[Place],
-    column: u64,
-) -> Result<Text, AllocError>
-    ensures { IfOk result (λ t. t ≡ written fault frames.now column) }
+/// The line that tells of a fault in the innermost frame, or in none; with its end, and at the beginning of a line of the
+/// device.
+pub fn fault_text(alloc: Global, fault: Fault, machine: &Machine) -> Result<Text, AllocError>
+    ensures { IfOk result (λ t. t ≡ fault_bytes fault (state_of machine.now)) }
 {
     let mut line = Vec::new(alloc);
-    if column != 0 {
+    if machine.column != 0 {
         line.push(b'\n')?;
     }
     line.extend_from_slice(fault.name().as_bytes())?;
     line.push(b' ')?;
-    put_place(&mut line, frames)?;
+    put_place(&mut line, machine)?;
     line.push(b'\n')?;
     match Text::from(alloc, &line) {
         Ok(text) => Ok(text),
@@ -35,11 +32,11 @@ pub fn fault_text(
 }
 
 // The place of the innermost frame, or `-` where there is none.
-fn put_place(line: &mut Vec<u8>, frames: &[Place]) -> Result<(), AllocError>
-    ensures text { OnOk result (line.new.items ≡ line.old.items ++ place_text (last_place frames.now)) }
+fn put_place(line: &mut Vec<u8>, machine: &Machine) -> Result<(), AllocError>
+    ensures text { OnOk result (line.new.items ≡ line.old.items ++ place_text (place_of (state_of machine.now))) }
     ensures short { OnOk result (length line.new.items ≤ length line.old.items + 72) }
 {
-    match frames.last() {
+    match machine.frames.last() {
         None => line.push(b'-')?,
         Some(place) => {
             line.extend_from_slice(place.routine.bytes(&mut Digits::new()))?;

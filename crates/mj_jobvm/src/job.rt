@@ -1,9 +1,16 @@
 // A job.
 
-ghost use Rattle.std.specs.Prelude.{◌≡◌, ◌++◌, ◌∷◌, [], Some, None, IfOk, OnErr, option_copied};
+ghost use Rattle.std.specs.Prelude.{◌≡◌, ◌++◌, ◌∷◌, [], Some, None, IfOk, OnErr, option_copied, option_map, slice_get};
 ghost use Rattle.mj_ask.specs.declared.ask.Ask as asks;
-ghost use Rattle.mj_jobvm.specs.Jobs.{Fits, given_of};
-ghost use Rattle.mj_jobvm.specs.Kept.{replied};
+ghost use Rattle.mj_ask.specs.declared.entry.Entry as entries;
+ghost use Rattle.mj_semantics.specs.State.{place_of};
+ghost use Rattle.mj_load.specs.Image.{Loaded, routines_of};
+ghost use Rattle.mj_jobvm.specs.Frames.{frames_of, place_at};
+ghost use Rattle.mj_jobvm.specs.Jobs.{Fits, IsRunOf, given_of, opened};
+ghost use Rattle.mj_jobvm.specs.Standing.{Steps};
+ghost use Rattle.mj_jobvm.specs.Kept.{standing, replied, target_of, target_at};
+ghost use Rattle.mj_jobvm.specs.Run.{IsTrace};
+ghost use Rattle.mj_jobvm.specs.Told.{Told, told_of, spent_after};
 ghost use Rattle.mj_jobvm.specs.Units.{unit_at, IsFit};
 
 use crate::control::Control;
@@ -15,6 +22,8 @@ use crate::turn::turn;
 use mj_ask::{Ask, Entry, Reply};
 use mj_load::Image;
 use mj_pcode::Unit;
+use mj_subs::Name;
+use mj_text::Text;
 use std::alloc::{AllocError, Global};
 use std::marker::Model;
 
@@ -30,6 +39,14 @@ pub enum Turn {
     Ran,
     /// it is over
     Ended,
+}
+
+// How a turn goes, whether it took the reply at hand or not.
+#[derive(Drop)]
+enum Went {
+    On,
+    Asks(Ask),
+    Over,
 }
 
 /// One job: what it asked and was told, and where it stands.
@@ -54,7 +71,7 @@ impl Model for Job {
 
     ghost Value = { Running };
 
-    ghost view = { λ j. running j.target j.machine j.log.items j.given j.pending j.spent };
+    ghost view = { λ j. running j.unit j.target j.machine j.log.items j.given j.pending j.spent };
 
     ghost invariant = { λ j. IsSome j.pending → j.log.len < j.log.cap };
 }
@@ -62,6 +79,7 @@ impl Model for Job {
 impl Job {
     /// A job that starts at this entry. Where the image has no such line, it begins all the same, and ends by a fault.
     pub fn start(alloc: Global, image: &Image, entry: Entry) -> Result<Job, AllocError>
+        ensures run { IfOk result (IsRunOf image.now entry) }
         ensures log { IfOk result (λ job. job.run.log ≡ []) }
         ensures pending { IfOk result (λ job. job.run.pending ≡ None) }
         ensures spent { IfOk result (λ job. job.run.spent ≡ 0) }
@@ -84,9 +102,7 @@ impl Job {
     }
 
     fn at(alloc: Global, unit: usize, target: Option<Target>) -> Job
-        ensures log { result.run.log ≡ [] }
-        ensures pending { result.run.pending ≡ None }
-        ensures spent { result.run.spent ≡ 0 }
+        ensures { result ≡ opened unit (option_map target_of target) }
     {
         Job {
             alloc,
@@ -107,40 +123,38 @@ impl Job {
         }
     }
 
-    /// Goes on for at most `fuel` turns, in the image where it started. A job that waits for a reply asks again.
+    /// Goes on for at most `fuel` turns, in the image where it started. A job that waits for a reply asks again. With want of
+    /// memory its log and its ask are as before, and it stands at some later or equal place of the same run.
     pub fn advance(&mut self, image: &Image, fuel: u64) -> Result<Turn, AllocError>
+        ensures run { (entry : entries.Entry) → IsRunOf image.now entry self.old → IsRunOf image.now entry self.new }
+        ensures told { (entry : entries.Entry) → IsRunOf image.now entry self.old → IfOk result (λ turn. Told (routines_of image.now) entry turn self.new.run) }
         ensures log { self.new.run.log ≡ self.old.run.log }
+        ensures spent { self.new.run.spent ≡ spent_after result fuel self.old.run.spent }
         ensures err { OnErr result (self.new.run.pending ≡ self.old.run.pending) }
     {
         if let Some(_) = self.pending {
             return Ok(Turn::Asks);
         }
+        self.log.reserve(1)?;
         let unit = unit_in(image, self.unit);
-        let limit = self.spent.saturating_add(fuel).min(SPENT_LIMIT);
-        while self.spent < limit {
-            let given = reply_in(&self.log, self.given);
-            match turn(
+        'turns: for done in 0..fuel {
+            match go_on(
                 self.alloc,
                 unit,
                 self.target.as_ref(),
                 &mut self.machine,
-                given,
+                &self.log,
+                &mut self.given,
             )? {
-                Step::Next => {
-                    self.spent += 1;
-                }
-                Step::Took => {
-                    self.given = false;
-                    self.spent += 1;
-                }
-                Step::Asks(ask) => {
-                    self.log.reserve(1)?;
+                Went::On => {}
+                Went::Asks(ask) => {
                     self.pending = Some(ask);
                     return Ok(Turn::Asks);
                 }
-                Step::Ends => return Ok(Turn::Ended),
+                Went::Over => return Ok(Turn::Ended),
             }
         }
+        self.spent = self.spent.saturating_add(fuel).min(SPENT_LIMIT);
         Ok(Turn::Ran)
     }
 
@@ -154,6 +168,8 @@ impl Job {
     /// Replies to what the job asks. It takes no memory.
     pub fn answer(&mut self, reply: Reply)
         requires { Fits self.old.run.pending reply }
+        ensures run { (image : Loaded) (entry : entries.Entry) → IsRunOf image entry self.old → IsRunOf image entry self.new }
+        ensures state { self.new.run.at.state ≡ self.old.run.at.state }
         ensures log { (a : asks.Ask) → self.old.run.pending ≡ Some a → self.new.run.log ≡ self.old.run.log ++ (a, reply) ∷ [] }
         ensures pending { self.new.run.pending ≡ None }
         ensures spent { self.new.run.spent ≡ 0 }
@@ -169,12 +185,37 @@ impl Job {
 
     /// What it asked, with the replies, in order.
     pub fn log(&self) -> &[(Ask, Reply)]
-        ensures { result.now ≡ self.now.run.log }
+        ensures which { result.now ≡ self.now.run.log }
+        ensures trace { (image : Loaded) (entry : entries.Entry) → IsRunOf image entry self.now → IsTrace (routines_of image) entry result.now }
     {
         self.log.as_slice()
     }
 
-    /// The turns since the last reply.
+    /// Its locals that have a value, by rising names.
+    pub fn locals(&self) -> &[(Name, Text)]
+        ensures { result.now ≡ self.now.run.at.state.locals }
+    {
+        self.machine.locals.entries()
+    }
+
+    /// The lines where its frames stand, the outermost first.
+    pub fn frames(&self) -> &[Place]
+        ensures { frames_of result.now ≡ self.now.run.at.state.frames }
+    {
+        self.machine.frames.as_slice()
+    }
+
+    /// The routine and the line where its innermost frame stands, if it has a frame.
+    pub fn place(&self) -> Option<(&Text, u32)>
+        ensures { place_at result ≡ place_of self.now.run.at.state }
+    {
+        match self.machine.frames.last() {
+            None => None,
+            Some(place) => Some((&place.routine, place.line)),
+        }
+    }
+
+    /// The turns that it was let go on for since the last reply, by calls of `advance` that used their fuel up.
     pub fn spent(&self) -> u64
         ensures { result ≡ self.now.run.spent }
     {
@@ -182,9 +223,34 @@ impl Job {
     }
 }
 
+// A turn, with the last reply of the log, if it is still to be taken.
+fn go_on(
+    alloc: Global,
+    unit: Option<&Unit>,
+    target: Option<&Target>,
+    machine: &mut Machine,
+    log: &[(Ask, Reply)],
+    given: &mut bool,
+) -> Result<Went, AllocError>
+    requires { IsFit (unit_at unit) }
+    ensures ok { IfOk result (λ w. Steps (record { unit = unit_at unit.entry; target = target_at target.entry }) (standing machine.old (given_of given.old log.now)) (told_of w) (standing machine.new (given_of given.new log.now))) }
+    ensures err { OnErr result (standing machine.new (given_of given.new log.now) ≡ standing machine.old (given_of given.old log.now)) }
+{
+    match turn(alloc, unit, target, machine, reply_in(log, *given))? {
+        Step::Next => Ok(Went::On),
+        Step::Took => {
+            *given = false;
+            Ok(Went::On)
+        }
+        Step::Asks(ask) => Ok(Went::Asks(ask)),
+        Step::Ends => Ok(Went::Over),
+    }
+}
+
 // The unit at this place of an image, if there is one.
 fn unit_in(image: &Image, at: usize) -> Option<&Unit>
-    ensures { IsFit (unit_at result) }
+    ensures which { unit_at result ≡ slice_get image.now.units at }
+    ensures fit { IsFit (unit_at result) }
 {
     match image.units().get(at) {
         None => None,

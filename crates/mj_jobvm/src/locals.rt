@@ -35,6 +35,13 @@ impl Locals {
         }
     }
 
+    /// Their names and values, by rising names.
+    pub fn entries(&self) -> &[(Name, Text)]
+        ensures { result.now ≡ self.now }
+    {
+        self.entries.as_slice()
+    }
+
     /// The value of a name, if it has one.
     pub fn get(&self, name: &Name) -> Option<&Text>
         ensures { option_copied result ≡ value_of name.now self.now }

@@ -1,0 +1,37 @@
+-- What a call of `advance` tells.
+use Rattle.std.specs.Prelude.{◌≡◌, ℕ, ◌+◌, ◌^◌, min, List, Some, Result, Ok, Err}
+use Rattle.mj_ask.specs.declared.ask.Ask.{Ask}
+use Rattle.mj_ask.specs.declared.entry.Entry.{Entry}
+use Rattle.mj_ast.specs.Syntax.{Routine}
+use Rattle.mj_semantics.specs.State.{places}
+use Rattle.mj_semantics.specs.Outcome as outcomes
+use Rattle.mj_semantics.specs.Job.{next}
+use Rattle.mj_jobvm.specs.declared.job.Turn.{Turn}
+use Rattle.mj_jobvm.specs.declared.job.Turn.TheVariants.{Asks, Ran, Ended}
+use Rattle.mj_jobvm.specs.declared.job.Went.{Went}
+use Rattle.mj_jobvm.specs.declared.job.Went.TheVariants as wents
+use Rattle.mj_jobvm.specs.Standing as turns
+use Rattle.mj_jobvm.specs.Run.{Run, replies_of, TurnsBefore}
+
+-- it asks only what the run over its log needs, and its locals and its frames are those that stand beside it; it has ended
+-- only where the run has; and only where the run is still going after the turns before the last reply was taken, and those
+-- that it counted since, it ran as far as it was let
+abbrev pub Told : List Routine → Entry → Turn → Run → Type 0
+Told routines entry Asks job =
+    (a : Ask) × (job.pending ≡ Some a) × ((n : ℕ) × (next routines entry n (replies_of job.log) ≡ outcomes.Needs a job.at.state.locals (places job.at.state)))
+Told routines entry Ran job =
+    (m : ℕ) × TurnsBefore routines entry job.log m × (next routines entry (m + job.spent) (replies_of job.log) ≡ outcomes.More)
+Told routines entry Ended job = (n : ℕ) × (next routines entry n (replies_of job.log) ≡ outcomes.Ended)
+
+-- the turns that are counted since the last reply: its fuel, where it ran as far as it was let, up to 2 ^ 63
+abbrev pub spent_after : {E : Type 0} → Result Turn E → ℕ → ℕ → ℕ
+spent_after (Ok Asks) fuel spent = spent
+spent_after (Ok Ran) fuel spent = min (spent + fuel) (2 ^ 63)
+spent_after (Ok Ended) fuel spent = spent
+spent_after (Err e) fuel spent = spent
+
+-- how a turn went, by the name that a run gives it
+abbrev pub told_of : Went → turns.Told
+told_of wents.On = turns.Over
+told_of (wents.Asks a) = turns.Asks a
+told_of wents.Over = turns.Ends
