@@ -1,3 +1,4 @@
 pub mod Nest
 pub mod Puts
 pub mod Kills
+pub mod Orders

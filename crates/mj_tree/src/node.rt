@@ -1,19 +1,23 @@
 // A node: a text of its own, and children by their subscripts.
 
 ghost use Rattle.std.specs.Prelude.{◌≡◌, ◌↔◌, [], ◌∷◌, option_copied, IsTrue, IfOk, OnOk, OnErr};
+ghost use Rattle.std.specs.Option.{option_map};
 ghost use Rattle.std.specs.FinMap.{find, put};
 ghost use Rattle.std.specs.Cmp.Lexicographic.{slice_cmp};
 ghost use Rattle.mj_subs.specs.Collation.{subscript_cmp};
-ghost use Rattle.std.specs.BTreeMap.{insert_entry, is_at};
+ghost use Rattle.std.specs.BTreeMap.{keys, insert_entry, is_at};
 ghost use Rattle.std.specs.Map.{remove_entry};
-ghost use Rattle.mj_store.specs.Nodes.{subtree, data_of};
+ghost use Rattle.mj_store.specs.declared.store.Direction.TheVariants as way;
+ghost use Rattle.mj_store.specs.Nodes.{is_empty, subtree, data_of, first_subscripts, next_past};
 ghost use Rattle.mj_tree.specs.Nest.{nodes_of, without};
 
+use mj_store::Direction;
 use mj_subs::Sub;
 use mj_text::Text;
 use std::alloc::{AllocError, Global};
 use std::collections::BTreeMap;
 use std::marker::Model;
+use std::ops::Bound;
 
 /// What stands at a list of subscripts and below it. No child is without a text at it or below.
 #[derive(Drop)]
@@ -88,6 +92,19 @@ impl Node {
                 (true, true) => 1,
                 (false, false) => 10,
                 (true, false) => 11,
+            },
+        }
+    }
+
+    /// The next subscript after `last` at the place below `front`, in a direction. From the empty one it is the first.
+    pub fn order(&self, front: &[Sub], last: &Sub, direction: Direction) -> Option<&Sub>
+        ensures { option_copied result ≡ next_past subscript_cmp direction (is_empty last.now) last.now (first_subscripts (subtree subscript_cmp front.now self.now)) }
+    {
+        match self.at(front) {
+            None => None,
+            Some(node) => match direction {
+                Direction::Forward => key_after(&node.children, last),
+                Direction::Backward => key_before(&node.children, last),
             },
         }
     }
@@ -168,6 +185,38 @@ fn add(children: &mut BTreeMap<Sub, Node>, sub: &Sub, child: Node) -> Result<(),
 {
     children.insert(sub.try_clone()?, child)?;
     Ok(())
+}
+
+// The first child's subscript after this one. After the empty one comes each.
+fn key_after<'a>(children: &'a BTreeMap<Sub, Node>, last: &Sub) -> Option<&'a Sub>
+    ensures { option_copied result ≡ next_past subscript_cmp way.Forward (is_empty last.now) last.now (keys children.now) }
+{
+    if last.is_empty() {
+        return subscript(children.iter().next());
+    }
+    let mut later = children.range((Bound::Excluded(last), Bound::Unbounded));
+    subscript(later.next())
+}
+
+// The last child's subscript before this one. Before the empty one comes each.
+fn key_before<'a>(children: &'a BTreeMap<Sub, Node>, last: &Sub) -> Option<&'a Sub>
+    ensures { option_copied result ≡ next_past subscript_cmp way.Backward (is_empty last.now) last.now (keys children.now) }
+{
+    if last.is_empty() {
+        return subscript(children.iter().next_back());
+    }
+    let mut earlier = children.range(..last);
+    subscript(earlier.next_back())
+}
+
+// The subscript of a child.
+fn subscript<'a>(child: Option<(&'a Sub, &'a Node)>) -> Option<&'a Sub>
+    ensures { option_copied result ≡ option_map (λ e. e.0.now) child.entry }
+{
+    match child {
+        None => None,
+        Some((sub, _)) => Some(sub),
+    }
 }
 
 // The child at a subscript goes, if there is one.
