@@ -2,3 +2,4 @@ pub mod Nest
 pub mod Puts
 pub mod Kills
 pub mod Orders
+pub mod Laters

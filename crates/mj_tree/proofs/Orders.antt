@@ -18,7 +18,7 @@ use Rattle.mj_store.specs.declared.store.Direction.TheVariants.{Forward, Backwar
 use Rattle.mj_store.specs.Nodes.{is_empty, first, first_of, least, along, first_subscripts, next_past}
 use Rattle.mj_tree.specs.Nest.{own, under, below, AreFilled}
 
-filter_same : {A : Type 0} (f g : A → Bool) → ((x : A) → f x ≡ g x) → (xs : List A) → filter f xs ≡ filter g xs
+pub filter_same : {A : Type 0} (f g : A → Bool) → ((x : A) → f x ≡ g x) → (xs : List A) → filter f xs ≡ filter g xs
 filter_same f g same [] = refl
 filter_same f g same (x ∷ xs) = (λ i. cond (same x i) (x ∷ filter_same f g same xs i) (filter_same f g same xs i))
 
@@ -26,7 +26,7 @@ filter_each : {A : Type 0} (xs : List A) → filter (λ (x : A). true) xs ≡ xs
 filter_each [] = refl
 filter_each (x ∷ xs) = ap (λ ys. x ∷ ys) (filter_each xs)
 
-after_all : (a : Bool) → a && true ≡ a
+pub after_all : (a : Bool) → a && true ≡ a
 after_all true = refl
 after_all false = refl
 

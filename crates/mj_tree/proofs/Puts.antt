@@ -18,7 +18,7 @@ both_so true b p q = q
 both_so false b p q = p
 
 module _ {K : Type 0} (R : K → K → Ordering) (o : IsTotalOrder R) where
-  before_less : {X : Type 0} (s t : K) (ks : List (K × X)) → R s t ≡ Less → T (below_all R t ks) → T (below_all R s ks)
+  pub before_less : {X : Type 0} (s t : K) (ks : List (K × X)) → R s t ≡ Less → T (below_all R t ks) → T (below_all R s ks)
   before_less s t [] e h = tt
   before_less s t (k ∷ ks) e h =
       both_so (is_lt (R s k.0)) (below_all R s ks) (subst (λ r. T (is_lt r)) (sym (o.trans s t k.0 e (is_less _ (first_so _ _ h)))) tt) (before_less s t ks e (second_so _ _ h))

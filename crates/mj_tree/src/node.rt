@@ -1,6 +1,6 @@
 // A node: a text of its own, and children by their subscripts.
 
-ghost use Rattle.std.specs.Prelude.{◌≡◌, ◌↔◌, [], ◌∷◌, option_copied, IsTrue, IfOk, OnOk, OnErr};
+ghost use Rattle.std.specs.Prelude.{◌≡◌, ◌<◌, ◌≤◌, ◌↔◌, [], ◌∷◌, ◌++◌, take, length, option_copied, IsTrue, IfSome, IfOk, OnOk, OnErr, MatchOption};
 ghost use Rattle.std.specs.Option.{option_map};
 ghost use Rattle.std.specs.FinMap.{find, put};
 ghost use Rattle.std.specs.Cmp.Lexicographic.{slice_cmp};
@@ -9,10 +9,10 @@ ghost use Rattle.std.specs.BTreeMap.{keys, insert_entry, is_at};
 ghost use Rattle.std.specs.Map.{remove_entry};
 ghost use Rattle.mj_store.specs.declared.store.Direction.TheVariants as way;
 ghost use Rattle.mj_store.specs.Nodes.{is_empty, subtree, data_of, first_subscripts, next_past};
-ghost use Rattle.mj_tree.specs.Nest.{nodes_of, without};
+ghost use Rattle.mj_tree.specs.Nest.{AreFilled, behind, below, beyond, lead, later, nodes_of, without};
 
-use mj_store::Direction;
-use mj_subs::Sub;
+use mj_store::{Direction, Nodes};
+use mj_subs::{Sub, Subs};
 use mj_text::Text;
 use std::alloc::{AllocError, Global};
 use std::collections::BTreeMap;
@@ -109,6 +109,100 @@ impl Node {
         }
     }
 
+    /// The first place after this one with a text.
+    pub fn query(&self, alloc: Global, path: &[Sub]) -> Result<Option<Subs>, AllocError>
+        ensures { IfOk result (λ next. next ≡ lead (later subscript_cmp path.now self.now)) }
+    {
+        match self.turn(path) {
+            None => Ok(None),
+            Some((kept, sub, child)) => {
+                let mut next = Subs::new(alloc);
+                extend(&mut next, &path[..kept])?;
+                append(&mut next, sub)?;
+                child.descend(&mut next)?;
+                Ok(Some(next))
+            }
+        }
+    }
+
+    // Where the next place leaves the path: how many of the path's subscripts stay, the subscript after them, and the child there.
+    fn turn(&self, path: &[Sub]) -> Option<(usize, &Sub, &Node)>
+        ensures { MatchOption result (lead (later subscript_cmp path.now self.now) ≡ None) (λ t. (t.0 ≤ length path.now) × (0 < length t.2.now) × (lead (later subscript_cmp path.now self.now) ≡ option_map (λ rest. take t.0 path.now ++ t.1.now ∷ rest) (lead t.2.now))) }
+    {
+        match path {
+            [] => match self.children.iter().next() {
+                None => None,
+                Some((sub, child)) => Some((0, sub, child)),
+            },
+            [sub, rest @ ..] => match self.children.get(sub) {
+                None => aside(&self.children, sub),
+                Some(child) => match child.turn(rest) {
+                    None => aside(&self.children, sub),
+                    Some((kept, next, below)) => Some((kept + 1, next, below)),
+                },
+            },
+        }
+    }
+
+    // Puts the subscripts of the first text at the node or below it to the end of a list.
+    fn descend(&self, found: &mut Subs) -> Result<(), AllocError>
+        ensures { OnOk result (IfSome (lead self.now) (λ p. found.new ≡ found.old ++ p)) }
+    {
+        if self.text.is_some() {
+            return Ok(());
+        }
+        match self.children.iter().next() {
+            None => Ok(()),
+            Some((sub, child)) => {
+                append(found, sub)?;
+                child.descend(found)
+            }
+        }
+    }
+
+    /// What stands at a place and below it.
+    pub fn subtree(&self, alloc: Global, path: &[Sub]) -> Result<Nodes, AllocError>
+        ensures { IfOk result (λ nodes. nodes ≡ subtree subscript_cmp path.now self.now) }
+    {
+        let mut nodes = Nodes::new(alloc);
+        if let Some(node) = self.at(path) {
+            let mut front = Subs::new(alloc);
+            node.collect(&mut front, &mut nodes)?;
+        }
+        Ok(nodes)
+    }
+
+    // Puts what stands at the node and below it to the end of some nodes, each behind `front`, which is given back as it was.
+    fn collect(&self, front: &mut Subs, nodes: &mut Nodes) -> Result<(), AllocError>
+        ensures nodes { OnOk result (nodes.new ≡ nodes.old ++ behind front.old self.now) }
+        ensures front { OnOk result (front.new ≡ front.old) }
+    {
+        if let Some(text) = &self.text {
+            nodes.push(front.try_clone()?, text.try_clone()?)?;
+        }
+        for (sub, child) in &self.children {
+            append(front, sub)?;
+            child.collect(front, nodes)?;
+            let _last = front.pop();
+        }
+        Ok(())
+    }
+
+    /// The same node once more.
+    pub fn try_clone(&self, alloc: Global) -> Result<Node, AllocError>
+        ensures { IfOk result (λ n. n ≡ self.now) }
+    {
+        let text = match &self.text {
+            None => None,
+            Some(text) => Some(text.try_clone()?),
+        };
+        let mut children = BTreeMap::new(alloc);
+        for (sub, child) in &self.children {
+            add(&mut children, sub, child.try_clone(alloc)?)?;
+        }
+        Ok(Node { text, children })
+    }
+
     /// Whether no text stands at it or below.
     pub fn is_empty(&self) -> bool
         ensures { IsTrue result ↔ (self.now ≡ []) }
@@ -185,6 +279,38 @@ fn add(children: &mut BTreeMap<Sub, Node>, sub: &Sub, child: Node) -> Result<(),
 {
     children.insert(sub.try_clone()?, child)?;
     Ok(())
+}
+
+// Puts one more subscript to the end of a list in which there is room for it.
+fn append(list: &mut Subs, sub: &Sub) -> Result<(), AllocError>
+    ensures { OnOk result (list.new ≡ list.old ++ sub.now ∷ []) }
+{
+    match list.push(sub.try_clone()?) {
+        Ok(()) => Ok(()),
+        Err(_) => Err(AllocError),
+    }
+}
+
+// Puts subscripts to the end of a list in which there is room for them.
+fn extend(list: &mut Subs, more: &[Sub]) -> Result<(), AllocError>
+    ensures { OnOk result (list.new ≡ list.old ++ more.now) }
+{
+    for sub in more {
+        append(list, sub)?;
+    }
+    Ok(())
+}
+
+// The first child after this subscript. None of a path stays there.
+fn aside<'a>(children: &'a BTreeMap<Sub, Node>, sub: &Sub) -> Option<(usize, &'a Sub, &'a Node)>
+    requires { AreFilled children.now.entries }
+    ensures { MatchOption result (lead (below (beyond subscript_cmp sub.now children.now.entries)) ≡ None) (λ t. (t.0 ≡ 0) × (0 < length t.2.now) × (lead (below (beyond subscript_cmp sub.now children.now.entries)) ≡ option_map (λ rest. t.1.now ∷ rest) (lead t.2.now))) }
+{
+    let mut others = children.range((Bound::Excluded(sub), Bound::Unbounded));
+    match others.next() {
+        None => None,
+        Some((next, child)) => Some((0, next, child)),
+    }
 }
 
 // The first child's subscript after this one. After the empty one comes each.
