@@ -3,3 +3,4 @@ pub mod Puts
 pub mod Kills
 pub mod Orders
 pub mod Laters
+pub mod Copies

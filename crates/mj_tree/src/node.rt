@@ -9,7 +9,7 @@ ghost use Rattle.std.specs.BTreeMap.{keys, insert_entry, is_at};
 ghost use Rattle.std.specs.Map.{remove_entry};
 ghost use Rattle.mj_store.specs.declared.store.Direction.TheVariants as way;
 ghost use Rattle.mj_store.specs.Nodes.{is_empty, subtree, data_of, first_subscripts, next_past};
-ghost use Rattle.mj_tree.specs.Nest.{AreFilled, behind, below, beyond, lead, later, nodes_of, without};
+ghost use Rattle.mj_tree.specs.Nest.{AreFilled, behind, below, beyond, lead, later, nodes_of, own, without};
 
 use mj_store::{Direction, Nodes};
 use mj_subs::{Sub, Subs};
@@ -177,9 +177,7 @@ impl Node {
         ensures nodes { OnOk result (nodes.new ≡ nodes.old ++ behind front.old self.now) }
         ensures front { OnOk result (front.new ≡ front.old) }
     {
-        if let Some(text) = &self.text {
-            nodes.push(front.try_clone()?, text.try_clone()?)?;
-        }
+        collect_own(&self.text, front, nodes)?;
         for (sub, child) in &self.children {
             append(front, sub)?;
             child.collect(front, nodes)?;
@@ -192,15 +190,14 @@ impl Node {
     pub fn try_clone(&self, alloc: Global) -> Result<Node, AllocError>
         ensures { IfOk result (λ n. n ≡ self.now) }
     {
-        let text = match &self.text {
-            None => None,
-            Some(text) => Some(text.try_clone()?),
-        };
         let mut children = BTreeMap::new(alloc);
         for (sub, child) in &self.children {
             add(&mut children, sub, child.try_clone(alloc)?)?;
         }
-        Ok(Node { text, children })
+        Ok(Node {
+            text: self.text.clone()?,
+            children,
+        })
     }
 
     /// Whether no text stands at it or below.
@@ -279,6 +276,16 @@ fn add(children: &mut BTreeMap<Sub, Node>, sub: &Sub, child: Node) -> Result<(),
 {
     children.insert(sub.try_clone()?, child)?;
     Ok(())
+}
+
+// Puts the text of a node itself to the end of some nodes, where there is one.
+fn collect_own(text: &Option<Text>, front: &Subs, nodes: &mut Nodes) -> Result<(), AllocError>
+    ensures { OnOk result (nodes.new ≡ nodes.old ++ behind front.now (own text.now)) }
+{
+    match text {
+        None => Ok(()),
+        Some(text) => nodes.push(front.try_clone()?, text.try_clone()?),
+    }
 }
 
 // Puts one more subscript to the end of a list in which there is room for it.
