@@ -1,5 +1,5 @@
 -- A text that is put into a node is put into one of its children, or is its own.
-use Rattle.std.proofs.Common.{◌≡◌, ◌<◌, Bool, true, false, cond, ◌&&◌, List, [], ◌∷◌, ◌++◌, length, Option, Some, None, refl, sym, ap, ◌∙◌, subst, arith, Result, Ok, Err, OnOk, OnErr}
+use Rattle.std.proofs.Common.{◌≡◌, ◌-◌, ◌<◌, ◌≤◌, take, drop, get_or, Bool, true, false, cond, ◌&&◌, List, [], ◌∷◌, ◌++◌, length, Option, Some, None, refl, sym, ap, ◌∙◌, subst, arith, Result, Ok, Err, OnOk, OnErr}
 use Rattle.std.specs.Prelude.{T}
 use Rattle.std.specs.declared.cmp.Ordering.{Ordering}
 use Rattle.std.specs.declared.cmp.Ordering.TheVariants.{Less, Equal, Greater}
@@ -10,8 +10,8 @@ use Rattle.std.specs.FinMap.{IsAntisymmetric, put, is_sorted}
 use Rattle.std.specs.FinMap.Entries.{by_order, below_all, is_sorted-put}
 use Rattle.std.specs.Map.{lookup, set_value}
 use Rattle.std.specs.BTreeMap.{is_at, insert_entry}
-use Rattle.mj_tree.specs.Nest.{own, under, below, AreFilled, nodes_of}
-use Rattle.mj_tree.proofs.Nest.{first_so, second_so, is_less, lookup_before}
+use Rattle.mj_tree.specs.Nest.{own, under, below, AreFilled, nodes_of, put_behind}
+use Rattle.mj_tree.proofs.Nest.{first_so, second_so, is_less, lookup_before, first_and_rest}
 
 both_so : (a b : Bool) → T a → T b → T (a && b)
 both_so true b p q = q
@@ -161,3 +161,97 @@ sound_either {K} {V} R o (Ok x) ks es s n ok err filled h =
     subst (λ (xs : List (K × List (List K × V))). T (is_sorted R xs) × AreFilled xs) (sym ok) (sorted_insert R o ks s n h.0, filled_insert R ks s n h.1 filled)
 sound_either {K} {V} R o (Err e) ks es s n ok err filled h =
     subst (λ (xs : List (K × List (List K × V))). T (is_sorted R xs) × AreFilled xs) (sym err) h
+
+-- ---- texts that are put behind a place
+
+module _ {K V : Type 0} (R : K → K → Ordering) where
+  set_value_twice : (ks : List (K × List (List K × V))) (s : K) (w x : List (List K × V)) → set_value (is_at (R s)) (set_value (is_at (R s)) ks w) x ≡ set_value (is_at (R s)) ks x
+  set_value_twice [] s w x = refl
+  set_value_twice (k ∷ ks) s w x =
+      elim (is_eq (R s k.0)) as (λ b. is_eq (R s k.0) ≡ b → set_value (is_at (R s)) (cond b ((k.0, w) ∷ ks) (k ∷ set_value (is_at (R s)) ks w)) x ≡ cond b ((k.0, x) ∷ ks) (k ∷ set_value (is_at (R s)) ks x)) [
+        | true ↦ λ e. ap (λ b. cond b ((k.0, x) ∷ ks) ((k.0, w) ∷ set_value (is_at (R s)) ks x)) e
+        | false ↦ λ e. ap (λ b. cond b ((k.0, x) ∷ set_value (is_at (R s)) ks w) (k ∷ set_value (is_at (R s)) (set_value (is_at (R s)) ks w) x)) e ∙ ap (λ (r : List (K × List (List K × V))). k ∷ r) (set_value_twice ks s w x)
+      ] refl
+
+  lookup_written : (ks : List (K × List (List K × V))) (s : K) (c w : List (List K × V)) → lookup (is_at (R s)) ks ≡ Some c → lookup (is_at (R s)) (set_value (is_at (R s)) ks w) ≡ Some w
+  lookup_written [] s c w there = absurd cc
+  lookup_written (k ∷ ks) s c w there =
+      elim (is_eq (R s k.0)) as (λ b. is_eq (R s k.0) ≡ b → cond b (Some k.1) (lookup (is_at (R s)) ks) ≡ Some c → lookup (is_at (R s)) (cond b ((k.0, w) ∷ ks) (k ∷ set_value (is_at (R s)) ks w)) ≡ Some w) [
+        | true ↦ λ b e. ap (λ t. cond t (Some w) (lookup (is_at (R s)) ks)) b
+        | false ↦ λ b e. ap (λ t. cond t (Some k.1) (lookup (is_at (R s)) (set_value (is_at (R s)) ks w))) b ∙ lookup_written ks s c w e
+      ] refl there
+
+  pub filled_behind : (p : List K) (more nodes : List (List K × V)) → 0 < length nodes → 0 < length (put_behind R p more nodes)
+  filled_behind p [] nodes n = n
+  filled_behind p (e ∷ es) nodes n = filled_behind p es (put (slice_cmp R) (p ++ e.0) e.1 nodes) (filled_put R (p ++ e.0) e.1 nodes)
+
+  pub filled_by_some : (p : List K) (more nodes : List (List K × V)) → (more ≡ [] → ⊥) → 0 < length (put_behind R p more nodes)
+  filled_by_some p [] nodes some = absurd (some refl)
+  filled_by_some p (e ∷ es) nodes some = filled_behind p es (put (slice_cmp R) (p ++ e.0) e.1 nodes) (filled_put R (p ++ e.0) e.1 nodes)
+
+  pub filled_after_all : {A E : Type 0} (r : Result A E) (p : List K) (more c w : List (List K × V)) → OnOk r (w ≡ put_behind R p more c) → OnErr r (w ≡ c) → 0 < length c → 0 < length w
+  filled_after_all (Ok x) p more c w ok err n = subst (λ (m : List (List K × V)). 0 < length m) (sym ok) (filled_behind p more c n)
+  filled_after_all (Err e) p more c w ok err n = subst (λ (m : List (List K × V)). 0 < length m) (sym err) n
+
+  module _ (o : IsTotalOrder R) (same : IsAntisymmetric R) where
+    -- they go into the child at the first subscript
+    put_into : (s : K) (p : List K) (text : Option V) (more : List (List K × V)) (ks : List (K × List (List K × V))) (c : List (List K × V)) → T (is_sorted R ks) → AreFilled ks → lookup (is_at (R s)) ks ≡ Some c → put_behind R (s ∷ p) more (own text ++ below ks) ≡ own text ++ below (set_value (is_at (R s)) ks (put_behind R p more c))
+    put_into s p text [] ks c h f there = ap (λ (xs : List (K × List (List K × V))). own text ++ below xs) (sym (set_value_same R ks s c there))
+    put_into s p text (e ∷ es) ks c h f there =
+        let w : List (List K × V) = put (slice_cmp R) (p ++ e.0) e.1 c in
+        let one : put (slice_cmp R) (s ∷ p ++ e.0) e.1 (own text ++ below ks) ≡ own text ++ below (set_value (is_at (R s)) ks w) =
+            put_child R o same s (p ++ e.0) e.1 text ks h f
+            ∙ ap (λ (l : Option (List (List K × V))). own text ++ below (insert_entry R ks s (put (slice_cmp R) (p ++ e.0) e.1 (nodes_of l)))) there
+            ∙ ap (λ (xs : List (K × List (List K × V))). own text ++ below xs) (insert-set_value R o ks s c w h there)
+        in
+        ap (λ (ns : List (List K × V)). put_behind R (s ∷ p) es ns) one
+        ∙ put_into s p text es (set_value (is_at (R s)) ks w) w
+            (sorted_written R o ks (set_value (is_at (R s)) ks w) s c w refl there h f)
+            (filled_set_value R ks s w f (filled_put R (p ++ e.0) e.1 c))
+            (lookup_written ks s c w there)
+        ∙ ap (λ (xs : List (K × List (List K × V))). own text ++ below xs) (set_value_twice ks s w (put_behind R p es w))
+
+    lookup_added : (ks : List (K × List (List K × V))) (s : K) (w : List (List K × V)) → lookup (is_at (R s)) ks ≡ None → lookup (is_at (R s)) (insert_entry R ks s w) ≡ Some w
+    lookup_added [] s w none = ap (λ r. cond (is_eq r) (Some w) None) (tied_itself o s)
+    lookup_added (k ∷ ks) s w none =
+        elim (R s k.0) as (λ r. R s k.0 ≡ r → cond (is_eq r) (Some k.1) (lookup (is_at (R s)) ks) ≡ None → lookup (is_at (R s)) (match_ordering r ((s, w) ∷ k ∷ ks) ((k.0, w) ∷ ks) (k ∷ insert_entry R ks s w)) ≡ Some w) [
+          | Less ↦ λ e l. ap (λ r. cond (is_eq r) (Some w) (lookup (is_at (R s)) (k ∷ ks))) (tied_itself o s)
+          | Equal ↦ λ e l. absurd cc
+          | Greater ↦ λ e l. ap (λ r. cond (is_eq r) (Some k.1) (lookup (is_at (R s)) (insert_entry R ks s w))) e ∙ lookup_added ks s w l
+        ] refl none
+
+    added_twice : (ks : List (K × List (List K × V))) (s : K) (w x : List (List K × V)) → lookup (is_at (R s)) ks ≡ None → set_value (is_at (R s)) (insert_entry R ks s w) x ≡ insert_entry R ks s x
+    added_twice [] s w x none = ap (λ r. cond (is_eq r) ((s, x) ∷ []) ((s, w) ∷ [])) (tied_itself o s)
+    added_twice (k ∷ ks) s w x none =
+        elim (R s k.0) as (λ r. R s k.0 ≡ r → cond (is_eq r) (Some k.1) (lookup (is_at (R s)) ks) ≡ None → set_value (is_at (R s)) (match_ordering r ((s, w) ∷ k ∷ ks) ((k.0, w) ∷ ks) (k ∷ insert_entry R ks s w)) x ≡ match_ordering r ((s, x) ∷ k ∷ ks) ((k.0, x) ∷ ks) (k ∷ insert_entry R ks s x)) [
+          | Less ↦ λ e l. ap (λ r. cond (is_eq r) ((s, x) ∷ k ∷ ks) ((s, w) ∷ set_value (is_at (R s)) (k ∷ ks) x)) (tied_itself o s)
+          | Equal ↦ λ e l. absurd cc
+          | Greater ↦ λ e l. ap (λ r. cond (is_eq r) ((k.0, x) ∷ insert_entry R ks s w) (k ∷ set_value (is_at (R s)) (insert_entry R ks s w) x)) e ∙ ap (λ (r : List (K × List (List K × V))). k ∷ r) (added_twice ks s w x l)
+        ] refl none
+
+    -- or into a new one
+    put_added_all : (s : K) (p : List K) (text : Option V) (more : List (List K × V)) (ks : List (K × List (List K × V))) → (more ≡ [] → ⊥) → T (is_sorted R ks) → AreFilled ks → lookup (is_at (R s)) ks ≡ None → put_behind R (s ∷ p) more (own text ++ below ks) ≡ own text ++ below (insert_entry R ks s (put_behind R p more []))
+    put_added_all s p text [] ks some h f none = absurd (some refl)
+    put_added_all s p text (e ∷ es) ks some h f none =
+        let w : List (List K × V) = put (slice_cmp R) (p ++ e.0) e.1 [] in
+        let one : put (slice_cmp R) (s ∷ p ++ e.0) e.1 (own text ++ below ks) ≡ own text ++ below (insert_entry R ks s w) =
+            put_child R o same s (p ++ e.0) e.1 text ks h f
+            ∙ ap (λ (l : Option (List (List K × V))). own text ++ below (insert_entry R ks s (put (slice_cmp R) (p ++ e.0) e.1 (nodes_of l)))) none
+        in
+        ap (λ (ns : List (List K × V)). put_behind R (s ∷ p) es ns) one
+        ∙ put_into s p text es (insert_entry R ks s w) w (sorted_insert R o ks s w h) (filled_insert R ks s w f (filled_put R (p ++ e.0) e.1 [])) (lookup_added ks s w none)
+        ∙ ap (λ (xs : List (K × List (List K × V))). own text ++ below xs) (added_twice ks s w (put_behind R p es w) none)
+
+    -- of a path that a pattern took apart
+    module _ (path : List K) (s : K) (le : 1 ≤ length path) (is : s ≡ get_or path 0 s) (node : List (List K × V)) (text : Option V) (ks : List (K × List (List K × V))) (view : own text ++ below ks ≡ node) (h : T (is_sorted R ks)) (f : AreFilled ks) (more : List (List K × V)) where
+      pub put_all_written : (es : List (K × List (List K × V))) (c w : List (List K × V)) → lookup (is_at (R s)) ks ≡ Some c → es ≡ set_value (is_at (R s)) ks w → w ≡ put_behind R (take (length path - 1) (drop 1 path)) more c → own text ++ below es ≡ put_behind R path more node
+      put_all_written es c w there written is_put =
+          ap (λ (xs : List (K × List (List K × V))). own text ++ below xs) (written ∙ ap (set_value (is_at (R s)) ks) is_put)
+          ∙ sym (put_into s (take (length path - 1) (drop 1 path)) text more ks c h f there)
+          ∙ (λ i. put_behind R (sym (first_and_rest path s le is) i) more (view i))
+
+      pub put_all_added : (es : List (K × List (List K × V))) (n : List (List K × V)) → (more ≡ [] → ⊥) → lookup (is_at (R s)) ks ≡ None → es ≡ insert_entry R ks s n → n ≡ put_behind R (take (length path - 1) (drop 1 path)) more [] → own text ++ below es ≡ put_behind R path more node
+      put_all_added es n some none added is_put =
+          ap (λ (xs : List (K × List (List K × V))). own text ++ below xs) (added ∙ ap (insert_entry R ks s) is_put)
+          ∙ sym (put_added_all s (take (length path - 1) (drop 1 path)) text more ks some h f none)
+          ∙ (λ i. put_behind R (sym (first_and_rest path s le is) i) more (view i))

@@ -1,11 +1,15 @@
 -- What a node holds: a text of its own, and children by their subscripts, each of which is seen as its nodes.
-use Rattle.std.specs.Prelude.{ℕ, ◌+◌, ◌<◌, List, [], ◌∷◌, ◌++◌, map, length, Option, Some, None}
+use Rattle.std.specs.Prelude.{ℕ, ◌+◌, ◌<◌, nat_lt, Bool, List, [], ◌∷◌, ◌++◌, map, length, Option, Some, None}
 use Rattle.std.specs.declared.cmp.Ordering.{Ordering}
 use Rattle.std.specs.Ordering.{is_lt}
 use Rattle.std.specs.Cmp.Lexicographic.{slice_cmp}
 use Rattle.std.specs.Option.{is_none}
-use Rattle.std.specs.List.{filter}
-use Rattle.mj_store.specs.Nodes.{after_front}
+use Rattle.std.specs.List.{filter, fold, list_any}
+use Rattle.std.specs.FinMap.{put}
+use Rattle.mj_subs.specs.Collation.{subscript_cmp}
+use Rattle.mj_store.specs.declared.store.Direction.{Direction}
+use Rattle.mj_store.specs.Nodes.{is_empty, but_last, last_of, after_front, subtree, first_subscripts, next_past}
+use Rattle.mj_store.specs.Questions.{Subtree}
 
 module _ {K V : Type 0} where
   -- the text of the node itself
@@ -57,3 +61,18 @@ beyond R s ks = filter (λ k. is_lt (R s k.0)) ks
 -- the nodes that don't stand at p or below it
 abbrev pub without : {K V : Type 0} → (K → K → Ordering) → List K → List (List K × V) → List (List K × V)
 without R p nodes = filter (λ e. is_none (after_front R p e.0)) nodes
+
+-- p followed by each list of the nodes has the list's text, one after the other. Nothing goes
+abbrev pub put_behind : {K V : Type 0} → (K → K → Ordering) → List K → List (List K × V) → List (List K × V) → List (List K × V)
+put_behind R p more nodes = fold (λ ns e. put (slice_cmp R) (p ++ e.0) e.1 ns) nodes more
+
+-- $ORDER among the nodes of a word (7.1.5.11): from the last of p, the next subscript at that place under which a text stands, in this
+-- direction. From the empty subscript it is the first one. No subscripts have no next one (this profile)
+abbrev pub order_in : List (List ℕ) → Direction → Subtree → Option (List ℕ)
+order_in [] way nodes = None
+order_in (s ∷ p) way nodes =
+    next_past subscript_cmp way (is_empty (last_of s p)) (last_of s p) (first_subscripts (subtree subscript_cmp (but_last s p) nodes))
+
+-- whether p followed by one of the lists has more subscripts than the 31 that there can be (this profile)
+abbrev pub is_too_long : List (List ℕ) → Subtree → Bool
+is_too_long p nodes = list_any (λ e. nat_lt 31 (length p + length e.0)) nodes

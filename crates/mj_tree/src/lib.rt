@@ -1,10 +1,12 @@
-// Trees: the nodes of one word.
+// Trees: what stands at the names of one word.
 //
-// A contract sees a node as the list of what stands at it and below it, each text by the subscripts that lead to it, in order. Every call
-// is the definition of its name on that list, in `mj_store`. The children of a node stand in an ordered map, so a call makes no more
-// comparisons than the depth times the logarithm of the number of siblings.
+// A contract sees a tree as the list of its texts, each by the subscripts that lead to it, in order. Every call is the definition of its
+// name on that list, in `mj_store`: a tree is the part of a store that belongs to one word. A question or a change makes no more
+// comparisons than the depth times the logarithm of the number of siblings; `order` and `query` copy nothing but their answer; `kill`
+// frees what stands at the place and below it and walks nothing else. After want of memory a tree is as it was.
 #![tactic(auto)]
 
 mod node;
+mod tree;
 
-pub use node::Node;
+pub use tree::Tree;

@@ -9,7 +9,7 @@ ghost use Rattle.std.specs.BTreeMap.{keys, insert_entry, is_at};
 ghost use Rattle.std.specs.Map.{remove_entry};
 ghost use Rattle.mj_store.specs.declared.store.Direction.TheVariants as way;
 ghost use Rattle.mj_store.specs.Nodes.{is_empty, subtree, data_of, first_subscripts, next_past};
-ghost use Rattle.mj_tree.specs.Nest.{AreFilled, behind, below, beyond, lead, later, nodes_of, own, without};
+ghost use Rattle.mj_tree.specs.Nest.{AreFilled, behind, below, beyond, lead, later, nodes_of, own, put_behind, without};
 
 use mj_store::{Direction, Nodes};
 use mj_subs::{Sub, Subs};
@@ -164,11 +164,19 @@ impl Node {
     pub fn subtree(&self, alloc: Global, path: &[Sub]) -> Result<Nodes, AllocError>
         ensures { IfOk result (λ nodes. nodes ≡ subtree subscript_cmp path.now self.now) }
     {
-        let mut nodes = Nodes::new(alloc);
-        if let Some(node) = self.at(path) {
-            let mut front = Subs::new(alloc);
-            node.collect(&mut front, &mut nodes)?;
+        match self.at(path) {
+            None => Ok(Nodes::new(alloc)),
+            Some(node) => node.nodes(alloc),
         }
+    }
+
+    // What stands at the node and below it.
+    fn nodes(&self, alloc: Global) -> Result<Nodes, AllocError>
+        ensures { IfOk result (λ nodes. nodes ≡ self.now) }
+    {
+        let mut front = Subs::new(alloc);
+        let mut nodes = Nodes::new(alloc);
+        self.collect(&mut front, &mut nodes)?;
         Ok(nodes)
     }
 
@@ -246,6 +254,41 @@ impl Node {
                 }
             },
         }
+    }
+
+    /// Gives each text to the place that its list leads to from this one. Nothing goes.
+    pub fn put(&mut self, alloc: Global, path: &[Sub], more: &[(Subs, Text)]) -> Result<(), AllocError>
+        ensures ok { OnOk result (self.new ≡ put_behind subscript_cmp path.now more.now self.old) }
+        ensures err { OnErr result (self.new ≡ self.old) }
+    {
+        match path {
+            [] => {
+                *self = self.with(alloc, more)?;
+                Ok(())
+            }
+            [sub, rest @ ..] => match self.children.get_mut(sub) {
+                Some(child) => child.put(alloc, rest, more),
+                None => {
+                    if more.is_empty() {
+                        return Ok(());
+                    }
+                    let mut child = Node::new(alloc);
+                    child.put(alloc, rest, more)?;
+                    add(&mut self.children, sub, child)
+                }
+            },
+        }
+    }
+
+    // The node with more texts.
+    fn with(&self, alloc: Global, more: &[(Subs, Text)]) -> Result<Node, AllocError>
+        ensures { IfOk result (λ n. n ≡ put_behind subscript_cmp [] more.now self.now) }
+    {
+        let mut changed = self.try_clone(alloc)?;
+        for node in more {
+            changed.set(alloc, node.0.as_slice(), node.1.try_clone()?)?;
+        }
+        Ok(changed)
     }
 }
 

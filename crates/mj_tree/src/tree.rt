@@ -1,0 +1,153 @@
+// A tree: what stands at the names of one word.
+
+ghost use Rattle.std.specs.Prelude.{◌≡◌, ◌↔◌, [], option_copied, IsTrue, IfOk, OnOk, OnErr, T};
+ghost use Rattle.std.specs.FinMap.{find, put, is_sorted};
+ghost use Rattle.std.specs.Cmp.Lexicographic.{slice_cmp};
+ghost use Rattle.mj_subs.specs.Collation.{subscript_cmp};
+ghost use Rattle.mj_store.specs.Nodes.{subtree, data_of, next_after};
+ghost use Rattle.mj_tree.specs.Nest.{order_in, without, put_behind, is_too_long};
+ghost use Rattle.mj_text.specs.declared.fault.Failure.TheVariants as failure;
+ghost use Rattle.mj_text.specs.declared.fault.Fault.TheVariants as fault;
+
+use crate::node::Node;
+use mj_store::{Direction, Nodes};
+use mj_subs::{SUBSCRIPT_LIMIT, Sub, Subs};
+use mj_text::{Failure, Fault, Text};
+use std::alloc::{AllocError, Global};
+use std::marker::Model;
+
+/// The part of a store that belongs to one word: a finite map from lists of subscripts to texts.
+#[derive(Drop)]
+pub struct Tree {
+    alloc: Global,
+    root: Node,
+}
+
+impl Model for Tree {
+    ghost use Rattle.std.specs.Prelude.{T};
+    ghost use Rattle.std.specs.FinMap.{is_sorted};
+    ghost use Rattle.std.specs.Cmp.Lexicographic.{slice_cmp};
+    ghost use Rattle.mj_subs.specs.Collation.{subscript_cmp};
+    ghost use Rattle.mj_store.specs.Questions.{Subtree};
+
+    ghost Value = { Subtree };
+
+    ghost view = { λ a. a.root };
+
+    ghost invariant = { λ a. T (is_sorted (slice_cmp subscript_cmp) a.root) };
+}
+
+impl Tree {
+    /// A tree without a text.
+    pub fn new(alloc: Global) -> Tree
+        ensures { result ≡ [] }
+    {
+        Tree {
+            alloc,
+            root: Node::new(alloc),
+        }
+    }
+
+    /// Its lists rise, so each stands once.
+    pub fn rises(&self)
+        ensures { T (is_sorted (slice_cmp subscript_cmp) self.now) }
+    {
+        let _root = &self.root;
+    }
+
+    /// Whether it has no text.
+    pub fn is_empty(&self) -> bool
+        ensures { IsTrue result ↔ (self.now ≡ []) }
+    {
+        self.root.is_empty()
+    }
+
+    /// The text at a list of subscripts.
+    pub fn value(&self, path: &Subs) -> Option<&Text>
+        ensures { option_copied result ≡ find (slice_cmp subscript_cmp) path.now self.now }
+    {
+        self.root.value(path.as_slice())
+    }
+
+    /// 0, 1, 10 or 11: the ones digit for a text there, the tens digit for one below it.
+    pub fn data(&self, path: &Subs) -> u8
+        ensures { result ≡ data_of (subtree subscript_cmp path.now self.now) }
+    {
+        self.root.data(path.as_slice())
+    }
+
+    /// The next subscript in place of the last one, in a direction. From the empty subscript it is the first. There is none at the end,
+    /// and in place of no subscript.
+    pub fn order(&self, path: &Subs, direction: Direction) -> Option<&Sub>
+        ensures { option_copied result ≡ order_in path.now direction self.now }
+    {
+        let (last, front) = path.as_slice().split_last()?;
+        self.root.order(front, last, direction)
+    }
+
+    /// The next list of subscripts with a text.
+    pub fn query(&self, path: &Subs) -> Result<Option<Subs>, AllocError>
+        ensures { IfOk result (λ next. next ≡ next_after subscript_cmp path.now self.now) }
+    {
+        self.root.query(self.alloc, path.as_slice())
+    }
+
+    /// What stands at a list of subscripts and below it, in order.
+    pub fn subtree(&self, path: &Subs) -> Result<Nodes, AllocError>
+        ensures { IfOk result (λ nodes. nodes ≡ subtree subscript_cmp path.now self.now) }
+    {
+        self.root.subtree(self.alloc, path.as_slice())
+    }
+
+    /// The list has this text from now on.
+    pub fn set(&mut self, path: &Subs, text: &Text) -> Result<(), AllocError>
+        ensures ok { OnOk result (self.new ≡ put (slice_cmp subscript_cmp) path.now text.now self.old) }
+        ensures err { OnErr result (self.new ≡ self.old) }
+    {
+        let text = text.try_clone()?;
+        self.root.set(self.alloc, path.as_slice(), text)
+    }
+
+    /// The list and every list below it go.
+    pub fn kill(&mut self, path: &Subs)
+        ensures { self.new ≡ without subscript_cmp path.now self.old }
+    {
+        self.root.kill(path.as_slice());
+    }
+
+    /// The list followed by each of the nodes' lists has that node's text from now on. Nothing goes. `Limit` where one would be too
+    /// long.
+    pub fn put(&mut self, path: &Subs, nodes: &Nodes) -> Result<(), Failure>
+        ensures ok { OnOk result (self.new ≡ put_behind subscript_cmp path.now nodes.now self.old) }
+        ensures limit { (result ≡ Err (failure.Fault fault.Limit)) ↔ IsTrue (is_too_long path.now nodes.now) }
+        ensures err { OnErr result (self.new ≡ self.old) }
+    {
+        if is_too_long(path, nodes.as_slice()) {
+            return Err(Failure::Fault(Fault::Limit));
+        }
+        match self.root.put(self.alloc, path.as_slice(), nodes.as_slice()) {
+            Ok(()) => Ok(()),
+            Err(_) => Err(Failure::Memory),
+        }
+    }
+
+    /// The same tree once more.
+    pub fn try_clone(&self) -> Result<Tree, AllocError>
+        ensures { IfOk result (λ t. t ≡ self.now) }
+    {
+        Ok(Tree {
+            alloc: self.alloc,
+            root: self.root.try_clone(self.alloc)?,
+        })
+    }
+}
+
+// Whether a list would follow the path with more subscripts than there can be.
+fn is_too_long(path: &Subs, nodes: &[(Subs, Text)]) -> bool
+    ensures { result ≡ is_too_long path.now nodes.now }
+{
+    let above = path.len();
+    nodes
+        .iter()
+        .any(|node| SUBSCRIPT_LIMIT < above + node.0.len())
+}
