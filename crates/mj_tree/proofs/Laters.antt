@@ -1,5 +1,5 @@
 -- What comes after a place among the nodes of a node.
-use Rattle.std.proofs.Common.{◌≡◌, ℕ, suc, ◌+◌, ◌-◌, ◌<◌, ◌≤◌, Bool, true, false, cond, ◌&&◌, List, [], ◌∷◌, ◌++◌, length, take, drop, get_or, Option, Some, None, refl, sym, ap, ◌∙◌, subst, arith, Bor}
+use Rattle.std.proofs.Common.{◌≡◌, ℕ, suc, ◌+◌, ◌-◌, ◌<◌, ◌≤◌, true, false, cond, ◌&&◌, List, [], ◌∷◌, ◌++◌, length, take, drop, get_or, Option, Some, None, refl, sym, ap, ◌∙◌, subst, arith, Bor}
 use Rattle.std.specs.Prelude.{T, MatchOption}
 use Rattle.std.specs.declared.cmp.Ordering.{Ordering}
 use Rattle.std.specs.declared.cmp.Ordering.TheVariants.{Less, Equal, Greater}
@@ -7,8 +7,6 @@ use Rattle.std.specs.Ordering.{is_eq, is_lt, ordering_then}
 use Rattle.std.specs.Cmp.{IsTotalOrder}
 use Rattle.std.specs.Cmp.Lexicographic.{slice_cmp}
 use Rattle.std.specs.FinMap.{IsAntisymmetric, is_sorted}
-use Rattle.std.specs.FinMap.Entries.{below_all}
-use Rattle.std.specs.List.{filter}
 use Rattle.std.specs.Option.{option_map}
 use Rattle.std.specs.Map.{lookup}
 use Rattle.std.specs.BTreeMap.{is_at}
@@ -114,8 +112,8 @@ module _ {K V : Type 0} (R : K → K → Ordering) where
         omega (arith, a.0),
         a.1,
         ap lead later_split ∙ lead_rest _ _ (lead-under s (later R after_first (nodes_of (lookup (is_at (R s)) ks))) ∙ ap (option_map (λ p. s ∷ p)) none)
-        ∙ a.2
-        ∙ ap (λ n. option_map (λ q. take n path ++ t.1.now ∷ q) (lead t.2.now)) (sym a.0),
+            ∙ a.2
+            ∙ ap (λ n. option_map (λ q. take n path ++ t.1.now ∷ q) (lead t.2.now)) (sym a.0),
       )
 
       -- the next place is in that child
@@ -126,9 +124,9 @@ module _ {K V : Type 0} (R : K → K → Ordering) where
         omega (arith, few, ap (λ p. length p) of_path),
         some,
         ap lead later_split
-        ∙ lead_front (under s (later R after_first (nodes_of (lookup (is_at (R s)) ks)))) (below (beyond R s ks)) (s ∷ (take stay after_first ++ n ∷ e.0))
+            ∙ lead_front (under s (later R after_first (nodes_of (lookup (is_at (R s)) ks)))) (below (beyond R s ks)) (s ∷ (take stay after_first ++ n ∷ e.0))
             (lead-under s (later R after_first (nodes_of (lookup (is_at (R s)) ks))) ∙ ap (λ (l : Option (List (List K × V))). option_map (λ p. s ∷ p) (lead (later R after_first (nodes_of l)))) there ∙ ap (option_map (λ p. s ∷ p)) is)
-        ∙ ap (λ (p : List K). Some (p ++ n ∷ e.0)) (ap (λ k. take k (s ∷ after_first)) {x = suc stay} {y = stay + 1} (omega arith) ∙ ap (take (stay + 1)) (sym of_path)),
+            ∙ ap (λ (p : List K). Some (p ++ n ∷ e.0)) (ap (λ k. take k (s ∷ after_first)) {x = suc stay} {y = stay + 1} (omega arith) ∙ ap (take (stay + 1)) (sym of_path)),
       )
 
   -- the first child beyond a subscript

@@ -4,3 +4,4 @@ pub mod Kills
 pub mod Orders
 pub mod Laters
 pub mod Copies
+pub mod Trees

@@ -1,12 +1,12 @@
 -- The first of some subscripts in a direction is that of the first child, or of the last.
-use Rattle.std.proofs.Common.{◌≡◌, ◌+◌, ◌<◌, Bool, true, false, cond, not, ◌&&◌, ◌||◌, List, [], ◌∷◌, ◌++◌, length, Option, Some, None, refl, sym, ap, ◌∙◌, subst, arith, Bor}
+use Rattle.std.proofs.Common.{◌≡◌, Bool, true, false, cond, not, ◌&&◌, ◌||◌, List, [], ◌∷◌, ◌++◌, Option, Some, None, refl, sym, ap, ◌∙◌, subst, arith, Bor}
 use Rattle.std.specs.Prelude.{T, ⊤}
 use Rattle.std.specs.declared.cmp.Ordering.{Ordering}
 use Rattle.std.specs.declared.cmp.Ordering.TheVariants.{Less, Equal, Greater}
 use Rattle.std.specs.declared.ops.Bound.TheVariants.{Excluded, Unbounded}
 use Rattle.std.specs.Ordering.{is_lt, is_le, flip_args, ordering_reverse}
 use Rattle.std.specs.Cmp.{IsTotalOrder, tied_itself}
-use Rattle.std.specs.List.{filter, filter_map, fold, cons_option, AllByRecursion}
+use Rattle.std.specs.List.{filter, fold, AllByRecursion}
 use Rattle.std.specs.List.Sorted.{IsStrictlySortedBy}
 use Rattle.std.specs.Option.{option_map}
 use Rattle.std.specs.Map.{keys_of}
@@ -15,7 +15,7 @@ use Rattle.std.specs.BTreeMap.Range.{entries_between}
 use Rattle.std.proofs.lemmas.List.Kept.{IsStrictlySortedBy-filter}
 use Rattle.mj_store.specs.declared.store.Direction.{Direction}
 use Rattle.mj_store.specs.declared.store.Direction.TheVariants.{Forward, Backward}
-use Rattle.mj_store.specs.Nodes.{is_empty, first, first_of, least, along, first_subscripts, next_past}
+use Rattle.mj_store.specs.Nodes.{is_empty, first_of, least, along, first_subscripts, next_past}
 use Rattle.mj_tree.specs.Nest.{own, under, below, AreFilled}
 
 pub filter_same : {A : Type 0} (f g : A → Bool) → ((x : A) → f x ≡ g x) → (xs : List A) → filter f xs ≡ filter g xs
@@ -34,7 +34,7 @@ pub filled : {A : Type 0} (xs : List A) → (xs ≡ [] → ⊥) → is_empty xs 
 filled [] none = absurd (none refl)
 filled (x ∷ xs) none = refl
 
-keys_filter : {K X : Type 0} (test : K → Bool) (es : List (K × X)) → keys_of (filter (λ e. test e.0) es) ≡ filter test (keys_of es)
+pub keys_filter : {K X : Type 0} (test : K → Bool) (es : List (K × X)) → keys_of (filter (λ e. test e.0) es) ≡ filter test (keys_of es)
 keys_filter test [] = refl
 keys_filter test (e ∷ es) =
     elim (test e.0) as (λ b. keys_of (cond b (e ∷ filter (λ e. test e.0) es) (filter (λ e. test e.0) es)) ≡ cond b (e.0 ∷ filter test (keys_of es)) (filter test (keys_of es))) [ true ↦ ap (λ ys. e.0 ∷ ys) (keys_filter test es) | false ↦ keys_filter test es ]
@@ -52,7 +52,7 @@ module _ {K : Type 0} (R : K → K → Ordering) (o : IsTotalOrder R) where
   kept x [] h = refl
   kept x (y ∷ ys) h = ap (λ b. fold (first_of R) (cond b (Some y) (Some x)) ys) (not_before x y h.0) ∙ kept x ys h.1
 
-  least_sorted : (x : K) (xs : List K) → IsStrictlySortedBy R (x ∷ xs) → least R (x ∷ xs) ≡ Some x
+  pub least_sorted : (x : K) (xs : List K) → IsStrictlySortedBy R (x ∷ xs) → least R (x ∷ xs) ≡ Some x
   unfolding IsStrictlySortedBy
   least_sorted x xs h = kept x xs h.0
 
@@ -105,7 +105,7 @@ module _ {K : Type 0} (R : K → K → Ordering) (o : IsTotalOrder R) where
     pub first_after : (r : Option (Bor K × Bor X)) (es fs t : List (K × X)) (s : K) (blank : Bool) → blank ≡ false → fs ≡ entries_between R (Excluded s) Unbounded es → TakesFirst deref_pair fs r t → IsStrictlySortedBy R (keys_of es) → option_map (λ e. e.0.now) r ≡ next_past R Forward blank s (keys_of es)
     first_after r es fs t s blank is between h rises =
         let part : keys_of fs ≡ filter (λ t. is_lt (R s t)) (keys_of es) =
-            ap (λ xs. keys_of xs) between ∙ keys_filter (λ k. is_lt (R s k) && true) es ∙ filter_same (λ k. is_lt (R s k) && true) (λ k. is_lt (R s k)) (λ k. after_all (is_lt (R s k))) (keys_of es)
+        ap (λ xs. keys_of xs) between ∙ keys_filter (λ k. is_lt (R s k) && true) es ∙ filter_same (λ k. is_lt (R s k) && true) (λ k. is_lt (R s k)) (λ k. after_all (is_lt (R s k))) (keys_of es)
         in
         first_taken r fs t h (subst (λ ks. IsStrictlySortedBy R ks) (sym part) (IsStrictlySortedBy-filter R (λ t. is_lt (R s t)) (keys_of es) rises))
         ∙ ap (λ ks. least R ks) part
@@ -114,7 +114,7 @@ module _ {K : Type 0} (R : K → K → Ordering) (o : IsTotalOrder R) where
     pub last_before : (r : Option (Bor K × Bor X)) (es fs t : List (K × X)) (s : K) (blank : Bool) → blank ≡ false → fs ≡ entries_between R Unbounded (Excluded s) es → TakesLast deref_pair fs r t → IsStrictlySortedBy R (keys_of es) → option_map (λ e. e.0.now) r ≡ next_past R Backward blank s (keys_of es)
     last_before r es fs t s blank is between h rises =
         let part : keys_of fs ≡ filter (λ t. is_lt (R t s)) (keys_of es) =
-            ap (λ xs. keys_of xs) between ∙ keys_filter (λ k. not (is_le (R s k))) es ∙ filter_same (λ k. not (is_le (R s k))) (λ k. is_lt (R k s)) (turned s) (keys_of es)
+        ap (λ xs. keys_of xs) between ∙ keys_filter (λ k. not (is_le (R s k))) es ∙ filter_same (λ k. not (is_le (R s k))) (λ k. is_lt (R k s)) (turned s) (keys_of es)
         in
         last_taken r fs t h (subst (λ ks. IsStrictlySortedBy R ks) (sym part) (IsStrictlySortedBy-filter R (λ t. is_lt (R t s)) (keys_of es) rises))
         ∙ ap (λ ks. least (flip_args R) ks) part

@@ -200,15 +200,15 @@ module _ {K V : Type 0} (R : K → K → Ordering) where
     put_into s p text (e ∷ es) ks c h f there =
         let w : List (List K × V) = put (slice_cmp R) (p ++ e.0) e.1 c in
         let one : put (slice_cmp R) (s ∷ p ++ e.0) e.1 (own text ++ below ks) ≡ own text ++ below (set_value (is_at (R s)) ks w) =
-            put_child R o same s (p ++ e.0) e.1 text ks h f
-            ∙ ap (λ (l : Option (List (List K × V))). own text ++ below (insert_entry R ks s (put (slice_cmp R) (p ++ e.0) e.1 (nodes_of l)))) there
-            ∙ ap (λ (xs : List (K × List (List K × V))). own text ++ below xs) (insert-set_value R o ks s c w h there)
+        put_child R o same s (p ++ e.0) e.1 text ks h f
+        ∙ ap (λ (l : Option (List (List K × V))). own text ++ below (insert_entry R ks s (put (slice_cmp R) (p ++ e.0) e.1 (nodes_of l)))) there
+        ∙ ap (λ (xs : List (K × List (List K × V))). own text ++ below xs) (insert-set_value R o ks s c w h there)
         in
         ap (λ (ns : List (List K × V)). put_behind R (s ∷ p) es ns) one
         ∙ put_into s p text es (set_value (is_at (R s)) ks w) w
-            (sorted_written R o ks (set_value (is_at (R s)) ks w) s c w refl there h f)
-            (filled_set_value R ks s w f (filled_put R (p ++ e.0) e.1 c))
-            (lookup_written ks s c w there)
+        (sorted_written R o ks (set_value (is_at (R s)) ks w) s c w refl there h f)
+        (filled_set_value R ks s w f (filled_put R (p ++ e.0) e.1 c))
+        (lookup_written ks s c w there)
         ∙ ap (λ (xs : List (K × List (List K × V))). own text ++ below xs) (set_value_twice ks s w (put_behind R p es w))
 
     lookup_added : (ks : List (K × List (List K × V))) (s : K) (w : List (List K × V)) → lookup (is_at (R s)) ks ≡ None → lookup (is_at (R s)) (insert_entry R ks s w) ≡ Some w
@@ -235,8 +235,8 @@ module _ {K V : Type 0} (R : K → K → Ordering) where
     put_added_all s p text (e ∷ es) ks some h f none =
         let w : List (List K × V) = put (slice_cmp R) (p ++ e.0) e.1 [] in
         let one : put (slice_cmp R) (s ∷ p ++ e.0) e.1 (own text ++ below ks) ≡ own text ++ below (insert_entry R ks s w) =
-            put_child R o same s (p ++ e.0) e.1 text ks h f
-            ∙ ap (λ (l : Option (List (List K × V))). own text ++ below (insert_entry R ks s (put (slice_cmp R) (p ++ e.0) e.1 (nodes_of l)))) none
+        put_child R o same s (p ++ e.0) e.1 text ks h f
+        ∙ ap (λ (l : Option (List (List K × V))). own text ++ below (insert_entry R ks s (put (slice_cmp R) (p ++ e.0) e.1 (nodes_of l)))) none
         in
         ap (λ (ns : List (List K × V)). put_behind R (s ∷ p) es ns) one
         ∙ put_into s p text es (insert_entry R ks s w) w (sorted_insert R o ks s w h) (filled_insert R ks s w f (filled_put R (p ++ e.0) e.1 [])) (lookup_added ks s w none)

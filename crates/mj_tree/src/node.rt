@@ -257,7 +257,12 @@ impl Node {
     }
 
     /// Gives each text to the place that its list leads to from this one. Nothing goes.
-    pub fn put(&mut self, alloc: Global, path: &[Sub], more: &[(Subs, Text)]) -> Result<(), AllocError>
+    pub fn put(
+        &mut self,
+        alloc: Global,
+        path: &[Sub],
+        more: &[(Subs, Text)],
+    ) -> Result<(), AllocError>
         ensures ok { OnOk result (self.new ≡ put_behind subscript_cmp path.now more.now self.old) }
         ensures err { OnErr result (self.new ≡ self.old) }
     {

@@ -1,4 +1,4 @@
-use Rattle.std.proofs.Common.{sym, ap, ◌∙◌}
+use Rattle.std.proofs.Common.{◌∙◌}
 use Rattle.mj_tree.proofs.Copies.{gathered, popped}
 use Rattle.mj_tree.proofs.node.Node.+collect.Goals as goal
 

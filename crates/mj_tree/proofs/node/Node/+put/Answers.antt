@@ -1,4 +1,4 @@
-use Rattle.std.proofs.Common.{◌≡◌, ℕ, ◌-◌, ◌<◌, subst, true, false, List, [], take, drop, length, sym, ap, ◌∙◌}
+use Rattle.std.proofs.Common.{◌≡◌, ℕ, ◌-◌, ◌<◌, subst, true, false, List, take, drop, length, sym, ap, ◌∙◌}
 use Rattle.std.specs.Prelude.{◌==◌}
 use Rattle.std.specs.BTreeMap.{BTreeMap, insert_entry}
 use Rattle.std.proofs.lemmas.Result.{on_ok_weaker, on_err_weaker}
@@ -57,7 +57,7 @@ returns-in_ok-put-in-None-clause-ok t c =
     let before = ap (λ (m : BTreeMap (List ℕ) Subtree). m.entries) c.get_mut.follows.holds-at-none in
     on_ok_weaker c.add.result (λ added.
     put_all_added subscript_cmp subscript_cmp_total subscript_cmp-IsAntisymmetric c.args.path.now c.sub-item.result c.in-len1-up.len_at_least c.sub-item.is c.args.self.now c.self.inside.text ks c.self.view_is c.self.invariant.0 c.self.invariant.1 c.args.more.now c.add.new.children.entries n
-        (λ e. let f : false ≡ true = c.if-is_empty.ensures ∙ ap (λ (m : Subtree). length m == 0) e in absurd cc)
-        (sym c.in-None.ensures.value)
-        (added ∙ ap (λ (xs : List (List ℕ × Subtree)). insert_entry subscript_cmp xs c.sub-item.result n) before)
-        (c.in_ok-put-in-None.ensures.ok ∙ ap (λ (m : Subtree). put_behind subscript_cmp (take (length c.args.path.now - 1) (drop 1 c.args.path.now)) c.args.more.now m) c.new-child.ensures)) c.add.ensures.ok
+    (λ e. let f : false ≡ true = c.if-is_empty.ensures ∙ ap (λ (m : Subtree). length m == 0) e in absurd cc)
+    (sym c.in-None.ensures.value)
+    (added ∙ ap (λ (xs : List (List ℕ × Subtree)). insert_entry subscript_cmp xs c.sub-item.result n) before)
+    (c.in_ok-put-in-None.ensures.ok ∙ ap (λ (m : Subtree). put_behind subscript_cmp (take (length c.args.path.now - 1) (drop 1 c.args.path.now)) c.args.more.now m) c.new-child.ensures)) c.add.ensures.ok
