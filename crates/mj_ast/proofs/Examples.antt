@@ -1,7 +1,8 @@
 -- Rows of the definitions.
 use Rattle.std.proofs.Common.{◌≡◌, [], ◌∷◌, Some, None, inl, inr, lit≤, refl, codes}
 use Rattle.std.specs.Fmt.{digits}
-use Rattle.mj_ast.specs.declared.sign.Sign.TheVariants.{Star, Equals, Comma, Exclamation, Open}
+use Rattle.mj_oper.specs.declared.op.TruthOp.TheVariants.{Equal, SortsAfter, Or}
+use Rattle.mj_ast.specs.declared.sign.Sign.TheVariants.{Star, Equals, CloseBracket, CloseBrackets, Exclamation, Apostrophe, Negated, Open, Comma}
 use Rattle.mj_ast.specs.Tokens.{Word, Digits, Quoted, Signed, Blank, Comment, Unclosed, Stray, lexemes, tokens, column}
 use Rattle.mj_ast.specs.declared.keyword.Keyword.TheVariants as keyword
 use Rattle.mj_ast.specs.Syntax.{Chain, Done, Literal, Shown, Write, Halt, Step}
@@ -41,6 +42,15 @@ doubled_last = refl
 strays : tokens (codes "**$!(") ≡ Signed Star ∷ Signed Star ∷ Stray 36 ∷ Signed Exclamation ∷ Signed Open ∷ []
 unfolding lexemes
 strays = refl
+
+-- a sign is a longest one
+brackets : tokens (codes "A]]]B") ≡ Word (codes "A") ∷ Signed CloseBrackets ∷ Signed CloseBracket ∷ Word (codes "B") ∷ []
+unfolding lexemes
+brackets = refl
+
+negated : tokens (codes "']]'='!!'X'") ≡ Signed (Negated SortsAfter) ∷ Signed (Negated Equal) ∷ Signed (Negated Or) ∷ Signed Exclamation ∷ Signed Apostrophe ∷ Word (codes "X") ∷ Signed Apostrophe ∷ []
+unfolding lexemes
+negated = refl
 
 -- the line's end is a column past it
 end_column : column (codes " H ") 9 ≡ 4

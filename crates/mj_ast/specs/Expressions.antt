@@ -11,10 +11,12 @@ use Rattle.mj_ast.specs.declared.sign.Sign.TheVariants.{Caret, Open, Close, Comm
 use Rattle.mj_ast.specs.declared.sign.Sign.TheVariants as sign
 use Rattle.mj_ast.specs.declared.expr.Scope.{Scope}
 use Rattle.mj_ast.specs.declared.expr.Scope.TheVariants.{Local, Global}
-use Rattle.mj_ast.specs.declared.expr.UnaryOp.{UnaryOp}
-use Rattle.mj_ast.specs.declared.expr.UnaryOp.TheVariants as unary
-use Rattle.mj_ast.specs.declared.expr.BinaryOp.{BinaryOp}
-use Rattle.mj_ast.specs.declared.expr.BinaryOp.TheVariants as binary
+use Rattle.mj_oper.specs.declared.op.Op.{Op}
+use Rattle.mj_oper.specs.declared.op.Op.TheVariants as binary
+use Rattle.mj_oper.specs.declared.op.TruthOp.{TruthOp}
+use Rattle.mj_oper.specs.declared.op.TruthOp.TheVariants as truth
+use Rattle.mj_oper.specs.declared.op.UnaryOp.{UnaryOp}
+use Rattle.mj_oper.specs.declared.op.UnaryOp.TheVariants as unary
 use Rattle.mj_ast.specs.Syntax.{Expr, Chain, Tails, Done, Then, Operand, Literal, Value, Unary, Group, Variable, Var, Exprs, No, More}
 use Rattle.mj_ast.specs.Tokens.{Token, Word, Digits, Quoted, Signed}
 
@@ -64,14 +66,30 @@ symbol _ = Other
 abbrev pub unary_sign : UnaryOp → Sign
 unary_sign unary.Plus = sign.Plus
 unary_sign unary.Minus = sign.Minus
+unary_sign unary.Not = sign.Apostrophe
+
+-- the sign of a truth operator
+abbrev pub truth_sign : TruthOp → Sign
+truth_sign truth.Equal = sign.Equals
+truth_sign truth.Less = sign.Less
+truth_sign truth.Greater = sign.Greater
+truth_sign truth.Contains = sign.OpenBracket
+truth_sign truth.Follows = sign.CloseBracket
+truth_sign truth.SortsAfter = sign.CloseBrackets
+truth_sign truth.And = sign.Ampersand
+truth_sign truth.Or = sign.Exclamation
 
 -- the sign of a binary operator
-abbrev pub binary_sign : BinaryOp → Sign
+abbrev pub binary_sign : Op → Sign
 binary_sign binary.Add = sign.Plus
 binary_sign binary.Subtract = sign.Minus
 binary_sign binary.Multiply = sign.Star
+binary_sign binary.Quotient = sign.Backslash
+binary_sign binary.Remainder = sign.Hash
+binary_sign binary.Divide = sign.Slash
 binary_sign binary.Join = sign.Underscore
-binary_sign binary.Equal = sign.Equals
+binary_sign (binary.Is op) = truth_sign op
+binary_sign (binary.IsNot op) = sign.Negated op
 
 -- a global has a `^` in front
 abbrev pub scoped : Scope → List Symbol → List Symbol

@@ -1,8 +1,8 @@
 -- Routines as trees, without where they lie in memory. A text is the list of its bytes.
 use Rattle.std.specs.Prelude.{ℕ, List, Option}
 use Rattle.mj_ast.specs.declared.expr.Scope.{Scope}
-use Rattle.mj_ast.specs.declared.expr.UnaryOp.{UnaryOp}
-use Rattle.mj_ast.specs.declared.expr.BinaryOp.{BinaryOp}
+use Rattle.mj_oper.specs.declared.op.Op.{Op}
+use Rattle.mj_oper.specs.declared.op.UnaryOp.{UnaryOp}
 use Rattle.mj_ast.specs.declared.routine.Mark.{Mark}
 
 mutual
@@ -13,7 +13,7 @@ mutual
   -- operators with their right operands, in order
   pub data Tails : Type 0 where
     Done : Tails
-    Then : (op : BinaryOp) (operand : Operand) (rest : Tails) → Tails
+    Then : (op : Op) (operand : Operand) (rest : Tails) → Tails
 
   -- what stands between binary operators: a quoted text, or the canonic text of the number that digits read; the
   -- value of a variable; an operator and its operand; an expression in parentheses

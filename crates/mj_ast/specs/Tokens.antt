@@ -1,9 +1,11 @@
 -- The tokens of a line of a routine. A line is the list of its bytes, and a token is a slice of it: each slice is the
 -- longest that spells a token, from the left on. Every line has one tokenisation. What can stand in no sentence of the
 -- language is a token too: a quote that isn't closed, and each byte that begins nothing else.
-use Rattle.std.specs.Prelude.{◌≡◌, ◌⊎◌, ℕ, zero, suc, ◌+◌, ◌≤◌, ◌==◌, nat_le, Bool, true, false, ◌&&◌, ◌||◌, IsTrue, if◌then◌else◌, List, [], ◌∷◌, ◌++◌, length, take, drop, take_while, map, All}
+use Rattle.std.specs.Prelude.{◌≡◌, ◌⊎◌, ℕ, zero, suc, ◌+◌, ◌≤◌, ◌==◌, nat_le, Bool, true, false, ◌&&◌, ◌||◌, IsTrue, if◌then◌else◌, List, [], ◌∷◌, ◌++◌, length, take, drop, take_while, map, All, Option, Some, None}
 use Rattle.mj_ast.specs.declared.sign.Sign.{Sign}
-use Rattle.mj_ast.specs.declared.sign.Sign.TheVariants.{Plus, Minus, Star, Underscore, Equals, Caret, Open, Close, Comma, Colon, Exclamation}
+use Rattle.mj_oper.specs.declared.op.TruthOp.{TruthOp}
+use Rattle.mj_oper.specs.declared.op.TruthOp.TheVariants as truth
+use Rattle.mj_ast.specs.declared.sign.Sign.TheVariants.{Plus, Minus, Star, Backslash, Hash, Slash, Underscore, Equals, Less, Greater, OpenBracket, CloseBracket, CloseBrackets, Ampersand, Exclamation, Apostrophe, Negated, Caret, Open, Close, Comma, Colon}
 
 -- a letter
 abbrev pub is_letter : ℕ → Bool
@@ -54,19 +56,41 @@ pub data Token : Type 0 where
   -- any other byte
   Stray : (byte : ℕ) → Token
 
--- the byte of a sign
-abbrev pub sign_byte : Sign → ℕ
-sign_byte Plus = 43
-sign_byte Minus = 45
-sign_byte Star = 42
-sign_byte Underscore = 95
-sign_byte Equals = 61
-sign_byte Caret = 94
-sign_byte Open = 40
-sign_byte Close = 41
-sign_byte Comma = 44
-sign_byte Colon = 58
-sign_byte Exclamation = 33
+-- the bytes of a truth operator
+abbrev pub truth_bytes : TruthOp → List ℕ
+truth_bytes truth.Equal = 61 ∷ []
+truth_bytes truth.Less = 60 ∷ []
+truth_bytes truth.Greater = 62 ∷ []
+truth_bytes truth.Contains = 91 ∷ []
+truth_bytes truth.Follows = 93 ∷ []
+truth_bytes truth.SortsAfter = 93 ∷ 93 ∷ []
+truth_bytes truth.And = 38 ∷ []
+truth_bytes truth.Or = 33 ∷ []
+
+-- the bytes of a sign: a truth operator may have a `'` in front, which makes both one sign
+abbrev pub sign_bytes : Sign → List ℕ
+sign_bytes Plus = 43 ∷ []
+sign_bytes Minus = 45 ∷ []
+sign_bytes Star = 42 ∷ []
+sign_bytes Backslash = 92 ∷ []
+sign_bytes Hash = 35 ∷ []
+sign_bytes Slash = 47 ∷ []
+sign_bytes Underscore = 95 ∷ []
+sign_bytes Equals = truth_bytes truth.Equal
+sign_bytes Less = truth_bytes truth.Less
+sign_bytes Greater = truth_bytes truth.Greater
+sign_bytes OpenBracket = truth_bytes truth.Contains
+sign_bytes CloseBracket = truth_bytes truth.Follows
+sign_bytes CloseBrackets = truth_bytes truth.SortsAfter
+sign_bytes Ampersand = truth_bytes truth.And
+sign_bytes Exclamation = truth_bytes truth.Or
+sign_bytes Apostrophe = 39 ∷ []
+sign_bytes (Negated op) = 39 ∷ truth_bytes op
+sign_bytes Caret = 94 ∷ []
+sign_bytes Open = 40 ∷ []
+sign_bytes Close = 41 ∷ []
+sign_bytes Comma = 44 ∷ []
+sign_bytes Colon = 58 ∷ []
 
 -- the bytes of a text between quotes: each quote in it is doubled
 abbrev pub doubled : List ℕ → List ℕ
@@ -89,14 +113,23 @@ sign_class b =
     if b == 43 then ASign Plus
     else if b == 45 then ASign Minus
     else if b == 42 then ASign Star
+    else if b == 92 then ASign Backslash
+    else if b == 35 then ASign Hash
+    else if b == 47 then ASign Slash
     else if b == 95 then ASign Underscore
     else if b == 61 then ASign Equals
+    else if b == 60 then ASign Less
+    else if b == 62 then ASign Greater
+    else if b == 91 then ASign OpenBracket
+    else if b == 93 then ASign CloseBracket
+    else if b == 38 then ASign Ampersand
+    else if b == 33 then ASign Exclamation
+    else if b == 39 then ASign Apostrophe
     else if b == 94 then ASign Caret
     else if b == 40 then ASign Open
     else if b == 41 then ASign Close
     else if b == 44 then ASign Comma
     else if b == 58 then ASign Colon
-    else if b == 33 then ASign Exclamation
     else Nothing
 
 -- what a byte begins
@@ -114,7 +147,7 @@ abbrev pub IsSpelledBy : Token → List ℕ → Type 0
 IsSpelledBy (Word w) bytes = (bytes ≡ w) × IsWord w
 IsSpelledBy (Digits d) bytes = (bytes ≡ d) × AreDigits d
 IsSpelledBy (Quoted content) bytes = bytes ≡ 34 ∷ (doubled content ++ 34 ∷ [])
-IsSpelledBy (Signed s) bytes = bytes ≡ sign_byte s ∷ []
+IsSpelledBy (Signed s) bytes = bytes ≡ sign_bytes s
 IsSpelledBy Blank bytes = (bytes ≡ 32 ∷ []) ⊎ (bytes ≡ 9 ∷ [])
 IsSpelledBy (Comment text) bytes = bytes ≡ 59 ∷ text
 IsSpelledBy (Unclosed text) bytes = bytes ≡ 34 ∷ doubled text
@@ -159,6 +192,39 @@ abbrev mutual
 abbrev pub quoted_token : Quotation → Token
 quoted_token q = if q.closed then Quoted q.content else Unclosed q.content
 
+-- the truth operator of a `]`: a second one makes both one sign
+abbrev pub bracket_front : List ℕ → TruthOp
+bracket_front [] = truth.Follows
+bracket_front (b ∷ bs) = if b == 93 then truth.SortsAfter else truth.Follows
+
+-- the truth operator that a byte begins, and those behind it go on with, if there is one: the longest
+abbrev pub begun_truth : ℕ → List ℕ → Option TruthOp
+begun_truth b bs =
+    if b == 61 then Some truth.Equal
+    else if b == 60 then Some truth.Less
+    else if b == 62 then Some truth.Greater
+    else if b == 91 then Some truth.Contains
+    else if b == 93 then Some (bracket_front bs)
+    else if b == 38 then Some truth.And
+    else if b == 33 then Some truth.Or
+    else None
+
+-- the truth operator at the front, if there is one
+abbrev pub truth_front : List ℕ → Option TruthOp
+truth_front [] = None
+truth_front (b ∷ bs) = begun_truth b bs
+
+-- the sign of one `]`, or of two
+abbrev pub bracket_sign : TruthOp → Sign × ℕ
+bracket_sign truth.SortsAfter = (CloseBrackets, 1)
+bracket_sign _ = (CloseBracket, 0)
+
+-- the longest sign that begins with the byte of a sign, by the bytes behind it, and how many of them it takes
+abbrev pub longest_sign : Sign → List ℕ → Sign × ℕ
+longest_sign CloseBracket bs = bracket_sign (bracket_front bs)
+longest_sign Apostrophe bs = elim (truth_front bs) [ None ↦ (Apostrophe, 0) | Some op ↦ (Negated op, length (truth_bytes op)) ]
+longest_sign s bs = (s, 0)
+
 -- the token at the front of a line, and how many bytes behind its first it takes
 abbrev pub front_of : Class → ℕ → List ℕ → Token × ℕ
 front_of AWord b bs = let w = take_while continues_word bs in (Word (b ∷ w), length w)
@@ -166,7 +232,7 @@ front_of ADigit b bs = let d = take_while is_digit bs in (Digits (b ∷ d), leng
 front_of AQuote b bs = let q = quotation bs in (quoted_token q, q.width)
 front_of ABlank b bs = (Blank, 0)
 front_of AComment b bs = (Comment bs, length bs)
-front_of (ASign s) b bs = (Signed s, 0)
+front_of (ASign s) b bs = let longest = longest_sign s bs in (Signed longest.0, longest.1)
 front_of Nothing b bs = (Stray b, 0)
 
 -- the first tokens of a line, at most n

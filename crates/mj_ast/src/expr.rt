@@ -1,5 +1,6 @@
 // Expressions.
 
+use mj_oper::{Op, UnaryOp};
 use mj_text::Text;
 
 /// Whose a variable is: the job's own, or shared by all jobs.
@@ -7,30 +8,6 @@ use mj_text::Text;
 pub enum Scope {
     Local,
     Global,
-}
-
-/// An operator before its operand.
-#[derive(Clone, Copy, PartialEq, Eq, Debug)]
-pub enum UnaryOp {
-    /// `+`
-    Plus,
-    /// `-`
-    Minus,
-}
-
-/// An operator between two operands.
-#[derive(Clone, Copy, PartialEq, Eq, Debug)]
-pub enum BinaryOp {
-    /// `+`
-    Add,
-    /// `-`
-    Subtract,
-    /// `*`
-    Multiply,
-    /// `_`
-    Join,
-    /// `=`
-    Equal,
 }
 
 /// An operand, and then operators with theirs, which are applied from left to right.
@@ -45,7 +22,7 @@ pub struct Expr {
 #[derive(Drop)]
 #[cycle(expr)]
 pub struct Tail {
-    pub op: BinaryOp,
+    pub op: Op,
     pub operand: Operand,
 }
 

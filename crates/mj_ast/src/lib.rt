@@ -9,7 +9,7 @@ mod keyword;
 mod routine;
 mod sign;
 
-pub use expr::{BinaryOp, Expr, Operand, Scope, Tail, UnaryOp, Variable};
+pub use expr::{Expr, Operand, Scope, Tail, Variable};
 pub use keyword::Keyword;
 pub use routine::{Assignment, Command, Line, Mark, Output, Routine, Step};
 pub use sign::Sign;

@@ -1,6 +1,8 @@
 // The signs of routine text.
 
-/// A sign of routine text, one byte each.
+use mj_oper::TruthOp;
+
+/// A sign of routine text.
 #[derive(Clone, Copy, PartialEq, Eq, Debug)]
 pub enum Sign {
     /// `+`
@@ -9,10 +11,34 @@ pub enum Sign {
     Minus,
     /// `*`
     Star,
+    /// `\`
+    Backslash,
+    /// `#`
+    Hash,
+    /// `/`
+    Slash,
     /// `_`
     Underscore,
     /// `=`
     Equals,
+    /// `<`
+    Less,
+    /// `>`
+    Greater,
+    /// `[`
+    OpenBracket,
+    /// `]`
+    CloseBracket,
+    /// `]]`
+    CloseBrackets,
+    /// `&`
+    Ampersand,
+    /// `!`
+    Exclamation,
+    /// `'`
+    Apostrophe,
+    /// `'` and the sign of a truth operator behind it, as `'=`
+    Negated(TruthOp),
     /// `^`
     Caret,
     /// `(`
@@ -23,6 +49,4 @@ pub enum Sign {
     Comma,
     /// `:`
     Colon,
-    /// `!`
-    Exclamation,
 }

@@ -4,12 +4,14 @@ use Rattle.std.specs.Prelude.{cond}
 use Rattle.mj_ast.specs.declared.sign.Sign.TheVariants.{Open, Close, Comma}
 use Rattle.mj_ast.specs.declared.expr.Scope.{Scope}
 use Rattle.mj_ast.specs.declared.expr.Scope.TheVariants.{Local, Global}
-use Rattle.mj_ast.specs.declared.expr.UnaryOp.{UnaryOp}
-use Rattle.mj_ast.specs.declared.expr.UnaryOp.TheVariants as unary
-use Rattle.mj_ast.specs.declared.expr.BinaryOp.{BinaryOp}
-use Rattle.mj_ast.specs.declared.expr.BinaryOp.TheVariants as binary
+use Rattle.mj_oper.specs.declared.op.UnaryOp.{UnaryOp}
+use Rattle.mj_oper.specs.declared.op.UnaryOp.TheVariants as unary
+use Rattle.mj_oper.specs.declared.op.Op.{Op}
+use Rattle.mj_oper.specs.declared.op.Op.TheVariants as binary
+use Rattle.mj_oper.specs.declared.op.TruthOp.{TruthOp}
+use Rattle.mj_oper.specs.declared.op.TruthOp.TheVariants as truth
 use Rattle.mj_ast.specs.Syntax.{Expr, Chain, Tails, Done, Then, Operand, Literal, Value, Unary, Group, Variable, Var, Exprs, No, More}
-use Rattle.mj_ast.specs.Expressions.{Symbol, Name, Mark, scoped, unary_sign, binary_sign, expr_symbols, tails_symbols, operand_symbols, variable_symbols, list_symbols, more_symbols, count, expr_nesting, tails_nesting, operand_nesting, variable_nesting, list_nesting, exprs_nesting, expr_width, tails_width, operand_width, variable_width, exprs_width}
+use Rattle.mj_ast.specs.Expressions.{Symbol, Name, Mark, scoped, unary_sign, truth_sign, binary_sign, expr_symbols, tails_symbols, operand_symbols, variable_symbols, list_symbols, more_symbols, count, expr_nesting, tails_nesting, operand_nesting, variable_nesting, list_nesting, exprs_nesting, expr_width, tails_width, operand_width, variable_width, exprs_width}
 use Rattle.mj_expr.specs.Machine.{Outer, Alone, InGroup, InList, Within, Front, Right, Under, Place, AsOperand, AsTarget, Wanted, Sought, Named, Held, Limits, Phrase, Whole, Target, Accept, and_then, and_more, filled, placed, held, outer_depth, depth_of, place_depth, run, turn, Go, Deep, Long, unary_of, binary_of, want_sign, hold_sign}
 use Rattle.mj_expr.specs.Reads.{HasNoOpen, HasNoBinary}
 use Rattle.mj_expr.proofs.Steps.{named_ends, less_true, open_goes, joined, joined_more, joined_last, whole_done, target_done}
@@ -18,13 +20,28 @@ use Rattle.mj_expr.proofs.Zipper.{Kind, AnExpression, AVariable, Fits, phrase_sy
 unary_again : (op : UnaryOp) → unary_of (unary_sign op) ≡ Some op
 unary_again unary.Plus = refl
 unary_again unary.Minus = refl
+unary_again unary.Not = refl
 
-binary_again : (op : BinaryOp) → binary_of (binary_sign op) ≡ Some op
+truth_again : (op : TruthOp) → binary_of (truth_sign op) ≡ Some (binary.Is op)
+truth_again truth.Equal = refl
+truth_again truth.Less = refl
+truth_again truth.Greater = refl
+truth_again truth.Contains = refl
+truth_again truth.Follows = refl
+truth_again truth.SortsAfter = refl
+truth_again truth.And = refl
+truth_again truth.Or = refl
+
+binary_again : (op : Op) → binary_of (binary_sign op) ≡ Some op
 binary_again binary.Add = refl
 binary_again binary.Subtract = refl
 binary_again binary.Multiply = refl
+binary_again binary.Quotient = refl
+binary_again binary.Remainder = refl
+binary_again binary.Divide = refl
 binary_again binary.Join = refl
-binary_again binary.Equal = refl
+binary_again (binary.Is op) = truth_again op
+binary_again (binary.IsNot op) = refl
 
 group_opens : (m : Limits) (ks : List Symbol) (c : Within) → depth_of c < m.depth → run m (Mark Open ∷ ks) (Wanted c) ≡ run m ks (Wanted (Front (InGroup c)))
 group_opens m ks c h = ap (λ (b : Bool). turn m ks (Wanted c) (Mark Open) (cond b (Go (Wanted (Front (InGroup c)))) Deep)) (less_true (depth_of c) m.depth h)
@@ -34,8 +51,8 @@ unary_opens m op ks c h =
     ap (λ (q : Option UnaryOp). turn m ks (Wanted c) (Mark (unary_sign op)) (want_sign m c (unary_sign op) q)) (unary_again op)
     ∙ ap (λ (b : Bool). turn m ks (Wanted c) (Mark (unary_sign op)) (cond b (Go (Wanted (Under op c))) Deep)) (less_true (depth_of c) m.depth h)
 
-binary_joins : (m : Limits) (op : BinaryOp) (ks : List Symbol) (x : Operand) (r : Tails) (o : Outer) → run m (Mark (binary_sign op) ∷ ks) (Held x r o) ≡ run m ks (Wanted (Right x r op o))
-binary_joins m op ks x r o = ap (λ (q : Option BinaryOp). turn m ks (Held x r o) (Mark (binary_sign op)) (hold_sign m x r o (binary_sign op) q)) (binary_again op)
+binary_joins : (m : Limits) (op : Op) (ks : List Symbol) (x : Operand) (r : Tails) (o : Outer) → run m (Mark (binary_sign op) ∷ ks) (Held x r o) ≡ run m ks (Wanted (Right x r op o))
+binary_joins m op ks x r o = ap (λ (q : Option Op). turn m ks (Held x r o) (Mark (binary_sign op)) (hold_sign m x r o (binary_sign op) q)) (binary_again op)
 
 group_closes : (m : Limits) (ks : List Symbol) (e : Expr) (c : Within) → run m (Mark Close ∷ ks) (held e (InGroup c)) ≡ run m ks (filled (Group e) c)
 group_closes m ks (Chain x r) c = refl
@@ -64,16 +81,30 @@ tails_joined-done : (r : Tails) → tails_joined r Done ≡ r
 tails_joined-done Done = refl
 tails_joined-done (Then op x r) = ap (λ (t : Tails). Then op x t) (tails_joined-done r)
 
-tails_joined-then : (q : Tails) (op : BinaryOp) (x : Operand) (r : Tails) → tails_joined (and_then q op x) r ≡ tails_joined q (Then op x r)
+tails_joined-then : (q : Tails) (op : Op) (x : Operand) (r : Tails) → tails_joined (and_then q op x) r ≡ tails_joined q (Then op x r)
 tails_joined-then Done op x r = refl
 tails_joined-then (Then o y q) op x r = ap (λ (t : Tails). Then o y t) (tails_joined-then q op x r)
 
-binary_no_open : (op : BinaryOp) (ks : List Symbol) → HasNoOpen (Mark (binary_sign op) ∷ ks)
+truth_no_open : (op : TruthOp) (ks : List Symbol) → HasNoOpen (Mark (truth_sign op) ∷ ks)
+truth_no_open truth.Equal ks = tt
+truth_no_open truth.Less ks = tt
+truth_no_open truth.Greater ks = tt
+truth_no_open truth.Contains ks = tt
+truth_no_open truth.Follows ks = tt
+truth_no_open truth.SortsAfter ks = tt
+truth_no_open truth.And ks = tt
+truth_no_open truth.Or ks = tt
+
+binary_no_open : (op : Op) (ks : List Symbol) → HasNoOpen (Mark (binary_sign op) ∷ ks)
 binary_no_open binary.Add ks = tt
 binary_no_open binary.Subtract ks = tt
 binary_no_open binary.Multiply ks = tt
+binary_no_open binary.Quotient ks = tt
+binary_no_open binary.Remainder ks = tt
+binary_no_open binary.Divide ks = tt
 binary_no_open binary.Join ks = tt
-binary_no_open binary.Equal ks = tt
+binary_no_open (binary.Is op) ks = truth_no_open op ks
+binary_no_open (binary.IsNot op) ks = tt
 
 tails_no_open : (r : Tails) (ks : List Symbol) → HasNoOpen ks → HasNoOpen (tails_symbols r ++ ks)
 tails_no_open Done ks h = h

@@ -2,8 +2,8 @@
 use Rattle.std.proofs.Common.{◌≡◌, ℕ, [], ◌∷◌, refl, map}
 use Rattle.mj_ast.specs.declared.sign.Sign.TheVariants.{Plus, Minus, Equals, Caret, Open, Close, Comma}
 use Rattle.mj_ast.specs.declared.expr.Scope.TheVariants.{Local, Global}
-use Rattle.mj_ast.specs.declared.expr.UnaryOp.TheVariants as unary
-use Rattle.mj_ast.specs.declared.expr.BinaryOp.TheVariants as binary
+use Rattle.mj_oper.specs.declared.op.UnaryOp.TheVariants as unary
+use Rattle.mj_oper.specs.declared.op.Op.TheVariants as binary
 use Rattle.mj_ast.specs.Syntax.{Chain, Done, Then, Literal, Value, Unary, Group, Var, No, More}
 use Rattle.mj_ast.specs.Tokens.{Token, Word, Quoted, Signed, Blank, Unclosed}
 use Rattle.mj_ast.specs.Expressions.{symbol, expr_symbols, expr_nesting}

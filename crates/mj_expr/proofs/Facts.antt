@@ -3,10 +3,10 @@ use Rattle.std.proofs.Common.{◌≡◌, ℕ, ◌+◌, ◌≤◌, ◌<◌, List,
 use Rattle.std.specs.Prelude.{cond, not}
 use Rattle.std.proofs.lemmas.Bool.Decides.{nat_tests}
 use Rattle.mj_ast.specs.declared.sign.Sign.{Sign}
-use Rattle.mj_ast.specs.declared.sign.Sign.TheVariants.{Plus, Minus, Star, Underscore, Equals, Caret, Open, Close, Comma, Colon, Exclamation}
+use Rattle.mj_ast.specs.declared.sign.Sign.TheVariants.{Plus, Minus, Apostrophe, Caret, Open, Close, Comma, Colon}
 use Rattle.mj_ast.specs.declared.expr.Scope.{Scope}
-use Rattle.mj_ast.specs.declared.expr.UnaryOp.{UnaryOp}
-use Rattle.mj_ast.specs.declared.expr.BinaryOp.{BinaryOp}
+use Rattle.mj_oper.specs.declared.op.UnaryOp.{UnaryOp}
+use Rattle.mj_oper.specs.declared.op.Op.{Op}
 use Rattle.mj_ast.specs.Syntax.{Chain, Tails, Done, Operand, Literal, Unary, Group, Var, Exprs}
 use Rattle.mj_ast.specs.Tokens.{Token}
 use Rattle.mj_ast.specs.Expressions.{Symbol, Constant, Name, Overlong, Mark, Other, symbol, scoped, unary_sign, binary_sign, expr_symbols, count}
@@ -60,28 +60,17 @@ none_some x e = cc
 pub unary_back : (s : Sign) (op : UnaryOp) → unary_of s ≡ Some op → s ≡ unary_sign op
 unary_back Plus op e = ap unary_sign (some_same _ op e)
 unary_back Minus op e = ap unary_sign (some_same _ op e)
-unary_back Star op e = absurd (none_some op e)
-unary_back Underscore op e = absurd (none_some op e)
-unary_back Equals op e = absurd (none_some op e)
-unary_back Caret op e = absurd (none_some op e)
-unary_back Open op e = absurd (none_some op e)
-unary_back Close op e = absurd (none_some op e)
-unary_back Comma op e = absurd (none_some op e)
-unary_back Colon op e = absurd (none_some op e)
-unary_back Exclamation op e = absurd (none_some op e)
+unary_back Apostrophe op e = ap unary_sign (some_same _ op e)
+unary_back s op e = absurd (none_some op e)
 
-pub binary_back : (s : Sign) (op : BinaryOp) → binary_of s ≡ Some op → s ≡ binary_sign op
-binary_back Plus op e = ap binary_sign (some_same _ op e)
-binary_back Minus op e = ap binary_sign (some_same _ op e)
-binary_back Star op e = ap binary_sign (some_same _ op e)
-binary_back Underscore op e = ap binary_sign (some_same _ op e)
-binary_back Equals op e = ap binary_sign (some_same _ op e)
+pub binary_back : (s : Sign) (op : Op) → binary_of s ≡ Some op → s ≡ binary_sign op
 binary_back Caret op e = absurd (none_some op e)
 binary_back Open op e = absurd (none_some op e)
 binary_back Close op e = absurd (none_some op e)
 binary_back Comma op e = absurd (none_some op e)
 binary_back Colon op e = absurd (none_some op e)
-binary_back Exclamation op e = absurd (none_some op e)
+binary_back Apostrophe op e = absurd (none_some op e)
+binary_back s op e = ap binary_sign (some_same _ op e)
 
 -- ---- facts
 
@@ -197,17 +186,9 @@ other_facts K m x r Alone Close = λ l i. refl
 other_facts K m x r (InGroup c) Close = (group_closed K m c x r, λ l i. refl)
 other_facts K m x r (InList scope word es p) Close = (list_closed K m scope word es p x r, λ l i. refl)
 other_facts K m x r o Comma = comma_facts K m x r o
-other_facts K m x r o Plus = λ l i. refl
-other_facts K m x r o Minus = λ l i. refl
-other_facts K m x r o Star = λ l i. refl
-other_facts K m x r o Underscore = λ l i. refl
-other_facts K m x r o Equals = λ l i. refl
-other_facts K m x r o Caret = λ l i. refl
-other_facts K m x r o Open = λ l i. refl
-other_facts K m x r o Colon = λ l i. refl
-other_facts K m x r o Exclamation = λ l i. refl
+other_facts K m x r o s = λ l i. refl
 
-joined_facts : (K : Kind) (m : Limits) (x : Operand) (r : Tails) (o : Outer) (s : Sign) (q : Option BinaryOp) → binary_of s ≡ q →
+joined_facts : (K : Kind) (m : Limits) (x : Operand) (r : Tails) (o : Outer) (s : Sign) (q : Option Op) → binary_of s ≡ q →
     Facts K m (HasRead K m (Held x r o)) (HeldL K m x r o s (λ l. hold_sign l x r o s q)) (λ l. hold_sign l x r o s q) (Mark s) (hold_sign m x r o s q)
 joined_facts K m x r o s (Some op) e = (
   λ ks h. record {

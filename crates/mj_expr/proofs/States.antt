@@ -6,7 +6,7 @@ use Rattle.mj_ast.specs.declared.sign.Sign.{Sign}
 use Rattle.mj_ast.specs.declared.sign.Sign.TheVariants.{Plus, Minus, Star, Underscore, Equals, Caret, Open, Close, Comma, Colon, Exclamation}
 use Rattle.mj_ast.specs.declared.expr.Scope.{Scope}
 use Rattle.mj_ast.specs.declared.expr.Scope.TheVariants.{Global}
-use Rattle.mj_ast.specs.declared.expr.UnaryOp.{UnaryOp}
+use Rattle.mj_oper.specs.declared.op.UnaryOp.{UnaryOp}
 use Rattle.mj_ast.specs.Syntax.{Operand, Literal, Value, Tails, Variable, Var, No}
 use Rattle.mj_ast.specs.Tokens.{Word, Digits}
 use Rattle.mj_ast.specs.Expressions.{Symbol, Constant, Name, Overlong, Mark, Other, scoped}
@@ -57,14 +57,7 @@ want_other_facts K m c Open =
     (λ d ks h. frame_read K m m c (Front (InGroup c)) Open ks refl (h.good, omega arith) h)
     (λ ks h. frame_read K m (deeper m) c (Front (InGroup c)) Open ks refl (good_more c K m (deeper m) (more_deeper m) h.good, omega (arith, good_depth K m c h.good)) h)
 want_other_facts K m c Comma = stray_as K m c (is_full m (outer_of c)) refl
-want_other_facts K m c Plus = λ l i. refl
-want_other_facts K m c Minus = λ l i. refl
-want_other_facts K m c Star = λ l i. refl
-want_other_facts K m c Underscore = λ l i. refl
-want_other_facts K m c Equals = λ l i. refl
-want_other_facts K m c Close = λ l i. refl
-want_other_facts K m c Colon = λ l i. refl
-want_other_facts K m c Exclamation = λ l i. refl
+want_other_facts K m c s = λ l i. refl
 
 want_sign_facts : (K : Kind) (m : Limits) (c : Within) (s : Sign) (q : Option UnaryOp) → unary_of s ≡ q →
     Facts K m (HasRead K m (Wanted c)) (LongFacts K m (HasRead K m (Wanted c)) (Wanted c) (Mark s)) (λ l. want_sign l c s q) (Mark s) (want_sign m c s q)
@@ -87,19 +80,7 @@ want_facts K m c Other = λ l i. refl
 seek_facts : (K : Kind) (m : Limits) (p : Place) (k : Symbol) → FactsAt K m (Sought p) k
 seek_facts K m p (Name word) = (λ ks h. record { good = h.good; read = ap (λ (zs : List Symbol). zs ++ Name word ∷ []) h.read }, λ l i. refl)
 seek_facts K m p (Mark Caret) = (λ ks h. record { good = h.good; read = ap (λ (zs : List Symbol). zs ++ Mark Caret ∷ []) h.read }, λ l i. refl)
-seek_facts K m p (Mark Plus) = λ l i. refl
-seek_facts K m p (Mark Minus) = λ l i. refl
-seek_facts K m p (Mark Star) = λ l i. refl
-seek_facts K m p (Mark Underscore) = λ l i. refl
-seek_facts K m p (Mark Equals) = λ l i. refl
-seek_facts K m p (Mark Open) = λ l i. refl
-seek_facts K m p (Mark Close) = λ l i. refl
-seek_facts K m p (Mark Comma) = λ l i. refl
-seek_facts K m p (Mark Colon) = λ l i. refl
-seek_facts K m p (Mark Exclamation) = λ l i. refl
-seek_facts K m p (Constant value) = λ l i. refl
-seek_facts K m p Overlong = λ l i. refl
-seek_facts K m p Other = λ l i. refl
+seek_facts K m p k = λ l i. refl
 
 -- a name behind a `^`
 marked_read : (K : Kind) (m : Limits) (p : Place) (word : List ℕ) (ks : List Symbol) → HasRead K m (Marked p) ks → HasRead K m (Named Global word p) (ks ++ Name word ∷ [])
@@ -142,19 +123,7 @@ marked_facts : (K : Kind) (m : Limits) (p : Place) (k : Symbol) → FactsAt K m 
 marked_facts K m p (Name word) = (marked_read K m p word, λ l i. refl)
 marked_facts K m (AsOperand c) (Mark Comma) = caret_as K m c (is_full m (outer_of c)) refl
 marked_facts K m AsTarget (Mark Comma) = λ l i. refl
-marked_facts K m p (Mark Plus) = λ l i. refl
-marked_facts K m p (Mark Minus) = λ l i. refl
-marked_facts K m p (Mark Star) = λ l i. refl
-marked_facts K m p (Mark Underscore) = λ l i. refl
-marked_facts K m p (Mark Equals) = λ l i. refl
-marked_facts K m p (Mark Caret) = λ l i. refl
-marked_facts K m p (Mark Open) = λ l i. refl
-marked_facts K m p (Mark Close) = λ l i. refl
-marked_facts K m p (Mark Colon) = λ l i. refl
-marked_facts K m p (Mark Exclamation) = λ l i. refl
-marked_facts K m p (Constant value) = λ l i. refl
-marked_facts K m p Overlong = λ l i. refl
-marked_facts K m p Other = λ l i. refl
+marked_facts K m p k = λ l i. refl
 
 -- ---- behind a name
 

@@ -3,8 +3,8 @@ use Rattle.std.proofs.Common.{◌≡◌, ℕ, ◌+◌, ◌<◌, ◌≤◌, List,
 use Rattle.std.proofs.lemmas.Bool.Decides.{nat_tests}
 use Rattle.std.specs.Prelude.{cond, not}
 use Rattle.std.specs.Result.{IsErrAnd}
-use Rattle.mj_ast.specs.declared.sign.Sign.TheVariants.{Plus, Minus, Star, Underscore, Equals, Caret, Open, Close, Comma, Colon, Exclamation}
-use Rattle.mj_ast.specs.declared.expr.BinaryOp.{BinaryOp}
+use Rattle.mj_ast.specs.declared.sign.Sign.TheVariants.{Apostrophe, Caret, Open, Close, Comma, Colon}
+use Rattle.mj_oper.specs.declared.op.Op.{Op}
 use Rattle.mj_ast.specs.declared.expr.Scope.{Scope}
 use Rattle.mj_ast.specs.Syntax.{Expr, Chain, Tails, Done, Operand, Value, Unary, Variable, Var, Exprs, No, More}
 use Rattle.mj_ast.specs.Expressions.{Symbol, Constant, Name, Overlong, Mark, Other, count}
@@ -137,17 +137,13 @@ held_refuses m (Constant v ∷ ks) scope word before (Chain x r) p b c d = refl
 held_refuses m (Name w ∷ ks) scope word before (Chain x r) p b c d = refl
 held_refuses m (Overlong ∷ ks) scope word before (Chain x r) p b c d = refl
 held_refuses m (Other ∷ ks) scope word before (Chain x r) p b c d = refl
-held_refuses m (Mark Plus ∷ ks) scope word before (Chain x r) p b c d = absurd (some_none _ b)
-held_refuses m (Mark Minus ∷ ks) scope word before (Chain x r) p b c d = absurd (some_none _ b)
-held_refuses m (Mark Star ∷ ks) scope word before (Chain x r) p b c d = absurd (some_none _ b)
-held_refuses m (Mark Underscore ∷ ks) scope word before (Chain x r) p b c d = absurd (some_none _ b)
-held_refuses m (Mark Equals ∷ ks) scope word before (Chain x r) p b c d = absurd (some_none _ b)
-held_refuses m (Mark Caret ∷ ks) scope word before (Chain x r) p b c d = refl
-held_refuses m (Mark Open ∷ ks) scope word before (Chain x r) p b c d = refl
 held_refuses m (Mark Close ∷ ks) scope word before (Chain x r) p b c d = absurd d
 held_refuses m (Mark Comma ∷ ks) scope word before (Chain x r) p b c d = absurd c
+held_refuses m (Mark Caret ∷ ks) scope word before (Chain x r) p b c d = refl
+held_refuses m (Mark Open ∷ ks) scope word before (Chain x r) p b c d = refl
 held_refuses m (Mark Colon ∷ ks) scope word before (Chain x r) p b c d = refl
-held_refuses m (Mark Exclamation ∷ ks) scope word before (Chain x r) p b c d = refl
+held_refuses m (Mark Apostrophe ∷ ks) scope word before (Chain x r) p b c d = refl
+held_refuses m (Mark s ∷ ks) scope word before (Chain x r) p b c d = absurd (some_none _ b)
 
 -- what a list doesn't go on with
 pub list_refuses : (m : Limits) (ks : List Symbol) (scope : Scope) (word : List ℕ) (es : Exprs) (p : Place) → 0 < count es → HasNoBinary ks → HasNoComma ks → HasNoClose ks →
@@ -172,11 +168,11 @@ reads_from tree rest (Ok x) d ls ms s u holding e h = e ∙ h
 reads_from tree rest (Err x) d ls ms s u holding e h = refuses_from x _ _ e h
 
 -- a binary operator goes on
-pub binary_goes : (m : Limits) (ks rest : List Symbol) (op : BinaryOp) (x : Operand) (r : Tails) (o : Outer) → StartsBinary op ks rest →
+pub binary_goes : (m : Limits) (ks rest : List Symbol) (op : Op) (x : Operand) (r : Tails) (o : Outer) → StartsBinary op ks rest →
     run m ks (Held x r o) ≡ run m rest (Wanted (Right x r op o))
 binary_goes m ks rest op x r o h =
     ap (λ (k : List Symbol). run m k (Held x r o)) h.starts
-    ∙ ap (λ (q : Option BinaryOp). turn m rest (Held x r o) (Mark h.sign) (hold_sign m x r o h.sign q)) h.means
+    ∙ ap (λ (q : Option Op). turn m rest (Held x r o) (Mark h.sign) (hold_sign m x r o h.sign q)) h.means
 
 -- a list of subscripts opens
 pub open_goes : (m : Limits) (ks : List Symbol) (scope : Scope) (word : List ℕ) (p : Place) → place_depth p < m.depth →
@@ -194,17 +190,13 @@ whole_done m (Chain x r) (Constant v ∷ ks) h = refl
 whole_done m (Chain x r) (Name w ∷ ks) h = refl
 whole_done m (Chain x r) (Overlong ∷ ks) h = refl
 whole_done m (Chain x r) (Other ∷ ks) h = refl
-whole_done m (Chain x r) (Mark Plus ∷ ks) h = absurd (some_none _ h)
-whole_done m (Chain x r) (Mark Minus ∷ ks) h = absurd (some_none _ h)
-whole_done m (Chain x r) (Mark Star ∷ ks) h = absurd (some_none _ h)
-whole_done m (Chain x r) (Mark Underscore ∷ ks) h = absurd (some_none _ h)
-whole_done m (Chain x r) (Mark Equals ∷ ks) h = absurd (some_none _ h)
-whole_done m (Chain x r) (Mark Caret ∷ ks) h = refl
-whole_done m (Chain x r) (Mark Open ∷ ks) h = refl
 whole_done m (Chain x r) (Mark Close ∷ ks) h = refl
 whole_done m (Chain x r) (Mark Comma ∷ ks) h = refl
+whole_done m (Chain x r) (Mark Caret ∷ ks) h = refl
+whole_done m (Chain x r) (Mark Open ∷ ks) h = refl
 whole_done m (Chain x r) (Mark Colon ∷ ks) h = refl
-whole_done m (Chain x r) (Mark Exclamation ∷ ks) h = refl
+whole_done m (Chain x r) (Mark Apostrophe ∷ ks) h = refl
+whole_done m (Chain x r) (Mark s ∷ ks) h = absurd (some_none _ h)
 
 -- a variable is whole
 pub target_done : (m : Limits) (v : Variable) (ks : List Symbol) → run m ks (Got v) ≡ Accept (Target v) ks

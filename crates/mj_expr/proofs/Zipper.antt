@@ -3,14 +3,14 @@ use Rattle.std.proofs.Common.{◌≡◌, ℕ, ◌+◌, ◌≤◌, max, List, [],
 use Rattle.mj_ast.specs.declared.sign.Sign.TheVariants.{Caret, Open, Close, Comma}
 use Rattle.mj_ast.specs.declared.expr.Scope.{Scope}
 use Rattle.mj_ast.specs.declared.expr.Scope.TheVariants.{Local, Global}
-use Rattle.mj_ast.specs.declared.expr.BinaryOp.{BinaryOp}
+use Rattle.mj_oper.specs.declared.op.Op.{Op}
 use Rattle.mj_ast.specs.Syntax.{Expr, Chain, Tails, Done, Then, Operand, Value, Unary, Group, Variable, Var, Exprs, No, More}
 use Rattle.mj_ast.specs.Expressions.{Symbol, Name, Mark, scoped, unary_sign, binary_sign, expr_symbols, tails_symbols, operand_symbols, variable_symbols, list_symbols, more_symbols, count, expr_nesting, tails_nesting, operand_nesting, variable_nesting, list_nesting, exprs_nesting, expr_width, tails_width, operand_width, variable_width, exprs_width}
 use Rattle.mj_expr.specs.Machine.{Outer, Alone, InGroup, InList, Within, Front, Right, Under, Place, AsOperand, AsTarget, State, Wanted, Sought, Marked, Named, Held, Got, Limits, Phrase, Whole, Target, and_then, and_more, filled, placed, outer_depth, depth_of, place_depth}
 
 -- ---- spelling of what grows at its end
 
-pub tails_symbols-then : (r : Tails) (op : BinaryOp) (x : Operand) → tails_symbols (and_then r op x) ≡ tails_symbols r ++ Mark (binary_sign op) ∷ operand_symbols x
+pub tails_symbols-then : (r : Tails) (op : Op) (x : Operand) → tails_symbols (and_then r op x) ≡ tails_symbols r ++ Mark (binary_sign op) ∷ operand_symbols x
 tails_symbols-then Done op x = ap (λ (ks : List Symbol). Mark (binary_sign op) ∷ ks) (append-nil (operand_symbols x))
 tails_symbols-then (Then o y r) op x =
     ap (λ (ks : List Symbol). Mark (binary_sign o) ∷ (operand_symbols y ++ ks)) (tails_symbols-then r op x)
@@ -45,11 +45,11 @@ scoped-append Global xs ys = refl
 
 -- ---- limits of what grows at its end
 
-pub tails_nesting-then : (r : Tails) (op : BinaryOp) (x : Operand) → tails_nesting (and_then r op x) ≡ max (tails_nesting r) (operand_nesting x)
+pub tails_nesting-then : (r : Tails) (op : Op) (x : Operand) → tails_nesting (and_then r op x) ≡ max (tails_nesting r) (operand_nesting x)
 tails_nesting-then Done op x = omega arith
 tails_nesting-then (Then o y r) op x = let h = tails_nesting-then r op x in omega arith
 
-pub tails_width-then : (r : Tails) (op : BinaryOp) (x : Operand) → tails_width (and_then r op x) ≡ max (tails_width r) (operand_width x)
+pub tails_width-then : (r : Tails) (op : Op) (x : Operand) → tails_width (and_then r op x) ≡ max (tails_width r) (operand_width x)
 tails_width-then Done op x = omega arith
 tails_width-then (Then o y r) op x = let h = tails_width-then r op x in omega arith
 

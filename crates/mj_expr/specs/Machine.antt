@@ -1,13 +1,14 @@
 -- Reads symbols from the left, one at a time: what is open, and what may come next.
 use Rattle.std.specs.Prelude.{ℕ, ◌+◌, List, [], ◌∷◌, length, nat_lt, Bool, false, not, if◌then◌else◌, Option, Some, None}
 use Rattle.mj_ast.specs.declared.sign.Sign.{Sign}
-use Rattle.mj_ast.specs.declared.sign.Sign.TheVariants.{Plus, Minus, Star, Underscore, Equals, Caret, Open, Close, Comma}
+use Rattle.mj_ast.specs.declared.sign.Sign.TheVariants.{Plus, Minus, Star, Backslash, Hash, Slash, Underscore, Equals, Less, Greater, OpenBracket, CloseBracket, CloseBrackets, Ampersand, Exclamation, Apostrophe, Negated, Caret, Open, Close, Comma}
 use Rattle.mj_ast.specs.declared.expr.Scope.{Scope}
 use Rattle.mj_ast.specs.declared.expr.Scope.TheVariants.{Local, Global}
-use Rattle.mj_ast.specs.declared.expr.UnaryOp.{UnaryOp}
-use Rattle.mj_ast.specs.declared.expr.UnaryOp.TheVariants as unary
-use Rattle.mj_ast.specs.declared.expr.BinaryOp.{BinaryOp}
-use Rattle.mj_ast.specs.declared.expr.BinaryOp.TheVariants as binary
+use Rattle.mj_oper.specs.declared.op.UnaryOp.{UnaryOp}
+use Rattle.mj_oper.specs.declared.op.UnaryOp.TheVariants as unary
+use Rattle.mj_oper.specs.declared.op.Op.{Op}
+use Rattle.mj_oper.specs.declared.op.Op.TheVariants as binary
+use Rattle.mj_oper.specs.declared.op.TruthOp.TheVariants as truth
 use Rattle.mj_ast.specs.Syntax.{Expr, Chain, Tails, Done, Then, Operand, Literal, Value, Unary, Group, Variable, Var, Exprs, No, More}
 use Rattle.mj_ast.specs.Expressions.{Symbol, Constant, Name, Overlong, Mark, count}
 
@@ -15,19 +16,31 @@ use Rattle.mj_ast.specs.Expressions.{Symbol, Constant, Name, Overlong, Mark, cou
 abbrev pub unary_of : Sign → Option UnaryOp
 unary_of Plus = Some unary.Plus
 unary_of Minus = Some unary.Minus
+unary_of Apostrophe = Some unary.Not
 unary_of _ = None
 
 -- the binary operator of a sign
-abbrev pub binary_of : Sign → Option BinaryOp
+abbrev pub binary_of : Sign → Option Op
 binary_of Plus = Some binary.Add
 binary_of Minus = Some binary.Subtract
 binary_of Star = Some binary.Multiply
+binary_of Backslash = Some binary.Quotient
+binary_of Hash = Some binary.Remainder
+binary_of Slash = Some binary.Divide
 binary_of Underscore = Some binary.Join
-binary_of Equals = Some binary.Equal
+binary_of Equals = Some (binary.Is truth.Equal)
+binary_of Less = Some (binary.Is truth.Less)
+binary_of Greater = Some (binary.Is truth.Greater)
+binary_of OpenBracket = Some (binary.Is truth.Contains)
+binary_of CloseBracket = Some (binary.Is truth.Follows)
+binary_of CloseBrackets = Some (binary.Is truth.SortsAfter)
+binary_of Ampersand = Some (binary.Is truth.And)
+binary_of Exclamation = Some (binary.Is truth.Or)
+binary_of (Negated op) = Some (binary.IsNot op)
 binary_of _ = None
 
 -- with another operator and its operand behind
-abbrev pub and_then : Tails → BinaryOp → Operand → Tails
+abbrev pub and_then : Tails → Op → Operand → Tails
 and_then Done op x = Then op x Done
 and_then (Then o y rest) op x = Then o y (and_then rest op x)
 
@@ -48,7 +61,7 @@ mutual
   -- where an operand stands: at the front of an expression, behind a binary operator, behind a unary one
   pub data Within : Type 0 where
     Front : (o : Outer) → Within
-    Right : (first : Operand) (rest : Tails) (op : BinaryOp) (o : Outer) → Within
+    Right : (first : Operand) (rest : Tails) (op : Op) (o : Outer) → Within
     Under : (op : UnaryOp) (c : Within) → Within
 
   -- where a variable stands: as an operand, or alone
@@ -184,7 +197,7 @@ hold_other m e o Close = close e o
 hold_other m e o Comma = comma m e o
 hold_other m e o _ = Stuck
 
-abbrev pub hold_sign : Limits → Operand → Tails → Outer → Sign → Option BinaryOp → Next
+abbrev pub hold_sign : Limits → Operand → Tails → Outer → Sign → Option Op → Next
 hold_sign m x r o s (Some op) = Go (Wanted (Right x r op o))
 hold_sign m x r o s None = hold_other m (Chain x r) o s
 

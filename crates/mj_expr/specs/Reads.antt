@@ -2,7 +2,7 @@
 use Rattle.std.specs.Prelude.{ℕ, ◌≡◌, ◌≤◌, List, ◌∷◌, length, map, Result, Ok, Err, Some, None}
 use Rattle.mj_ast.specs.declared.sign.Sign.TheVariants.{Caret, Open, Comma, Close}
 use Rattle.mj_ast.specs.declared.sign.Sign.{Sign}
-use Rattle.mj_ast.specs.declared.expr.BinaryOp.{BinaryOp}
+use Rattle.mj_oper.specs.declared.op.Op.{Op}
 use Rattle.mj_ast.specs.Expressions.{Symbol, Constant, Name, Mark, symbol, width_limit}
 use Rattle.mj_lex.specs.declared.token.Lexeme.{Lexeme}
 use Rattle.mj_lex.specs.Seen.{tokens_seen}
@@ -54,7 +54,7 @@ IsHead (head.Unary s op) k = (k ≡ Mark s) × (unary_of s ≡ Some op)
 IsHead head.Nothing k = BeginsNone k
 
 -- the sign of this binary operator stands in front
-pub record StartsBinary (op : BinaryOp) (ks rest : List Symbol) : Type 0 where
+pub record StartsBinary (op : Op) (ks rest : List Symbol) : Type 0 where
   pub sign : Sign
   pub starts : ks ≡ Mark sign ∷ rest
   pub means : binary_of sign ≡ Some op

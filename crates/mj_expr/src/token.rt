@@ -9,9 +9,10 @@ ghost use Rattle.mj_num.specs.Number.{reading};
 ghost use Rattle.mj_lex.specs.Seen.{token_seen};
 
 use crate::stop::Stop;
-use mj_ast::{BinaryOp, Sign, UnaryOp};
+use mj_ast::Sign;
 use mj_lex::{Lexeme, Token, next, unquoted};
 use mj_num::Num;
+use mj_oper::{Op, TruthOp, UnaryOp};
 use mj_text::{Failure, TEXT_LIMIT, Text};
 use std::alloc::{AllocError, Global};
 
@@ -44,19 +45,31 @@ fn unary(sign: Sign) -> Option<UnaryOp>
     match sign {
         Sign::Plus => Some(UnaryOp::Plus),
         Sign::Minus => Some(UnaryOp::Minus),
+        Sign::Apostrophe => Some(UnaryOp::Not),
         _ => None,
     }
 }
 
-fn binary(sign: Sign) -> Option<BinaryOp>
+fn binary(sign: Sign) -> Option<Op>
     ensures { result ≡ binary_of sign }
 {
     match sign {
-        Sign::Plus => Some(BinaryOp::Add),
-        Sign::Minus => Some(BinaryOp::Subtract),
-        Sign::Star => Some(BinaryOp::Multiply),
-        Sign::Underscore => Some(BinaryOp::Join),
-        Sign::Equals => Some(BinaryOp::Equal),
+        Sign::Plus => Some(Op::Add),
+        Sign::Minus => Some(Op::Subtract),
+        Sign::Star => Some(Op::Multiply),
+        Sign::Backslash => Some(Op::Quotient),
+        Sign::Hash => Some(Op::Remainder),
+        Sign::Slash => Some(Op::Divide),
+        Sign::Underscore => Some(Op::Join),
+        Sign::Equals => Some(Op::Is(TruthOp::Equal)),
+        Sign::Less => Some(Op::Is(TruthOp::Less)),
+        Sign::Greater => Some(Op::Is(TruthOp::Greater)),
+        Sign::OpenBracket => Some(Op::Is(TruthOp::Contains)),
+        Sign::CloseBracket => Some(Op::Is(TruthOp::Follows)),
+        Sign::CloseBrackets => Some(Op::Is(TruthOp::SortsAfter)),
+        Sign::Ampersand => Some(Op::Is(TruthOp::And)),
+        Sign::Exclamation => Some(Op::Is(TruthOp::Or)),
+        Sign::Negated(op) => Some(Op::IsNot(op)),
         _ => None,
     }
 }
@@ -115,7 +128,7 @@ pub(crate) fn taken<'a, 't>(tokens: &'t [Lexeme<'a>]) -> Option<(Token<'a>, &'t 
 /// The binary operator in front and the tokens behind it.
 pub(crate) fn behind_binary<'a, 't>(
     tokens: &'t [Lexeme<'a>],
-) -> Option<(BinaryOp, &'t [Lexeme<'a>])>
+) -> Option<(Op, &'t [Lexeme<'a>])>
     ensures { MatchOption result (HasNoBinary (symbols_seen tokens.now)) (λ x. StartsBinary x.0 (symbols_seen tokens.now) (symbols_seen x.1.now) × (length x.1.now < length tokens.now)) }
 {
     match taken(tokens) {

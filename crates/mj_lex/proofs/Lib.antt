@@ -1,2 +1,4 @@
 pub mod Quotes
 pub mod Tokenise
+mod Fronts
+mod Signs

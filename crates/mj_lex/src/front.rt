@@ -1,11 +1,12 @@
 // The token at the front of the bytes of a line.
 
 ghost use Rattle.std.specs.Prelude.{◌∷◌, ◌≡◌, ◌<◌, ◌≤◌, ◌+◌, [], length, take_while, IfSome, IfOk, MatchOption, drop};
-ghost use Rattle.mj_ast.specs.Tokens.{front_of, lexemes, quotation, quoted_token, class_of, is_digit, continues_word};
+ghost use Rattle.mj_ast.specs.Tokens.{front_of, lexemes, quotation, quoted_token, class_of, is_digit, continues_word, bracket_front, truth_front, longest_sign};
 ghost use Rattle.mj_lex.specs.Seen.{BeginsWith, placed, places_seen, class_seen, token_seen};
 
 use crate::token::{Lexeme, Token};
 use mj_ast::Sign;
+use mj_oper::TruthOp;
 use std::alloc::{AllocError, Global};
 
 /// What a byte begins.
@@ -32,14 +33,23 @@ fn begun_by(byte: u8) -> Class
         b'+' => Class::Sign(Sign::Plus),
         b'-' => Class::Sign(Sign::Minus),
         b'*' => Class::Sign(Sign::Star),
+        b'\\' => Class::Sign(Sign::Backslash),
+        b'#' => Class::Sign(Sign::Hash),
+        b'/' => Class::Sign(Sign::Slash),
         b'_' => Class::Sign(Sign::Underscore),
         b'=' => Class::Sign(Sign::Equals),
+        b'<' => Class::Sign(Sign::Less),
+        b'>' => Class::Sign(Sign::Greater),
+        b'[' => Class::Sign(Sign::OpenBracket),
+        b']' => Class::Sign(Sign::CloseBracket),
+        b'&' => Class::Sign(Sign::Ampersand),
+        b'!' => Class::Sign(Sign::Exclamation),
+        b'\'' => Class::Sign(Sign::Apostrophe),
         b'^' => Class::Sign(Sign::Caret),
         b'(' => Class::Sign(Sign::Open),
         b')' => Class::Sign(Sign::Close),
         b',' => Class::Sign(Sign::Comma),
         b':' => Class::Sign(Sign::Colon),
-        b'!' => Class::Sign(Sign::Exclamation),
         _ => Class::Other,
     }
 }
@@ -94,6 +104,55 @@ fn quoted(bytes: &[u8]) -> (Token<'_>, &[u8])
     (Token::Unclosed(bytes), &bytes[bytes.len()..])
 }
 
+/// The truth operator of a `]`, by the bytes behind it.
+fn bracket(rest: &[u8]) -> TruthOp
+    ensures { result ≡ bracket_front rest.now }
+{
+    match rest {
+        [b']', ..] => TruthOp::SortsAfter,
+        _ => TruthOp::Follows,
+    }
+}
+
+/// The truth operator in front.
+fn truth(bytes: &[u8]) -> Option<TruthOp>
+    ensures { result ≡ truth_front bytes.now }
+{
+    let Some((first, rest)) = first(bytes) else {
+        return None;
+    };
+    match first {
+        b'=' => Some(TruthOp::Equal),
+        b'<' => Some(TruthOp::Less),
+        b'>' => Some(TruthOp::Greater),
+        b'[' => Some(TruthOp::Contains),
+        b']' => Some(bracket(rest)),
+        b'&' => Some(TruthOp::And),
+        b'!' => Some(TruthOp::Or),
+        _ => None,
+    }
+}
+
+/// The longest sign that begins as this one, by the bytes behind that, and what follows it.
+fn longest(sign: Sign, rest: &[u8]) -> (Sign, &[u8])
+    ensures sign { result.0 ≡ (longest_sign sign rest.now).0 }
+    ensures rest { result.1.now ≡ drop (longest_sign sign rest.now).1 rest.now }
+    ensures within { length result.1.now ≤ length rest.now }
+{
+    match sign {
+        Sign::CloseBracket => match bracket(rest) {
+            TruthOp::SortsAfter => (Sign::CloseBrackets, &rest[1..]),
+            _ => (sign, rest),
+        },
+        Sign::Apostrophe => match truth(rest) {
+            Some(TruthOp::SortsAfter) => (Sign::Negated(TruthOp::SortsAfter), &rest[2..]),
+            Some(op) => (Sign::Negated(op), &rest[1..]),
+            None => (sign, rest),
+        },
+        _ => (sign, rest),
+    }
+}
+
 /// The first byte, and those behind it.
 fn first(bytes: &[u8]) -> Option<(u8, &[u8])>
     ensures { MatchOption result (bytes.now ≡ []) (λ x. bytes.now ≡ x.0 ∷ x.1.now) }
@@ -123,7 +182,10 @@ fn begun<'a>(bytes: &'a [u8], first: u8, rest: &'a [u8]) -> (Token<'a>, &'a [u8]
         Class::Quote => quoted(rest),
         Class::Blank => (Token::Blank, rest),
         Class::Comment => (Token::Comment(rest), &rest[rest.len()..]),
-        Class::Sign(sign) => (Token::Sign(sign), rest),
+        Class::Sign(sign) => {
+            let (sign, rest) = longest(sign, rest);
+            (Token::Sign(sign), rest)
+        }
         Class::Other => (Token::Stray(first), rest),
     }
 }
