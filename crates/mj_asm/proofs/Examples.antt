@@ -1,7 +1,6 @@
 -- The code of a small routine, by computing. Its text stands above it, a `/` between its lines.
 use Rattle.std.specs.Prelude.{◌≡◌, refl, ℕ, List, [], ◌∷◌, Some, None, codes}
 use Rattle.mj_ast.specs.declared.expr.Scope.TheVariants.{Local, Global}
-use Rattle.mj_ast.specs.declared.expr.BinaryOp.TheVariants as written
 use Rattle.mj_ast.specs.declared.routine.Mark.TheVariants.{NewLine}
 use Rattle.mj_ast.specs.Syntax.{Chain, Done, Then, Operand, Literal, Value, Var, No, More, Set, Write, Shown, Format, Halt, Line}
 use Rattle.mj_oper.specs.declared.op.Op.TheVariants.{Add, Is}
@@ -19,9 +18,9 @@ text =
     record {
       label = Some (codes "A");
       steps =
-          record { condition = None; command = Set (record { destination = Var Global (codes "X") (More (Chain (lit 49) Done) No); value = Chain (lit 50) (Then written.Add (lit 51) Done) } ∷ []) }
+          record { condition = None; command = Set (record { destination = Var Global (codes "X") (More (Chain (lit 49) Done) No); value = Chain (lit 50) (Then Add (lit 51) Done) } ∷ []) }
           ∷ record {
-            condition = Some (Chain (Value (Var Local (codes "Y") No)) (Then written.Equal (lit 52) Done));
+            condition = Some (Chain (Value (Var Local (codes "Y") No)) (Then (Is Equal) (lit 52) Done));
             command = Write (Shown (Chain (lit 53) Done) ∷ Format (NewLine ∷ NewLine ∷ []) ∷ []);
           } ∷ [];
     }

@@ -6,7 +6,6 @@ use Rattle.std.specs.Prelude.{slice_get}
 use Rattle.mj_subs.specs.Name.{Name}
 use Rattle.mj_oper.specs.Operators.{binary_value, unary_value, truth_value}
 use Rattle.mj_ast.specs.Syntax.{Expr, Chain, Tails, Done, Then, Operand, Literal, Value, Unary, Group, Variable, Var, Exprs, No, More, Assignment, Output, Shown, Format, Command, Set, Write, Halt, Step}
-use Rattle.mj_semantics.specs.Operations.{binary_op, unary_op}
 use Rattle.mj_semantics.specs.Outcome.{Timed, turn, given}
 use Rattle.mj_semantics.specs.Evaluation.{ev, ev_tails, ev_operand, ev_name, ev_all, name_of, read, when}
 use Rattle.mj_semantics.specs.Points.{Ways}
@@ -95,12 +94,12 @@ module _ (u : unit.Unit) where
       tails_follow Done pc v stack rest has k = moved pc (pc + 0) (v ∷ stack) (rest v) (omega arith) (k v)
       tails_follow (Then op x ts) pc v stack rest has k =
           let cx = operand_code x in
-          let i = instr.Binary (binary_op op) in
+          let i = instr.Binary op in
           let back = has_back code pc cx (i ∷ tails_code ts) has in
           let len : pc + length cx + 1 + length (tails_code ts) ≡ pc + length (cx ++ i ∷ tails_code ts) = omega (arith, length-append cx (i ∷ tails_code ts)) in
           operand_follows x pc (v ∷ stack) _ (has_front code pc cx _ has) (λ w.
           one (pc + length cx) (w ∷ v ∷ stack) i _ back.0 (λ n lt.
-          given_at n (binary_value (binary_op op) v w) _ _ (λ r e.
+          given_at n (binary_value op v w) _ _ (λ r e.
           (tails_follow ts (pc + length cx + 1) r stack rest back.1 (λ q. moved _ _ (q ∷ stack) (rest q) len (k q))).by n (omega arith))))
 
       operand_follows : (x : Operand) (pc : ℕ) (stack : Stack) (rest : List ℕ → Timed) → HasAt code pc (operand_code x) → ((v : List ℕ) → Agree b (from (pc + length (operand_code x)) (v ∷ stack)) (rest v)) → Agree b (from pc stack) (ev_operand x rest)
@@ -115,10 +114,10 @@ module _ (u : unit.Unit) where
           read_at n x _ _ (λ w. (moved _ _ (w ∷ stack) (rest w) (end_of pc cs i) (k w)).by n (omega arith))))
       operand_follows (Unary op x) pc stack rest has k =
           let cx = operand_code x in
-          let i = instr.Unary (unary_op op) in
+          let i = instr.Unary op in
           operand_follows x pc stack _ (has_front code pc cx _ has) (λ v.
           one (pc + length cx) (v ∷ stack) i _ (has_back code pc cx _ has).0 (λ n lt.
-          given_at n (unary_value (unary_op op) v) _ _ (λ r e. (moved _ _ (r ∷ stack) (rest r) (end_of pc cx i) (k r)).by n (omega arith))))
+          given_at n (unary_value op v) _ _ (λ r e. (moved _ _ (r ∷ stack) (rest r) (end_of pc cx i) (k r)).by n (omega arith))))
       operand_follows (Group e) pc stack rest has k = expr_follows e pc stack rest has k
 
       -- a variable's subscripts, and an instruction that takes its name

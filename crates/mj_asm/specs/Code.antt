@@ -1,7 +1,6 @@
 -- The instructions of each piece of a routine.
 use Rattle.std.specs.Prelude.{ℕ, ◌+◌, List, [], ◌∷◌, ◌++◌, Option, Some, None, length}
 use Rattle.mj_ast.specs.Syntax.{Expr, Chain, Tails, Done, Then, Operand, Literal, Value, Unary, Group, Variable, Var, Exprs, No, More, Assignment, Output, Shown, Format, Command, Set, Write, Halt, Step, Line}
-use Rattle.mj_semantics.specs.Operations.{binary_op, unary_op}
 use Rattle.mj_pcode.specs.declared.instr.Reference.{Reference}
 use Rattle.mj_pcode.specs.declared.instr.Instr.{Instr}
 use Rattle.mj_pcode.specs.declared.instr.Instr.TheVariants as instr
@@ -21,12 +20,12 @@ abbrev mutual
 
   pub tails_code : Tails → List Instr
   tails_code Done = []
-  tails_code (Then op x ts) = operand_code x ++ instr.Binary (binary_op op) ∷ tails_code ts
+  tails_code (Then op x ts) = operand_code x ++ instr.Binary op ∷ tails_code ts
 
   pub operand_code : Operand → List Instr
   operand_code (Literal t) = instr.Push t ∷ []
   operand_code (Value v) = subscripts_code v ++ instr.Load (reference v) ∷ []
-  operand_code (Unary op x) = operand_code x ++ instr.Unary (unary_op op) ∷ []
+  operand_code (Unary op x) = operand_code x ++ instr.Unary op ∷ []
   operand_code (Group e) = expr_code e
 
   pub subscripts_code : Variable → List Instr

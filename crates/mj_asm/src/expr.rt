@@ -2,12 +2,10 @@
 
 ghost use Rattle.std.specs.Prelude.{◌≡◌, [], ◌∷◌, ◌++◌, IfOk, OnOk};
 ghost use Rattle.mj_ast.specs.Trees.{operand_of, expr_of, variable_of, tails_of, exprs_of};
-ghost use Rattle.mj_semantics.specs.Operations as operations;
 ghost use Rattle.mj_asm.specs.Code.{operand_code, expr_code, tails_code, exprs_code, subscripts_code};
 ghost use Rattle.mj_asm.specs.Code as code_spec;
 
-use mj_ast::{BinaryOp, Expr, Operand, Tail, UnaryOp, Variable};
-use mj_oper::{Op, TruthOp};
+use mj_ast::{Expr, Operand, Tail, Variable};
 use mj_pcode::{Instr, Reference};
 use std::alloc::AllocError;
 
@@ -35,7 +33,7 @@ fn emit_tails(code: &mut Vec<Instr>, tails: &[Tail]) -> Result<(), AllocError>
 {
     for tail in tails {
         emit_operand(code, &tail.operand)?;
-        put(code, Instr::Binary(binary_op(tail.op)))?;
+        put(code, Instr::Binary(tail.op))?;
     }
     Ok(())
 }
@@ -56,7 +54,7 @@ fn emit_operand(code: &mut Vec<Instr>, operand: &Operand) -> Result<(), AllocErr
         }
         Operand::Unary(op, inner) => {
             emit_operand(code, inner)?;
-            put(code, Instr::Unary(unary_op(*op)))
+            put(code, Instr::Unary(*op))
         }
         Operand::Group(e) => emit_expr(code, e),
     }
@@ -89,25 +87,4 @@ pub fn reference(variable: &Variable) -> Result<Reference, AllocError>
         word: variable.word.try_clone()?,
         count: variable.subscripts.len(),
     })
-}
-
-fn binary_op(op: BinaryOp) -> Op
-    ensures { result ≡ operations.binary_op op }
-{
-    match op {
-        BinaryOp::Add => Op::Add,
-        BinaryOp::Subtract => Op::Subtract,
-        BinaryOp::Multiply => Op::Multiply,
-        BinaryOp::Join => Op::Join,
-        BinaryOp::Equal => Op::Is(TruthOp::Equal),
-    }
-}
-
-fn unary_op(op: UnaryOp) -> mj_oper::UnaryOp
-    ensures { result ≡ operations.unary_op op }
-{
-    match op {
-        UnaryOp::Plus => mj_oper::UnaryOp::Plus,
-        UnaryOp::Minus => mj_oper::UnaryOp::Minus,
-    }
 }

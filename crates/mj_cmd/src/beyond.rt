@@ -69,7 +69,11 @@ fn wanted(open: &mut Vec<Open>, place: Place, token: Token) -> Result<Turn, Allo
         Token::Sign(Sign::Caret) if !name => Turn::Goes(Place::Name),
         Token::Quoted(_) if operand => Turn::Goes(Place::Behind),
         Token::Digits(digits) if operand && in_range(digits) => Turn::Goes(Place::Behind),
-        Token::Sign(Sign::Plus) | Token::Sign(Sign::Minus) if operand => Turn::Goes(Place::Operand),
+        Token::Sign(Sign::Plus) | Token::Sign(Sign::Minus) | Token::Sign(Sign::Apostrophe)
+            if operand =>
+        {
+            Turn::Goes(Place::Operand)
+        }
         Token::Sign(Sign::Open) if operand => {
             open.push(Open::Group)?;
             Turn::Goes(Place::Operand)
@@ -107,8 +111,19 @@ fn joins(token: Token) -> bool {
         Token::Sign(Sign::Plus)
             | Token::Sign(Sign::Minus)
             | Token::Sign(Sign::Star)
+            | Token::Sign(Sign::Backslash)
+            | Token::Sign(Sign::Hash)
+            | Token::Sign(Sign::Slash)
             | Token::Sign(Sign::Underscore)
             | Token::Sign(Sign::Equals)
+            | Token::Sign(Sign::Less)
+            | Token::Sign(Sign::Greater)
+            | Token::Sign(Sign::OpenBracket)
+            | Token::Sign(Sign::CloseBracket)
+            | Token::Sign(Sign::CloseBrackets)
+            | Token::Sign(Sign::Ampersand)
+            | Token::Sign(Sign::Exclamation)
+            | Token::Sign(Sign::Negated(_))
     )
 }
 

@@ -1,9 +1,10 @@
 -- Worked rows of the machine.
 use Rattle.std.proofs.Common.{◌≡◌, ℕ, [], ◌∷◌, refl, map}
-use Rattle.mj_ast.specs.declared.sign.Sign.TheVariants.{Plus, Minus, Equals, Caret, Open, Close, Comma}
+use Rattle.mj_ast.specs.declared.sign.Sign.TheVariants.{Plus, Minus, Star, Equals, CloseBrackets, Apostrophe, Negated, Caret, Open, Close, Comma}
 use Rattle.mj_ast.specs.declared.expr.Scope.TheVariants.{Local, Global}
 use Rattle.mj_oper.specs.declared.op.UnaryOp.TheVariants as unary
 use Rattle.mj_oper.specs.declared.op.Op.TheVariants as binary
+use Rattle.mj_oper.specs.declared.op.TruthOp.TheVariants as truth
 use Rattle.mj_ast.specs.Syntax.{Chain, Done, Then, Literal, Value, Unary, Group, Var, No, More}
 use Rattle.mj_ast.specs.Tokens.{Token, Word, Quoted, Signed, Blank, Unclosed}
 use Rattle.mj_ast.specs.Expressions.{symbol, expr_symbols, expr_nesting}
@@ -19,6 +20,22 @@ a = Word (65 ∷ [])
 whole_row : run (levels 1) (map symbol (a ∷ Signed Plus ∷ Signed Minus ∷ Quoted (120 ∷ []) ∷ Blank ∷ [])) (Wanted (Front Alone))
     ≡ Accept (Whole (Chain (Value (Var Local (65 ∷ []) No)) (Then binary.Add (Unary unary.Minus (Literal (120 ∷ []))) Done))) (map symbol (Blank ∷ []))
 whole_row = refl
+
+-- `A+A*A` is read from left to right, and `'A]]A'=A` too
+left_row : run (levels 1) (map symbol (a ∷ Signed Plus ∷ a ∷ Signed Star ∷ a ∷ [])) (Wanted (Front Alone))
+    ≡ Accept (Whole (Chain (Value (Var Local (65 ∷ []) No)) (Then binary.Add (Value (Var Local (65 ∷ []) No)) (Then binary.Multiply (Value (Var Local (65 ∷ []) No)) Done)))) []
+left_row = refl
+
+truth_row : run (levels 1) (map symbol (Signed Apostrophe ∷ a ∷ Signed CloseBrackets ∷ a ∷ Signed (Negated truth.Equal) ∷ a ∷ [])) (Wanted (Front Alone))
+    ≡ Accept (Whole (Chain (Unary unary.Not (Value (Var Local (65 ∷ []) No))) (Then (binary.Is truth.SortsAfter) (Value (Var Local (65 ∷ []) No)) (Then (binary.IsNot truth.Equal) (Value (Var Local (65 ∷ []) No)) Done)))) []
+truth_row = refl
+
+-- `'=` and `'` behind an operand are stuck there
+negated_row : run (levels 1) (map symbol (Signed (Negated truth.Equal) ∷ a ∷ [])) (Wanted (Front Alone)) ≡ StuckAt 2
+negated_row = refl
+
+apostrophe_row : run (levels 1) (map symbol (Signed Open ∷ a ∷ Signed Apostrophe ∷ a ∷ [])) (Wanted (Front Alone)) ≡ StuckAt 2
+apostrophe_row = refl
 
 -- `A+-"x"` opens a level too many at the `-` where none may be opened
 deep_row : run (levels 0) (map symbol (a ∷ Signed Plus ∷ Signed Minus ∷ Quoted (120 ∷ []) ∷ [])) (Wanted (Front Alone)) ≡ DeepAt 2

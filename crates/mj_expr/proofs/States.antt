@@ -3,7 +3,7 @@ use Rattle.std.proofs.Common.{◌≡◌, ℕ, ◌+◌, ◌≤◌, List, [], ◌�
 use Rattle.std.specs.Prelude.{cond, pos}
 use Rattle.mj_num.specs.Number.{canonic_text}
 use Rattle.mj_ast.specs.declared.sign.Sign.{Sign}
-use Rattle.mj_ast.specs.declared.sign.Sign.TheVariants.{Plus, Minus, Star, Underscore, Equals, Caret, Open, Close, Comma, Colon, Exclamation}
+use Rattle.mj_ast.specs.declared.sign.Sign.TheVariants.{Caret, Open, Comma}
 use Rattle.mj_ast.specs.declared.expr.Scope.{Scope}
 use Rattle.mj_ast.specs.declared.expr.Scope.TheVariants.{Global}
 use Rattle.mj_oper.specs.declared.op.UnaryOp.{UnaryOp}

@@ -5,8 +5,9 @@ use Rattle.mj_text.specs.declared.fault.Fault.TheVariants as faults
 use Rattle.mj_ask.specs.declared.ask.Ask.TheVariants as ask
 use Rattle.mj_ask.specs.declared.ask.Reply.{Reply}
 use Rattle.mj_ask.specs.declared.ask.Reply.TheVariants as reply
-use Rattle.mj_ast.specs.declared.expr.BinaryOp.TheVariants.{Add, Multiply, Join, Equal}
-use Rattle.mj_ast.specs.declared.expr.UnaryOp.TheVariants.{Minus}
+use Rattle.mj_oper.specs.declared.op.Op.TheVariants.{Add, Multiply, Join, Is}
+use Rattle.mj_oper.specs.declared.op.TruthOp.TheVariants.{Equal}
+use Rattle.mj_oper.specs.declared.op.UnaryOp.TheVariants.{Minus}
 use Rattle.mj_ast.specs.declared.routine.Mark.TheVariants.{NewLine}
 use Rattle.mj_ast.specs.Syntax.{Chain, Done, Then, Value, Unary, Group, Var, No, Set, Write, Shown, Format, Halt}
 use Rattle.mj_semantics.proofs.Talk.{asks, cmd, cmd_if, line, one, lit, local, local_at, global, name}
@@ -49,8 +50,8 @@ no_line = refl
 -- WRITE "a",! / WRITE:1=2 "b" WRITE:"x"=0 "c" WRITE:-3 "d" / HALT:"0" WRITE "" WRITE:1 "e"
 conditions : asks (
     line (cmd (Write (Shown (one (lit (codes "a"))) ∷ Format (NewLine ∷ []) ∷ [])) ∷ [])
-    ∷ line (cmd_if (Chain (lit (codes "1")) (Then Equal (lit (codes "2")) Done)) (Write (Shown (one (lit (codes "b"))) ∷ []))
-    ∷ cmd_if (Chain (lit (codes "x")) (Then Equal (lit (codes "0")) Done)) (Write (Shown (one (lit (codes "c"))) ∷ []))
+    ∷ line (cmd_if (Chain (lit (codes "1")) (Then (Is Equal) (lit (codes "2")) Done)) (Write (Shown (one (lit (codes "b"))) ∷ []))
+    ∷ cmd_if (Chain (lit (codes "x")) (Then (Is Equal) (lit (codes "0")) Done)) (Write (Shown (one (lit (codes "c"))) ∷ []))
     ∷ cmd_if (one (Unary Minus (lit (codes "3")))) (Write (Shown (one (lit (codes "d"))) ∷ [])) ∷ [])
     ∷ line (cmd_if (one (lit (codes "0"))) Halt ∷ cmd (Write (Shown (one (lit [])) ∷ [])) ∷ cmd_if (one (lit (codes "1"))) (Write (Shown (one (lit (codes "e"))) ∷ [])) ∷ [])
     ∷ []) (done 6 [])

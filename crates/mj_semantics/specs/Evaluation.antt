@@ -11,7 +11,6 @@ use Rattle.mj_ast.specs.declared.expr.Scope.{Scope}
 use Rattle.mj_ast.specs.declared.expr.Scope.TheVariants as scopes
 use Rattle.mj_ast.specs.Syntax.{Expr, Chain, Tails, Done, Then, Operand, Literal, Value, Unary, Group, Variable, Var, Exprs, No, More}
 use Rattle.mj_semantics.specs.State.{value_of}
-use Rattle.mj_semantics.specs.Operations.{binary_op, unary_op}
 use Rattle.mj_semantics.specs.Outcome.{Timed, turn, look, ask, need, given}
 
 -- whether a list of subscripts has an empty one
@@ -52,13 +51,13 @@ abbrev mutual
   pub ev_tails : List ℕ → Tails → (List ℕ → Timed) → Timed
   ev_tails v Done rest = rest v
   ev_tails v (Then op x ts) rest =
-      ev_operand x (λ w. turn (given (binary_value (binary_op op) v w) (λ u. ev_tails u ts rest)))
+      ev_operand x (λ w. turn (given (binary_value op v w) (λ u. ev_tails u ts rest)))
 
   -- 7.1: a literal, a variable, an operator with its operand, an expression in parentheses
   pub ev_operand : Operand → (List ℕ → Timed) → Timed
   ev_operand (Literal t) rest = turn (rest t)
   ev_operand (Value v) rest = ev_name v (λ x. read x rest)
-  ev_operand (Unary op x) rest = ev_operand x (λ v. turn (given (unary_value (unary_op op) v) rest))
+  ev_operand (Unary op x) rest = ev_operand x (λ v. turn (given (unary_value op v) rest))
   ev_operand (Group e) rest = ev e rest
 
   -- the name that a variable is: its subscripts in order, and then the whole

@@ -1,7 +1,6 @@
 pub mod State
 pub mod Faults
 pub mod Outcome
-pub mod Operations
 pub mod Evaluation
 pub mod Lines
 pub mod Points
