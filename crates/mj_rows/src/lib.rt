@@ -3,4 +3,6 @@
 #![tactic(auto)]
 
 #[cfg(test)]
+mod operators;
+#[cfg(test)]
 mod runs;

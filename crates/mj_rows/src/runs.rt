@@ -18,10 +18,10 @@ fn folder(rt: &HostRuntime, test: &str) -> Result<String, Fail> {
 
 // What a run printed on its two outputs, and its exit status.
 #[derive(Drop)]
-struct Ran {
-    out: Vec<u8>,
-    err: Vec<u8>,
-    status: u8,
+pub(crate) struct Ran {
+    pub(crate) out: Vec<u8>,
+    pub(crate) err: Vec<u8>,
+    pub(crate) status: u8,
 }
 
 fn run_words(rt: &HostRuntime, words: &[&str]) -> Ran {
@@ -32,7 +32,7 @@ fn run_words(rt: &HostRuntime, words: &[&str]) -> Ran {
 }
 
 // Runs a routine of these bytes from its first line.
-fn row(rt: &HostRuntime, test: &str, bytes: &str) -> Result<Ran, Fail> {
+pub(crate) fn row(rt: &HostRuntime, test: &str, bytes: &str) -> Result<Ran, Fail> {
     let folder = folder(rt, test)?;
     let file = format!(in rt.alloc(); "{folder}/R.m")?;
     fs::write(rt, file.as_str(), bytes)?;

@@ -9,7 +9,7 @@ use Rattle.mj_oper.specs.declared.op.Op.TheVariants.{Add, Multiply, Join, Is}
 use Rattle.mj_oper.specs.declared.op.TruthOp.TheVariants.{Equal}
 use Rattle.mj_oper.specs.declared.op.UnaryOp.TheVariants.{Minus}
 use Rattle.mj_ast.specs.declared.routine.Mark.TheVariants.{NewLine}
-use Rattle.mj_ast.specs.Syntax.{Chain, Done, Then, Value, Unary, Group, Var, No, Set, Write, Shown, Format, Halt}
+use Rattle.mj_ast.specs.Syntax.{Chain, Done, Then, Value, Unary, Set, Write, Shown, Format, Halt}
 use Rattle.mj_semantics.proofs.Talk.{asks, cmd, cmd_if, line, one, lit, local, local_at, global, name}
 
 abbrev zero_name : List ℕ

@@ -1,11 +1,10 @@
 -- What a job asks in a whole run, to state examples with, and short ways to write routines.
-use Rattle.std.specs.Prelude.{ℕ, List, [], ◌∷◌, ◌++◌, Option, Some, None, true, codes}
+use Rattle.std.specs.Prelude.{ℕ, List, [], ◌∷◌, ◌++◌, Some, None, true, codes}
 use Rattle.mj_ask.specs.declared.ask.Ask.{Ask}
 use Rattle.mj_ask.specs.declared.ask.Reply.{Reply}
-use Rattle.mj_ask.specs.declared.entry.Entry.{Entry}
 use Rattle.mj_subs.specs.Name.{Name}
 use Rattle.mj_ast.specs.declared.expr.Scope.TheVariants.{Local, Global}
-use Rattle.mj_ast.specs.Syntax.{Expr, Chain, Tails, Done, Operand, Literal, Value, Variable, Var, No, More as Another, Command, Step, Line}
+use Rattle.mj_ast.specs.Syntax.{Expr, Chain, Done, Operand, Literal, Variable, Var, No, More as Another, Command, Step, Line}
 use Rattle.mj_semantics.specs.Outcome.{Outcome, Needs, Ended, More}
 use Rattle.mj_semantics.specs.Job.{next}
 
