@@ -70,10 +70,7 @@ fn wanted(open: &mut Vec<Open>, place: Place, token: Token) -> Result<Turn, Allo
         Token::Quoted(_) if operand => Turn::Goes(Place::Behind),
         Token::Digits(digits) if operand && in_range(digits) => Turn::Goes(Place::Behind),
         Token::Sign(Sign::Plus) | Token::Sign(Sign::Minus) | Token::Sign(Sign::Apostrophe)
-            if operand =>
-        {
-            Turn::Goes(Place::Operand)
-        }
+            if operand => { Turn::Goes(Place::Operand) }
         Token::Sign(Sign::Open) if operand => {
             open.push(Open::Group)?;
             Turn::Goes(Place::Operand)

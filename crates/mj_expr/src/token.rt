@@ -126,9 +126,7 @@ pub(crate) fn taken<'a, 't>(tokens: &'t [Lexeme<'a>]) -> Option<(Token<'a>, &'t 
 }
 
 /// The binary operator in front and the tokens behind it.
-pub(crate) fn behind_binary<'a, 't>(
-    tokens: &'t [Lexeme<'a>],
-) -> Option<(Op, &'t [Lexeme<'a>])>
+pub(crate) fn behind_binary<'a, 't>(tokens: &'t [Lexeme<'a>]) -> Option<(Op, &'t [Lexeme<'a>])>
     ensures { MatchOption result (HasNoBinary (symbols_seen tokens.now)) (λ x. StartsBinary x.0 (symbols_seen tokens.now) (symbols_seen x.1.now) × (length x.1.now < length tokens.now)) }
 {
     match taken(tokens) {

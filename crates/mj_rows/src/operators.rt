@@ -9,17 +9,21 @@ fn operators_give_values(rt: HostRuntime) -> Result<(), Fail> {
     for (bytes, out, status) in [
         (" WRITE -7\\2,\" \",-7#2,\" \",7#-2\n", "-3 1 -1", 0),
         (" WRITE \"2x\"+3,\"abc\"=0,'\"a\"\n", "501", 0),
+        (" WRITE 10]9,10]]9,\"a\"]]9,'(2>1),2'>1\n", "01100", 0),
+        (" WRITE 2+3*4-1_\"x\"\n", "19x", 0),
         (
-            " WRITE 10]9,10]]9,\"a\"]]9,'(2>1),2'>1\n",
-            "01100",
+            " WRITE 8/4/2,\"banana\"[\"nan\",\"a\"'[\"b\",1&0!1,0'!0,'0'&1\n",
+            "111110",
             0,
         ),
-        (" WRITE 2+3*4-1_\"x\"\n", "19x", 0),
-        (" WRITE 8/4/2,\"banana\"[\"nan\",\"a\"'[\"b\",1&0!1,0'!0,'0'&1\n", "111110", 0),
         (" WRITE \"a\",5\\0\n", "a\nF2 DIVIDE R:1\n", 1),
         (" WRITE 1/2\n", "F3 FRACTION R:1\n", 1),
         (" WRITE 0&(1/0)\n", "F2 DIVIDE R:1\n", 1),
-        (" WRITE 1,!,'\"9999999999999999999\"", "1\nF4 RANGE R:1\n", 1),
+        (
+            " WRITE 1,!,'\"9999999999999999999\"",
+            "1\nF4 RANGE R:1\n",
+            1,
+        ),
     ] {
         let ran = row(&rt, "operators", bytes)?;
         assert_eq!(rt; str::from_utf8(&ran.out)?, out);
