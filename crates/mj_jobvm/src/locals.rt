@@ -1,7 +1,8 @@
 // The variables of a job.
 
 ghost use Rattle.std.specs.Prelude.{◌≡◌, [], OnOk, OnErr, option_copied};
-ghost use Rattle.mj_semantics.specs.State.{value_of, with_value};
+ghost use Rattle.mj_store.specs.Questions.{value_at};
+ghost use Rattle.mj_store.specs.Changes.{after_set};
 ghost use Rattle.mj_jobvm.specs.Entries.{IsPlace};
 
 use mj_subs::Name;
@@ -17,10 +18,9 @@ pub struct Locals {
 }
 
 impl Model for Locals {
-    ghost use Rattle.std.specs.Prelude.{List, ℕ};
-    ghost use Rattle.mj_subs.specs.Name.{Name};
+    ghost use Rattle.mj_store.specs.Questions.{Content};
 
-    ghost Value = { List (Name × List ℕ) };
+    ghost Value = { Content };
 
     ghost view = { λ l. l.entries.items };
 }
@@ -44,7 +44,7 @@ impl Locals {
 
     /// The value of a name, if it has one.
     pub fn get(&self, name: &Name) -> Option<&Text>
-        ensures { option_copied result ≡ value_of name.now self.now }
+        ensures { option_copied result ≡ value_at self.now name.now }
     {
         for (key, value) in &self.entries {
             if name.cmp(key).is_eq() {
@@ -56,7 +56,7 @@ impl Locals {
 
     /// Gives a name a value.
     pub fn set(&mut self, name: Name, value: Text) -> Result<(), AllocError>
-        ensures ok { OnOk result (self.new ≡ with_value name value self.old) }
+        ensures ok { OnOk result (self.new ≡ after_set self.old name value) }
         ensures err { OnErr result (self.new ≡ self.old) }
     {
         match place_of(&self.entries, &name) {

@@ -1,10 +1,12 @@
 // Reading and assigning variables.
 
-ghost use Rattle.std.specs.Prelude.{◌≡◌, ◌+◌, ◌<◌, ◌^◌, ◌∷◌, drop, List, ℕ, Option, true, false, IfOk, OnErr};
+ghost use Rattle.std.specs.Prelude.{◌≡◌, ◌+◌, ◌<◌, ◌^◌, ◌∷◌, drop, List, ℕ, Option, true, false, Ok, Err, IfOk, IfErr, OnErr};
 ghost use Rattle.mj_ask.specs.declared.ask.Reply as replies;
 ghost use Rattle.mj_semantics.specs.Outcome as told;
 ghost use Rattle.mj_semantics.specs.Commands as commands;
 ghost use Rattle.mj_semantics.specs.Evaluation as evaluation;
+ghost use Rattle.mj_semantics.specs.Accesses.{answer_told};
+ghost use Rattle.mj_jobvm.specs.Answers as answers;
 ghost use Rattle.mj_pcode.specs.Machine.{top, below, operands};
 ghost use Rattle.mj_jobvm.specs.Kept.{standing, stack_of, Does, replied};
 
@@ -15,6 +17,7 @@ use crate::quiet::fail;
 use crate::stack;
 use mj_ask::{Ask, Reply};
 use mj_pcode::Reference;
+use mj_store::{Access, Answer};
 use mj_subs::Name;
 use mj_text::{Fault, Text};
 use std::alloc::{AllocError, Global};
@@ -82,20 +85,44 @@ fn read_global(
     if machine.replied >= STEPS_LIMIT {
         return Ok(fail(Fault::Steps, machine));
     }
-    match given {
-        None => Ok(Step::Asks(Ask::Value(name))),
-        Some(Reply::Value(Some(value))) => {
+    let Some(reply) = given else {
+        return Ok(Step::Asks(Ask::Access(Access::Value(name))));
+    };
+    match value_read(reply) {
+        Ok(value) => {
             let value = value.try_clone()?;
             stack::replace(&mut machine.stack, count, value)?;
             machine.replied += 1;
             machine.control = Control::At(pc + 1);
             Ok(Step::Took)
         }
-        Some(Reply::Value(None) | Reply::Done) => {
+        Err(fault) => {
             machine.replied += 1;
-            machine.control = Control::Faulted(Fault::Undefined);
+            machine.control = Control::Faulted(fault);
             Ok(Step::Took)
         }
+    }
+}
+
+// The value that a reply brings to who reads.
+fn value_read(reply: &Reply) -> Result<&Text, Fault>
+    ensures ok { IfOk result (λ value. answers.value_read (answer_told reply.now) ≡ Ok value.now) }
+    ensures err { IfErr result (λ fault. answers.value_read (answer_told reply.now) ≡ Err fault) }
+{
+    match reply {
+        Reply::Answer(Answer::Value(Some(value))) => Ok(value),
+        Reply::Answer(Answer::Limit) => Err(Fault::Limit),
+        _ => Err(Fault::Undefined),
+    }
+}
+
+// Whether a reply says that a change is done.
+fn change_done(reply: &Reply) -> Result<(), Fault>
+    ensures { result ≡ answers.change_done (answer_told reply.now) }
+{
+    match reply {
+        Reply::Answer(Answer::Limit) => Err(Fault::Limit),
+        _ => Ok(()),
     }
 }
 
@@ -180,12 +207,19 @@ fn set_global(
     if machine.replied >= STEPS_LIMIT {
         return Ok(fail(Fault::Steps, machine));
     }
-    match given {
-        None => Ok(Step::Asks(Ask::Set(name, value))),
-        Some(_) => {
+    let Some(reply) = given else {
+        return Ok(Step::Asks(Ask::Access(Access::Set(name, value))));
+    };
+    match change_done(reply) {
+        Ok(()) => {
             stack::take_off_under(&mut machine.stack, count);
             machine.replied += 1;
             machine.control = Control::At(pc + 1);
+            Ok(Step::Took)
+        }
+        Err(fault) => {
+            machine.replied += 1;
+            machine.control = Control::Faulted(fault);
             Ok(Step::Took)
         }
     }

@@ -15,10 +15,9 @@ principal = 48 ∷ []
 abbrev pub taken : Ask → Reply → List ℕ
 taken (asks.DeviceBegin device) reply = []
 taken (asks.DeviceWrite device bytes) replies.Done = if bytes_eq device principal then bytes else []
-taken (asks.DeviceWrite device bytes) (replies.Value v) = []
+taken (asks.DeviceWrite device bytes) (replies.Answer a) = []
 taken (asks.DeviceEnd device) reply = []
-taken (asks.Value name) reply = []
-taken (asks.Set name value) reply = []
+taken (asks.Access a) reply = []
 taken (asks.Halt fault) reply = []
 
 -- the bytes that the principal device took, in order

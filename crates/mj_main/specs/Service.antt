@@ -1,24 +1,28 @@
 -- What one job is told that runs alone: by globals that are a plain list of names with texts, and by devices that take every
 -- byte.
-use Rattle.std.specs.Prelude.{◌≡◌, List, [], ◌∷◌, ⊤}
+use Rattle.std.specs.Prelude.{◌≡◌, List, [], ◌∷◌, ⊤, if◌then◌else◌}
 use Rattle.mj_ask.specs.declared.ask.Ask.{Ask}
 use Rattle.mj_ask.specs.declared.ask.Ask.TheVariants as asks
 use Rattle.mj_ask.specs.declared.ask.Reply.{Reply}
 use Rattle.mj_ask.specs.declared.ask.Reply.TheVariants as replies
-use Rattle.mj_store.specs.Questions.{Content, value_at}
-use Rattle.mj_store.specs.Changes.{after_set}
+use Rattle.mj_store.specs.Questions.{Content}
+use Rattle.mj_store.specs.Runs.{name_of, answer_of, after_access}
+use Rattle.mj_store.specs.declared.access.Access.{Access}
 
 -- the asks of a job and their replies, in order
 abbrev pub Log : Type 0
 Log = List (Ask × Reply)
+
+-- what an access is answered on: a global's on the globals, a local's on nothing, since no locals are shared
+abbrev pub seen : Content → Access → Content
+seen globals a = if (name_of a).global then globals else []
 
 -- the reply to an ask: what the globals say, and that all else is done
 abbrev pub reply_to : Content → Ask → Reply
 reply_to globals (asks.DeviceBegin device) = replies.Done
 reply_to globals (asks.DeviceWrite device bytes) = replies.Done
 reply_to globals (asks.DeviceEnd device) = replies.Done
-reply_to globals (asks.Value name) = replies.Value (value_at globals name)
-reply_to globals (asks.Set name value) = replies.Done
+reply_to globals (asks.Access a) = replies.Answer (answer_of a (seen globals a))
 reply_to globals (asks.Halt fault) = replies.Done
 
 -- the globals after an ask
@@ -26,8 +30,7 @@ abbrev pub globals_after : Content → Ask → Content
 globals_after globals (asks.DeviceBegin device) = globals
 globals_after globals (asks.DeviceWrite device bytes) = globals
 globals_after globals (asks.DeviceEnd device) = globals
-globals_after globals (asks.Value name) = globals
-globals_after globals (asks.Set name value) = after_set globals name value
+globals_after globals (asks.Access a) = if (name_of a).global then after_access a globals else globals
 globals_after globals (asks.Halt fault) = globals
 
 -- the globals after all asks of a log

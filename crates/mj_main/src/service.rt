@@ -1,11 +1,12 @@
 // The answers that one job gets that runs alone.
 
-ghost use Rattle.std.specs.Prelude.{◌≡◌, true, IfOk, OnOk, OnErr};
-ghost use Rattle.mj_ask.specs.Fits.{fits};
-ghost use Rattle.mj_main.specs.Service.{reply_to, globals_after};
+ghost use Rattle.std.specs.Prelude.{◌≡◌, true, IfOk, OnOk, OnErr, if◌then◌else◌};
+ghost use Rattle.mj_ask.specs.Fits.{fits, answers};
+ghost use Rattle.mj_main.specs.Service.{reply_to, globals_after, seen};
+ghost use Rattle.mj_store.specs.Runs.{name_of, answer_of, after_access};
 
 use mj_ask::{Ask, Reply};
-use mj_store::{Flat, Store};
+use mj_store::{Access, Answer, Flat, perform};
 use std::alloc::AllocError;
 
 /// Serves an ask over these globals. Devices take every byte.
@@ -16,16 +17,23 @@ pub fn serve(globals: &mut Flat, ask: &Ask) -> Result<Reply, AllocError>
     ensures err { OnErr result (globals.new ≡ globals.old) }
 {
     match ask {
-        Ask::Value(name) => match globals.value(name) {
-            None => Ok(Reply::Value(None)),
-            Some(value) => Ok(Reply::Value(Some(value.try_clone()?))),
-        },
-        Ask::Set(name, value) => {
-            globals.set(name, value)?;
-            Ok(Reply::Done)
-        }
+        Ask::Access(access) => Ok(Reply::Answer(accessed(globals, access)?)),
         Ask::DeviceBegin(_) | Ask::DeviceWrite(_, _) | Ask::DeviceEnd(_) | Ask::Halt(_) => Ok(
             Reply::Done,
         ),
     }
+}
+
+// An access to the globals. A local, of which nobody asks here, has no value, and stays so.
+fn accessed(globals: &mut Flat, access: &Access) -> Result<Answer, AllocError>
+    ensures reply { IfOk result (λ a. a ≡ answer_of access.now (seen globals.old access.now)) }
+    ensures fits { IfOk result (λ a. answers access.now a ≡ true) }
+    ensures ok { OnOk result (globals.new ≡ (if (name_of access.now).global then after_access access.now globals.old else globals.old)) }
+    ensures err { OnErr result (globals.new ≡ globals.old) }
+{
+    if access.name().is_global() {
+        return perform(globals, access);
+    }
+    let mut none = Flat::new(globals.allocator());
+    perform(&mut none, access)
 }

@@ -2,6 +2,8 @@
 use Rattle.std.specs.Prelude.{◌≡◌, refl, ℕ, List, [], ◌∷◌, ◌++◌, Some, None, codes, replicate}
 use Rattle.std.specs.Fmt.{digits}
 use Rattle.mj_text.specs.declared.fault.Fault.TheVariants as faults
+use Rattle.mj_store.specs.declared.access.Access.TheVariants as access
+use Rattle.mj_store.specs.declared.access.Answer.TheVariants as answer
 use Rattle.mj_ask.specs.declared.ask.Ask.TheVariants as ask
 use Rattle.mj_ask.specs.declared.ask.Reply.{Reply}
 use Rattle.mj_ask.specs.declared.ask.Reply.TheVariants as reply
@@ -23,8 +25,8 @@ done k replies = replicate k reply.Done ++ replies
 first_run : asks (
     line (cmd (Set (record { destination = global (codes "A"); value = Chain (lit (codes "2")) (Then Add (lit (codes "3")) (Then Multiply (lit (codes "4")) Done)) } ∷ []))
     ∷ cmd (Write (Shown (one (Value (global (codes "A")))) ∷ Format (NewLine ∷ []) ∷ [])) ∷ cmd Halt ∷ []) ∷ [])
-    (done 2 (reply.Value (Some (codes "20")) ∷ done 4 []))
-    ≡ ask.DeviceBegin zero_name ∷ ask.Set (name (codes "A")) (codes "20") ∷ ask.Value (name (codes "A"))
+    (done 1 (reply.Answer answer.Done ∷ reply.Answer (answer.Value (Some (codes "20"))) ∷ done 4 []))
+    ≡ ask.DeviceBegin zero_name ∷ ask.Access (access.Set (name (codes "A")) (codes "20")) ∷ ask.Access (access.Value (name (codes "A")))
     ∷ ask.DeviceWrite zero_name (codes "20") ∷ ask.DeviceWrite zero_name (10 ∷ []) ∷ ask.DeviceEnd zero_name ∷ ask.Halt None ∷ []
 unfolding digits
 first_run = refl
@@ -63,8 +65,8 @@ conditions = refl
 -- WRITE "a" / SET A(^B)=1/0: the subscripts come before the value, an empty one is found before the value is looked at
 subscript_first : asks (
     line (cmd (Set (record { destination = local_at (codes "A") (one (Value (global (codes "B")))); value = one (Value (local (codes "Z"))) } ∷ [])) ∷ []) ∷ [])
-    (done 1 (reply.Value (Some []) ∷ done 3 []))
-    ≡ ask.DeviceBegin zero_name ∷ ask.Value (name (codes "B")) ∷ ask.DeviceWrite zero_name (codes "F6 SUBSCRIPT R:1" ++ 10 ∷ [])
+    (done 1 (reply.Answer (answer.Value (Some [])) ∷ done 3 []))
+    ≡ ask.DeviceBegin zero_name ∷ ask.Access (access.Value (name (codes "B"))) ∷ ask.DeviceWrite zero_name (codes "F6 SUBSCRIPT R:1" ++ 10 ∷ [])
     ∷ ask.DeviceEnd zero_name ∷ ask.Halt (Some faults.Subscript) ∷ []
 unfolding digits
 subscript_first = refl

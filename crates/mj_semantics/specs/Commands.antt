@@ -2,20 +2,22 @@
 use Rattle.std.specs.Prelude.{ℕ, List, [], ◌∷◌, None, length, map, nat_lt, if◌then◌else◌}
 use Rattle.mj_text.specs.declared.fault.Fault.TheVariants.{Length}
 use Rattle.mj_subs.specs.Name.{Name}
+use Rattle.mj_store.specs.declared.access.Access.TheVariants as accesses
 use Rattle.mj_ask.specs.declared.ask.Ask.TheVariants as asks
 use Rattle.mj_ast.specs.declared.routine.Mark.{Mark}
 use Rattle.mj_ast.specs.declared.routine.Mark.TheVariants.{NewLine}
 use Rattle.mj_ast.specs.Syntax.{Assignment, Output, Shown, Format, Command, Set, Write, Halt, Step}
-use Rattle.mj_semantics.specs.State.{set_local, wrote}
+use Rattle.mj_semantics.specs.State.{wrote}
 use Rattle.mj_semantics.specs.Outcome.{Timed, turn, change, tell, end, fault, principal}
 use Rattle.mj_semantics.specs.Points.{Ways}
+use Rattle.mj_semantics.specs.Accesses.{access}
 use Rattle.mj_semantics.specs.Evaluation.{ev, ev_name, when}
 
 -- SET (8.2.18).
 
--- a name gets a value: a local at once, a global by an ask
+-- a name gets a value
 abbrev pub store : Name → List ℕ → Timed → Timed
-store x v rest = if x.global then tell (asks.Set x v) rest else change (set_local x v) rest
+store x v rest = access (accesses.Set x v) (λ a. rest)
 
 -- an argument: the destination's subscripts, then the value, then the assignment
 abbrev pub assign : Assignment → Timed → Timed

@@ -3,15 +3,19 @@ use Rattle.std.specs.Prelude.{ℕ, List, [], ◌∷◌, Option, None, Some, Bool
 use Rattle.mj_text.specs.declared.fault.Fault.{Fault}
 use Rattle.mj_text.specs.declared.fault.Fault.TheVariants.{Undefined, Subscript, Limit}
 use Rattle.mj_subs.specs.Name.{Name}
-use Rattle.mj_ask.specs.declared.ask.Ask.TheVariants as asks
-use Rattle.mj_ask.specs.declared.ask.Reply.{Reply}
-use Rattle.mj_ask.specs.declared.ask.Reply.TheVariants as replies
+use Rattle.mj_store.specs.declared.access.Access.TheVariants as accesses
 use Rattle.mj_oper.specs.Operators.{binary_value, unary_value, truth_value}
 use Rattle.mj_ast.specs.declared.expr.Scope.{Scope}
 use Rattle.mj_ast.specs.declared.expr.Scope.TheVariants as scopes
 use Rattle.mj_ast.specs.Syntax.{Expr, Chain, Tails, Done, Then, Operand, Literal, Value, Unary, Group, Variable, Var, Exprs, No, More}
+<<<<<<< HEAD
 use Rattle.mj_semantics.specs.State.{value_of}
 use Rattle.mj_semantics.specs.Outcome.{Timed, turn, look, ask, need, given}
+=======
+use Rattle.mj_semantics.specs.Operations.{binary_op, unary_op}
+use Rattle.mj_semantics.specs.Outcome.{Timed, turn, need, given}
+use Rattle.mj_semantics.specs.Accesses.{access, value_told}
+>>>>>>> 936d755 (Asks on trees: one ask for every access, with the answers of mj_store)
 
 -- whether a list of subscripts has an empty one
 abbrev pub has_empty : List (List ℕ) → Bool
@@ -30,17 +34,9 @@ name_of scope word ss =
     else if nat_lt 31 (length ss) then Err Limit
     else Ok (record { global = is_global scope; word = word; subscripts = ss })
 
--- the value that a reply brings
-abbrev pub value_told : Reply → Option (List ℕ)
-value_told replies.Done = None
-value_told (replies.Value v) = v
-
--- the value of a name: that of a local is at hand, that of a global is asked for (7.1.2); without one it is UNDEF
+-- the value of a name (7.1.2); without one it is UNDEF
 abbrev pub read : Name → (List ℕ → Timed) → Timed
-read x rest =
-    if x.global
-    then ask (asks.Value x) (λ r. need Undefined (value_told r) rest)
-    else look (λ s. need Undefined (value_of x s.locals) rest)
+read x rest = access (accesses.Value x) (λ a. need Undefined (value_told a) rest)
 
 abbrev mutual
   -- the value of an expression, and then the rest with it (7.2): each operator is applied once its right side has its

@@ -1,6 +1,7 @@
 pub mod State
 pub mod Faults
 pub mod Outcome
+pub mod Accesses
 pub mod Evaluation
 pub mod Lines
 pub mod Points

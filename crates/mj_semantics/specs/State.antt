@@ -1,18 +1,12 @@
 -- What a job holds for itself, and what changes it.
 use Rattle.std.specs.Prelude.{ℕ, ◌+◌, ◌==◌, List, [], ◌∷◌, Option, Some, None, map, if◌then◌else◌}
-use Rattle.std.specs.FinMap as finite
-use Rattle.mj_subs.specs.Name.{Name}
-use Rattle.mj_subs.specs.Collation.{name_cmp}
+use Rattle.mj_store.specs.Questions.{Content}
+use Rattle.mj_store.specs.Runs.{after_access}
+use Rattle.mj_store.specs.declared.access.Access.{Access}
 
 -- the locals that have a value, with it, by rising names
 abbrev pub Locals : Type 0
-Locals = List (Name × List ℕ)
-
-abbrev pub value_of : Name → Locals → Option (List ℕ)
-value_of x locals = finite.find name_cmp x locals
-
-abbrev pub with_value : Name → List ℕ → Locals → Locals
-with_value x v locals = finite.put name_cmp x v locals
+Locals = Content
 
 -- a line of a routine, by the routine's name; a routine's first line is line 1
 pub record Place : Type 0 where
@@ -42,8 +36,9 @@ place_of s = elim s.frames [ [] ↦ None | f ∷ fs ↦ Some f.place ]
 
 -- Changes.
 
-abbrev pub set_local : Name → List ℕ → State → State
-set_local x v s = record s { locals = with_value x v s.locals }
+-- an access to the locals was made
+abbrev pub accessed : Access → State → State
+accessed a s = record s { locals = after_access a s.locals }
 
 abbrev pub pushed : Place → State → State
 pushed p s = record s { frames = record { place = p } ∷ s.frames }

@@ -1,11 +1,23 @@
 -- What a list of accesses answers, and what it leaves.
 use Rattle.std.specs.Prelude.{cond, List, [], ◌∷◌}
+use Rattle.mj_subs.specs.Name.{Name}
 use Rattle.mj_store.specs.Questions.{Content, value_at, data_at, order_at, query_at, subtree_at}
 use Rattle.mj_store.specs.Changes.{after_set, after_kill, after_put, is_too_deep}
 use Rattle.mj_store.specs.declared.access.Access.{Access}
 use Rattle.mj_store.specs.declared.access.Access.TheVariants as access
 use Rattle.mj_store.specs.declared.access.Answer.{Answer}
 use Rattle.mj_store.specs.declared.access.Answer.TheVariants as answer
+
+-- the name that an access is to
+abbrev pub name_of : Access → Name
+name_of (access.Value n) = n
+name_of (access.Data n) = n
+name_of (access.Order n way) = n
+name_of (access.Query n) = n
+name_of (access.Subtree n) = n
+name_of (access.Set n text) = n
+name_of (access.Kill n) = n
+name_of (access.Put n nodes) = n
 
 -- the answer to an access. A change is answered that it is done, or that it would give a name too many subscripts
 abbrev pub answer_of : Access → Content → Answer

@@ -1,7 +1,7 @@
 // Lists of accesses to a store.
 
 ghost use Rattle.std.specs.Prelude.{◌≡◌, ℕ, take, IfOk, OnOk, OnErr};
-ghost use Rattle.mj_store.specs.Runs.{answer_of, after_access, answers_of, after_accesses};
+ghost use Rattle.mj_store.specs.Runs.{name_of, answer_of, after_access, answers_of, after_accesses};
 
 use crate::nodes::Nodes;
 use crate::store::{Direction, Store};
@@ -28,6 +28,24 @@ pub enum Access {
     Kill(Name),
     /// names below a name get texts
     Put(Name, Nodes),
+}
+
+impl Access {
+    /// The name that it is to.
+    pub fn name(&self) -> &Name
+        ensures { result.now ≡ name_of self.now }
+    {
+        match self {
+            Access::Value(name)
+            | Access::Data(name)
+            | Access::Order(name, _)
+            | Access::Query(name)
+            | Access::Subtree(name)
+            | Access::Set(name, _)
+            | Access::Kill(name)
+            | Access::Put(name, _) => name,
+        }
+    }
 }
 
 /// What an access is answered.
@@ -67,8 +85,8 @@ pub fn run<S: Store>(
     Ok(answers)
 }
 
-// Makes one access.
-fn perform<S: Store>(store: &mut S, access: &Access) -> Result<Answer, AllocError>
+/// Makes one access. After want of memory the store is as it was.
+pub fn perform<S: Store>(store: &mut S, access: &Access) -> Result<Answer, AllocError>
     ensures answer { IfOk result (λ a. a ≡ answer_of access.now (S.contents store.old)) }
     ensures content { OnOk result (S.contents store.new ≡ after_access access.now (S.contents store.old)) }
     ensures unchanged { OnErr result (S.contents store.new ≡ S.contents store.old) }

@@ -50,6 +50,11 @@ impl Flat {
         }
     }
 
+    /// Where its memory comes from.
+    pub fn allocator(&self) -> Global {
+        self.alloc
+    }
+
     // The same content once more.
     fn try_clone(&self) -> Result<Flat, AllocError>
         ensures { IfOk result (λ f. f ≡ self.now) }

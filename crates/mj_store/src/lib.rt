@@ -11,7 +11,7 @@ mod flat;
 mod nodes;
 mod store;
 
-pub use access::{Access, Answer, run};
+pub use access::{Access, Answer, perform, run};
 pub use flat::Flat;
 pub use nodes::Nodes;
 pub use store::{Direction, Store};

@@ -1,11 +1,13 @@
 use Rattle.std.proofs.Common.{◌+◌, drop, ◌∙◌}
 use Rattle.mj_text.specs.declared.fault.Fault.TheVariants.{Steps}
-use Rattle.mj_ask.specs.declared.ask.Ask.TheVariants.{Set}
-use Rattle.mj_semantics.specs.Outcome.{fault}
+use Rattle.mj_store.specs.declared.access.Access.TheVariants.{Set}
+use Rattle.mj_ask.specs.declared.ask.Ask.TheVariants.{Access}
+use Rattle.mj_semantics.specs.Outcome.{fault, given}
+use Rattle.mj_semantics.specs.Accesses.{answered, answer_told}
 use Rattle.mj_semantics.specs.Commands.{store}
 use Rattle.mj_pcode.specs.Machine.{below}
 use Rattle.mj_jobvm.specs.Kept.{stack_of, state_of, replied}
-use Rattle.mj_jobvm.proofs.Asks.{does_as, no_more, store_asks}
+use Rattle.mj_jobvm.proofs.Asks.{does_as, no_more, access_asks}
 use Rattle.mj_jobvm.proofs.variables.set_global.Goals as goal
 
 pub returns-then-machine-ge-STEPS_LIMIT-clause-ok : goal.returns-then-machine-ge-STEPS_LIMIT-clause-ok
@@ -14,6 +16,6 @@ returns-then-machine-ge-STEPS_LIMIT-clause-ok c =
     does_as (λ next. store c.args.name c.args.value (next (c.args.pc + 1) (drop c.args.count (below (stack_of old))))) (λ next. fault Steps)
     old (replied c.args.given) c.fail.result c.fail.new.machine
     (λ next n replies.
-    store_asks c.args.name c.args.value (next (c.args.pc + 1) (drop c.args.count (below (stack_of old)))) n (state_of old) replies c.requires.global
-    ∙ no_more (Set c.args.name c.args.value) (λ r. next (c.args.pc + 1) (drop c.args.count (below (stack_of old)))) n (state_of old) replies c.if-machine-ge-STEPS_LIMIT.true)
+    access_asks (Set c.args.name c.args.value) (λ a. next (c.args.pc + 1) (drop c.args.count (below (stack_of old)))) n (state_of old) replies c.requires.global
+    ∙ no_more (Access (Set c.args.name c.args.value)) (λ r. given (answered (answer_told r)) (λ a. next (c.args.pc + 1) (drop c.args.count (below (stack_of old))))) n (state_of old) replies c.if-machine-ge-STEPS_LIMIT.true)
     (c.fail.ensures (replied c.args.given))

@@ -1,0 +1,40 @@
+-- Questions on trees, and changes of them: of the job's own, and of the globals, which all jobs share.
+use Rattle.std.specs.Prelude.{ℕ, List, Option, None, Result, Ok, Err, if◌then◌else◌}
+use Rattle.mj_text.specs.declared.fault.Fault.{Fault}
+use Rattle.mj_text.specs.declared.fault.Fault.TheVariants.{Limit}
+use Rattle.mj_store.specs.Runs.{name_of, answer_of}
+use Rattle.mj_store.specs.declared.access.Access.{Access}
+use Rattle.mj_store.specs.declared.access.Answer.{Answer}
+use Rattle.mj_store.specs.declared.access.Answer.TheVariants as answers
+use Rattle.mj_ask.specs.declared.ask.Ask.TheVariants as asks
+use Rattle.mj_ask.specs.declared.ask.Reply.{Reply}
+use Rattle.mj_ask.specs.declared.ask.Reply.TheVariants as replies
+use Rattle.mj_semantics.specs.State.{accessed}
+use Rattle.mj_semantics.specs.Outcome.{Timed, look, change, ask, given}
+
+-- the answer that a reply brings
+abbrev pub answer_told : Reply → Answer
+answer_told replies.Done = answers.Done
+answer_told (replies.Answer a) = a
+
+-- an answer; that a limit is passed is LIMIT
+abbrev pub answered : Answer → Result Answer Fault
+answered answers.Limit = Err Limit
+answered (answers.Value v) = Ok (answers.Value v)
+answered (answers.Data d) = Ok (answers.Data d)
+answered (answers.Order s) = Ok (answers.Order s)
+answered (answers.Query x) = Ok (answers.Query x)
+answered (answers.Subtree nodes) = Ok (answers.Subtree nodes)
+answered answers.Done = Ok answers.Done
+
+-- an access, and then the rest with its answer: to a local at once, to a global by an ask
+abbrev pub access : Access → (Answer → Timed) → Timed
+access a rest =
+    if (name_of a).global
+    then ask (asks.Access a) (λ r. given (answered (answer_told r)) rest)
+    else look (λ s. change (accessed a) (given (answered (answer_of a s.locals)) rest))
+
+-- the value that an answer brings
+abbrev pub value_told : Answer → Option (List ℕ)
+value_told (answers.Value v) = v
+value_told _ = None
