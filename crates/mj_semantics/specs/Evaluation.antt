@@ -8,14 +8,8 @@ use Rattle.mj_oper.specs.Operators.{binary_value, unary_value, truth_value}
 use Rattle.mj_ast.specs.declared.expr.Scope.{Scope}
 use Rattle.mj_ast.specs.declared.expr.Scope.TheVariants as scopes
 use Rattle.mj_ast.specs.Syntax.{Expr, Chain, Tails, Done, Then, Operand, Literal, Value, Unary, Group, Variable, Var, Exprs, No, More}
-<<<<<<< HEAD
-use Rattle.mj_semantics.specs.State.{value_of}
-use Rattle.mj_semantics.specs.Outcome.{Timed, turn, look, ask, need, given}
-=======
-use Rattle.mj_semantics.specs.Operations.{binary_op, unary_op}
 use Rattle.mj_semantics.specs.Outcome.{Timed, turn, need, given}
 use Rattle.mj_semantics.specs.Accesses.{access, value_told}
->>>>>>> 936d755 (Asks on trees: one ask for every access, with the answers of mj_store)
 
 -- whether a list of subscripts has an empty one
 abbrev pub has_empty : List (List ℕ) → Bool
