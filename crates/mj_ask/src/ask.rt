@@ -71,7 +71,10 @@ fn answers(access: &Access, answer: &Answer) -> bool
         Answer::Order(_) => matches!(access, Access::Order(_, _)),
         Answer::Query(_) => matches!(access, Access::Query(_)),
         Answer::Subtree(_) => matches!(access, Access::Subtree(_)),
-        Answer::Done => matches!(access, Access::Set(_, _) | Access::Kill(_) | Access::Put(_, _)),
+        Answer::Done => matches!(
+            access,
+            Access::Set(_, _) | Access::Kill(_) | Access::Put(_, _)
+        ),
     }
 }
 

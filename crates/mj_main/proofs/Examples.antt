@@ -1,5 +1,5 @@
 -- The service and the output of one job alone, on rows.
-use Rattle.std.proofs.Common.{◌≡◌, [], ◌∷◌, None, Some, true, refl, codes}
+use Rattle.std.proofs.Common.{◌≡◌, [], ◌∷◌, None, Some, true, false, refl, codes}
 use Rattle.mj_subs.specs.Name.{Name}
 use Rattle.mj_store.specs.declared.access.Access.TheVariants as access
 use Rattle.mj_store.specs.declared.access.Answer.TheVariants as answer
