@@ -1,2 +1,3 @@
 pub mod Nest
 pub mod Falls
+pub mod Maps

@@ -142,6 +142,14 @@ impl Tree {
     }
 }
 
+impl Clone for Tree {
+    ghost is_clone = { λ t copy. copy ≡ t };
+
+    fn clone(&self) -> Result<Tree, AllocError> {
+        self.try_clone()
+    }
+}
+
 // Whether a list would follow the path with more subscripts than there can be.
 fn is_too_long(path: &Subs, nodes: &[(Subs, Text)]) -> bool
     ensures { result ≡ is_too_long path.now nodes.now }

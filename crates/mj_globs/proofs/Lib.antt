@@ -1,0 +1,4 @@
+pub mod Groups
+pub mod Spelled
+pub mod Changed
+pub mod Both

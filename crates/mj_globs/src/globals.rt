@@ -1,0 +1,219 @@
+// A store with a tree for each word.
+
+ghost use Rattle.std.specs.Prelude.{◌≡◌, ◌↔◌, [], List, ℕ, option_copied, IsTrue, IfOk, OnOk, OnErr, false};
+ghost use Rattle.std.specs.List.{list_any};
+ghost use Rattle.std.specs.FinMap.{find};
+ghost use Rattle.std.specs.Cmp.Lexicographic.{slice_cmp};
+ghost use Rattle.mj_subs.specs.Collation.{subscript_cmp};
+ghost use Rattle.mj_store.specs.Nodes.{subtree};
+ghost use Rattle.mj_store.specs.Questions.{with_subscripts, value_at, subtree_at};
+ghost use Rattle.mj_tree.specs.Nest.{nodes_of};
+ghost use Rattle.mj_globs.specs.Changes.{after_change, after_changes, goes_too_deep};
+ghost use Rattle.mj_text.specs.declared.fault.Failure.TheVariants as failure;
+ghost use Rattle.mj_text.specs.declared.fault.Fault.TheVariants as fault;
+
+use crate::change::Change;
+use crate::words::{self, Words};
+use mj_store::{Direction, Nodes, Store};
+use mj_subs::{Name, Sub, Subs};
+use mj_text::{Failure, Text};
+use mj_tree::Tree;
+use std::alloc::{AllocError, Global};
+use std::collections::BTreeMap;
+use std::marker::Model;
+
+/// A store over all words, with a tree for each.
+#[derive(Drop)]
+pub struct Globals {
+    alloc: Global,
+    globals: Words,
+    locals: Words,
+}
+
+impl Model for Globals {
+    ghost use Rattle.std.specs.Prelude.{T};
+    ghost use Rattle.std.specs.FinMap.{is_sorted};
+    ghost use Rattle.std.specs.Ordering.{nat_cmp};
+    ghost use Rattle.std.specs.Cmp.Lexicographic.{slice_cmp};
+    ghost use Rattle.mj_subs.specs.Collation.{name_cmp};
+    ghost use Rattle.mj_store.specs.Questions.{Content};
+    ghost use Rattle.mj_globs.specs.Words.{spelled, of_both, AreRising};
+
+    ghost Value = { Content };
+
+    ghost view = { λ a. of_both (spelled a.globals.entries) (spelled a.locals.entries) };
+
+    ghost invariant = { λ a. AreRising (spelled a.globals.entries) (spelled a.locals.entries) };
+}
+
+impl Globals {
+    /// A store without a name.
+    pub fn new(alloc: Global) -> Globals
+        ensures { result ≡ [] }
+    {
+        Globals {
+            alloc,
+            globals: BTreeMap::new(alloc),
+            locals: BTreeMap::new(alloc),
+        }
+    }
+
+    /// The same store once more.
+    pub fn try_clone(&self) -> Result<Globals, AllocError>
+        ensures { IfOk result (λ g. g ≡ self.now) }
+    {
+        Ok(Globals {
+            alloc: self.alloc,
+            globals: words::copy(&self.globals)?,
+            locals: words::copy(&self.locals)?,
+        })
+    }
+
+    /// Makes the changes in order, all of them or none. `Limit` where one would give a name too many subscripts.
+    pub fn apply(&mut self, changes: &[Change]) -> Result<(), Failure>
+        ensures ok { OnOk result (self.new ≡ after_changes self.old changes.now) }
+        ensures limit { result ≡ Err (failure.Fault fault.Limit) → IsTrue (list_any goes_too_deep changes.now) }
+        ensures within { OnOk result (list_any goes_too_deep changes.now ≡ false) }
+        ensures err { OnErr result (self.new ≡ self.old) }
+    {
+        let mut changed = match self.try_clone() {
+            Ok(changed) => changed,
+            Err(_) => return Err(Failure::Memory),
+        };
+        for change in changes {
+            changed.make(change)?;
+        }
+        *self = changed;
+        Ok(())
+    }
+
+    // Makes one change.
+    fn make(&mut self, change: &Change) -> Result<(), Failure>
+        ensures ok { OnOk result (self.new ≡ after_change self.old change.now) }
+        ensures limit { (result ≡ Err (failure.Fault fault.Limit)) ↔ IsTrue (goes_too_deep change.now) }
+        ensures within { OnOk result (goes_too_deep change.now ≡ false) }
+        ensures err { OnErr result (self.new ≡ self.old) }
+    {
+        match change {
+            Change::Set(name, text) => match self.set(name, text) {
+                Ok(()) => Ok(()),
+                Err(_) => Err(Failure::Memory),
+            },
+            Change::Kill(name) => {
+                self.kill(name);
+                Ok(())
+            }
+            Change::Put(name, nodes) => self.put(name, nodes),
+        }
+    }
+
+    // The tree of a name's word.
+    fn tree(&self, name: &Name) -> Option<&Tree>
+        ensures own { (p : List (List ℕ)) → subtree_at self.now (with_subscripts name.now p) ≡ subtree subscript_cmp p (nodes_of (option_copied result)) }
+        ensures value { value_at self.now name.now ≡ find (slice_cmp subscript_cmp) name.now.subscripts (nodes_of (option_copied result)) }
+    {
+        if name.is_global() {
+            words::find(&self.globals, name.word())
+        } else {
+            words::find(&self.locals, name.word())
+        }
+    }
+}
+
+impl Store for Globals {
+    ghost contents = { λ g. g };
+
+    fn rises(&self) {
+        let _globals = &self.globals;
+    }
+
+    fn value(&self, name: &Name) -> Option<&Text> {
+        self.tree(name)?.value(name.subscripts())
+    }
+
+    fn data(&self, name: &Name) -> u8 {
+        match self.tree(name) {
+            None => 0,
+            Some(tree) => tree.data(name.subscripts()),
+        }
+    }
+
+    fn order(&self, name: &Name, direction: Direction) -> Option<&Sub> {
+        self.tree(name)?.order(name.subscripts(), direction)
+    }
+
+    fn query(&self, name: &Name) -> Result<Option<Name>, AllocError> {
+        match self.tree(name) {
+            None => Ok(None),
+            Some(tree) => match tree.query(name.subscripts())? {
+                None => Ok(None),
+                Some(next) => Ok(Some(with(name, next)?)),
+            },
+        }
+    }
+
+    fn subtree(&self, name: &Name) -> Result<Nodes, AllocError> {
+        match self.tree(name) {
+            None => Ok(Nodes::new(self.alloc)),
+            Some(tree) => tree.subtree(name.subscripts()),
+        }
+    }
+
+    fn set(&mut self, name: &Name, text: &Text) -> Result<(), AllocError> {
+        if name.is_global() {
+            return words::set(
+                &mut self.globals,
+                self.alloc,
+                name.word(),
+                name.subscripts(),
+                text,
+            );
+        }
+        words::set(
+            &mut self.locals,
+            self.alloc,
+            name.word(),
+            name.subscripts(),
+            text,
+        )
+    }
+
+    fn kill(&mut self, name: &Name) {
+        if name.is_global() {
+            words::kill(&mut self.globals, name.word(), name.subscripts());
+            return;
+        }
+        words::kill(&mut self.locals, name.word(), name.subscripts());
+    }
+
+    fn put(&mut self, name: &Name, nodes: &Nodes) -> Result<(), Failure> {
+        if name.is_global() {
+            return words::put(
+                &mut self.globals,
+                self.alloc,
+                name.word(),
+                name.subscripts(),
+                nodes,
+            );
+        }
+        words::put(
+            &mut self.locals,
+            self.alloc,
+            name.word(),
+            name.subscripts(),
+            nodes,
+        )
+    }
+}
+
+// The name of the same kind and word with these subscripts.
+fn with(name: &Name, list: Subs) -> Result<Name, AllocError>
+    ensures { IfOk result (λ n. n ≡ with_subscripts name.now list) }
+{
+    let word = name.word().try_clone()?;
+    Ok(if name.is_global() {
+        Name::global(word, list)
+    } else {
+        Name::local(word, list)
+    })
+}

@@ -1,0 +1,13 @@
+// Globals: what stands at the names of all words.
+//
+// A contract sees a store as the list of its names in their order, each with its text, and every call through the trait as its
+// definition in `mj_store`. Each word has a tree of its own, which is found by the word's bytes, so a question or a change makes no more
+// comparisons than a tree does beside the logarithm of the number of words. A list of changes is made whole or not at all.
+#![tactic(auto)]
+
+mod change;
+mod globals;
+mod words;
+
+pub use change::Change;
+pub use globals::Globals;

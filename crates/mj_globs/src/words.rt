@@ -1,0 +1,127 @@
+// The words of one kind, each with its tree.
+
+ghost use Rattle.std.specs.Prelude.{◌≡◌, ◌↔◌, Bool, option_copied, IsTrue, IfOk, OnOk, OnErr, T};
+ghost use Rattle.std.specs.FinMap.{put, is_sorted};
+ghost use Rattle.std.specs.Map.{lookup, remove_entry};
+ghost use Rattle.std.specs.BTreeMap.{is_at, insert_entry};
+ghost use Rattle.std.specs.Ordering.{nat_cmp};
+ghost use Rattle.std.specs.Cmp.Lexicographic.{slice_cmp};
+ghost use Rattle.mj_subs.specs.Collation.{subscript_cmp, name_cmp};
+ghost use Rattle.mj_store.specs.Changes.{after_set, after_kill, after_put};
+ghost use Rattle.mj_tree.specs.Nest.{nodes_of, is_too_long};
+ghost use Rattle.mj_globs.specs.Words.{spelled, name, of_kind};
+ghost use Rattle.mj_text.specs.declared.fault.Failure.TheVariants as failure;
+ghost use Rattle.mj_text.specs.declared.fault.Fault.TheVariants as fault;
+
+use mj_store::Nodes;
+use mj_subs::Subs;
+use mj_text::{Digits, Failure, Text};
+use mj_tree::Tree;
+use std::alloc::{AllocError, Global};
+use std::collections::BTreeMap;
+
+/// Words by their bytes.
+pub type Words = BTreeMap<Vec<u8>, Tree>;
+
+/// The tree of a word.
+pub fn find<'a>(words: &'a Words, word: &Text) -> Option<&'a Tree>
+    ensures { option_copied result ≡ lookup (is_at (slice_cmp nat_cmp word.now)) (spelled words.now.entries) }
+{
+    let mut digits = Digits::new();
+    words.get(word.bytes(&mut digits))
+}
+
+/// Gives a text to a list of subscripts of a word.
+pub fn set(
+    words: &mut Words,
+    alloc: Global,
+    word: &Text,
+    path: &Subs,
+    text: &Text,
+) -> Result<(), AllocError>
+    requires { T (is_sorted (slice_cmp nat_cmp) (spelled words.now.entries)) }
+    ensures rises { T (is_sorted (slice_cmp nat_cmp) (spelled words.new.entries)) }
+    ensures ok { OnOk result ((g : Bool) → of_kind g (spelled words.new.entries) ≡ after_set (of_kind g (spelled words.old.entries)) (name g word.now path.now) text.now) }
+    ensures err { OnErr result (spelled words.new.entries ≡ spelled words.old.entries) }
+{
+    let mut digits = Digits::new();
+    let key = word.bytes(&mut digits);
+    match words.get_mut(key) {
+        Some(tree) => tree.set(path, text),
+        None => {
+            let mut tree = Tree::new(alloc);
+            tree.set(path, text)?;
+            add(words, alloc, key, tree)
+        }
+    }
+}
+
+/// Takes a list of subscripts of a word and what stands below it out.
+pub fn kill(words: &mut Words, word: &Text, path: &Subs)
+    requires { T (is_sorted (slice_cmp nat_cmp) (spelled words.now.entries)) }
+    ensures rises { T (is_sorted (slice_cmp nat_cmp) (spelled words.new.entries)) }
+    ensures content { (g : Bool) → of_kind g (spelled words.new.entries) ≡ after_kill (of_kind g (spelled words.old.entries)) (name g word.now path.now) }
+{
+    let mut digits = Digits::new();
+    let key = word.bytes(&mut digits);
+    let Some(tree) = words.get_mut(key) else {
+        return;
+    };
+    tree.kill(path);
+    if tree.is_empty() {
+        remove(words, key);
+    }
+}
+
+/// Gives texts to lists of subscripts of a word that follow one. `Limit` where one would be too long.
+pub fn put(
+    words: &mut Words,
+    alloc: Global,
+    word: &Text,
+    path: &Subs,
+    nodes: &Nodes,
+) -> Result<(), Failure>
+    requires { T (is_sorted (slice_cmp nat_cmp) (spelled words.now.entries)) }
+    ensures rises { T (is_sorted (slice_cmp nat_cmp) (spelled words.new.entries)) }
+    ensures ok { OnOk result ((g : Bool) → of_kind g (spelled words.new.entries) ≡ after_put (of_kind g (spelled words.old.entries)) (name g word.now path.now) nodes.now) }
+    ensures limit { (result ≡ Err (failure.Fault fault.Limit)) ↔ IsTrue (is_too_long path.now nodes.now) }
+    ensures err { OnErr result (spelled words.new.entries ≡ spelled words.old.entries) }
+{
+    let mut digits = Digits::new();
+    let key = word.bytes(&mut digits);
+    match words.get_mut(key) {
+        Some(tree) => tree.put(path, nodes),
+        None => {
+            let mut tree = Tree::new(alloc);
+            tree.put(path, nodes)?;
+            match add(words, alloc, key, tree) {
+                Ok(()) => Ok(()),
+                Err(_) => Err(Failure::Memory),
+            }
+        }
+    }
+}
+
+/// The same words once more.
+pub fn copy(words: &Words) -> Result<Words, AllocError>
+    ensures { IfOk result (λ w. spelled w.entries ≡ spelled words.now.entries) }
+{
+    let copy = words.clone()?;
+    Ok(copy)
+}
+
+// One word more, or another tree in place of that of the word.
+fn add(words: &mut Words, alloc: Global, word: &[u8], tree: Tree) -> Result<(), AllocError>
+    ensures ok { OnOk result (spelled words.new.entries ≡ insert_entry (slice_cmp nat_cmp) (spelled words.old.entries) word.now tree) }
+    ensures err { OnErr result (spelled words.new.entries ≡ spelled words.old.entries) }
+{
+    words.insert(Vec::from_slice(alloc, word)?, tree)?;
+    Ok(())
+}
+
+// The word goes, if it is there.
+fn remove(words: &mut Words, word: &[u8])
+    ensures { spelled words.new.entries ≡ remove_entry (is_at (slice_cmp nat_cmp word.now)) (spelled words.old.entries) }
+{
+    let _gone = words.remove(word);
+}
