@@ -1,0 +1,56 @@
+// How long the questions and the changes of trees take, and how many bytes a node takes. With the word `trees` it measures and prints a
+// line for each work: its name, how many nodes, and nanoseconds; without one it says so.
+#![tactic(auto)]
+
+mod work;
+
+use mj_globs::Globals;
+use std::time::Instant;
+use std::{env, fs, io};
+use work::{WORKS, Work, perform};
+
+fn main(rt: HostRuntime) -> io::Result<()> {
+    let words: Vec<String> = env::args(&rt)?.collect(rt.alloc())?;
+    match words.get(1) {
+        Some(word) if word.as_str() == "trees" => measure_all(&rt),
+        _ => {
+            println!(rt; "usage: mj_bench_trees trees")?;
+            Ok(())
+        }
+    }
+}
+
+fn measure_all(rt: &HostRuntime) -> io::Result<()> {
+    let mut globals = Globals::new(rt.alloc());
+    let before = resident(rt)?;
+    for work in WORKS {
+        measure(rt, work, &mut globals)?;
+        if let Work::Set = work {
+            println!(rt; "kilobytes 1 {}", resident(rt)?.saturating_sub(before))?;
+        }
+    }
+    Ok(())
+}
+
+fn measure(rt: &HostRuntime, work: Work, globals: &mut Globals) -> io::Result<()> {
+    let start = Instant::now(rt)?;
+    let done = match perform(rt.alloc(), work, globals) {
+        Ok(done) => done,
+        Err(_) => return Err(io::Error::from(io::ErrorKind::OutOfMemory)),
+    };
+    let nanos = start.elapsed(rt)?.as_nanos();
+    println!(rt; "{} {} {}", work.name(), done, nanos)?;
+    Ok(())
+}
+
+// The kilobytes of memory that the program holds.
+fn resident(rt: &HostRuntime) -> io::Result<u64> {
+    let text = fs::read_to_string(rt, "/proc/self/status")?;
+    for line in text.as_str().lines() {
+        if let Some(rest) = line.strip_prefix("VmRSS:") {
+            let number = rest.trim().trim_end_matches(" kB");
+            return Ok(number.parse::<u64>().unwrap_or(0));
+        }
+    }
+    Ok(0)
+}
