@@ -77,12 +77,12 @@ pub record IsStuck (ks : List Token) (k : ℕ) : Type 0 where
   pub whole : (l : Line) → SpellsLine ks l → ⊥
 
 -- The first k tokens begin a line within the limits, and with the next one they still begin a line, but none that nests so
--- little.
+-- little, however long its lists are.
 pub record IsDeep (ks : List Token) (k : ℕ) : Type 0 where
   pub inside : k < length ks
   pub before : BeginsLineWithin depth_limit width_limit (take k ks)
   pub at : BeginsLine (take (k + 1) ks)
-  pub beyond : BeginsLineWithin depth_limit width_limit (take (k + 1) ks) → ⊥
+  pub beyond : (width : ℕ) → BeginsLineWithin depth_limit width (take (k + 1) ks) → ⊥
 
 -- one token that can be an operand, or none
 pub data Filler : List Token → Type 0 where

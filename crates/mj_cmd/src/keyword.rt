@@ -1,25 +1,40 @@
 // The words that commands begin with.
 
-/// A command, by its word.
-#[derive(Clone, Copy, PartialEq, Eq, Debug)]
-pub enum Keyword {
-    Set,
-    Write,
-    Halt,
+ghost use Rattle.std.specs.Prelude.{◌≡◌, IsTrue, bytes_eq, map};
+ghost use Rattle.mj_ast.specs.Commands.{capital, keyword_of};
+ghost use Rattle.mj_cmd.specs.Words.{are_capitals};
+
+use mj_ast::Keyword;
+
+/// Whether the word is the spelling, which is in capitals, in any case.
+fn is_spelled(word: &[u8], spelling: &[u8]) -> bool
+    requires { IsTrue (are_capitals spelling.now) }
+    ensures { result ≡ bytes_eq (map capital word.now) spelling.now }
+{
+    word.eq_ignore_ascii_case(spelling)
 }
 
 /// The command of a word or its abbreviation, in any case.
-pub fn keyword_of(word: &[u8]) -> Option<Keyword> {
-    const WORDS: [(&[u8], Keyword); 6] = [
-        (b"SET", Keyword::Set),
-        (b"S", Keyword::Set),
-        (b"WRITE", Keyword::Write),
-        (b"W", Keyword::Write),
-        (b"HALT", Keyword::Halt),
-        (b"H", Keyword::Halt),
-    ];
-    WORDS
-        .iter()
-        .find(|(spelling, _)| word.eq_ignore_ascii_case(spelling))
-        .map(|(_, keyword)| *keyword)
+pub fn keyword_of(word: &[u8]) -> Option<Keyword>
+    ensures { result ≡ keyword_of word.now }
+{
+    if is_spelled(word, b"SET") {
+        return Some(Keyword::Set);
+    }
+    if is_spelled(word, b"S") {
+        return Some(Keyword::Set);
+    }
+    if is_spelled(word, b"WRITE") {
+        return Some(Keyword::Write);
+    }
+    if is_spelled(word, b"W") {
+        return Some(Keyword::Write);
+    }
+    if is_spelled(word, b"HALT") {
+        return Some(Keyword::Halt);
+    }
+    if is_spelled(word, b"H") {
+        return Some(Keyword::Halt);
+    }
+    None
 }

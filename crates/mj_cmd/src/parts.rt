@@ -1,6 +1,12 @@
-// What commands and lines are made of: single tokens, lists, and where one may end.
+// What commands and lines are made of: single tokens, blanks, and where a command may end.
 
-ghost use Rattle.std.specs.Prelude.{◌<◌, ◌≤◌, IfOk, IfSome, length};
+ghost use Rattle.std.specs.Prelude.{◌≡◌, ◌∷◌, ◌++◌, ◌+◌, ◌<◌, ◌≤◌, Bool, IfErr, IfOk, MatchOption, length, replicate, ℕ};
+ghost use Rattle.mj_ast.specs.Tokens.{Blank, Signed, Word};
+ghost use Rattle.mj_ast.specs.declared.sign.Sign.TheVariants.{Colon, Comma, Equals, Exclamation};
+ghost use Rattle.mj_lex.specs.Seen.{tokens_seen};
+ghost use Rattle.mj_cmd.specs.Machine.{refused};
+ghost use Rattle.mj_cmd.specs.Reads.{Refuses};
+ghost use Rattle.mj_cmd.specs.Heads.{HasNoBlank, HasNoColon, HasNoComma, HasNoEquals, HasNoMark, HasNoWord, HasOther, HasParted};
 
 use mj_ast::Sign;
 use mj_expr::Stop;
@@ -10,55 +16,113 @@ use mj_lex::{Lexeme, Token, next};
 pub const WORD_LIMIT: usize = 31;
 
 /// The refusal where the grammar can't go on at the first of these tokens: a word past its limit comes before that.
-pub fn stuck(tokens: &[Lexeme]) -> Stop {
+pub fn stuck(tokens: &[Lexeme]) -> Stop
+    ensures { (limited : Bool) → Refuses limited result (refused (tokens_seen tokens.now)) }
+{
     match next(tokens) {
-        Some((Token::Word(word), _)) if word.len() > WORD_LIMIT => Stop::Long,
+        Some((Token::Word(word), _)) => {
+            if word.len() <= WORD_LIMIT {
+                Stop::Stuck(tokens.len())
+            } else {
+                Stop::Long
+            }
+        }
         _ => Stop::Stuck(tokens.len()),
     }
 }
 
-/// What follows the sign, if it stands in front.
-pub fn behind_sign<'a, 't>(tokens: &'t [Lexeme<'a>], wanted: Sign) -> Option<&'t [Lexeme<'a>]>
-    ensures { IfSome result (λ x. length x.now < length tokens.now) }
+/// The word in front, and what follows it.
+pub fn behind_word<'a, 't>(tokens: &'t [Lexeme<'a>]) -> Option<(&'a [u8], &'t [Lexeme<'a>])>
+    ensures { MatchOption result (HasNoWord (tokens_seen tokens.now)) (λ x. (tokens_seen tokens.now ≡ Word x.0.now ∷ tokens_seen x.1.now) × (length x.1.now < length tokens.now)) }
 {
     match next(tokens) {
-        Some((Token::Sign(sign), rest)) if sign == wanted => Some(rest),
+        Some((Token::Word(word), rest)) => Some((word, rest)),
         _ => None,
     }
 }
 
-/// What follows the sign, which has to stand in front.
-pub fn sign<'a, 't>(tokens: &'t [Lexeme<'a>], wanted: Sign) -> Result<&'t [Lexeme<'a>], Stop>
-    ensures { IfOk result (λ x. length x.now < length tokens.now) }
-{
-    behind_sign(tokens, wanted).ok_or(stuck(tokens))
-}
-
-/// What follows a blank, which has to stand in front.
-pub fn blank<'a, 't>(tokens: &'t [Lexeme<'a>]) -> Result<&'t [Lexeme<'a>], Stop>
-    ensures { IfOk result (λ x. length x.now < length tokens.now) }
+/// What follows a comma, if it stands in front.
+pub fn behind_comma<'a, 't>(tokens: &'t [Lexeme<'a>]) -> Option<&'t [Lexeme<'a>]>
+    ensures { MatchOption result (HasNoComma (tokens_seen tokens.now)) (λ x. (tokens_seen tokens.now ≡ Signed Comma ∷ tokens_seen x.now) × (length x.now < length tokens.now)) }
 {
     match next(tokens) {
-        Some((Token::Blank, rest)) => Ok(rest),
-        _ => Err(stuck(tokens)),
+        Some((Token::Sign(Sign::Comma), rest)) => Some(rest),
+        _ => None,
     }
 }
 
-/// What follows the blanks in front.
-pub fn behind_blanks<'a, 't>(tokens: &'t [Lexeme<'a>]) -> &'t [Lexeme<'a>]
-    ensures { length result.now ≤ length tokens.now }
+/// What follows a `=`, if it stands in front.
+pub fn behind_equals<'a, 't>(tokens: &'t [Lexeme<'a>]) -> Option<&'t [Lexeme<'a>]>
+    ensures { MatchOption result (HasNoEquals (tokens_seen tokens.now)) (λ x. (tokens_seen tokens.now ≡ Signed Equals ∷ tokens_seen x.now) × (length x.now < length tokens.now)) }
 {
-    let blanks = tokens
-        .iter()
-        .position(|lexeme| !matches!(lexeme.token, Token::Blank))
-        .unwrap_or(tokens.len());
-    &tokens[blanks..]
+    match next(tokens) {
+        Some((Token::Sign(Sign::Equals), rest)) => Some(rest),
+        _ => None,
+    }
 }
 
-/// Whether a command may end here: at a blank, a comment or the line's end.
-pub fn may_end(tokens: &[Lexeme]) -> bool {
-    matches!(
-        next(tokens),
-        None | Some((Token::Blank, _)) | Some((Token::Comment(_), _))
-    )
+/// What follows a colon, if it stands in front.
+pub fn behind_colon<'a, 't>(tokens: &'t [Lexeme<'a>]) -> Option<&'t [Lexeme<'a>]>
+    ensures { MatchOption result (HasNoColon (tokens_seen tokens.now)) (λ x. (tokens_seen tokens.now ≡ Signed Colon ∷ tokens_seen x.now) × (length x.now < length tokens.now)) }
+{
+    match next(tokens) {
+        Some((Token::Sign(Sign::Colon), rest)) => Some(rest),
+        _ => None,
+    }
+}
+
+/// What follows a `!`, if it stands in front.
+pub fn behind_mark<'a, 't>(tokens: &'t [Lexeme<'a>]) -> Option<&'t [Lexeme<'a>]>
+    ensures { MatchOption result (HasNoMark (tokens_seen tokens.now)) (λ x. (tokens_seen tokens.now ≡ Signed Exclamation ∷ tokens_seen x.now) × (length tokens.now ≡ length x.now + 1)) }
+{
+    match next(tokens) {
+        Some((Token::Sign(Sign::Exclamation), rest)) => Some(rest),
+        _ => None,
+    }
+}
+
+/// What follows a blank, if it stands in front.
+pub fn behind_blank<'a, 't>(tokens: &'t [Lexeme<'a>]) -> Option<&'t [Lexeme<'a>]>
+    ensures { MatchOption result (HasNoBlank (tokens_seen tokens.now)) (λ x. (tokens_seen tokens.now ≡ Blank ∷ tokens_seen x.now) × (length tokens.now ≡ length x.now + 1)) }
+{
+    match next(tokens) {
+        Some((Token::Blank, rest)) => Some(rest),
+        _ => None,
+    }
+}
+
+/// How many blanks stand in front, and what follows them.
+pub fn behind_blanks<'a, 't>(tokens: &'t [Lexeme<'a>]) -> (usize, &'t [Lexeme<'a>])
+    ensures blanks { tokens_seen tokens.now ≡ replicate result.0 Blank ++ tokens_seen result.1.now }
+    ensures none { HasNoBlank (tokens_seen result.1.now) }
+    ensures count { result.0 + length result.1.now ≡ length tokens.now }
+{
+    match behind_blank(tokens) {
+        None => (0, tokens),
+        Some(behind) => {
+            let mut count = 1;
+            let mut rest = behind;
+            'blanks: while let Some(more) = behind_blank(rest) {
+                count += 1;
+                rest = more;
+            }
+            (count, rest)
+        }
+    }
+}
+
+/// The tokens, where a command may end before them: at a blank, a comment or the line's end.
+pub fn parted<'a, 't>(tokens: &'t [Lexeme<'a>]) -> Result<&'t [Lexeme<'a>], Stop>
+    ensures ok { IfOk result (λ x. (x.now ≡ tokens.now) × HasParted (tokens_seen tokens.now)) }
+    ensures other { IfErr result (λ _. HasOther (tokens_seen tokens.now)) }
+    ensures refused { IfErr result (λ e. (limited : Bool) → Refuses limited e (refused (tokens_seen tokens.now))) }
+{
+    match next(tokens) {
+        None => Ok(tokens),
+        Some((token, _)) => match token {
+            Token::Blank => Ok(tokens),
+            Token::Comment(_) => Ok(tokens),
+            _ => Err(stuck(tokens)),
+        },
+    }
 }

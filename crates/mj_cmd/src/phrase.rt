@@ -1,6 +1,10 @@
 // The phrases of commands: expressions and variables, with their trees, or without them and however deep they nest.
 
 ghost use Rattle.std.specs.Prelude.{◌≤◌, IfOk, length};
+ghost use Rattle.mj_ast.specs.Trees.{expr_of, variable_of};
+ghost use Rattle.mj_expr.specs.Machine.{Limits, Whole, Target};
+ghost use Rattle.mj_cmd.specs.Machine.{Goal, At, In, behind, expression_wanted, variable_wanted};
+ghost use Rattle.mj_cmd.specs.Reads.{HasRoom, Reads};
 
 use crate::beyond::beyond;
 use mj_ast::{Expr, Operand, Scope, Variable};
@@ -22,7 +26,8 @@ impl Phrases {
         self,
         tokens: &'t [Lexeme<'a>],
     ) -> Result<(Expr, &'t [Lexeme<'a>]), Stop>
-        ensures { IfOk result (λ x. length x.1.now ≤ length tokens.now) }
+        ensures shorter { IfOk result (λ x. length x.1.now ≤ length tokens.now) }
+        ensures reads { (m : Limits) → HasRoom self.limited m tokens.now → (g : Goal) → Reads self.limited (λ x. expr_of x.0) (λ x. x.1.now) result m tokens.now (In g expression_wanted) (λ e. At (behind g (Whole e))) }
     {
         if self.limited {
             return mj_expr::expression(self.alloc, tokens, 0);
@@ -40,7 +45,8 @@ impl Phrases {
         self,
         tokens: &'t [Lexeme<'a>],
     ) -> Result<(Variable, &'t [Lexeme<'a>]), Stop>
-        ensures { IfOk result (λ x. length x.1.now ≤ length tokens.now) }
+        ensures shorter { IfOk result (λ x. length x.1.now ≤ length tokens.now) }
+        ensures reads { (m : Limits) → HasRoom self.limited m tokens.now → (g : Goal) → Reads self.limited (λ x. variable_of x.0) (λ x. x.1.now) result m tokens.now (In g variable_wanted) (λ v. At (behind g (Target v))) }
     {
         if self.limited {
             return mj_expr::variable(self.alloc, tokens, 0);

@@ -91,7 +91,7 @@ ends_deep (Held x r (InGroup c)) ks n e = refused_deep ks n e
 ends_deep (Held x r (InList scope word es p)) ks n e = refused_deep ks n e
 ends_deep (Got v) ks n e = let f : Accept (Target v) ks ≡ DeepAt n = e in cc
 
-finish_deep : (s : State) (ks : List Symbol) (n : ℕ) → finish s ks ≡ DeepAt n → ⊥
+pub finish_deep : (s : State) (ks : List Symbol) (n : ℕ) → finish s ks ≡ DeepAt n → ⊥
 finish_deep (Wanted c) ks n e = refused_deep ks n e
 finish_deep (Sought p) ks n e = refused_deep ks n e
 finish_deep (Marked p) ks n e = refused_deep ks n e

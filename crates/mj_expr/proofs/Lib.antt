@@ -7,4 +7,5 @@ pub mod States
 pub mod Ends
 pub mod Told
 pub mod Said
+pub mod Turns
 pub mod Examples

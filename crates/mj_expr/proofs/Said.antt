@@ -49,7 +49,7 @@ ends_stuck (Held x r (InGroup c)) ks n e = refused_stuck ks n e
 ends_stuck (Held x r (InList scope word es p)) ks n e = refused_stuck ks n e
 ends_stuck (Got v) ks n e = absurd (let f : Accept (Target v) ks ≡ StuckAt n = e in cc)
 
-finish_stuck : (s : State) (ks : List Symbol) (n : ℕ) → finish s ks ≡ StuckAt n → length ks ≡ n
+pub finish_stuck : (s : State) (ks : List Symbol) (n : ℕ) → finish s ks ≡ StuckAt n → length ks ≡ n
 finish_stuck (Wanted c) ks n e = refused_stuck ks n e
 finish_stuck (Sought p) ks n e = refused_stuck ks n e
 finish_stuck (Marked p) ks n e = refused_stuck ks n e
@@ -75,7 +75,7 @@ ends_long (Held x r (InGroup c)) ks e = refused_long ks e
 ends_long (Held x r (InList scope word es p)) ks e = refused_long ks e
 ends_long (Got v) ks e = absurd (let f : Accept (Target v) ks ≡ TooLong = e in cc)
 
-finish_long : (s : State) (ks : List Symbol) → finish s ks ≡ TooLong → (y : List Symbol) × (ks ≡ Overlong ∷ y)
+pub finish_long : (s : State) (ks : List Symbol) → finish s ks ≡ TooLong → (y : List Symbol) × (ks ≡ Overlong ∷ y)
 finish_long (Wanted c) ks e = refused_long ks e
 finish_long (Sought p) ks e = refused_long ks e
 finish_long (Marked p) ks e = refused_long ks e
@@ -96,7 +96,7 @@ overlong_ends (Held x r (InGroup c)) ks n e = overlong_refused ks n e
 overlong_ends (Held x r (InList scope word es p)) ks n e = overlong_refused ks n e
 overlong_ends (Got v) ks n e = let f : Accept (Target v) (Overlong ∷ ks) ≡ StuckAt n = e in cc
 
-overlong_finish : (s : State) (ks : List Symbol) (n : ℕ) → finish s (Overlong ∷ ks) ≡ StuckAt n → ⊥
+pub overlong_finish : (s : State) (ks : List Symbol) (n : ℕ) → finish s (Overlong ∷ ks) ≡ StuckAt n → ⊥
 overlong_finish (Wanted c) ks n e = overlong_refused ks n e
 overlong_finish (Sought p) ks n e = overlong_refused ks n e
 overlong_finish (Marked p) ks n e = overlong_refused ks n e
@@ -146,7 +146,7 @@ word_long : (w : List ℕ) (b : Bool) → nat_le (length w) 31 ≡ b → cond b 
 word_long w true f e = absurd (let g : Name w ≡ Overlong = e in cc)
 word_long w false f e = grind (arith, nat_tests)
 
-overlong_word : (k : Token) → symbol k ≡ Overlong → (w : List ℕ) × (k ≡ Word w) × (31 < length w)
+pub overlong_word : (k : Token) → symbol k ≡ Overlong → (w : List ℕ) × (k ≡ Word w) × (31 < length w)
 overlong_word (Word w) e = (w, refl, word_long w (nat_le (length w) 31) refl e)
 overlong_word (Digits ds) e = absurd (constant_overlong (reading ds) e)
 overlong_word (Quoted v) e = absurd (choice_overlong (nat_le (length v) text_limit) v e)
@@ -156,7 +156,7 @@ overlong_word (Comment t) e = absurd (let f : Other ≡ Overlong = e in cc)
 overlong_word (Unclosed t) e = absurd (let f : Other ≡ Overlong = e in cc)
 overlong_word (Stray b) e = absurd (let f : Other ≡ Overlong = e in cc)
 
-comma_token : (k : Token) → symbol k ≡ Mark Comma → k ≡ Signed Comma
+pub comma_token : (k : Token) → symbol k ≡ Mark Comma → k ≡ Signed Comma
 comma_token (Word w) e = absurd (word_mark (nat_le (length w) 31) w Comma e)
 comma_token (Digits ds) e = absurd (constant_mark (reading ds) Comma e)
 comma_token (Quoted v) e = absurd (choice_mark (nat_le (length v) text_limit) v Comma e)

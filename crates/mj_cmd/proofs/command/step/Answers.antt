@@ -1,0 +1,16 @@
+use Rattle.std.proofs.Common.{◌∙◌}
+use Rattle.mj_cmd.proofs.Follow.{reads_err, refuses_from, room_for, step_made, step_same}
+use Rattle.mj_cmd.proofs.command.step.Goals as goal
+
+pub returns-in_err-command-clause-reads : goal.returns-in_err-command-clause-reads
+returns-in_err-command-clause-reads c = λ m r o.
+    let h = c.in_ok-condition.ensures.reads m r o c.args.keyword in
+    reads_err c.args.phrases.limited _ _ c.from_residual-in_err-command.result c.in_err-command.field-0.0 m c.args.tokens.now _ _ c.from_residual-in_err-command.ensures.1
+    (refuses_from c.args.phrases.limited c.in_err-command.field-0.0 _ _ h.2
+    (c.in_err-command.ensures.reads m (room_for c.args.phrases.limited m c.args.tokens.now c.in_ok-condition.rest.now c.in_ok-condition.ensures.shorter r) o h.0))
+
+pub returns-clause-reads : goal.returns-clause-reads
+returns-clause-reads c = λ m r o.
+    let h = c.in_ok-condition.ensures.reads m r o c.args.keyword in
+    let a = c.in_ok-command.ensures.reads m (room_for c.args.phrases.limited m c.args.tokens.now c.in_ok-condition.rest.now c.in_ok-condition.ensures.shorter r) o h.0 in
+    (step_made h.0 a.0, λ l. step_same h.0 _ a.0 _ (h.1 l) (a.1 l), h.2 ∙ a.2)
