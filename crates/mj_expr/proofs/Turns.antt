@@ -3,8 +3,8 @@ use Rattle.std.proofs.Common.{◌≡◌, ℕ, ◌+◌, ◌≤◌, List, [], ◌�
 use Rattle.std.specs.Prelude.{cond, not}
 use Rattle.mj_ast.specs.declared.sign.Sign.{Sign}
 use Rattle.mj_ast.specs.declared.sign.Sign.TheVariants.{Caret, Open, Close, Comma}
-use Rattle.mj_ast.specs.declared.expr.UnaryOp.{UnaryOp}
-use Rattle.mj_ast.specs.declared.expr.BinaryOp.{BinaryOp}
+use Rattle.mj_oper.specs.declared.op.UnaryOp.{UnaryOp}
+use Rattle.mj_oper.specs.declared.op.Op.{Op}
 use Rattle.mj_ast.specs.declared.expr.Scope.{Scope}
 use Rattle.mj_ast.specs.declared.expr.Scope.TheVariants.{Local, Global}
 use Rattle.mj_ast.specs.Syntax.{Expr, Chain, Operand, Literal, Value, Tails, Variable, Var, No, Group, Exprs}
@@ -112,7 +112,7 @@ hold_other_reached m e (InGroup c) Comma = tt
 hold_other_reached m e (InList scope word es p) Comma = comma_reached _ (nat_lt (count es + 1) m.width) tt
 hold_other_reached m e o s = tt
 
-hold_sign_reached : (m : Limits) (x : Operand) (r : Tails) (o : Outer) (s : Sign) (q : Option BinaryOp) → NextReached (hold_sign m x r o s q)
+hold_sign_reached : (m : Limits) (x : Operand) (r : Tails) (o : Outer) (s : Sign) (q : Option Op) → NextReached (hold_sign m x r o s q)
 hold_sign_reached m x r o s (Some op) = tt
 hold_sign_reached m x r o s None = hold_other_reached m (Chain x r) o s
 
@@ -311,7 +311,7 @@ held_close_level m e (InGroup c) Comma = tt
 held_close_level m e (InList scope word es p) Comma = level_comma _ (nat_lt (count es + 1) m.width)
 held_close_level m e o s = tt
 
-hold_sign_level : (m : Limits) (x : Operand) (r : Tails) (o : Outer) (s : Sign) (q : Option BinaryOp) → IsNoLevel (hold_sign m x r o s q)
+hold_sign_level : (m : Limits) (x : Operand) (r : Tails) (o : Outer) (s : Sign) (q : Option Op) → IsNoLevel (hold_sign m x r o s q)
 hold_sign_level m x r o s (Some op) = tt
 hold_sign_level m x r o s None = held_close_level m (Chain x r) o s
 

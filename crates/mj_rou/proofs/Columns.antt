@@ -1,0 +1,108 @@
+-- Where the tokens of a line stand.
+use Rattle.std.proofs.Common.{◌≡◌, ℕ, zero, suc, ◌+◌, ◌-◌, ◌≤◌, ◌<◌, List, [], ◌∷◌, ◌++◌, length, take, drop, get_or, map, refl, ap, sym, ◌∙◌, subst, Bool, true, false, arith, inl, inr, ◌⊎◌}
+use Rattle.std.specs.Prelude.{cond, take_while}
+use Rattle.std.proofs.lemmas.List.{length-map, length-drop, length-take}
+use Rattle.mj_ast.specs.Tokens.{Token, Word, Digits, Quoted, Signed, Blank, Comment, Unclosed, Stray, Lexeme, Class, AWord, ADigit, AQuote, ABlank, AComment, ASign, Nothing, class_of, front_of, quotation, quoted_token, is_digit, first_lexemes, lexemes, tokens, bytes_of, column}
+use Rattle.mj_lex.specs.Seen.{tokens_seen, token_seen, placed, places_seen}
+use Rattle.mj_lex.specs.declared.token.Lexeme as kept
+use Rattle.mj_cmd.specs.Heads.{IsLabelShort}
+
+abbrev Placed : Type 0
+Placed = Token × ℕ
+
+abbrev first_of : Placed → Token
+first_of p = p.0
+
+seen_first : (v : List kept.Lexeme) → map first_of (places_seen v) ≡ tokens_seen v
+seen_first [] = refl
+seen_first (x ∷ v) = ap (λ (ks : List Token). token_seen x.token ∷ ks) (seen_first v)
+
+placed_first : (n : ℕ) (ls : List Lexeme) → map first_of (placed n ls) ≡ map (λ l. l.token) ls
+placed_first n [] = refl
+placed_first n (l ∷ ls) = ap (λ (ks : List Token). l.token ∷ ks) (placed_first (n + length l.slice) ls)
+
+-- the tokens that are kept are those of the line
+pub seen_tokens : (v : List kept.Lexeme) (line : List ℕ) → places_seen v ≡ placed 0 (lexemes line) → tokens_seen v ≡ tokens line
+seen_tokens v line e = sym (seen_first v) ∙ ap (map first_of) e ∙ placed_first 0 (lexemes line)
+
+-- ---- a label is no longer than its line
+
+while_short : (p : ℕ → Bool) (xs : List ℕ) → length (take_while p xs) ≤ length xs
+while_short p [] = omega arith
+while_short p (x ∷ xs) = while_as (p x) (while_short p xs)
+  where
+    while_as : (b : Bool) → length (take_while p xs) ≤ length xs → length (cond b (x ∷ take_while p xs) []) ≤ suc (length xs)
+    while_as true h = omega arith
+    while_as false h = omega arith
+
+quote_short : (b : Bool) (q : List ℕ) (ks : List Token) → IsLabelShort (cond b (Quoted q) (Unclosed q) ∷ ks)
+quote_short true q ks = tt
+quote_short false q ks = tt
+
+front_short : (c : Class) (b : ℕ) (bs : List ℕ) (ks : List Token) → length (b ∷ bs) ≤ 8192 → IsLabelShort ((front_of c b bs).0 ∷ ks)
+front_short AWord b bs ks h = tt
+front_short ADigit b bs ks h = let n = while_short is_digit bs in omega arith
+front_short AQuote b bs ks h = quote_short (quotation bs).closed (quotation bs).content ks
+front_short ABlank b bs ks h = tt
+front_short AComment b bs ks h = tt
+front_short (ASign s) b bs ks h = tt
+front_short Nothing b bs ks h = tt
+
+pub label_short : (line : List ℕ) → length line ≤ 8192 → IsLabelShort (tokens line)
+unfolding lexemes
+label_short [] h = tt
+label_short (b ∷ bs) h = front_short (class_of b) b bs _ h
+
+-- ---- columns
+
+bytes_first : (n : ℕ) (bytes : List ℕ) → length bytes ≤ n → bytes_of (first_lexemes n bytes) ≡ length bytes
+bytes_first zero [] h = refl
+bytes_first zero (b ∷ bs) h = absurd (omega arith)
+bytes_first (suc n) [] h = refl
+bytes_first (suc n) (b ∷ bs) h =
+    let w = (front_of (class_of b) b bs).1 in
+    let i = bytes_first n (drop w bs) (let d = length-drop w bs in omega arith) in
+    let d = length-drop w bs in
+    let t = length-take w bs in
+    omega arith
+
+-- all tokens have all bytes
+pub bytes_all : (line : List ℕ) → bytes_of (lexemes line) ≡ length line
+unfolding lexemes
+bytes_all line = bytes_first (length line) line (omega arith)
+
+same_place : (p q : Placed) (ps qs : List Placed) → p ∷ ps ≡ q ∷ qs → p.1 ≡ q.1
+same_place p q ps qs e = ap (λ (x : Placed). x.1) (let h : p ≡ q = cc in h)
+
+same_rest : (p q : Placed) (ps qs : List Placed) → p ∷ ps ≡ q ∷ qs → ps ≡ qs
+same_rest p q ps qs e = cc
+
+-- where a token stands
+at_placed : (k n : ℕ) (v : List kept.Lexeme) (ls : List Lexeme) (x : kept.Lexeme) → places_seen v ≡ placed n ls → k < length v → x ≡ get_or v k x → x.at ≡ n + bytes_of (take k ls)
+at_placed k n [] ls x e h i = absurd (omega arith)
+at_placed k n (y ∷ v) [] x e h i = absurd (let f : (token_seen y.token, y.at) ∷ places_seen v ≡ [] = e in cc)
+at_placed zero n (y ∷ v) (l ∷ ls) x e h i = ap (λ (z : kept.Lexeme). z.at) i ∙ same_place _ _ _ _ e ∙ (let z : n ≡ n + 0 = omega arith in z)
+at_placed (suc k) n (y ∷ v) (l ∷ ls) x e h i =
+    let r = at_placed k (n + length l.slice) v ls x (same_rest _ _ _ _ e) (omega arith) i in
+    omega arith
+
+take_all : (ls : List Lexeme) → take (length ls) ls ≡ ls
+take_all [] = refl
+take_all (l ∷ ls) = ap (λ (xs : List Lexeme). l ∷ xs) (take_all ls)
+
+lexemes_many : (v : List kept.Lexeme) (n : ℕ) (ls : List Lexeme) → places_seen v ≡ placed n ls → length v ≡ length ls
+lexemes_many [] n [] e = refl
+lexemes_many [] n (l ∷ ls) e = absurd (let f : [] ≡ (l.token, n) ∷ placed (n + length l.slice) ls = e in cc)
+lexemes_many (x ∷ v) n [] e = absurd (let f : (token_seen x.token, x.at) ∷ places_seen v ≡ [] = e in cc)
+lexemes_many (x ∷ v) n (l ∷ ls) e = ap suc (lexemes_many v (n + length l.slice) ls (same_rest _ _ _ _ e))
+
+-- the column of the line's end
+pub column_end : (v : List kept.Lexeme) (line : List ℕ) (k : ℕ) → places_seen v ≡ placed 0 (lexemes line) → k ≡ length v → length line + 1 ≡ column line k
+column_end v line k e h =
+    let n = lexemes_many v 0 (lexemes line) e in
+    let t : take k (lexemes line) ≡ lexemes line = ap (λ (i : ℕ). take i (lexemes line)) (h ∙ n) ∙ take_all (lexemes line) in
+    let b = ap bytes_of t ∙ bytes_all line in
+    omega arith
+
+pub column_at : (v : List kept.Lexeme) (line : List ℕ) (k : ℕ) (x : kept.Lexeme) → places_seen v ≡ placed 0 (lexemes line) → k < length v → x ≡ get_or v k x → x.at + 1 ≡ column line k
+column_at v line k x e h i = let a = at_placed k 0 v (lexemes line) x e h i in omega arith

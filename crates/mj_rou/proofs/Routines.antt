@@ -1,0 +1,78 @@
+-- Lines and routines that were read.
+use Rattle.std.proofs.Common.{◌≡◌, ℕ, suc, ◌+◌, ◌≤◌, ◌<◌, List, [], ◌∷◌, ◌++◌, length, map, refl, ap, sym, ◌∙◌, subst, arith, inl, inr, ◌⊎◌, append-nil, append_assoc}
+use Rattle.std.proofs.lemmas.List.{length-map, map-append}
+use Rattle.mj_ast.specs.Syntax.{Line, Routine}
+use Rattle.mj_ast.specs.Tokens.{Token, tokens, column}
+use Rattle.mj_ast.specs.Lines.{SpellsLine, IsLong, HasOverlong, IsStuck, IsDeep}
+use Rattle.mj_ast.specs.Routines.{lines_of, SpellsLines, SpellsRoutine}
+use Rattle.mj_cmd.specs.Said.{IsRead, IsStuckWith, IsDeepWith}
+use Rattle.mj_rou.specs.Read.{IsLineRead, IsLineStuck, AreRead, IsRoutineRead}
+use Rattle.mj_ast.specs.Lines.{IsStuckAt, IsDeepAt}
+
+not_long : (line : List ℕ) (ks : List Token) → ks ≡ tokens line → length line ≤ 8192 → (HasOverlong ks → ⊥) → IsLong line → ⊥
+not_long line ks e h s (inl l) = omega arith
+not_long line ks e h s (inr o) = let P : List Token → Type 0 = λ x. HasOverlong x in s (subst P (sym e) o)
+
+pub line_read : (line : List ℕ) (ks : List Token) (l : Line) → ks ≡ tokens line → length line ≤ 8192 → IsRead ks l → IsLineRead line l
+line_read line ks l e h r =
+    let P : List Token → Type 0 = λ x. SpellsLine x l in
+    record {
+      short = not_long line ks e h r.short;
+      spells = subst P e r.spells;
+      within = r.within;
+      only = λ o s. r.only o (let Q : List Token → Type 0 = λ x. SpellsLine x o in subst Q (sym e) s);
+    }
+
+pub line_stuck : (line : List ℕ) (ks : List Token) (n c : ℕ) → ks ≡ tokens line → length line ≤ 8192 → IsStuckWith ks n → ((place : ℕ) → place + n ≡ length ks → c ≡ column line place) → IsLineStuck line c
+line_stuck line ks n c e h s f =
+    let P : List Token → Type 0 = λ x. IsStuck x s.place in
+    record { short = not_long line ks e h s.short; stuck = record { place = s.place; stuck = subst P e s.stuck; column_is = f s.place s.left_is } }
+
+pub line_deep : (line : List ℕ) (ks : List Token) (n c : ℕ) → ks ≡ tokens line → IsDeepWith ks n → ((place : ℕ) → place + n ≡ length ks → c ≡ column line place) → IsDeepAt line c
+line_deep line ks n c e s f =
+    let P : List Token → Type 0 = λ x. IsDeep x s.place in
+    record { place = s.place; deep = subst P e s.deep; column_is = f s.place s.left_is }
+
+-- ---- several lines
+
+pub read_more : (front : List (List ℕ)) (ls : List Line) (b : List ℕ) (l : Line) → AreRead front ls → IsLineRead b l → AreRead (front ++ b ∷ []) (ls ++ l ∷ [])
+read_more [] [] b l h i = (i, tt)
+read_more [] (x ∷ ls) b l h i = absurd h
+read_more (f ∷ fs) [] b l h i = absurd h
+read_more (f ∷ fs) (x ∷ ls) b l h i = (h.0, read_more fs ls b l h.1 i)
+
+pub read_count : (front : List (List ℕ)) (ls : List Line) → AreRead front ls → length front ≡ length ls
+read_count [] [] h = refl
+read_count [] (x ∷ ls) h = absurd h
+read_count (f ∷ fs) [] h = absurd h
+read_count (f ∷ fs) (x ∷ ls) h = ap suc (read_count fs ls h.1)
+
+read_spells : (bs : List (List ℕ)) (ls : List Line) → AreRead bs ls → SpellsLines bs ls
+read_spells [] [] h = tt
+read_spells [] (x ∷ ls) h = h
+read_spells (f ∷ fs) [] h = h
+read_spells (f ∷ fs) (x ∷ ls) h = (h.0.spells, read_spells fs ls h.1)
+
+read_only : (bs : List (List ℕ)) (ls os : List Line) → AreRead bs ls → SpellsLines bs os → os ≡ ls
+read_only [] [] [] h s = refl
+read_only [] [] (o ∷ os) h s = absurd s
+read_only [] (x ∷ ls) os h s = absurd h
+read_only (f ∷ fs) [] os h s = absurd h
+read_only (f ∷ fs) (x ∷ ls) [] h s = absurd s
+read_only (f ∷ fs) (x ∷ ls) (o ∷ os) h s = ap (λ (y : Line). y ∷ os) (h.0.only o s.0) ∙ ap (λ (ys : List Line). x ∷ ys) (read_only fs ls os h.1 s.1)
+
+same_routine : (n k : List ℕ) (ls os : List Line) → n ≡ k → ls ≡ os → (let r : Routine = record { name = n; lines = ls } in let q : Routine = record { name = k; lines = os } in r ≡ q)
+same_routine n k ls os e f = ap (λ (x : List ℕ). let r : Routine = record { name = x; lines = ls } in r) e ∙ ap (λ (xs : List Line). let r : Routine = record { name = k; lines = xs } in r) f
+
+-- a routine of lines that were read
+pub routine_read : (name bytes : List ℕ) (front : List (List ℕ)) (n : List ℕ) (ls : List Line) → n ≡ name → lines_of bytes ≡ front ++ [] → AreRead front ls → length ls ≤ 10000 → IsRoutineRead name bytes (record { name = n; lines = ls })
+routine_read name bytes front n ls e f h few =
+    let g = f ∙ append-nil front in
+    let P : List (List ℕ) → Type 0 = λ bs. AreRead bs ls in
+    let a = subst P (sym g) h in
+    record {
+      spells = record { named = e; spelled = read_spells (lines_of bytes) ls a };
+      lines = a;
+      few = let c = read_count (lines_of bytes) ls a in omega arith;
+      only = λ o s. same_routine o.name n o.lines ls (s.named ∙ sym e) (read_only (lines_of bytes) ls o.lines a s.spelled);
+    }
