@@ -1,11 +1,17 @@
 -- Where the tokens of a line stand.
 use Rattle.std.proofs.Common.{◌≡◌, ℕ, zero, suc, ◌+◌, ◌-◌, ◌≤◌, ◌<◌, List, [], ◌∷◌, ◌++◌, length, take, drop, get_or, map, refl, ap, sym, ◌∙◌, subst, Bool, true, false, arith, inl, inr, ◌⊎◌}
 use Rattle.std.specs.Prelude.{cond, take_while}
+use Rattle.std.specs.List.{prefix_len}
 use Rattle.std.proofs.lemmas.List.{length-map, length-drop, length-take}
 use Rattle.mj_ast.specs.Tokens.{Token, Word, Digits, Quoted, Signed, Blank, Comment, Unclosed, Stray, Lexeme, Class, AWord, ADigit, AQuote, ABlank, AComment, ASign, Nothing, class_of, front_of, quotation, quoted_token, is_digit, first_lexemes, lexemes, tokens, bytes_of, column}
 use Rattle.mj_lex.specs.Seen.{tokens_seen, token_seen, placed, places_seen}
 use Rattle.mj_lex.specs.declared.token.Lexeme as kept
+use Rattle.mj_lex.specs.declared.token.Token.TheVariants as kept_token
 use Rattle.mj_cmd.specs.Heads.{IsLabelShort}
+
+-- what stands for a token that isn't there
+abbrev pub no_lexeme : kept.Lexeme
+no_lexeme = record { token = kept_token.Word (record { ref_ptr = (0, 0); now = [] }); at = 0 }
 
 abbrev Placed : Type 0
 Placed = Token × ℕ
@@ -28,12 +34,7 @@ seen_tokens v line e = sym (seen_first v) ∙ ap (map first_of) e ∙ placed_fir
 -- ---- a label is no longer than its line
 
 while_short : (p : ℕ → Bool) (xs : List ℕ) → length (take_while p xs) ≤ length xs
-while_short p [] = omega arith
-while_short p (x ∷ xs) = while_as (p x) (while_short p xs)
-  where
-    while_as : (b : Bool) → length (take_while p xs) ≤ length xs → length (cond b (x ∷ take_while p xs) []) ≤ suc (length xs)
-    while_as true h = omega arith
-    while_as false h = omega arith
+while_short p xs = let t = length-take (prefix_len p xs) xs in omega arith
 
 quote_short : (b : Bool) (q : List ℕ) (ks : List Token) → IsLabelShort (cond b (Quoted q) (Unclosed q) ∷ ks)
 quote_short true q ks = tt
@@ -78,13 +79,18 @@ same_rest : (p q : Placed) (ps qs : List Placed) → p ∷ ps ≡ q ∷ qs → p
 same_rest p q ps qs e = cc
 
 -- where a token stands
-at_placed : (k n : ℕ) (v : List kept.Lexeme) (ls : List Lexeme) (x : kept.Lexeme) → places_seen v ≡ placed n ls → k < length v → x ≡ get_or v k x → x.at ≡ n + bytes_of (take k ls)
-at_placed k n [] ls x e h i = absurd (omega arith)
-at_placed k n (y ∷ v) [] x e h i = absurd (let f : (token_seen y.token, y.at) ∷ places_seen v ≡ [] = e in cc)
-at_placed zero n (y ∷ v) (l ∷ ls) x e h i = ap (λ (z : kept.Lexeme). z.at) i ∙ same_place _ _ _ _ e ∙ (let z : n ≡ n + 0 = omega arith in z)
-at_placed (suc k) n (y ∷ v) (l ∷ ls) x e h i =
-    let r = at_placed k (n + length l.slice) v ls x (same_rest _ _ _ _ e) (omega arith) i in
+at_placed : (k n : ℕ) (v : List kept.Lexeme) (ls : List Lexeme) (d : kept.Lexeme) → places_seen v ≡ placed n ls → k < length v → (get_or v k d).at ≡ n + bytes_of (take k ls)
+at_placed k n [] ls d e h = absurd (omega arith)
+at_placed k n (y ∷ v) [] d e h = absurd (let f : (token_seen y.token, y.at) ∷ places_seen v ≡ [] = e in cc)
+at_placed zero n (y ∷ v) (l ∷ ls) d e h = same_place _ _ _ _ e ∙ (let z : n ≡ n + 0 = omega arith in z)
+at_placed (suc k) n (y ∷ v) (l ∷ ls) d e h =
+    let r = at_placed k (n + length l.slice) v ls d (same_rest _ _ _ _ e) (omega arith) in
     omega arith
+
+bytes_take : (k : ℕ) (ls : List Lexeme) → bytes_of (take k ls) ≤ bytes_of ls
+bytes_take zero ls = omega arith
+bytes_take (suc k) [] = omega arith
+bytes_take (suc k) (l ∷ ls) = let h = bytes_take k ls in omega arith
 
 take_all : (ls : List Lexeme) → take (length ls) ls ≡ ls
 take_all [] = refl
@@ -104,5 +110,18 @@ column_end v line k e h =
     let b = ap bytes_of t ∙ bytes_all line in
     omega arith
 
-pub column_at : (v : List kept.Lexeme) (line : List ℕ) (k : ℕ) (x : kept.Lexeme) → places_seen v ≡ placed 0 (lexemes line) → k < length v → x ≡ get_or v k x → x.at + 1 ≡ column line k
-column_at v line k x e h i = let a = at_placed k 0 v (lexemes line) x e h i in omega arith
+pub column_at : (v : List kept.Lexeme) (line : List ℕ) (k : ℕ) (d : kept.Lexeme) → places_seen v ≡ placed 0 (lexemes line) → k < length v → (get_or v k d).at + 1 ≡ column line k
+column_at v line k d e h = let a = at_placed k 0 v (lexemes line) d e h in omega arith
+
+-- a token stands in its line
+pub at_small : (v : List kept.Lexeme) (line : List ℕ) (k : ℕ) (d : kept.Lexeme) → places_seen v ≡ placed 0 (lexemes line) → k < length v → (get_or v k d).at ≤ length line
+at_small v line k d e h =
+    let a = at_placed k 0 v (lexemes line) d e h in
+    let b = bytes_take k (lexemes line) in
+    let c = bytes_all line in
+    omega arith
+
+-- none or too many are left: it is the end
+pub end_place : (left place n : ℕ) → (left ≡ 0) ⊎ ((left ≡ 0 → ⊥) × (n < left)) → place + left ≡ n → place ≡ n
+end_place left place n (inl h) e = omega arith
+end_place left place n (inr h) e = absurd (let l = h.1 in omega arith)

@@ -8,6 +8,11 @@ use Rattle.mj_ast.specs.Routines.{lines_of, SpellsLines, SpellsRoutine}
 use Rattle.mj_cmd.specs.Said.{IsRead, IsStuckWith, IsDeepWith}
 use Rattle.mj_rou.specs.Read.{IsLineRead, IsLineStuck, AreRead, IsRoutineRead}
 use Rattle.mj_ast.specs.Lines.{IsStuckAt, IsDeepAt}
+use Rattle.mj_ast.specs.declared.routine.Line as kept
+use Rattle.mj_ast.specs.Trees.{line_of}
+use Rattle.std.proofs.Common.{Result, Ok, Err, Bool, true, false}
+use Rattle.std.specs.Result.{is_ok, is_err}
+use Rattle.std.specs.Prelude.{if◌then◌else◌}
 
 not_long : (line : List ℕ) (ks : List Token) → ks ≡ tokens line → length line ≤ 8192 → (HasOverlong ks → ⊥) → IsLong line → ⊥
 not_long line ks e h s (inl l) = omega arith
@@ -76,3 +81,24 @@ routine_read name bytes front n ls e f h few =
       few = let c = read_count (lines_of bytes) ls a in omega arith;
       only = λ o s. same_routine o.name n o.lines ls (s.named ∙ sym e) (read_only (lines_of bytes) ls o.lines a s.spelled);
     }
+
+-- one line more
+pub line_more : (bytes rest behind line : List ℕ) (front : List (List ℕ)) (old new : List kept.Line) (tree : kept.Line) → lines_of bytes ≡ front ++ lines_of rest → AreRead front (map line_of old) →
+    lines_of rest ≡ line ∷ lines_of behind → new ≡ old ++ tree ∷ [] → IsLineRead line (line_of tree) → (f : List (List ℕ)) × (lines_of bytes ≡ f ++ lines_of behind) × AreRead f (map line_of new)
+line_more bytes rest behind line front old new tree e h f g i =
+    let P : List Line → Type 0 = λ ls. AreRead (front ++ line ∷ []) ls in (
+      front ++ line ∷ [],
+      e ∙ ap (λ (ls : List (List ℕ)). front ++ ls) f ∙ sym (append_assoc front (line ∷ []) (lines_of behind)),
+      subst P (sym (ap (map line_of) g ∙ map-append line_of old (tree ∷ []))) (read_more front (map line_of old) line (line_of tree) h i),
+    )
+
+-- what isn't refused is done
+pub ok_if : {A B T : Type 0} (r : Result A B) (b : Bool) (x y z : T) → z ≡ (if is_ok r then x else y) → b ≡ is_err r → b ≡ false → z ≡ x
+ok_if (Ok v) b x y z h e f = h
+ok_if (Err v) b x y z h e f = absurd (let g : true ≡ false = sym e ∙ f in cc)
+
+-- the routine of the lines that are kept
+pub routine_kept : (name bytes rest : List ℕ) (front : List (List ℕ)) (n : List ℕ) (v : List kept.Line) → n ≡ name → lines_of bytes ≡ front ++ lines_of rest → rest ≡ [] → AreRead front (map line_of v) → length v ≤ 10000 →
+    IsRoutineRead name bytes (record { name = n; lines = map line_of v })
+routine_kept name bytes rest front n v e f g h few =
+    routine_read name bytes front n (map line_of v) e (f ∙ ap (λ (r : List ℕ). front ++ lines_of r) g) h (let l = length-map v line_of in omega arith)
