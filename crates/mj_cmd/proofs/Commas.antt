@@ -1,5 +1,5 @@
 -- What is known at any state of commas, constants, names and levels.
-use Rattle.std.proofs.Common.{◌≡◌, ℕ, ◌+◌, ◌≤◌, ◌<◌, ◌==◌, nat_le, List, [], ◌∷◌, ◌++◌, length, refl, ap, sym, ◌∙◌, subst, Bool, true, false, arith, Option, Some, None}
+use Rattle.std.proofs.Common.{◌≡◌, ℕ, ◌<◌, ◌==◌, nat_le, List, [], ◌∷◌, length, refl, ap, ◌∙◌, subst, Bool, true, false, arith, Option, Some, None}
 use Rattle.std.specs.Prelude.{cond}
 use Rattle.std.proofs.lemmas.Bool.Decides.{nat_tests}
 use Rattle.mj_ast.specs.declared.sign.Sign.TheVariants.{Equals, Comma, Colon, Exclamation}
@@ -13,7 +13,7 @@ use Rattle.mj_ast.specs.Commands.{keyword_of}
 use Rattle.mj_expr.specs.Machine.{Limits}
 use Rattle.mj_expr.specs.Machine as phrase
 use Rattle.mj_expr.proofs.Turns.{IsReached, step_reached, NextReached, IsPlain, CommaAfter, comma_after, plain_easy, comma_level, IsNoLevel, IsEasy, overlong_stuck, step_deep, DeepBy}
-use Rattle.mj_cmd.specs.Machine.{Rest, Place, Begin, Behind, Over, Worded, Bare, Aimed, Assigned, Marked, Printed, Goal, Condition, Destination, Value, Text, State, At, In, Either, labelled, expression_wanted, variable_wanted, behind, rested, Next, Go, Stuck, Deep, Long, arguments, own, begins, on, on_rested, first, place_step, behind_step, phrase_step, in_step, step}
+use Rattle.mj_cmd.specs.Machine.{Rest, Place, Begin, Behind, Over, Worded, Bare, Aimed, Assigned, Marked, Printed, Goal, Text, State, At, In, Either, labelled, expression_wanted, behind, rested, Next, Go, Stuck, Deep, Long, arguments, own, begins, on_rested, first, place_step, behind_step, phrase_step, in_step, step}
 use Rattle.mj_cmd.proofs.Leaves.{NextLeads, place_leads}
 use Rattle.mj_cmd.proofs.Facts.{place_long}
 

@@ -1,5 +1,5 @@
 -- What the grammar has, the machine reads.
-use Rattle.std.proofs.Common.{◌≡◌, ℕ, zero, suc, ◌+◌, ◌-◌, ◌≤◌, ◌==◌, nat_le, max, List, [], ◌∷◌, ◌++◌, length, refl, ap, sym, ◌∙◌, subst, Bool, true, false, append_assoc, append-nil, arith, Option, Some, None, map, inl, inr, ◌⊎◌}
+use Rattle.std.proofs.Common.{◌≡◌, ℕ, zero, suc, ◌-◌, ◌≤◌, nat_le, max, List, [], ◌∷◌, ◌++◌, length, refl, ap, sym, ◌∙◌, subst, Bool, true, append_assoc, append-nil, arith, Option, Some, None, map, inl, inr}
 use Rattle.std.specs.Prelude.{cond, replicate}
 use Rattle.std.proofs.lemmas.List.{map-append}
 use Rattle.std.proofs.lemmas.Bool.Decides.{nat_tests}
@@ -10,14 +10,14 @@ use Rattle.mj_ast.specs.declared.keyword.Keyword.{Keyword}
 use Rattle.mj_ast.specs.declared.keyword.Keyword.TheVariants as keyword
 use Rattle.mj_ast.specs.Syntax.{Expr, Variable, Assignment, Output, Shown, Format, Command, Set, Write, Halt, Step, Line}
 use Rattle.mj_ast.specs.Tokens.{Token, Word, Digits, Signed, Blank, Comment}
-use Rattle.mj_ast.specs.Expressions.{Symbol, symbol, Spells, expressions, variables, expr_symbols, variable_symbols, expr_nesting, variable_nesting, expr_width, variable_width, name_limit}
-use Rattle.mj_ast.specs.Commands.{keyword_of, keyword_for, greatest, output_measure, step_nesting, step_width, condition_measure, SpellsFrom, SpellsList, SpellsAssignment, SpellsOutput, SpellsCondition, SpellsArguments, SpellsStep, mark_token, gap_behind, comment_gap_behind}
+use Rattle.mj_ast.specs.Expressions.{Symbol, symbol, Spells, expressions, variables, expr_symbols, expr_nesting, variable_nesting, expr_width, variable_width}
+use Rattle.mj_ast.specs.Commands.{keyword_for, greatest, output_measure, step_nesting, step_width, condition_measure, SpellsFrom, SpellsAssignment, SpellsOutput, SpellsCondition, SpellsArguments, SpellsStep, mark_token, gap_behind, comment_gap_behind}
 use Rattle.mj_ast.specs.Lines.{SpellsEnd, SpellsSteps, SpellsLine, SpellsLabel, IsLineWithin, comment_gap}
 use Rattle.mj_expr.specs.Machine.{Limits}
 use Rattle.mj_expr.specs.Machine as phrase
 use Rattle.mj_expr.proofs.Zipper.{AnExpression, AVariable}
 use Rattle.mj_expr.proofs.Complete.{Ceases, complete_phrase}
-use Rattle.mj_cmd.specs.Machine.{Rest, Place, Begin, Behind, Over, Worded, Bare, Aimed, Assigned, Marked, Printed, Goal, Condition, Destination, Value, Text, State, At, In, Either, empty_line, labelled, with_step, after_step, printed_at, expression_wanted, variable_wanted, behind, rested, begins, arguments, on, on_rested, first, place_step, ended_at, ended_place, Next, Go, Stuck, Accept, run, turn}
+use Rattle.mj_cmd.specs.Machine.{Rest, Place, Begin, Behind, Worded, Bare, Assigned, Marked, Goal, Condition, Destination, Value, Text, At, In, Either, empty_line, labelled, after_step, printed_at, expression_wanted, variable_wanted, behind, rested, begins, arguments, on, on_rested, first, place_step, ended_at, ended_place, Go, Stuck, Accept, run, turn}
 use Rattle.mj_cmd.specs.Heads.{HasParted, HasNoColon}
 use Rattle.mj_cmd.proofs.Facts.{lift_accept}
 

@@ -1,15 +1,14 @@
 -- How a run ends.
-use Rattle.std.proofs.Common.{◌≡◌, ℕ, ◌+◌, ◌≤◌, List, [], ◌∷◌, ◌++◌, length, refl, ap, sym, ◌∙◌, subst, Bool, true, false, nat_le, ◌⊎◌, inl, inr, append_assoc, arith, Option, Some, None}
+use Rattle.std.proofs.Common.{◌≡◌, ℕ, ◌≤◌, List, [], ◌∷◌, ◌++◌, length, refl, ap, ◌∙◌, subst, Bool, true, false, nat_le, ◌⊎◌, inl, inr, Option, Some, None}
 use Rattle.std.specs.Prelude.{cond}
 use Rattle.mj_ast.specs.Tokens.{Token, Word, Digits, Quoted, Signed, Blank, Comment, Unclosed, Stray}
-use Rattle.mj_ast.specs.Syntax.{Line}
 use Rattle.mj_expr.specs.Machine.{Limits}
 use Rattle.mj_expr.specs.Machine as phrase
 use Rattle.mj_expr.proofs.Facts.{IsMore, deeper}
 use Rattle.mj_cmd.specs.Machine.{Rest, Place, Begin, Behind, Over, Worded, Bare, Aimed, Assigned, Marked, Printed, Goal, State, At, In, Either, Next, Go, Stuck, Deep, Long, behind, rested, step, Outcome, Accept, StuckAt, DeepAt, TooLong, refused, ended, ended_at, ended_place, ended_behind, run, turn}
-use Rattle.mj_cmd.proofs.Leaves.{StateLeaves, Leads}
+use Rattle.mj_cmd.proofs.Leaves.{Leads}
 use Rattle.mj_cmd.proofs.Good.{StateGood}
-use Rattle.mj_cmd.proofs.Facts.{Facts, FactsAt, LongFacts, step_known}
+use Rattle.mj_cmd.proofs.Facts.{Facts, LongFacts, step_known}
 
 -- The machine goes from s along ks to e.
 abbrev pub Along : Limits → State → List Token → State → Type 0

@@ -1,33 +1,31 @@
 -- What is known of a step.
-use Rattle.std.proofs.Common.{◌≡◌, ℕ, ◌+◌, ◌≤◌, ◌<◌, ◌==◌, nat_le, List, [], ◌∷◌, ◌++◌, length, refl, ap, sym, ◌∙◌, subst, Bool, true, false, arith, Option, Some, None, map, append_assoc, append-nil, length-append}
-use Rattle.std.specs.Prelude.{cond, bytes_eq, ◌&&◌, ◌≢◌}
+use Rattle.std.proofs.Common.{◌≡◌, ℕ, ◌≤◌, ◌<◌, ◌==◌, nat_le, List, [], ◌∷◌, ◌++◌, length, refl, ap, sym, ◌∙◌, subst, Bool, true, false, arith, Option, Some, None, map, append_assoc, append-nil, length-append}
+use Rattle.std.specs.Prelude.{cond, bytes_eq, ◌&&◌}
 use Rattle.std.proofs.lemmas.Slice.Eq.{bytes_eq-Decides}
 use Rattle.std.proofs.lemmas.List.{map-append, length-map}
 use Rattle.std.proofs.lemmas.Bool.Decides.{nat_tests}
-use Rattle.mj_ast.specs.declared.sign.Sign.TheVariants.{Equals, Comma, Colon, Exclamation}
+use Rattle.mj_ast.specs.declared.sign.Sign.TheVariants.{Comma, Exclamation}
 use Rattle.mj_ast.specs.declared.keyword.Keyword.{Keyword}
-use Rattle.mj_ast.specs.declared.keyword.Keyword.TheVariants as keyword
-use Rattle.mj_ast.specs.Syntax.{Expr, Output, Format, Write, Line}
+use Rattle.mj_ast.specs.Syntax.{Expr, Output, Format, Line}
 use Rattle.mj_ast.specs.Tokens.{Token, Word, Digits, Quoted, Signed, Blank, Comment, Unclosed, Stray}
-use Rattle.mj_ast.specs.Expressions.{Symbol, Name, Overlong, symbol, name_limit}
-use Rattle.mj_ast.specs.Commands.{keyword_of, looked_up, command_words, capital, SpellsOutput, mark_token}
+use Rattle.mj_ast.specs.Expressions.{Symbol, Name, Overlong, symbol}
+use Rattle.mj_ast.specs.Commands.{keyword_of, looked_up, command_words, capital, mark_token}
 use Rattle.mj_ast.specs.Lines.{Filler, no_filler, digits_filler, word_filler}
 use Rattle.mj_ast.specs.declared.routine.Mark.{Mark}
 use Rattle.mj_ast.specs.declared.routine.Mark.TheVariants.{NewLine}
 use Rattle.mj_expr.specs.Machine.{Limits}
 use Rattle.mj_expr.specs.Machine as phrase
-use Rattle.mj_expr.proofs.Zipper.{AnExpression, AVariable, HasRead, IsGood, sofar, phrase_symbols}
+use Rattle.mj_expr.proofs.Zipper.{HasRead, sofar}
 use Rattle.mj_expr.proofs.Facts.{IsMore, deeper, wider, more_deeper, more_wider}
 use Rattle.mj_expr.proofs.Facts as known
 use Rattle.mj_expr.proofs.States.{step_facts}
-use Rattle.mj_expr.proofs.States as known_at
 use Rattle.mj_expr.proofs.Told.{accepts}
 use Rattle.mj_expr.proofs.Ends.{finish_deep}
 use Rattle.mj_expr.proofs.Said.{finish_stuck, finish_long, overlong_finish, overlong_word, comma_token}
-use Rattle.mj_expr.proofs.Turns.{finish_again, accept_length, overlong_stuck}
-use Rattle.mj_cmd.specs.Machine.{Rest, Place, Begin, Behind, Over, Worded, Bare, Aimed, Assigned, Marked, Printed, Goal, Condition, Destination, Value, Text, State, At, In, Either, labelled, expression_wanted, behind, rested, Next, Go, Stuck, Deep, Long, own, begins, on, on_rested, first, place_step, behind_step, phrase_step, in_step, step, Outcome, Accept, StuckAt, DeepAt, TooLong, refused, ended, ended_place, ended_behind, run, turn, goes}
-use Rattle.mj_cmd.proofs.Leaves.{StateLeaves, PhraseLeaves, OneLeaves, Leads, NextLeads, kind, place_leads, a_text}
-use Rattle.mj_cmd.proofs.Good.{StateGood, GoalGood, PlaceGood, NextGood, place_good, behind_good, goal_more}
+use Rattle.mj_expr.proofs.Turns.{finish_again, accept_length}
+use Rattle.mj_cmd.specs.Machine.{Rest, Place, Begin, Behind, Marked, Goal, Text, State, At, In, Either, labelled, expression_wanted, behind, rested, Next, Go, Stuck, Deep, Long, own, begins, on_rested, first, place_step, behind_step, phrase_step, in_step, step, StuckAt, DeepAt, TooLong, refused, ended_behind, run, turn}
+use Rattle.mj_cmd.proofs.Leaves.{Leads, NextLeads, kind, place_leads, a_text}
+use Rattle.mj_cmd.proofs.Good.{StateGood, PlaceGood, NextGood, place_good, behind_good, goal_more}
 
 -- where a list is too long: with a comma, and perhaps one token before it, it would have one subscript more
 pub record LongFacts (m : Limits) (s : State) (k : Token) : Type 0 where

@@ -1,17 +1,17 @@
 -- What the functions that read a line follow.
-use Rattle.std.proofs.Common.{◌≡◌, ℕ, zero, suc, ◌+◌, ◌-◌, ◌≤◌, ◌<◌, List, [], ◌∷◌, ◌++◌, length, refl, ap, sym, ◌∙◌, subst, Bool, true, false, append_assoc, append-nil, length-append, arith, Option, Some, None, map, Result, Ok, Err, drop, take, nat_le}
+use Rattle.std.proofs.Common.{◌≡◌, ℕ, zero, suc, ◌-◌, ◌≤◌, ◌<◌, List, [], ◌∷◌, ◌++◌, length, refl, ap, sym, ◌∙◌, subst, Bool, true, false, append_assoc, append-nil, arith, Option, Some, None, map, Result, Ok, Err, nat_le}
 use Rattle.std.specs.Prelude.{cond, replicate}
-use Rattle.std.specs.Result.{IfOk, IfErr, IsErrAnd}
-use Rattle.std.proofs.lemmas.List.{map-append, length-map}
+use Rattle.std.specs.Result.{IfOk, IsErrAnd}
+use Rattle.std.proofs.lemmas.List.{map-append}
 use Rattle.std.proofs.lemmas.Bool.Decides.{nat_tests}
-use Rattle.mj_ast.specs.declared.sign.Sign.TheVariants.{Equals, Comma, Colon, Exclamation}
+use Rattle.mj_ast.specs.declared.sign.Sign.TheVariants.{Equals, Comma, Exclamation}
 use Rattle.mj_ast.specs.declared.routine.Mark.{Mark}
 use Rattle.mj_ast.specs.declared.routine.Mark.TheVariants.{NewLine}
 use Rattle.mj_ast.specs.declared.keyword.Keyword.{Keyword}
 use Rattle.mj_ast.specs.declared.keyword.Keyword.TheVariants as keyword
-use Rattle.mj_ast.specs.Syntax.{Expr, Variable, Assignment, Output, Shown, Format, Command, Set, Write, Halt, Step, Line}
-use Rattle.mj_ast.specs.Tokens.{Token, Word, Digits, Quoted, Signed, Blank, Comment, Unclosed, Stray}
-use Rattle.mj_ast.specs.Expressions.{Symbol, symbol, Phrases}
+use Rattle.mj_ast.specs.Syntax.{Expr, Variable, Assignment, Output, Shown, Format, Command, Step, Line}
+use Rattle.mj_ast.specs.Tokens.{Token, Word, Digits, Signed, Blank, Comment}
+use Rattle.mj_ast.specs.Expressions.{symbol, Phrases}
 use Rattle.mj_ast.specs.Commands.{mark_token, keyword_of}
 use Rattle.mj_ast.specs.Lines.{comment_gap}
 use Rattle.std.specs.Option.{is_some}
@@ -23,12 +23,12 @@ use Rattle.mj_expr.specs.Phrases as grammar
 use Rattle.mj_expr.specs.declared.stop.Stop.{Stop}
 use Rattle.mj_expr.specs.declared.stop.Stop.TheVariants as stop
 use Rattle.mj_lex.specs.declared.token.Lexeme.{Lexeme}
-use Rattle.mj_lex.specs.Seen.{token_seen, tokens_seen}
-use Rattle.mj_cmd.specs.Machine.{Rest, Place, Begin, Behind, Over, Worded, Bare, Aimed, Assigned, Marked, Printed, Goal, Condition, Destination, Value, Text, State, At, In, Either, bare_line, with_step, after_step, printed_at, expression_wanted, variable_wanted, behind, Outcome, Accept, StuckAt, DeepAt, TooLong, refused, run, turn, begins, first, Next, Go, Stuck}
-use Rattle.mj_cmd.specs.Heads.{HasNoComma, HasNoEquals, HasNoColon, HasNoMark, HasNoBlank, HasNoWord, HasParted, HasOther, label_gap}
+use Rattle.mj_lex.specs.Seen.{tokens_seen}
+use Rattle.mj_cmd.specs.Machine.{Begin, Behind, Over, Worded, Bare, Aimed, Assigned, Marked, Goal, Text, State, At, In, Either, bare_line, with_step, printed_at, expression_wanted, behind, Outcome, Accept, refused, run, turn, begins, first, Go, Stuck}
+use Rattle.mj_cmd.specs.Heads.{HasNoComma, HasNoEquals, HasNoMark, HasNoBlank, HasNoWord, HasParted, HasOther, label_gap}
 use Rattle.mj_cmd.specs.Reads.{HasRoom, Refuses, Reads, Ends, HasEnded}
 use Rattle.mj_cmd.proofs.Facts.{lift_accept, lift_stuck, lift_deep, lift_long}
-use Rattle.mj_cmd.proofs.Complete.{complete_marks, run_rests, assigned_rests, printed_rests, worded_bare, blanks_go}
+use Rattle.mj_cmd.proofs.Complete.{complete_marks, blanks_go}
 
 -- another token
 abbrev pub IsNoComment : Token → Type 0

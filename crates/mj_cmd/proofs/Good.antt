@@ -1,18 +1,17 @@
 -- What was read is within the limits, and a shortest way to the line's end.
-use Rattle.std.proofs.Common.{◌≡◌, ℕ, ◌+◌, ◌≤◌, ◌==◌, nat_le, max, List, [], ◌∷◌, ◌++◌, length, refl, ap, sym, ◌∙◌, subst, Bool, true, false, arith, Option, Some, None, map, append-nil, inl}
+use Rattle.std.proofs.Common.{◌≡◌, ℕ, ◌≤◌, ◌==◌, nat_le, max, List, [], ◌∷◌, ◌++◌, length, refl, ap, sym, Bool, true, false, arith, Option, Some, None, append-nil, inl}
 use Rattle.std.specs.Prelude.{cond}
 use Rattle.mj_ast.specs.declared.sign.Sign.TheVariants.{Equals, Comma, Colon, Exclamation}
-use Rattle.mj_ast.specs.declared.routine.Mark.{Mark}
 use Rattle.mj_ast.specs.declared.keyword.Keyword.{Keyword}
 use Rattle.mj_ast.specs.declared.keyword.Keyword.TheVariants as keyword
 use Rattle.mj_ast.specs.Syntax.{Expr, Variable, Assignment, Output, Shown, Format, Command, Set, Write, Halt, Step, Line}
 use Rattle.mj_ast.specs.Tokens.{Token, Word, Digits, Quoted, Signed, Blank, Comment, Unclosed, Stray}
-use Rattle.mj_ast.specs.Expressions.{symbol, name_limit, expr_nesting, expr_width, variable_nesting, variable_width}
+use Rattle.mj_ast.specs.Expressions.{name_limit, expr_nesting, expr_width, variable_nesting, variable_width}
 use Rattle.mj_ast.specs.Commands.{keyword_of, greatest, step_nesting, step_width, output_measure}
 use Rattle.mj_ast.specs.Lines.{IsLineWithin}
 use Rattle.mj_expr.specs.Machine.{Limits}
 use Rattle.mj_expr.specs.Machine as phrase
-use Rattle.mj_expr.proofs.Zipper.{AnExpression, AVariable, Fits, HasRead, IsGood, sofar, phrase_symbols}
+use Rattle.mj_expr.proofs.Zipper.{AnExpression, AVariable, Fits, IsGood, sofar}
 use Rattle.mj_expr.proofs.Told.{read_goes}
 use Rattle.mj_expr.proofs.Facts.{IsMore}
 use Rattle.mj_cmd.specs.Machine.{Rest, Place, Begin, Behind, Over, Worded, Bare, Aimed, Assigned, Marked, Printed, Goal, Condition, Destination, Value, Text, State, At, In, Either, empty_line, labelled, with_step, after_step, expression_wanted, variable_wanted, behind, rested, Next, Go, Stuck, Deep, Long, arguments, own, begins, on, on_rested, first, place_step}

@@ -1,9 +1,7 @@
 -- What may still follow at a state, in the words of the grammar.
-use Rattle.std.proofs.Common.{◌≡◌, ℕ, zero, suc, ◌+◌, ◌-◌, ◌≤◌, ◌==◌, nat_le, max, List, [], ◌∷◌, ◌++◌, length, refl, ap, sym, ◌∙◌, subst, Bool, true, false, append_assoc, append-nil, arith, Option, Some, None, map, inl, inr, ◌⊎◌}
-use Rattle.std.specs.Prelude.{cond, replicate, ◌≢◌}
-use Rattle.std.proofs.lemmas.List.{map-append}
+use Rattle.std.proofs.Common.{◌≡◌, ℕ, suc, ◌-◌, ◌≤◌, ◌==◌, nat_le, List, [], ◌∷◌, ◌++◌, length, refl, ap, sym, ◌∙◌, subst, Bool, true, false, append_assoc, append-nil, arith, Option, Some, None, map, inl, inr}
+use Rattle.std.specs.Prelude.{cond}
 use Rattle.std.proofs.lemmas.Bool.Decides.{nat_tests}
-use Rattle.mj_ast.specs.declared.sign.Sign.{Sign}
 use Rattle.mj_ast.specs.declared.sign.Sign.TheVariants.{Equals, Comma, Colon, Exclamation}
 use Rattle.mj_ast.specs.declared.routine.Mark.{Mark}
 use Rattle.mj_ast.specs.declared.routine.Mark.TheVariants.{NewLine}
@@ -11,12 +9,12 @@ use Rattle.mj_ast.specs.declared.keyword.Keyword.{Keyword}
 use Rattle.mj_ast.specs.declared.keyword.Keyword.TheVariants as keyword
 use Rattle.mj_ast.specs.Syntax.{Expr, Variable, Assignment, Output, Shown, Format, Command, Set, Write, Halt, Step, Line}
 use Rattle.mj_ast.specs.Tokens.{Token, Word, Digits, Quoted, Signed, Blank, Comment, Unclosed, Stray}
-use Rattle.mj_ast.specs.Expressions.{Symbol, symbol, Spells, expressions, variables, name_limit}
-use Rattle.mj_ast.specs.Commands.{keyword_of, keyword_for, SpellsFrom, SpellsAssignment, SpellsOutput, SpellsCondition, SpellsArguments, SpellsStep, mark_token, gap_behind, comment_gap_behind}
+use Rattle.mj_ast.specs.Expressions.{symbol, Spells, expressions, name_limit}
+use Rattle.mj_ast.specs.Commands.{keyword_of, keyword_for, SpellsFrom, SpellsAssignment, SpellsOutput, SpellsCondition, SpellsArguments, mark_token}
 use Rattle.mj_ast.specs.Lines.{SpellsEnd, SpellsSteps, SpellsLine}
 use Rattle.mj_expr.specs.Machine as phrase
 use Rattle.mj_expr.proofs.Zipper.{Kind, AnExpression, AVariable, IsKind, phrase_symbols, sofar}
-use Rattle.mj_cmd.specs.Machine.{Rest, Place, Begin, Behind, Over, Worded, Bare, Aimed, Assigned, Marked, Printed, Goal, Condition, Destination, Value, Text, State, At, In, Either, empty_line, labelled, with_step, after_step, expression_wanted, variable_wanted, behind, rested, Next, Go, Stuck, Deep, Long, arguments, own, begins, on, on_rested, first, place_step}
+use Rattle.mj_cmd.specs.Machine.{Rest, Place, Begin, Behind, Over, Worded, Bare, Aimed, Assigned, Marked, Printed, Goal, Condition, Destination, Value, Text, State, At, In, Either, labelled, after_step, expression_wanted, variable_wanted, behind, rested, Next, Go, Stuck, Deep, Long, arguments, own, begins, on, on_rested, first, place_step}
 
 -- the rest of the commands
 pub record Follows (r : Rest) (ks : List Token) (l : Line) : Type 0 where

@@ -7,7 +7,7 @@ use Rattle.mj_ast.specs.Syntax.{Step, Line}
 use Rattle.mj_ast.specs.Tokens.{Token, Word, Digits, Quoted, Signed, Blank, Comment, Unclosed, Stray}
 use Rattle.mj_ast.specs.Expressions.{width_limit}
 use Rattle.mj_ast.specs.Commands.{greatest, step_nesting, step_width}
-use Rattle.mj_ast.specs.Lines.{SpellsLine, IsLineWithin, BeginsLine, BeginsLineWithin, IsStuck, IsDeep, Filler, no_filler, digits_filler, word_filler, IsLastComma, IsOverlong, HasOverlong}
+use Rattle.mj_ast.specs.Lines.{SpellsLine, IsLineWithin, BeginsLine, BeginsLineWithin, Filler, no_filler, digits_filler, word_filler, IsOverlong, HasOverlong}
 use Rattle.mj_expr.specs.Machine.{Limits}
 use Rattle.mj_expr.specs.Machine as phrase
 use Rattle.mj_expr.specs.Reads.{limits}
@@ -17,9 +17,9 @@ use Rattle.mj_cmd.specs.Machine.{Rest, Place, Begin, Behind, Over, Worded, Bare,
 use Rattle.mj_expr.specs.declared.stop.Stop.{Stop}
 use Rattle.mj_cmd.specs.Reads.{Refuses}
 use Rattle.mj_cmd.specs.Said.{IsRead, IsStuckWith, IsDeepWith, IsRefused, IsLate}
-use Rattle.mj_cmd.proofs.Leaves.{StateLeaves, Leads, Leaves, Follows, rested_leads, RestedLeads}
-use Rattle.mj_cmd.proofs.Good.{StateGood, PlaceGood, GoesOn, state_goes, rested_good, RestGood}
-use Rattle.mj_cmd.proofs.Facts.{Facts, FactsAt, step_known, whole_leads, accept_nil}
+use Rattle.mj_cmd.proofs.Leaves.{StateLeaves, Leads, Leaves, rested_leads, RestedLeads}
+use Rattle.mj_cmd.proofs.Good.{StateGood, PlaceGood, state_goes, rested_good, RestGood}
+use Rattle.mj_cmd.proofs.Facts.{Facts, step_known, whole_leads, accept_nil}
 use Rattle.mj_cmd.proofs.Ends.{Along, along_leads, along_runs, Whole, Halts, Deepens, Lengthens, EndsAs, run_ends}
 use Rattle.mj_cmd.proofs.Complete.{complete_line}
 use Rattle.mj_cmd.proofs.Commas.{deep_stays, word_stuck, StateReached, GoReached, state_reached, line_comma, LineComma, line_easy, IsSimple, line_level}

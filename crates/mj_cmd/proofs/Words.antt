@@ -1,5 +1,5 @@
 -- Words in any case.
-use Rattle.std.proofs.Common.{◌≡◌, ℕ, ◌+◌, ◌≤◌, nat_le, List, [], ◌∷◌, refl, ap, sym, ◌∙◌, Bool, true, false, arith, map}
+use Rattle.std.proofs.Common.{◌≡◌, ℕ, ◌≤◌, nat_le, List, [], ◌∷◌, refl, ap, ◌∙◌, Bool, true, false, arith, map}
 use Rattle.std.specs.Prelude.{◌&&◌, IsTrue, bytes_eq, ◌↔◌}
 use Rattle.std.specs.Char.{to_ascii_lowercase}
 use Rattle.std.proofs.lemmas.Slice.Eq.{bytes_eq-Decides}

@@ -1,5 +1,5 @@
 -- Reads the tokens of a line from the left, one at a time: what was read, and what may come next.
-use Rattle.std.specs.Prelude.{ℕ, ◌-◌, ◌==◌, nat_le, Bool, true, false, if◌then◌else◌, List, [], ◌∷◌, ◌++◌, length, Option, Some, None}
+use Rattle.std.specs.Prelude.{ℕ, ◌-◌, ◌==◌, nat_le, if◌then◌else◌, List, [], ◌∷◌, ◌++◌, length, Option, Some, None}
 use Rattle.mj_ast.specs.declared.sign.Sign.TheVariants.{Equals, Comma, Colon, Exclamation}
 use Rattle.mj_ast.specs.declared.routine.Mark.{Mark}
 use Rattle.mj_ast.specs.declared.routine.Mark.TheVariants.{NewLine}

@@ -1,13 +1,13 @@
 -- Lines and routines that were read.
-use Rattle.std.proofs.Common.{◌≡◌, ℕ, suc, ◌+◌, ◌≤◌, ◌<◌, List, [], ◌∷◌, ◌++◌, length, map, refl, ap, sym, ◌∙◌, subst, arith, inl, inr, ◌⊎◌, append-nil, append_assoc}
+use Rattle.std.proofs.Common.{◌≡◌, ℕ, suc, ◌+◌, ◌≤◌, List, [], ◌∷◌, ◌++◌, length, map, refl, ap, sym, ◌∙◌, subst, arith, inl, inr, append-nil, append_assoc}
 use Rattle.std.proofs.lemmas.List.{length-map, map-append}
 use Rattle.mj_ast.specs.Syntax.{Line, Routine}
 use Rattle.mj_ast.specs.Tokens.{Token, tokens, column}
 use Rattle.mj_ast.specs.Lines.{SpellsLine, IsLong, HasOverlong, IsStuck, IsDeep}
-use Rattle.mj_ast.specs.Routines.{lines_of, SpellsLines, SpellsRoutine}
+use Rattle.mj_ast.specs.Routines.{lines_of, SpellsLines}
 use Rattle.mj_cmd.specs.Said.{IsRead, IsStuckWith, IsDeepWith}
 use Rattle.mj_rou.specs.Read.{IsLineRead, IsLineStuck, AreRead, IsRoutineRead}
-use Rattle.mj_ast.specs.Lines.{IsStuckAt, IsDeepAt}
+use Rattle.mj_ast.specs.Lines.{IsDeepAt}
 use Rattle.mj_ast.specs.declared.routine.Line as kept
 use Rattle.mj_ast.specs.Trees.{line_of}
 use Rattle.std.proofs.Common.{Result, Ok, Err, Bool, true, false}

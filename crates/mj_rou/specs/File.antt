@@ -1,5 +1,5 @@
 -- The end of a line.
-use Rattle.std.specs.Prelude.{ℕ, ◌==◌, Bool, not, if◌then◌else◌, List, [], ◌∷◌}
+use Rattle.std.specs.Prelude.{ℕ, ◌==◌, Bool, if◌then◌else◌, List, [], ◌∷◌}
 
 -- the byte that ends a line
 abbrev pub is_newline : ℕ → Bool

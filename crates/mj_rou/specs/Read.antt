@@ -1,5 +1,5 @@
 -- What is said of a routine that was read.
-use Rattle.std.specs.Prelude.{ℕ, ◌≡◌, ◌+◌, ◌≤◌, List, [], ◌∷◌, ◌++◌, length}
+use Rattle.std.specs.Prelude.{ℕ, ◌≡◌, ◌≤◌, List, [], ◌∷◌, length}
 use Rattle.mj_ast.specs.Syntax.{Line, Routine}
 use Rattle.mj_ast.specs.Tokens.{tokens}
 use Rattle.mj_ast.specs.Expressions.{depth_limit, width_limit}

@@ -51,7 +51,7 @@ fn lines_are_read_or_refused(rt: HostRuntime) {
         (b" H  W 1", "ok"),
         (b" H 5", "L2 R:1:4"),
         (b" HANG 5", "L2 R:1:2"),
-        (b" h:X=1  w:'X 1", "L2 R:1:11"),
+        (b" h:X=1  w:)X 1", "L2 R:1:11"),
         (b" h:X=1  w:X 1", "ok"),
         (b"A", "ok"),
         (b"A;c", "L2 R:1:2"),

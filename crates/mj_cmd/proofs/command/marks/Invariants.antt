@@ -1,4 +1,4 @@
-use Rattle.std.proofs.Common.{◌≡◌, ◌+◌, ◌++◌, ℕ, length, map}
+use Rattle.std.proofs.Common.{◌≡◌, ◌+◌, ◌++◌, length, map}
 use Rattle.std.specs.Prelude.{replicate}
 use Rattle.mj_ast.specs.Commands.{mark_token}
 use Rattle.mj_ast.specs.declared.routine.Mark.TheVariants.{NewLine}

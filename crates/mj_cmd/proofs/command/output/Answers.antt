@@ -1,6 +1,5 @@
 use Rattle.std.proofs.Common.{◌∙◌, refl, ap, arith}
 use Rattle.mj_ast.specs.Syntax.{Shown, Format}
-use Rattle.mj_ast.specs.Trees.{expr_of}
 use Rattle.mj_lex.specs.Seen.{tokens_seen}
 use Rattle.mj_cmd.specs.Machine.{Text}
 use Rattle.mj_cmd.proofs.Follow.{reads_err, refuses_from, text_wanted, marks_all, no_marks}

@@ -1,4 +1,4 @@
-use Rattle.std.proofs.Common.{◌≡◌, ◌<◌, ◌-◌, ◌+◌, suc, length, sym, ap, ◌∙◌, arith}
+use Rattle.std.proofs.Common.{◌<◌, ◌-◌, length, arith}
 use Rattle.mj_rou.proofs.Lines.{return_left_out, others_stay, not_empty, is_empty_list}
 use Rattle.mj_rou.proofs.file.stripped.Goals as goal
 use Rattle.mj_rou.proofs.file.stripped.Goals.{else-not-is_empty-via-then-not-is_empty+else-line-eq13, else-not-is_empty-via-else-not-is_empty}
