@@ -9,7 +9,7 @@ use Rattle.std.specs.FinMap.Entries.{below_all}
 use Rattle.std.specs.Option.{option_to_list}
 use Rattle.std.specs.BTreeMap.{insert_entry}
 use Rattle.mj_tree.specs.Nest.{own, under, behind, below}
-use Rattle.mj_tree.proofs.Nest.{first_so, second_so, is_less}
+use Rattle.mj_tree.specs.Maps.{first_so, second_so, is_less}
 
 joined : {A : Type 0} (xs ys zs : List A) → (xs ++ ys) ++ zs ≡ xs ++ (ys ++ zs)
 joined [] ys zs = refl

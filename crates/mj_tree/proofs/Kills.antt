@@ -1,44 +1,18 @@
 -- What goes from a node goes from one of its children.
-use Rattle.std.proofs.Common.{◌≡◌, ◌<◌, Bool, true, false, cond, ◌&&◌, List, [], ◌∷◌, ◌++◌, length, Option, Some, None, refl, sym, ap, ◌∙◌, subst, arith}
+use Rattle.std.proofs.Common.{◌≡◌, ◌<◌, Bool, true, false, cond, List, [], ◌∷◌, ◌++◌, length, Option, Some, None, refl, sym, ap, ◌∙◌, subst, arith}
 use Rattle.std.specs.Prelude.{T}
 use Rattle.std.specs.declared.cmp.Ordering.{Ordering}
 use Rattle.std.specs.declared.cmp.Ordering.TheVariants.{Less, Equal, Greater}
-use Rattle.std.specs.Ordering.{is_eq, is_lt, eq_by_cmp}
+use Rattle.std.specs.Ordering.{is_eq, eq_by_cmp}
 use Rattle.std.specs.Cmp.{IsTotalOrder}
 use Rattle.std.specs.FinMap.{is_sorted}
-use Rattle.std.specs.FinMap.Entries.{below_all}
 use Rattle.std.specs.List.{filter}
 use Rattle.std.specs.Option.{is_none, is_some}
 use Rattle.std.specs.Map.{lookup, set_value, remove_entry}
 use Rattle.std.specs.BTreeMap.{is_at}
 use Rattle.mj_store.specs.Nodes.{after_front}
 use Rattle.mj_tree.specs.Nest.{own, under, below, AreFilled, without}
-use Rattle.mj_tree.proofs.Nest.{first_so, second_so, lookup_before, tied_before}
-
-module _ {K : Type 0} (R : K → K → Ordering) where
-  below_all-remove : {X : Type 0} (t s : K) (ks : List (K × X)) → T (below_all R t ks) → T (below_all R t (remove_entry (is_at (R s)) ks))
-  below_all-remove t s [] h = tt
-  below_all-remove t s (k ∷ ks) h =
-      elim (is_eq (R s k.0)) as (λ b. T (below_all R t (cond b ks (k ∷ remove_entry (is_at (R s)) ks)))) [
-        | true ↦ second_so _ _ h
-        | false ↦ both (is_lt (R t k.0)) _ (first_so _ _ h) (below_all-remove t s ks (second_so _ _ h))
-      ]
-    where
-      both : (a b : Bool) → T a → T b → T (a && b)
-      both true b p q = q
-      both false b p q = p
-
-  pub sorted_removed : {X : Type 0} (s : K) (ks : List (K × X)) → T (is_sorted R ks) → T (is_sorted R (remove_entry (is_at (R s)) ks))
-  sorted_removed s [] h = tt
-  sorted_removed s (k ∷ ks) h =
-      elim (is_eq (R s k.0)) as (λ b. T (is_sorted R (cond b ks (k ∷ remove_entry (is_at (R s)) ks)))) [
-        | true ↦ second_so _ _ h
-        | false ↦ both (below_all R k.0 (remove_entry (is_at (R s)) ks)) _ (below_all-remove k.0 s ks (first_so _ _ h)) (sorted_removed s ks (second_so _ _ h))
-      ]
-    where
-      both : (a b : Bool) → T a → T b → T (a && b)
-      both true b p q = q
-      both false b p q = p
+use Rattle.mj_tree.specs.Maps.{first_so, second_so, lookup_before, tied_before, lookup_written}
 
 module _ {K V : Type 0} (R : K → K → Ordering) where
   without-append : (p : List K) (xs ys : List (List K × V)) → without R p (xs ++ ys) ≡ without R p xs ++ without R p ys
@@ -97,14 +71,6 @@ module _ {K V : Type 0} (R : K → K → Ordering) where
 
   -- ---- a child that is left without a node is taken out
 
-  lookup-set_value : (ks : List (K × List (List K × V))) (s : K) (c w : List (List K × V)) → lookup (is_at (R s)) ks ≡ Some c → lookup (is_at (R s)) (set_value (is_at (R s)) ks w) ≡ Some w
-  lookup-set_value [] s c w there = absurd cc
-  lookup-set_value (k ∷ ks) s c w there =
-      elim (is_eq (R s k.0)) as (λ b. is_eq (R s k.0) ≡ b → cond b (Some k.1) (lookup (is_at (R s)) ks) ≡ Some c → lookup (is_at (R s)) (cond b ((k.0, w) ∷ ks) (k ∷ set_value (is_at (R s)) ks w)) ≡ Some w) [
-        | true ↦ λ b e. ap (λ t. cond t (Some w) (lookup (is_at (R s)) ks)) b
-        | false ↦ λ b e. ap (λ t. cond t (Some k.1) (lookup (is_at (R s)) (set_value (is_at (R s)) ks w))) b ∙ lookup-set_value ks s c w e
-      ] refl there
-
   below-remove_entry : (xs : List (K × List (List K × V))) (s : K) → lookup (is_at (R s)) xs ≡ Some [] → below (remove_entry (is_at (R s)) xs) ≡ below xs
   below-remove_entry [] s there = refl
   below-remove_entry (k ∷ ks) s there =
@@ -130,7 +96,7 @@ module _ {K V : Type 0} (R : K → K → Ordering) where
     kill_removed es fs text written removed empty =
         ap (λ (xs : List (List K × V)). own text ++ xs)
         (ap below removed
-        ∙ below-remove_entry es s (ap (lookup (is_at (R s))) written ∙ lookup-set_value ks s c w there ∙ ap (λ (n : List (List K × V)). Some n) empty))
+        ∙ below-remove_entry es s (ap (lookup (is_at (R s))) written ∙ lookup_written R ks s c w there ∙ ap (λ (n : List (List K × V)). Some n) empty))
         ∙ kill_written es text written
 
 pub no_children : {K V : Type 0} (ks : List (K × List (List K × V))) → length ks ≡ 0 → below ks ≡ []

@@ -11,8 +11,8 @@ use Rattle.std.specs.Option.{option_map}
 use Rattle.std.specs.Map.{lookup}
 use Rattle.std.specs.BTreeMap.{is_at}
 use Rattle.mj_tree.specs.Nest.{own, under, below, AreFilled, nodes_of, lead, later, beyond}
-use Rattle.mj_tree.proofs.Nest.{first_so, second_so, lookup_before, tied_before, first_and_rest}
-use Rattle.mj_tree.proofs.Puts.{before_less}
+use Rattle.mj_tree.specs.Maps.{first_so, second_so, lookup_before, tied_before, before_less}
+use Rattle.mj_tree.proofs.Nest.{first_and_rest}
 use Rattle.mj_tree.proofs.Orders.{after_all, filter_same}
 use Rattle.std.specs.Map.Iter.{deref_pair}
 use Rattle.std.specs.BTreeMap.Range.{entries_between}

@@ -1,9 +1,9 @@
 -- What is asked of a node is asked of one of its children, or of its own text, and what changes in a child changes in the node.
-use Rattle.std.proofs.Common.{◌≡◌, ℕ, zero, suc, ◌-◌, take, ◌+◌, ◌<◌, ◌≤◌, Bool, true, false, cond, not, ◌&&◌, List, [], ◌∷◌, ◌++◌, length, get_or, drop, Option, Some, None, refl, sym, ap, ◌∙◌, subst, arith}
+use Rattle.std.proofs.Common.{◌≡◌, ℕ, zero, suc, ◌-◌, take, ◌+◌, ◌<◌, ◌≤◌, Bool, true, false, cond, not, List, [], ◌∷◌, ◌++◌, length, get_or, drop, Option, Some, None, refl, sym, ap, ◌∙◌, arith}
 use Rattle.std.specs.Prelude.{T}
 use Rattle.std.specs.declared.cmp.Ordering.{Ordering}
 use Rattle.std.specs.declared.cmp.Ordering.TheVariants.{Less, Equal, Greater}
-use Rattle.std.specs.Ordering.{is_eq, is_lt, eq_by_cmp, ordering_then}
+use Rattle.std.specs.Ordering.{is_eq, eq_by_cmp, ordering_then}
 use Rattle.std.specs.Cmp.{IsTotalOrder}
 use Rattle.std.specs.Cmp.Lexicographic.{slice_cmp}
 use Rattle.std.specs.FinMap.{find, is_sorted}
@@ -13,30 +13,14 @@ use Rattle.std.specs.Option.{option_map, is_none, is_some}
 use Rattle.std.specs.Map.{lookup}
 use Rattle.std.specs.BTreeMap.{is_at}
 use Rattle.mj_store.specs.Nodes.{is_empty, after_front, subtree, data_of}
+use Rattle.mj_tree.specs.Maps.{first_so, second_so, is_less, tied_before}
 use Rattle.mj_tree.specs.Nest.{own, under, below, AreFilled, nodes_of}
-
-pub first_so : (a b : Bool) → T (a && b) → T a
-first_so true b h = tt
-first_so false b h = h
-
-pub second_so : (a b : Bool) → T (a && b) → T b
-second_so true b h = h
-second_so false b h = absurd h
-
-pub is_less : (r : Ordering) → T (is_lt r) → r ≡ Less
-is_less Less h = refl
-is_less Equal h = absurd h
-is_less Greater h = absurd h
 
 append_nil : {A : Type 0} (xs : List A) → xs ++ [] ≡ xs
 append_nil [] = refl
 append_nil (x ∷ xs) = ap (λ ys. x ∷ ys) (append_nil xs)
 
 module _ {K : Type 0} (R : K → K → Ordering) where
-  pub lookup_before : {X : Type 0} (s : K) (ks : List (K × X)) → T (below_all R s ks) → lookup (is_at (R s)) ks ≡ None
-  lookup_before s [] h = refl
-  lookup_before s (k ∷ ks) h = ap (λ r. cond (is_eq r) (Some k.1) (lookup (is_at (R s)) ks)) (is_less _ (first_so _ _ h)) ∙ lookup_before s ks (second_so _ _ h)
-
   -- whether nothing is left of a list
   abbrev is_end : Option (List K) → Bool
   is_end None = false
@@ -48,14 +32,6 @@ module _ {K : Type 0} (R : K → K → Ordering) where
   tie-end (s ∷ p) [] = refl
   tie-end (s ∷ p) (t ∷ q) =
       elim (R s t) as (λ r. is_eq (ordering_then r (slice_cmp R p q)) ≡ is_end (cond (is_eq r) (after_front R p q) None)) [ Less ↦ refl | Equal ↦ tie-end p q | Greater ↦ refl ]
-
-  pub tied_before : IsTotalOrder R → {X : Type 0} (s t : K) (ks : List (K × X)) → R s t ≡ Equal → T (below_all R t ks) → T (below_all R s ks)
-  tied_before o s t [] e h = tt
-  tied_before o s t (k ∷ ks) e h = subst (λ r. T (is_lt r && below_all R s ks)) (sym (o.congr s t k.0 e)) (both (is_lt (R t k.0)) _ (first_so _ _ h) (tied_before o s t ks e (second_so _ _ h)))
-    where
-      both : (a b : Bool) → T a → T b → T (a && b)
-      both true b p q = q
-      both false b p q = p
 
 module _ {K V : Type 0} (R : K → K → Ordering) where
   -- ---- the subtree at a list of subscripts

@@ -1,5 +1,5 @@
 -- A text that is put into a node is put into one of its children, or is its own.
-use Rattle.std.proofs.Common.{◌≡◌, ◌-◌, ◌<◌, ◌≤◌, take, drop, get_or, Bool, true, false, cond, ◌&&◌, List, [], ◌∷◌, ◌++◌, length, Option, Some, None, refl, sym, ap, ◌∙◌, subst, arith, Result, Ok, Err, OnOk, OnErr}
+use Rattle.std.proofs.Common.{◌≡◌, ◌-◌, ◌<◌, ◌≤◌, take, drop, get_or, true, false, cond, List, [], ◌∷◌, ◌++◌, length, Option, Some, None, refl, sym, ap, ◌∙◌, subst, arith, Result, Ok, Err, OnOk, OnErr}
 use Rattle.std.specs.Prelude.{T}
 use Rattle.std.specs.declared.cmp.Ordering.{Ordering}
 use Rattle.std.specs.declared.cmp.Ordering.TheVariants.{Less, Equal, Greater}
@@ -7,40 +7,12 @@ use Rattle.std.specs.Ordering.{is_eq, is_lt, ordering_then, match_ordering}
 use Rattle.std.specs.Cmp.{IsTotalOrder, tied_itself}
 use Rattle.std.specs.Cmp.Lexicographic.{slice_cmp}
 use Rattle.std.specs.FinMap.{IsAntisymmetric, put, is_sorted}
-use Rattle.std.specs.FinMap.Entries.{by_order, below_all, is_sorted-put}
+use Rattle.std.specs.FinMap.Entries.{by_order, below_all}
 use Rattle.std.specs.Map.{lookup, set_value}
 use Rattle.std.specs.BTreeMap.{is_at, insert_entry}
 use Rattle.mj_tree.specs.Nest.{own, under, below, AreFilled, nodes_of, put_behind}
-use Rattle.mj_tree.proofs.Nest.{first_so, second_so, is_less, lookup_before, first_and_rest}
-
-both_so : (a b : Bool) → T a → T b → T (a && b)
-both_so true b p q = q
-both_so false b p q = p
-
-module _ {K : Type 0} (R : K → K → Ordering) (o : IsTotalOrder R) where
-  pub before_less : {X : Type 0} (s t : K) (ks : List (K × X)) → R s t ≡ Less → T (below_all R t ks) → T (below_all R s ks)
-  before_less s t [] e h = tt
-  before_less s t (k ∷ ks) e h =
-      both_so (is_lt (R s k.0)) (below_all R s ks) (subst (λ r. T (is_lt r)) (sym (o.trans s t k.0 e (is_less _ (first_so _ _ h)))) tt) (before_less s t ks e (second_so _ _ h))
-
-  -- an entry of a map goes where `put` puts it
-  insert_entry-put : {X : Type 0} (ks : List (K × X)) (s : K) (w : X) → insert_entry R ks s w ≡ put R s w ks
-  insert_entry-put [] s w = refl
-  insert_entry-put (k ∷ ks) s w =
-      elim (R s k.0) as (λ r. match_ordering r ((s, w) ∷ k ∷ ks) ((k.0, w) ∷ ks) (k ∷ insert_entry R ks s w) ≡ by_order r ((s, w) ∷ k ∷ ks) ((k.0, w) ∷ ks) (k ∷ put R s w ks)) [ Less ↦ refl | Equal ↦ refl | Greater ↦ ap (λ r. k ∷ r) (insert_entry-put ks s w) ]
-
-  pub sorted_insert : {X : Type 0} (ks : List (K × X)) (s : K) (w : X) → T (is_sorted R ks) → T (is_sorted R (insert_entry R ks s w))
-  sorted_insert ks s w h = subst (λ es. T (is_sorted R es)) (sym (insert_entry-put ks s w)) (is_sorted-put R o s w ks h)
-
-  -- where the key is there, its value is written over
-  pub insert-set_value : {X : Type 0} (ks : List (K × X)) (s : K) (c w : X) → T (is_sorted R ks) → lookup (is_at (R s)) ks ≡ Some c → insert_entry R ks s w ≡ set_value (is_at (R s)) ks w
-  insert-set_value [] s c w h there = absurd cc
-  insert-set_value (k ∷ ks) s c w h there =
-      elim (R s k.0) as (λ r. R s k.0 ≡ r → cond (is_eq r) (Some k.1) (lookup (is_at (R s)) ks) ≡ Some c → match_ordering r ((s, w) ∷ k ∷ ks) ((k.0, w) ∷ ks) (k ∷ insert_entry R ks s w) ≡ cond (is_eq r) ((k.0, w) ∷ ks) (k ∷ set_value (is_at (R s)) ks w)) [
-        | Less ↦ λ e l. let none = lookup_before R s ks (before_less s k.0 ks e (first_so _ _ h)) in absurd (cc (none, l))
-        | Equal ↦ λ e l. refl
-        | Greater ↦ λ e l. ap (λ r. k ∷ r) (insert-set_value ks s c w (second_so _ _ h) l)
-      ] refl there
+use Rattle.mj_tree.specs.Maps.{first_so, second_so, both_so, is_less, lookup_before, before_less, sorted_insert, insert-set_value, set_value_same, set_value_twice, lookup_written, lookup_added, added_twice}
+use Rattle.mj_tree.proofs.Nest.{first_and_rest}
 
 module _ {K V : Type 0} (R : K → K → Ordering) where
   pub put_own : (v : V) (text : Option V) (ks : List (K × List (List K × V))) → AreFilled ks → put (slice_cmp R) [] v (own text ++ below ks) ≡ own (Some v) ++ below ks
@@ -102,14 +74,6 @@ module _ {K V : Type 0} (R : K → K → Ordering) where
 -- ---- what a write through the child at a subscript leaves
 
 module _ {K V : Type 0} (R : K → K → Ordering) where
-  set_value_same : (ks : List (K × List (List K × V))) (s : K) (c : List (List K × V)) → lookup (is_at (R s)) ks ≡ Some c → set_value (is_at (R s)) ks c ≡ ks
-  set_value_same [] s c there = refl
-  set_value_same (k ∷ ks) s c there =
-      elim (is_eq (R s k.0)) as (λ b. cond b (Some k.1) (lookup (is_at (R s)) ks) ≡ Some c → cond b ((k.0, c) ∷ ks) (k ∷ set_value (is_at (R s)) ks c) ≡ k ∷ ks) [
-        | true ↦ λ e. let same : k.1 ≡ c = cc in ap (λ (n : List (List K × V)). (k.0, n) ∷ ks) (sym same)
-        | false ↦ λ e. ap (λ r. k ∷ r) (set_value_same ks s c e)
-      ] there
-
   filled_set_value : (ks : List (K × List (List K × V))) (s : K) (w : List (List K × V)) → AreFilled ks → 0 < length w → AreFilled (set_value (is_at (R s)) ks w)
   filled_set_value [] s w f n = tt
   filled_set_value (k ∷ ks) s w f n =
@@ -141,7 +105,7 @@ module _ {K V : Type 0} (R : K → K → Ordering) where
         ∙ sym nested
 
     pub same_written : (text : Option V) → w ≡ c → own text ++ below es ≡ own text ++ below ks
-    same_written text is = ap (λ (xs : List (K × List (List K × V))). own text ++ below xs) (written ∙ ap (set_value (is_at (R s)) ks) is ∙ set_value_same ks s c there)
+    same_written text is = ap (λ (xs : List (K × List (List K × V))). own text ++ below xs) (written ∙ ap (set_value (is_at (R s)) ks) is ∙ set_value_same R ks s c there)
 
   module _ (o : IsTotalOrder R) (ks es : List (K × List (List K × V))) (s : K) (p : List K) (v : V) (n : List (List K × V)) (added : es ≡ insert_entry R ks s n) (fresh : n ≡ put (slice_cmp R) p v []) (h : T (is_sorted R ks)) (f : AreFilled ks) where
     pub sorted_added : T (is_sorted R es)
@@ -165,22 +129,6 @@ sound_either {K} {V} R o (Err e) ks es s n ok err filled h =
 -- ---- texts that are put behind a place
 
 module _ {K V : Type 0} (R : K → K → Ordering) where
-  set_value_twice : (ks : List (K × List (List K × V))) (s : K) (w x : List (List K × V)) → set_value (is_at (R s)) (set_value (is_at (R s)) ks w) x ≡ set_value (is_at (R s)) ks x
-  set_value_twice [] s w x = refl
-  set_value_twice (k ∷ ks) s w x =
-      elim (is_eq (R s k.0)) as (λ b. is_eq (R s k.0) ≡ b → set_value (is_at (R s)) (cond b ((k.0, w) ∷ ks) (k ∷ set_value (is_at (R s)) ks w)) x ≡ cond b ((k.0, x) ∷ ks) (k ∷ set_value (is_at (R s)) ks x)) [
-        | true ↦ λ e. ap (λ b. cond b ((k.0, x) ∷ ks) ((k.0, w) ∷ set_value (is_at (R s)) ks x)) e
-        | false ↦ λ e. ap (λ b. cond b ((k.0, x) ∷ set_value (is_at (R s)) ks w) (k ∷ set_value (is_at (R s)) (set_value (is_at (R s)) ks w) x)) e ∙ ap (λ (r : List (K × List (List K × V))). k ∷ r) (set_value_twice ks s w x)
-      ] refl
-
-  lookup_written : (ks : List (K × List (List K × V))) (s : K) (c w : List (List K × V)) → lookup (is_at (R s)) ks ≡ Some c → lookup (is_at (R s)) (set_value (is_at (R s)) ks w) ≡ Some w
-  lookup_written [] s c w there = absurd cc
-  lookup_written (k ∷ ks) s c w there =
-      elim (is_eq (R s k.0)) as (λ b. is_eq (R s k.0) ≡ b → cond b (Some k.1) (lookup (is_at (R s)) ks) ≡ Some c → lookup (is_at (R s)) (cond b ((k.0, w) ∷ ks) (k ∷ set_value (is_at (R s)) ks w)) ≡ Some w) [
-        | true ↦ λ b e. ap (λ t. cond t (Some w) (lookup (is_at (R s)) ks)) b
-        | false ↦ λ b e. ap (λ t. cond t (Some k.1) (lookup (is_at (R s)) (set_value (is_at (R s)) ks w))) b ∙ lookup_written ks s c w e
-      ] refl there
-
   pub filled_behind : (p : List K) (more nodes : List (List K × V)) → 0 < length nodes → 0 < length (put_behind R p more nodes)
   filled_behind p [] nodes n = n
   filled_behind p (e ∷ es) nodes n = filled_behind p es (put (slice_cmp R) (p ++ e.0) e.1 nodes) (filled_put R (p ++ e.0) e.1 nodes)
@@ -208,26 +156,8 @@ module _ {K V : Type 0} (R : K → K → Ordering) where
         ∙ put_into s p text es (set_value (is_at (R s)) ks w) w
         (sorted_written R o ks (set_value (is_at (R s)) ks w) s c w refl there h f)
         (filled_set_value R ks s w f (filled_put R (p ++ e.0) e.1 c))
-        (lookup_written ks s c w there)
-        ∙ ap (λ (xs : List (K × List (List K × V))). own text ++ below xs) (set_value_twice ks s w (put_behind R p es w))
-
-    lookup_added : (ks : List (K × List (List K × V))) (s : K) (w : List (List K × V)) → lookup (is_at (R s)) ks ≡ None → lookup (is_at (R s)) (insert_entry R ks s w) ≡ Some w
-    lookup_added [] s w none = ap (λ r. cond (is_eq r) (Some w) None) (tied_itself o s)
-    lookup_added (k ∷ ks) s w none =
-        elim (R s k.0) as (λ r. R s k.0 ≡ r → cond (is_eq r) (Some k.1) (lookup (is_at (R s)) ks) ≡ None → lookup (is_at (R s)) (match_ordering r ((s, w) ∷ k ∷ ks) ((k.0, w) ∷ ks) (k ∷ insert_entry R ks s w)) ≡ Some w) [
-          | Less ↦ λ e l. ap (λ r. cond (is_eq r) (Some w) (lookup (is_at (R s)) (k ∷ ks))) (tied_itself o s)
-          | Equal ↦ λ e l. absurd cc
-          | Greater ↦ λ e l. ap (λ r. cond (is_eq r) (Some k.1) (lookup (is_at (R s)) (insert_entry R ks s w))) e ∙ lookup_added ks s w l
-        ] refl none
-
-    added_twice : (ks : List (K × List (List K × V))) (s : K) (w x : List (List K × V)) → lookup (is_at (R s)) ks ≡ None → set_value (is_at (R s)) (insert_entry R ks s w) x ≡ insert_entry R ks s x
-    added_twice [] s w x none = ap (λ r. cond (is_eq r) ((s, x) ∷ []) ((s, w) ∷ [])) (tied_itself o s)
-    added_twice (k ∷ ks) s w x none =
-        elim (R s k.0) as (λ r. R s k.0 ≡ r → cond (is_eq r) (Some k.1) (lookup (is_at (R s)) ks) ≡ None → set_value (is_at (R s)) (match_ordering r ((s, w) ∷ k ∷ ks) ((k.0, w) ∷ ks) (k ∷ insert_entry R ks s w)) x ≡ match_ordering r ((s, x) ∷ k ∷ ks) ((k.0, x) ∷ ks) (k ∷ insert_entry R ks s x)) [
-          | Less ↦ λ e l. ap (λ r. cond (is_eq r) ((s, x) ∷ k ∷ ks) ((s, w) ∷ set_value (is_at (R s)) (k ∷ ks) x)) (tied_itself o s)
-          | Equal ↦ λ e l. absurd cc
-          | Greater ↦ λ e l. ap (λ r. cond (is_eq r) ((k.0, x) ∷ insert_entry R ks s w) (k ∷ set_value (is_at (R s)) (insert_entry R ks s w) x)) e ∙ ap (λ (r : List (K × List (List K × V))). k ∷ r) (added_twice ks s w x l)
-        ] refl none
+        (lookup_written R ks s c w there)
+        ∙ ap (λ (xs : List (K × List (List K × V))). own text ++ below xs) (set_value_twice R ks s w (put_behind R p es w))
 
     -- or into a new one
     put_added_all : (s : K) (p : List K) (text : Option V) (more : List (List K × V)) (ks : List (K × List (List K × V))) → (more ≡ [] → ⊥) → T (is_sorted R ks) → AreFilled ks → lookup (is_at (R s)) ks ≡ None → put_behind R (s ∷ p) more (own text ++ below ks) ≡ own text ++ below (insert_entry R ks s (put_behind R p more []))
@@ -239,8 +169,8 @@ module _ {K V : Type 0} (R : K → K → Ordering) where
         ∙ ap (λ (l : Option (List (List K × V))). own text ++ below (insert_entry R ks s (put (slice_cmp R) (p ++ e.0) e.1 (nodes_of l)))) none
         in
         ap (λ (ns : List (List K × V)). put_behind R (s ∷ p) es ns) one
-        ∙ put_into s p text es (insert_entry R ks s w) w (sorted_insert R o ks s w h) (filled_insert R ks s w f (filled_put R (p ++ e.0) e.1 [])) (lookup_added ks s w none)
-        ∙ ap (λ (xs : List (K × List (List K × V))). own text ++ below xs) (added_twice ks s w (put_behind R p es w) none)
+        ∙ put_into s p text es (insert_entry R ks s w) w (sorted_insert R o ks s w h) (filled_insert R ks s w f (filled_put R (p ++ e.0) e.1 [])) (lookup_added R o ks s w none)
+        ∙ ap (λ (xs : List (K × List (List K × V))). own text ++ below xs) (added_twice R o ks s w (put_behind R p es w) none)
 
     -- of a path that a pattern took apart
     module _ (path : List K) (s : K) (le : 1 ≤ length path) (is : s ≡ get_or path 0 s) (node : List (List K × V)) (text : Option V) (ks : List (K × List (List K × V))) (view : own text ++ below ks ≡ node) (h : T (is_sorted R ks)) (f : AreFilled ks) (more : List (List K × V)) where

@@ -18,7 +18,7 @@ use Rattle.mj_store.specs.declared.store.Direction.{Direction}
 use Rattle.mj_store.specs.Nodes.{is_empty, least, but_last, last_of, after_front, subtree, first_subscripts, next_past, next_after}
 use Rattle.mj_store.specs.Questions.{Subtree}
 use Rattle.mj_tree.specs.Nest.{lead, later, without, put_behind, order_in}
-use Rattle.mj_tree.proofs.Nest.{first_so, second_so, is_less}
+use Rattle.mj_tree.specs.Maps.{first_so, second_so, is_less}
 use Rattle.mj_tree.proofs.Orders.{keys_filter, least_sorted}
 
 module _ {K V : Type 0} (R : K → K → Ordering) (o : IsTotalOrder (slice_cmp R)) where

@@ -6,10 +6,11 @@ use Rattle.std.specs.BTreeMap.{BTreeMap, is_at}
 use Rattle.mj_subs.specs.Collation.{subscript_cmp}
 use Rattle.mj_subs.specs.Laws.Total.{subscript_cmp_total}
 use Rattle.mj_store.specs.Questions.{Subtree}
+use Rattle.mj_tree.specs.Maps.{sorted_removed}
 use Rattle.mj_tree.specs.Nest.{own, below, AreFilled, without}
 use Rattle.mj_tree.proofs.Nest.{first_and_rest, no_elements}
 use Rattle.mj_tree.proofs.Puts.{sorted_written, filled_written}
-use Rattle.mj_tree.proofs.Kills.{without_all, kill_none, kill_written, kill_removed, sorted_removed, filled_removed, some_node}
+use Rattle.mj_tree.proofs.Kills.{without_all, kill_none, kill_written, kill_removed, filled_removed, some_node}
 use Rattle.mj_tree.proofs.node.Node.+kill.Goals as goal
 
 pub returns-in-empty : goal.returns-in-empty
