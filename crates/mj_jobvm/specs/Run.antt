@@ -6,7 +6,7 @@ use Rattle.mj_ask.specs.declared.entry.Entry.{Entry}
 use Rattle.mj_ask.specs.Fits.{fits}
 use Rattle.mj_ast.specs.Syntax.{Routine}
 use Rattle.mj_semantics.specs.State.{Locals, Place, places}
-use Rattle.mj_semantics.specs.Outcome.{Needs, More}
+use Rattle.mj_semantics.specs.Outcome.{Needs, Ended, More}
 use Rattle.mj_semantics.specs.Job.{next}
 use Rattle.mj_jobvm.specs.Standing.{Standing, Code, onward}
 
@@ -33,6 +33,10 @@ pub data IsTrace (routines : List Routine) (entry : Entry) : Log → Type 0 wher
   goes_on : (log : Log) (a : Ask) (r : Reply) (n : ℕ) (locals : Locals) (at : List Place)
       → IsTrace routines entry log → next routines entry n (replies_of log) ≡ Needs a locals at → IsTrue (fits a r)
       → IsTrace routines entry (log ++ (a, r) ∷ [])
+
+-- with the replies of this log the run is over
+abbrev pub HasEnded : List Routine → Entry → Log → Type 0
+HasEnded routines entry log = (n : ℕ) × (next routines entry n (replies_of log) ≡ Ended)
 
 -- what a caller may know of a job: its log, what it asks, the turns that it counted since the last reply, and where it
 -- stands

@@ -5,7 +5,8 @@ use Rattle.mj_store.specs.declared.access.Access.TheVariants as access
 use Rattle.mj_store.specs.declared.access.Answer.TheVariants as answer
 use Rattle.mj_ask.specs.declared.ask.Ask.TheVariants as asks
 use Rattle.mj_ask.specs.declared.ask.Reply.TheVariants as replies
-use Rattle.mj_main.specs.Service.{Log, reply_to, globals_after, globals_of, Served}
+use Rattle.mj_jobvm.specs.Run.{Log}
+use Rattle.mj_main.specs.Service.{reply_to, globals_after, globals_of, Served}
 use Rattle.mj_main.specs.Output.{output_of, principal}
 
 abbrev a : Name

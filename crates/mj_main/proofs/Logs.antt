@@ -1,9 +1,18 @@
--- A log that is one entry longer.
-use Rattle.std.proofs.Common.{◌≡◌, [], ◌∷◌, ◌++◌, refl}
+-- A job alone whose log grows.
+use Rattle.std.proofs.Common.{◌≡◌, [], ◌∷◌, ◌++◌, refl, sym, ap, ◌∙◌, subst}
 use Rattle.mj_ask.specs.declared.ask.Ask.{Ask}
 use Rattle.mj_ask.specs.declared.ask.Reply.{Reply}
+use Rattle.mj_ask.specs.declared.entry.Entry.{Entry}
 use Rattle.mj_store.specs.Questions.{Content}
-use Rattle.mj_main.specs.Service.{Log, reply_to, globals_after, globals_of, Served}
+use Rattle.mj_load.specs.Image.{Loaded, routines_of}
+use Rattle.mj_jobvm.specs.declared.job.Turn.{Turn}
+use Rattle.mj_jobvm.specs.declared.job.Turn.TheVariants.{Ended}
+use Rattle.mj_jobvm.specs.Jobs.{Running, IsRunOf}
+use Rattle.mj_jobvm.specs.Told.{Told}
+use Rattle.mj_main.specs.Output.{output_of}
+use Rattle.mj_main.specs.Alone.{Shown, Stands, IsAlone}
+use Rattle.mj_jobvm.specs.Run.{Log, HasEnded}
+use Rattle.mj_main.specs.Service.{reply_to, globals_after, globals_of, Served}
 
 pub globals_with : (globals : Content) (log : Log) (a : Ask) (r : Reply)
     → globals_of globals (log ++ (a, r) ∷ []) ≡ globals_after (globals_of globals log) a
@@ -14,3 +23,40 @@ pub served_with : (globals : Content) (log : Log) (a : Ask) (r : Reply)
     → Served globals log → r ≡ reply_to (globals_of globals log) a → Served globals (log ++ (a, r) ∷ [])
 served_with globals [] a r served reply = (reply, tt)
 served_with globals (e ∷ log) a r served reply = (served.0, served_with (globals_after globals e.0) log a r served.1 reply)
+
+module _ (image : Loaded) (entry : Entry) (job : Running) (globals : Content) (s : Stands image entry job globals) where
+  pub stands_as : (same : Running) (left : Content) → same ≡ job → left ≡ globals → Stands image entry same left
+  stands_as same left e f =
+      let P : Running → Type 0 = λ j. Stands image entry j globals in
+      let Q : Content → Type 0 = λ g. Stands image entry same g in
+      subst Q (sym f) (subst P (sym e) s)
+
+  -- turns that add nothing to the log
+  pub stands_on : (new : Running) → IsRunOf image entry new → new.run.log ≡ job.run.log → Stands image entry new globals
+  stands_on new r e =
+      let P : Log → Type 0 = λ l. Served [] l in
+      record { run = r; served = subst P (sym e) s.served; left = s.left ∙ ap (globals_of []) (sym e) }
+
+  -- a reply of the service
+  pub stands_replied : (new : Running) (left : Content) (a : Ask) (r : Reply) → IsRunOf image entry new
+      → new.run.log ≡ job.run.log ++ (a, r) ∷ [] → r ≡ reply_to globals a → left ≡ globals_after globals a → Stands image entry new left
+  stands_replied new left a r is e reply after =
+      let P : Log → Type 0 = λ l. Served [] l in
+      record {
+        run = is;
+        served = subst P (sym e) (served_with [] job.run.log a r s.served (reply ∙ ap (λ g. reply_to g a) s.left));
+        left = after ∙ ap (λ g. globals_after g a) s.left ∙ sym (globals_with [] job.run.log a r) ∙ ap (globals_of []) (sym e);
+      }
+
+  -- what is seen of it
+  pub alone_is : (one : Shown) → one ≡ record { log = job.run.log; globals = globals; output = output_of job.run.log } → IsAlone (routines_of image) entry one
+  alone_is one e =
+      let P : Shown → Type 0 = λ o. IsAlone (routines_of image) entry o in
+      subst P (sym e) (record { trace = s.run.trace; served = s.served; globals = s.left; output = refl })
+
+  pub ended_is : (one : Shown) → one ≡ record { log = job.run.log; globals = globals; output = output_of job.run.log }
+      → (turn : Turn) → turn ≡ Ended → Told (routines_of image) entry turn job.run → HasEnded (routines_of image) entry one.log
+  ended_is one e turn is told =
+      let P : Shown → Type 0 = λ o. HasEnded (routines_of image) entry o.log in
+      let Q : Turn → Type 0 = λ t. Told (routines_of image) entry t job.run in
+      subst P (sym e) (subst Q is told)

@@ -1,2 +1,4 @@
 pub mod Service
 pub mod Output
+pub mod Alone
+pub mod Ways

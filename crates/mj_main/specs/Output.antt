@@ -5,7 +5,7 @@ use Rattle.mj_ask.specs.declared.ask.Ask.{Ask}
 use Rattle.mj_ask.specs.declared.ask.Ask.TheVariants as asks
 use Rattle.mj_ask.specs.declared.ask.Reply.{Reply}
 use Rattle.mj_ask.specs.declared.ask.Reply.TheVariants as replies
-use Rattle.mj_main.specs.Service.{Log}
+use Rattle.mj_jobvm.specs.Run.{Log}
 
 -- the name of the principal device: `0`
 abbrev pub principal : List ℕ

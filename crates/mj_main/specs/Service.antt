@@ -1,6 +1,6 @@
 -- What one job is told that runs alone: by globals that are a plain list of names with texts, and by devices that take every
 -- byte.
-use Rattle.std.specs.Prelude.{◌≡◌, List, [], ◌∷◌, ⊤, if◌then◌else◌}
+use Rattle.std.specs.Prelude.{◌≡◌, [], ◌∷◌, ⊤, if◌then◌else◌}
 use Rattle.mj_ask.specs.declared.ask.Ask.{Ask}
 use Rattle.mj_ask.specs.declared.ask.Ask.TheVariants as asks
 use Rattle.mj_ask.specs.declared.ask.Reply.{Reply}
@@ -8,10 +8,7 @@ use Rattle.mj_ask.specs.declared.ask.Reply.TheVariants as replies
 use Rattle.mj_store.specs.Questions.{Content}
 use Rattle.mj_store.specs.Runs.{name_of, answer_of, after_access}
 use Rattle.mj_store.specs.declared.access.Access.{Access}
-
--- the asks of a job and their replies, in order
-abbrev pub Log : Type 0
-Log = List (Ask × Reply)
+use Rattle.mj_jobvm.specs.Run.{Log}
 
 -- what an access is answered on: a global's on the globals, a local's on nothing, since no locals are shared
 abbrev pub seen : Content → Access → Content

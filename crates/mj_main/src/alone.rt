@@ -1,6 +1,13 @@
 // One job that runs alone.
 
-use crate::ended::One;
+ghost use Rattle.std.specs.Prelude.{◌≡◌, IfOk, OnOk};
+ghost use Rattle.mj_ask.specs.declared.entry.Entry as entries;
+ghost use Rattle.mj_load.specs.Image.{Loaded, routines_of};
+ghost use Rattle.mj_main.specs.Alone.{Stands};
+ghost use Rattle.mj_main.specs.Output.{output_of};
+ghost use Rattle.mj_main.specs.Ways.{Went};
+
+use crate::ended::{Alone, One};
 use crate::output::output;
 use crate::service::serve;
 use mj_ask::Entry;
@@ -12,17 +19,27 @@ use std::alloc::{AllocError, Global};
 /// The turns that a job is let go on for at a time.
 const FUEL: u64 = 10_000;
 
-/// Runs one job alone that starts at this entry, over no globals and a device that takes every byte, up to its end.
-pub fn one(alloc: Global, image: &Image, entry: Entry) -> Result<One, AllocError> {
+/// Runs one job alone that starts at this entry, over no globals and a device that takes every byte, up to its end or to
+/// the end of so many calls of `advance`.
+pub fn one(alloc: Global, image: &Image, entry: Entry, calls: u64) -> Result<Alone, AllocError>
+    ensures { IfOk result (Went (routines_of image.now) entry) }
+{
     let mut job = Job::start(alloc, image, entry)?;
     let mut globals = Flat::new(alloc);
-    for _ in 0..u64::MAX {
+    'calls: for done in 0..calls {
         match job.advance(image, FUEL)? {
             Turn::Ran => {}
-            Turn::Ended => break,
+            Turn::Ended => return Ok(Alone::Ended(shown(alloc, job, globals)?)),
             Turn::Asks => answer(&mut job, &mut globals)?,
         }
     }
+    Ok(Alone::Stopped(shown(alloc, job, globals)?))
+}
+
+// What is seen of a job, with the globals that it left.
+fn shown(alloc: Global, job: Job, globals: Flat) -> Result<One, AllocError>
+    ensures { IfOk result (λ one. one ≡ record { log = job.run.log; globals = globals; output = output_of job.run.log }) }
+{
     let output = output(alloc, job.log())?;
     Ok(One {
         job,
@@ -32,7 +49,9 @@ pub fn one(alloc: Global, image: &Image, entry: Entry) -> Result<One, AllocError
 }
 
 // Answers what the job asks.
-fn answer(job: &mut Job, globals: &mut Flat) -> Result<(), AllocError> {
+fn answer(job: &mut Job, globals: &mut Flat) -> Result<(), AllocError>
+    ensures { OnOk result ((image : Loaded) (entry : entries.Entry) → Stands image entry job.old globals.old → Stands image entry job.new globals.new) }
+{
     let Some(ask) = job.ask() else {
         return Ok(());
     };

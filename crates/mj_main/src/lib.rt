@@ -17,5 +17,5 @@ mod stop;
 mod words;
 
 pub use alone::one;
-pub use ended::One;
+pub use ended::{Alone, One};
 pub use program::run;

@@ -1,6 +1,7 @@
 // The program.
 
 use crate::alone::one;
+use crate::ended::Alone;
 use crate::routines::loaded;
 use crate::stop::{FAILED, FAULTED, Stop, WORDS};
 use crate::words::{Order, read_words};
@@ -48,9 +49,16 @@ fn obey<'a, R: Files + AllocGlobal, O: Write>(
                 return Err(Stop::Value(*start));
             };
             let image = loaded(rt, files)?;
-            let done = one(rt.alloc(), &image, entry)?;
-            print(done.output(), out)?;
-            Ok(if done.has_faulted() { FAULTED } else { 0 })
+            match one(rt.alloc(), &image, entry, u64::MAX)? {
+                Alone::Ended(done) => {
+                    print(done.output(), out)?;
+                    Ok(if done.has_faulted() { FAULTED } else { 0 })
+                }
+                Alone::Stopped(done) => {
+                    print(done.output(), out)?;
+                    Err(Stop::Full)
+                }
+            }
         }
     }
 }

@@ -24,6 +24,9 @@ pub enum Stop<'a> {
     /// a routine has the name of an earlier one
     #[error("L4 {0}")]
     Twice(Word),
+    /// a job isn't over after as many turns as the program lets it go on for
+    #[error("full")]
+    Full,
     /// an allocation was refused
     #[error("memory")]
     Memory,
@@ -41,7 +44,7 @@ pub const FAULTED: u8 = 1;
 pub const REFUSED: u8 = 2;
 /// The exit status where the command line is wrong.
 pub const WORDS: u8 = 3;
-/// The exit status where memory or a file fails.
+/// The exit status where memory or a file fails, or a job goes on for too long.
 pub const FAILED: u8 = 4;
 
 impl Stop<'_> {
@@ -50,7 +53,7 @@ impl Stop<'_> {
         match self {
             Stop::Name(_) | Stop::Routine(_) | Stop::Twice(_) => REFUSED,
             Stop::Value(_) => WORDS,
-            Stop::File(_) | Stop::Memory => FAILED,
+            Stop::File(_) | Stop::Full | Stop::Memory => FAILED,
         }
     }
 }

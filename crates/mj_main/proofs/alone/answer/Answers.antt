@@ -1,0 +1,8 @@
+use Rattle.std.proofs.Common.{sym, ap, ◌∙◌, option_copied}
+use Rattle.mj_main.proofs.Logs.{stands_replied}
+use Rattle.mj_main.proofs.alone.answer.Goals as goal
+
+pub returns : goal.returns
+returns c = λ image entry s.
+    stands_replied image entry c.args.job.now c.args.globals.now s c.answer.new.self c.serve.new.globals c.in-Some.ask.now c.in_ok-reply.reply
+    (c.answer.ensures.run image entry s.run) (c.answer.ensures.log c.in-Some.ask.now (sym c.ask.ensures ∙ ap option_copied c.in-Some.is)) c.in_ok-reply.ensures.reply c.in_ok-reply.ensures.ok

@@ -1,0 +1,44 @@
+-- How one job goes that runs alone.
+use Rattle.std.specs.Prelude.{◌≡◌, ℕ, List, [], ◌∷◌, Bool, false, is_some, reverse}
+use Rattle.mj_ask.specs.declared.ask.Ask.{Ask}
+use Rattle.mj_ask.specs.declared.ask.Ask.TheVariants as asks
+use Rattle.mj_ask.specs.declared.entry.Entry.{Entry}
+use Rattle.mj_ast.specs.Syntax.{Routine}
+use Rattle.mj_store.specs.Questions.{Content}
+use Rattle.mj_load.specs.Image.{Loaded}
+use Rattle.mj_jobvm.specs.Run.{Log, IsTrace}
+use Rattle.mj_jobvm.specs.Jobs.{Running, IsRunOf}
+use Rattle.mj_main.specs.Service.{globals_of, Served}
+use Rattle.mj_main.specs.Output.{output_of}
+
+-- what is seen of it: its log, the globals that it left, and the bytes that its principal device took
+pub record Shown : Type 0 where
+  pub log : Log
+  pub globals : Content
+  pub output : List ℕ
+
+-- where a job stands that runs alone, and the globals there
+pub record Stands (image : Loaded) (entry : Entry) (job : Running) (globals : Content) : Type 0 where
+  pub run : IsRunOf image entry job
+  pub served : Served [] job.run.log
+  pub left : globals ≡ globals_of [] job.run.log
+
+-- it ran the routines from the entry, over no globals: its log is a trace, each of its replies is the service's, the globals
+-- are those after its asks, and the bytes are the output of its log
+pub record IsAlone (routines : List Routine) (entry : Entry) (one : Shown) : Type 0 where
+  pub trace : IsTrace routines entry one.log
+  pub served : Served [] one.log
+  pub globals : one.globals ≡ globals_of [] one.log
+  pub output : one.output ≡ output_of one.log
+
+-- the job ended by a fault
+abbrev pub is_fault : Ask → Bool
+is_fault (asks.DeviceBegin device) = false
+is_fault (asks.DeviceWrite device bytes) = false
+is_fault (asks.DeviceEnd device) = false
+is_fault (asks.Access a) = false
+is_fault (asks.Halt fault) = is_some fault
+
+-- the last ask of the log is the end of a job that faulted
+abbrev pub has_faulted : Log → Bool
+has_faulted log = elim (reverse log) [ [] ↦ false | e ∷ es ↦ is_fault e.0 ]
