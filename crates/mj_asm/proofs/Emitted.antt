@@ -1,17 +1,58 @@
 -- A jump past a command, whose place was kept until the command was there.
-use Rattle.std.proofs.Common.{◌≡◌, ℕ, ◌+◌, List, [], ◌∷◌, ◌++◌, length, ap, ◌∙◌, arith, append_assoc, length-append}
+use Rattle.std.proofs.Common.{◌≡◌, ℕ, ◌+◌, List, [], ◌∷◌, ◌++◌, length, ap, sym, ◌∙◌, arith, append_assoc, length-append}
 use Rattle.std.specs.Prelude.{slice_set}
 use Rattle.std.proofs.Math.Seq.{set-append_seam}
 use Rattle.mj_pcode.specs.declared.instr.Instr.{Instr}
-use Rattle.mj_pcode.specs.declared.instr.Instr.TheVariants.{Unless}
+use Rattle.mj_pcode.specs.declared.instr.Instr.TheVariants.{Unless, Jump}
 
-pub aimed : (base test command c1 c2 c3 : List Instr) (y : Instr) (at : ℕ) → c1 ≡ base ++ test → at ≡ length c1 → c2 ≡ c1 ++ y ∷ [] → c3 ≡ c2 ++ command → slice_set c3 at (Unless (length c3)) ≡ base ++ (test ++ Unless (length base + length test + 1 + length command) ∷ command)
-aimed base test command c1 c2 c3 y at e1 m e2 e3 =
-    let whole : c3 ≡ c1 ++ y ∷ command = e3 ∙ ap (λ l. l ++ command) e2 ∙ append_assoc c1 (y ∷ []) command in
-    let len : length c3 ≡ length base + length test + 1 + length command = omega (arith, ap length whole, ap length e1, length-append base test, length-append c1 (y ∷ command)) in
-    ap (λ n. slice_set c3 at (Unless n)) len
-    ∙ ap (λ k. slice_set c3 k (Unless (length base + length test + 1 + length command))) m
-    ∙ ap (λ l. slice_set l (length c1) (Unless (length base + length test + 1 + length command))) whole
-    ∙ set-append_seam c1 y command (Unless (length base + length test + 1 + length command))
-    ∙ ap (λ l. l ++ Unless (length base + length test + 1 + length command) ∷ command) e1
-    ∙ append_assoc base test (Unless (length base + length test + 1 + length command) ∷ command)
+-- a jump that gets its target once there is code behind it
+pub aimed : (c1 c2 c3 behind : List Instr) (y z : Instr) (at : ℕ) → at ≡ length c1 → c2 ≡ c1 ++ y ∷ [] → c3 ≡ c2 ++ behind → slice_set c3 at z ≡ c1 ++ z ∷ behind
+aimed c1 c2 c3 behind y z at m e2 e3 =
+    let whole : c3 ≡ c1 ++ y ∷ behind = e3 ∙ ap (λ l. l ++ behind) e2 ∙ append_assoc c1 (y ∷ []) behind in
+    ap (λ k. slice_set c3 k z) m ∙ ap (λ l. slice_set l (length c1) z) whole ∙ set-append_seam c1 y behind z
+
+-- a command behind a test
+pub tested : (base test : List Instr) (body : ℕ → List Instr) (c1 c2 c3 c4 : List Instr) (y : Instr) (at : ℕ) → c1 ≡ base ++ test → at ≡ length c1 → c2 ≡ c1 ++ y ∷ [] → c3 ≡ c2 ++ body (length c2) → c4 ≡ slice_set c3 at (Unless (length c3)) →
+    c4 ≡ base ++ (test ++ Unless (length base + length test + 1 + length (body (length base + length test + 1))) ∷ body (length base + length test + 1))
+tested base test body c1 c2 c3 c4 y at e1 m e2 e3 e4 =
+    let n : length c2 ≡ length base + length test + 1 = omega (arith, ap length e2, ap length e1, length-append base test, length-append c1 (y ∷ [])) in
+    let len : length c3 ≡ length c2 + length (body (length c2)) = omega (arith, ap length e3, length-append c2 (body (length c2))) in
+    e4
+    ∙ aimed c1 c2 c3 (body (length c2)) y (Unless (length c3)) at m e2 e3
+    ∙ ap (λ k. c1 ++ Unless k ∷ body (length c2)) len
+    ∙ ap (λ k. c1 ++ Unless (k + length (body k)) ∷ body k) n
+    ∙ ap (λ l. l ++ Unless (length base + length test + 1 + length (body (length base + length test + 1))) ∷ body (length base + length test + 1)) e1
+    ∙ append_assoc base test _
+
+-- a condition, its value, which begins at v, and what stands behind its jump
+abbrev pub choice_code : ℕ → List Instr → (ℕ → List Instr) → (ℕ → List Instr) → List Instr
+choice_code v cc body more = cc ++ Unless (v + length (body v) + 1) ∷ (body v ++ Jump (v + length (body v) + 1 + length (more (v + length (body v) + 1))) ∷ more (v + length (body v) + 1))
+
+-- a choice before others
+pub chosen : (base cc : List Instr) (body more : ℕ → List Instr) (c1 c2 c3 c4 c5 c6 c7 : List Instr) (y z : Instr) (test exit : ℕ)
+    → c1 ≡ base ++ cc → test ≡ length c1 → c2 ≡ c1 ++ y ∷ [] → c3 ≡ c2 ++ body (length c2) → exit ≡ length c3 → c4 ≡ c3 ++ z ∷ []
+    → c5 ≡ slice_set c4 test (Unless (length c4)) → c6 ≡ c5 ++ more (length c5) → c7 ≡ slice_set c6 exit (Jump (length c6))
+    → c7 ≡ base ++ choice_code (length base + length cc + 1) cc body more
+chosen base cc body more c1 c2 c3 c4 c5 c6 c7 y z test exit e1 t e2 e3 x e4 e5 e6 e7 =
+    let v : ℕ = length c2 in
+    let u : Instr = Unless (length c4) in
+    let tail : c4 ≡ c2 ++ (body v ++ z ∷ []) = e4 ∙ ap (λ l. l ++ z ∷ []) e3 ∙ append_assoc c2 (body v) (z ∷ []) in
+    let first : c5 ≡ c1 ++ u ∷ (body v ++ z ∷ []) = e5 ∙ aimed c1 c2 c4 (body v ++ z ∷ []) y u test t e2 tail in
+    let again : c5 ≡ (c1 ++ u ∷ body v) ++ z ∷ [] = first ∙ sym (append_assoc c1 (u ∷ body v) (z ∷ [])) in
+    let nv : v ≡ length base + length cc + 1 = omega (arith, ap length e2, ap length e1, length-append base cc, length-append c1 (y ∷ [])) in
+    let n3 : length c3 ≡ v + length (body v) = omega (arith, ap length e3, length-append c2 (body v)) in
+    let n4 : length c4 ≡ v + length (body v) + 1 = omega (arith, ap length e4, n3, length-append c3 (z ∷ [])) in
+    let nd : length (c1 ++ u ∷ body v) ≡ v + length (body v) = omega (arith, length-append c1 (u ∷ body v), ap length e2, length-append c1 (y ∷ [])) in
+    let n5 : length c5 ≡ v + length (body v) + 1 = omega (arith, ap length again, length-append (c1 ++ u ∷ body v) (z ∷ []), nd) in
+    let n6 : length c6 ≡ length c5 + length (more (length c5)) = omega (arith, ap length e6, length-append c5 (more (length c5))) in
+    let at : exit ≡ length (c1 ++ u ∷ body v) = omega (arith, x, n3, nd) in
+    let made : List Instr → ℕ → ℕ → ℕ → ℕ → List Instr = λ l w o o' k. (l ++ Unless o' ∷ body w) ++ Jump k ∷ more o in
+    let last : made (base ++ cc) (length base + length cc + 1) (length base + length cc + 1 + length (body (length base + length cc + 1)) + 1) (length base + length cc + 1 + length (body (length base + length cc + 1)) + 1) (length base + length cc + 1 + length (body (length base + length cc + 1)) + 1 + length (more (length base + length cc + 1 + length (body (length base + length cc + 1)) + 1))) ≡ base ++ choice_code (length base + length cc + 1) cc body more = simp append_assoc in
+    e7
+    ∙ aimed (c1 ++ u ∷ body v) c5 c6 (more (length c5)) z (Jump (length c6)) exit at again e6
+    ∙ ap (λ k. made c1 v (length c5) (length c4) k) n6
+    ∙ ap (λ o. made c1 v o (length c4) (o + length (more o))) n5
+    ∙ ap (λ o. made c1 v (v + length (body v) + 1) o (v + length (body v) + 1 + length (more (v + length (body v) + 1)))) n4
+    ∙ ap (λ w. made c1 w (w + length (body w) + 1) (w + length (body w) + 1) (w + length (body w) + 1 + length (more (w + length (body w) + 1)))) nv
+    ∙ ap (λ l. made l (length base + length cc + 1) (length base + length cc + 1 + length (body (length base + length cc + 1)) + 1) (length base + length cc + 1 + length (body (length base + length cc + 1)) + 1) (length base + length cc + 1 + length (body (length base + length cc + 1)) + 1 + length (more (length base + length cc + 1 + length (body (length base + length cc + 1)) + 1)))) e1
+    ∙ last

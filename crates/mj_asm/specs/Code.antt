@@ -1,6 +1,6 @@
 -- The instructions of each piece of a routine.
 use Rattle.std.specs.Prelude.{ℕ, ◌+◌, List, [], ◌∷◌, ◌++◌, Option, Some, None, length}
-use Rattle.mj_ast.specs.Syntax.{Expr, Chain, Tails, Done, Then, Operand, Literal, Value, Unary, Group, Variable, Var, Exprs, No, More, Assignment, Output, Shown, Format, Command, Set, Write, Halt, Step, Line}
+use Rattle.mj_ast.specs.Syntax.{Expr, Chain, Tails, Done, Then, Operand, Literal, Value, Unary, Group, Call, Select, Variable, Var, Exprs, No, More, Choices, Last, Before, Assignment, Output, Shown, Format, Command, Set, Write, Halt, Step, Line}
 use Rattle.mj_pcode.specs.declared.instr.Reference.{Reference}
 use Rattle.mj_pcode.specs.declared.instr.Instr.{Instr}
 use Rattle.mj_pcode.specs.declared.instr.Instr.TheVariants as instr
@@ -14,55 +14,77 @@ count (More e es) = count es + 1
 abbrev pub reference : Variable → Reference
 reference (Var scope word es) = record { scope = scope; word = word; count = count es }
 
+-- what begins at pc: each piece knows where it stands, as jumps lead to numbers of instructions
 abbrev mutual
-  pub expr_code : Expr → List Instr
-  expr_code (Chain x ts) = operand_code x ++ tails_code ts
+  pub expr_code : ℕ → Expr → List Instr
+  expr_code pc (Chain x ts) = operand_code pc x ++ tails_code (pc + length (operand_code pc x)) ts
 
-  pub tails_code : Tails → List Instr
-  tails_code Done = []
-  tails_code (Then op x ts) = operand_code x ++ instr.Binary op ∷ tails_code ts
+  pub tails_code : ℕ → Tails → List Instr
+  tails_code pc Done = []
+  tails_code pc (Then op x ts) = operand_code pc x ++ instr.Binary op ∷ tails_code (pc + length (operand_code pc x) + 1) ts
 
-  pub operand_code : Operand → List Instr
-  operand_code (Literal t) = instr.Push t ∷ []
-  operand_code (Value v) = subscripts_code v ++ instr.Load (reference v) ∷ []
-  operand_code (Unary op x) = operand_code x ++ instr.Unary op ∷ []
-  operand_code (Group e) = expr_code e
+  pub operand_code : ℕ → Operand → List Instr
+  operand_code pc (Literal t) = instr.Push t ∷ []
+  operand_code pc (Value v) = subscripts_code pc v ++ instr.Load (reference v) ∷ []
+  operand_code pc (Unary op x) = operand_code pc x ++ instr.Unary op ∷ []
+  operand_code pc (Group e) = expr_code pc e
+  operand_code pc (Call f es) = exprs_code pc es ++ instr.Call f (count es) ∷ []
+  operand_code pc (Select choices) = choices_code pc choices
 
-  pub subscripts_code : Variable → List Instr
-  subscripts_code (Var scope word es) = exprs_code es
+  pub subscripts_code : ℕ → Variable → List Instr
+  subscripts_code pc (Var scope word es) = exprs_code pc es
 
-  pub exprs_code : Exprs → List Instr
-  exprs_code No = []
-  exprs_code (More e es) = expr_code e ++ exprs_code es
+  pub exprs_code : ℕ → Exprs → List Instr
+  exprs_code pc No = []
+  exprs_code pc (More e es) = expr_code pc e ++ exprs_code (pc + length (expr_code pc e)) es
 
-abbrev pub assignment_code : Assignment → List Instr
-assignment_code a =
-    subscripts_code a.destination ++ instr.Check (reference a.destination) ∷ (expr_code a.value ++ instr.Store (reference a.destination) ∷ [])
+  -- a condition, its value behind a test, a jump past the others, and these
+  pub choices_code : ℕ → Choices → List Instr
+  choices_code pc (Last c e) =
+      let value = pc + length (expr_code pc c) + 1 in
+      let others = value + length (expr_code value e) + 1 in
+      expr_code pc c ++ instr.Unless others ∷ (expr_code value e ++ instr.Jump (others + 1) ∷ instr.NoneTrue ∷ [])
+  choices_code pc (Before c e rest) =
+      let value = pc + length (expr_code pc c) + 1 in
+      let others = value + length (expr_code value e) + 1 in
+      expr_code pc c ++ instr.Unless others ∷ (expr_code value e ++ instr.Jump (others + length (choices_code others rest)) ∷ choices_code others rest)
 
-abbrev pub assignments_code : List Assignment → List Instr
-assignments_code [] = []
-assignments_code (a ∷ list) = assignment_code a ++ assignments_code list
+-- what stands behind the jump of the first choice
+abbrev pub others_code : ℕ → Choices → List Instr
+others_code pc (Last c e) = instr.NoneTrue ∷ []
+others_code pc (Before c e rest) = choices_code pc rest
 
-abbrev pub output_code : Output → List Instr
-output_code (Shown e) = expr_code e ++ instr.Write ∷ []
-output_code (Format marks) = instr.Format marks ∷ []
+abbrev pub assignment_code : ℕ → Assignment → List Instr
+assignment_code pc a =
+    let value = pc + length (subscripts_code pc a.destination) + 1 in
+    subscripts_code pc a.destination ++ instr.Check (reference a.destination) ∷ (expr_code value a.value ++ instr.Store (reference a.destination) ∷ [])
 
-abbrev pub outputs_code : List Output → List Instr
-outputs_code [] = []
-outputs_code (o ∷ list) = output_code o ++ outputs_code list
+abbrev pub assignments_code : ℕ → List Assignment → List Instr
+assignments_code pc [] = []
+assignments_code pc (a ∷ list) = assignment_code pc a ++ assignments_code (pc + length (assignment_code pc a)) list
 
-abbrev pub command_code : Command → List Instr
-command_code (Set list) = assignments_code list
-command_code (Write list) = outputs_code list
-command_code Halt = instr.Halt ∷ []
+abbrev pub output_code : ℕ → Output → List Instr
+output_code pc (Shown e) = expr_code pc e ++ instr.Write ∷ []
+output_code pc (Format marks) = instr.Format marks ∷ []
 
--- instructions that stand behind a postcondition, which begins at pc
-abbrev pub code_if : ℕ → Option Expr → List Instr → List Instr
-code_if pc None code = code
-code_if pc (Some e) code = expr_code e ++ instr.Unless (pc + length (expr_code e) + 1 + length code) ∷ code
+abbrev pub outputs_code : ℕ → List Output → List Instr
+outputs_code pc [] = []
+outputs_code pc (o ∷ list) = output_code pc o ++ outputs_code (pc + length (output_code pc o)) list
+
+abbrev pub command_code : ℕ → Command → List Instr
+command_code pc (Set list) = assignments_code pc list
+command_code pc (Write list) = outputs_code pc list
+command_code pc Halt = instr.Halt ∷ []
+
+-- a command behind a postcondition, which begins at pc
+abbrev pub code_if : ℕ → Option Expr → Command → List Instr
+code_if pc None command = command_code pc command
+code_if pc (Some e) command =
+    let behind = pc + length (expr_code pc e) + 1 in
+    expr_code pc e ++ instr.Unless (behind + length (command_code behind command)) ∷ command_code behind command
 
 abbrev pub step_code : ℕ → Step → List Instr
-step_code pc step = code_if pc step.condition (command_code step.command)
+step_code pc step = code_if pc step.condition step.command
 
 abbrev pub steps_code : ℕ → List Step → List Instr
 steps_code pc [] = []

@@ -5,7 +5,7 @@ ghost use Rattle.mj_ast.specs.Trees.{expr_of, assignment_of, output_of, command_
 ghost use Rattle.mj_asm.specs.Code.{assignment_code, assignments_code, output_code, outputs_code, command_code, step_code, steps_code, line_code};
 ghost use Rattle.mj_asm.specs.Correct.{labels_of, IsUnitOf};
 
-use crate::expr::{emit_expr, emit_subscripts, put, reference};
+use crate::expr::{aim, emit_expr, emit_subscripts, put, reference};
 use mj_ast::{Assignment, Command, Line, Output, Routine, Step};
 use mj_pcode::{Instr, Label, Marks, Unit};
 use std::alloc::{AllocError, Global};
@@ -73,17 +73,8 @@ fn emit_step(alloc: Global, code: &mut Vec<Instr>, step: &Step) -> Result<(), Al
     }
 }
 
-// The jump at this place gets the end of the code for its target.
-fn aim(code: &mut Vec<Instr>, at: usize)
-    requires { at < length code.old.items }
-    ensures { code.new.items ≡ slice_set code.old.items at (Instr.Unless (length code.old.items)) }
-{
-    let target = code.len();
-    code[at] = Instr::Unless(target);
-}
-
 fn emit_command(alloc: Global, code: &mut Vec<Instr>, command: &Command) -> Result<(), AllocError>
-    ensures { OnOk result (code.new.items ≡ code.old.items ++ command_code (command_of command.now)) }
+    ensures { OnOk result (code.new.items ≡ code.old.items ++ command_code (length code.old.items) (command_of command.now)) }
 {
     match command {
         Command::Set(assignments) => emit_assignments(code, assignments),
@@ -93,7 +84,7 @@ fn emit_command(alloc: Global, code: &mut Vec<Instr>, command: &Command) -> Resu
 }
 
 fn emit_assignments(code: &mut Vec<Instr>, assignments: &[Assignment]) -> Result<(), AllocError>
-    ensures { OnOk result (code.new.items ≡ code.old.items ++ assignments_code (map assignment_of assignments.now)) }
+    ensures { OnOk result (code.new.items ≡ code.old.items ++ assignments_code (length code.old.items) (map assignment_of assignments.now)) }
 {
     for assignment in assignments {
         emit_assignment(code, assignment)?;
@@ -103,7 +94,7 @@ fn emit_assignments(code: &mut Vec<Instr>, assignments: &[Assignment]) -> Result
 
 // The subscripts, then the name's check, then the value, then the assignment.
 fn emit_assignment(code: &mut Vec<Instr>, assignment: &Assignment) -> Result<(), AllocError>
-    ensures { OnOk result (code.new.items ≡ code.old.items ++ assignment_code (assignment_of assignment.now)) }
+    ensures { OnOk result (code.new.items ≡ code.old.items ++ assignment_code (length code.old.items) (assignment_of assignment.now)) }
 {
     let destination = &assignment.destination;
     emit_subscripts(code, destination)?;
@@ -115,7 +106,7 @@ fn emit_assignment(code: &mut Vec<Instr>, assignment: &Assignment) -> Result<(),
 }
 
 fn emit_outputs(alloc: Global, code: &mut Vec<Instr>, outputs: &[Output]) -> Result<(), AllocError>
-    ensures { OnOk result (code.new.items ≡ code.old.items ++ outputs_code (map output_of outputs.now)) }
+    ensures { OnOk result (code.new.items ≡ code.old.items ++ outputs_code (length code.old.items) (map output_of outputs.now)) }
 {
     for output in outputs {
         emit_output(alloc, code, output)?;
@@ -124,7 +115,7 @@ fn emit_outputs(alloc: Global, code: &mut Vec<Instr>, outputs: &[Output]) -> Res
 }
 
 fn emit_output(alloc: Global, code: &mut Vec<Instr>, output: &Output) -> Result<(), AllocError>
-    ensures { OnOk result (code.new.items ≡ code.old.items ++ output_code (output_of output.now)) }
+    ensures { OnOk result (code.new.items ≡ code.old.items ++ output_code (length code.old.items) (output_of output.now)) }
 {
     match output {
         Output::Value(e) => {

@@ -1,11 +1,11 @@
 // The instructions of expressions.
 
-ghost use Rattle.std.specs.Prelude.{◌≡◌, [], ◌∷◌, ◌++◌, IfOk, OnOk};
-ghost use Rattle.mj_ast.specs.Trees.{operand_of, expr_of, variable_of, tails_of, exprs_of};
-ghost use Rattle.mj_asm.specs.Code.{operand_code, expr_code, tails_code, exprs_code, subscripts_code};
+ghost use Rattle.std.specs.Prelude.{◌≡◌, ◌<◌, [], ◌∷◌, ◌++◌, length, slice_set, IfOk, OnOk};
+ghost use Rattle.mj_ast.specs.Trees.{operand_of, expr_of, variable_of, choice_of, tails_of, exprs_of};
+ghost use Rattle.mj_asm.specs.Code.{operand_code, expr_code, tails_code, exprs_code, subscripts_code, choices_code, others_code};
 ghost use Rattle.mj_asm.specs.Code as code_spec;
 
-use mj_ast::{Expr, Operand, Tail, Variable};
+use mj_ast::{Choice, Expr, Operand, Tail, Variable};
 use mj_pcode::{Instr, Reference};
 use std::alloc::AllocError;
 
@@ -17,10 +17,28 @@ pub fn put(code: &mut Vec<Instr>, instr: Instr) -> Result<(), AllocError>
     Ok(())
 }
 
+/// The test at this place leads to the end of the code where it fails.
+pub fn aim(code: &mut Vec<Instr>, at: usize)
+    requires { at < length code.old.items }
+    ensures { code.new.items ≡ slice_set code.old.items at (Instr.Unless (length code.old.items)) }
+{
+    let target = code.len();
+    code[at] = Instr::Unless(target);
+}
+
+// The jump at this place leads to the end of the code.
+fn aim_jump(code: &mut Vec<Instr>, at: usize)
+    requires { at < length code.old.items }
+    ensures { code.new.items ≡ slice_set code.old.items at (Instr.Jump (length code.old.items)) }
+{
+    let target = code.len();
+    code[at] = Instr::Jump(target);
+}
+
 /// An expression, whose value comes onto the stack.
 #[cycle(emit)]
 pub fn emit_expr(code: &mut Vec<Instr>, e: &Expr) -> Result<(), AllocError>
-    ensures { OnOk result (code.new.items ≡ code.old.items ++ expr_code (expr_of e.now)) }
+    ensures { OnOk result (code.new.items ≡ code.old.items ++ expr_code (length code.old.items) (expr_of e.now)) }
 {
     emit_operand(code, &e.first)?;
     emit_tails(code, &e.rest)
@@ -29,7 +47,7 @@ pub fn emit_expr(code: &mut Vec<Instr>, e: &Expr) -> Result<(), AllocError>
 // Operators, with what stands left of them on the stack.
 #[cycle(emit)]
 fn emit_tails(code: &mut Vec<Instr>, tails: &[Tail]) -> Result<(), AllocError>
-    ensures { OnOk result (code.new.items ≡ code.old.items ++ tails_code (tails_of tails.now)) }
+    ensures { OnOk result (code.new.items ≡ code.old.items ++ tails_code (length code.old.items) (tails_of tails.now)) }
 {
     for tail in tails {
         emit_operand(code, &tail.operand)?;
@@ -40,7 +58,7 @@ fn emit_tails(code: &mut Vec<Instr>, tails: &[Tail]) -> Result<(), AllocError>
 
 #[cycle(emit)]
 fn emit_operand(code: &mut Vec<Instr>, operand: &Operand) -> Result<(), AllocError>
-    ensures { OnOk result (code.new.items ≡ code.old.items ++ operand_code (operand_of operand.now)) }
+    ensures { OnOk result (code.new.items ≡ code.old.items ++ operand_code (length code.old.items) (operand_of operand.now)) }
 {
     match operand {
         Operand::Literal(text) => {
@@ -57,20 +75,53 @@ fn emit_operand(code: &mut Vec<Instr>, operand: &Operand) -> Result<(), AllocErr
             put(code, Instr::Unary(*op))
         }
         Operand::Group(e) => emit_expr(code, e),
+        Operand::Call(function, arguments) => {
+            emit_all(code, arguments)?;
+            put(code, Instr::Call(*function, arguments.len()))
+        }
+        Operand::Select(choice) => emit_choice(code, choice),
+    }
+}
+
+// A condition, a test, its value, a jump past the other choices, and these.
+#[cycle(emit)]
+fn emit_choice(code: &mut Vec<Instr>, choice: &Choice) -> Result<(), AllocError>
+    ensures { OnOk result (code.new.items ≡ code.old.items ++ choices_code (length code.old.items) (choice_of choice.now)) }
+{
+    emit_expr(code, &choice.condition)?;
+    let test = code.len();
+    put(code, Instr::Unless(0))?;
+    emit_expr(code, &choice.value)?;
+    let exit = code.len();
+    put(code, Instr::Jump(0))?;
+    aim(code, test);
+    emit_others(code, choice)?;
+    aim_jump(code, exit);
+    Ok(())
+}
+
+// The choices behind the first.
+#[cycle(emit)]
+fn emit_others(code: &mut Vec<Instr>, choice: &Choice) -> Result<(), AllocError>
+    ensures { OnOk result (code.new.items ≡ code.old.items ++ others_code (length code.old.items) (choice_of choice.now)) }
+{
+    match &choice.others {
+        Some(others) => emit_choice(code, others),
+        None => put(code, Instr::NoneTrue),
     }
 }
 
 /// A variable's subscripts, whose values come onto the stack in order.
 #[cycle(emit)]
 pub fn emit_subscripts(code: &mut Vec<Instr>, variable: &Variable) -> Result<(), AllocError>
-    ensures { OnOk result (code.new.items ≡ code.old.items ++ subscripts_code (variable_of variable.now)) }
+    ensures { OnOk result (code.new.items ≡ code.old.items ++ subscripts_code (length code.old.items) (variable_of variable.now)) }
 {
     emit_all(code, &variable.subscripts)
 }
 
 #[cycle(emit)]
 fn emit_all(code: &mut Vec<Instr>, expressions: &[Expr]) -> Result<(), AllocError>
-    ensures { OnOk result (code.new.items ≡ code.old.items ++ exprs_code (exprs_of expressions.now)) }
+    ensures { OnOk result (code.new.items ≡ code.old.items ++ exprs_code (length code.old.items) (exprs_of expressions.now)) }
 {
     for expression in expressions {
         emit_expr(code, expression)?;

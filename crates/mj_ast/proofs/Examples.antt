@@ -2,9 +2,12 @@
 use Rattle.std.proofs.Common.{◌≡◌, [], ◌∷◌, Some, None, inl, inr, lit≤, refl, codes}
 use Rattle.std.specs.Fmt.{digits}
 use Rattle.mj_oper.specs.declared.op.TruthOp.TheVariants.{Equal, SortsAfter, Or}
-use Rattle.mj_ast.specs.declared.sign.Sign.TheVariants.{Star, Equals, CloseBracket, CloseBrackets, Exclamation, Apostrophe, Negated, Open, Comma}
-use Rattle.mj_ast.specs.Tokens.{Word, Digits, Quoted, Signed, Blank, Comment, Unclosed, Stray, lexemes, tokens, column}
+use Rattle.mj_ast.specs.declared.sign.Sign.TheVariants.{Star, Equals, CloseBracket, CloseBrackets, Exclamation, Apostrophe, Negated, Open, Close, Comma}
+use Rattle.mj_ast.specs.Tokens.{Word, Called, Special, Digits, Quoted, Signed, Blank, Comment, Unclosed, Stray, lexemes, tokens, column}
 use Rattle.mj_ast.specs.declared.keyword.Keyword.TheVariants as keyword
+use Rattle.mj_ast.specs.declared.function.Function.TheVariants.{Reverse, Translate}
+use Rattle.mj_ast.specs.declared.function.Callee.TheVariants.{Texts}
+use Rattle.mj_ast.specs.Expressions.{callee_of}
 use Rattle.mj_ast.specs.Syntax.{Chain, Done, Literal, Shown, Write, Halt, Step}
 use Rattle.mj_ast.specs.Commands.{keyword_of}
 use Rattle.mj_ast.specs.Lines.{SpellsLine}
@@ -39,6 +42,15 @@ doubled_last : tokens (codes "\"a\"\"") ≡ Unclosed (codes "a\"") ∷ []
 unfolding lexemes
 doubled_last = refl
 
+-- `$` and a word are one token, by whether a `(` follows at once
+dollars : tokens (codes "$L(X)$l (") ≡ Called (codes "L") ∷ Signed Open ∷ Word (codes "X") ∷ Signed Close ∷ Special (codes "l") ∷ Blank ∷ Signed Open ∷ []
+unfolding lexemes
+dollars = refl
+
+lone_dollars : tokens (codes "$5$$") ≡ Stray 36 ∷ Digits (codes "5") ∷ Stray 36 ∷ Stray 36 ∷ []
+unfolding lexemes
+lone_dollars = refl
+
 strays : tokens (codes "**$!(") ≡ Signed Star ∷ Signed Star ∷ Stray 36 ∷ Signed Exclamation ∷ Signed Open ∷ []
 unfolding lexemes
 strays = refl
@@ -56,6 +68,17 @@ negated = refl
 end_column : column (codes " H ") 9 ≡ 4
 unfolding lexemes
 end_column = refl
+
+-- ---- functions
+
+functions : callee_of (codes "tRanslate") ≡ Some (Texts Translate)
+functions = refl
+
+short_function : callee_of (codes "re") ≡ Some (Texts Reverse)
+short_function = refl
+
+no_function : callee_of (codes "LEN") ≡ None
+no_function = refl
 
 -- ---- commands and lines
 
@@ -95,7 +118,7 @@ spelled_line = (
     tokens (codes "  H ;c"),
     lit≤ tt,
     refl,
-    (119 ∷ [], [], tokens (codes " 007"), refl, refl, refl, (tokens (codes "007"), refl, refl)),
+    (119 ∷ [], [], tokens (codes " 007"), refl, refl, refl, (tokens (codes "007"), refl, (refl, refl))),
     (
       2,
       tokens (codes "H"),

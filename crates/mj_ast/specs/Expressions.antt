@@ -2,12 +2,15 @@
 --
 --   expression = operand {binary operand}
 --   operand    = unary operand | digits | quoted text | variable | "(" expression ")"
+--              | "$" word "(" expression {"," expression} ")"
+--              | "$SELECT" "(" expression ":" expression {"," expression ":" expression} ")"
 --   variable   = ["^"] name ["(" expression {"," expression} ")"]
-use Rattle.std.specs.Prelude.{◌≡◌, ℕ, ◌+◌, ◌≤◌, max, nat_le, if◌then◌else◌, List, [], ◌∷◌, ◌++◌, length, map, Result, Ok, Err, ℤ}
+use Rattle.std.specs.Prelude.{◌≡◌, ℕ, ◌+◌, ◌-◌, ◌≤◌, max, nat_le, Bool, ◌||◌, Option, Some, None, codes, if◌then◌else◌, List, [], ◌∷◌, ◌++◌, length, map, Result, Ok, Err, ℤ}
+use Rattle.std.specs.Str.{str_eq_ignore_ascii_case}
 use Rattle.mj_text.specs.declared.fault.Fault.{Fault}
 use Rattle.mj_num.specs.Number.{reading, canonic_text}
 use Rattle.mj_ast.specs.declared.sign.Sign.{Sign}
-use Rattle.mj_ast.specs.declared.sign.Sign.TheVariants.{Caret, Open, Close, Comma}
+use Rattle.mj_ast.specs.declared.sign.Sign.TheVariants.{Caret, Open, Close, Comma, Colon}
 use Rattle.mj_ast.specs.declared.sign.Sign.TheVariants as sign
 use Rattle.mj_ast.specs.declared.expr.Scope.{Scope}
 use Rattle.mj_ast.specs.declared.expr.Scope.TheVariants.{Local, Global}
@@ -17,16 +20,66 @@ use Rattle.mj_oper.specs.declared.op.TruthOp.{TruthOp}
 use Rattle.mj_oper.specs.declared.op.TruthOp.TheVariants as truth
 use Rattle.mj_oper.specs.declared.op.UnaryOp.{UnaryOp}
 use Rattle.mj_oper.specs.declared.op.UnaryOp.TheVariants as unary
-use Rattle.mj_ast.specs.Syntax.{Expr, Chain, Tails, Done, Then, Operand, Literal, Value, Unary, Group, Variable, Var, Exprs, No, More}
-use Rattle.mj_ast.specs.Tokens.{Token, Word, Digits, Quoted, Signed}
+use Rattle.mj_ast.specs.declared.function.Function.{Function}
+use Rattle.mj_ast.specs.declared.function.Function.TheVariants.{Ascii, Char, Extract, Find, Justify, Length, Piece, Reverse, Translate}
+use Rattle.mj_ast.specs.declared.function.Callee.{Callee}
+use Rattle.mj_ast.specs.declared.function.Callee.TheVariants as callee
+use Rattle.mj_ast.specs.Syntax.{Expr, Chain, Tails, Done, Then, Operand, Literal, Value, Unary, Group, Call, Select, Variable, Var, Exprs, No, More, Choices, Last, Before}
+use Rattle.mj_ast.specs.Tokens.{Token, Word, Called, Special, Digits, Quoted, Signed}
+
+-- ---- functions
+
+-- the word is this one or its abbreviation, in any case
+abbrev pub is_named : List ℕ → List ℕ → List ℕ → Bool
+is_named w full short = str_eq_ignore_ascii_case w full || str_eq_ignore_ascii_case w short
+
+-- what a `$` word names, if arguments may stand behind it
+abbrev pub callee_of : List ℕ → Option Callee
+callee_of w =
+    if is_named w (codes "ASCII") (codes "A") then Some (callee.Texts Ascii)
+    else if is_named w (codes "CHAR") (codes "C") then Some (callee.Texts Char)
+    else if is_named w (codes "EXTRACT") (codes "E") then Some (callee.Texts Extract)
+    else if is_named w (codes "FIND") (codes "F") then Some (callee.Texts Find)
+    else if is_named w (codes "JUSTIFY") (codes "J") then Some (callee.Texts Justify)
+    else if is_named w (codes "LENGTH") (codes "L") then Some (callee.Texts Length)
+    else if is_named w (codes "PIECE") (codes "P") then Some (callee.Texts Piece)
+    else if is_named w (codes "REVERSE") (codes "RE") then Some (callee.Texts Reverse)
+    else if is_named w (codes "SELECT") (codes "S") then Some callee.Select
+    else if is_named w (codes "TRANSLATE") (codes "TR") then Some (callee.Texts Translate)
+    else None
+
+-- the least number of arguments
+abbrev pub least : Function → ℕ
+least Ascii = 1
+least Char = 1
+least Extract = 1
+least Find = 2
+least Justify = 2
+least Length = 1
+least Piece = 2
+least Reverse = 1
+least Translate = 2
+
+-- the greatest number of arguments; `$CHAR` takes as many as a line has room for
+abbrev pub most : Function → ℕ
+most Ascii = 2
+most Char = 8192
+most Extract = 3
+most Find = 3
+most Justify = 2
+most Length = 2
+most Piece = 4
+most Reverse = 1
+most Translate = 3
 
 -- ---- what a token is to an expression
 
--- A symbol of the grammar: a constant with its value, a name, a word that is too long for one, a sign, or what stands in
--- no expression.
+-- A symbol of the grammar: a constant with its value, a name, a function with a `(` behind it, a word that is too long for
+-- one, a sign, or what stands in no expression.
 pub data Symbol : Type 0 where
   Constant : (value : List ℕ) → Symbol
   Name : (word : List ℕ) → Symbol
+  Applied : (callee : Callee) → Symbol
   Overlong : Symbol
   Mark : (sign : Sign) → Symbol
   Other : Symbol
@@ -52,9 +105,16 @@ abbrev pub constant_of : Result ℤ Fault → Symbol
 constant_of (Ok z) = Constant (canonic_text z)
 constant_of (Err fault) = Other
 
+-- a `$` word with a `(` behind it is a function, if there is one of that name
+abbrev pub function_symbol : Option Callee → Symbol
+function_symbol None = Other
+function_symbol (Some callee) = Applied callee
+
 -- what a token is to an expression
 abbrev pub symbol : Token → Symbol
 symbol (Word w) = if nat_le (length w) name_limit then Name w else Overlong
+symbol (Called w) = if nat_le (length w) name_limit then function_symbol (callee_of w) else Overlong
+symbol (Special w) = if nat_le (length w) name_limit then Other else Overlong
 symbol (Digits ds) = constant_of (reading ds)
 symbol (Quoted value) = if nat_le (length value) text_limit then Constant value else Other
 symbol (Signed s) = Mark s
@@ -105,26 +165,33 @@ abbrev mutual
   tails_symbols Done = []
   tails_symbols (Then op operand rest) = Mark (binary_sign op) ∷ (operand_symbols operand ++ tails_symbols rest)
 
-  -- a constant, a variable, an operator before an operand, or an expression in parentheses
+  -- a constant, a variable, an operator before an operand, an expression in parentheses, or a function with its arguments
   pub operand_symbols : Operand → List Symbol
   operand_symbols (Literal value) = Constant value ∷ []
   operand_symbols (Value v) = variable_symbols v
   operand_symbols (Unary op operand) = Mark (unary_sign op) ∷ operand_symbols operand
   operand_symbols (Group e) = Mark Open ∷ (expr_symbols e ++ Mark Close ∷ [])
+  operand_symbols (Call f arguments) = Applied (callee.Texts f) ∷ list_symbols arguments
+  operand_symbols (Select choices) = Applied callee.Select ∷ Mark Open ∷ choices_symbols choices
 
   -- a name, and its subscripts
   pub variable_symbols : Variable → List Symbol
   variable_symbols (Var scope word subscripts) = scoped scope (Name word ∷ list_symbols subscripts)
 
-  -- no subscripts are no parentheses either
+  -- no subscripts or arguments are no parentheses either
   pub list_symbols : Exprs → List Symbol
   list_symbols No = []
   list_symbols (More e rest) = Mark Open ∷ (expr_symbols e ++ more_symbols rest)
 
-  -- the subscripts behind the first, each behind a comma
+  -- those behind the first, each behind a comma
   pub more_symbols : Exprs → List Symbol
   more_symbols No = Mark Close ∷ []
   more_symbols (More e rest) = Mark Comma ∷ (expr_symbols e ++ more_symbols rest)
+
+  -- conditions, each with a colon and its value behind it
+  pub choices_symbols : Choices → List Symbol
+  choices_symbols (Last c e) = expr_symbols c ++ Mark Colon ∷ (expr_symbols e ++ Mark Close ∷ [])
+  choices_symbols (Before c e others) = expr_symbols c ++ Mark Colon ∷ (expr_symbols e ++ Mark Comma ∷ choices_symbols others)
 
 -- ---- limits
 
@@ -133,8 +200,8 @@ abbrev pub count : Exprs → ℕ
 count No = 0
 count (More e rest) = count rest + 1
 
--- The nesting: how many levels are open at once at most. Parentheses, subscript lists and unary operators open one each, a
--- unary operator for its operand alone.
+-- The nesting: how many levels are open at once at most. Parentheses, subscript lists, argument lists and unary operators
+-- open one each, a unary operator for its operand alone.
 abbrev mutual
   pub expr_nesting : Expr → ℕ
   expr_nesting (Chain first rest) = max (operand_nesting first) (tails_nesting rest)
@@ -148,6 +215,8 @@ abbrev mutual
   operand_nesting (Value v) = variable_nesting v
   operand_nesting (Unary op operand) = operand_nesting operand + 1
   operand_nesting (Group e) = expr_nesting e + 1
+  operand_nesting (Call f arguments) = list_nesting arguments
+  operand_nesting (Select choices) = choices_nesting choices + 1
 
   pub variable_nesting : Variable → ℕ
   variable_nesting (Var scope word subscripts) = list_nesting subscripts
@@ -159,6 +228,10 @@ abbrev mutual
   pub exprs_nesting : Exprs → ℕ
   exprs_nesting No = 0
   exprs_nesting (More e rest) = max (expr_nesting e) (exprs_nesting rest)
+
+  pub choices_nesting : Choices → ℕ
+  choices_nesting (Last c e) = max (expr_nesting c) (expr_nesting e)
+  choices_nesting (Before c e others) = max (max (expr_nesting c) (expr_nesting e)) (choices_nesting others)
 
 -- the length of the longest list of subscripts
 abbrev mutual
@@ -174,6 +247,8 @@ abbrev mutual
   operand_width (Value v) = variable_width v
   operand_width (Unary op operand) = operand_width operand
   operand_width (Group e) = expr_width e
+  operand_width (Call f arguments) = exprs_width arguments
+  operand_width (Select choices) = choices_width choices
 
   pub variable_width : Variable → ℕ
   variable_width (Var scope word subscripts) = max (count subscripts) (exprs_width subscripts)
@@ -182,23 +257,57 @@ abbrev mutual
   exprs_width No = 0
   exprs_width (More e rest) = max (expr_width e) (exprs_width rest)
 
+  pub choices_width : Choices → ℕ
+  choices_width (Last c e) = max (expr_width c) (expr_width e)
+  choices_width (Before c e others) = max (max (expr_width c) (expr_width e)) (choices_width others)
+
+-- How far the numbers of arguments are from what the functions take: by how many there are too few or too many, in all.
+abbrev mutual
+  pub expr_misfits : Expr → ℕ
+  expr_misfits (Chain first rest) = operand_misfits first + tails_misfits rest
+
+  pub tails_misfits : Tails → ℕ
+  tails_misfits Done = 0
+  tails_misfits (Then op operand rest) = operand_misfits operand + tails_misfits rest
+
+  pub operand_misfits : Operand → ℕ
+  operand_misfits (Literal value) = 0
+  operand_misfits (Value v) = variable_misfits v
+  operand_misfits (Unary op operand) = operand_misfits operand
+  operand_misfits (Group e) = expr_misfits e
+  operand_misfits (Call f arguments) = (least f - count arguments) + (count arguments - most f) + exprs_misfits arguments
+  operand_misfits (Select choices) = choices_misfits choices
+
+  pub variable_misfits : Variable → ℕ
+  variable_misfits (Var scope word subscripts) = exprs_misfits subscripts
+
+  pub exprs_misfits : Exprs → ℕ
+  exprs_misfits No = 0
+  exprs_misfits (More e rest) = expr_misfits e + exprs_misfits rest
+
+  pub choices_misfits : Choices → ℕ
+  choices_misfits (Last c e) = expr_misfits c + expr_misfits e
+  choices_misfits (Before c e others) = expr_misfits c + expr_misfits e + choices_misfits others
+
 -- ---- the statements
 
--- a kind of phrase: how its trees are spelled, and what the limits are on
+-- a kind of phrase: how its trees are spelled, what the limits are on, and whether its functions have as many arguments as
+-- they take
 pub record Phrases (T : Type 0) : Type 0 where
   pub symbols : T → List Symbol
   pub nesting : T → ℕ
   pub width : T → ℕ
+  pub misfits : T → ℕ
 
 abbrev pub expressions : Phrases Expr
-expressions = record { symbols = expr_symbols; nesting = expr_nesting; width = expr_width }
+expressions = record { symbols = expr_symbols; nesting = expr_nesting; width = expr_width; misfits = expr_misfits }
 
 abbrev pub variables : Phrases Variable
-variables = record { symbols = variable_symbols; nesting = variable_nesting; width = variable_width }
+variables = record { symbols = variable_symbols; nesting = variable_nesting; width = variable_width; misfits = variable_misfits }
 
 -- the tokens spell the tree
 abbrev pub Spells : {T : Type 0} → Phrases T → List Token → T → Type 0
-Spells P ks t = map symbol ks ≡ P.symbols t
+Spells P ks t = (map symbol ks ≡ P.symbols t) × (P.misfits t ≡ 0)
 
 -- the tree nests no deeper, and has no longer list
 pub record IsWithin {T : Type 0} (P : Phrases T) (depth width : ℕ) (t : T) : Type 0 where

@@ -10,7 +10,7 @@
 use Rattle.std.specs.Prelude.{◌≡◌, ◌⊎◌, ℕ, ◌+◌, ◌≤◌, ◌<◌, List, [], ◌∷◌, ◌++◌, length, take, replicate, Contains, Option, Some, None}
 use Rattle.mj_ast.specs.declared.sign.Sign.TheVariants.{Comma}
 use Rattle.mj_ast.specs.Syntax.{Step, Line}
-use Rattle.mj_ast.specs.Tokens.{Token, Word, Digits, Signed, Blank, Comment, tokens, column}
+use Rattle.mj_ast.specs.Tokens.{Token, Word, Called, Special, Digits, Signed, Blank, Comment, tokens, column}
 use Rattle.mj_ast.specs.Expressions.{name_limit, depth_limit, width_limit}
 use Rattle.mj_ast.specs.Commands.{SpellsStep, gap_behind, comment_gap_behind, greatest, step_nesting, step_width}
 
@@ -101,6 +101,8 @@ pub record IsLastComma (ks : List Token) : Type 0 where
 -- the token is a word over its limit, or a comma behind which a list of subscripts has too many
 abbrev pub IsOverlong : List Token → Token → Type 0
 IsOverlong before (Word w) = name_limit < length w
+IsOverlong before (Called w) = name_limit < length w
+IsOverlong before (Special w) = name_limit < length w
 IsOverlong before (Signed Comma) = IsLastComma before
 IsOverlong before _ = ⊥
 

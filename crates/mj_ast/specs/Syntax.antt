@@ -1,6 +1,7 @@
 -- Routines as trees, without where they lie in memory. A text is the list of its bytes.
 use Rattle.std.specs.Prelude.{ℕ, List, Option}
 use Rattle.mj_ast.specs.declared.expr.Scope.{Scope}
+use Rattle.mj_ast.specs.declared.function.Function.{Function}
 use Rattle.mj_oper.specs.declared.op.Op.{Op}
 use Rattle.mj_oper.specs.declared.op.UnaryOp.{UnaryOp}
 use Rattle.mj_ast.specs.declared.routine.Mark.{Mark}
@@ -16,12 +17,15 @@ mutual
     Then : (op : Op) (operand : Operand) (rest : Tails) → Tails
 
   -- what stands between binary operators: a quoted text, or the canonic text of the number that digits read; the
-  -- value of a variable; an operator and its operand; an expression in parentheses
+  -- value of a variable; an operator and its operand; an expression in parentheses; a function and its arguments;
+  -- `$SELECT` and its choices
   pub data Operand : Type 0 where
     Literal : (value : List ℕ) → Operand
     Value : (v : Variable) → Operand
     Unary : (op : UnaryOp) (operand : Operand) → Operand
     Group : (e : Expr) → Operand
+    Call : (f : Function) (arguments : Exprs) → Operand
+    Select : (choices : Choices) → Operand
 
   -- a local or a global, with its subscripts
   pub data Variable : Type 0 where
@@ -31,6 +35,11 @@ mutual
   pub data Exprs : Type 0 where
     No : Exprs
     More : (e : Expr) (rest : Exprs) → Exprs
+
+  -- conditions, each with the value that it leads to, in order
+  pub data Choices : Type 0 where
+    Last : (condition value : Expr) → Choices
+    Before : (condition value : Expr) (others : Choices) → Choices
 
 -- an argument of SET: a destination and the value that it gets
 pub record Assignment : Type 0 where

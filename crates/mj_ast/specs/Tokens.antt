@@ -41,6 +41,10 @@ AreDigits (b ∷ bs) = All (λ c. IsTrue (is_digit c)) (b ∷ bs)
 pub data Token : Type 0 where
   -- a word: a name, or a keyword as it was spelled
   Word : (bytes : List ℕ) → Token
+  -- `$` and a word, with a `(` directly behind it
+  Called : (word : List ℕ) → Token
+  -- `$` and a word, with anything else behind it
+  Special : (word : List ℕ) → Token
   -- digits, as they were spelled
   Digits : (bytes : List ℕ) → Token
   -- a quoted text, by its content
@@ -100,6 +104,7 @@ doubled (b ∷ bs) = (if b == 34 then 34 ∷ 34 ∷ doubled bs else b ∷ double
 -- what a byte may begin
 pub data Class : Type 0 where
   AWord : Class
+  ADollar : Class
   ADigit : Class
   AQuote : Class
   ABlank : Class
@@ -140,18 +145,32 @@ class_of b =
     else if is_blank b then ABlank
     else if b == 34 then AQuote
     else if b == 59 then AComment
+    else if b == 36 then ADollar
     else sign_class b
 
 -- the bytes spell the token
 abbrev pub IsSpelledBy : Token → List ℕ → Type 0
 IsSpelledBy (Word w) bytes = (bytes ≡ w) × IsWord w
+IsSpelledBy (Called w) bytes = (bytes ≡ 36 ∷ w) × IsWord w
+IsSpelledBy (Special w) bytes = (bytes ≡ 36 ∷ w) × IsWord w
 IsSpelledBy (Digits d) bytes = (bytes ≡ d) × AreDigits d
 IsSpelledBy (Quoted content) bytes = bytes ≡ 34 ∷ (doubled content ++ 34 ∷ [])
 IsSpelledBy (Signed s) bytes = bytes ≡ sign_bytes s
 IsSpelledBy Blank bytes = (bytes ≡ 32 ∷ []) ⊎ (bytes ≡ 9 ∷ [])
 IsSpelledBy (Comment text) bytes = bytes ≡ 59 ∷ text
 IsSpelledBy (Unclosed text) bytes = bytes ≡ 34 ∷ doubled text
-IsSpelledBy (Stray b) bytes = (bytes ≡ b ∷ []) × (class_of b ≡ Nothing)
+IsSpelledBy (Stray b) bytes = (bytes ≡ b ∷ []) × ((class_of b ≡ Nothing) ⊎ (b ≡ 36))
+
+-- a `(` stands in front
+abbrev pub opens : List ℕ → Bool
+opens [] = false
+opens (b ∷ bs) = b == 40
+
+-- what stands behind the token fits it
+abbrev pub IsBefore : Token → List ℕ → Type 0
+IsBefore (Called w) rest = opens rest ≡ true
+IsBefore (Special w) rest = opens rest ≡ false
+IsBefore _ rest = Unit {0}
 
 -- a token with the slice of the line that spells it
 pub record Lexeme : Type 0 where
@@ -166,7 +185,7 @@ pub record IsLongest (bytes : List ℕ) (n : ℕ) : Type 0 where
 abbrev pub IsTokenisation : List ℕ → List Lexeme → Type 0
 IsTokenisation line [] = line ≡ []
 IsTokenisation line (l ∷ ls) =
-    (rest : List ℕ) × (line ≡ l.slice ++ rest) × IsSpelledBy l.token l.slice × IsLongest line (length l.slice) × IsTokenisation rest ls
+    (rest : List ℕ) × (line ≡ l.slice ++ rest) × IsSpelledBy l.token l.slice × IsBefore l.token rest × IsLongest line (length l.slice) × IsTokenisation rest ls
 
 -- A quoted text from behind its opening quote on: whether it is closed, its content, and how many bytes it takes.
 pub record Quotation : Type 0 where
@@ -225,9 +244,21 @@ longest_sign CloseBracket bs = bracket_sign (bracket_front bs)
 longest_sign Apostrophe bs = elim (truth_front bs) [ None ↦ (Apostrophe, 0) | Some op ↦ (Negated op, length (truth_bytes op)) ]
 longest_sign s bs = (s, 0)
 
+-- the token of `$` and a word, by what stands behind it
+abbrev pub dollar_word : List ℕ → List ℕ → Token
+dollar_word w rest = if opens rest then Called w else Special w
+
+-- the token of a `$`, by the bytes behind it, and how many of them it takes
+abbrev pub dollar_front : List ℕ → Token × ℕ
+dollar_front [] = (Stray 36, 0)
+dollar_front (b ∷ bs) =
+    let w = take_while continues_word bs in
+    if begins_word b then (dollar_word (b ∷ w) (drop (length w) bs), 1 + length w) else (Stray 36, 0)
+
 -- the token at the front of a line, and how many bytes behind its first it takes
 abbrev pub front_of : Class → ℕ → List ℕ → Token × ℕ
 front_of AWord b bs = let w = take_while continues_word bs in (Word (b ∷ w), length w)
+front_of ADollar b bs = dollar_front bs
 front_of ADigit b bs = let d = take_while is_digit bs in (Digits (b ∷ d), length d)
 front_of AQuote b bs = let q = quotation bs in (quoted_token q, q.width)
 front_of ABlank b bs = (Blank, 0)

@@ -4,6 +4,7 @@ use Rattle.mj_ast.specs.declared.expr.Expr as expr
 use Rattle.mj_ast.specs.declared.expr.Tail as tail
 use Rattle.mj_ast.specs.declared.expr.Operand as operand
 use Rattle.mj_ast.specs.declared.expr.Variable as variable
+use Rattle.mj_ast.specs.declared.expr.Choice as choice
 use Rattle.mj_ast.specs.declared.routine.Assignment as assignment
 use Rattle.mj_ast.specs.declared.routine.Output as kept_output
 use Rattle.mj_ast.specs.declared.routine.Output.TheVariants as output
@@ -12,7 +13,7 @@ use Rattle.mj_ast.specs.declared.routine.Command.TheVariants as command
 use Rattle.mj_ast.specs.declared.routine.Step as step
 use Rattle.mj_ast.specs.declared.routine.Line as line
 use Rattle.mj_ast.specs.declared.routine.Routine as routine
-use Rattle.mj_ast.specs.Syntax.{Expr, Chain, Tails, Done, Then, Operand, Literal, Value, Unary, Group, Variable, Var, Exprs, No, More, Assignment, Output, Shown, Format, Command, Set, Write, Halt, Step, Line, Routine}
+use Rattle.mj_ast.specs.Syntax.{Expr, Chain, Tails, Done, Then, Operand, Literal, Value, Unary, Group, Call, Select, Variable, Var, Exprs, No, More, Choices, Last, Before, Assignment, Output, Shown, Format, Command, Set, Write, Halt, Step, Line, Routine}
 
 abbrev mutual
   pub operand_of : operand.Operand → Operand
@@ -20,6 +21,12 @@ abbrev mutual
   operand_of (operand.Variable v) = Value (variable_of v)
   operand_of (operand.Unary' op p x) = Unary op (operand_of x)
   operand_of (operand.Group' p e) = Group (expr_of e)
+  operand_of (operand.Call' f shape row) = Call f (expr_row row)
+  operand_of (operand.Select' p choice) = Select (choice_of choice)
+
+  pub choice_of : choice.Choice → Choices
+  choice_of (choice.Choice' condition value choice.None') = Last (expr_of condition) (expr_of value)
+  choice_of (choice.Choice' condition value (choice.Some' p others)) = Before (expr_of condition) (expr_of value) (choice_of others)
 
   pub expr_of : expr.Expr → Expr
   expr_of (expr.Expr' first shape row) = Chain (operand_of first) (tail_row row)

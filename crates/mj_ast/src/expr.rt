@@ -1,5 +1,6 @@
 // Expressions.
 
+use crate::function::Function;
 use mj_oper::{Op, UnaryOp};
 use mj_text::Text;
 
@@ -38,6 +39,19 @@ pub enum Operand {
     Unary(UnaryOp, Box<Operand>),
     /// an expression in parentheses
     Group(Box<Expr>),
+    /// a function and its arguments
+    Call(Function, Vec<Expr>),
+    /// `$SELECT` and its choices
+    Select(Box<Choice>),
+}
+
+/// A choice of `$SELECT`: a condition with the value that it leads to, and the choices behind it, if there are any.
+#[derive(Drop)]
+#[cycle(expr)]
+pub struct Choice {
+    pub condition: Expr,
+    pub value: Expr,
+    pub others: Option<Box<Choice>>,
 }
 
 /// A local or a global, with its subscripts.

@@ -5,11 +5,13 @@
 #![tactic(auto)]
 
 mod expr;
+mod function;
 mod keyword;
 mod routine;
 mod sign;
 
-pub use expr::{Expr, Operand, Scope, Tail, Variable};
+pub use expr::{Choice, Expr, Operand, Scope, Tail, Variable};
+pub use function::{Callee, Function};
 pub use keyword::Keyword;
 pub use routine::{Assignment, Command, Line, Mark, Output, Routine, Step};
 pub use sign::Sign;

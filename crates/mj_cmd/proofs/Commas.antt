@@ -6,7 +6,7 @@ use Rattle.mj_ast.specs.declared.sign.Sign.TheVariants.{Equals, Comma, Colon, Ex
 use Rattle.mj_ast.specs.declared.keyword.Keyword.{Keyword}
 use Rattle.mj_ast.specs.declared.keyword.Keyword.TheVariants as keyword
 use Rattle.mj_ast.specs.Syntax.{Expr, Output, Line}
-use Rattle.mj_ast.specs.Tokens.{Token, Word, Digits, Quoted, Signed, Blank, Comment, Unclosed, Stray}
+use Rattle.mj_ast.specs.Tokens.{Token, Word, Called, Special, Digits, Quoted, Signed, Blank, Comment, Unclosed, Stray}
 use Rattle.mj_ast.specs.Expressions.{Symbol, Overlong, symbol, name_limit}
 use Rattle.mj_ast.specs.Expressions as grammar
 use Rattle.mj_ast.specs.Commands.{keyword_of}
@@ -15,7 +15,7 @@ use Rattle.mj_expr.specs.Machine as phrase
 use Rattle.mj_expr.proofs.Turns.{IsReached, step_reached, NextReached, IsPlain, CommaAfter, comma_after, plain_easy, comma_level, IsNoLevel, IsEasy, overlong_stuck, step_deep, DeepBy}
 use Rattle.mj_cmd.specs.Machine.{Rest, Place, Begin, Behind, Over, Worded, Bare, Aimed, Assigned, Marked, Printed, Goal, Text, State, At, In, Either, labelled, expression_wanted, behind, rested, Next, Go, Stuck, Deep, Long, arguments, own, begins, on_rested, first, place_step, behind_step, phrase_step, in_step, step}
 use Rattle.mj_cmd.proofs.Leaves.{NextLeads, place_leads}
-use Rattle.mj_cmd.proofs.Facts.{place_long}
+use Rattle.mj_cmd.proofs.Facts.{place_long, place_called, place_special}
 
 go_stuck : (s : State) → Go s ≡ Stuck → ⊥
 go_stuck s e = cc
@@ -89,6 +89,31 @@ pub word_stuck : (m : Limits) (s : State) (w : List ℕ) → 31 < length w → s
 word_stuck m (At p) w h = place_long p w h
 word_stuck m (In g s) w h = in_word m g s w h
 word_stuck m (Either o condition done) w h = in_word m (Text o condition done) expression_wanted w h
+
+long_symbol : (w : List ℕ) (k : Symbol) → 31 < length w → cond (nat_le (length w) 31) k Overlong ≡ Overlong
+long_symbol w k h = ap (λ (b : Bool). cond b k Overlong) (let e : nat_le (length w) 31 ≡ false = grind (arith, nat_tests) in e)
+
+behind_dollar : (g : Goal) (o : phrase.Outcome) (k : Token) → ((p : Place) → place_step p k ≡ Stuck) → behind_step g o k ≡ Stuck
+behind_dollar g (phrase.Accept p r) k h = h (behind g p)
+behind_dollar g (phrase.StuckAt n) k h = refl
+behind_dollar g (phrase.DeepAt n) k h = refl
+behind_dollar g phrase.TooLong k h = refl
+
+in_dollar : (m : Limits) (g : Goal) (s : phrase.State) (k : Token) → symbol k ≡ Overlong → ((p : Place) → place_step p k ≡ Stuck) → in_step m g s k ≡ Stuck
+in_dollar m g s k e h =
+    ap (λ (x : Symbol). phrase_step g s k (phrase.step m s x)) e
+    ∙ ap (phrase_step g s k) (overlong_stuck m s)
+    ∙ behind_dollar g (phrase.finish s []) k h
+
+pub called_stuck : (m : Limits) (s : State) (w : List ℕ) → 31 < length w → step m s (Called w) ≡ Stuck
+called_stuck m (At p) w h = place_called p w
+called_stuck m (In g s) w h = in_dollar m g s (Called w) (long_symbol w (grammar.function_symbol (grammar.callee_of w)) h) (λ p. place_called p w)
+called_stuck m (Either o condition done) w h = in_dollar m (Text o condition done) expression_wanted (Called w) (long_symbol w (grammar.function_symbol (grammar.callee_of w)) h) (λ p. place_called p w)
+
+pub special_stuck : (m : Limits) (s : State) (w : List ℕ) → 31 < length w → step m s (Special w) ≡ Stuck
+special_stuck m (At p) w h = place_special p w
+special_stuck m (In g s) w h = in_dollar m g s (Special w) (long_symbol w grammar.Other h) (λ p. place_special p w)
+special_stuck m (Either o condition done) w h = in_dollar m (Text o condition done) expression_wanted (Special w) (long_symbol w grammar.Other h) (λ p. place_special p w)
 
 -- ---- states that are reached
 
@@ -195,6 +220,8 @@ own_place p (Signed s) h = absurd h
 own_place p Blank h = absurd h
 own_place p (Comment t) h = absurd h
 own_place p (Unclosed t) h = absurd h
+own_place p (Called w) h = absurd h
+own_place p (Special w) h = absurd h
 own_place p (Stray b) h = absurd h
 
 begins_place : (o : Line) (q : Option Keyword) → ToPlace (begins o q)
@@ -213,6 +240,8 @@ on_place (Some r) (Signed s) h = absurd h
 on_place (Some r) Blank h = absurd h
 on_place (Some r) (Comment t) h = absurd h
 on_place (Some r) (Unclosed t) h = absurd h
+on_place (Some r) (Called w) h = absurd h
+on_place (Some r) (Special w) h = absurd h
 on_place (Some r) (Stray b) h = absurd h
 on_place None k h = tt
 
@@ -267,6 +296,8 @@ plain_token (Signed s) h = absurd h
 plain_token Blank h = absurd h
 plain_token (Comment t) h = absurd h
 plain_token (Unclosed t) h = absurd h
+plain_token (Called w) h = absurd h
+plain_token (Special w) h = absurd h
 plain_token (Stray b) h = absurd h
 
 in_comma : (m : Limits) (t : State) (g : Goal) (s : phrase.State) (k : Token) → IsReached s → IsToken k → (in_step m g s (Signed Comma) ≡ Long → step m t (Signed Comma) ≡ Long) → LineComma m t (in_step m g s k)

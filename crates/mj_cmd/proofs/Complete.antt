@@ -9,9 +9,9 @@ use Rattle.mj_ast.specs.declared.routine.Mark.TheVariants.{NewLine}
 use Rattle.mj_ast.specs.declared.keyword.Keyword.{Keyword}
 use Rattle.mj_ast.specs.declared.keyword.Keyword.TheVariants as keyword
 use Rattle.mj_ast.specs.Syntax.{Expr, Variable, Assignment, Output, Shown, Format, Command, Set, Write, Halt, Step, Line}
-use Rattle.mj_ast.specs.Tokens.{Token, Word, Digits, Signed, Blank, Comment}
-use Rattle.mj_ast.specs.Expressions.{Symbol, symbol, Spells, expressions, variables, expr_symbols, expr_nesting, variable_nesting, expr_width, variable_width}
-use Rattle.mj_ast.specs.Commands.{keyword_for, greatest, output_measure, step_nesting, step_width, condition_measure, SpellsFrom, SpellsAssignment, SpellsOutput, SpellsCondition, SpellsArguments, SpellsStep, mark_token, gap_behind, comment_gap_behind}
+use Rattle.mj_ast.specs.Tokens.{Token, Word, Digits, Signed, Blank, Comment, Called, Special}
+use Rattle.mj_ast.specs.Expressions.{Symbol, symbol, Spells, expressions, variables, expr_symbols, expr_nesting, variable_nesting, expr_width, variable_width, variable_symbols, name_limit}
+use Rattle.mj_ast.specs.Commands.{keyword_for, greatest, output_measure, step_nesting, step_width, condition_measure, SpellsFrom, SpellsAssignment, SpellsOutput, SpellsCondition, SpellsArguments, SpellsStep, mark_token, gap_behind, comment_gap_behind, keyword_of, SpellsList}
 use Rattle.mj_ast.specs.Lines.{SpellsEnd, SpellsSteps, SpellsLine, SpellsLabel, IsLineWithin, comment_gap}
 use Rattle.mj_expr.specs.Machine.{Limits}
 use Rattle.mj_expr.specs.Machine as phrase
@@ -31,15 +31,15 @@ read_expression : (m : Limits) (g : Goal) (e : Expr) (front rest : List Token) �
     run m (front ++ rest) (In g expression_wanted) ≡ run m rest (At (behind g (phrase.Whole e)))
 read_expression m g e front rest s n w c =
     lift_accept m front rest g expression_wanted (phrase.Whole e)
-    (ap (λ (zs : List Symbol). phrase.run m zs expression_wanted) (map-append symbol front rest ∙ ap (λ (zs : List Symbol). zs ++ map symbol rest) s)
-    ∙ complete_phrase AnExpression (phrase.Whole e) m (map symbol rest) (record { kind = tt; nests = n; lists = w }) c)
+    (ap (λ (zs : List Symbol). phrase.run m zs expression_wanted) (map-append symbol front rest ∙ ap (λ (zs : List Symbol). zs ++ map symbol rest) s.0)
+    ∙ complete_phrase AnExpression (phrase.Whole e) m (map symbol rest) (record { kind = tt; nests = n; lists = w; formed = s.1 }) c)
 
 read_variable : (m : Limits) (g : Goal) (v : Variable) (front rest : List Token) → Spells variables front v → variable_nesting v ≤ m.depth → variable_width v ≤ m.width → Ceases AVariable (map symbol rest) →
     run m (front ++ rest) (In g variable_wanted) ≡ run m rest (At (behind g (phrase.Target v)))
 read_variable m g v front rest s n w c =
     lift_accept m front rest g variable_wanted (phrase.Target v)
-    (ap (λ (zs : List Symbol). phrase.run m zs variable_wanted) (map-append symbol front rest ∙ ap (λ (zs : List Symbol). zs ++ map symbol rest) s)
-    ∙ complete_phrase AVariable (phrase.Target v) m (map symbol rest) (record { kind = tt; nests = n; lists = w }) c)
+    (ap (λ (zs : List Symbol). phrase.run m zs variable_wanted) (map-append symbol front rest ∙ ap (λ (zs : List Symbol). zs ++ map symbol rest) s.0)
+    ∙ complete_phrase AVariable (phrase.Target v) m (map symbol rest) (record { kind = tt; nests = n; lists = w; formed = s.1 }) c)
 
 -- ---- arguments
 
@@ -91,8 +91,8 @@ stuck_accept n p r e = cc
 
 expression_runs : (m : Limits) (e : Expr) (front : List Token) → Spells expressions front e → expr_nesting e ≤ m.depth → expr_width e ≤ m.width → phrase.run m (map symbol front) expression_wanted ≡ phrase.Accept (phrase.Whole e) []
 expression_runs m e front s n w =
-    ap (λ (zs : List Symbol). phrase.run m zs expression_wanted) (s ∙ sym (append-nil (expr_symbols e)))
-    ∙ complete_phrase AnExpression (phrase.Whole e) m [] (record { kind = tt; nests = n; lists = w }) (tt, tt)
+    ap (λ (zs : List Symbol). phrase.run m zs expression_wanted) (s.0 ∙ sym (append-nil (expr_symbols e)))
+    ∙ complete_phrase AnExpression (phrase.Whole e) m [] (record { kind = tt; nests = n; lists = w; formed = s.1 }) (tt, tt)
 
 text_front : (m : Limits) (o : Line) (condition : Option Expr) (done : List Output) (e : Expr) (front rest : List Token) → phrase.run m (map symbol front) expression_wanted ≡ phrase.Accept (phrase.Whole e) [] →
     run m (front ++ rest) (Either o condition done) ≡ run m (front ++ rest) (In (Text o condition done) expression_wanted)

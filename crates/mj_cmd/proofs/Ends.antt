@@ -1,7 +1,8 @@
 -- How a run ends.
 use Rattle.std.proofs.Common.{◌≡◌, ℕ, ◌≤◌, List, [], ◌∷◌, ◌++◌, length, refl, ap, ◌∙◌, subst, Bool, true, false, nat_le, ◌⊎◌, inl, inr, Option, Some, None}
 use Rattle.std.specs.Prelude.{cond}
-use Rattle.mj_ast.specs.Tokens.{Token, Word, Digits, Quoted, Signed, Blank, Comment, Unclosed, Stray}
+use Rattle.mj_ast.specs.Tokens.{Token, Word, Digits, Quoted, Signed, Blank, Comment, Unclosed, Stray, Called, Special}
+use Rattle.mj_ast.specs.Syntax.{Line}
 use Rattle.mj_expr.specs.Machine.{Limits}
 use Rattle.mj_expr.specs.Machine as phrase
 use Rattle.mj_expr.proofs.Facts.{IsMore, deeper}
@@ -102,12 +103,14 @@ ended_ends m (At p) = place_ends m (At p) p refl
 ended_ends m (In g s) = behind_ends m (In g s) g (phrase.finish s []) refl
 ended_ends m (Either l condition done) = inl (record { end = Either l condition done; along = refl; gives = refl })
 
-halts_word : (m : Limits) (s : State) (w : List ℕ) (ks : List Token) (b : Bool) → nat_le (length w) 31 ≡ b → ((l : Limits) → IsMore m l → step l s (Word w) ≡ Stuck) → EndsAs m s (Word w ∷ ks) (cond b (StuckAt (length (Word w ∷ ks))) TooLong)
-halts_word m s w ks true e f = inr (record { front = []; token = Word w; back = ks; end = s; cut = refl; along = refl; stuck = f; gives = ap (λ (b : Bool). cond b (StuckAt (length (Word w ∷ ks))) TooLong) e })
-halts_word m s w ks false e f = inl (record { front = []; token = Word w; back = ks; end = s; cut = refl; along = refl; stuck = f; gives = ap (λ (b : Bool). cond b (StuckAt (length (Word w ∷ ks))) TooLong) e })
+halts_word : (m : Limits) (s : State) (k : Token) (ks : List Token) (e : ℕ) (b d : Bool) → d ≡ b → refused (k ∷ ks) ≡ cond d (StuckAt e) TooLong → ((l : Limits) → IsMore m l → step l s k ≡ Stuck) → EndsAs m s (k ∷ ks) (cond b (StuckAt e) TooLong)
+halts_word m s k ks i true d e h f = inr (record { front = []; token = k; back = ks; end = s; cut = refl; along = refl; stuck = f; gives = h ∙ ap (λ (b : Bool). cond b (StuckAt i) TooLong) e })
+halts_word m s k ks i false d e h f = inl (record { front = []; token = k; back = ks; end = s; cut = refl; along = refl; stuck = f; gives = h ∙ ap (λ (b : Bool). cond b (StuckAt i) TooLong) e })
 
 halts_as : (m : Limits) (s : State) (k : Token) (ks : List Token) → ((l : Limits) → IsMore m l → step l s k ≡ Stuck) → EndsAs m s (k ∷ ks) (refused (k ∷ ks))
-halts_as m s (Word w) ks f = halts_word m s w ks (nat_le (length w) 31) refl f
+halts_as m s (Word w) ks f = halts_word m s (Word w) ks (length (Word w ∷ ks)) (nat_le (length w) 31) (nat_le (length w) 31) refl refl f
+halts_as m s (Called w) ks f = halts_word m s (Called w) ks (length (Called w ∷ ks)) (nat_le (length w) 31) (nat_le (length w) 31) refl refl f
+halts_as m s (Special w) ks f = halts_word m s (Special w) ks (length (Special w ∷ ks)) (nat_le (length w) 31) (nat_le (length w) 31) refl refl f
 halts_as m s (Digits d) ks f = inr (record { front = []; token = Digits d; back = ks; end = s; cut = refl; along = refl; stuck = f; gives = refl })
 halts_as m s (Quoted q) ks f = inr (record { front = []; token = Quoted q; back = ks; end = s; cut = refl; along = refl; stuck = f; gives = refl })
 halts_as m s (Signed z) ks f = inr (record { front = []; token = Signed z; back = ks; end = s; cut = refl; along = refl; stuck = f; gives = refl })

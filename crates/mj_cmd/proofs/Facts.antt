@@ -6,10 +6,11 @@ use Rattle.std.proofs.lemmas.List.{map-append, length-map}
 use Rattle.std.proofs.lemmas.Bool.Decides.{nat_tests}
 use Rattle.mj_ast.specs.declared.sign.Sign.TheVariants.{Comma, Exclamation}
 use Rattle.mj_ast.specs.declared.keyword.Keyword.{Keyword}
-use Rattle.mj_ast.specs.Syntax.{Expr, Output, Format, Line}
-use Rattle.mj_ast.specs.Tokens.{Token, Word, Digits, Quoted, Signed, Blank, Comment, Unclosed, Stray}
-use Rattle.mj_ast.specs.Expressions.{Symbol, Name, Overlong, symbol}
-use Rattle.mj_ast.specs.Commands.{keyword_of, looked_up, command_words, capital, mark_token}
+use Rattle.mj_ast.specs.Syntax.{Expr, Output, Format, Line, Write}
+use Rattle.mj_ast.specs.Tokens.{Token, Word, Digits, Quoted, Signed, Blank, Comment, Unclosed, Stray, Called, Special}
+use Rattle.mj_ast.specs.Expressions.{Symbol, Name, Overlong, symbol, name_limit, Other, function_symbol, callee_of}
+use Rattle.mj_ast.specs.Commands.{keyword_of, looked_up, command_words, capital, mark_token, SpellsOutput}
+use Rattle.mj_ast.specs.declared.keyword.Keyword.TheVariants as keyword
 use Rattle.mj_ast.specs.Lines.{Filler, no_filler, digits_filler, word_filler}
 use Rattle.mj_ast.specs.declared.routine.Mark.{Mark}
 use Rattle.mj_ast.specs.declared.routine.Mark.TheVariants.{NewLine}
@@ -21,11 +22,11 @@ use Rattle.mj_expr.proofs.Facts as known
 use Rattle.mj_expr.proofs.States.{step_facts}
 use Rattle.mj_expr.proofs.Told.{accepts}
 use Rattle.mj_expr.proofs.Ends.{finish_deep}
-use Rattle.mj_expr.proofs.Said.{finish_stuck, finish_long, overlong_finish, overlong_word, comma_token}
-use Rattle.mj_expr.proofs.Turns.{finish_again, accept_length}
-use Rattle.mj_cmd.specs.Machine.{Rest, Place, Begin, Behind, Marked, Goal, Text, State, At, In, Either, labelled, expression_wanted, behind, rested, Next, Go, Stuck, Deep, Long, own, begins, on_rested, first, place_step, behind_step, phrase_step, in_step, step, StuckAt, DeepAt, TooLong, refused, ended_behind, run, turn}
-use Rattle.mj_cmd.proofs.Leaves.{Leads, NextLeads, kind, place_leads, a_text}
-use Rattle.mj_cmd.proofs.Good.{StateGood, PlaceGood, NextGood, place_good, behind_good, goal_more}
+use Rattle.mj_expr.proofs.Said.{finish_stuck, finish_long, overlong_finish, overlong_word, comma_token, Over as OverLimit}
+use Rattle.mj_expr.proofs.Turns.{finish_again, accept_length, overlong_stuck}
+use Rattle.mj_cmd.specs.Machine.{Rest, Place, Begin, Behind, Marked, Goal, Text, State, At, In, Either, labelled, expression_wanted, behind, rested, Next, Go, Stuck, Deep, Long, own, begins, on_rested, first, place_step, behind_step, phrase_step, in_step, step, StuckAt, DeepAt, TooLong, refused, ended_behind, run, turn, Over, Worded, Bare, Aimed, Assigned, Printed, Condition, Destination, Value, on, Outcome, Accept, ended, ended_place, goes}
+use Rattle.mj_cmd.proofs.Leaves.{Leads, NextLeads, kind, place_leads, a_text, StateLeaves, PhraseLeaves, OneLeaves}
+use Rattle.mj_cmd.proofs.Good.{StateGood, PlaceGood, NextGood, place_good, behind_good, goal_more, GoalGood}
 
 -- where a list is too long: with a comma, and perhaps one token before it, it would have one subscript more
 pub record LongFacts (m : Limits) (s : State) (k : Token) : Type 0 where
@@ -116,6 +117,47 @@ behind_long g phrase.TooLong w h = refl
 refused_long : (w : List ℕ) (ks : List Token) → 31 < length w → refused (Word w ∷ ks) ≡ TooLong
 refused_long w ks h = ap (λ (b : Bool). cond b (StuckAt (length (Word w ∷ ks))) TooLong) (le_false (length w) h)
 
+-- no place goes on with a `$` word
+own_called : (p : Place) (w : List ℕ) → own p (Called w) ≡ Stuck
+own_called Begin w = refl
+own_called p w = refl
+
+own_special : (p : Place) (w : List ℕ) → own p (Special w) ≡ Stuck
+own_special Begin w = refl
+own_special p w = refl
+
+rested_called : (q : Option Rest) (w : List ℕ) → on_rested q (Called w) ≡ Stuck
+rested_called (Some r) w = refl
+rested_called None w = refl
+
+rested_special : (q : Option Rest) (w : List ℕ) → on_rested q (Special w) ≡ Stuck
+rested_special (Some r) w = refl
+rested_special None w = refl
+
+pub place_called : (p : Place) (w : List ℕ) → place_step p (Called w) ≡ Stuck
+place_called p w = ap (λ (n : Next). first n (on_rested (rested p) (Called w))) (own_called p w) ∙ rested_called (rested p) w
+
+pub place_special : (p : Place) (w : List ℕ) → place_step p (Special w) ≡ Stuck
+place_special p w = ap (λ (n : Next). first n (on_rested (rested p) (Special w))) (own_special p w) ∙ rested_special (rested p) w
+
+behind_called : (g : Goal) (o : phrase.Outcome) (w : List ℕ) → behind_step g o (Called w) ≡ Stuck
+behind_called g (phrase.Accept p r) w = place_called (behind g p) w
+behind_called g (phrase.StuckAt n) w = refl
+behind_called g (phrase.DeepAt n) w = refl
+behind_called g phrase.TooLong w = refl
+
+behind_special : (g : Goal) (o : phrase.Outcome) (w : List ℕ) → behind_step g o (Special w) ≡ Stuck
+behind_special g (phrase.Accept p r) w = place_special (behind g p) w
+behind_special g (phrase.StuckAt n) w = refl
+behind_special g (phrase.DeepAt n) w = refl
+behind_special g phrase.TooLong w = refl
+
+refused_called : (w : List ℕ) (ks : List Token) → 31 < length w → refused (Called w ∷ ks) ≡ TooLong
+refused_called w ks h = ap (λ (b : Bool). cond b (StuckAt (length (Called w ∷ ks))) TooLong) (le_false (length w) h)
+
+refused_special : (w : List ℕ) (ks : List Token) → 31 < length w → refused (Special w ∷ ks) ≡ TooLong
+refused_special w ks h = ap (λ (b : Bool). cond b (StuckAt (length (Special w ∷ ks))) TooLong) (le_false (length w) h)
+
 -- ---- phrases
 
 -- the rest of a phrase, from these tokens on
@@ -127,6 +169,7 @@ phrase_leads g s t xs e = λ rest l h. record {
   kind_is = h.kind_is;
   cut = ap (λ (zs : List Token). xs ++ zs) h.cut ∙ sym (append_assoc xs h.front h.rest);
   spells = ap (λ (zs : List Symbol). sofar s ++ zs) (map-append symbol xs h.front) ∙ sym (append_assoc (sofar s) (map symbol xs) (map symbol h.front)) ∙ ap (λ (zs : List Symbol). zs ++ map symbol h.front) (sym e) ∙ h.spells;
+  formed = h.formed;
   follows = h.follows;
 }
 
@@ -138,7 +181,7 @@ has_read m g s h = record { good = h.1; read = refl }
 pub whole_leads : (m : Limits) (g : Goal) (s : phrase.State) (p : phrase.Phrase) → StateGood m (In g s) → phrase.finish s [] ≡ phrase.Accept p [] → Leads (In g s) [] (At (behind g p)) × PlaceGood m (behind g p)
 whole_leads m g s p h e =
     let a = accepts (kind g) m s [] p [] (sofar s) (has_read m g s h) e in (
-      λ rest l f. record { phrase = p; front = []; rest = rest; kind_is = a.fits.kind; cut = refl; spells = append-nil (sofar s) ∙ sym a.spelled; follows = f },
+      λ rest l f. record { phrase = p; front = []; rest = rest; kind_is = a.fits.kind; cut = refl; spells = append-nil (sofar s) ∙ sym a.spelled; formed = a.fits.formed; follows = f },
       behind_good m g p h.0 a.fits,
     )
 
@@ -190,12 +233,14 @@ behind_none g s k ks n (phrase.StuckAt i) e f = refl
 behind_none g s k ks n (phrase.DeepAt i) e f = refl
 behind_none g s k ks n phrase.TooLong e f = refl
 
-refused_word : (s : phrase.State) (w : List ℕ) (ks : List Token) (n : ℕ) (b : Bool) → phrase.finish s (cond b (Name w) Overlong ∷ map symbol ks) ≡ phrase.StuckAt n → length (Word w ∷ ks) ≡ n → cond b (StuckAt (length (Word w ∷ ks))) TooLong ≡ StuckAt n
-refused_word s w ks n true e h = ap StuckAt h
-refused_word s w ks n false e h = absurd (overlong_finish s (map symbol ks) n e)
+refused_word : (s : phrase.State) (k : Symbol) (ks : List Token) (i n : ℕ) (b : Bool) → phrase.finish s (cond b k Overlong ∷ map symbol ks) ≡ phrase.StuckAt n → i ≡ n → cond b (StuckAt i) TooLong ≡ StuckAt n
+refused_word s k ks i n true e h = ap StuckAt h
+refused_word s k ks i n false e h = absurd (overlong_finish s (map symbol ks) n e)
 
 refused_at : (s : phrase.State) (k : Token) (ks : List Token) (n : ℕ) → phrase.finish s (symbol k ∷ map symbol ks) ≡ phrase.StuckAt n → length (k ∷ ks) ≡ n → refused (k ∷ ks) ≡ StuckAt n
-refused_at s (Word w) ks n e h = refused_word s w ks n (nat_le (length w) 31) e h
+refused_at s (Word w) ks n e h = refused_word s (Name w) ks (length (Word w ∷ ks)) n (nat_le (length w) 31) e h
+refused_at s (Called w) ks n e h = refused_word s (function_symbol (callee_of w)) ks (length (Called w ∷ ks)) n (nat_le (length w) 31) e h
+refused_at s (Special w) ks n e h = refused_word s Other ks (length (Special w ∷ ks)) n (nat_le (length w) 31) e h
 refused_at s (Digits d) ks n e h = ap StuckAt h
 refused_at s (Quoted q) ks n e h = ap StuckAt h
 refused_at s (Signed z) ks n e h = ap StuckAt h
@@ -231,18 +276,18 @@ lift_deep l (k ∷ ks) g s n e = deep_on l g s k ks n (phrase.step l s (symbol k
 cons_same : (x y : Symbol) (xs ys : List Symbol) → x ∷ xs ≡ y ∷ ys → x ≡ y
 cons_same x y xs ys e = cc
 
-long_stuck : (l : Limits) (g : Goal) (o : phrase.Outcome) (k : Token) (ks : List Token) (w : List ℕ) → k ≡ Word w → 31 < length w → turn l ks k (behind_step g o k) ≡ TooLong
-long_stuck l g o k ks w e h =
-    let P : Token → Type 0 = λ x. turn l ks x (behind_step g o x) ≡ TooLong in
-    subst P (sym e) (ap (turn l ks (Word w)) (behind_long g o w h) ∙ refused_long w ks h)
+long_stuck : (l : Limits) (g : Goal) (o : phrase.Outcome) (k : Token) (ks : List Token) → OverLimit k → turn l ks k (behind_step g o k) ≡ TooLong
+long_stuck l g o (Word w) ks h = ap (turn l ks (Word w)) (behind_long g o w h) ∙ refused_long w ks h
+long_stuck l g o (Called w) ks h = ap (turn l ks (Called w)) (behind_called g o w) ∙ refused_called w ks h
+long_stuck l g o (Special w) ks h = ap (turn l ks (Special w)) (behind_special g o w) ∙ refused_special w ks h
+long_stuck l g o k ks h = absurd h
 
 long_on : (l : Limits) (g : Goal) (s : phrase.State) (k : Token) (ks : List Token) (n : phrase.Next) → ((t : phrase.State) → phrase.run l (map symbol ks) t ≡ phrase.TooLong → run l ks (In g t) ≡ TooLong) →
     phrase.turn l (map symbol ks) s (symbol k) n ≡ phrase.TooLong → turn l ks k (phrase_step g s k n) ≡ TooLong
 long_on l g s k ks (phrase.Go t) h e = h t e
 long_on l g s k ks phrase.Stuck h e =
     let f = finish_long s (symbol k ∷ map symbol ks) e in
-    let w = overlong_word k (cons_same (symbol k) Overlong (map symbol ks) f.0 f.1) in
-    long_stuck l g (phrase.finish s []) k ks w.0 w.1 w.2
+    long_stuck l g (phrase.finish s []) k ks (overlong_word k (cons_same (symbol k) Overlong (map symbol ks) f.0 f.1))
 long_on l g s k ks phrase.Deep h e = absurd (let f : phrase.DeepAt (length (symbol k ∷ map symbol ks)) ≡ phrase.TooLong = e in cc)
 long_on l g s k ks phrase.Long h e = refl
 

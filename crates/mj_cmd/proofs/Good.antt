@@ -5,8 +5,8 @@ use Rattle.mj_ast.specs.declared.sign.Sign.TheVariants.{Equals, Comma, Colon, Ex
 use Rattle.mj_ast.specs.declared.keyword.Keyword.{Keyword}
 use Rattle.mj_ast.specs.declared.keyword.Keyword.TheVariants as keyword
 use Rattle.mj_ast.specs.Syntax.{Expr, Variable, Assignment, Output, Shown, Format, Command, Set, Write, Halt, Step, Line}
-use Rattle.mj_ast.specs.Tokens.{Token, Word, Digits, Quoted, Signed, Blank, Comment, Unclosed, Stray}
-use Rattle.mj_ast.specs.Expressions.{name_limit, expr_nesting, expr_width, variable_nesting, variable_width}
+use Rattle.mj_ast.specs.Tokens.{Token, Word, Digits, Quoted, Signed, Blank, Comment, Unclosed, Stray, Called, Special}
+use Rattle.mj_ast.specs.Expressions.{name_limit, expr_nesting, expr_width, variable_nesting, variable_width, symbol}
 use Rattle.mj_ast.specs.Commands.{keyword_of, greatest, step_nesting, step_width, output_measure}
 use Rattle.mj_ast.specs.Lines.{IsLineWithin}
 use Rattle.mj_expr.specs.Machine.{Limits}
@@ -170,6 +170,8 @@ on_good m r (Digits d) g = tt
 on_good m r (Quoted q) g = tt
 on_good m r (Signed s) g = tt
 on_good m r (Unclosed u) g = tt
+on_good m r (Called w) g = tt
+on_good m r (Special w) g = tt
 on_good m r (Stray b) g = tt
 
 on_rested_good : (m : Limits) (q : Option Rest) (k : Token) → RestGood m q → NextGood m (on_rested q k)
@@ -220,7 +222,7 @@ phrase_goes m g s i h =
     record {
       rest = r.more ++ f.rest;
       line = f.line;
-      leaves = record { phrase = r.phrase; front = r.more; rest = f.rest; kind_is = r.fits.kind; cut = refl; spells = r.spelled; follows = f.leaves };
+      leaves = record { phrase = r.phrase; front = r.more; rest = f.rest; kind_is = r.fits.kind; cut = refl; spells = r.spelled; formed = r.fits.formed; follows = f.leaves };
       within = f.within;
     }
 

@@ -8,13 +8,13 @@ use Rattle.mj_ast.specs.declared.routine.Mark.TheVariants.{NewLine}
 use Rattle.mj_ast.specs.declared.keyword.Keyword.{Keyword}
 use Rattle.mj_ast.specs.declared.keyword.Keyword.TheVariants as keyword
 use Rattle.mj_ast.specs.Syntax.{Expr, Variable, Assignment, Output, Shown, Format, Command, Set, Write, Halt, Step, Line}
-use Rattle.mj_ast.specs.Tokens.{Token, Word, Digits, Quoted, Signed, Blank, Comment, Unclosed, Stray}
-use Rattle.mj_ast.specs.Expressions.{symbol, Spells, expressions, name_limit}
-use Rattle.mj_ast.specs.Commands.{keyword_of, keyword_for, SpellsFrom, SpellsAssignment, SpellsOutput, SpellsCondition, SpellsArguments, mark_token}
+use Rattle.mj_ast.specs.Tokens.{Token, Word, Digits, Quoted, Signed, Blank, Comment, Unclosed, Stray, Called, Special}
+use Rattle.mj_ast.specs.Expressions.{symbol, Spells, expressions, name_limit, Symbol, variables}
+use Rattle.mj_ast.specs.Commands.{keyword_of, keyword_for, SpellsFrom, SpellsAssignment, SpellsOutput, SpellsCondition, SpellsArguments, mark_token, SpellsStep, gap_behind, comment_gap_behind}
 use Rattle.mj_ast.specs.Lines.{SpellsEnd, SpellsSteps, SpellsLine}
 use Rattle.mj_expr.specs.Machine as phrase
-use Rattle.mj_expr.proofs.Zipper.{Kind, AnExpression, AVariable, IsKind, phrase_symbols, sofar}
-use Rattle.mj_cmd.specs.Machine.{Rest, Place, Begin, Behind, Over, Worded, Bare, Aimed, Assigned, Marked, Printed, Goal, Condition, Destination, Value, Text, State, At, In, Either, labelled, after_step, expression_wanted, variable_wanted, behind, rested, Next, Go, Stuck, Deep, Long, arguments, own, begins, on, on_rested, first, place_step}
+use Rattle.mj_expr.proofs.Zipper.{Kind, AnExpression, AVariable, IsKind, phrase_symbols, sofar, phrase_misfits}
+use Rattle.mj_cmd.specs.Machine.{Rest, Place, Begin, Behind, Over, Worded, Bare, Aimed, Assigned, Marked, Printed, Goal, Condition, Destination, Value, Text, State, At, In, Either, labelled, after_step, expression_wanted, variable_wanted, behind, rested, Next, Go, Stuck, Deep, Long, arguments, own, begins, on, on_rested, first, place_step, empty_line, with_step}
 
 -- the rest of the commands
 pub record Follows (r : Rest) (ks : List Token) (l : Line) : Type 0 where
@@ -96,6 +96,7 @@ pub record PhraseLeaves (g : Goal) (s : phrase.State) (ks : List Token) (l : Lin
   pub kind_is : IsKind (kind g) phrase
   pub cut : ks ≡ front ++ rest
   pub spells : sofar s ++ map symbol front ≡ phrase_symbols phrase
+  pub formed : phrase_misfits phrase ≡ 0
   pub follows : Leaves (behind g phrase) rest l
 
 -- one argument, of which a command is made with those before it, and what follows it
@@ -173,7 +174,7 @@ write_first o condition ks l u =
 
 -- ---- phrases from their beginning
 
-assignment_as : (o : Line) (condition : Option Expr) (done : List Assignment) (ks : List Token) (l : Line) (p : phrase.Phrase) (front rest : List Token) → IsKind AVariable p → ks ≡ front ++ rest → map symbol front ≡ phrase_symbols p →
+assignment_as : (o : Line) (condition : Option Expr) (done : List Assignment) (ks : List Token) (l : Line) (p : phrase.Phrase) (front rest : List Token) → IsKind AVariable p → ks ≡ front ++ rest → (map symbol front ≡ phrase_symbols p) × (phrase_misfits p ≡ 0) →
     Leaves (behind (Destination o condition done) p) rest l → OneLeaves SpellsAssignment Set o condition done ks l
 assignment_as o condition done ks l (phrase.Whole e) front rest k c s f = absurd k
 assignment_as o condition done ks l (phrase.Target v) front rest k c s f = record {
@@ -186,27 +187,27 @@ assignment_as o condition done ks l (phrase.Target v) front rest k c s f = recor
 }
 
 an_assignment : (o : Line) (condition : Option Expr) (done : List Assignment) (ks : List Token) (l : Line) → PhraseLeaves (Destination o condition done) variable_wanted ks l → OneLeaves SpellsAssignment Set o condition done ks l
-an_assignment o condition done ks l f = assignment_as o condition done ks l f.phrase f.front f.rest f.kind_is f.cut f.spells f.follows
+an_assignment o condition done ks l f = assignment_as o condition done ks l f.phrase f.front f.rest f.kind_is f.cut (f.spells, f.formed) f.follows
 
-condition_as : (o : Line) (w : Keyword) (ks : List Token) (l : Line) (p : phrase.Phrase) (front rest : List Token) → IsKind AnExpression p → ks ≡ front ++ rest → map symbol front ≡ phrase_symbols p →
+condition_as : (o : Line) (w : Keyword) (ks : List Token) (l : Line) (p : phrase.Phrase) (front rest : List Token) → IsKind AnExpression p → ks ≡ front ++ rest → (map symbol front ≡ phrase_symbols p) × (phrase_misfits p ≡ 0) →
     Leaves (behind (Condition o w) p) rest l → WordLeaves o w (Signed Colon ∷ ks) l
 condition_as o w ks l (phrase.Target v) front rest k c s f = absurd k
 condition_as o w ks l (phrase.Whole e) front rest k c s f =
     record { condition = Some e; front = Signed Colon ∷ front; rest = rest; cut = ap (λ (zs : List Token). Signed Colon ∷ zs) c; spells = (front, refl, s); follows = f }
 
-value_as : (o : Line) (condition : Option Expr) (done : List Assignment) (v : Variable) (ks : List Token) (l : Line) (p : phrase.Phrase) (front rest : List Token) → IsKind AnExpression p → ks ≡ front ++ rest → map symbol front ≡ phrase_symbols p →
+value_as : (o : Line) (condition : Option Expr) (done : List Assignment) (v : Variable) (ks : List Token) (l : Line) (p : phrase.Phrase) (front rest : List Token) → IsKind AnExpression p → ks ≡ front ++ rest → (map symbol front ≡ phrase_symbols p) × (phrase_misfits p ≡ 0) →
     Leaves (behind (Value o condition done v) p) rest l → AimedLeaves o condition done v (Signed Equals ∷ ks) l
 value_as o condition done v ks l (phrase.Target u) front rest k c s f = absurd k
 value_as o condition done v ks l (phrase.Whole e) front rest k c s f = record { value = e; front = front; rest = rest; cut = ap (λ (zs : List Token). Signed Equals ∷ zs) c; spells = s; follows = f }
 
-text_as : (o : Line) (condition : Option Expr) (done : List Output) (ks : List Token) (l : Line) (p : phrase.Phrase) (front rest : List Token) → IsKind AnExpression p → ks ≡ front ++ rest → map symbol front ≡ phrase_symbols p →
+text_as : (o : Line) (condition : Option Expr) (done : List Output) (ks : List Token) (l : Line) (p : phrase.Phrase) (front rest : List Token) → IsKind AnExpression p → ks ≡ front ++ rest → (map symbol front ≡ phrase_symbols p) × (phrase_misfits p ≡ 0) →
     Leaves (behind (Text o condition done) p) rest l → OneLeaves SpellsOutput Write o condition done ks l
 text_as o condition done ks l (phrase.Target u) front rest k c s f = absurd k
 text_as o condition done ks l (phrase.Whole e) front rest k c s f = record { one = Shown e; front = front; rest = rest; cut = c; spells = s; follows = f }
 
 -- an expression is an argument of WRITE
 pub a_text : (o : Line) (condition : Option Expr) (done : List Output) (ks : List Token) (l : Line) → PhraseLeaves (Text o condition done) expression_wanted ks l → OneLeaves SpellsOutput Write o condition done ks l
-a_text o condition done ks l f = text_as o condition done ks l f.phrase f.front f.rest f.kind_is f.cut f.spells f.follows
+a_text o condition done ks l f = text_as o condition done ks l f.phrase f.front f.rest f.kind_is f.cut (f.spells, f.formed) f.follows
 
 -- ---- steps of places
 
@@ -253,10 +254,10 @@ worded_lead o k Long h = h
 own_leads : (p : Place) (k : Token) → NextLeads p k (own p k)
 own_leads Begin (Word w) = label_leads w (nat_le (length w) name_limit) refl
 own_leads Begin (Digits d) = λ rest l f. let P : Line → Type 0 = λ o. SpellsLine (Digits d ∷ rest) o in subst P (sym f.whole) (Digits d ∷ [], rest, refl, inr refl, f.spells)
-own_leads (Worded o k) (Signed Colon) = λ rest l f. condition_as o k rest l f.phrase f.front f.rest f.kind_is f.cut f.spells f.follows
+own_leads (Worded o k) (Signed Colon) = λ rest l f. condition_as o k rest l f.phrase f.front f.rest f.kind_is f.cut (f.spells, f.formed) f.follows
 own_leads (Worded o k) Blank = worded_lead o k (arguments o None k) (arguments_lead o None k)
 own_leads (Bare o condition k) Blank = arguments_lead o condition k
-own_leads (Aimed o condition done v) (Signed Equals) = λ rest l f. value_as o condition done v rest l f.phrase f.front f.rest f.kind_is f.cut f.spells f.follows
+own_leads (Aimed o condition done v) (Signed Equals) = λ rest l f. value_as o condition done v rest l f.phrase f.front f.rest f.kind_is f.cut (f.spells, f.formed) f.follows
 own_leads (Assigned o condition done) (Signed Comma) = λ rest l f. list_comma SpellsAssignment Set o condition done rest l (an_assignment o condition done rest l f)
 own_leads (Marked o condition done marks) (Signed Comma) = λ rest l f. marks_end o condition done marks (Signed Comma ∷ rest) l (list_comma SpellsOutput Write o condition (done ++ Format marks ∷ []) rest l f)
 own_leads (Marked o condition done marks) (Signed Exclamation) = λ rest l f. marks_more o condition done marks rest l f
@@ -319,6 +320,8 @@ on_leads r (Digits d) = tt
 on_leads r (Quoted q) = tt
 on_leads r (Signed s) = tt
 on_leads r (Unclosed u) = tt
+on_leads r (Called w) = tt
+on_leads r (Special w) = tt
 on_leads r (Stray b) = tt
 
 -- where a command may end, what follows it may follow

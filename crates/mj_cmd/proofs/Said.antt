@@ -4,7 +4,7 @@ use Rattle.std.specs.Prelude.{cond}
 use Rattle.std.proofs.lemmas.Bool.Decides.{nat_tests}
 use Rattle.mj_ast.specs.declared.sign.Sign.TheVariants.{Comma}
 use Rattle.mj_ast.specs.Syntax.{Step, Line}
-use Rattle.mj_ast.specs.Tokens.{Token, Word, Digits, Quoted, Signed, Blank, Comment, Unclosed, Stray}
+use Rattle.mj_ast.specs.Tokens.{Token, Word, Called, Special, Digits, Quoted, Signed, Blank, Comment, Unclosed, Stray}
 use Rattle.mj_ast.specs.Expressions.{width_limit}
 use Rattle.mj_ast.specs.Commands.{greatest, step_nesting, step_width}
 use Rattle.mj_ast.specs.Lines.{SpellsLine, IsLineWithin, BeginsLine, BeginsLineWithin, Filler, no_filler, digits_filler, word_filler, IsOverlong, HasOverlong}
@@ -22,7 +22,7 @@ use Rattle.mj_cmd.proofs.Good.{StateGood, PlaceGood, state_goes, rested_good, Re
 use Rattle.mj_cmd.proofs.Facts.{Facts, step_known, whole_leads, accept_nil}
 use Rattle.mj_cmd.proofs.Ends.{Along, along_leads, along_runs, Whole, Halts, Deepens, Lengthens, EndsAs, run_ends}
 use Rattle.mj_cmd.proofs.Complete.{complete_line}
-use Rattle.mj_cmd.proofs.Commas.{deep_stays, word_stuck, StateReached, GoReached, state_reached, line_comma, LineComma, line_easy, IsSimple, line_level}
+use Rattle.mj_cmd.proofs.Commas.{deep_stays, word_stuck, called_stuck, special_stuck, StateReached, GoReached, state_reached, line_comma, LineComma, line_easy, IsSimple, line_level}
 
 -- ---- fronts
 
@@ -63,6 +63,8 @@ refused_accept (Signed s ∷ ks) l e = stuck_accept _ l e
 refused_accept (Blank ∷ ks) l e = stuck_accept _ l e
 refused_accept (Comment t ∷ ks) l e = stuck_accept _ l e
 refused_accept (Unclosed t ∷ ks) l e = stuck_accept _ l e
+refused_accept (Called w ∷ ks) l e = word_accept _ l (nat_le (length w) 31) e
+refused_accept (Special w ∷ ks) l e = word_accept _ l (nat_le (length w) 31) e
 refused_accept (Stray b ∷ ks) l e = stuck_accept _ l e
 
 -- what a state that accepts has read
@@ -193,6 +195,14 @@ no_word : (m : Limits) (s : State) (w : List ℕ) (more : List Token) → 31 < l
 no_word m s w more h (inl g) = go_stuck g.0 (sym (g.1.1 m (record { depth = omega arith; width = omega arith })) ∙ word_stuck m s w h)
 no_word m s w more h (inr g) = g.1 (ap (λ (b : Bool). cond b (StuckAt (length (Word w ∷ more))) TooLong) (let e : nat_le (length w) 31 ≡ false = grind (arith, nat_tests) in e))
 
+no_called : (m : Limits) (s : State) (w : List ℕ) (more : List Token) → 31 < length w → Turns m s (Called w) more → ⊥
+no_called m s w more h (inl g) = go_stuck g.0 (sym (g.1.1 m (record { depth = omega arith; width = omega arith })) ∙ called_stuck m s w h)
+no_called m s w more h (inr g) = g.1 (ap (λ (b : Bool). cond b (StuckAt (length (Called w ∷ more))) TooLong) (let e : nat_le (length w) 31 ≡ false = grind (arith, nat_tests) in e))
+
+no_special : (m : Limits) (s : State) (w : List ℕ) (more : List Token) → 31 < length w → Turns m s (Special w) more → ⊥
+no_special m s w more h (inl g) = go_stuck g.0 (sym (g.1.1 m (record { depth = omega arith; width = omega arith })) ∙ special_stuck m s w h)
+no_special m s w more h (inr g) = g.1 (ap (λ (b : Bool). cond b (StuckAt (length (Special w ∷ more))) TooLong) (let e : nat_le (length w) 31 ≡ false = grind (arith, nat_tests) in e))
+
 -- where a comma goes on or halts, it isn't one too many
 not_long : (m l : Limits) (s : State) (k : Token) (more : List Token) → IsMore m l → Turns m s k more → step l s k ≡ Long → ⊥
 not_long m l s k more i (inl g) e = go_long g.0 (sym (g.1.1 l i) ∙ e)
@@ -257,6 +267,8 @@ no_comma m f s more _ w a g word_filler b c =
 
 not_overlong : (m : Limits) (f : List Token) (s : State) (k : Token) (more : List Token) → m.width ≡ 31 → Along m (At Begin) f s → Turns m s k more → IsOverlong f k → ⊥
 not_overlong m f s (Word w) more e a g o = no_word m s w more o g
+not_overlong m f s (Called w) more e a g o = no_called m s w more o g
+not_overlong m f s (Special w) more e a g o = no_special m s w more o g
 not_overlong m f s (Signed Comma) more e a g o = no_comma m f s more o.filler e a g o.fills o.begins o.too_long
 not_overlong m f s k more e a g o = o
 
@@ -373,6 +385,8 @@ stuck_left (Signed s ∷ ks) n e = cc
 stuck_left (Blank ∷ ks) n e = cc
 stuck_left (Comment t ∷ ks) n e = cc
 stuck_left (Unclosed t ∷ ks) n e = cc
+stuck_left (Called w ∷ ks) n e = word_stuck_at (length (Called w ∷ ks)) n (nat_le (length w) 31) e
+stuck_left (Special w ∷ ks) n e = word_stuck_at (length (Special w ∷ ks)) n (nat_le (length w) 31) e
 stuck_left (Stray b ∷ ks) n e = cc
 
 halts_stuck : (ks : List Token) (n : ℕ) → Halts (limits 64) (At Begin) ks (StuckAt n) → (HasOverlong ks → ⊥) → IsStuckWith ks n
@@ -506,6 +520,8 @@ long_token (Signed s) ks front e = absurd (stuck_toolong _ e)
 long_token Blank ks front e = absurd (stuck_toolong _ e)
 long_token (Comment t) ks front e = absurd (stuck_toolong _ e)
 long_token (Unclosed t) ks front e = absurd (stuck_toolong _ e)
+long_token (Called w) ks front e = word_long (length (Called w ∷ ks)) w (nat_le (length w) 31) refl e
+long_token (Special w) ks front e = word_long (length (Special w ∷ ks)) w (nat_le (length w) 31) refl e
 long_token (Stray b) ks front e = absurd (stuck_toolong _ e)
 
 as_begins : (depth width : ℕ) (ks : List Token) → BeginsLineWithin depth width ks → BeginsLine ks

@@ -6,7 +6,7 @@ use Rattle.mj_ast.specs.declared.routine.Mark.TheVariants.{NewLine}
 use Rattle.mj_ast.specs.declared.keyword.Keyword.{Keyword}
 use Rattle.mj_ast.specs.declared.keyword.Keyword.TheVariants as keyword
 use Rattle.mj_ast.specs.Syntax.{Expr, Variable, Assignment, Output, Shown, Format, Command, Set, Write, Halt, Step, Line}
-use Rattle.mj_ast.specs.Tokens.{Token, Word, Digits, Signed, Blank, Comment}
+use Rattle.mj_ast.specs.Tokens.{Token, Word, Called, Special, Digits, Signed, Blank, Comment}
 use Rattle.mj_ast.specs.Expressions.{symbol, name_limit}
 use Rattle.mj_ast.specs.Commands.{keyword_of, gap_behind, comment_gap_behind}
 use Rattle.mj_expr.specs.Machine as phrase
@@ -198,6 +198,8 @@ pub data Outcome : Type 0 where
 abbrev pub refused : List Token → Outcome
 refused [] = StuckAt 0
 refused (Word w ∷ ks) = if nat_le (length w) name_limit then StuckAt (length (Word w ∷ ks)) else TooLong
+refused (Called w ∷ ks) = if nat_le (length w) name_limit then StuckAt (length (Called w ∷ ks)) else TooLong
+refused (Special w ∷ ks) = if nat_le (length w) name_limit then StuckAt (length (Special w ∷ ks)) else TooLong
 refused (k ∷ ks) = StuckAt (length (k ∷ ks))
 
 -- where the tokens end

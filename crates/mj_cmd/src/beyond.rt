@@ -3,8 +3,8 @@
 ghost use Rattle.std.specs.Prelude.{◌≤◌, IfOk, length};
 
 use crate::parts::{WORD_LIMIT, stuck};
-use mj_ast::Sign;
-use mj_expr::Stop;
+use mj_ast::{Callee, Function, Sign};
+use mj_expr::{ListKind, Stop, callee, least, most};
 use mj_lex::{Lexeme, Token};
 use std::alloc::{AllocError, Global};
 
@@ -14,11 +14,19 @@ const COMMA_LIMIT: usize = 30;
 /// The most digits of a number.
 const DIGITS_LIMIT: usize = 18;
 
-/// What is open around a place: parentheses, or a list of subscripts with so many commas.
+/// What is open around a place.
 #[derive(Clone, Copy)]
 enum Open {
+    /// parentheses
     Group,
+    /// a list of subscripts with so many commas
     List(usize),
+    /// the arguments of a function, so many with the one that is read
+    Call(Function, usize),
+    /// `$SELECT`, in a condition
+    Condition,
+    /// `$SELECT`, in the value of a condition
+    Choice,
 }
 
 /// What may come at a place.
@@ -30,6 +38,8 @@ enum Place {
     Operand,
     /// a name, behind a `^`
     Name,
+    /// the arguments of a function
+    Arguments(Callee),
     /// subscripts, or what follows an operand
     Subscripts,
     /// what follows an operand
@@ -66,6 +76,11 @@ fn wanted(open: &mut Vec<Open>, place: Place, token: Token) -> Result<Turn, Allo
     Ok(match token {
         Token::Word(word) if word.len() > WORD_LIMIT => Turn::Long,
         Token::Word(_) => Turn::Goes(Place::Subscripts),
+        Token::Called(word) | Token::Special(word) if word.len() > WORD_LIMIT => Turn::Long,
+        Token::Called(word) if operand => match callee(word) {
+            Some(callee) => Turn::Goes(Place::Arguments(callee)),
+            None => Turn::Stuck,
+        },
         Token::Sign(Sign::Caret) if !name => Turn::Goes(Place::Name),
         Token::Quoted(_) if operand => Turn::Goes(Place::Behind),
         Token::Digits(digits) if operand && in_range(digits) => Turn::Goes(Place::Behind),
@@ -80,24 +95,81 @@ fn wanted(open: &mut Vec<Open>, place: Place, token: Token) -> Result<Turn, Allo
     })
 }
 
-/// Behind an operand inside parentheses or a list.
-fn inside(open: &mut Vec<Open>, around: Open, token: Token) -> Result<Turn, AllocError> {
-    Ok(match (token, around) {
-        (Token::Sign(Sign::Close), _) => Turn::Goes(Place::Behind),
-        (Token::Sign(Sign::Comma), Open::List(commas)) if commas >= COMMA_LIMIT => Turn::Long,
-        (Token::Sign(Sign::Comma), Open::List(commas)) => {
-            open.push(Open::List(commas + 1))?;
-            Turn::Goes(Place::Operand)
+/// Behind a function, whose arguments open.
+fn opened(open: &mut Vec<Open>, callee: Callee, token: Token) -> Result<Turn, AllocError> {
+    let Token::Sign(Sign::Open) = token else {
+        return Ok(Turn::Stuck);
+    };
+    open.push(match callee {
+        Callee::Texts(function) => Open::Call(function, 1),
+        Callee::Select => Open::Condition,
+    })?;
+    Ok(Turn::Goes(Place::Operand))
+}
+
+/// Whether what is open may end.
+fn may_close(around: Open) -> bool {
+    match around {
+        Open::Group | Open::List(_) | Open::Choice => true,
+        Open::Call(function, count) => count >= least(ListKind::Arguments(function)),
+        Open::Condition => false,
+    }
+}
+
+/// Behind a comma in what is open.
+fn after_comma(open: &mut Vec<Open>, around: Open) -> Result<Turn, AllocError> {
+    let next = match around {
+        Open::List(commas) => {
+            if commas >= COMMA_LIMIT {
+                return Ok(Turn::Long);
+            }
+            Open::List(commas + 1)
         }
-        (Token::Word(word), _) if word.len() > WORD_LIMIT => Turn::Long,
-        _ => {
-            open.push(around)?;
-            if joins(token) {
-                Turn::Goes(Place::Operand)
+        Open::Call(function, count) => {
+            if count >= most(ListKind::Arguments(function)) {
+                return Ok(Turn::Stuck);
+            }
+            Open::Call(function, count + 1)
+        }
+        Open::Choice => Open::Condition,
+        Open::Group | Open::Condition => return Ok(Turn::Stuck),
+    };
+    open.push(next)?;
+    Ok(Turn::Goes(Place::Operand))
+}
+
+/// Behind an operand inside what is open.
+fn inside(open: &mut Vec<Open>, around: Open, token: Token) -> Result<Turn, AllocError> {
+    match token {
+        Token::Sign(Sign::Close) => {
+            return Ok(if may_close(around) {
+                Turn::Goes(Place::Behind)
             } else {
                 Turn::Stuck
-            }
+            });
         }
+        Token::Sign(Sign::Comma) => return after_comma(open, around),
+        Token::Sign(Sign::Colon) => {
+            if let Open::Condition = around {
+                open.push(Open::Choice)?;
+                return Ok(Turn::Goes(Place::Operand));
+            }
+            return Ok(Turn::Stuck);
+        }
+        Token::Word(word) | Token::Called(word) | Token::Special(word) => {
+            return Ok(if word.len() > WORD_LIMIT {
+                Turn::Long
+            } else {
+                Turn::Stuck
+            });
+        }
+        _ => (),
+    }
+    open.push(around)?;
+    Ok(if joins(token) {
+        Turn::Goes(Place::Operand)
+    } else {
+        Turn::Stuck
     })
 }
 
@@ -132,6 +204,9 @@ fn turn_at(
     token: Token,
 ) -> Result<Turn, AllocError> {
     let subscripts = matches!(place, Place::Subscripts) && matches!(token, Token::Sign(Sign::Open));
+    if let Place::Arguments(callee) = place {
+        return opened(open, callee, token);
+    }
     if !matches!(place, Place::Subscripts | Place::Behind) {
         return wanted(open, place, token);
     }

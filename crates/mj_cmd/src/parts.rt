@@ -1,6 +1,7 @@
 // What commands and lines are made of: single tokens, blanks, and where a command may end.
 
-ghost use Rattle.std.specs.Prelude.{◌≡◌, ◌∷◌, ◌++◌, ◌+◌, ◌<◌, ◌≤◌, Bool, IfErr, IfOk, MatchOption, length, replicate, ℕ};
+ghost use Rattle.std.specs.Prelude.{◌≡◌, ◌∷◌, ◌++◌, ◌+◌, ◌<◌, ◌≤◌, Bool, IfErr, IfOk, MatchOption, length, nat_le, if◌then◌else◌, replicate, ℕ};
+ghost use Rattle.mj_expr.specs.declared.stop.Stop.TheVariants.{Stuck, Long};
 ghost use Rattle.mj_ast.specs.Tokens.{Blank, Signed, Word};
 ghost use Rattle.mj_ast.specs.declared.sign.Sign.TheVariants.{Colon, Comma, Equals, Exclamation};
 ghost use Rattle.mj_lex.specs.Seen.{tokens_seen};
@@ -15,18 +16,25 @@ use mj_lex::{Lexeme, Token, next};
 /// The most bytes of a word.
 pub const WORD_LIMIT: usize = 31;
 
+/// The same where that token is a word.
+fn stuck_word(tokens: &[Lexeme], word: &[u8]) -> Stop
+    ensures { result ≡ (if nat_le (length word.now) 31 then Stuck (length tokens.now) else Long) }
+{
+    if word.len() <= WORD_LIMIT {
+        Stop::Stuck(tokens.len())
+    } else {
+        Stop::Long
+    }
+}
+
 /// The refusal where the grammar can't go on at the first of these tokens: a word past its limit comes before that.
 pub fn stuck(tokens: &[Lexeme]) -> Stop
     ensures { (limited : Bool) → Refuses limited result (refused (tokens_seen tokens.now)) }
 {
     match next(tokens) {
-        Some((Token::Word(word), _)) => {
-            if word.len() <= WORD_LIMIT {
-                Stop::Stuck(tokens.len())
-            } else {
-                Stop::Long
-            }
-        }
+        Some((Token::Word(word), _)) => stuck_word(tokens, word),
+        Some((Token::Called(word), _)) => stuck_word(tokens, word),
+        Some((Token::Special(word), _)) => stuck_word(tokens, word),
         _ => Stop::Stuck(tokens.len()),
     }
 }

@@ -1,7 +1,7 @@
 -- What the grammar has, the machine reads.
 use Rattle.std.proofs.Common.{◌≡◌, ℕ, ◌+◌, ◌≤◌, ◌<◌, max, List, [], ◌∷◌, ◌++◌, refl, ap, sym, ◌∙◌, Bool, append_assoc, arith, Option, Some}
 use Rattle.std.specs.Prelude.{cond}
-use Rattle.mj_ast.specs.declared.sign.Sign.TheVariants.{Open, Close, Comma}
+use Rattle.mj_ast.specs.declared.sign.Sign.TheVariants.{Open, Close, Comma, Colon}
 use Rattle.mj_ast.specs.declared.expr.Scope.{Scope}
 use Rattle.mj_ast.specs.declared.expr.Scope.TheVariants.{Local, Global}
 use Rattle.mj_oper.specs.declared.op.UnaryOp.{UnaryOp}
@@ -10,12 +10,13 @@ use Rattle.mj_oper.specs.declared.op.Op.{Op}
 use Rattle.mj_oper.specs.declared.op.Op.TheVariants as binary
 use Rattle.mj_oper.specs.declared.op.TruthOp.{TruthOp}
 use Rattle.mj_oper.specs.declared.op.TruthOp.TheVariants as truth
-use Rattle.mj_ast.specs.Syntax.{Expr, Chain, Tails, Done, Then, Operand, Literal, Value, Unary, Group, Variable, Var, Exprs, No, More}
-use Rattle.mj_ast.specs.Expressions.{Symbol, Name, Mark, scoped, unary_sign, truth_sign, binary_sign, expr_symbols, tails_symbols, operand_symbols, variable_symbols, list_symbols, more_symbols, count, expr_nesting, tails_nesting, operand_nesting, variable_nesting, list_nesting, exprs_nesting, expr_width, tails_width, operand_width, variable_width, exprs_width}
-use Rattle.mj_expr.specs.Machine.{Outer, Alone, InGroup, InList, Within, Front, Right, Under, Place, AsOperand, AsTarget, Wanted, Sought, Named, Held, Limits, Phrase, Whole, Target, Accept, and_then, and_more, filled, placed, held, outer_depth, depth_of, place_depth, run, turn, Go, Deep, Long, unary_of, binary_of, want_sign, hold_sign}
+use Rattle.mj_ast.specs.declared.function.Callee.TheVariants as callee
+use Rattle.mj_ast.specs.Syntax.{Expr, Chain, Tails, Done, Then, Operand, Literal, Value, Unary, Group, Call, Select, Variable, Var, Exprs, No, More, Choices, Last, Before}
+use Rattle.mj_ast.specs.Expressions.{Symbol, Name, Mark, scoped, unary_sign, truth_sign, binary_sign, expr_symbols, tails_symbols, operand_symbols, variable_symbols, list_symbols, more_symbols, choices_symbols, count, expr_nesting, tails_nesting, operand_nesting, variable_nesting, list_nesting, exprs_nesting, choices_nesting, expr_width, tails_width, operand_width, variable_width, exprs_width, choices_width, expr_misfits, tails_misfits, operand_misfits, variable_misfits, exprs_misfits, choices_misfits}
+use Rattle.mj_expr.specs.Machine.{Outer, Alone, InGroup, InList, InCondition, InChoice, Owner, Subscripts, Arguments, Within, Front, Right, Under, Place, AsOperand, AsTarget, Pairs, NoPairs, and_pair, before_choices, Wanted, Sought, Named, Held, Limits, Phrase, Whole, Target, Accept, and_then, and_more, filled, placed, closed, held, outer_depth, owner_depth, depth_of, place_depth, least_of, most_of, is_limited, run, turn, Go, Deep, Stuck, Long, unary_of, binary_of, want_sign, hold_sign}
 use Rattle.mj_expr.specs.Reads.{HasNoOpen, HasNoBinary}
-use Rattle.mj_expr.proofs.Steps.{named_ends, less_true, open_goes, joined, joined_more, joined_last, whole_done, target_done}
-use Rattle.mj_expr.proofs.Zipper.{Kind, AnExpression, AVariable, Fits, phrase_symbols, start, count-more}
+use Rattle.mj_expr.proofs.Steps.{named_ends, less_true, most_true, open_goes, call_opens, call_goes, colon_goes, choice_goes, choice_closes, before_pair, joined_more, joined_last, whole_done, target_done}
+use Rattle.mj_expr.proofs.Zipper.{Kind, AnExpression, AVariable, Fits, phrase_symbols, start, count-more, joined, least_some}
 
 unary_again : (op : UnaryOp) → unary_of (unary_sign op) ≡ Some op
 unary_again unary.Plus = refl
@@ -57,11 +58,11 @@ binary_joins m op ks x r o = ap (λ (q : Option Op). turn m ks (Held x r o) (Mar
 group_closes : (m : Limits) (ks : List Symbol) (e : Expr) (c : Within) → run m (Mark Close ∷ ks) (held e (InGroup c)) ≡ run m ks (filled (Group e) c)
 group_closes m ks (Chain x r) c = refl
 
-list_closes : (m : Limits) (ks : List Symbol) (scope : Scope) (word : List ℕ) (es : Exprs) (e : Expr) (p : Place) → run m (Mark Close ∷ ks) (held e (InList scope word es p)) ≡ run m ks (placed (Var scope word (and_more es e)) p)
-list_closes m ks scope word es (Chain x r) p = refl
+list_closes : (m : Limits) (ks : List Symbol) (u : Owner) (es : Exprs) (e : Expr) → least_of u ≤ count es + 1 → run m (Mark Close ∷ ks) (held e (InList u es)) ≡ run m ks (closed u (and_more es e))
+list_closes m ks u es (Chain x r) h = ap (λ (b : Bool). turn m ks (Held x r (InList u es)) (Mark Close) (cond b (Go (closed u (and_more es (Chain x r)))) Stuck)) (most_true (least_of u) (count es + 1) h)
 
-list_goes : (m : Limits) (ks : List Symbol) (scope : Scope) (word : List ℕ) (es : Exprs) (e : Expr) (p : Place) → count es + 1 < m.width → run m (Mark Comma ∷ ks) (held e (InList scope word es p)) ≡ run m ks (Wanted (Front (InList scope word (and_more es e) p)))
-list_goes m ks scope word es (Chain x r) p h = ap (λ (b : Bool). turn m ks (Held x r (InList scope word es p)) (Mark Comma) (cond b (Go (Wanted (Front (InList scope word (and_more es (Chain x r)) p)))) Long)) (less_true (count es + 1) m.width h)
+list_goes : (m : Limits) (ks : List Symbol) (u : Owner) (es : Exprs) (e : Expr) → count es + 1 < most_of m u → run m (Mark Comma ∷ ks) (held e (InList u es)) ≡ run m ks (Wanted (Front (InList u (and_more es e))))
+list_goes m ks u es (Chain x r) h = ap (λ (b : Bool). turn m ks (Held x r (InList u es)) (Mark Comma) (cond b (Go (Wanted (Front (InList u (and_more es (Chain x r)))))) (cond (is_limited u) Long Stuck))) (less_true (count es + 1) (most_of m u) h)
 
 -- a variable at the front
 wanted_variable : (m : Limits) (v : Variable) (ks : List Symbol) (c : Within) → run m (variable_symbols v ++ ks) (Wanted c) ≡ run m (variable_symbols v ++ ks) (Sought (AsOperand c))
@@ -115,61 +116,92 @@ more_no_open No ks = tt
 more_no_open (More e es) ks = tt
 
 mutual
-  pub complete_expr : (e : Expr) (m : Limits) (o : Outer) (ks : List Symbol) → expr_nesting e + outer_depth o ≤ m.depth → expr_width e ≤ m.width → HasNoOpen ks →
+  pub complete_expr : (e : Expr) (m : Limits) (o : Outer) (ks : List Symbol) → expr_nesting e + outer_depth o ≤ m.depth → expr_width e ≤ m.width → expr_misfits e ≡ 0 → HasNoOpen ks →
       run m (expr_symbols e ++ ks) (Wanted (Front o)) ≡ run m ks (held e o)
-  complete_expr (Chain x r) m o ks n w h =
+  complete_expr (Chain x r) m o ks n w f h =
       ap (λ (zs : List Symbol). run m zs (Wanted (Front o))) (append_assoc (operand_symbols x) (tails_symbols r) ks)
-      ∙ complete_operand x m (Front o) (tails_symbols r ++ ks) (omega arith) (omega arith) (tails_no_open r ks h)
-      ∙ complete_tails r m x Done o ks (omega arith) (omega arith) h
+      ∙ complete_operand x m (Front o) (tails_symbols r ++ ks) (omega arith) (omega arith) (omega arith) (tails_no_open r ks h)
+      ∙ complete_tails r m x Done o ks (omega arith) (omega arith) (omega arith) h
 
-  complete_tails : (r : Tails) (m : Limits) (x : Operand) (q : Tails) (o : Outer) (ks : List Symbol) → tails_nesting r + outer_depth o ≤ m.depth → tails_width r ≤ m.width → HasNoOpen ks →
+  complete_tails : (r : Tails) (m : Limits) (x : Operand) (q : Tails) (o : Outer) (ks : List Symbol) → tails_nesting r + outer_depth o ≤ m.depth → tails_width r ≤ m.width → tails_misfits r ≡ 0 → HasNoOpen ks →
       run m (tails_symbols r ++ ks) (Held x q o) ≡ run m ks (Held x (tails_joined q r) o)
-  complete_tails Done m x q o ks n w h = ap (λ (t : Tails). run m ks (Held x t o)) (sym (tails_joined-done q))
-  complete_tails (Then op y r) m x q o ks n w h =
+  complete_tails Done m x q o ks n w f h = ap (λ (t : Tails). run m ks (Held x t o)) (sym (tails_joined-done q))
+  complete_tails (Then op y r) m x q o ks n w f h =
       ap (λ (zs : List Symbol). run m (Mark (binary_sign op) ∷ zs) (Held x q o)) (append_assoc (operand_symbols y) (tails_symbols r) ks)
       ∙ binary_joins m op (operand_symbols y ++ (tails_symbols r ++ ks)) x q o
-      ∙ complete_operand y m (Right x q op o) (tails_symbols r ++ ks) (omega arith) (omega arith) (tails_no_open r ks h)
-      ∙ complete_tails r m x (and_then q op y) o ks (omega arith) (omega arith) h
+      ∙ complete_operand y m (Right x q op o) (tails_symbols r ++ ks) (omega arith) (omega arith) (omega arith) (tails_no_open r ks h)
+      ∙ complete_tails r m x (and_then q op y) o ks (omega arith) (omega arith) (omega arith) h
       ∙ ap (λ (t : Tails). run m ks (Held x t o)) (tails_joined-then q op y r)
 
-  complete_operand : (x : Operand) (m : Limits) (c : Within) (ks : List Symbol) → operand_nesting x + depth_of c ≤ m.depth → operand_width x ≤ m.width → HasNoOpen ks →
+  complete_operand : (x : Operand) (m : Limits) (c : Within) (ks : List Symbol) → operand_nesting x + depth_of c ≤ m.depth → operand_width x ≤ m.width → operand_misfits x ≡ 0 → HasNoOpen ks →
       run m (operand_symbols x ++ ks) (Wanted c) ≡ run m ks (filled x c)
-  complete_operand (Literal value) m c ks n w h = refl
-  complete_operand (Value v) m c ks n w h = wanted_variable m v ks c ∙ complete_variable v m (AsOperand c) ks n w h
-  complete_operand (Unary op x) m c ks n w h =
+  complete_operand (Literal value) m c ks n w f h = refl
+  complete_operand (Value v) m c ks n w f h = wanted_variable m v ks c ∙ complete_variable v m (AsOperand c) ks n w f h
+  complete_operand (Unary op x) m c ks n w f h =
       unary_opens m op (operand_symbols x ++ ks) c (omega arith)
-      ∙ complete_operand x m (Under op c) ks (omega arith) w h
-  complete_operand (Group e) m c ks n w h =
+      ∙ complete_operand x m (Under op c) ks (omega arith) w f h
+  complete_operand (Group e) m c ks n w f h =
       group_opens m ((expr_symbols e ++ Mark Close ∷ []) ++ ks) c (omega arith)
       ∙ ap (λ (zs : List Symbol). run m zs (Wanted (Front (InGroup c)))) (append_assoc (expr_symbols e) (Mark Close ∷ []) ks)
-      ∙ complete_expr e m (InGroup c) (Mark Close ∷ ks) (omega arith) w tt
+      ∙ complete_expr e m (InGroup c) (Mark Close ∷ ks) (omega arith) w f tt
       ∙ group_closes m ks e c
+  complete_operand (Call g No) m c ks n w f h = absurd (omega (arith, f, least_some g))
+  complete_operand (Call g (More e r)) m c ks n w f h =
+      let u = Arguments g c in
+      call_goes m (Mark Open ∷ ((expr_symbols e ++ more_symbols r) ++ ks)) (callee.Texts g) c (omega arith)
+      ∙ call_opens m ((expr_symbols e ++ more_symbols r) ++ ks) (callee.Texts g) c
+      ∙ ap (λ (zs : List Symbol). run m zs (Wanted (Front (InList u No)))) (append_assoc (expr_symbols e) (more_symbols r) ks)
+      ∙ complete_expr e m (InList u No) (more_symbols r ++ ks) (omega arith) (omega arith) (omega arith) (more_no_open r ks)
+      ∙ complete_more r m u No e ks (omega arith) (omega arith) (omega arith) (omega (arith, f)) (omega (arith, f))
+  complete_operand (Select choices) m c ks n w f h =
+      call_goes m (Mark Open ∷ (choices_symbols choices ++ ks)) callee.Select c (omega arith)
+      ∙ call_opens m (choices_symbols choices ++ ks) callee.Select c
+      ∙ complete_choices choices m NoPairs c ks (omega arith) w f
 
-  pub complete_variable : (v : Variable) (m : Limits) (p : Place) (ks : List Symbol) → variable_nesting v + place_depth p ≤ m.depth → variable_width v ≤ m.width → HasNoOpen ks →
+  complete_choices : (x : Choices) (m : Limits) (ps : Pairs) (c : Within) (ks : List Symbol) → choices_nesting x + depth_of c + 1 ≤ m.depth → choices_width x ≤ m.width → choices_misfits x ≡ 0 →
+      run m (choices_symbols x ++ ks) (Wanted (Front (InCondition ps c))) ≡ run m ks (filled (Select (before_choices ps x)) c)
+  complete_choices (Last a e) m ps c ks n w f =
+      ap (λ (zs : List Symbol). run m zs (Wanted (Front (InCondition ps c)))) (append_assoc (expr_symbols a) (Mark Colon ∷ (expr_symbols e ++ Mark Close ∷ [])) ks)
+      ∙ complete_expr a m (InCondition ps c) (Mark Colon ∷ ((expr_symbols e ++ Mark Close ∷ []) ++ ks)) (omega arith) (omega arith) (omega arith) tt
+      ∙ colon_goes m ((expr_symbols e ++ Mark Close ∷ []) ++ ks) ps a c
+      ∙ ap (λ (zs : List Symbol). run m zs (Wanted (Front (InChoice ps a c)))) (append_assoc (expr_symbols e) (Mark Close ∷ []) ks)
+      ∙ complete_expr e m (InChoice ps a c) (Mark Close ∷ ks) (omega arith) (omega arith) (omega arith) tt
+      ∙ choice_closes m ks ps a e c
+  complete_choices (Before a e x) m ps c ks n w f =
+      ap (λ (zs : List Symbol). run m zs (Wanted (Front (InCondition ps c)))) (append_assoc (expr_symbols a) (Mark Colon ∷ (expr_symbols e ++ Mark Comma ∷ choices_symbols x)) ks)
+      ∙ complete_expr a m (InCondition ps c) (Mark Colon ∷ ((expr_symbols e ++ Mark Comma ∷ choices_symbols x) ++ ks)) (omega arith) (omega arith) (omega arith) tt
+      ∙ colon_goes m ((expr_symbols e ++ Mark Comma ∷ choices_symbols x) ++ ks) ps a c
+      ∙ ap (λ (zs : List Symbol). run m zs (Wanted (Front (InChoice ps a c)))) (append_assoc (expr_symbols e) (Mark Comma ∷ choices_symbols x) ks)
+      ∙ complete_expr e m (InChoice ps a c) (Mark Comma ∷ (choices_symbols x ++ ks)) (omega arith) (omega arith) (omega arith) tt
+      ∙ choice_goes m (choices_symbols x ++ ks) ps a e c
+      ∙ complete_choices x m (and_pair ps a e) c ks (omega arith) (omega arith) (omega arith)
+      ∙ ap (λ (y : Choices). run m ks (filled (Select y) c)) (before_pair ps a e x)
+
+  pub complete_variable : (v : Variable) (m : Limits) (p : Place) (ks : List Symbol) → variable_nesting v + place_depth p ≤ m.depth → variable_width v ≤ m.width → variable_misfits v ≡ 0 → HasNoOpen ks →
       run m (variable_symbols v ++ ks) (Sought p) ≡ run m ks (placed v p)
-  complete_variable (Var scope word es) m p ks n w h =
+  complete_variable (Var scope word es) m p ks n w f h =
       sought_name m scope word (list_symbols es) ks p
-      ∙ complete_list es m scope word p ks n w h
+      ∙ complete_list es m scope word p ks n w f h
 
-  complete_list : (es : Exprs) (m : Limits) (scope : Scope) (word : List ℕ) (p : Place) (ks : List Symbol) → list_nesting es + place_depth p ≤ m.depth → max (count es) (exprs_width es) ≤ m.width → HasNoOpen ks →
+  complete_list : (es : Exprs) (m : Limits) (scope : Scope) (word : List ℕ) (p : Place) (ks : List Symbol) → list_nesting es + place_depth p ≤ m.depth → max (count es) (exprs_width es) ≤ m.width → exprs_misfits es ≡ 0 → HasNoOpen ks →
       run m (list_symbols es ++ ks) (Named scope word p) ≡ run m ks (placed (Var scope word es) p)
-  complete_list No m scope word p ks n w h = named_ends m scope word p ks h
-  complete_list (More e r) m scope word p ks n w h =
+  complete_list No m scope word p ks n w f h = named_ends m scope word p ks h
+  complete_list (More e r) m scope word p ks n w f h =
       open_goes m ((expr_symbols e ++ more_symbols r) ++ ks) scope word p (omega arith)
-      ∙ ap (λ (zs : List Symbol). run m zs (Wanted (Front (InList scope word No p)))) (append_assoc (expr_symbols e) (more_symbols r) ks)
-      ∙ complete_expr e m (InList scope word No p) (more_symbols r ++ ks) (omega arith) (omega arith) (more_no_open r ks)
-      ∙ complete_more r m scope word No e p ks (omega arith) (omega arith) (omega arith)
+      ∙ ap (λ (zs : List Symbol). run m zs (Wanted (Front (InList (Subscripts scope word p) No)))) (append_assoc (expr_symbols e) (more_symbols r) ks)
+      ∙ complete_expr e m (InList (Subscripts scope word p) No) (more_symbols r ++ ks) (omega arith) (omega arith) (omega arith) (more_no_open r ks)
+      ∙ complete_more r m (Subscripts scope word p) No e ks (omega arith) (omega arith) (omega arith) (omega arith) (omega arith)
 
-  complete_more : (r : Exprs) (m : Limits) (scope : Scope) (word : List ℕ) (done : Exprs) (e : Expr) (p : Place) (ks : List Symbol) → exprs_nesting r + place_depth p + 1 ≤ m.depth → exprs_width r ≤ m.width → count done + 1 + count r ≤ m.width →
-      run m (more_symbols r ++ ks) (held e (InList scope word done p)) ≡ run m ks (placed (Var scope word (joined done (More e r))) p)
-  complete_more No m scope word done e p ks n w t =
-      list_closes m ks scope word done e p ∙ ap (λ (es : Exprs). run m ks (placed (Var scope word es) p)) (sym (joined_last done e))
-  complete_more (More f r) m scope word done e p ks n w t =
-      list_goes m ((expr_symbols f ++ more_symbols r) ++ ks) scope word done e p (omega arith)
-      ∙ ap (λ (zs : List Symbol). run m zs (Wanted (Front (InList scope word (and_more done e) p)))) (append_assoc (expr_symbols f) (more_symbols r) ks)
-      ∙ complete_expr f m (InList scope word (and_more done e) p) (more_symbols r ++ ks) (omega arith) (omega arith) (more_no_open r ks)
-      ∙ complete_more r m scope word (and_more done e) f p ks (omega arith) (omega arith) (omega (arith, count-more done e))
-      ∙ ap (λ (es : Exprs). run m ks (placed (Var scope word es) p)) (joined_more done e (More f r))
+  complete_more : (r : Exprs) (m : Limits) (u : Owner) (done : Exprs) (e : Expr) (ks : List Symbol) → exprs_nesting r + owner_depth u + 1 ≤ m.depth → exprs_width r ≤ m.width → exprs_misfits r ≡ 0 → count done + 1 + count r ≤ most_of m u → least_of u ≤ count done + 1 + count r →
+      run m (more_symbols r ++ ks) (held e (InList u done)) ≡ run m ks (closed u (joined done (More e r)))
+  complete_more No m u done e ks n w f t l =
+      list_closes m ks u done e (omega arith) ∙ ap (λ (es : Exprs). run m ks (closed u es)) (sym (joined_last done e))
+  complete_more (More g r) m u done e ks n w f t l =
+      list_goes m ((expr_symbols g ++ more_symbols r) ++ ks) u done e (omega arith)
+      ∙ ap (λ (zs : List Symbol). run m zs (Wanted (Front (InList u (and_more done e))))) (append_assoc (expr_symbols g) (more_symbols r) ks)
+      ∙ complete_expr g m (InList u (and_more done e)) (more_symbols r ++ ks) (omega arith) (omega arith) (omega arith) (more_no_open r ks)
+      ∙ complete_more r m u (and_more done e) g ks (omega arith) (omega arith) (omega arith) (omega (arith, count-more done e)) (omega (arith, count-more done e))
+      ∙ ap (λ (es : Exprs). run m ks (closed u es)) (joined_more done e (More g r))
 
 -- ---- phrases
 
@@ -180,8 +212,8 @@ Ceases AVariable ks = HasNoOpen ks
 
 pub complete_phrase : (K : Kind) (p : Phrase) (m : Limits) (ks : List Symbol) → Fits K m p → Ceases K ks → run m (phrase_symbols p ++ ks) (start K) ≡ Accept p ks
 complete_phrase AnExpression (Whole e) m ks f h =
-    complete_expr e m Alone ks (let n = f.nests in omega arith) f.lists h.0 ∙ whole_done m e ks h.1
+    complete_expr e m Alone ks (let n = f.nests in omega arith) f.lists f.formed h.0 ∙ whole_done m e ks h.1
 complete_phrase AnExpression (Target v) m ks f h = absurd f.kind
 complete_phrase AVariable (Target v) m ks f h =
-    complete_variable v m AsTarget ks (let n = f.nests in omega arith) f.lists h ∙ target_done m v ks
+    complete_variable v m AsTarget ks (let n = f.nests in omega arith) f.lists f.formed h ∙ target_done m v ks
 complete_phrase AVariable (Whole e) m ks f h = absurd f.kind

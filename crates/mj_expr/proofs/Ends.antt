@@ -1,8 +1,8 @@
 -- How a run ends.
 use Rattle.std.proofs.Common.{◌≡◌, ℕ, ◌≤◌, List, [], ◌∷◌, ◌++◌, length, refl, ap, sym, ◌∙◌, subst, append_assoc, append-nil, ◌⊎◌, inl, inr}
 use Rattle.mj_ast.specs.Syntax.{Chain, Var, No}
-use Rattle.mj_ast.specs.Expressions.{Symbol, Constant, Name, Overlong, Mark, Other}
-use Rattle.mj_expr.specs.Machine.{Alone, InGroup, InList, State, Wanted, Sought, Marked, Named, Held, Got, placed, Limits, Next, Go, Stuck, Deep, Long, Whole, Target, Outcome, Accept, StuckAt, DeepAt, TooLong, refused, ends, finish, step, run, turn}
+use Rattle.mj_ast.specs.Expressions.{Symbol, Constant, Name, Applied, Overlong, Mark, Other}
+use Rattle.mj_expr.specs.Machine.{Alone, InGroup, InList, InCondition, InChoice, State, Wanted, Sought, Marked, Named, Calling, Held, Got, placed, Limits, Next, Go, Stuck, Deep, Long, Whole, Target, Outcome, Accept, StuckAt, DeepAt, TooLong, refused, ends, finish, step, run, turn}
 use Rattle.mj_expr.proofs.Zipper.{Kind, HasRead}
 use Rattle.mj_expr.proofs.Facts.{IsMore, deeper, Facts, LongFacts}
 use Rattle.mj_expr.proofs.States.{step_facts}
@@ -78,6 +78,7 @@ refused_deep [] n e = cc
 refused_deep (Overlong ∷ ks) n e = cc
 refused_deep (Constant v ∷ ks) n e = cc
 refused_deep (Name w ∷ ks) n e = cc
+refused_deep (Applied f ∷ ks) n e = cc
 refused_deep (Mark s ∷ ks) n e = cc
 refused_deep (Other ∷ ks) n e = cc
 
@@ -88,7 +89,10 @@ ends_deep (Marked p) ks n e = refused_deep ks n e
 ends_deep (Named scope word p) ks n e = refused_deep ks n e
 ends_deep (Held x r Alone) ks n e = let f : Accept (Whole (Chain x r)) ks ≡ DeepAt n = e in cc
 ends_deep (Held x r (InGroup c)) ks n e = refused_deep ks n e
-ends_deep (Held x r (InList scope word es p)) ks n e = refused_deep ks n e
+ends_deep (Held x r (InList u es)) ks n e = refused_deep ks n e
+ends_deep (Held x r (InCondition ps c)) ks n e = refused_deep ks n e
+ends_deep (Held x r (InChoice ps a c)) ks n e = refused_deep ks n e
+ends_deep (Calling f c) ks n e = refused_deep ks n e
 ends_deep (Got v) ks n e = let f : Accept (Target v) ks ≡ DeepAt n = e in cc
 
 pub finish_deep : (s : State) (ks : List Symbol) (n : ℕ) → finish s ks ≡ DeepAt n → ⊥
@@ -96,6 +100,7 @@ finish_deep (Wanted c) ks n e = refused_deep ks n e
 finish_deep (Sought p) ks n e = refused_deep ks n e
 finish_deep (Marked p) ks n e = refused_deep ks n e
 finish_deep (Named scope word p) ks n e = ends_deep (placed (Var scope word No) p) ks n e
+finish_deep (Calling f c) ks n e = refused_deep ks n e
 finish_deep (Held x r o) ks n e = ends_deep (Held x r o) ks n e
 finish_deep (Got v) ks n e = ends_deep (Got v) ks n e
 

@@ -1,12 +1,13 @@
 -- Worked rows of the machine.
 use Rattle.std.proofs.Common.{◌≡◌, ℕ, [], ◌∷◌, refl, map}
-use Rattle.mj_ast.specs.declared.sign.Sign.TheVariants.{Plus, Minus, Star, Equals, CloseBrackets, Apostrophe, Negated, Caret, Open, Close, Comma}
+use Rattle.mj_ast.specs.declared.sign.Sign.TheVariants.{Plus, Minus, Star, Equals, CloseBrackets, Apostrophe, Negated, Caret, Open, Close, Comma, Colon}
 use Rattle.mj_ast.specs.declared.expr.Scope.TheVariants.{Local, Global}
 use Rattle.mj_oper.specs.declared.op.UnaryOp.TheVariants as unary
 use Rattle.mj_oper.specs.declared.op.Op.TheVariants as binary
 use Rattle.mj_oper.specs.declared.op.TruthOp.TheVariants as truth
-use Rattle.mj_ast.specs.Syntax.{Chain, Done, Then, Literal, Value, Unary, Group, Var, No, More}
-use Rattle.mj_ast.specs.Tokens.{Token, Word, Quoted, Signed, Blank, Unclosed}
+use Rattle.mj_ast.specs.Syntax.{Chain, Done, Then, Literal, Value, Unary, Group, Call, Var, No, More}
+use Rattle.mj_ast.specs.declared.function.Function.TheVariants.{Length}
+use Rattle.mj_ast.specs.Tokens.{Token, Word, Called, Quoted, Signed, Blank, Unclosed}
 use Rattle.mj_ast.specs.Expressions.{symbol, expr_symbols, expr_nesting}
 use Rattle.mj_expr.specs.Machine.{Wanted, Sought, Front, Alone, AsTarget, Limits, Whole, Target, Accept, StuckAt, DeepAt, TooLong, run}
 
@@ -63,6 +64,24 @@ long_row = refl
 -- nor where an operand is missing before the comma
 missing_row : run (levels 1) (map symbol (a ∷ Signed Open ∷ a ∷ Signed Comma ∷ Signed Comma ∷ [])) (Wanted (Front Alone)) ≡ TooLong
 missing_row = refl
+
+-- `$L(A,A)` is a call, and no third argument may follow; `$F(A)` has too few
+call_row : run (levels 1) (map symbol (Called (76 ∷ []) ∷ Signed Open ∷ a ∷ Signed Comma ∷ a ∷ Signed Close ∷ [])) (Wanted (Front Alone))
+    ≡ Accept (Whole (Chain (Call Length (More (Chain (Value (Var Local (65 ∷ []) No)) Done) (More (Chain (Value (Var Local (65 ∷ []) No)) Done) No))) Done)) []
+call_row = refl
+
+many_row : run (levels 1) (map symbol (Called (76 ∷ []) ∷ Signed Open ∷ a ∷ Signed Comma ∷ a ∷ Signed Comma ∷ [])) (Wanted (Front Alone)) ≡ StuckAt 1
+many_row = refl
+
+few_row : run (levels 1) (map symbol (Called (70 ∷ []) ∷ Signed Open ∷ a ∷ Signed Close ∷ [])) (Wanted (Front Alone)) ≡ StuckAt 1
+few_row = refl
+
+-- `$S(A:A,` goes on with a condition; a function is deep where no level may be opened
+select_row : run (levels 1) (map symbol (Called (115 ∷ []) ∷ Signed Open ∷ a ∷ Signed Colon ∷ a ∷ Signed Comma ∷ a ∷ Signed Close ∷ [])) (Wanted (Front Alone)) ≡ StuckAt 1
+select_row = refl
+
+deep_call_row : run (levels 0) (map symbol (Called (76 ∷ []) ∷ Signed Open ∷ a ∷ Signed Close ∷ [])) (Wanted (Front Alone)) ≡ DeepAt 4
+deep_call_row = refl
 
 -- `A((B),"x")` as symbols, and how deep it nests
 spelling_row : expr_symbols (Chain (Value (Var Local (65 ∷ []) (More (Chain (Group (Chain (Value (Var Local (66 ∷ []) No)) Done)) Done) (More (Chain (Literal (120 ∷ [])) Done) No)))) Done)

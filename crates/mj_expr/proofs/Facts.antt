@@ -1,19 +1,20 @@
 -- What is known of a step.
-use Rattle.std.proofs.Common.{◌≡◌, ℕ, ◌+◌, ◌≤◌, ◌<◌, List, [], ◌∷◌, ◌++◌, refl, ap, sym, ◌∙◌, Bool, true, false, append_assoc, arith, nat_lt, Option, Some, None, map}
+use Rattle.std.proofs.Common.{◌≡◌, ℕ, ◌+◌, ◌≤◌, ◌<◌, List, [], ◌∷◌, ◌++◌, refl, ap, sym, ◌∙◌, Bool, true, false, append_assoc, arith, nat_lt, nat_le, Option, Some, None, map}
 use Rattle.std.specs.Prelude.{cond, not}
 use Rattle.std.proofs.lemmas.Bool.Decides.{nat_tests}
 use Rattle.mj_ast.specs.declared.sign.Sign.{Sign}
 use Rattle.mj_ast.specs.declared.sign.Sign.TheVariants.{Plus, Minus, Apostrophe, Caret, Open, Close, Comma, Colon}
-use Rattle.mj_ast.specs.declared.expr.Scope.{Scope}
 use Rattle.mj_oper.specs.declared.op.UnaryOp.{UnaryOp}
 use Rattle.mj_oper.specs.declared.op.Op.{Op}
-use Rattle.mj_ast.specs.Syntax.{Chain, Tails, Done, Operand, Literal, Unary, Group, Var, Exprs}
+use Rattle.mj_ast.specs.declared.function.Callee.TheVariants as callee
+use Rattle.mj_ast.specs.Syntax.{Expr, Chain, Tails, Done, Operand, Literal, Unary, Group, Select, Exprs, Last}
 use Rattle.mj_ast.specs.Tokens.{Token}
-use Rattle.mj_ast.specs.Expressions.{Symbol, Constant, Name, Overlong, Mark, Other, symbol, scoped, unary_sign, binary_sign, expr_symbols, count}
+use Rattle.mj_ast.specs.Expressions.{Symbol, Constant, Name, Applied, Overlong, Mark, Other, symbol, unary_sign, binary_sign, expr_symbols, count}
 use Rattle.mj_ast.specs.Lines.{Filler, no_filler}
-use Rattle.mj_expr.specs.Machine.{Outer, Alone, InGroup, InList, Within, Front, Right, Under, Place, AsOperand, AsTarget, State, Wanted, Held, Limits, Next, Go, Stuck, Deep, Long, TooLong, and_then, and_more, filled, placed, outer_of, run, turn, step, opens, unary_of, binary_of, hold_sign, hold_other, comma, is_full}
+use Rattle.mj_expr.specs.Machine.{Outer, Alone, InGroup, InList, InCondition, InChoice, Owner, Subscripts, Arguments, Within, Front, Right, Under, Place, AsOperand, AsTarget, Pairs, and_pair, before_choices, State, Wanted, Held, Limits, Next, Go, Stuck, Deep, Long, TooLong, refused_in, and_then, and_more, filled, closed, least_of, most_of, is_limited, outer_of, run, turn, step, opens, unary_of, binary_of, hold_sign, hold_other, comma, close, is_full}
+use Rattle.mj_expr.specs.Reads.{BeginsNone}
 use Rattle.mj_expr.proofs.Steps.{less_true, less_false}
-use Rattle.mj_expr.proofs.Zipper.{Kind, HasRead, Good, OuterGood, PlaceGood, good_depth, filled_read, placed_read, outer_before, place_before, listed, listed-more, list_symbols-more, scoped-append, exprs_nesting-more, exprs_width-more, count-more, list_nesting-more}
+use Rattle.mj_expr.proofs.Zipper.{Kind, HasRead, Good, OuterGood, OwnerGood, PlaceGood, good_depth, filled_read, closed_read, outer_before, owner_before, before, listed, listed-more, list_symbols-more, exprs_nesting-more, exprs_width-more, exprs_misfits-more, count-more, list_nesting-more, pairs_symbols, pairs_symbols-and, pairs_nesting-and, pairs_width-and, pairs_misfits-and, choices_symbols-before, choices_nesting-before, choices_width-before, choices_misfits-before}
 
 -- ---- limits
 
@@ -34,15 +35,25 @@ more_deeper m = record { depth = omega arith; width = omega arith }
 pub more_wider : (m : Limits) → IsMore m (wider m)
 more_wider m = record { depth = omega arith; width = omega arith }
 
+most_more : (u : Owner) (m l : Limits) → IsMore m l → most_of m u ≤ most_of l u
+most_more (Subscripts scope word p) m l i = i.width
+most_more (Arguments f c) m l i = omega arith
+
 mutual
   pub outer_good_more : (o : Outer) (K : Kind) (m l : Limits) → IsMore m l → OuterGood K m o → OuterGood K l o
   outer_good_more Alone K m l i g = g
   outer_good_more (InGroup c) K m l i g = (good_more c K m l i g.0, omega (arith, g.1, i.depth))
-  outer_good_more (InList scope word es p) K m l i g = (place_good_more p K m l i g.0, omega (arith, g.1, i.depth), omega (arith, g.2, i.depth), omega (arith, g.3, i.width), omega (arith, g.4, i.width))
+  outer_good_more (InList u es) K m l i g = (owner_good_more u K m l i g.0, omega (arith, g.1, i.depth), omega (arith, g.2, i.depth), omega (arith, g.3, i.width), omega (arith, g.4, most_more u m l i), g.5)
+  outer_good_more (InCondition ps c) K m l i g = (good_more c K m l i g.0, omega (arith, g.1, i.depth), omega (arith, g.2, i.depth), omega (arith, g.3, i.width), g.4)
+  outer_good_more (InChoice ps a c) K m l i g = (good_more c K m l i g.0, omega (arith, g.1, i.depth), omega (arith, g.2, i.depth), omega (arith, g.3, i.width), g.4, omega (arith, g.5, i.depth), omega (arith, g.6, i.width), g.7)
+
+  pub owner_good_more : (u : Owner) (K : Kind) (m l : Limits) → IsMore m l → OwnerGood K m u → OwnerGood K l u
+  owner_good_more (Subscripts scope word p) K m l i g = place_good_more p K m l i g
+  owner_good_more (Arguments f c) K m l i g = good_more c K m l i g
 
   pub good_more : (c : Within) (K : Kind) (m l : Limits) → IsMore m l → Good K m c → Good K l c
   good_more (Front o) K m l i g = outer_good_more o K m l i g
-  good_more (Right first rest op o) K m l i g = (outer_good_more o K m l i g.0, omega (arith, g.1, i.depth), omega (arith, g.2, i.width))
+  good_more (Right first rest op o) K m l i g = (outer_good_more o K m l i g.0, omega (arith, g.1, i.depth), omega (arith, g.2, i.width), g.3)
   good_more (Under op c) K m l i g = (good_more c K m l i g.0, omega (arith, g.1, i.depth))
 
   pub place_good_more : (p : Place) (K : Kind) (m l : Limits) → IsMore m l → PlaceGood K m p → PlaceGood K l p
@@ -114,68 +125,135 @@ opens_facts K m R L k d s f g = opens_as K m R L k d s (nat_lt d m.depth) refl f
 
 -- ---- behind an expression
 
--- another subscript is wanted
-pub comma_read : (K : Kind) (m l : Limits) (scope : Scope) (word : List ℕ) (es : Exprs) (p : Place) (x : Operand) (r : Tails) (ks : List Symbol) → IsMore m l → count es + 2 ≤ l.width →
-    HasRead K m (Held x r (InList scope word es p)) ks → HasRead K l (Wanted (Front (InList scope word (and_more es (Chain x r)) p))) (ks ++ Mark Comma ∷ [])
-comma_read K m l scope word es p x r ks i w h = record {
-  good =
-      let g = h.good in (
-        place_good_more p K m l i g.0.0,
-        omega (arith, g.0.1, i.depth),
-        omega (arith, exprs_nesting-more es (Chain x r), g.0.2, g.1, i.depth),
-        omega (arith, exprs_width-more es (Chain x r), g.0.3, g.2, i.width),
-        omega (arith, count-more es (Chain x r)),
-      );
-  read =
-      ap (λ (zs : List Symbol). place_before p ++ scoped scope (Name word ∷ Mark Open ∷ zs)) (listed-more es (Chain x r))
-      ∙ ap (λ (zs : List Symbol). place_before p ++ scoped scope (Name word ∷ Mark Open ∷ zs)) (sym (append_assoc (listed es) (expr_symbols (Chain x r)) (Mark Comma ∷ [])))
-      ∙ ap (λ (zs : List Symbol). place_before p ++ zs) (sym (scoped-append scope (Name word ∷ Mark Open ∷ (listed es ++ expr_symbols (Chain x r))) (Mark Comma ∷ [])))
-      ∙ sym (append_assoc (place_before p) (scoped scope (Name word ∷ Mark Open ∷ (listed es ++ expr_symbols (Chain x r)))) (Mark Comma ∷ []))
-      ∙ ap (λ (zs : List Symbol). (place_before p ++ zs) ++ Mark Comma ∷ []) (sym (scoped-append scope (Name word ∷ Mark Open ∷ listed es) (expr_symbols (Chain x r))))
-      ∙ ap (λ (zs : List Symbol). zs ++ Mark Comma ∷ []) (sym (append_assoc (place_before p) (scoped scope (Name word ∷ Mark Open ∷ listed es)) (expr_symbols (Chain x r))) ∙ h.read);
-}
+-- another expression of a list is wanted
+pub comma_read : (K : Kind) (m l : Limits) (u : Owner) (es : Exprs) (x : Operand) (r : Tails) (ks : List Symbol) → IsMore m l → count es + 2 ≤ most_of l u →
+    HasRead K m (Held x r (InList u es)) ks → HasRead K l (Wanted (Front (InList u (and_more es (Chain x r))))) (ks ++ Mark Comma ∷ [])
+comma_read K m l u es x r ks i w h =
+    let e : Expr = Chain x r in
+    let same : owner_before u ++ Mark Open ∷ (listed es ++ (expr_symbols e ++ Mark Comma ∷ [])) ≡ ((owner_before u ++ Mark Open ∷ listed es) ++ expr_symbols e) ++ Mark Comma ∷ [] = simp append_assoc in
+    record {
+      good =
+          let g = h.good in (
+            owner_good_more u K m l i g.0.0,
+            omega (arith, g.0.1, i.depth),
+            omega (arith, exprs_nesting-more es (Chain x r), g.0.2, g.1, i.depth),
+            omega (arith, exprs_width-more es (Chain x r), g.0.3, g.2, i.width),
+            omega (arith, count-more es (Chain x r)),
+            omega (arith, exprs_misfits-more es (Chain x r), g.0.5, g.3),
+          );
+      read =
+          ap (λ (zs : List Symbol). owner_before u ++ Mark Open ∷ zs) (listed-more es e)
+          ∙ same ∙ ap (λ (zs : List Symbol). zs ++ Mark Comma ∷ []) h.read;
+    }
 
-comma_as : (K : Kind) (m : Limits) (scope : Scope) (word : List ℕ) (es : Exprs) (p : Place) (x : Operand) (r : Tails) (b : Bool) → nat_lt (count es + 1) m.width ≡ b →
-    Facts K m (HasRead K m (Held x r (InList scope word es p))) (HeldLong K m (HasRead K m (Held x r (InList scope word es p))) (λ l. comma l (Chain x r) (InList scope word es p)) (Mark Comma))
-    (λ l. comma l (Chain x r) (InList scope word es p)) (Mark Comma) (cond b (Go (Wanted (Front (InList scope word (and_more es (Chain x r)) p)))) Long)
-comma_as K m scope word es p x r true e =
-    let n : count es + 1 < m.width = grind (arith, nat_tests) in (
-      λ ks h. comma_read K m m scope word es p x r ks (record { depth = omega arith; width = omega arith }) (omega arith) h,
-      λ l i. ap (λ (b : Bool). cond b (Go (Wanted (Front (InList scope word (and_more es (Chain x r)) p)))) Long) (less_true (count es + 1) l.width (omega (arith, i.width))),
-    )
-comma_as K m scope word es p x r false e =
-    let n : m.width ≤ count es + 1 = grind (arith, nat_tests) in
+over_as : (K : Kind) (m : Limits) (u : Owner) (es : Exprs) (x : Operand) (r : Tails) (b : Bool) → is_limited u ≡ b → most_of m u ≤ count es + 1 →
+    Facts K m (HasRead K m (Held x r (InList u es))) (HeldLong K m (HasRead K m (Held x r (InList u es))) (λ l. comma l (Chain x r) (InList u es)) (Mark Comma))
+    (λ l. comma l (Chain x r) (InList u es)) (Mark Comma) (cond b Long Stuck)
+over_as K m (Subscripts scope word p) es x r true e n =
+    let u = Subscripts scope word p in
     record {
       comma = refl;
-      over = Wanted (Front (InList scope word (and_more es (Chain x r)) p));
-      opened = λ ks h. comma_read K m (wider m) scope word es p x r ks (more_wider m) (omega (arith, h.good.0.4)) h;
-      stays = λ l i. ap (λ (b : Bool). cond b (Go (Wanted (Front (InList scope word (and_more es (Chain x r)) p)))) Long) (less_false (count es + 1) l.width (omega arith));
+      over = Wanted (Front (InList u (and_more es (Chain x r))));
+      opened = λ ks h. comma_read K m (wider m) u es x r ks (more_wider m) (omega (arith, h.good.0.4)) h;
+      stays = λ l i. ap (λ (b : Bool). cond b (Go (Wanted (Front (InList u (and_more es (Chain x r)))))) Long) (less_false (count es + 1) l.width (omega arith));
+    }
+over_as K m (Subscripts scope word p) es x r false e n = absurd (let f : true ≡ false = e in cc)
+over_as K m (Arguments f c) es x r true e n = absurd (let g : false ≡ true = e in cc)
+over_as K m (Arguments f c) es x r false e n =
+    let u = Arguments f c in
+    λ l i. ap (λ (b : Bool). cond b (Go (Wanted (Front (InList u (and_more es (Chain x r)))))) Stuck) (less_false (count es + 1) (most_of l u) (omega arith))
+
+comma_as : (K : Kind) (m : Limits) (u : Owner) (es : Exprs) (x : Operand) (r : Tails) (b : Bool) → nat_lt (count es + 1) (most_of m u) ≡ b →
+    Facts K m (HasRead K m (Held x r (InList u es))) (HeldLong K m (HasRead K m (Held x r (InList u es))) (λ l. comma l (Chain x r) (InList u es)) (Mark Comma))
+    (λ l. comma l (Chain x r) (InList u es)) (Mark Comma) (cond b (Go (Wanted (Front (InList u (and_more es (Chain x r)))))) (cond (is_limited u) Long Stuck))
+comma_as K m u es x r true e =
+    let n : count es + 1 < most_of m u = grind (arith, nat_tests) in (
+      λ ks h. comma_read K m m u es x r ks (record { depth = omega arith; width = omega arith }) (omega arith) h,
+      λ l i. ap (λ (b : Bool). cond b (Go (Wanted (Front (InList u (and_more es (Chain x r)))))) (cond (is_limited u) Long Stuck)) (less_true (count es + 1) (most_of l u) (omega (arith, most_more u m l i))),
+    )
+comma_as K m u es x r false e =
+    let n : most_of m u ≤ count es + 1 = grind (arith, nat_tests) in
+    over_as K m u es x r (is_limited u) refl n
+
+-- another choice is wanted
+choice_read : (K : Kind) (m : Limits) (ps : Pairs) (a : Expr) (c : Within) (x : Operand) (r : Tails) (ks : List Symbol) →
+    HasRead K m (Held x r (InChoice ps a c)) ks → HasRead K m (Wanted (Front (InCondition (and_pair ps a (Chain x r)) c))) (ks ++ Mark Comma ∷ [])
+choice_read K m ps a c x r ks h =
+    let e : Expr = Chain x r in
+    let same : before c ++ Applied callee.Select ∷ Mark Open ∷ (pairs_symbols ps ++ (expr_symbols a ++ Mark Colon ∷ (expr_symbols e ++ Mark Comma ∷ [])))
+    ≡ ((before c ++ Applied callee.Select ∷ Mark Open ∷ (pairs_symbols ps ++ (expr_symbols a ++ Mark Colon ∷ []))) ++ expr_symbols e) ++ Mark Comma ∷ [] = simp append_assoc in
+    record {
+      good =
+          let g = h.good in (
+            g.0.0,
+            g.0.1,
+            omega (arith, pairs_nesting-and ps a e, g.0.2, g.0.5, g.1),
+            omega (arith, pairs_width-and ps a e, g.0.3, g.0.6, g.2),
+            omega (arith, pairs_misfits-and ps a e, g.0.4, g.0.7, g.3),
+          );
+      read =
+          ap (λ (zs : List Symbol). before c ++ Applied callee.Select ∷ Mark Open ∷ zs) (pairs_symbols-and ps a e)
+          ∙ same ∙ ap (λ (zs : List Symbol). zs ++ Mark Comma ∷ []) h.read;
     }
 
 comma_facts : (K : Kind) (m : Limits) (x : Operand) (r : Tails) (o : Outer) →
     Facts K m (HasRead K m (Held x r o)) (HeldLong K m (HasRead K m (Held x r o)) (λ l. comma l (Chain x r) o) (Mark Comma)) (λ l. comma l (Chain x r) o) (Mark Comma) (comma m (Chain x r) o)
 comma_facts K m x r Alone = λ l i. refl
 comma_facts K m x r (InGroup c) = λ l i. refl
-comma_facts K m x r (InList scope word es p) = comma_as K m scope word es p x r (nat_lt (count es + 1) m.width) refl
+comma_facts K m x r (InList u es) = comma_as K m u es x r (nat_lt (count es + 1) (most_of m u)) refl
+comma_facts K m x r (InCondition ps c) = λ l i. refl
+comma_facts K m x r (InChoice ps a c) = (choice_read K m ps a c x r, λ l i. refl)
+
+-- the value of a condition is wanted
+colon_read : (K : Kind) (m : Limits) (ps : Pairs) (c : Within) (x : Operand) (r : Tails) (ks : List Symbol) →
+    HasRead K m (Held x r (InCondition ps c)) ks → HasRead K m (Wanted (Front (InChoice ps (Chain x r) c))) (ks ++ Mark Colon ∷ [])
+colon_read K m ps c x r ks h =
+    let e : Expr = Chain x r in
+    let same : before c ++ Applied callee.Select ∷ Mark Open ∷ (pairs_symbols ps ++ (expr_symbols e ++ Mark Colon ∷ []))
+    ≡ ((before c ++ Applied callee.Select ∷ Mark Open ∷ pairs_symbols ps) ++ expr_symbols e) ++ Mark Colon ∷ [] = simp append_assoc in
+    record {
+      good = let g = h.good in (g.0.0, g.0.1, g.0.2, g.0.3, g.0.4, omega (arith, g.1), g.2, g.3);
+      read = same ∙ ap (λ (zs : List Symbol). zs ++ Mark Colon ∷ []) h.read;
+    }
 
 group_closed : (K : Kind) (m : Limits) (c : Within) (x : Operand) (r : Tails) (ks : List Symbol) → HasRead K m (Held x r (InGroup c)) ks → HasRead K m (filled (Group (Chain x r)) c) (ks ++ Mark Close ∷ [])
 group_closed K m c x r ks h =
-    filled_read c K m (Group (Chain x r)) _ h.good.0.0 (let n = h.good.1 in omega arith) h.good.2
+    filled_read c K m (Group (Chain x r)) _ h.good.0.0 (let n = h.good.1 in omega arith) h.good.2 h.good.3
     (sym (simp append_assoc) ∙ ap (λ (zs : List Symbol). zs ++ Mark Close ∷ []) h.read)
 
-list_closed : (K : Kind) (m : Limits) (scope : Scope) (word : List ℕ) (es : Exprs) (p : Place) (x : Operand) (r : Tails) (ks : List Symbol) → HasRead K m (Held x r (InList scope word es p)) ks →
-    HasRead K m (placed (Var scope word (and_more es (Chain x r))) p) (ks ++ Mark Close ∷ [])
-list_closed K m scope word es p x r ks h =
+list_closed : (K : Kind) (m : Limits) (u : Owner) (es : Exprs) (x : Operand) (r : Tails) (ks : List Symbol) → least_of u ≤ count es + 1 → HasRead K m (Held x r (InList u es)) ks →
+    HasRead K m (closed u (and_more es (Chain x r))) (ks ++ Mark Close ∷ [])
+list_closed K m u es x r ks f h =
     let g = h.good in
-    placed_read p K m (Var scope word (and_more es (Chain x r))) _ g.0.0
-    (omega (arith, list_nesting-more es (Chain x r), g.0.2, g.1))
-    (omega (arith, exprs_width-more es (Chain x r), count-more es (Chain x r), g.0.3, g.0.4, g.2))
-    (ap (λ (zs : List Symbol). place_before p ++ scoped scope (Name word ∷ zs)) (list_symbols-more es (Chain x r))
-    ∙ ap (λ (zs : List Symbol). place_before p ++ scoped scope (Name word ∷ Mark Open ∷ zs)) (sym (append_assoc (listed es) (expr_symbols (Chain x r)) (Mark Close ∷ [])))
-    ∙ ap (λ (zs : List Symbol). place_before p ++ zs) (sym (scoped-append scope (Name word ∷ Mark Open ∷ (listed es ++ expr_symbols (Chain x r))) (Mark Close ∷ [])))
-    ∙ sym (append_assoc (place_before p) (scoped scope (Name word ∷ Mark Open ∷ (listed es ++ expr_symbols (Chain x r)))) (Mark Close ∷ []))
-    ∙ ap (λ (zs : List Symbol). (place_before p ++ zs) ++ Mark Close ∷ []) (sym (scoped-append scope (Name word ∷ Mark Open ∷ listed es) (expr_symbols (Chain x r))))
-    ∙ ap (λ (zs : List Symbol). zs ++ Mark Close ∷ []) (sym (append_assoc (place_before p) (scoped scope (Name word ∷ Mark Open ∷ listed es)) (expr_symbols (Chain x r))) ∙ h.read))
+    let e : Expr = Chain x r in
+    let same : owner_before u ++ Mark Open ∷ (listed es ++ (expr_symbols e ++ Mark Close ∷ [])) ≡ ((owner_before u ++ Mark Open ∷ listed es) ++ expr_symbols e) ++ Mark Close ∷ [] = simp append_assoc in
+    closed_read u K m (and_more es e) _ g.0.0
+    (omega (arith, list_nesting-more es e, g.0.2, g.1))
+    (omega (arith, exprs_width-more es e, g.0.3, g.2))
+    (omega (arith, count-more es e, g.0.4))
+    (omega (arith, count-more es e))
+    (omega (arith, exprs_misfits-more es e, g.0.5, g.3))
+    (ap (λ (zs : List Symbol). owner_before u ++ zs) (list_symbols-more es e) ∙ same ∙ ap (λ (zs : List Symbol). zs ++ Mark Close ∷ []) h.read)
+
+close_as : (K : Kind) (m : Limits) (u : Owner) (es : Exprs) (x : Operand) (r : Tails) (L : Type 0) (b : Bool) → nat_le (least_of u) (count es + 1) ≡ b →
+    Facts K m (HasRead K m (Held x r (InList u es))) L (λ l. close (Chain x r) (InList u es)) (Mark Close) (cond b (Go (closed u (and_more es (Chain x r)))) Stuck)
+close_as K m u es x r L true e =
+    let n : least_of u ≤ count es + 1 = grind (arith, nat_tests) in
+    (λ ks h. list_closed K m u es x r ks n h, λ l i. ap (λ (b : Bool). cond b (Go (closed u (and_more es (Chain x r)))) Stuck) e)
+close_as K m u es x r L false e = λ l i. ap (λ (b : Bool). cond b (Go (closed u (and_more es (Chain x r)))) Stuck) e
+
+choice_closed : (K : Kind) (m : Limits) (ps : Pairs) (a : Expr) (c : Within) (x : Operand) (r : Tails) (ks : List Symbol) → HasRead K m (Held x r (InChoice ps a c)) ks →
+    HasRead K m (filled (Select (before_choices ps (Last a (Chain x r)))) c) (ks ++ Mark Close ∷ [])
+choice_closed K m ps a c x r ks h =
+    let g = h.good in
+    let e : Expr = Chain x r in
+    let same : before c ++ Applied callee.Select ∷ Mark Open ∷ (pairs_symbols ps ++ (expr_symbols a ++ Mark Colon ∷ (expr_symbols e ++ Mark Close ∷ [])))
+    ≡ ((before c ++ Applied callee.Select ∷ Mark Open ∷ (pairs_symbols ps ++ (expr_symbols a ++ Mark Colon ∷ []))) ++ expr_symbols e) ++ Mark Close ∷ [] = simp append_assoc in
+    filled_read c K m (Select (before_choices ps (Last a e))) _ g.0.0
+    (omega (arith, choices_nesting-before ps (Last a e), g.0.2, g.0.5, g.1))
+    (omega (arith, choices_width-before ps (Last a e), g.0.3, g.0.6, g.2))
+    (omega (arith, choices_misfits-before ps (Last a e), g.0.4, g.0.7, g.3))
+    (ap (λ (zs : List Symbol). before c ++ Applied callee.Select ∷ Mark Open ∷ zs) (choices_symbols-before ps (Last a e)) ∙ same ∙ ap (λ (zs : List Symbol). zs ++ Mark Close ∷ []) h.read)
 
 abbrev HeldL : Kind → Limits → Operand → Tails → Outer → Sign → (Limits → Next) → Type 0
 HeldL K m x r o s at = HeldLong K m (HasRead K m (Held x r o)) at (Mark s)
@@ -184,7 +262,14 @@ other_facts : (K : Kind) (m : Limits) (x : Operand) (r : Tails) (o : Outer) (s :
     Facts K m (HasRead K m (Held x r o)) (HeldL K m x r o s (λ l. hold_other l (Chain x r) o s)) (λ l. hold_other l (Chain x r) o s) (Mark s) (hold_other m (Chain x r) o s)
 other_facts K m x r Alone Close = λ l i. refl
 other_facts K m x r (InGroup c) Close = (group_closed K m c x r, λ l i. refl)
-other_facts K m x r (InList scope word es p) Close = (list_closed K m scope word es p x r, λ l i. refl)
+other_facts K m x r (InList u es) Close = close_as K m u es x r (HeldL K m x r (InList u es) Close (λ l. close (Chain x r) (InList u es))) (nat_le (least_of u) (count es + 1)) refl
+other_facts K m x r (InCondition ps c) Close = λ l i. refl
+other_facts K m x r (InChoice ps a c) Close = (choice_closed K m ps a c x r, λ l i. refl)
+other_facts K m x r Alone Colon = λ l i. refl
+other_facts K m x r (InGroup c) Colon = λ l i. refl
+other_facts K m x r (InList u es) Colon = λ l i. refl
+other_facts K m x r (InCondition ps c) Colon = (colon_read K m ps c x r, λ l i. refl)
+other_facts K m x r (InChoice ps a c) Colon = λ l i. refl
 other_facts K m x r o Comma = comma_facts K m x r o
 other_facts K m x r o s = λ l i. refl
 
@@ -207,6 +292,7 @@ pub held_facts : (K : Kind) (m : Limits) (x : Operand) (r : Tails) (o : Outer) (
 held_facts K m x r o (Mark s) = joined_facts K m x r o s (binary_of s) refl
 held_facts K m x r o (Constant value) = λ l i. refl
 held_facts K m x r o (Name word) = λ l i. refl
+held_facts K m x r o (Applied f) = λ l i. refl
 held_facts K m x r o Overlong = λ l i. refl
 held_facts K m x r o Other = λ l i. refl
 
@@ -247,18 +333,24 @@ filled_outer x (Under op c) = filled_outer (Unary op x) c
 
 pub constant_read : (K : Kind) (m : Limits) (c : Within) (value : List ℕ) (ks : List Symbol) → HasRead K m (Wanted c) ks → HasRead K m (filled (Literal value) c) (ks ++ Constant value ∷ [])
 constant_read K m c value ks h =
-    filled_read c K m (Literal value) _ h.good (omega (arith, good_depth K m c h.good)) (omega arith) (ap (λ (zs : List Symbol). zs ++ Constant value ∷ []) h.read)
+    filled_read c K m (Literal value) _ h.good (omega (arith, good_depth K m c h.good)) (omega arith) refl (ap (λ (zs : List Symbol). zs ++ Constant value ∷ []) h.read)
 
 -- a full list stays full, and one with room keeps it
 pub full_same : (m l : Limits) (o : Outer) → l.width ≡ m.width → is_full l o ≡ is_full m o
 full_same m l Alone e = refl
 full_same m l (InGroup c) e = refl
-full_same m l (InList scope word es p) e = ap (λ (w : ℕ). not (nat_lt (count es + 1) w)) e
+full_same m l (InList (Subscripts scope word p) es) e = ap (λ (w : ℕ). not (nat_lt (count es + 1) w)) e
+full_same m l (InList (Arguments f c) es) e = refl
+full_same m l (InCondition ps c) e = refl
+full_same m l (InChoice ps a c) e = refl
 
 pub room_stays : (m l : Limits) (o : Outer) → is_full m o ≡ false → IsMore m l → is_full l o ≡ false
 room_stays m l Alone e i = refl
 room_stays m l (InGroup c) e i = refl
-room_stays m l (InList scope word es p) e i = room_as (count es + 1) m.width l.width (nat_lt (count es + 1) m.width) refl e i.width
+room_stays m l (InCondition ps c) e i = refl
+room_stays m l (InChoice ps a c) e i = refl
+room_stays m l (InList (Arguments f c) es) e i = refl
+room_stays m l (InList (Subscripts scope word p) es) e i = room_as (count es + 1) m.width l.width (nat_lt (count es + 1) m.width) refl e i.width
   where
     room_as : (n w v : ℕ) (b : Bool) → nat_lt n w ≡ b → not (nat_lt n w) ≡ false → w ≤ v → not (nat_lt n v) ≡ false
     room_as n w v true e f i = let h : n < w = grind (arith, nat_tests) in ap not (less_true n v (omega arith))
@@ -271,15 +363,40 @@ room_stays m l (InList scope word es p) e i = room_as (count es + 1) m.width l.w
 pub full_comma : (l : Limits) (y : List Symbol) (x : Operand) (r : Tails) (o : Outer) → is_full l o ≡ true → run l (Mark Comma ∷ y) (Held x r o) ≡ TooLong
 full_comma l y x r Alone e = absurd (let h : false ≡ true = e in cc)
 full_comma l y x r (InGroup c) e = absurd (let h : false ≡ true = e in cc)
-full_comma l y x r (InList scope word es p) e = full_as (nat_lt (count es + 1) l.width) refl
+full_comma l y x r (InCondition ps c) e = absurd (let h : false ≡ true = e in cc)
+full_comma l y x r (InChoice ps a c) e = absurd (let h : false ≡ true = e in cc)
+full_comma l y x r (InList (Arguments f c) es) e = absurd (let h : false ≡ true = e in cc)
+full_comma l y x r (InList (Subscripts scope word p) es) e = full_as (nat_lt (count es + 1) l.width) refl
   where
-    full_as : (b : Bool) → nat_lt (count es + 1) l.width ≡ b → run l (Mark Comma ∷ y) (Held x r (InList scope word es p)) ≡ TooLong
+    full_as : (b : Bool) → nat_lt (count es + 1) l.width ≡ b → run l (Mark Comma ∷ y) (Held x r (InList (Subscripts scope word p) es)) ≡ TooLong
     full_as true f = absurd (let h : not (nat_lt (count es + 1) l.width) ≡ true = e in let g : not true ≡ true = sym (ap not f) ∙ h in let z : false ≡ true = g in cc)
-    full_as false f = ap (λ (b : Bool). turn l y (Held x r (InList scope word es p)) (Mark Comma) (cond b (Go (Wanted (Front (InList scope word (and_more es (Chain x r)) p)))) Long)) f
+    full_as false f = ap (λ (b : Bool). turn l y (Held x r (InList (Subscripts scope word p) es)) (Mark Comma) (cond b (Go (Wanted (Front (InList (Subscripts scope word p) (and_more es (Chain x r)))))) Long)) f
 
 -- with one more subscript, where the list is full
 pub full_opened : (K : Kind) (m : Limits) (x : Operand) (r : Tails) (o : Outer) → is_full m o ≡ true → (s : State) × ((ks : List Symbol) → HasRead K m (Held x r o) ks → HasRead K (wider m) s (ks ++ Mark Comma ∷ []))
 full_opened K m x r Alone e = absurd (let h : false ≡ true = e in cc)
 full_opened K m x r (InGroup c) e = absurd (let h : false ≡ true = e in cc)
-full_opened K m x r (InList scope word es p) e =
-    (Wanted (Front (InList scope word (and_more es (Chain x r)) p)), λ ks h. comma_read K m (wider m) scope word es p x r ks (more_wider m) (omega (arith, h.good.0.4)) h)
+full_opened K m x r (InCondition ps c) e = absurd (let h : false ≡ true = e in cc)
+full_opened K m x r (InChoice ps a c) e = absurd (let h : false ≡ true = e in cc)
+full_opened K m x r (InList (Arguments f c) es) e = absurd (let h : false ≡ true = e in cc)
+full_opened K m x r (InList (Subscripts scope word p) es) e =
+    (Wanted (Front (InList (Subscripts scope word p) (and_more es (Chain x r)))), λ ks h. comma_read K m (wider m) (Subscripts scope word p) es x r ks (more_wider m) (omega (arith, h.good.0.4)) h)
+
+-- where an operand is wanted, and none begins
+pub none_refuses : (m l : Limits) (c : Within) (k : Symbol) (ks : List Symbol) (full : Bool) → l.width ≡ m.width → is_full l (outer_of c) ≡ full → BeginsNone k → run m (k ∷ ks) (Wanted c) ≡ refused_in full (k ∷ ks)
+none_refuses m l c (Constant v) ks full w e h = absurd h
+none_refuses m l c (Name v) ks full w e h = absurd h
+none_refuses m l c (Applied v) ks full w e h = absurd h
+none_refuses m l c Overlong ks full w e h = refl
+none_refuses m l c Other ks full w e h = refl
+none_refuses m l c (Mark Caret) ks full w e h = absurd h
+none_refuses m l c (Mark Open) ks full w e h = absurd h
+none_refuses m l c (Mark Comma) ks full w e h = ap (λ (b : Bool). turn m ks (Wanted c) (Mark Comma) (cond b Long Stuck)) (sym (full_same m l (outer_of c) w) ∙ e) ∙ stray_as full
+  where
+    stray_as : (b : Bool) → turn m ks (Wanted c) (Mark Comma) (cond b Long Stuck) ≡ refused_in b (Mark Comma ∷ ks)
+    stray_as true = refl
+    stray_as false = refl
+none_refuses m l c (Mark Plus) ks full w e h = absurd (none_some _ (sym h))
+none_refuses m l c (Mark Minus) ks full w e h = absurd (none_some _ (sym h))
+none_refuses m l c (Mark Apostrophe) ks full w e h = absurd (none_some _ (sym h))
+none_refuses m l c (Mark s) ks full w e h = refl

@@ -1,13 +1,15 @@
 -- The trees that the program makes, without where they lie in memory.
-use Rattle.std.proofs.Common.{◌≡◌, ℕ, List, [], ◌∷◌, ◌++◌, length, refl, ap, ◌∙◌, Vec, Global, arith}
+use Rattle.std.proofs.Common.{◌≡◌, ℕ, List, [], ◌∷◌, ◌++◌, length, refl, ap, ◌∙◌, Vec, Box, Global, Some, arith}
 use mathlib.Core.Former.{Count}
 use Rattle.mj_ast.specs.declared.expr.Scope.{Scope}
 use Rattle.mj_ast.specs.declared.expr.Expr as expr
 use Rattle.mj_ast.specs.declared.expr.Tail.{Tail}
 use Rattle.mj_ast.specs.declared.expr.Operand as operand
 use Rattle.mj_ast.specs.declared.expr.Variable as variable
-use Rattle.mj_ast.specs.Syntax.{Chain, Tails, Then, Var, Exprs, More}
-use Rattle.mj_ast.specs.Trees.{operand_of, expr_of, variable_of, tail_row, expr_row, tails_of, exprs_of}
+use Rattle.mj_ast.specs.declared.expr.Choice as choice
+use Rattle.mj_ast.specs.declared.function.Function.{Function}
+use Rattle.mj_ast.specs.Syntax.{Chain, Tails, Then, Call, Var, Exprs, More, Before}
+use Rattle.mj_ast.specs.Trees.{operand_of, expr_of, variable_of, choice_of, tail_row, expr_row, tails_of, exprs_of}
 use Rattle.mj_ast.specs.Expressions.{count}
 use Rattle.mj_expr.specs.Machine.{and_then, and_more}
 
@@ -30,14 +32,23 @@ pub expr_made : (first : operand.Operand) (rest : Vec Tail Global) → expr_of (
 unfolding expr.roll-Expr denote.Hole.Carrier.roll
 expr_made first rest =
     let row = tails_in (expr.roll-Expr (record { first = first; rest = rest })) in
-    ap (λ (ts : Tails). Chain (operand_of first) ts) (tail_row_items row.0 row.1 ∙ ap tails_of (expr.items_hidden-the_row-Tail-0 rest))
+    ap (λ (ts : Tails). Chain (operand_of first) ts) (tail_row_items row.0 row.1 ∙ ap tails_of (expr.items_hidden-the_row-Tail-1 rest))
 
 -- a variable of its parts
 pub variable_made : (scope : Scope) (word : List ℕ) (es : Vec expr.Expr Global) → variable_of (variable.roll-Variable (record { scope = scope; word = word; subscripts = es })) ≡ Var scope word (exprs_of es.items)
 unfolding variable.roll-Variable denote.Hole.Carrier.roll
 variable_made scope word es =
     let row = list_in (variable.roll-Variable (record { scope = scope; word = word; subscripts = es })) in
-    ap (λ (xs : Exprs). Var scope word xs) (expr_row_items row.0 row.1 ∙ ap exprs_of (variable.items_hidden-the_row-Expr-1 es))
+    ap (λ (xs : Exprs). Var scope word xs) (expr_row_items row.0 row.1 ∙ ap exprs_of (variable.items_hidden-the_row-Expr-0 es))
+
+-- a call of its parts
+pub call_made : (f : Function) (es : Vec expr.Expr Global) → Call f (expr_row (operand.TheBlock.hidden-the_row-Expr-0 es)) ≡ Call f (exprs_of es.items)
+call_made f es = ap (Call f) (expr_row_items _ (operand.TheBlock.hidden-the_row-Expr-0 es) ∙ ap exprs_of (variable.items_hidden-the_row-Expr-0 es))
+
+-- a choice before others
+pub choice_made : (a e : expr.Expr) (others : Box choice.Choice Global) → choice_of (choice.roll-Choice (record { condition = a; value = e; others = Some others })) ≡ Before (expr_of a) (expr_of e) (choice_of others.value)
+unfolding choice.roll-Choice denote.Hole.Carrier.roll
+choice_made a e others = refl
 
 -- another at the end
 pub tails_push : (ts : List Tail) (t : Tail) → tails_of (ts ++ t ∷ []) ≡ and_then (tails_of ts) t.op (operand_of t.operand)

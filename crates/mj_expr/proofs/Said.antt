@@ -1,5 +1,5 @@
 -- What a run says of the tokens, in the grammar's words.
-use Rattle.std.proofs.Common.{◌≡◌, ℕ, ◌-◌, ◌≤◌, ◌<◌, max, List, [], ◌∷◌, ◌++◌, length, take, drop, refl, ap, sym, ◌∙◌, subst, append_assoc, append-nil, arith, map, ◌⊎◌, inl, inr, nat_le, Bool, true, false, length-append}
+use Rattle.std.proofs.Common.{◌≡◌, ℕ, ◌-◌, ◌≤◌, ◌<◌, max, List, [], ◌∷◌, ◌++◌, length, take, drop, refl, ap, sym, ◌∙◌, subst, append_assoc, append-nil, arith, map, ◌⊎◌, inl, inr, nat_le, Option, Some, None, Bool, true, false, length-append}
 use Rattle.std.specs.Prelude.{cond, Result, Ok, Err, ℤ}
 use Rattle.std.proofs.Math.Seq.{drop-append_seam, take-length}
 use Rattle.std.specs.Result.{IfErr, IsErrAnd}
@@ -10,16 +10,17 @@ use Rattle.mj_text.specs.declared.fault.Fault.{Fault}
 use Rattle.mj_ast.specs.declared.sign.Sign.{Sign}
 use Rattle.mj_ast.specs.declared.sign.Sign.TheVariants.{Comma}
 use Rattle.mj_ast.specs.Syntax.{Chain, Var, No}
-use Rattle.mj_ast.specs.Tokens.{Token, Word, Digits, Quoted, Signed, Blank, Comment, Unclosed, Stray}
-use Rattle.mj_ast.specs.Expressions.{Symbol, Constant, Name, Overlong, Mark, Other, symbol, constant_of, text_limit, width_limit, Phrases, Spells, Begins, BeginsWithin}
-use Rattle.mj_expr.specs.Machine.{Alone, InGroup, InList, State, Wanted, Sought, Marked, Named, Held, Got, placed, Limits, Stuck, Phrase, Whole, Target, Outcome, Accept, StuckAt, DeepAt, TooLong, refused, ends, finish, step, run, turn}
-use Rattle.mj_expr.specs.Phrases.{IsRead, IsStuck, IsDeep, IsOverlong, IsLong, IsRefused}
+use Rattle.mj_ast.specs.Tokens.{Token, Word, Called, Special, Digits, Quoted, Signed, Blank, Comment, Unclosed, Stray}
+use Rattle.mj_ast.specs.declared.function.Callee.{Callee}
+use Rattle.mj_ast.specs.Expressions.{Symbol, Constant, Name, Applied, Overlong, Mark, Other, symbol, constant_of, function_symbol, callee_of, text_limit, width_limit, Phrases, Spells, Begins, BeginsWithin}
+use Rattle.mj_expr.specs.Machine.{Alone, InGroup, InList, InCondition, InChoice, State, Wanted, Sought, Marked, Named, Calling, Held, Got, placed, Limits, Stuck, Phrase, Whole, Target, Outcome, Accept, StuckAt, DeepAt, TooLong, refused, ends, finish, step, run, turn}
+use Rattle.mj_expr.specs.Phrases.{IsRead, IsShort, IsStuck, IsDeep, IsOverlong, IsLong, IsRefused}
 use Rattle.mj_expr.specs.Reads.{limits, symbols_seen, Refuses}
 use Rattle.mj_expr.specs.declared.stop.Stop.{Stop}
 use Rattle.mj_expr.specs.declared.stop.Stop.TheVariants as stop
 use Rattle.mj_lex.specs.Seen.{token_seen, tokens_seen}
 use Rattle.mj_lex.specs.declared.token.Lexeme.{Lexeme}
-use Rattle.mj_expr.proofs.Zipper.{Kind, AnExpression, AVariable, HasRead, phrase_symbols, phrase_nesting, phrase_width, start}
+use Rattle.mj_expr.proofs.Zipper.{Kind, AnExpression, AVariable, HasRead, phrase_symbols, phrase_nesting, phrase_width, phrase_misfits, start}
 use Rattle.mj_expr.proofs.Complete.{Ceases, complete_phrase}
 use Rattle.mj_expr.proofs.Facts.{IsMore, deeper, wider}
 use Rattle.mj_expr.proofs.Ends.{Stops, Halts, EndsDeep, EndsLong, EndsAs, run_ends}
@@ -36,6 +37,7 @@ refused_stuck [] n e = cc
 refused_stuck (Overlong ∷ ks) n e = absurd (let f : TooLong ≡ StuckAt n = e in cc)
 refused_stuck (Constant v ∷ ks) n e = cc
 refused_stuck (Name w ∷ ks) n e = cc
+refused_stuck (Applied f ∷ ks) n e = cc
 refused_stuck (Mark s ∷ ks) n e = cc
 refused_stuck (Other ∷ ks) n e = cc
 
@@ -46,7 +48,10 @@ ends_stuck (Marked p) ks n e = refused_stuck ks n e
 ends_stuck (Named scope word p) ks n e = refused_stuck ks n e
 ends_stuck (Held x r Alone) ks n e = absurd (let f : Accept (Whole (Chain x r)) ks ≡ StuckAt n = e in cc)
 ends_stuck (Held x r (InGroup c)) ks n e = refused_stuck ks n e
-ends_stuck (Held x r (InList scope word es p)) ks n e = refused_stuck ks n e
+ends_stuck (Held x r (InList u es)) ks n e = refused_stuck ks n e
+ends_stuck (Held x r (InCondition ps c)) ks n e = refused_stuck ks n e
+ends_stuck (Held x r (InChoice ps a c)) ks n e = refused_stuck ks n e
+ends_stuck (Calling f c) ks n e = refused_stuck ks n e
 ends_stuck (Got v) ks n e = absurd (let f : Accept (Target v) ks ≡ StuckAt n = e in cc)
 
 pub finish_stuck : (s : State) (ks : List Symbol) (n : ℕ) → finish s ks ≡ StuckAt n → length ks ≡ n
@@ -54,6 +59,7 @@ finish_stuck (Wanted c) ks n e = refused_stuck ks n e
 finish_stuck (Sought p) ks n e = refused_stuck ks n e
 finish_stuck (Marked p) ks n e = refused_stuck ks n e
 finish_stuck (Named scope word p) ks n e = ends_stuck (placed (Var scope word No) p) ks n e
+finish_stuck (Calling f c) ks n e = refused_stuck ks n e
 finish_stuck (Held x r o) ks n e = ends_stuck (Held x r o) ks n e
 finish_stuck (Got v) ks n e = ends_stuck (Got v) ks n e
 
@@ -62,6 +68,7 @@ refused_long [] e = absurd (let f : StuckAt 0 ≡ TooLong = e in cc)
 refused_long (Overlong ∷ ks) e = (ks, refl)
 refused_long (Constant v ∷ ks) e = absurd (let f : StuckAt (length (Constant v ∷ ks)) ≡ TooLong = e in cc)
 refused_long (Name w ∷ ks) e = absurd (let f : StuckAt (length (Name w ∷ ks)) ≡ TooLong = e in cc)
+refused_long (Applied g ∷ ks) e = absurd (let f : StuckAt (length (Applied g ∷ ks)) ≡ TooLong = e in cc)
 refused_long (Mark s ∷ ks) e = absurd (let f : StuckAt (length (Mark s ∷ ks)) ≡ TooLong = e in cc)
 refused_long (Other ∷ ks) e = absurd (let f : StuckAt (length (Other ∷ ks)) ≡ TooLong = e in cc)
 
@@ -72,7 +79,10 @@ ends_long (Marked p) ks e = refused_long ks e
 ends_long (Named scope word p) ks e = refused_long ks e
 ends_long (Held x r Alone) ks e = absurd (let f : Accept (Whole (Chain x r)) ks ≡ TooLong = e in cc)
 ends_long (Held x r (InGroup c)) ks e = refused_long ks e
-ends_long (Held x r (InList scope word es p)) ks e = refused_long ks e
+ends_long (Held x r (InList u es)) ks e = refused_long ks e
+ends_long (Held x r (InCondition ps c)) ks e = refused_long ks e
+ends_long (Held x r (InChoice ps a c)) ks e = refused_long ks e
+ends_long (Calling f c) ks e = refused_long ks e
 ends_long (Got v) ks e = absurd (let f : Accept (Target v) ks ≡ TooLong = e in cc)
 
 pub finish_long : (s : State) (ks : List Symbol) → finish s ks ≡ TooLong → (y : List Symbol) × (ks ≡ Overlong ∷ y)
@@ -80,6 +90,7 @@ finish_long (Wanted c) ks e = refused_long ks e
 finish_long (Sought p) ks e = refused_long ks e
 finish_long (Marked p) ks e = refused_long ks e
 finish_long (Named scope word p) ks e = ends_long (placed (Var scope word No) p) ks e
+finish_long (Calling f c) ks e = refused_long ks e
 finish_long (Held x r o) ks e = ends_long (Held x r o) ks e
 finish_long (Got v) ks e = ends_long (Got v) ks e
 
@@ -93,7 +104,10 @@ overlong_ends (Marked p) ks n e = overlong_refused ks n e
 overlong_ends (Named scope word p) ks n e = overlong_refused ks n e
 overlong_ends (Held x r Alone) ks n e = let f : Accept (Whole (Chain x r)) (Overlong ∷ ks) ≡ StuckAt n = e in cc
 overlong_ends (Held x r (InGroup c)) ks n e = overlong_refused ks n e
-overlong_ends (Held x r (InList scope word es p)) ks n e = overlong_refused ks n e
+overlong_ends (Held x r (InList u es)) ks n e = overlong_refused ks n e
+overlong_ends (Held x r (InCondition ps c)) ks n e = overlong_refused ks n e
+overlong_ends (Held x r (InChoice ps a c)) ks n e = overlong_refused ks n e
+overlong_ends (Calling f c) ks n e = overlong_refused ks n e
 overlong_ends (Got v) ks n e = let f : Accept (Target v) (Overlong ∷ ks) ≡ StuckAt n = e in cc
 
 pub overlong_finish : (s : State) (ks : List Symbol) (n : ℕ) → finish s (Overlong ∷ ks) ≡ StuckAt n → ⊥
@@ -101,13 +115,26 @@ overlong_finish (Wanted c) ks n e = overlong_refused ks n e
 overlong_finish (Sought p) ks n e = overlong_refused ks n e
 overlong_finish (Marked p) ks n e = overlong_refused ks n e
 overlong_finish (Named scope word p) ks n e = overlong_ends (placed (Var scope word No) p) ks n e
+overlong_finish (Calling f c) ks n e = overlong_refused ks n e
 overlong_finish (Held x r o) ks n e = overlong_ends (Held x r o) ks n e
 overlong_finish (Got v) ks n e = overlong_ends (Got v) ks n e
 
--- a state that is stuck at a word is stuck at a name
-stuck_short : (s : State) (word : List ℕ) (ks : List Symbol) (n : ℕ) (b : Bool) → nat_le (length word) 31 ≡ b → finish s (cond b (Name word) Overlong ∷ ks) ≡ StuckAt n → length word ≤ 31
-stuck_short s word ks n true e f = grind (arith, nat_tests)
-stuck_short s word ks n false e f = absurd (overlong_finish s ks n f)
+-- a state that is stuck at a word is stuck at one within its limit
+short_as : (s : State) (word : List ℕ) (k : Symbol) (ks : List Symbol) (n : ℕ) (b : Bool) → nat_le (length word) 31 ≡ b → finish s (cond b k Overlong ∷ ks) ≡ StuckAt n → length word ≤ 31
+short_as s word k ks n true e f = grind (arith, nat_tests)
+short_as s word k ks n false e f = absurd (overlong_finish s ks n f)
+
+stuck_short : (s : State) (k : Token) (ks : List Symbol) (n : ℕ) → finish s (symbol k ∷ ks) ≡ StuckAt n → IsShort k
+stuck_short s (Word w) ks n e = short_as s w (Name w) ks n (nat_le (length w) 31) refl e
+stuck_short s (Called w) ks n e = short_as s w (function_symbol (callee_of w)) ks n (nat_le (length w) 31) refl e
+stuck_short s (Special w) ks n e = short_as s w Other ks n (nat_le (length w) 31) refl e
+stuck_short s (Digits ds) ks n e = tt
+stuck_short s (Quoted v) ks n e = tt
+stuck_short s (Signed t) ks n e = tt
+stuck_short s Blank ks n e = tt
+stuck_short s (Comment t) ks n e = tt
+stuck_short s (Unclosed t) ks n e = tt
+stuck_short s (Stray b) ks n e = tt
 
 -- ---- tokens by their symbols
 
@@ -138,26 +165,39 @@ choice_mark : (b : Bool) (v : List ℕ) (s : Sign) → cond b (Constant v) Other
 choice_mark true v s e = cc
 choice_mark false v s e = cc
 
-word_mark : (b : Bool) (w : List ℕ) (s : Sign) → cond b (Name w) Overlong ≡ Mark s → ⊥
-word_mark true w s e = cc
-word_mark false w s e = cc
+-- a word within its limit is no sign, and one past it is too long
+word_mark : (b : Bool) (k : Symbol) (s : Sign) → (k ≡ Mark s → ⊥) → cond b k Overlong ≡ Mark s → ⊥
+word_mark true k s f e = f e
+word_mark false k s f e = let g : Overlong ≡ Mark s = e in cc
 
-word_long : (w : List ℕ) (b : Bool) → nat_le (length w) 31 ≡ b → cond b (Name w) Overlong ≡ Overlong → 31 < length w
-word_long w true f e = absurd (let g : Name w ≡ Overlong = e in cc)
-word_long w false f e = grind (arith, nat_tests)
+function_mark : (f : Option Callee) (s : Sign) → function_symbol f ≡ Mark s → ⊥
+function_mark None s e = cc
+function_mark (Some f) s e = cc
 
-pub overlong_word : (k : Token) → symbol k ≡ Overlong → (w : List ℕ) × (k ≡ Word w) × (31 < length w)
-overlong_word (Word w) e = (w, refl, word_long w (nat_le (length w) 31) refl e)
-overlong_word (Digits ds) e = absurd (constant_overlong (reading ds) e)
-overlong_word (Quoted v) e = absurd (choice_overlong (nat_le (length v) text_limit) v e)
-overlong_word (Signed s) e = absurd (let f : Mark s ≡ Overlong = e in cc)
-overlong_word Blank e = absurd (let f : Other ≡ Overlong = e in cc)
-overlong_word (Comment t) e = absurd (let f : Other ≡ Overlong = e in cc)
-overlong_word (Unclosed t) e = absurd (let f : Other ≡ Overlong = e in cc)
-overlong_word (Stray b) e = absurd (let f : Other ≡ Overlong = e in cc)
+function_overlong : (f : Option Callee) → function_symbol f ≡ Overlong → ⊥
+function_overlong None e = cc
+function_overlong (Some f) e = cc
+
+name_mark : (w : List ℕ) (s : Sign) → Name w ≡ Mark s → ⊥
+name_mark w s e = cc
+
+name_overlong : (w : List ℕ) → Name w ≡ Overlong → ⊥
+name_overlong w e = cc
+
+other_mark : (s : Sign) → Other ≡ Mark s → ⊥
+other_mark s e = cc
+
+other_overlong : Other ≡ Overlong → ⊥
+other_overlong e = cc
+
+word_long : (w : List ℕ) (k : Symbol) (b : Bool) → nat_le (length w) 31 ≡ b → (k ≡ Overlong → ⊥) → cond b k Overlong ≡ Overlong → 31 < length w
+word_long w k true f g e = absurd (g e)
+word_long w k false f g e = grind (arith, nat_tests)
 
 pub comma_token : (k : Token) → symbol k ≡ Mark Comma → k ≡ Signed Comma
-comma_token (Word w) e = absurd (word_mark (nat_le (length w) 31) w Comma e)
+comma_token (Word w) e = absurd (word_mark (nat_le (length w) 31) (Name w) Comma (name_mark w Comma) e)
+comma_token (Called w) e = absurd (word_mark (nat_le (length w) 31) (function_symbol (callee_of w)) Comma (function_mark (callee_of w) Comma) e)
+comma_token (Special w) e = absurd (word_mark (nat_le (length w) 31) Other Comma (other_mark Comma) e)
 comma_token (Digits ds) e = absurd (constant_mark (reading ds) Comma e)
 comma_token (Quoted v) e = absurd (choice_mark (nat_le (length v) text_limit) v Comma e)
 comma_token (Signed s) e = let f : Mark s ≡ Mark Comma = e in let g : s ≡ Comma = cc in ap Signed g
@@ -172,13 +212,32 @@ drop_back front back ks n e f =
     let at : length (front ++ back) - n ≡ length front = omega (arith, length-append front back, f) in
     subst P (sym e) (ap (λ (i : ℕ). drop i (front ++ back)) at ∙ drop-append_seam front back)
 
+-- the word of a token is over its limit
+abbrev pub Over : Token → Type 0
+Over (Word w) = 31 < length w
+Over (Called w) = 31 < length w
+Over (Special w) = 31 < length w
+Over _ = ⊥
+
+pub overlong_word : (k : Token) → symbol k ≡ Overlong → Over k
+overlong_word (Word w) e = word_long w (Name w) (nat_le (length w) 31) refl (name_overlong w) e
+overlong_word (Called w) e = word_long w (function_symbol (callee_of w)) (nat_le (length w) 31) refl (function_overlong (callee_of w)) e
+overlong_word (Special w) e = word_long w Other (nat_le (length w) 31) refl other_overlong e
+overlong_word (Digits ds) e = absurd (constant_overlong (reading ds) e)
+overlong_word (Quoted v) e = absurd (choice_overlong (nat_le (length v) text_limit) v e)
+overlong_word (Signed s) e = absurd (let f : Mark s ≡ Overlong = e in cc)
+overlong_word Blank e = absurd (other_overlong e)
+overlong_word (Comment t) e = absurd (other_overlong e)
+overlong_word (Unclosed t) e = absurd (other_overlong e)
+overlong_word (Stray b) e = absurd (other_overlong e)
+
 -- ---- phrases of one kind
 
 module _ {T : Type 0} (K : Kind) (P : Phrases T) (W : Wraps K P) where
-  accepted : (l : Limits) (zs : List Symbol) (t : T) → zs ≡ P.symbols t → P.nesting t ≤ l.depth → P.width t ≤ l.width → run l zs (start K) ≡ Accept (W.wrap t) []
-  accepted l zs t e n w =
+  accepted : (l : Limits) (zs : List Symbol) (t : T) → zs ≡ P.symbols t → P.nesting t ≤ l.depth → P.width t ≤ l.width → P.misfits t ≡ 0 → run l zs (start K) ≡ Accept (W.wrap t) []
+  accepted l zs t e n w f =
       ap (λ (v : List Symbol). run l v (start K)) (e ∙ sym (W.symbols t) ∙ sym (append-nil (phrase_symbols (W.wrap t))))
-      ∙ complete_phrase K (W.wrap t) l [] (record { kind = W.kind t; nests = omega (arith, W.nesting t, n); lists = omega (arith, W.width t, w) }) (ceases_none K)
+      ∙ complete_phrase K (W.wrap t) l [] (record { kind = W.kind t; nests = omega (arith, W.nesting t, n); lists = omega (arith, W.width t, w); formed = W.misfits t ∙ f }) (ceases_none K)
 
   begun : (m : Limits) (front : List Token) (s : State) (xs : List Symbol) → map symbol front ≡ xs → HasRead K m s xs → BeginsWithin P m.depth m.width front
   begun m front s xs e h =
@@ -187,7 +246,10 @@ module _ {T : Type 0} (K : Kind) (P : Phrases T) (W : Wraps K P) where
       record {
         rest = g.more;
         tree = u.0;
-        spells = map-append symbol front g.more ∙ ap (λ (v : List Symbol). v ++ map symbol g.more) e ∙ g.spelled ∙ ap phrase_symbols (sym u.1) ∙ W.symbols u.0;
+        spells = (
+          map-append symbol front g.more ∙ ap (λ (v : List Symbol). v ++ map symbol g.more) e ∙ g.spelled ∙ ap phrase_symbols (sym u.1) ∙ W.symbols u.0,
+          sym (W.misfits u.0) ∙ ap phrase_misfits u.1 ∙ g.fits.formed,
+        );
         within = record { nests = omega (arith, g.fits.nests, ap phrase_nesting u.1, W.nesting u.0); lists = omega (arith, g.fits.lists, ap phrase_width u.1, W.width u.0) };
       }
 
@@ -210,7 +272,7 @@ module _ {T : Type 0} (K : Kind) (P : Phrases T) (W : Wraps K P) where
   halts_none m ks o h front k y e f b =
       let l = bigger m b.tree in
       let rest = map symbol b.rest in
-      let whole : run l (h.front ++ symbol k ∷ rest) (start K) ≡ Accept (W.wrap b.tree) [] = accepted l (h.front ++ symbol k ∷ rest) b.tree (sym (spelled_at front k b.rest h.front e) ∙ b.spells) (omega arith) (omega arith) in
+      let whole : run l (h.front ++ symbol k ∷ rest) (start K) ≡ Accept (W.wrap b.tree) [] = accepted l (h.front ++ symbol k ∷ rest) b.tree (sym (spelled_at front k b.rest h.front e) ∙ b.spells.0) (omega arith) (omega arith) b.spells.1 in
       let there : run l (h.front ++ symbol k ∷ rest) (start K) ≡ finish h.end (symbol k ∷ rest) =
       h.along.runs l (symbol k ∷ rest) (more_bigger m b.tree) ∙ ap (turn l rest h.end (symbol k)) (stops_at m h.back h.end (symbol k) y f h.stops l (more_bigger m b.tree)) in
       let a = accepts K m h.end (symbol k ∷ rest) (W.wrap b.tree) [] h.front (h.along.reads [] (start_read K m)) (sym there ∙ whole) in
@@ -220,7 +282,7 @@ module _ {T : Type 0} (K : Kind) (P : Phrases T) (W : Wraps K P) where
   halts_whole : (m : Limits) (ks : List Symbol) (o : Outcome) (h : Halts K m (start K) ks o) (front : List Token) → map symbol front ≡ h.front → ((p : Phrase) (r : List Symbol) → Accept p r ≡ o → ⊥) → (t : T) → Spells P front t → ⊥
   halts_whole m ks o h front e never t s =
       let l = bigger m t in
-      let whole : run l (h.front ++ []) (start K) ≡ Accept (W.wrap t) [] = accepted l (h.front ++ []) t (append-nil h.front ∙ sym e ∙ s) (omega arith) (omega arith) in
+      let whole : run l (h.front ++ []) (start K) ≡ Accept (W.wrap t) [] = accepted l (h.front ++ []) t (append-nil h.front ∙ sym e ∙ s.0) (omega arith) (omega arith) s.1 in
       let there : run l (h.front ++ []) (start K) ≡ finish h.end [] = h.along.runs l [] (more_bigger m t) in
       let a = accepts K m h.end [] (W.wrap t) [] h.front (h.along.reads [] (start_read K m)) (sym there ∙ whole) in
       never (W.wrap t) h.back (sym (a.again h.back) ∙ h.gives)
@@ -228,7 +290,7 @@ module _ {T : Type 0} (K : Kind) (P : Phrases T) (W : Wraps K P) where
   same_tree : (ks : List Token) (t u : T) → Spells P ks t → Spells P ks u → u ≡ t
   same_tree ks t u e f =
       let l : Limits = record { depth = max (P.nesting t) (P.nesting u); width = max (P.width t) (P.width u) } in
-      W.once u t (accept_phrase (W.wrap u) (W.wrap t) [] [] (sym (accepted l (map symbol ks) u f (omega arith) (omega arith)) ∙ accepted l (map symbol ks) t e (omega arith) (omega arith)))
+      W.once u t (accept_phrase (W.wrap u) (W.wrap t) [] [] (sym (accepted l (map symbol ks) u f.0 (omega arith) (omega arith) f.1) ∙ accepted l (map symbol ks) t e.0 (omega arith) (omega arith) e.1))
 
   -- READ
   pub said_read : (d : ℕ) (ks : List Token) (t : T) (r : List Symbol) → run (limits d) (map symbol ks) (start K) ≡ Accept (W.wrap t) r → IsRead P d ks t (drop (length ks - length r) ks)
@@ -237,7 +299,7 @@ module _ {T : Type 0} (K : Kind) (P : Phrases T) (W : Wraps K P) where
       let h : Halts K (limits d) (start K) (map symbol ks) (Accept (W.wrap t) r) = subst Q e (run_ends (map symbol ks) K (limits d) (start K) (omega arith)) in
       let s = split h.front ks h.back h.cut in
       let a = accepts K (limits d) h.end h.back (W.wrap t) r h.front (h.along.reads [] (start_read K (limits d))) h.gives in
-      let spells : Spells P s.front t = s.first ∙ sym a.spelled ∙ W.symbols t in
+      let spells : Spells P s.front t = (s.first ∙ sym a.spelled ∙ W.symbols t, sym (W.misfits t) ∙ a.fits.formed) in
       let R : List Token → Type 0 = λ rest. IsRead P d ks t rest in
       subst R (sym (drop_back s.front s.back ks (length r) s.cut (sym (length-map s.back symbol) ∙ ap length (s.last ∙ a.rest))))
       (record {
@@ -263,7 +325,7 @@ module _ {T : Type 0} (K : Kind) (P : Phrases T) (W : Wraps K P) where
         before = begun (limits d) s.front h.end h.front s.first (h.along.reads [] (start_read K (limits d)));
         whole = halts_whole (limits d) (map symbol ks) (StuckAt n) h s.front s.first (λ p r f. cc);
         at = λ k more f b. halts_none (limits d) (map symbol ks) (StuckAt n) h s.front k (map symbol more) s.first (sym s.last ∙ ap (λ (v : List Token). map symbol v) f) b;
-        short = λ word more f. stuck_short h.end word (map symbol more) n (nat_le (length word) 31) refl (ap (λ (v : List Symbol). finish h.end v) (ap (λ (v : List Token). map symbol v) (sym f) ∙ s.last) ∙ h.gives);
+        short = λ k more f. stuck_short h.end k (map symbol more) n (ap (λ (v : List Symbol). finish h.end v) (ap (λ (v : List Token). map symbol v) (sym f) ∙ s.last) ∙ h.gives);
       }
 
   -- DEEP
@@ -285,7 +347,7 @@ module _ {T : Type 0} (K : Kind) (P : Phrases T) (W : Wraps K P) where
             (map-append symbol s.front (c.token ∷ []) ∙ ap (λ (v : List Symbol). v ++ symbol c.token ∷ []) s.first ∙ ap (λ (v : Symbol). h.front ++ v ∷ []) c.head) (h.opened h.front read);
         beyond = λ b.
             let rest = map symbol b.rest in
-            let whole : run (limits d) (h.front ++ symbol c.token ∷ rest) (start K) ≡ Accept (W.wrap b.tree) [] = accepted (limits d) (h.front ++ symbol c.token ∷ rest) b.tree (sym (spelled_at s.front c.token b.rest h.front s.first) ∙ b.spells) b.within.nests b.within.lists in
+            let whole : run (limits d) (h.front ++ symbol c.token ∷ rest) (start K) ≡ Accept (W.wrap b.tree) [] = accepted (limits d) (h.front ++ symbol c.token ∷ rest) b.tree (sym (spelled_at s.front c.token b.rest h.front s.first) ∙ b.spells.0) b.within.nests b.within.lists b.spells.1 in
             let there : run (limits d) (h.front ++ symbol c.token ∷ rest) (start K) ≡ DeepAt (length (symbol c.token ∷ rest)) =
             h.along.runs (limits d) (symbol c.token ∷ rest) (record { depth = omega arith; width = omega arith })
             ∙ ap (λ (v : Symbol). run (limits d) (v ∷ rest) h.end) c.head
@@ -295,25 +357,32 @@ module _ {T : Type 0} (K : Kind) (P : Phrases T) (W : Wraps K P) where
       }
 
   -- LONG
+  overlong_at : (front : List Token) (k : Token) → symbol k ≡ Overlong → ((t : T) → Spells P front t → ⊥) → (Begins P (front ++ k ∷ []) → ⊥) → IsOverlong P front k
+  overlong_at front (Word w) e g h = record { long = word_long w (Name w) (nat_le (length w) 31) refl (name_overlong w) e; whole = g; at = h }
+  overlong_at front (Called w) e g h = record { long = word_long w (function_symbol (callee_of w)) (nat_le (length w) 31) refl (function_overlong (callee_of w)) e; whole = g; at = h }
+  overlong_at front (Special w) e g h = record { long = word_long w Other (nat_le (length w) 31) refl other_overlong e; whole = g; at = h }
+  overlong_at front (Digits ds) e g h = absurd (constant_overlong (reading ds) e)
+  overlong_at front (Quoted v) e g h = absurd (choice_overlong (nat_le (length v) text_limit) v e)
+  overlong_at front (Signed s) e g h = absurd (let f : Mark s ≡ Overlong = e in cc)
+  overlong_at front Blank e g h = absurd (other_overlong e)
+  overlong_at front (Comment t) e g h = absurd (other_overlong e)
+  overlong_at front (Unclosed t) e g h = absurd (other_overlong e)
+  overlong_at front (Stray b) e g h = absurd (other_overlong e)
+
   long_word : (d : ℕ) (ks : List Token) → Halts K (limits d) (start K) (map symbol ks) TooLong → IsLong P d ks
   long_word d ks h =
       let s = split h.front ks h.back h.cut in
       let f = finish_long h.end h.back h.gives in
       let c = uncons s.back Overlong f.0 (s.last ∙ f.1) in
-      let w = overlong_word c.token c.head in
-      let O : Token → Type 0 = λ k. IsOverlong P s.front k in
-      let N : Token → Type 0 = λ k. Begins P (s.front ++ k ∷ []) → ⊥ in
       record {
         front = s.front;
         token = c.token;
         more = c.more;
         cut = s.cut ∙ ap (λ (v : List Token). s.front ++ v) c.is;
         before = begun (limits d) s.front h.end h.front s.first (h.along.reads [] (start_read K (limits d)));
-        overlong = subst O (sym w.1) (record {
-          long = w.2;
-          whole = halts_whole (limits d) (map symbol ks) TooLong h s.front s.first (λ p r g. cc);
-          at = subst N w.1 (λ b. halts_none (limits d) (map symbol ks) TooLong h s.front c.token f.0 s.first (f.1 ∙ ap (λ (v : Symbol). v ∷ f.0) (sym c.head)) b);
-        });
+        overlong = overlong_at s.front c.token c.head
+            (halts_whole (limits d) (map symbol ks) TooLong h s.front s.first (λ p r g. cc))
+            (λ b. halts_none (limits d) (map symbol ks) TooLong h s.front c.token f.0 s.first (f.1 ∙ ap (λ (v : Symbol). v ∷ f.0) (sym c.head)) b);
       }
 
   long_comma : (d : ℕ) (ks : List Token) → EndsLong K (limits d) (start K) (map symbol ks) → IsLong P d ks
@@ -348,7 +417,7 @@ module _ {T : Type 0} (K : Kind) (P : Phrases T) (W : Wraps K P) where
               ∙ map-append symbol s.front (fill ++ Signed Comma ∷ b.rest)
               ∙ ap (λ (v : List Symbol). v ++ map symbol (fill ++ Signed Comma ∷ b.rest)) s.first
               ∙ ap (λ (v : List Symbol). h.front ++ v) (map-append symbol fill (Signed Comma ∷ b.rest)) in
-              let whole : run l zs (start K) ≡ Accept (W.wrap b.tree) [] = accepted l zs b.tree (sym same ∙ b.spells) (omega (arith, b.within.nests)) b.within.lists in
+              let whole : run l zs (start K) ≡ Accept (W.wrap b.tree) [] = accepted l zs b.tree (sym same ∙ b.spells.0) (omega (arith, b.within.nests)) b.within.lists b.spells.1 in
               let there : run l zs (start K) ≡ TooLong =
               h.along.runs l (map symbol fill ++ Mark Comma ∷ rest) (record { depth = omega arith; width = omega arith })
               ∙ ap (λ (v : Symbol). run l (map symbol fill ++ v ∷ rest) h.end) (sym h.long.comma)

@@ -1,7 +1,6 @@
 -- What is known of a step, from each state.
 use Rattle.std.proofs.Common.{◌≡◌, ℕ, ◌+◌, ◌≤◌, List, [], ◌∷◌, ◌++◌, refl, ap, sym, ◌∙◌, subst, Bool, true, false, append_assoc, arith, Option, Some, None}
-use Rattle.std.specs.Prelude.{cond, pos}
-use Rattle.mj_num.specs.Number.{canonic_text}
+use Rattle.std.specs.Prelude.{cond}
 use Rattle.mj_ast.specs.declared.sign.Sign.{Sign}
 use Rattle.mj_ast.specs.declared.sign.Sign.TheVariants.{Caret, Open, Comma}
 use Rattle.mj_ast.specs.declared.expr.Scope.{Scope}
@@ -9,20 +8,18 @@ use Rattle.mj_ast.specs.declared.expr.Scope.TheVariants.{Global}
 use Rattle.mj_oper.specs.declared.op.UnaryOp.{UnaryOp}
 use Rattle.mj_ast.specs.Syntax.{Operand, Literal, Value, Tails, Variable, Var, No}
 use Rattle.mj_ast.specs.Tokens.{Word, Digits}
-use Rattle.mj_ast.specs.Expressions.{Symbol, Constant, Name, Overlong, Mark, Other, scoped}
+use Rattle.mj_ast.specs.declared.function.Callee.{Callee}
+use Rattle.mj_ast.specs.declared.function.Callee.TheVariants as callee
+use Rattle.mj_ast.specs.Expressions.{Symbol, Constant, Name, Applied, Overlong, Mark, Other}
 use Rattle.mj_ast.specs.Lines.{digits_filler, word_filler}
-use Rattle.mj_expr.specs.Machine.{InGroup, InList, Within, Front, Under, Place, AsOperand, AsTarget, State, Wanted, Sought, Marked, Named, Held, Got, Limits, Next, Go, Stuck, Deep, Long, TooLong, filled, placed, outer_of, depth_of, place_depth, run, step, unary_of, want_sign, want_other, stray_comma, is_full, on}
-use Rattle.mj_expr.proofs.Zipper.{Kind, HasRead, Good, good_depth, place_good_depth, placed_read, before, place_before, scoped-append}
+use Rattle.mj_expr.specs.Machine.{InGroup, InList, Subscripts, Within, Front, Under, Place, AsOperand, AsTarget, State, Wanted, Sought, Marked, Named, Calling, Held, Got, Limits, Next, Go, Stuck, Deep, Long, TooLong, filled, placed, outer_of, depth_of, place_depth, run, step, unary_of, want_sign, want_other, stray_comma, is_full, on, inside}
+use Rattle.mj_expr.proofs.Zipper.{Kind, HasRead, Good, good_depth, place_good_depth, placed_read, before, place_before, zero_text, least_some, least_most}
 use Rattle.mj_expr.proofs.Facts.{IsMore, deeper, wider, more_deeper, good_more, place_good_more, unary_back, Facts, LongFacts, opens_facts, from_held, filled_outer, constant_read, full_same, room_stays, full_comma, full_opened}
 
 abbrev pub FactsAt : Kind → Limits → State → Symbol → Type 0
 FactsAt K m s k = Facts K m (HasRead K m s) (LongFacts K m (HasRead K m s) s k) (λ l. step l s k) k (step m s k)
 
 -- ---- where an operand is wanted
-
--- the text of the number that the digit 0 reads
-abbrev zero_text : List ℕ
-zero_text = canonic_text (pos 0)
 
 -- a comma that is one too many, where an operand is missing
 stray_long : (K : Kind) (m : Limits) (c : Within) → is_full m (outer_of c) ≡ true → LongFacts K m (HasRead K m (Wanted c)) (Wanted c) (Mark Comma)
@@ -72,6 +69,10 @@ want_facts : (K : Kind) (m : Limits) (c : Within) (k : Symbol) → FactsAt K m (
 want_facts K m c (Constant value) = (constant_read K m c value, λ l i. refl)
 want_facts K m c (Name word) = (λ ks h. record { good = h.good; read = ap (λ (zs : List Symbol). zs ++ Name word ∷ []) h.read }, λ l i. refl)
 want_facts K m c (Mark s) = want_sign_facts K m c s (unary_of s) refl
+want_facts K m c (Applied f) =
+    opens_facts K m (HasRead K m (Wanted c)) (LongFacts K m (HasRead K m (Wanted c)) (Wanted c) (Applied f)) (Applied f) (depth_of c) (Calling f c)
+    (λ d ks h. record { good = (h.good, omega arith); read = ap (λ (zs : List Symbol). zs ++ Applied f ∷ []) h.read })
+    (λ ks h. record { good = (good_more c K m (deeper m) (more_deeper m) h.good, omega (arith, good_depth K m c h.good)); read = ap (λ (zs : List Symbol). zs ++ Applied f ∷ []) h.read })
 want_facts K m c Overlong = λ l i. refl
 want_facts K m c Other = λ l i. refl
 
@@ -91,7 +92,7 @@ marked_read K m p word ks h = record {
 
 -- a variable is what was read of a name
 pub variable_read : (K : Kind) (m : Limits) (scope : Scope) (word : List ℕ) (p : Place) (ks : List Symbol) → HasRead K m (Named scope word p) ks → HasRead K m (placed (Var scope word No) p) ks
-variable_read K m scope word p ks h = placed_read p K m (Var scope word No) ks h.good (omega (arith, place_good_depth K m p h.good)) (omega arith) h.read
+variable_read K m scope word p ks h = placed_read p K m (Var scope word No) ks h.good (omega (arith, place_good_depth K m p h.good)) (omega arith) refl h.read
 
 caret_long : (K : Kind) (m : Limits) (c : Within) → is_full m (outer_of c) ≡ true → LongFacts K m (HasRead K m (Marked (AsOperand c))) (Marked (AsOperand c)) (Mark Comma)
 caret_long K m c e =
@@ -128,13 +129,10 @@ marked_facts K m p k = λ l i. refl
 -- ---- behind a name
 
 list_opened : (K : Kind) (m l : Limits) (scope : Scope) (word : List ℕ) (p : Place) (ks : List Symbol) → IsMore m l → 1 ≤ m.width → place_depth p + 1 ≤ l.depth → HasRead K m (Named scope word p) ks →
-    HasRead K l (Wanted (Front (InList scope word No p))) (ks ++ Mark Open ∷ [])
+    HasRead K l (Wanted (Front (InList (Subscripts scope word p) No))) (ks ++ Mark Open ∷ [])
 list_opened K m l scope word p ks i w d h = record {
-  good = (place_good_more p K m l i h.good, d, omega arith, omega arith, omega (arith, i.width));
-  read =
-      ap (λ (zs : List Symbol). place_before p ++ zs) (sym (scoped-append scope (Name word ∷ []) (Mark Open ∷ [])))
-      ∙ sym (append_assoc (place_before p) (scoped scope (Name word ∷ [])) (Mark Open ∷ []))
-      ∙ ap (λ (zs : List Symbol). zs ++ Mark Open ∷ []) h.read;
+  good = (place_good_more p K m l i h.good, d, omega arith, omega arith, omega (arith, i.width), refl);
+  read = ap (λ (zs : List Symbol). zs ++ Mark Open ∷ []) h.read;
 }
 
 -- what isn't an opening parenthesis
@@ -166,10 +164,27 @@ on_is l v AsTarget k = refl
 
 named_facts : (K : Kind) (m : Limits) (scope : Scope) (word : List ℕ) (p : Place) (k : Symbol) → 1 ≤ m.width → FactsAt K m (Named scope word p) k
 named_facts K m scope word p (Mark Open) w =
-    opens_facts K m (HasRead K m (Named scope word p)) (LongFacts K m (HasRead K m (Named scope word p)) (Named scope word p) (Mark Open)) (Mark Open) (place_depth p) (Wanted (Front (InList scope word No p)))
+    opens_facts K m (HasRead K m (Named scope word p)) (LongFacts K m (HasRead K m (Named scope word p)) (Named scope word p) (Mark Open)) (Mark Open) (place_depth p) (Wanted (Front (InList (Subscripts scope word p) No)))
     (λ d ks h. list_opened K m m scope word p ks (record { depth = omega arith; width = omega arith }) w (omega arith) h)
     (λ ks h. list_opened K m (deeper m) scope word p ks (more_deeper m) w (omega (arith, place_good_depth K m p h.good)) h)
 named_facts K m scope word p k w = behind_variable K m scope word p k (λ l. on_is l (Var scope word No) p k)
+
+-- ---- behind a function
+
+inside_read : (K : Kind) (m : Limits) (f : Callee) (c : Within) (ks : List Symbol) → HasRead K m (Calling f c) ks →
+    HasRead K m (Wanted (Front (inside f c))) (ks ++ Mark Open ∷ [])
+inside_read K m (callee.Texts f) c ks h = record {
+  good = (h.good.0, h.good.1, omega (arith, h.good.1), omega arith, omega (arith, least_some f, least_most f), refl);
+  read = ap (λ (zs : List Symbol). zs ++ Mark Open ∷ []) h.read;
+}
+inside_read K m callee.Select c ks h = record {
+  good = (h.good.0, h.good.1, omega (arith, h.good.1), omega arith, refl);
+  read = sym (append_assoc (before c) (Applied callee.Select ∷ []) (Mark Open ∷ [])) ∙ ap (λ (zs : List Symbol). zs ++ Mark Open ∷ []) h.read;
+}
+
+calling_facts : (K : Kind) (m : Limits) (f : Callee) (c : Within) (k : Symbol) → FactsAt K m (Calling f c) k
+calling_facts K m f c (Mark Open) = (inside_read K m f c, λ l i. refl)
+calling_facts K m f c k = λ l i. refl
 
 -- ---- any state
 
@@ -178,6 +193,7 @@ step_facts K m (Wanted c) k w = want_facts K m c k
 step_facts K m (Sought p) k w = seek_facts K m p k
 step_facts K m (Marked p) k w = marked_facts K m p k
 step_facts K m (Named scope word p) k w = named_facts K m scope word p k w
+step_facts K m (Calling f c) k w = calling_facts K m f c k
 step_facts K m (Held x r o) k w =
     from_held K m (HasRead K m (Held x r o)) (Held x r o) x r o k (λ ks h. h) (λ l. refl)
 step_facts K m (Got v) k w = λ l i. refl

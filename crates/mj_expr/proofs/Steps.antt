@@ -1,18 +1,23 @@
 -- Steps of the machine.
-use Rattle.std.proofs.Common.{◌≡◌, ℕ, ◌+◌, ◌<◌, ◌≤◌, List, [], ◌∷◌, refl, ap, sym, ◌∙◌, arith, Bool, true, false, Result, Ok, Err, nat_lt, nat_le, Option, Some, None, subst}
+use Rattle.std.proofs.Common.{◌≡◌, ℕ, ◌+◌, ◌<◌, ◌≤◌, List, [], ◌∷◌, length, refl, ap, sym, ◌∙◌, arith, Bool, true, false, Result, Ok, Err, nat_lt, nat_le, Option, Some, None, subst}
 use Rattle.std.proofs.lemmas.Bool.Decides.{nat_tests}
-use Rattle.std.specs.Prelude.{cond, not}
+use Rattle.std.specs.Prelude.{cond, not, ◌&&◌, ℤ}
 use Rattle.std.specs.Result.{IsErrAnd}
 use Rattle.mj_ast.specs.declared.sign.Sign.TheVariants.{Apostrophe, Caret, Open, Close, Comma, Colon}
-use Rattle.mj_oper.specs.declared.op.Op.{Op}
 use Rattle.mj_ast.specs.declared.expr.Scope.{Scope}
-use Rattle.mj_ast.specs.Syntax.{Expr, Chain, Tails, Done, Operand, Value, Unary, Variable, Var, Exprs, No, More}
-use Rattle.mj_ast.specs.Expressions.{Symbol, Constant, Name, Overlong, Mark, Other, count}
-use Rattle.mj_expr.specs.Machine.{Outer, Alone, InList, Within, Front, Right, Under, Place, AsOperand, AsTarget, State, Wanted, Named, Held, Got, filled, placed, held, Limits, Go, Deep, Long, Outcome, Accept, TooLong, Whole, Target, run, turn, refused_in, and_more, and_then, hold_sign, place_depth}
-use Rattle.mj_expr.specs.Reads.{limits, symbols_seen, Reads, Refuses, HasNoBinary, HasNoOpen, HasNoComma, HasNoClose, StartsBinary}
+use Rattle.mj_oper.specs.declared.op.Op.{Op}
+use Rattle.mj_ast.specs.declared.function.Callee.{Callee}
+use Rattle.mj_ast.specs.Syntax.{Expr, Chain, Tails, Done, Operand, Value, Unary, Select, Variable, Var, Exprs, No, More, Choices, Last, Before}
+use Rattle.mj_ast.specs.Expressions.{Symbol, Constant, Name, Applied, Overlong, Mark, Other, count, constant_of, function_symbol}
+use Rattle.mj_expr.specs.Machine.{Outer, Alone, InList, InCondition, InChoice, Owner, Subscripts, Arguments, Within, Front, Right, Under, Place, AsOperand, AsTarget, Pairs, NoPairs, Pair, and_pair, before_choices, State, Wanted, Named, Calling, Held, Got, filled, placed, closed, held, Limits, Go, Stuck, Deep, Long, Outcome, Accept, StuckAt, Whole, Target, run, turn, refused_in, and_more, and_then, hold_sign, depth_of, place_depth, inside, least_of, most_of, is_limited}
+use Rattle.mj_expr.specs.Reads.{limits, symbols_seen, Reads, Refuses, HasNoBinary, HasNoOpen, HasNoComma, HasNoColon, HasNoClose, StartsBinary, kind_of, least_in, most_in, limited_in}
 use Rattle.mj_expr.specs.Lists.{behind_from, behind_list}
+use Rattle.mj_expr.specs.declared.token.ListKind.{ListKind}
 use Rattle.mj_expr.specs.declared.stop.Stop.{Stop}
+use Rattle.mj_expr.specs.declared.stop.Stop.TheVariants as stop
+use Rattle.mj_text.specs.declared.fault.Fault.{Fault}
 use Rattle.mj_lex.specs.declared.token.Lexeme.{Lexeme}
+use Rattle.mj_expr.proofs.Zipper.{joined}
 
 some_none : {A : Type 0} (x : A) → Some x ≡ None → ⊥
 some_none x e = cc
@@ -39,15 +44,11 @@ named_ends m scope word (AsOperand c) ks h = let e = filled_holds (Value (Var sc
 named_ends m scope word AsTarget ks h = named_alone m scope word ks h
 
 -- the last of a list, with those before it
-pub record LastOf (scope : Scope) (word : List ℕ) (es : Exprs) (p : Place) : Type 0 where
+pub record LastOf (w : Owner) (es : Exprs) : Type 0 where
   pub before : Exprs
   pub last : Expr
   pub all : and_more before last ≡ es
-  pub stands : behind_list scope word es p ≡ held last (InList scope word before p)
-
-abbrev pub joined : Exprs → Exprs → Exprs
-joined No fs = fs
-joined (More e es) fs = More e (joined es fs)
+  pub stands : behind_list w es ≡ held last (InList w before)
 
 pub joined_more : (es : Exprs) (e : Expr) (fs : Exprs) → joined (and_more es e) fs ≡ joined es (More e fs)
 joined_more No e fs = refl
@@ -57,31 +58,31 @@ pub joined_last : (es : Exprs) (e : Expr) → joined es (More e No) ≡ and_more
 joined_last No e = refl
 joined_last (More f es) e = ap (λ (x : Exprs). More f x) (joined_last es e)
 
-pub record LastFrom (scope : Scope) (word : List ℕ) (front : Exprs) (e : Expr) (rest : Exprs) (p : Place) : Type 0 where
+pub record LastFrom (w : Owner) (front : Exprs) (e : Expr) (rest : Exprs) : Type 0 where
   pub before : Exprs
   pub last : Expr
   pub all : and_more before last ≡ joined front (More e rest)
-  pub stands : behind_from scope word front e rest p ≡ held last (InList scope word before p)
+  pub stands : behind_from w front e rest ≡ held last (InList w before)
 
-last_from : (scope : Scope) (word : List ℕ) (front : Exprs) (e : Expr) (rest : Exprs) (p : Place) → LastFrom scope word front e rest p
-last_from scope word front e No p = record { before = front; last = e; all = sym (joined_last front e); stands = refl }
-last_from scope word front e (More f rest) p =
-    let h = last_from scope word (and_more front e) f rest p in
+last_from : (w : Owner) (front : Exprs) (e : Expr) (rest : Exprs) → LastFrom w front e rest
+last_from w front e No = record { before = front; last = e; all = sym (joined_last front e); stands = refl }
+last_from w front e (More f rest) =
+    let h = last_from w (and_more front e) f rest in
     record { before = h.before; last = h.last; all = h.all ∙ joined_more front e (More f rest); stands = h.stands }
 
-pub last_of : (scope : Scope) (word : List ℕ) (es : Exprs) (p : Place) → 0 < count es → LastOf scope word es p
-last_of scope word No p h = absurd (omega arith)
-last_of scope word (More e rest) p h =
-    let l = last_from scope word No e rest p in
+pub last_of : (w : Owner) (es : Exprs) → 0 < count es → LastOf w es
+last_of w No h = absurd (omega arith)
+last_of w (More e rest) h =
+    let l = last_from w No e rest in
     record { before = l.before; last = l.last; all = l.all; stands = l.stands }
 
-pub behind_pushed : (scope : Scope) (word : List ℕ) (es : Exprs) (e : Expr) (p : Place) → behind_list scope word (and_more es e) p ≡ held e (InList scope word es p)
-behind_pushed scope word No e p = refl
-behind_pushed scope word (More f es) e p = pushed_from scope word No f es e p
+pub behind_pushed : (w : Owner) (es : Exprs) (e : Expr) → behind_list w (and_more es e) ≡ held e (InList w es)
+behind_pushed w No e = refl
+behind_pushed w (More f es) e = pushed_from w No f es e
   where
-    pushed_from : (scope : Scope) (word : List ℕ) (front : Exprs) (f : Expr) (es : Exprs) (e : Expr) (p : Place) → behind_from scope word front f (and_more es e) p ≡ held e (InList scope word (joined front (More f es)) p)
-    pushed_from scope word front f No e p = ap (λ (x : Exprs). held e (InList scope word x p)) (sym (joined_last front f))
-    pushed_from scope word front f (More g es) e p = pushed_from scope word (and_more front f) g es e p ∙ ap (λ (x : Exprs). held e (InList scope word x p)) (joined_more front f (More g es))
+    pushed_from : (w : Owner) (front : Exprs) (f : Expr) (es : Exprs) (e : Expr) → behind_from w front f (and_more es e) ≡ held e (InList w (joined front (More f es)))
+    pushed_from w front f No e = ap (λ (x : Exprs). held e (InList w x)) (sym (joined_last front f))
+    pushed_from w front f (More g es) e = pushed_from w (and_more front f) g es e ∙ ap (λ (x : Exprs). held e (InList w x)) (joined_more front f (More g es))
 
 pub count_more : (es : Exprs) (e : Expr) → count (and_more es e) ≡ count es + 1
 count_more No e = refl
@@ -93,64 +94,202 @@ less_true m n h = grind arith
 pub less_false : (m n : ℕ) → n ≤ m → nat_lt m n ≡ false
 less_false m n h = grind arith
 
-held_comma : (m : Limits) (ks : List Symbol) (scope : Scope) (word : List ℕ) (before : Exprs) (last : Expr) (p : Place) (b : Bool) → nat_lt (count before + 1) m.width ≡ b →
-    run m (Mark Comma ∷ ks) (held last (InList scope word before p)) ≡ cond b (run m ks (Wanted (Front (InList scope word (and_more before last) p)))) TooLong
-held_comma m ks scope word before (Chain x r) p true e = ap (λ (v : Bool). turn m ks (Held x r (InList scope word before p)) (Mark Comma) (cond v (Go (Wanted (Front (InList scope word (and_more before (Chain x r)) p)))) Long)) e
-held_comma m ks scope word before (Chain x r) p false e = ap (λ (v : Bool). turn m ks (Held x r (InList scope word before p)) (Mark Comma) (cond v (Go (Wanted (Front (InList scope word (and_more before (Chain x r)) p)))) Long)) e
+held_comma : (m : Limits) (ks : List Symbol) (w : Owner) (before : Exprs) (last : Expr) → nat_lt (count before + 1) (most_of m w) ≡ true →
+    run m (Mark Comma ∷ ks) (held last (InList w before)) ≡ run m ks (Wanted (Front (InList w (and_more before last))))
+held_comma m ks w before (Chain x r) e = ap (λ (v : Bool). turn m ks (Held x r (InList w before)) (Mark Comma) (cond v (Go (Wanted (Front (InList w (and_more before (Chain x r)))))) (cond (is_limited w) Long Stuck))) e
 
--- another subscript, where there is room
-pub comma_goes : (m : Limits) (ks : List Symbol) (scope : Scope) (word : List ℕ) (es : Exprs) (p : Place) → 0 < count es → count es < m.width →
-    run m (Mark Comma ∷ ks) (behind_list scope word es p) ≡ run m ks (Wanted (Front (InList scope word es p)))
-comma_goes m ks scope word es p h i =
-    let l = last_of scope word es p h in
-    let n : count l.before + 1 < m.width = omega (arith, count_more l.before l.last, ap count l.all) in
+over_as : (m : Limits) (ks : List Symbol) (w : Owner) (before : Exprs) (x : Operand) (r : Tails) (b : Bool) →
+    turn m ks (Held x r (InList w before)) (Mark Comma) (cond b Long Stuck) ≡ refused_in b (Mark Comma ∷ ks)
+over_as m ks w before x r true = refl
+over_as m ks w before x r false = refl
+
+held_over : (m : Limits) (ks : List Symbol) (w : Owner) (before : Exprs) (last : Expr) → nat_lt (count before + 1) (most_of m w) ≡ false →
+    run m (Mark Comma ∷ ks) (held last (InList w before)) ≡ refused_in (is_limited w) (Mark Comma ∷ ks)
+held_over m ks w before (Chain x r) e =
+    ap (λ (v : Bool). turn m ks (Held x r (InList w before)) (Mark Comma) (cond v (Go (Wanted (Front (InList w (and_more before (Chain x r)))))) (cond (is_limited w) Long Stuck))) e
+    ∙ over_as m ks w before x r (is_limited w)
+
+-- another expression, where there is room
+pub comma_goes : (m : Limits) (ks : List Symbol) (w : Owner) (es : Exprs) → 0 < count es → count es < most_of m w →
+    run m (Mark Comma ∷ ks) (behind_list w es) ≡ run m ks (Wanted (Front (InList w es)))
+comma_goes m ks w es h i =
+    let l = last_of w es h in
+    let n : count l.before + 1 < most_of m w = omega (arith, count_more l.before l.last, ap count l.all) in
     ap (λ (s : State). run m (Mark Comma ∷ ks) s) l.stands
-    ∙ held_comma m ks scope word l.before l.last p true (less_true (count l.before + 1) m.width n)
-    ∙ ap (λ (x : Exprs). run m ks (Wanted (Front (InList scope word x p)))) l.all
+    ∙ held_comma m ks w l.before l.last (less_true (count l.before + 1) (most_of m w) n)
+    ∙ ap (λ (x : Exprs). run m ks (Wanted (Front (InList w x)))) l.all
 
 -- a comma too many
-pub comma_long : (m : Limits) (ks : List Symbol) (scope : Scope) (word : List ℕ) (es : Exprs) (p : Place) → 0 < count es → m.width ≤ count es →
-    run m (Mark Comma ∷ ks) (behind_list scope word es p) ≡ TooLong
-comma_long m ks scope word es p h i =
-    let l = last_of scope word es p h in
-    let n : m.width ≤ count l.before + 1 = omega (arith, count_more l.before l.last, ap count l.all) in
+pub comma_over : (m : Limits) (ks : List Symbol) (w : Owner) (es : Exprs) → 0 < count es → most_of m w ≤ count es →
+    run m (Mark Comma ∷ ks) (behind_list w es) ≡ refused_in (is_limited w) (Mark Comma ∷ ks)
+comma_over m ks w es h i =
+    let l = last_of w es h in
+    let n : most_of m w ≤ count l.before + 1 = omega (arith, count_more l.before l.last, ap count l.all) in
     ap (λ (s : State). run m (Mark Comma ∷ ks) s) l.stands
-    ∙ held_comma m ks scope word l.before l.last p false (less_false (count l.before + 1) m.width n)
+    ∙ held_over m ks w l.before l.last (less_false (count l.before + 1) (most_of m w) n)
 
-held_close : (m : Limits) (ks : List Symbol) (scope : Scope) (word : List ℕ) (before : Exprs) (last : Expr) (p : Place) →
-    run m (Mark Close ∷ ks) (held last (InList scope word before p)) ≡ run m ks (placed (Var scope word (and_more before last)) p)
-held_close m ks scope word before (Chain x r) p = refl
+pub most_true : (m n : ℕ) → m ≤ n → nat_le m n ≡ true
+most_true m n h = grind arith
+
+pub most_false : (m n : ℕ) → n < m → nat_le m n ≡ false
+most_false m n h = grind arith
+
+held_close : (m : Limits) (ks : List Symbol) (w : Owner) (before : Exprs) (last : Expr) → nat_le (least_of w) (count before + 1) ≡ true →
+    run m (Mark Close ∷ ks) (held last (InList w before)) ≡ run m ks (closed w (and_more before last))
+held_close m ks w before (Chain x r) e = ap (λ (v : Bool). turn m ks (Held x r (InList w before)) (Mark Close) (cond v (Go (closed w (and_more before (Chain x r)))) Stuck)) e
 
 -- the end of a list
-pub close_goes : (m : Limits) (ks : List Symbol) (scope : Scope) (word : List ℕ) (es : Exprs) (p : Place) → 0 < count es →
-    run m (Mark Close ∷ ks) (behind_list scope word es p) ≡ run m ks (placed (Var scope word es) p)
-close_goes m ks scope word es p h =
-    let l = last_of scope word es p h in
+pub close_goes : (m : Limits) (ks : List Symbol) (w : Owner) (es : Exprs) → 0 < count es → least_of w ≤ count es →
+    run m (Mark Close ∷ ks) (behind_list w es) ≡ run m ks (closed w es)
+close_goes m ks w es h i =
+    let l = last_of w es h in
+    let n : least_of w ≤ count l.before + 1 = omega (arith, count_more l.before l.last, ap count l.all) in
     ap (λ (s : State). run m (Mark Close ∷ ks) s) l.stands
-    ∙ held_close m ks scope word l.before l.last p
-    ∙ ap (λ (x : Exprs). run m ks (placed (Var scope word x) p)) l.all
+    ∙ held_close m ks w l.before l.last (most_true (least_of w) (count l.before + 1) n)
+    ∙ ap (λ (x : Exprs). run m ks (closed w x)) l.all
 
-held_refuses : (m : Limits) (ks : List Symbol) (scope : Scope) (word : List ℕ) (before : Exprs) (last : Expr) (p : Place) → HasNoBinary ks → HasNoComma ks → HasNoClose ks →
-    run m ks (held last (InList scope word before p)) ≡ refused_in false ks
-held_refuses m [] scope word before (Chain x r) p b c d = refl
-held_refuses m (Constant v ∷ ks) scope word before (Chain x r) p b c d = refl
-held_refuses m (Name w ∷ ks) scope word before (Chain x r) p b c d = refl
-held_refuses m (Overlong ∷ ks) scope word before (Chain x r) p b c d = refl
-held_refuses m (Other ∷ ks) scope word before (Chain x r) p b c d = refl
-held_refuses m (Mark Close ∷ ks) scope word before (Chain x r) p b c d = absurd d
-held_refuses m (Mark Comma ∷ ks) scope word before (Chain x r) p b c d = absurd c
-held_refuses m (Mark Caret ∷ ks) scope word before (Chain x r) p b c d = refl
-held_refuses m (Mark Open ∷ ks) scope word before (Chain x r) p b c d = refl
-held_refuses m (Mark Colon ∷ ks) scope word before (Chain x r) p b c d = refl
-held_refuses m (Mark Apostrophe ∷ ks) scope word before (Chain x r) p b c d = refl
-held_refuses m (Mark s ∷ ks) scope word before (Chain x r) p b c d = absurd (some_none _ b)
+-- what no expression of a list goes on with
+held_refuses : (m : Limits) (ks : List Symbol) (w : Owner) (before : Exprs) (last : Expr) → HasNoBinary ks → HasNoComma ks → HasNoClose ks →
+    run m ks (held last (InList w before)) ≡ refused_in false ks
+held_refuses m [] w before (Chain x r) b c d = refl
+held_refuses m (Constant v ∷ ks) w before (Chain x r) b c d = refl
+held_refuses m (Name v ∷ ks) w before (Chain x r) b c d = refl
+held_refuses m (Applied v ∷ ks) w before (Chain x r) b c d = refl
+held_refuses m (Overlong ∷ ks) w before (Chain x r) b c d = refl
+held_refuses m (Other ∷ ks) w before (Chain x r) b c d = refl
+held_refuses m (Mark Close ∷ ks) w before (Chain x r) b c d = absurd d
+held_refuses m (Mark Comma ∷ ks) w before (Chain x r) b c d = absurd c
+held_refuses m (Mark Caret ∷ ks) w before (Chain x r) b c d = refl
+held_refuses m (Mark Open ∷ ks) w before (Chain x r) b c d = refl
+held_refuses m (Mark Colon ∷ ks) w before (Chain x r) b c d = refl
+held_refuses m (Mark Apostrophe ∷ ks) w before (Chain x r) b c d = refl
+held_refuses m (Mark s ∷ ks) w before (Chain x r) b c d = absurd (some_none _ b)
+
+held_few : (m : Limits) (ks : List Symbol) (w : Owner) (before : Exprs) (last : Expr) → nat_le (least_of w) (count before + 1) ≡ false → HasNoBinary ks → HasNoComma ks →
+    run m ks (held last (InList w before)) ≡ refused_in false ks
+held_few m [] w before (Chain x r) e b c = refl
+held_few m (Constant v ∷ ks) w before (Chain x r) e b c = refl
+held_few m (Name v ∷ ks) w before (Chain x r) e b c = refl
+held_few m (Applied v ∷ ks) w before (Chain x r) e b c = refl
+held_few m (Overlong ∷ ks) w before (Chain x r) e b c = refl
+held_few m (Other ∷ ks) w before (Chain x r) e b c = refl
+held_few m (Mark Close ∷ ks) w before (Chain x r) e b c = ap (λ (v : Bool). turn m ks (Held x r (InList w before)) (Mark Close) (cond v (Go (closed w (and_more before (Chain x r)))) Stuck)) e
+held_few m (Mark Comma ∷ ks) w before (Chain x r) e b c = absurd c
+held_few m (Mark Caret ∷ ks) w before (Chain x r) e b c = refl
+held_few m (Mark Open ∷ ks) w before (Chain x r) e b c = refl
+held_few m (Mark Colon ∷ ks) w before (Chain x r) e b c = refl
+held_few m (Mark Apostrophe ∷ ks) w before (Chain x r) e b c = refl
+held_few m (Mark s ∷ ks) w before (Chain x r) e b c = absurd (some_none _ b)
 
 -- what a list doesn't go on with
-pub list_refuses : (m : Limits) (ks : List Symbol) (scope : Scope) (word : List ℕ) (es : Exprs) (p : Place) → 0 < count es → HasNoBinary ks → HasNoComma ks → HasNoClose ks →
-    run m ks (behind_list scope word es p) ≡ refused_in false ks
-list_refuses m ks scope word es p h b c d =
-    let l = last_of scope word es p h in
-    ap (λ (s : State). run m ks s) l.stands ∙ held_refuses m ks scope word l.before l.last p b c d
+pub list_refuses : (m : Limits) (ks : List Symbol) (w : Owner) (es : Exprs) → 0 < count es → HasNoBinary ks → HasNoComma ks → HasNoClose ks →
+    run m ks (behind_list w es) ≡ refused_in false ks
+list_refuses m ks w es h b c d =
+    let l = last_of w es h in
+    ap (λ (s : State). run m ks s) l.stands ∙ held_refuses m ks w l.before l.last b c d
+
+-- a list that is too short doesn't end either
+pub few_refuses : (m : Limits) (ks : List Symbol) (w : Owner) (es : Exprs) → 0 < count es → count es < least_of w → HasNoBinary ks → HasNoComma ks →
+    run m ks (behind_list w es) ≡ refused_in false ks
+few_refuses m ks w es h i b c =
+    let l = last_of w es h in
+    let n : count l.before + 1 < least_of w = omega (arith, count_more l.before l.last, ap count l.all) in
+    ap (λ (s : State). run m ks s) l.stands ∙ held_few m ks w l.before l.last (most_false (least_of w) (count l.before + 1) n) b c
+
+-- a list by its kind
+pub kind_least : (w : Owner) → least_in (kind_of w) ≡ least_of w
+kind_least (Subscripts scope word p) = refl
+kind_least (Arguments f c) = refl
+
+pub kind_most : (d : ℕ) (w : Owner) → most_in (kind_of w) ≡ most_of (limits d) w
+kind_most d (Subscripts scope word p) = refl
+kind_most d (Arguments f c) = refl
+
+pub kind_limited : (w : Owner) → limited_in (kind_of w) ≡ is_limited w
+kind_limited (Subscripts scope word p) = refl
+kind_limited (Arguments f c) = refl
+
+-- ---- choices
+
+pub before_pair : (ps : Pairs) (a b : Expr) (x : Choices) → before_choices (and_pair ps a b) x ≡ before_choices ps (Before a b x)
+before_pair NoPairs a b x = refl
+before_pair (Pair c e ps) a b x = ap (λ (y : Choices). Before c e y) (before_pair ps a b x)
+
+pub colon_goes : (m : Limits) (ks : List Symbol) (ps : Pairs) (e : Expr) (c : Within) → run m (Mark Colon ∷ ks) (held e (InCondition ps c)) ≡ run m ks (Wanted (Front (InChoice ps e c)))
+colon_goes m ks ps (Chain x r) c = refl
+
+pub choice_goes : (m : Limits) (ks : List Symbol) (ps : Pairs) (a e : Expr) (c : Within) → run m (Mark Comma ∷ ks) (held e (InChoice ps a c)) ≡ run m ks (Wanted (Front (InCondition (and_pair ps a e) c)))
+choice_goes m ks ps a (Chain x r) c = refl
+
+pub choice_closes : (m : Limits) (ks : List Symbol) (ps : Pairs) (a e : Expr) (c : Within) → run m (Mark Close ∷ ks) (held e (InChoice ps a c)) ≡ run m ks (filled (Select (before_choices ps (Last a e))) c)
+choice_closes m ks ps a (Chain x r) c = refl
+
+pub condition_refuses : (m : Limits) (ks : List Symbol) (ps : Pairs) (e : Expr) (c : Within) → HasNoBinary ks → HasNoColon ks → run m ks (held e (InCondition ps c)) ≡ refused_in false ks
+condition_refuses m [] ps (Chain x r) c b d = refl
+condition_refuses m (Constant v ∷ ks) ps (Chain x r) c b d = refl
+condition_refuses m (Name v ∷ ks) ps (Chain x r) c b d = refl
+condition_refuses m (Applied v ∷ ks) ps (Chain x r) c b d = refl
+condition_refuses m (Overlong ∷ ks) ps (Chain x r) c b d = refl
+condition_refuses m (Other ∷ ks) ps (Chain x r) c b d = refl
+condition_refuses m (Mark Close ∷ ks) ps (Chain x r) c b d = refl
+condition_refuses m (Mark Comma ∷ ks) ps (Chain x r) c b d = refl
+condition_refuses m (Mark Caret ∷ ks) ps (Chain x r) c b d = refl
+condition_refuses m (Mark Open ∷ ks) ps (Chain x r) c b d = refl
+condition_refuses m (Mark Colon ∷ ks) ps (Chain x r) c b d = absurd d
+condition_refuses m (Mark Apostrophe ∷ ks) ps (Chain x r) c b d = refl
+condition_refuses m (Mark s ∷ ks) ps (Chain x r) c b d = absurd (some_none _ b)
+
+pub choice_refuses : (m : Limits) (ks : List Symbol) (ps : Pairs) (a e : Expr) (c : Within) → HasNoBinary ks → HasNoComma ks → HasNoClose ks → run m ks (held e (InChoice ps a c)) ≡ refused_in false ks
+choice_refuses m [] ps a (Chain x r) c b d f = refl
+choice_refuses m (Constant v ∷ ks) ps a (Chain x r) c b d f = refl
+choice_refuses m (Name v ∷ ks) ps a (Chain x r) c b d f = refl
+choice_refuses m (Applied v ∷ ks) ps a (Chain x r) c b d f = refl
+choice_refuses m (Overlong ∷ ks) ps a (Chain x r) c b d f = refl
+choice_refuses m (Other ∷ ks) ps a (Chain x r) c b d f = refl
+choice_refuses m (Mark Close ∷ ks) ps a (Chain x r) c b d f = absurd f
+choice_refuses m (Mark Comma ∷ ks) ps a (Chain x r) c b d f = absurd d
+choice_refuses m (Mark Caret ∷ ks) ps a (Chain x r) c b d f = refl
+choice_refuses m (Mark Open ∷ ks) ps a (Chain x r) c b d f = refl
+choice_refuses m (Mark Colon ∷ ks) ps a (Chain x r) c b d f = refl
+choice_refuses m (Mark Apostrophe ∷ ks) ps a (Chain x r) c b d f = refl
+choice_refuses m (Mark s ∷ ks) ps a (Chain x r) c b d f = absurd (some_none _ b)
+
+-- a condition and its value
+pub value_read : (m : Limits) (ks k1 k2 k3 : List Symbol) (ps : Pairs) (a e : Expr) (c : Within) → run m ks (Wanted (Front (InCondition ps c))) ≡ run m k1 (held a (InCondition ps c)) → k1 ≡ Mark Colon ∷ k2 →
+    run m k2 (Wanted (Front (InChoice ps a c))) ≡ run m k3 (held e (InChoice ps a c)) → run m ks (Wanted (Front (InCondition ps c))) ≡ run m k3 (held e (InChoice ps a c))
+value_read m ks k1 k2 k3 ps a e c h i j = h ∙ ap (λ (zs : List Symbol). run m zs (held a (InCondition ps c))) i ∙ colon_goes m k2 ps a c ∙ j
+
+-- behind a function
+pub call_opens : (m : Limits) (ks : List Symbol) (f : Callee) (c : Within) → run m (Mark Open ∷ ks) (Calling f c) ≡ run m ks (Wanted (Front (inside f c)))
+call_opens m ks f c = refl
+
+pub call_goes : (m : Limits) (ks : List Symbol) (f : Callee) (c : Within) → depth_of c < m.depth → run m (Applied f ∷ ks) (Wanted c) ≡ run m ks (Calling f c)
+call_goes m ks f c h = ap (λ (b : Bool). turn m ks (Wanted c) (Applied f) (cond b (Go (Calling f c)) Deep)) (less_true (depth_of c) m.depth h)
+
+pub call_refuses : (m : Limits) (ks : List Symbol) (f : Callee) (c : Within) → HasNoOpen ks → run m ks (Calling f c) ≡ refused_in false ks
+call_refuses m [] f c h = refl
+call_refuses m (Mark Open ∷ ks) f c h = absurd h
+call_refuses m (Mark Comma ∷ ks) f c h = refl
+call_refuses m (k ∷ ks) f c h = refl
+
+-- ---- refusals by tokens
+
+-- within its limit a word refuses as any other symbol, past it it is too long
+pub word_refuses : (b : Bool) (k : Symbol) (ks : List Symbol) (full : Bool) (left : ℕ) → length ks + 1 ≡ left → refused_in full (k ∷ ks) ≡ StuckAt (length (k ∷ ks)) → Refuses (cond b (stop.Stuck left) stop.Long) (refused_in full (cond b k Overlong ∷ ks))
+word_refuses true k ks full left e h = let n : length (k ∷ ks) ≡ left = omega arith in h ∙ ap StuckAt n
+word_refuses false k ks full left e h = refl
+
+pub function_plain : (f : Option Callee) (ks : List Symbol) (full : Bool) → refused_in full (function_symbol f ∷ ks) ≡ StuckAt (length (function_symbol f ∷ ks))
+function_plain None ks full = refl
+function_plain (Some f) ks full = refl
+
+pub constant_plain : (r : Result ℤ Fault) (ks : List Symbol) (full : Bool) → refused_in full (constant_of r ∷ ks) ≡ StuckAt (length (constant_of r ∷ ks))
+constant_plain (Ok z) ks full = refl
+constant_plain (Err f) ks full = refl
+
+pub quoted_plain : (b : Bool) (v : List ℕ) (ks : List Symbol) (full : Bool) → refused_in full (cond b (Constant v) Other ∷ ks) ≡ StuckAt (length (cond b (Constant v) Other ∷ ks))
+quoted_plain true v ks full = refl
+quoted_plain false v ks full = refl
 
 pub refuses_from : (x : Stop) (o q : Outcome) → o ≡ q → Refuses x q → Refuses x o
 refuses_from x o q e h = let P : Outcome → Type 0 = λ v. Refuses x v in subst P (sym e) h
@@ -176,18 +315,27 @@ binary_goes m ks rest op x r o h =
 
 -- a list of subscripts opens
 pub open_goes : (m : Limits) (ks : List Symbol) (scope : Scope) (word : List ℕ) (p : Place) → place_depth p < m.depth →
-    run m (Mark Open ∷ ks) (Named scope word p) ≡ run m ks (Wanted (Front (InList scope word No p)))
-open_goes m ks scope word p h = ap (λ (b : Bool). turn m ks (Named scope word p) (Mark Open) (cond b (Go (Wanted (Front (InList scope word No p)))) Deep)) (less_true (place_depth p) m.depth h)
+    run m (Mark Open ∷ ks) (Named scope word p) ≡ run m ks (Wanted (Front (InList (Subscripts scope word p) No)))
+open_goes m ks scope word p h = ap (λ (b : Bool). turn m ks (Named scope word p) (Mark Open) (cond b (Go (Wanted (Front (InList (Subscripts scope word p) No)))) Deep)) (less_true (place_depth p) m.depth h)
 
 -- a list with one more is full
-pub full_is : (n k : ℕ) → n ≡ k → not (nat_lt (n + 1) 31) ≡ nat_le 31 (k + 1)
-full_is n k e = grind (arith, nat_tests)
+pub full_is : (n k most : ℕ) (limited : Bool) → n ≡ k → (limited && not (nat_lt (n + 1) most)) ≡ (limited && nat_le most (k + 1))
+full_is n k most true e = grind (arith, nat_tests)
+full_is n k most false e = refl
+
+pub kind_full : (w : Owner) (kind : ListKind) (n k : ℕ) → kind_of w ≡ kind → n ≡ k → (is_limited w && not (nat_lt (n + 1) (most_of (limits 0) w))) ≡ (limited_in kind && nat_le (most_in kind) (k + 1))
+kind_full w kind n k e h = let P : ListKind → Type 0 = λ v. (is_limited w && not (nat_lt (n + 1) (most_of (limits 0) w))) ≡ (limited_in v && nat_le (most_in v) (k + 1)) in subst P e (by w)
+  where
+    by : (u : Owner) → (is_limited u && not (nat_lt (n + 1) (most_of (limits 0) u))) ≡ (limited_in (kind_of u) && nat_le (most_in (kind_of u)) (k + 1))
+    by (Subscripts scope word p) = full_is n k 31 true h
+    by (Arguments f c) = refl
 
 -- an expression that can't go on is whole
 pub whole_done : (m : Limits) (e : Expr) (ks : List Symbol) → HasNoBinary ks → run m ks (held e Alone) ≡ Accept (Whole e) ks
 whole_done m (Chain x r) [] h = refl
 whole_done m (Chain x r) (Constant v ∷ ks) h = refl
 whole_done m (Chain x r) (Name w ∷ ks) h = refl
+whole_done m (Chain x r) (Applied v ∷ ks) h = refl
 whole_done m (Chain x r) (Overlong ∷ ks) h = refl
 whole_done m (Chain x r) (Other ∷ ks) h = refl
 whole_done m (Chain x r) (Mark Close ∷ ks) h = refl

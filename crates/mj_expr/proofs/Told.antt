@@ -1,16 +1,17 @@
 -- What a run says of the tokens.
-use Rattle.std.proofs.Common.{◌≡◌, ℕ, ◌+◌, ◌≤◌, List, [], ◌∷◌, ◌++◌, refl, ap, sym, ◌∙◌, subst, append_assoc, append-nil, arith, map}
+use Rattle.std.proofs.Common.{◌≡◌, ℕ, zero, suc, ◌+◌, ◌-◌, ◌≤◌, List, [], ◌∷◌, ◌++◌, refl, ap, sym, ◌∙◌, subst, append_assoc, append-nil, arith, map}
 use Rattle.std.specs.Prelude.{pos}
 use Rattle.std.proofs.lemmas.List.{map-append}
 use Rattle.mj_num.specs.Number.{canonic_text}
-use Rattle.mj_ast.specs.declared.sign.Sign.TheVariants.{Close}
+use Rattle.mj_ast.specs.declared.sign.Sign.TheVariants.{Open, Close, Comma, Colon}
+use Rattle.mj_ast.specs.declared.function.Callee.TheVariants as callee
 use Rattle.mj_ast.specs.declared.expr.Scope.{Scope}
 use Rattle.mj_ast.specs.declared.expr.Scope.TheVariants.{Local, Global}
-use Rattle.mj_ast.specs.Syntax.{Expr, Chain, Operand, Literal, Value, Tails, Variable, Var, No}
+use Rattle.mj_ast.specs.Syntax.{Expr, Chain, Operand, Literal, Value, Call, Select, Tails, Variable, Var, No, Last}
 use Rattle.mj_ast.specs.Tokens.{Token, Word, Digits, Signed}
-use Rattle.mj_ast.specs.Expressions.{Symbol, Constant, Name, Overlong, Mark, Other, symbol, Phrases, expressions, variables, expr_symbols, variable_symbols, expr_nesting, variable_nesting, expr_width, variable_width}
-use Rattle.mj_expr.specs.Machine.{Outer, Alone, InGroup, InList, Within, Front, Right, Under, Place, AsOperand, AsTarget, State, Wanted, Sought, Marked, Named, Held, Got, placed, Limits, Phrase, Whole, Target, Accept, refused, ends, finish}
-use Rattle.mj_expr.proofs.Zipper.{Kind, AnExpression, AVariable, IsKind, Fits, HasRead, good_depth, place_good_depth, plug, outer_plug, place_plug, plug_symbols, outer_plug_symbols, place_plug_symbols, plug_fits, outer_plug_fits, place_plug_fits, before, outer_before, place_before, after, outer_after, place_after, phrase_symbols, phrase_nesting, phrase_width, start, ForExpression, ForVariable}
+use Rattle.mj_ast.specs.Expressions.{Symbol, Constant, Name, Applied, Overlong, Mark, Other, symbol, Phrases, expressions, variables, expr_symbols, variable_symbols, operand_symbols, list_symbols, more_symbols, count, least, expr_nesting, variable_nesting, expr_width, variable_width, expr_misfits, variable_misfits}
+use Rattle.mj_expr.specs.Machine.{Outer, Alone, InGroup, InList, InCondition, InChoice, Owner, Subscripts, Arguments, Within, Front, Right, Under, Place, AsOperand, AsTarget, State, Wanted, Sought, Marked, Named, Calling, Held, Got, placed, Limits, least_of, Phrase, Whole, Target, Accept, refused, ends, finish}
+use Rattle.mj_expr.proofs.Zipper.{Kind, AnExpression, AVariable, IsKind, Fits, HasRead, good_depth, place_good_depth, plug, outer_plug, place_plug, plug_symbols, outer_plug_symbols, place_plug_symbols, plug_fits, outer_plug_fits, place_plug_fits, before, outer_before, place_before, after, outer_after, owner_after, place_after, phrase_symbols, phrase_nesting, phrase_width, phrase_misfits, start, ForExpression, ForVariable, zero_expr, pad, pad_count, pad_nesting, pad_width, pad_misfits, list_nesting-some, least_most}
 use Rattle.mj_expr.proofs.Facts.{filled_outer}
 use Rattle.mj_expr.proofs.States.{variable_read}
 
@@ -45,12 +46,32 @@ split (x ∷ xs) (k ∷ ks) ys e =
       last = s.last;
     }
 
+-- the tokens of arguments that are missing
+more_pads : (n : ℕ) → (ts : List Token) × (map symbol ts ≡ more_symbols (pad n))
+more_pads zero = (Signed Close ∷ [], refl)
+more_pads (suc n) = let h = more_pads n in (Signed Comma ∷ Digits (48 ∷ []) ∷ h.0, ap (λ (zs : List Symbol). Mark Comma ∷ (expr_symbols zero_expr ++ zs)) h.1)
+
+list_pads : (n : ℕ) → (ts : List Token) × (map symbol ts ≡ list_symbols (pad n))
+list_pads zero = ([], refl)
+list_pads (suc n) = let h = more_pads n in (Signed Open ∷ Digits (48 ∷ []) ∷ h.0, ap (λ (zs : List Symbol). Mark Open ∷ (expr_symbols zero_expr ++ zs)) h.1)
+
 -- the tokens that close what is open
 mutual
   outer_closers : (o : Outer) → (ts : List Token) × (map symbol ts ≡ outer_after o)
   outer_closers Alone = ([], refl)
   outer_closers (InGroup c) = let h = closers c in (Signed Close ∷ h.0, ap (λ (zs : List Symbol). Mark Close ∷ zs) h.1)
-  outer_closers (InList scope word es p) = let h = place_closers p in (Signed Close ∷ h.0, ap (λ (zs : List Symbol). Mark Close ∷ zs) h.1)
+  outer_closers (InList u es) =
+      let h = owner_closers u in
+      let k = more_pads (least_of u - (count es + 1)) in
+      (k.0 ++ h.0, map-append symbol k.0 h.0 ∙ ap (λ (zs : List Symbol). zs ++ map symbol h.0) k.1 ∙ ap (λ (zs : List Symbol). more_symbols (pad (least_of u - (count es + 1))) ++ zs) h.1)
+  outer_closers (InCondition ps c) =
+      let h = closers c in
+      (Signed Colon ∷ Digits (48 ∷ []) ∷ Signed Close ∷ h.0, ap (λ (zs : List Symbol). Mark Colon ∷ (expr_symbols zero_expr ++ Mark Close ∷ zs)) h.1)
+  outer_closers (InChoice ps a c) = let h = closers c in (Signed Close ∷ h.0, ap (λ (zs : List Symbol). Mark Close ∷ zs) h.1)
+
+  owner_closers : (u : Owner) → (ts : List Token) × (map symbol ts ≡ owner_after u)
+  owner_closers (Subscripts scope word p) = place_closers p
+  owner_closers (Arguments f c) = closers c
 
   closers : (c : Within) → (ts : List Token) × (map symbol ts ≡ after c)
   closers (Front o) = outer_closers o
@@ -82,28 +103,41 @@ pub read_goes : (K : Kind) (m : Limits) (s : State) (ks : List Symbol) → HasRe
 read_goes K m (Wanted c) ks h =
     let t : Operand = Literal (canonic_text (pos 0)) in
     goes_on K m (plug c t) (before c) (Constant (canonic_text (pos 0)) ∷ []) (after c) ks (Digits (48 ∷ []) ∷ []) (closers c).0
-    (plug_fits c K m t h.good (omega (arith, good_depth K m c h.good)) (omega arith)) (plug_symbols c t) (closers c).1
+    (plug_fits c K m t h.good (omega (arith, good_depth K m c h.good)) (omega arith) refl) (plug_symbols c t) (closers c).1
     (ap (λ (v : List Symbol). v ++ Constant (canonic_text (pos 0)) ∷ []) h.read)
 read_goes K m (Sought p) ks h =
     let v : Variable = Var Local (65 ∷ []) No in
     goes_on K m (place_plug p v) (place_before p) (Name (65 ∷ []) ∷ []) (place_after p) ks (Word (65 ∷ []) ∷ []) (place_closers p).0
-    (place_plug_fits p K m v h.good (omega (arith, place_good_depth K m p h.good)) (omega arith)) (place_plug_symbols p v) (place_closers p).1
+    (place_plug_fits p K m v h.good (omega (arith, place_good_depth K m p h.good)) (omega arith) refl) (place_plug_symbols p v) (place_closers p).1
     (ap (λ (u : List Symbol). u ++ Name (65 ∷ []) ∷ []) h.read)
 read_goes K m (Marked p) ks h =
     let v : Variable = Var Global (65 ∷ []) No in
     goes_on K m (place_plug p v) (place_before p) (variable_symbols v) (place_after p) ks (Word (65 ∷ []) ∷ []) (place_closers p).0
-    (place_plug_fits p K m v h.good (omega (arith, place_good_depth K m p h.good)) (omega arith)) (place_plug_symbols p v) (place_closers p).1
+    (place_plug_fits p K m v h.good (omega (arith, place_good_depth K m p h.good)) (omega arith) refl) (place_plug_symbols p v) (place_closers p).1
     (sym (append_assoc (place_before p) _ (Name (65 ∷ []) ∷ [])) ∙ ap (λ (u : List Symbol). u ++ Name (65 ∷ []) ∷ []) h.read)
 read_goes K m (Named scope word p) ks h =
     let v : Variable = Var scope word No in
     goes_on K m (place_plug p v) (place_before p) (variable_symbols v) (place_after p) ks [] (place_closers p).0
-    (place_plug_fits p K m v h.good (omega (arith, place_good_depth K m p h.good)) (omega arith)) (place_plug_symbols p v) (place_closers p).1
+    (place_plug_fits p K m v h.good (omega (arith, place_good_depth K m p h.good)) (omega arith) refl) (place_plug_symbols p v) (place_closers p).1
     (h.read ∙ sym (append-nil ks))
+read_goes K m (Calling callee.Select c) ks h =
+    let t : Operand = Select (Last zero_expr zero_expr) in
+    let more : List Symbol = Mark Open ∷ (expr_symbols zero_expr ++ Mark Colon ∷ (expr_symbols zero_expr ++ Mark Close ∷ [])) in
+    goes_on K m (plug c t) (before c) (operand_symbols t) (after c) ks (Signed Open ∷ Digits (48 ∷ []) ∷ Signed Colon ∷ Digits (48 ∷ []) ∷ Signed Close ∷ []) (closers c).0
+    (plug_fits c K m t h.good.0 (omega (arith, h.good.1)) (omega arith) refl) (plug_symbols c t) (closers c).1
+    (sym (append_assoc (before c) (Applied callee.Select ∷ []) more) ∙ ap (λ (v : List Symbol). v ++ more) h.read)
+read_goes K m (Calling (callee.Texts f) c) ks h =
+    let n = least f in
+    let t : Operand = Call f (pad n) in
+    let k = list_pads n in
+    goes_on K m (plug c t) (before c) (operand_symbols t) (after c) ks k.0 (closers c).0
+    (plug_fits c K m t h.good.0 (omega (arith, list_nesting-some (pad n), pad_nesting n, h.good.1)) (omega (arith, pad_width n)) (omega (arith, pad_misfits n, pad_count n, least_most f))) (plug_symbols c t) (closers c).1
+    (sym (append_assoc (before c) (Applied (callee.Texts f) ∷ []) (list_symbols (pad n))) ∙ ap (λ (v : List Symbol). v ++ list_symbols (pad n)) h.read ∙ ap (λ (v : List Symbol). ks ++ v) (sym k.1))
 read_goes K m (Held x r o) ks h =
     goes_on K m (outer_plug o (Chain x r)) (outer_before o) (expr_symbols (Chain x r)) (outer_after o) ks [] (outer_closers o).0
-    (outer_plug_fits o K m (Chain x r) h.good.0 h.good.1 h.good.2) (outer_plug_symbols o (Chain x r)) (outer_closers o).1
+    (outer_plug_fits o K m (Chain x r) h.good.0 h.good.1 h.good.2 h.good.3) (outer_plug_symbols o (Chain x r)) (outer_closers o).1
     (h.read ∙ sym (append-nil ks))
-read_goes K m (Got v) ks h = record { more = []; phrase = Target v; spelled = append-nil ks ∙ sym h.read; fits = place_plug_fits AsTarget K m v h.good.0 (omega (arith, h.good.1)) h.good.2 }
+read_goes K m (Got v) ks h = record { more = []; phrase = Target v; spelled = append-nil ks ∙ sym h.read; fits = place_plug_fits AsTarget K m v h.good.0 (omega (arith, h.good.1)) h.good.2 h.good.3 }
 
 pub start_read : (K : Kind) (m : Limits) → HasRead K m (start K) []
 start_read AnExpression m = record { good = tt; read = refl }
@@ -116,6 +150,7 @@ refused_accept [] p r e = cc
 refused_accept (Overlong ∷ ks) p r e = cc
 refused_accept (Constant v ∷ ks) p r e = cc
 refused_accept (Name w ∷ ks) p r e = cc
+refused_accept (Applied f ∷ ks) p r e = cc
 refused_accept (Mark s ∷ ks) p r e = cc
 refused_accept (Other ∷ ks) p r e = cc
 
@@ -132,37 +167,40 @@ accept_rest p q r t e = cc
 pub accept_phrase : (p q : Phrase) (r t : List Symbol) → Accept p r ≡ Accept q t → p ≡ q
 accept_phrase p q r t e = cc
 
-whole_accepts : (K : Kind) (m : Limits) (e : Expr) (s : State) (ks : List Symbol) (p : Phrase) (r front : List Symbol) → ((ls : List Symbol) → finish s ls ≡ Accept (Whole e) ls) → ForExpression K → expr_nesting e + 0 ≤ m.depth → expr_width e ≤ m.width → expr_symbols e ≡ front → finish s ks ≡ Accept p r → Accepts K m s ks p r front
-whole_accepts K m e s ks p r front again k n w read h =
+whole_accepts : (K : Kind) (m : Limits) (e : Expr) (s : State) (ks : List Symbol) (p : Phrase) (r front : List Symbol) → ((ls : List Symbol) → finish s ls ≡ Accept (Whole e) ls) → ForExpression K → expr_nesting e + 0 ≤ m.depth → expr_width e ≤ m.width → expr_misfits e ≡ 0 → expr_symbols e ≡ front → finish s ks ≡ Accept p r → Accepts K m s ks p r front
+whole_accepts K m e s ks p r front again k n w f read h =
     let same : Whole e ≡ p = accept_phrase (Whole e) p ks r (sym (again ks) ∙ h) in
     let P : Phrase → Type 0 = λ q. Accepts K m s ks q r front in
-    subst P same (record { rest = accept_rest (Whole e) p ks r (sym (again ks) ∙ h); again = again; fits = outer_plug_fits Alone K m e k n w; spelled = read })
+    subst P same (record { rest = accept_rest (Whole e) p ks r (sym (again ks) ∙ h); again = again; fits = outer_plug_fits Alone K m e k n w f; spelled = read })
 
-target_accepts : (K : Kind) (m : Limits) (v : Variable) (s : State) (ks : List Symbol) (p : Phrase) (r front : List Symbol) → ((ls : List Symbol) → finish s ls ≡ Accept (Target v) ls) → ForVariable K → variable_nesting v ≤ m.depth → variable_width v ≤ m.width → variable_symbols v ≡ front → finish s ks ≡ Accept p r → Accepts K m s ks p r front
-target_accepts K m v s ks p r front again k n w read h =
+target_accepts : (K : Kind) (m : Limits) (v : Variable) (s : State) (ks : List Symbol) (p : Phrase) (r front : List Symbol) → ((ls : List Symbol) → finish s ls ≡ Accept (Target v) ls) → ForVariable K → variable_nesting v ≤ m.depth → variable_width v ≤ m.width → variable_misfits v ≡ 0 → variable_symbols v ≡ front → finish s ks ≡ Accept p r → Accepts K m s ks p r front
+target_accepts K m v s ks p r front again k n w f read h =
     let same : Target v ≡ p = accept_phrase (Target v) p ks r (sym (again ks) ∙ h) in
     let P : Phrase → Type 0 = λ q. Accepts K m s ks q r front in
-    subst P same (record { rest = accept_rest (Target v) p ks r (sym (again ks) ∙ h); again = again; fits = place_plug_fits AsTarget K m v k (omega arith) w; spelled = read })
+    subst P same (record { rest = accept_rest (Target v) p ks r (sym (again ks) ∙ h); again = again; fits = place_plug_fits AsTarget K m v k (omega arith) w f; spelled = read })
 
 held_accepts : (K : Kind) (m : Limits) (x : Operand) (t : Tails) (o : Outer) (s : State) (ks : List Symbol) (p : Phrase) (r front : List Symbol) → ((ls : List Symbol) → finish s ls ≡ ends (Held x t o) ls) → HasRead K m (Held x t o) front → finish s ks ≡ Accept p r → Accepts K m s ks p r front
-held_accepts K m x t Alone s ks p r front again h e = whole_accepts K m (Chain x t) s ks p r front again h.good.0 h.good.1 h.good.2 h.read e
+held_accepts K m x t Alone s ks p r front again h e = whole_accepts K m (Chain x t) s ks p r front again h.good.0 h.good.1 h.good.2 h.good.3 h.read e
 held_accepts K m x t (InGroup c) s ks p r front again h e = absurd (refused_accept ks p r (sym (again ks) ∙ e))
-held_accepts K m x t (InList scope word es q) s ks p r front again h e = absurd (refused_accept ks p r (sym (again ks) ∙ e))
+held_accepts K m x t (InList u es) s ks p r front again h e = absurd (refused_accept ks p r (sym (again ks) ∙ e))
+held_accepts K m x t (InCondition ps c) s ks p r front again h e = absurd (refused_accept ks p r (sym (again ks) ∙ e))
+held_accepts K m x t (InChoice ps a c) s ks p r front again h e = absurd (refused_accept ks p r (sym (again ks) ∙ e))
 
 named_accepts : (K : Kind) (m : Limits) (scope : Scope) (word : List ℕ) (q : Place) (ks : List Symbol) (p : Phrase) (r front : List Symbol) → HasRead K m (placed (Var scope word No) q) front → finish (Named scope word q) ks ≡ Accept p r → Accepts K m (Named scope word q) ks p r front
 named_accepts K m scope word (AsOperand c) ks p r front h e =
     let f = filled_outer (Value (Var scope word No)) c in
     let P : State → Type 0 = λ s. HasRead K m s front in
     held_accepts K m f.0 f.1 _ (Named scope word (AsOperand c)) ks p r front (λ ls. ap (λ (s : State). ends s ls) f.2) (subst P f.2 h) e
-named_accepts K m scope word AsTarget ks p r front h e = target_accepts K m (Var scope word No) (Named scope word AsTarget) ks p r front (λ ls. refl) h.good.0 h.good.1 h.good.2 h.read e
+named_accepts K m scope word AsTarget ks p r front h e = target_accepts K m (Var scope word No) (Named scope word AsTarget) ks p r front (λ ls. refl) h.good.0 h.good.1 h.good.2 h.good.3 h.read e
 
 pub accepts : (K : Kind) (m : Limits) (s : State) (ks : List Symbol) (p : Phrase) (r front : List Symbol) → HasRead K m s front → finish s ks ≡ Accept p r → Accepts K m s ks p r front
 accepts K m (Wanted c) ks p r front h e = absurd (refused_accept ks p r e)
 accepts K m (Sought q) ks p r front h e = absurd (refused_accept ks p r e)
 accepts K m (Marked q) ks p r front h e = absurd (refused_accept ks p r e)
 accepts K m (Named scope word q) ks p r front h e = named_accepts K m scope word q ks p r front (variable_read K m scope word q front h) e
+accepts K m (Calling f c) ks p r front h e = absurd (refused_accept ks p r e)
 accepts K m (Held x t o) ks p r front h e = held_accepts K m x t o (Held x t o) ks p r front (λ ls. refl) h e
-accepts K m (Got v) ks p r front h e = target_accepts K m v (Got v) ks p r front (λ ls. refl) h.good.0 h.good.1 h.good.2 h.read e
+accepts K m (Got v) ks p r front h e = target_accepts K m v (Got v) ks p r front (λ ls. refl) h.good.0 h.good.1 h.good.2 h.good.3 h.read e
 
 -- ---- kinds of phrases
 
@@ -172,6 +210,7 @@ pub record Wraps {T : Type 0} (K : Kind) (P : Phrases T) : Type 0 where
   pub symbols : (t : T) → phrase_symbols (wrap t) ≡ P.symbols t
   pub nesting : (t : T) → phrase_nesting (wrap t) ≡ P.nesting t
   pub width : (t : T) → phrase_width (wrap t) ≡ P.width t
+  pub misfits : (t : T) → phrase_misfits (wrap t) ≡ P.misfits t
   pub unwrap : (p : Phrase) → IsKind K p → (t : T) × (wrap t ≡ p)
   pub once : (t u : T) → wrap t ≡ wrap u → t ≡ u
 
@@ -190,7 +229,7 @@ pub target_once : (v w : Variable) → Target v ≡ Target w → v ≡ w
 target_once v w h = cc
 
 abbrev pub wraps_expressions : Wraps AnExpression expressions
-wraps_expressions = record { wrap = Whole; kind = λ t. tt; symbols = λ t. refl; nesting = λ t. refl; width = λ t. refl; unwrap = unwrap_expr; once = whole_once }
+wraps_expressions = record { wrap = Whole; kind = λ t. tt; symbols = λ t. refl; nesting = λ t. refl; width = λ t. refl; misfits = λ t. refl; unwrap = unwrap_expr; once = whole_once }
 
 abbrev pub wraps_variables : Wraps AVariable variables
-wraps_variables = record { wrap = Target; kind = λ t. tt; symbols = λ t. refl; nesting = λ t. refl; width = λ t. refl; unwrap = unwrap_variable; once = target_once }
+wraps_variables = record { wrap = Target; kind = λ t. tt; symbols = λ t. refl; nesting = λ t. refl; width = λ t. refl; misfits = λ t. refl; unwrap = unwrap_variable; once = target_once }

@@ -1,15 +1,16 @@
 -- Where a phrase ends, and what is known at any state of commas, constants and names.
-use Rattle.std.proofs.Common.{◌≡◌, ℕ, ◌+◌, ◌≤◌, List, [], ◌∷◌, ◌++◌, length, refl, ap, sym, ◌∙◌, subst, Bool, true, false, nat_lt, Option, Some, None, arith}
-use Rattle.std.specs.Prelude.{cond, not}
+use Rattle.std.proofs.Common.{◌≡◌, ℕ, ◌+◌, ◌≤◌, List, [], ◌∷◌, ◌++◌, length, refl, ap, sym, ◌∙◌, subst, Bool, true, false, nat_lt, Option, Some, None, arith, nat_le}
+use Rattle.std.specs.Prelude.{cond, not, ◌&&◌}
 use Rattle.mj_ast.specs.declared.sign.Sign.{Sign}
-use Rattle.mj_ast.specs.declared.sign.Sign.TheVariants.{Caret, Open, Close, Comma}
+use Rattle.mj_ast.specs.declared.sign.Sign.TheVariants.{Caret, Open, Close, Comma, Colon}
 use Rattle.mj_oper.specs.declared.op.UnaryOp.{UnaryOp}
 use Rattle.mj_oper.specs.declared.op.Op.{Op}
 use Rattle.mj_ast.specs.declared.expr.Scope.{Scope}
 use Rattle.mj_ast.specs.declared.expr.Scope.TheVariants.{Local, Global}
-use Rattle.mj_ast.specs.Syntax.{Expr, Chain, Operand, Literal, Value, Tails, Variable, Var, No, Group, Exprs}
-use Rattle.mj_ast.specs.Expressions.{Symbol, Constant, Name, Overlong, Mark, Other, count}
-use Rattle.mj_expr.specs.Machine.{Outer, Alone, InGroup, InList, Within, Place, AsOperand, AsTarget, State, Wanted, Sought, Marked, Named, Held, Got, filled, placed, outer_of, Limits, Next, Go, Stuck, Deep, Long, opens, comma, is_full, is_full_in, stray_comma, close, want_other, want_sign, hold_other, hold_sign, hold, on, step, unary_of, binary_of, Phrase, Whole, Target, Outcome, Accept, StuckAt, DeepAt, TooLong, refused, ends, finish, run, turn, and_more}
+use Rattle.mj_ast.specs.Syntax.{Expr, Chain, Operand, Literal, Value, Tails, Variable, Var, No, Group, Call, Select, Exprs, Last}
+use Rattle.mj_ast.specs.declared.function.Callee.{Callee}
+use Rattle.mj_ast.specs.Expressions.{Symbol, Constant, Name, Applied, Overlong, Mark, Other, count}
+use Rattle.mj_expr.specs.Machine.{Outer, Alone, InGroup, InList, InCondition, InChoice, Owner, Subscripts, Arguments, before_choices, least_of, most_of, is_limited, Within, Place, AsOperand, AsTarget, State, Wanted, Sought, Marked, Named, Calling, Held, Got, filled, placed, closed, outer_of, Limits, Next, Go, Stuck, Deep, Long, opens, comma, is_full, is_full_in, stray_comma, close, want_other, want_sign, hold_other, hold_sign, hold, on, step, unary_of, binary_of, Phrase, Whole, Target, Outcome, Accept, StuckAt, DeepAt, TooLong, refused, ends, finish, run, turn, and_more}
 use Rattle.mj_expr.proofs.Facts.{filled_outer}
 use Rattle.mj_expr.proofs.Told.{accept_rest, accept_phrase}
 
@@ -20,6 +21,7 @@ no_accept [] p r e = cc
 no_accept (Overlong ∷ ks) p r e = cc
 no_accept (Constant v ∷ ks) p r e = cc
 no_accept (Name w ∷ ks) p r e = cc
+no_accept (Applied f ∷ ks) p r e = cc
 no_accept (Mark s ∷ ks) p r e = cc
 no_accept (Other ∷ ks) p r e = cc
 
@@ -38,7 +40,10 @@ ends_again (Marked q) ks p r e = absurd (no_accept ks p r e)
 ends_again (Named scope word q) ks p r e = absurd (no_accept ks p r e)
 ends_again (Held x t Alone) ks p r e = (accept_rest (Whole (Chain x t)) p ks r e, λ ls. ap (λ (q : Phrase). Accept q ls) (accept_phrase (Whole (Chain x t)) p ks r e))
 ends_again (Held x t (InGroup c)) ks p r e = absurd (no_accept ks p r e)
-ends_again (Held x t (InList scope word es q)) ks p r e = absurd (no_accept ks p r e)
+ends_again (Held x t (InList u es)) ks p r e = absurd (no_accept ks p r e)
+ends_again (Held x t (InCondition ps c)) ks p r e = absurd (no_accept ks p r e)
+ends_again (Held x t (InChoice ps a c)) ks p r e = absurd (no_accept ks p r e)
+ends_again (Calling f c) ks p r e = absurd (no_accept ks p r e)
 ends_again (Got v) ks p r e = (accept_rest (Target v) p ks r e, λ ls. ap (λ (q : Phrase). Accept q ls) (accept_phrase (Target v) p ks r e))
 
 again_as : (s : State) (ks : List Symbol) (p : Phrase) (r : List Symbol) → EndsAgain s ks p r → ((ls : List Symbol) → finish s ls ≡ ends s ls) → Again s ks p r
@@ -49,6 +54,7 @@ finish_again (Wanted c) ks p r e = again_as (Wanted c) ks p r (ends_again (Wante
 finish_again (Sought q) ks p r e = again_as (Sought q) ks p r (ends_again (Sought q) ks p r e) (λ ls. refl)
 finish_again (Marked q) ks p r e = again_as (Marked q) ks p r (ends_again (Marked q) ks p r e) (λ ls. refl)
 finish_again (Named scope word q) ks p r e = let h = ends_again (placed (Var scope word No) q) ks p r e in record { rest = h.0; again = h.1 }
+finish_again (Calling f c) ks p r e = again_as (Calling f c) ks p r (ends_again (Calling f c) ks p r e) (λ ls. refl)
 finish_again (Held x t o) ks p r e = again_as (Held x t o) ks p r (ends_again (Held x t o) ks p r e) (λ ls. refl)
 finish_again (Got v) ks p r e = again_as (Got v) ks p r (ends_again (Got v) ks p r e) (λ ls. refl)
 
@@ -81,6 +87,10 @@ placed_reached : (v : Variable) (p : Place) → IsReached (placed v p)
 placed_reached v (AsOperand c) = filled_reached (Value v) c
 placed_reached v AsTarget = tt
 
+closed_reached : (u : Owner) (es : Exprs) → IsReached (closed u es)
+closed_reached (Subscripts scope word p) es = placed_reached (Var scope word es) p
+closed_reached (Arguments f c) es = filled_reached (Call f es) c
+
 opens_reached : (s : State) (b : Bool) → IsReached s → NextReached (cond b (Go s) Deep)
 opens_reached s true h = h
 opens_reached s false h = tt
@@ -89,9 +99,13 @@ full_reached : (b : Bool) → NextReached (cond b Long Stuck)
 full_reached true = tt
 full_reached false = tt
 
-comma_reached : (s : State) (b : Bool) → IsReached s → NextReached (cond b (Go s) Long)
-comma_reached s true h = h
-comma_reached s false h = tt
+comma_reached : (s : State) (b d : Bool) → IsReached s → NextReached (cond b (Go s) (cond d Long Stuck))
+comma_reached s true d h = h
+comma_reached s false d h = full_reached d
+
+close_reached : (s : State) (b : Bool) → IsReached s → NextReached (cond b (Go s) Stuck)
+close_reached s true h = h
+close_reached s false h = tt
 
 want_other_reached : (m : Limits) (c : Within) (s : Sign) → NextReached (want_other m c s)
 want_other_reached m c Caret = tt
@@ -106,10 +120,19 @@ want_sign_reached m c s None = want_other_reached m c s
 hold_other_reached : (m : Limits) (e : Expr) (o : Outer) (s : Sign) → NextReached (hold_other m e o s)
 hold_other_reached m e Alone Close = tt
 hold_other_reached m e (InGroup c) Close = filled_reached (Group e) c
-hold_other_reached m e (InList scope word es p) Close = placed_reached (Var scope word (and_more es e)) p
+hold_other_reached m e (InList u es) Close = close_reached _ (nat_le (least_of u) (count es + 1)) (closed_reached u (and_more es e))
+hold_other_reached m e (InCondition ps c) Close = tt
+hold_other_reached m e (InChoice ps a c) Close = filled_reached (Select (before_choices ps (Last a e))) c
+hold_other_reached m e Alone Colon = tt
+hold_other_reached m e (InGroup c) Colon = tt
+hold_other_reached m e (InList u es) Colon = tt
+hold_other_reached m e (InCondition ps c) Colon = tt
+hold_other_reached m e (InChoice ps a c) Colon = tt
 hold_other_reached m e Alone Comma = tt
 hold_other_reached m e (InGroup c) Comma = tt
-hold_other_reached m e (InList scope word es p) Comma = comma_reached _ (nat_lt (count es + 1) m.width) tt
+hold_other_reached m e (InList u es) Comma = comma_reached _ (nat_lt (count es + 1) (most_of m u)) (is_limited u) tt
+hold_other_reached m e (InCondition ps c) Comma = tt
+hold_other_reached m e (InChoice ps a c) Comma = tt
 hold_other_reached m e o s = tt
 
 hold_sign_reached : (m : Limits) (x : Operand) (r : Tails) (o : Outer) (s : Sign) (q : Option Op) → NextReached (hold_sign m x r o s q)
@@ -120,6 +143,7 @@ hold_reached : (m : Limits) (x : Operand) (r : Tails) (o : Outer) (k : Symbol) �
 hold_reached m x r o (Mark s) = hold_sign_reached m x r o s (binary_of s)
 hold_reached m x r o (Constant v) = tt
 hold_reached m x r o (Name w) = tt
+hold_reached m x r o (Applied f) = tt
 hold_reached m x r o Overlong = tt
 hold_reached m x r o Other = tt
 
@@ -129,11 +153,13 @@ on_reached m (Wanted c) k = tt
 on_reached m (Sought p) k = tt
 on_reached m (Marked p) k = tt
 on_reached m (Named scope word p) k = tt
+on_reached m (Calling f c) k = tt
 on_reached m (Got v) k = tt
 
 pub step_reached : (m : Limits) (s : State) (k : Symbol) → NextReached (step m s k)
 step_reached m (Wanted c) (Constant v) = filled_reached (Literal v) c
 step_reached m (Wanted c) (Name w) = tt
+step_reached m (Wanted c) (Applied f) = opens_reached _ (nat_lt _ m.depth) tt
 step_reached m (Wanted c) (Mark s) = want_sign_reached m c s (unary_of s)
 step_reached m (Wanted c) Overlong = tt
 step_reached m (Wanted c) Other = tt
@@ -145,6 +171,8 @@ step_reached m (Marked p) (Mark Comma) = full_reached (is_full_in m p)
 step_reached m (Marked p) k = tt
 step_reached m (Named scope word p) (Mark Open) = opens_reached _ (nat_lt _ m.depth) tt
 step_reached m (Named scope word p) k = on_reached m (placed (Var scope word No) p) k
+step_reached m (Calling f c) (Mark Open) = tt
+step_reached m (Calling f c) k = tt
 step_reached m (Held x r o) k = hold_reached m x r o k
 step_reached m (Got v) k = tt
 
@@ -171,6 +199,7 @@ overlong_stuck m (Wanted c) = refl
 overlong_stuck m (Sought p) = refl
 overlong_stuck m (Marked p) = refl
 overlong_stuck m (Named scope word p) = on_stuck m (Var scope word No) p Overlong (λ x r o. refl)
+overlong_stuck m (Calling f c) = refl
 overlong_stuck m (Held x r o) = refl
 overlong_stuck m (Got v) = refl
 
@@ -188,7 +217,10 @@ plain_easy m (Named scope word p) (Constant v) h = easy_as (step m (Named scope 
 plain_easy m (Named scope word p) (Name w) h = easy_as (step m (Named scope word p) (Name w)) Stuck (on_stuck m (Var scope word No) p (Name w) (λ x r o. refl)) tt
 plain_easy m (Held x r o) (Constant v) h = tt
 plain_easy m (Held x r o) (Name w) h = tt
+plain_easy m (Calling f c) (Constant v) h = tt
+plain_easy m (Calling f c) (Name w) h = tt
 plain_easy m (Got v) k h = tt
+plain_easy m s (Applied f) h = absurd h
 plain_easy m s (Mark z) h = absurd h
 plain_easy m s Overlong h = absurd h
 plain_easy m s Other h = absurd h
@@ -204,14 +236,20 @@ level_full : (b : Bool) → IsNoLevel (cond b Long Stuck)
 level_full true = tt
 level_full false = tt
 
-level_comma : (s : State) (b : Bool) → IsNoLevel (cond b (Go s) Long)
-level_comma s true = tt
-level_comma s false = tt
+level_comma : (s : State) (b d : Bool) → IsNoLevel (cond b (Go s) (cond d Long Stuck))
+level_comma s true d = tt
+level_comma s false d = level_full d
+
+level_close : (s : State) (b : Bool) → IsNoLevel (cond b (Go s) Stuck)
+level_close s true = tt
+level_close s false = tt
 
 held_level : (m : Limits) (x : Operand) (r : Tails) (o : Outer) → IsNoLevel (hold m x r o (Mark Comma))
 held_level m x r Alone = tt
 held_level m x r (InGroup c) = tt
-held_level m x r (InList scope word es p) = level_comma _ (nat_lt (count es + 1) m.width)
+held_level m x r (InList u es) = level_comma _ (nat_lt (count es + 1) (most_of m u)) (is_limited u)
+held_level m x r (InCondition ps c) = tt
+held_level m x r (InChoice ps a c) = tt
 
 on_level : (m : Limits) (s : State) → IsNoLevel (on m s (Mark Comma))
 on_level m (Held x r o) = held_level m x r o
@@ -219,6 +257,7 @@ on_level m (Wanted c) = tt
 on_level m (Sought p) = tt
 on_level m (Marked p) = tt
 on_level m (Named scope word p) = tt
+on_level m (Calling f c) = tt
 on_level m (Got v) = tt
 
 pub comma_level : (m : Limits) (s : State) → IsNoLevel (step m s (Mark Comma))
@@ -226,6 +265,7 @@ comma_level m (Wanted c) = level_full (is_full m (outer_of c))
 comma_level m (Sought p) = tt
 comma_level m (Marked p) = level_full (is_full_in m p)
 comma_level m (Named scope word p) = on_level m (placed (Var scope word No) p)
+comma_level m (Calling f c) = tt
 comma_level m (Held x r o) = held_level m x r o
 comma_level m (Got v) = tt
 
@@ -240,14 +280,17 @@ stuck_long e = cc
 go_long : (s : State) → Go s ≡ Long → ⊥
 go_long s e = cc
 
-full_as : (s : State) (b : Bool) → cond b (Go s) Long ≡ Long → not b ≡ true
-full_as s true f = absurd (go_long s f)
-full_as s false f = refl
+full_as : (s : State) (b d : Bool) → cond b (Go s) (cond d Long Stuck) ≡ Long → (d && not b) ≡ true
+full_as s true d f = absurd (go_long s f)
+full_as s false true f = refl
+full_as s false false f = absurd (stuck_long f)
 
 held_full : (m : Limits) (x : Operand) (r : Tails) (o : Outer) → hold m x r o (Mark Comma) ≡ Long → is_full m o ≡ true
 held_full m x r Alone e = absurd (stuck_long e)
 held_full m x r (InGroup c) e = absurd (stuck_long e)
-held_full m x r (InList scope word es p) e = full_as _ (nat_lt (count es + 1) m.width) e
+held_full m x r (InList u es) e = full_as _ (nat_lt (count es + 1) (most_of m u)) (is_limited u) e
+held_full m x r (InCondition ps c) e = absurd (stuck_long e)
+held_full m x r (InChoice ps a c) e = absurd (go_long _ e)
 
 filled_full : (m : Limits) (x : Operand) (c : Within) → step m (filled x c) (Mark Comma) ≡ Long → is_full m (outer_of c) ≡ true
 filled_full m x c e = let f = filled_outer x c in held_full m f.0 f.1 (outer_of c) (sym (ap (λ (s : State). step m s (Mark Comma)) f.2) ∙ e)
@@ -271,7 +314,10 @@ comma_after m (Named scope word p) (Constant v) i h = after_as m (Named scope wo
 comma_after m (Named scope word p) (Name w) i h = after_as m (Named scope word p) (step m (Named scope word p) (Name w)) (on_stuck m (Var scope word No) p (Name w) (λ x r o. refl))
 comma_after m (Held x r o) (Constant v) i h = tt
 comma_after m (Held x r o) (Name w) i h = tt
+comma_after m (Calling f c) (Constant v) i h = tt
+comma_after m (Calling f c) (Name w) i h = tt
 comma_after m (Got v) k i h = tt
+comma_after m s (Applied f) i h = absurd h
 comma_after m s (Mark z) i h = absurd h
 comma_after m s Overlong i h = absurd h
 comma_after m s Other i h = absurd h
@@ -305,10 +351,19 @@ deep_sign m c s None = deep_other m c s
 held_close_level : (m : Limits) (e : Expr) (o : Outer) (s : Sign) → IsNoLevel (hold_other m e o s)
 held_close_level m e Alone Close = tt
 held_close_level m e (InGroup c) Close = tt
-held_close_level m e (InList scope word es p) Close = tt
+held_close_level m e (InList u es) Close = level_close _ (nat_le (least_of u) (count es + 1))
+held_close_level m e (InCondition ps c) Close = tt
+held_close_level m e (InChoice ps a c) Close = tt
+held_close_level m e Alone Colon = tt
+held_close_level m e (InGroup c) Colon = tt
+held_close_level m e (InList u es) Colon = tt
+held_close_level m e (InCondition ps c) Colon = tt
+held_close_level m e (InChoice ps a c) Colon = tt
 held_close_level m e Alone Comma = tt
 held_close_level m e (InGroup c) Comma = tt
-held_close_level m e (InList scope word es p) Comma = level_comma _ (nat_lt (count es + 1) m.width)
+held_close_level m e (InList u es) Comma = level_comma _ (nat_lt (count es + 1) (most_of m u)) (is_limited u)
+held_close_level m e (InCondition ps c) Comma = tt
+held_close_level m e (InChoice ps a c) Comma = tt
 held_close_level m e o s = tt
 
 hold_sign_level : (m : Limits) (x : Operand) (r : Tails) (o : Outer) (s : Sign) (q : Option Op) → IsNoLevel (hold_sign m x r o s q)
@@ -319,6 +374,7 @@ hold_level : (m : Limits) (x : Operand) (r : Tails) (o : Outer) (k : Symbol) →
 hold_level m x r o (Mark s) = hold_sign_level m x r o s (binary_of s)
 hold_level m x r o (Constant v) = tt
 hold_level m x r o (Name w) = tt
+hold_level m x r o (Applied f) = tt
 hold_level m x r o Overlong = tt
 hold_level m x r o Other = tt
 
@@ -328,12 +384,14 @@ on_any_level m (Wanted c) k = tt
 on_any_level m (Sought p) k = tt
 on_any_level m (Marked p) k = tt
 on_any_level m (Named scope word p) k = tt
+on_any_level m (Calling f c) k = tt
 on_any_level m (Got v) k = tt
 
 pub step_deep : (m : Limits) (s : State) (k : Symbol) → DeepBy (λ l. step l s k) m (step m s k)
 step_deep m (Wanted c) (Mark s) = deep_sign m c s (unary_of s)
 step_deep m (Wanted c) (Constant v) = tt
 step_deep m (Wanted c) (Name w) = tt
+step_deep m (Wanted c) (Applied f) = deep_opens m _ _ (nat_lt _ m.depth) refl
 step_deep m (Wanted c) Overlong = tt
 step_deep m (Wanted c) Other = tt
 step_deep m (Sought p) (Name w) = tt
@@ -344,5 +402,7 @@ step_deep m (Marked p) (Mark Comma) = no_deep _ m _ (level_full (is_full_in m p)
 step_deep m (Marked p) k = tt
 step_deep m (Named scope word p) (Mark Open) = deep_opens m _ _ (nat_lt _ m.depth) refl
 step_deep m (Named scope word p) k = no_deep _ m _ (on_any_level m (placed (Var scope word No) p) k)
+step_deep m (Calling f c) (Mark Open) = tt
+step_deep m (Calling f c) k = tt
 step_deep m (Held x r o) k = no_deep _ m _ (hold_level m x r o k)
 step_deep m (Got v) k = tt

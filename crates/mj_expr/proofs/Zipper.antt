@@ -1,12 +1,17 @@
 -- What a state has read, and a shortest way to its end.
-use Rattle.std.proofs.Common.{◌≡◌, ℕ, ◌+◌, ◌≤◌, max, List, [], ◌∷◌, ◌++◌, refl, ap, sym, ◌∙◌, append_assoc, append-nil, arith}
-use Rattle.mj_ast.specs.declared.sign.Sign.TheVariants.{Caret, Open, Close, Comma}
+use Rattle.std.specs.Prelude.{pos}
+use Rattle.std.proofs.Common.{◌≡◌, ℕ, suc, zero, ◌+◌, ◌-◌, ◌≤◌, max, List, [], ◌∷◌, ◌++◌, refl, ap, sym, ◌∙◌, append_assoc, append-nil, arith}
+use Rattle.mj_ast.specs.declared.sign.Sign.TheVariants.{Caret, Open, Close, Comma, Colon}
 use Rattle.mj_ast.specs.declared.expr.Scope.{Scope}
 use Rattle.mj_ast.specs.declared.expr.Scope.TheVariants.{Local, Global}
 use Rattle.mj_oper.specs.declared.op.Op.{Op}
-use Rattle.mj_ast.specs.Syntax.{Expr, Chain, Tails, Done, Then, Operand, Value, Unary, Group, Variable, Var, Exprs, No, More}
-use Rattle.mj_ast.specs.Expressions.{Symbol, Name, Mark, scoped, unary_sign, binary_sign, expr_symbols, tails_symbols, operand_symbols, variable_symbols, list_symbols, more_symbols, count, expr_nesting, tails_nesting, operand_nesting, variable_nesting, list_nesting, exprs_nesting, expr_width, tails_width, operand_width, variable_width, exprs_width}
-use Rattle.mj_expr.specs.Machine.{Outer, Alone, InGroup, InList, Within, Front, Right, Under, Place, AsOperand, AsTarget, State, Wanted, Sought, Marked, Named, Held, Got, Limits, Phrase, Whole, Target, and_then, and_more, filled, placed, outer_depth, depth_of, place_depth}
+use Rattle.mj_num.specs.Number.{canonic_text}
+use Rattle.mj_ast.specs.declared.function.Function.{Function}
+use Rattle.mj_ast.specs.declared.function.Function.TheVariants.{Ascii, Char, Extract, Find, Justify, Length, Piece, Reverse, Translate}
+use Rattle.mj_ast.specs.declared.function.Callee.TheVariants as callee
+use Rattle.mj_ast.specs.Syntax.{Expr, Chain, Tails, Done, Then, Operand, Literal, Value, Unary, Group, Call, Select, Variable, Var, Exprs, No, More, Choices, Last}
+use Rattle.mj_ast.specs.Expressions.{Symbol, Constant, Name, Applied, Mark, scoped, unary_sign, binary_sign, expr_symbols, tails_symbols, operand_symbols, variable_symbols, list_symbols, more_symbols, choices_symbols, count, least, most, expr_nesting, tails_nesting, operand_nesting, variable_nesting, list_nesting, exprs_nesting, choices_nesting, expr_width, tails_width, operand_width, variable_width, exprs_width, choices_width, expr_misfits, tails_misfits, operand_misfits, variable_misfits, exprs_misfits, choices_misfits}
+use Rattle.mj_expr.specs.Machine.{Outer, Alone, InGroup, InList, InCondition, InChoice, Owner, Subscripts, Arguments, Within, Front, Right, Under, Place, AsOperand, AsTarget, Pairs, NoPairs, Pair, and_pair, before_choices, State, Wanted, Sought, Marked, Named, Calling, Held, Got, Limits, Phrase, Whole, Target, and_then, and_more, filled, placed, closed, outer_depth, owner_depth, depth_of, place_depth, least_of, most_of}
 
 -- ---- spelling of what grows at its end
 
@@ -39,6 +44,38 @@ list_symbols-more (More f es) e =
     ap (λ (ks : List Symbol). Mark Open ∷ (expr_symbols f ++ ks)) (more_symbols-more es e)
     ∙ ap (λ (ks : List Symbol). Mark Open ∷ ks) (sym (append_assoc (expr_symbols f) (Mark Comma ∷ listed es) (expr_symbols e ++ Mark Close ∷ [])))
 
+-- with others behind
+abbrev pub joined : Exprs → Exprs → Exprs
+joined No fs = fs
+joined (More e es) fs = More e (joined es fs)
+
+more_symbols-joined : (es : Exprs) (e : Expr) (r : Exprs) → more_symbols (joined (and_more es e) r) ≡ Mark Comma ∷ (listed es ++ (expr_symbols e ++ more_symbols r))
+more_symbols-joined No e r = refl
+more_symbols-joined (More f es) e r =
+    ap (λ (ks : List Symbol). Mark Comma ∷ (expr_symbols f ++ ks)) (more_symbols-joined es e r)
+    ∙ ap (λ (ks : List Symbol). Mark Comma ∷ ks) (sym (append_assoc (expr_symbols f) (Mark Comma ∷ listed es) (expr_symbols e ++ more_symbols r)))
+
+list_symbols-joined : (es : Exprs) (e : Expr) (r : Exprs) → list_symbols (joined (and_more es e) r) ≡ Mark Open ∷ (listed es ++ (expr_symbols e ++ more_symbols r))
+list_symbols-joined No e r = refl
+list_symbols-joined (More f es) e r =
+    ap (λ (ks : List Symbol). Mark Open ∷ (expr_symbols f ++ ks)) (more_symbols-joined es e r)
+    ∙ ap (λ (ks : List Symbol). Mark Open ∷ ks) (sym (append_assoc (expr_symbols f) (Mark Comma ∷ listed es) (expr_symbols e ++ more_symbols r)))
+
+-- conditions, each with a colon, its value and a comma behind it
+abbrev pub pairs_symbols : Pairs → List Symbol
+pairs_symbols NoPairs = []
+pairs_symbols (Pair c e rest) = expr_symbols c ++ Mark Colon ∷ (expr_symbols e ++ Mark Comma ∷ pairs_symbols rest)
+
+pub pairs_symbols-and : (ps : Pairs) (c e : Expr) → pairs_symbols (and_pair ps c e) ≡ pairs_symbols ps ++ (expr_symbols c ++ Mark Colon ∷ (expr_symbols e ++ Mark Comma ∷ []))
+pairs_symbols-and NoPairs c e = refl
+pairs_symbols-and (Pair a b ps) c e =
+    ap (λ (ks : List Symbol). expr_symbols a ++ Mark Colon ∷ (expr_symbols b ++ Mark Comma ∷ ks)) (pairs_symbols-and ps c e) ∙ simp append_assoc
+
+pub choices_symbols-before : (ps : Pairs) (x : Choices) → choices_symbols (before_choices ps x) ≡ pairs_symbols ps ++ choices_symbols x
+choices_symbols-before NoPairs x = refl
+choices_symbols-before (Pair a b ps) x =
+    ap (λ (ks : List Symbol). expr_symbols a ++ Mark Colon ∷ (expr_symbols b ++ Mark Comma ∷ ks)) (choices_symbols-before ps x) ∙ simp append_assoc
+
 pub scoped-append : (scope : Scope) (xs ys : List Symbol) → scoped scope xs ++ ys ≡ scoped scope (xs ++ ys)
 scoped-append Local xs ys = refl
 scoped-append Global xs ys = refl
@@ -68,6 +105,128 @@ exprs_width-more (More f es) e = let h = exprs_width-more es e in omega arith
 pub count-more : (es : Exprs) (e : Expr) → count (and_more es e) ≡ count es + 1
 count-more No e = refl
 count-more (More f es) e = let h = count-more es e in omega arith
+
+pub tails_misfits-then : (r : Tails) (op : Op) (x : Operand) → tails_misfits (and_then r op x) ≡ tails_misfits r + operand_misfits x
+tails_misfits-then Done op x = omega arith
+tails_misfits-then (Then o y r) op x = let h = tails_misfits-then r op x in omega arith
+
+pub exprs_misfits-more : (es : Exprs) (e : Expr) → exprs_misfits (and_more es e) ≡ exprs_misfits es + expr_misfits e
+exprs_misfits-more No e = omega arith
+exprs_misfits-more (More f es) e = let h = exprs_misfits-more es e in omega arith
+
+pub exprs_nesting-joined : (es fs : Exprs) → exprs_nesting (joined es fs) ≡ max (exprs_nesting es) (exprs_nesting fs)
+exprs_nesting-joined No fs = omega arith
+exprs_nesting-joined (More f es) fs = let h = exprs_nesting-joined es fs in omega arith
+
+pub exprs_width-joined : (es fs : Exprs) → exprs_width (joined es fs) ≡ max (exprs_width es) (exprs_width fs)
+exprs_width-joined No fs = omega arith
+exprs_width-joined (More f es) fs = let h = exprs_width-joined es fs in omega arith
+
+pub exprs_misfits-joined : (es fs : Exprs) → exprs_misfits (joined es fs) ≡ exprs_misfits es + exprs_misfits fs
+exprs_misfits-joined No fs = omega arith
+exprs_misfits-joined (More f es) fs = let h = exprs_misfits-joined es fs in omega arith
+
+pub count-joined : (es fs : Exprs) → count (joined es fs) ≡ count es + count fs
+count-joined No fs = omega arith
+count-joined (More f es) fs = let h = count-joined es fs in omega arith
+
+pub list_nesting-some : (es : Exprs) → list_nesting es ≤ exprs_nesting es + 1
+list_nesting-some No = omega arith
+list_nesting-some (More e es) = omega arith
+
+abbrev pub pairs_nesting : Pairs → ℕ
+pairs_nesting NoPairs = 0
+pairs_nesting (Pair c e rest) = max (max (expr_nesting c) (expr_nesting e)) (pairs_nesting rest)
+
+abbrev pub pairs_width : Pairs → ℕ
+pairs_width NoPairs = 0
+pairs_width (Pair c e rest) = max (max (expr_width c) (expr_width e)) (pairs_width rest)
+
+abbrev pub pairs_misfits : Pairs → ℕ
+pairs_misfits NoPairs = 0
+pairs_misfits (Pair c e rest) = expr_misfits c + expr_misfits e + pairs_misfits rest
+
+pub pairs_nesting-and : (ps : Pairs) (c e : Expr) → pairs_nesting (and_pair ps c e) ≡ max (pairs_nesting ps) (max (expr_nesting c) (expr_nesting e))
+pairs_nesting-and NoPairs c e = omega arith
+pairs_nesting-and (Pair a b ps) c e = let h = pairs_nesting-and ps c e in omega arith
+
+pub pairs_width-and : (ps : Pairs) (c e : Expr) → pairs_width (and_pair ps c e) ≡ max (pairs_width ps) (max (expr_width c) (expr_width e))
+pairs_width-and NoPairs c e = omega arith
+pairs_width-and (Pair a b ps) c e = let h = pairs_width-and ps c e in omega arith
+
+pub pairs_misfits-and : (ps : Pairs) (c e : Expr) → pairs_misfits (and_pair ps c e) ≡ pairs_misfits ps + expr_misfits c + expr_misfits e
+pairs_misfits-and NoPairs c e = omega arith
+pairs_misfits-and (Pair a b ps) c e = let h = pairs_misfits-and ps c e in omega arith
+
+pub choices_nesting-before : (ps : Pairs) (x : Choices) → choices_nesting (before_choices ps x) ≡ max (pairs_nesting ps) (choices_nesting x)
+choices_nesting-before NoPairs x = omega arith
+choices_nesting-before (Pair a b ps) x = let h = choices_nesting-before ps x in omega arith
+
+pub choices_width-before : (ps : Pairs) (x : Choices) → choices_width (before_choices ps x) ≡ max (pairs_width ps) (choices_width x)
+choices_width-before NoPairs x = omega arith
+choices_width-before (Pair a b ps) x = let h = choices_width-before ps x in omega arith
+
+pub choices_misfits-before : (ps : Pairs) (x : Choices) → choices_misfits (before_choices ps x) ≡ pairs_misfits ps + choices_misfits x
+choices_misfits-before NoPairs x = omega arith
+choices_misfits-before (Pair a b ps) x = let h = choices_misfits-before ps x in omega arith
+
+-- ---- what fills the places that are left
+
+-- the text of the number that the digit 0 reads, and the expression
+abbrev pub zero_text : List ℕ
+zero_text = canonic_text (pos 0)
+
+abbrev pub zero_expr : Expr
+zero_expr = Chain (Literal zero_text) Done
+
+-- so many of it
+abbrev pub pad : ℕ → Exprs
+pad zero = No
+pad (suc n) = More zero_expr (pad n)
+
+pub pad_count : (n : ℕ) → count (pad n) ≡ n
+pad_count zero = refl
+pad_count (suc n) = let h = pad_count n in omega arith
+
+pub pad_nesting : (n : ℕ) → exprs_nesting (pad n) ≡ 0
+pad_nesting zero = refl
+pad_nesting (suc n) = let h = pad_nesting n in omega arith
+
+pub pad_width : (n : ℕ) → exprs_width (pad n) ≡ 0
+pad_width zero = refl
+pad_width (suc n) = let h = pad_width n in omega arith
+
+pub pad_misfits : (n : ℕ) → exprs_misfits (pad n) ≡ 0
+pad_misfits zero = refl
+pad_misfits (suc n) = let h = pad_misfits n in omega arith
+
+-- ---- how many arguments functions take
+
+pub least_some : (f : Function) → 1 ≤ least f
+least_some Ascii = omega arith
+least_some Char = omega arith
+least_some Extract = omega arith
+least_some Find = omega arith
+least_some Justify = omega arith
+least_some Length = omega arith
+least_some Piece = omega arith
+least_some Reverse = omega arith
+least_some Translate = omega arith
+
+pub least_most : (f : Function) → least f ≤ most f
+least_most Ascii = omega arith
+least_most Char = omega arith
+least_most Extract = omega arith
+least_most Find = omega arith
+least_most Justify = omega arith
+least_most Length = omega arith
+least_most Piece = omega arith
+least_most Reverse = omega arith
+least_most Translate = omega arith
+
+pub owner_least : (m : Limits) (w : Owner) → least_of w ≤ most_of m w
+owner_least m (Subscripts scope word p) = omega arith
+owner_least m (Arguments f c) = least_most f
 
 -- ---- kinds of phrases
 
@@ -100,6 +259,10 @@ abbrev pub phrase_width : Phrase → ℕ
 phrase_width (Whole e) = expr_width e
 phrase_width (Target v) = variable_width v
 
+abbrev pub phrase_misfits : Phrase → ℕ
+phrase_misfits (Whole e) = expr_misfits e
+phrase_misfits (Target v) = variable_misfits v
+
 abbrev pub start : Kind → State
 start AnExpression = Wanted (Front Alone)
 start AVariable = Sought AsTarget
@@ -110,7 +273,13 @@ abbrev mutual
   pub outer_before : Outer → List Symbol
   outer_before Alone = []
   outer_before (InGroup c) = before c ++ Mark Open ∷ []
-  outer_before (InList scope word es p) = place_before p ++ scoped scope (Name word ∷ Mark Open ∷ listed es)
+  outer_before (InList w es) = owner_before w ++ Mark Open ∷ listed es
+  outer_before (InCondition ps c) = before c ++ Applied callee.Select ∷ Mark Open ∷ pairs_symbols ps
+  outer_before (InChoice ps e c) = before c ++ Applied callee.Select ∷ Mark Open ∷ (pairs_symbols ps ++ (expr_symbols e ++ Mark Colon ∷ []))
+
+  pub owner_before : Owner → List Symbol
+  owner_before (Subscripts scope word p) = place_before p ++ scoped scope (Name word ∷ [])
+  owner_before (Arguments f c) = before c ++ Applied (callee.Texts f) ∷ []
 
   pub before : Within → List Symbol
   before (Front o) = outer_before o
@@ -125,7 +294,13 @@ abbrev mutual
   pub outer_after : Outer → List Symbol
   outer_after Alone = []
   outer_after (InGroup c) = Mark Close ∷ after c
-  outer_after (InList scope word es p) = Mark Close ∷ place_after p
+  outer_after (InList w es) = more_symbols (pad (least_of w - (count es + 1))) ++ owner_after w
+  outer_after (InCondition ps c) = Mark Colon ∷ Constant zero_text ∷ Mark Close ∷ after c
+  outer_after (InChoice ps e c) = Mark Close ∷ after c
+
+  pub owner_after : Owner → List Symbol
+  owner_after (Subscripts scope word p) = place_after p
+  owner_after (Arguments f c) = after c
 
   pub after : Within → List Symbol
   after (Front o) = outer_after o
@@ -140,7 +315,13 @@ abbrev mutual
   pub outer_plug : Outer → Expr → Phrase
   outer_plug Alone e = Whole e
   outer_plug (InGroup c) e = plug c (Group e)
-  outer_plug (InList scope word es p) e = place_plug p (Var scope word (and_more es e))
+  outer_plug (InList w es) e = owner_plug w (joined (and_more es e) (pad (least_of w - (count es + 1))))
+  outer_plug (InCondition ps c) e = plug c (Select (before_choices ps (Last e zero_expr)))
+  outer_plug (InChoice ps a c) e = plug c (Select (before_choices ps (Last a e)))
+
+  pub owner_plug : Owner → Exprs → Phrase
+  owner_plug (Subscripts scope word p) es = place_plug p (Var scope word es)
+  owner_plug (Arguments f c) es = plug c (Call f es)
 
   pub plug : Within → Operand → Phrase
   plug (Front o) x = outer_plug o (Chain x Done)
@@ -155,13 +336,26 @@ mutual
   pub outer_plug_symbols : (o : Outer) (e : Expr) → phrase_symbols (outer_plug o e) ≡ outer_before o ++ (expr_symbols e ++ outer_after o)
   outer_plug_symbols Alone e = sym (append-nil (expr_symbols e))
   outer_plug_symbols (InGroup c) e = plug_symbols c (Group e) ∙ simp append_assoc
-  outer_plug_symbols (InList scope word es p) e =
-      place_plug_symbols p (Var scope word (and_more es e))
-      ∙ ap (λ (ks : List Symbol). place_before p ++ (scoped scope (Name word ∷ ks) ++ place_after p)) (list_symbols-more es e)
-      ∙ ap (λ (ks : List Symbol). place_before p ++ ks) (scoped-append scope (Name word ∷ Mark Open ∷ (listed es ++ (expr_symbols e ++ Mark Close ∷ []))) (place_after p))
-      ∙ ap (λ (ks : List Symbol). place_before p ++ scoped scope (Name word ∷ Mark Open ∷ ks)) (simp append_assoc)
-      ∙ ap (λ (ks : List Symbol). place_before p ++ ks) (sym (scoped-append scope (Name word ∷ Mark Open ∷ listed es) (expr_symbols e ++ Mark Close ∷ place_after p)))
-      ∙ sym (append_assoc (place_before p) (scoped scope (Name word ∷ Mark Open ∷ listed es)) (expr_symbols e ++ Mark Close ∷ place_after p))
+  outer_plug_symbols (InList w es) e =
+      let r = pad (least_of w - (count es + 1)) in
+      owner_plug_symbols w (joined (and_more es e) r)
+      ∙ ap (λ (ks : List Symbol). owner_before w ++ (ks ++ owner_after w)) (list_symbols-joined es e r)
+      ∙ simp append_assoc
+  outer_plug_symbols (InCondition ps c) e =
+      plug_symbols c (Select (before_choices ps (Last e zero_expr)))
+      ∙ ap (λ (ks : List Symbol). before c ++ (Applied callee.Select ∷ Mark Open ∷ (ks ++ after c))) (choices_symbols-before ps (Last e zero_expr))
+      ∙ simp append_assoc
+  outer_plug_symbols (InChoice ps a c) e =
+      plug_symbols c (Select (before_choices ps (Last a e)))
+      ∙ ap (λ (ks : List Symbol). before c ++ (Applied callee.Select ∷ Mark Open ∷ (ks ++ after c))) (choices_symbols-before ps (Last a e))
+      ∙ simp append_assoc
+
+  pub owner_plug_symbols : (w : Owner) (es : Exprs) → phrase_symbols (owner_plug w es) ≡ owner_before w ++ (list_symbols es ++ owner_after w)
+  owner_plug_symbols (Subscripts scope word p) es =
+      place_plug_symbols p (Var scope word es)
+      ∙ ap (λ (ks : List Symbol). place_before p ++ (ks ++ place_after p)) (sym (scoped-append scope (Name word ∷ []) (list_symbols es)))
+      ∙ simp append_assoc
+  owner_plug_symbols (Arguments f c) es = plug_symbols c (Call f es) ∙ simp append_assoc
 
   pub plug_symbols : (c : Within) (x : Operand) → phrase_symbols (plug c x) ≡ before c ++ (operand_symbols x ++ after c)
   plug_symbols (Front o) x = outer_plug_symbols o (Chain x Done) ∙ ap (λ (ks : List Symbol). outer_before o ++ (ks ++ outer_after o)) (append-nil (operand_symbols x))
@@ -181,11 +375,19 @@ abbrev mutual
   pub OuterGood : Kind → Limits → Outer → Type 0
   OuterGood K m Alone = ForExpression K
   OuterGood K m (InGroup c) = Good K m c × (depth_of c + 1 ≤ m.depth)
-  OuterGood K m (InList scope word es p) = PlaceGood K m p × (place_depth p + 1 ≤ m.depth) × (exprs_nesting es + place_depth p + 1 ≤ m.depth) × (exprs_width es ≤ m.width) × (count es + 1 ≤ m.width)
+  OuterGood K m (InList w es) = OwnerGood K m w × (owner_depth w + 1 ≤ m.depth) × (exprs_nesting es + owner_depth w + 1 ≤ m.depth) × (exprs_width es ≤ m.width) × (count es + 1 ≤ most_of m w) × (exprs_misfits es ≡ 0)
+  OuterGood K m (InCondition ps c) = Good K m c × (depth_of c + 1 ≤ m.depth) × (pairs_nesting ps + depth_of c + 1 ≤ m.depth) × (pairs_width ps ≤ m.width) × (pairs_misfits ps ≡ 0)
+  OuterGood K m (InChoice ps a c) =
+      Good K m c × (depth_of c + 1 ≤ m.depth) × (pairs_nesting ps + depth_of c + 1 ≤ m.depth) × (pairs_width ps ≤ m.width) × (pairs_misfits ps ≡ 0)
+      × (expr_nesting a + depth_of c + 1 ≤ m.depth) × (expr_width a ≤ m.width) × (expr_misfits a ≡ 0)
+
+  pub OwnerGood : Kind → Limits → Owner → Type 0
+  OwnerGood K m (Subscripts scope word p) = PlaceGood K m p
+  OwnerGood K m (Arguments f c) = Good K m c
 
   pub Good : Kind → Limits → Within → Type 0
   Good K m (Front o) = OuterGood K m o
-  Good K m (Right first rest op o) = OuterGood K m o × (expr_nesting (Chain first rest) + outer_depth o ≤ m.depth) × (expr_width (Chain first rest) ≤ m.width)
+  Good K m (Right first rest op o) = OuterGood K m o × (expr_nesting (Chain first rest) + outer_depth o ≤ m.depth) × (expr_width (Chain first rest) ≤ m.width) × (expr_misfits (Chain first rest) ≡ 0)
   Good K m (Under op c) = Good K m c × (depth_of c + 1 ≤ m.depth)
 
   pub PlaceGood : Kind → Limits → Place → Type 0
@@ -195,7 +397,9 @@ abbrev mutual
 pub good_depth : (K : Kind) (m : Limits) (c : Within) → Good K m c → depth_of c ≤ m.depth
 good_depth K m (Front Alone) g = omega arith
 good_depth K m (Front (InGroup c)) g = g.1
-good_depth K m (Front (InList scope word es p)) g = g.1
+good_depth K m (Front (InList w es)) g = g.1
+good_depth K m (Front (InCondition ps c)) g = g.1
+good_depth K m (Front (InChoice ps a c)) g = g.1
 good_depth K m (Right first rest op o) g = omega (arith, g.1)
 good_depth K m (Under op c) g = g.1
 
@@ -206,37 +410,63 @@ pub place_good_depth : (K : Kind) (m : Limits) (p : Place) → PlaceGood K m p �
 place_good_depth K m (AsOperand c) g = good_depth K m c g
 place_good_depth K m AsTarget g = omega arith
 
+pub owner_good_depth : (K : Kind) (m : Limits) (w : Owner) → OwnerGood K m w → owner_depth w ≤ m.depth
+owner_good_depth K m (Subscripts scope word p) g = place_good_depth K m p g
+owner_good_depth K m (Arguments f c) g = good_depth K m c g
+
 pub record Fits (K : Kind) (m : Limits) (p : Phrase) : Type 0 where
   pub kind : IsKind K p
   pub nests : phrase_nesting p ≤ m.depth
   pub lists : phrase_width p ≤ m.width
+  pub formed : phrase_misfits p ≡ 0
 
-whole_fits : (K : Kind) (m : Limits) (e : Expr) → ForExpression K → expr_nesting e ≤ m.depth → expr_width e ≤ m.width → Fits K m (Whole e)
-whole_fits AnExpression m e k n w = record { kind = tt; nests = n; lists = w }
-whole_fits AVariable m e k n w = absurd k
+whole_fits : (K : Kind) (m : Limits) (e : Expr) → ForExpression K → expr_nesting e ≤ m.depth → expr_width e ≤ m.width → expr_misfits e ≡ 0 → Fits K m (Whole e)
+whole_fits AnExpression m e k n w f = record { kind = tt; nests = n; lists = w; formed = f }
+whole_fits AVariable m e k n w f = absurd k
 
-target_fits : (K : Kind) (m : Limits) (v : Variable) → ForVariable K → variable_nesting v ≤ m.depth → variable_width v ≤ m.width → Fits K m (Target v)
-target_fits AVariable m v k n w = record { kind = tt; nests = n; lists = w }
-target_fits AnExpression m v k n w = absurd k
+target_fits : (K : Kind) (m : Limits) (v : Variable) → ForVariable K → variable_nesting v ≤ m.depth → variable_width v ≤ m.width → variable_misfits v ≡ 0 → Fits K m (Target v)
+target_fits AVariable m v k n w f = record { kind = tt; nests = n; lists = w; formed = f }
+target_fits AnExpression m v k n w f = absurd k
 
 mutual
-  pub outer_plug_fits : (o : Outer) (K : Kind) (m : Limits) (e : Expr) → OuterGood K m o → expr_nesting e + outer_depth o ≤ m.depth → expr_width e ≤ m.width → Fits K m (outer_plug o e)
-  outer_plug_fits Alone K m e g n w = whole_fits K m e g (omega arith) w
-  outer_plug_fits (InGroup c) K m e g n w = plug_fits c K m (Group e) g.0 (omega arith) w
-  outer_plug_fits (InList scope word es p) K m e g n w =
-      place_plug_fits p K m (Var scope word (and_more es e)) g.0
-      (omega (arith, list_nesting-more es e, g.2))
-      (omega (arith, exprs_width-more es e, count-more es e, g.3, g.4))
+  pub outer_plug_fits : (o : Outer) (K : Kind) (m : Limits) (e : Expr) → OuterGood K m o → expr_nesting e + outer_depth o ≤ m.depth → expr_width e ≤ m.width → expr_misfits e ≡ 0 → Fits K m (outer_plug o e)
+  outer_plug_fits Alone K m e g n w f = whole_fits K m e g (omega arith) w f
+  outer_plug_fits (InGroup c) K m e g n w f = plug_fits c K m (Group e) g.0 (omega arith) w f
+  outer_plug_fits (InList u es) K m e g n w f =
+      let k = least_of u - (count es + 1) in
+      let all = joined (and_more es e) (pad k) in
+      let c : count all ≡ count es + 1 + k = omega (arith, count-joined (and_more es e) (pad k), count-more es e, pad_count k) in
+      let d : exprs_nesting all ≡ max (exprs_nesting es) (expr_nesting e) = omega (arith, exprs_nesting-joined (and_more es e) (pad k), exprs_nesting-more es e, pad_nesting k) in
+      owner_plug_fits u K m all g.0
+      (omega (arith, list_nesting-some all, d, g.2))
+      (omega (arith, exprs_width-joined (and_more es e) (pad k), exprs_width-more es e, pad_width k, g.3))
+      (omega (arith, c, g.4, owner_least m u))
+      (omega (arith, c))
+      (omega (arith, exprs_misfits-joined (and_more es e) (pad k), exprs_misfits-more es e, pad_misfits k, g.5))
+  outer_plug_fits (InCondition ps c) K m e g n w f =
+      plug_fits c K m (Select (before_choices ps (Last e zero_expr))) g.0
+      (omega (arith, choices_nesting-before ps (Last e zero_expr), g.2))
+      (omega (arith, choices_width-before ps (Last e zero_expr), g.3))
+      (omega (arith, choices_misfits-before ps (Last e zero_expr), g.4))
+  outer_plug_fits (InChoice ps a c) K m e g n w f =
+      plug_fits c K m (Select (before_choices ps (Last a e))) g.0
+      (omega (arith, choices_nesting-before ps (Last a e), g.2, g.5))
+      (omega (arith, choices_width-before ps (Last a e), g.3, g.6))
+      (omega (arith, choices_misfits-before ps (Last a e), g.4, g.7))
 
-  pub plug_fits : (c : Within) (K : Kind) (m : Limits) (x : Operand) → Good K m c → operand_nesting x + depth_of c ≤ m.depth → operand_width x ≤ m.width → Fits K m (plug c x)
-  plug_fits (Front o) K m x g n w = outer_plug_fits o K m (Chain x Done) g (omega arith) (omega arith)
-  plug_fits (Right first rest op o) K m x g n w =
-      outer_plug_fits o K m (Chain first (and_then rest op x)) g.0 (omega (arith, tails_nesting-then rest op x, g.1)) (omega (arith, tails_width-then rest op x, g.2))
-  plug_fits (Under op c) K m x g n w = plug_fits c K m (Unary op x) g.0 (omega arith) w
+  pub owner_plug_fits : (u : Owner) (K : Kind) (m : Limits) (es : Exprs) → OwnerGood K m u → list_nesting es + owner_depth u ≤ m.depth → exprs_width es ≤ m.width → count es ≤ most_of m u → least_of u ≤ count es → exprs_misfits es ≡ 0 → Fits K m (owner_plug u es)
+  owner_plug_fits (Subscripts scope word p) K m es g n w c l f = place_plug_fits p K m (Var scope word es) g n (omega arith) f
+  owner_plug_fits (Arguments h c) K m es g n w b l f = plug_fits c K m (Call h es) g n w (omega arith)
 
-  pub place_plug_fits : (p : Place) (K : Kind) (m : Limits) (v : Variable) → PlaceGood K m p → variable_nesting v + place_depth p ≤ m.depth → variable_width v ≤ m.width → Fits K m (place_plug p v)
-  place_plug_fits (AsOperand c) K m v g n w = plug_fits c K m (Value v) g n w
-  place_plug_fits AsTarget K m v g n w = target_fits K m v g (omega arith) w
+  pub plug_fits : (c : Within) (K : Kind) (m : Limits) (x : Operand) → Good K m c → operand_nesting x + depth_of c ≤ m.depth → operand_width x ≤ m.width → operand_misfits x ≡ 0 → Fits K m (plug c x)
+  plug_fits (Front o) K m x g n w f = outer_plug_fits o K m (Chain x Done) g (omega arith) (omega arith) (omega arith)
+  plug_fits (Right first rest op o) K m x g n w f =
+      outer_plug_fits o K m (Chain first (and_then rest op x)) g.0 (omega (arith, tails_nesting-then rest op x, g.1)) (omega (arith, tails_width-then rest op x, g.2)) (omega (arith, tails_misfits-then rest op x, g.3))
+  plug_fits (Under op c) K m x g n w f = plug_fits c K m (Unary op x) g.0 (omega arith) w f
+
+  pub place_plug_fits : (p : Place) (K : Kind) (m : Limits) (v : Variable) → PlaceGood K m p → variable_nesting v + place_depth p ≤ m.depth → variable_width v ≤ m.width → variable_misfits v ≡ 0 → Fits K m (place_plug p v)
+  place_plug_fits (AsOperand c) K m v g n w f = plug_fits c K m (Value v) g n w f
+  place_plug_fits AsTarget K m v g n w f = target_fits K m v g (omega arith) w f
 
 -- ---- states
 
@@ -245,6 +475,7 @@ sofar (Wanted c) = before c
 sofar (Sought p) = place_before p
 sofar (Marked p) = place_before p ++ Mark Caret ∷ []
 sofar (Named scope word p) = place_before p ++ scoped scope (Name word ∷ [])
+sofar (Calling callee c) = before c ++ Applied callee ∷ []
 sofar (Held first rest o) = outer_before o ++ expr_symbols (Chain first rest)
 sofar (Got v) = variable_symbols v
 
@@ -253,29 +484,39 @@ IsGood K m (Wanted c) = Good K m c
 IsGood K m (Sought p) = PlaceGood K m p
 IsGood K m (Marked p) = PlaceGood K m p
 IsGood K m (Named scope word p) = PlaceGood K m p
-IsGood K m (Held first rest o) = OuterGood K m o × (expr_nesting (Chain first rest) + outer_depth o ≤ m.depth) × (expr_width (Chain first rest) ≤ m.width)
-IsGood K m (Got v) = ForVariable K × (variable_nesting v ≤ m.depth) × (variable_width v ≤ m.width)
+IsGood K m (Calling callee c) = Good K m c × (depth_of c + 1 ≤ m.depth)
+IsGood K m (Held first rest o) = OuterGood K m o × (expr_nesting (Chain first rest) + outer_depth o ≤ m.depth) × (expr_width (Chain first rest) ≤ m.width) × (expr_misfits (Chain first rest) ≡ 0)
+IsGood K m (Got v) = ForVariable K × (variable_nesting v ≤ m.depth) × (variable_width v ≤ m.width) × (variable_misfits v ≡ 0)
 
 -- the state is good, and has read these symbols
 pub record HasRead (K : Kind) (m : Limits) (s : State) (ks : List Symbol) : Type 0 where
   pub good : IsGood K m s
   pub read : sofar s ≡ ks
 
-pub filled_read : (c : Within) (K : Kind) (m : Limits) (x : Operand) (ks : List Symbol) → Good K m c → operand_nesting x + depth_of c ≤ m.depth → operand_width x ≤ m.width →
+pub filled_read : (c : Within) (K : Kind) (m : Limits) (x : Operand) (ks : List Symbol) → Good K m c → operand_nesting x + depth_of c ≤ m.depth → operand_width x ≤ m.width → operand_misfits x ≡ 0 →
     before c ++ operand_symbols x ≡ ks → HasRead K m (filled x c) ks
-filled_read (Front o) K m x ks g n w e = record {
-  good = (g, omega arith, omega arith);
+filled_read (Front o) K m x ks g n w f e = record {
+  good = (g, omega arith, omega arith, omega arith);
   read = ap (λ (xs : List Symbol). outer_before o ++ xs) (append-nil (operand_symbols x)) ∙ e;
 }
-filled_read (Right first rest op o) K m x ks g n w e = record {
-  good = (g.0, omega (arith, tails_nesting-then rest op x, g.1), omega (arith, tails_width-then rest op x, g.2));
+filled_read (Right first rest op o) K m x ks g n w f e = record {
+  good = (g.0, omega (arith, tails_nesting-then rest op x, g.1), omega (arith, tails_width-then rest op x, g.2), omega (arith, tails_misfits-then rest op x, g.3));
   read =
       ap (λ (xs : List Symbol). outer_before o ++ (operand_symbols first ++ xs)) (tails_symbols-then rest op x)
       ∙ sym (simp append_assoc) ∙ e;
 }
-filled_read (Under op c) K m x ks g n w e = filled_read c K m (Unary op x) ks g.0 (omega arith) w (sym (append_assoc (before c) (Mark (unary_sign op) ∷ []) (operand_symbols x)) ∙ e)
+filled_read (Under op c) K m x ks g n w f e = filled_read c K m (Unary op x) ks g.0 (omega arith) w f (sym (append_assoc (before c) (Mark (unary_sign op) ∷ []) (operand_symbols x)) ∙ e)
 
-pub placed_read : (p : Place) (K : Kind) (m : Limits) (v : Variable) (ks : List Symbol) → PlaceGood K m p → variable_nesting v + place_depth p ≤ m.depth → variable_width v ≤ m.width →
+pub placed_read : (p : Place) (K : Kind) (m : Limits) (v : Variable) (ks : List Symbol) → PlaceGood K m p → variable_nesting v + place_depth p ≤ m.depth → variable_width v ≤ m.width → variable_misfits v ≡ 0 →
     place_before p ++ variable_symbols v ≡ ks → HasRead K m (placed v p) ks
-placed_read (AsOperand c) K m v ks g n w e = filled_read c K m (Value v) ks g n w e
-placed_read AsTarget K m v ks g n w e = record { good = (g, omega arith, w); read = e }
+placed_read (AsOperand c) K m v ks g n w f e = filled_read c K m (Value v) ks g n w f e
+placed_read AsTarget K m v ks g n w f e = record { good = (g, omega arith, w, f); read = e }
+
+pub closed_read : (u : Owner) (K : Kind) (m : Limits) (es : Exprs) (ks : List Symbol) → OwnerGood K m u → list_nesting es + owner_depth u ≤ m.depth → exprs_width es ≤ m.width → count es ≤ most_of m u → least_of u ≤ count es → exprs_misfits es ≡ 0 →
+    owner_before u ++ list_symbols es ≡ ks → HasRead K m (closed u es) ks
+closed_read (Subscripts scope word p) K m es ks g n w b l f e =
+    placed_read p K m (Var scope word es) ks g n (omega arith) f
+    (ap (λ (zs : List Symbol). place_before p ++ zs) (sym (scoped-append scope (Name word ∷ []) (list_symbols es)))
+    ∙ sym (append_assoc (place_before p) (scoped scope (Name word ∷ [])) (list_symbols es)) ∙ e)
+closed_read (Arguments h c) K m es ks g n w b l f e =
+    filled_read c K m (Call h es) ks g n w (omega arith) (sym (append_assoc (before c) (Applied (callee.Texts h) ∷ []) (list_symbols es)) ∙ e)

@@ -1,15 +1,13 @@
--- Where a list of subscripts stands behind one of them.
-use Rattle.std.specs.Prelude.{ℕ, List}
-use Rattle.mj_ast.specs.declared.expr.Scope.{Scope}
-use Rattle.mj_ast.specs.Syntax.{Expr, Exprs, No, More, Var}
-use Rattle.mj_expr.specs.Machine.{State, Place, InList, held, placed, and_more}
+-- Where a list stands behind one of its expressions.
+use Rattle.mj_ast.specs.Syntax.{Expr, Exprs, No, More}
+use Rattle.mj_expr.specs.Machine.{State, Owner, InList, held, closed, and_more}
 
 -- behind the last of `e` and those that follow it, with those before it in front
-abbrev pub behind_from : Scope → List ℕ → Exprs → Expr → Exprs → Place → State
-behind_from scope word before e No p = held e (InList scope word before p)
-behind_from scope word before e (More f rest) p = behind_from scope word (and_more before e) f rest p
+abbrev pub behind_from : Owner → Exprs → Expr → Exprs → State
+behind_from w before e No = held e (InList w before)
+behind_from w before e (More f rest) = behind_from w (and_more before e) f rest
 
--- behind the last of these subscripts, of which there is one at least
-abbrev pub behind_list : Scope → List ℕ → Exprs → Place → State
-behind_list scope word No p = placed (Var scope word No) p
-behind_list scope word (More e rest) p = behind_from scope word No e rest p
+-- behind the last of these, of which there is one at least
+abbrev pub behind_list : Owner → Exprs → State
+behind_list w No = closed w No
+behind_list w (More e rest) = behind_from w No e rest

@@ -1,7 +1,7 @@
 -- Reads symbols from the left, one at a time: what is open, and what may come next.
-use Rattle.std.specs.Prelude.{ℕ, ◌+◌, List, [], ◌∷◌, length, nat_lt, Bool, false, not, if◌then◌else◌, Option, Some, None}
+use Rattle.std.specs.Prelude.{ℕ, ◌+◌, List, [], ◌∷◌, length, nat_lt, nat_le, Bool, true, false, not, ◌&&◌, if◌then◌else◌, Option, Some, None}
 use Rattle.mj_ast.specs.declared.sign.Sign.{Sign}
-use Rattle.mj_ast.specs.declared.sign.Sign.TheVariants.{Plus, Minus, Star, Backslash, Hash, Slash, Underscore, Equals, Less, Greater, OpenBracket, CloseBracket, CloseBrackets, Ampersand, Exclamation, Apostrophe, Negated, Caret, Open, Close, Comma}
+use Rattle.mj_ast.specs.declared.sign.Sign.TheVariants.{Plus, Minus, Star, Backslash, Hash, Slash, Underscore, Equals, Less, Greater, OpenBracket, CloseBracket, CloseBrackets, Ampersand, Exclamation, Apostrophe, Negated, Caret, Open, Close, Comma, Colon}
 use Rattle.mj_ast.specs.declared.expr.Scope.{Scope}
 use Rattle.mj_ast.specs.declared.expr.Scope.TheVariants.{Local, Global}
 use Rattle.mj_oper.specs.declared.op.UnaryOp.{UnaryOp}
@@ -9,8 +9,11 @@ use Rattle.mj_oper.specs.declared.op.UnaryOp.TheVariants as unary
 use Rattle.mj_oper.specs.declared.op.Op.{Op}
 use Rattle.mj_oper.specs.declared.op.Op.TheVariants as binary
 use Rattle.mj_oper.specs.declared.op.TruthOp.TheVariants as truth
-use Rattle.mj_ast.specs.Syntax.{Expr, Chain, Tails, Done, Then, Operand, Literal, Value, Unary, Group, Variable, Var, Exprs, No, More}
-use Rattle.mj_ast.specs.Expressions.{Symbol, Constant, Name, Overlong, Mark, count}
+use Rattle.mj_ast.specs.declared.function.Function.{Function}
+use Rattle.mj_ast.specs.declared.function.Callee.{Callee}
+use Rattle.mj_ast.specs.declared.function.Callee.TheVariants as callee
+use Rattle.mj_ast.specs.Syntax.{Expr, Chain, Tails, Done, Then, Operand, Literal, Value, Unary, Group, Call, Select, Variable, Var, Exprs, No, More, Choices, Last, Before}
+use Rattle.mj_ast.specs.Expressions.{Symbol, Constant, Name, Applied, Overlong, Mark, count, least, most}
 
 -- the unary operator of a sign
 abbrev pub unary_of : Sign → Option UnaryOp
@@ -49,14 +52,37 @@ abbrev pub and_more : Exprs → Expr → Exprs
 and_more No e = More e No
 and_more (More f rest) e = More f (and_more rest e)
 
+-- conditions with their values, in order, where more may follow
+pub data Pairs : Type 0 where
+  NoPairs : Pairs
+  Pair : (condition value : Expr) (rest : Pairs) → Pairs
+
+-- with another condition and its value behind
+abbrev pub and_pair : Pairs → Expr → Expr → Pairs
+and_pair NoPairs c e = Pair c e NoPairs
+and_pair (Pair a b rest) c e = Pair a b (and_pair rest c e)
+
+-- choices with others before them
+abbrev pub before_choices : Pairs → Choices → Choices
+before_choices NoPairs choices = choices
+before_choices (Pair a b rest) choices = Before a b (before_choices rest choices)
+
 -- ---- what is open
 
 mutual
-  -- where an expression stands: alone, in parentheses, or in a list of subscripts behind those before it
+  -- where an expression stands: alone, in parentheses, in a list behind those before it, as a condition of `$SELECT` behind
+  -- other choices, or as the value of a condition
   pub data Outer : Type 0 where
     Alone : Outer
     InGroup : (c : Within) → Outer
-    InList : (scope : Scope) (word : List ℕ) (before : Exprs) (p : Place) → Outer
+    InList : (w : Owner) (before : Exprs) → Outer
+    InCondition : (before : Pairs) (c : Within) → Outer
+    InChoice : (before : Pairs) (condition : Expr) (c : Within) → Outer
+
+  -- what a list stands behind: the name of a variable, whose subscripts it has, or a function, whose arguments
+  pub data Owner : Type 0 where
+    Subscripts : (scope : Scope) (word : List ℕ) (p : Place) → Owner
+    Arguments : (f : Function) (c : Within) → Owner
 
   -- where an operand stands: at the front of an expression, behind a binary operator, behind a unary one
   pub data Within : Type 0 where
@@ -74,7 +100,13 @@ abbrev mutual
   pub outer_depth : Outer → ℕ
   outer_depth Alone = 0
   outer_depth (InGroup c) = depth_of c + 1
-  outer_depth (InList scope word before p) = place_depth p + 1
+  outer_depth (InList w before) = owner_depth w + 1
+  outer_depth (InCondition before c) = depth_of c + 1
+  outer_depth (InChoice before condition c) = depth_of c + 1
+
+  pub owner_depth : Owner → ℕ
+  owner_depth (Subscripts scope word p) = place_depth p
+  owner_depth (Arguments f c) = depth_of c
 
   pub depth_of : Within → ℕ
   depth_of (Front o) = outer_depth o
@@ -102,6 +134,8 @@ pub data State : Type 0 where
   Marked : (p : Place) → State
   -- a name was read
   Named : (scope : Scope) (word : List ℕ) (p : Place) → State
+  -- a function was read, behind which a `(` is wanted
+  Calling : (callee : Callee) (c : Within) → State
   -- an expression was read, which may go on
   Held : (first : Operand) (rest : Tails) (o : Outer) → State
   -- a variable was read, and that is all
@@ -117,6 +151,11 @@ filled x (Under op c) = filled (Unary op x) c
 abbrev pub placed : Variable → Place → State
 placed v (AsOperand c) = filled (Value v) c
 placed v AsTarget = Got v
+
+-- a list was read
+abbrev pub closed : Owner → Exprs → State
+closed (Subscripts scope word p) es = placed (Var scope word es) p
+closed (Arguments f c) es = filled (Call f es) c
 
 -- an expression was read
 abbrev pub held : Expr → Outer → State
@@ -139,14 +178,37 @@ pub data Next : Type 0 where
 abbrev pub opens : Limits → ℕ → State → Next
 opens m depth s = if nat_lt depth m.depth then Go s else Deep
 
+-- how many expressions a list has at least and at most
+abbrev pub least_of : Owner → ℕ
+least_of (Subscripts scope word p) = 0
+least_of (Arguments f c) = least f
+
+abbrev pub most_of : Limits → Owner → ℕ
+most_of m (Subscripts scope word p) = m.width
+most_of m (Arguments f c) = most f
+
+-- whether one more than that is a list over its limit, and no mistake of grammar
+abbrev pub is_limited : Owner → Bool
+is_limited (Subscripts scope word p) = true
+is_limited (Arguments f c) = false
+
 -- the comma behind an expression
 abbrev pub comma : Limits → Expr → Outer → Next
-comma m e (InList scope word before p) = if nat_lt (count before + 1) m.width then Go (Wanted (Front (InList scope word (and_more before e) p))) else Long
+comma m e (InList w before) =
+    if nat_lt (count before + 1) (most_of m w) then Go (Wanted (Front (InList w (and_more before e))))
+    else if is_limited w then Long
+    else Stuck
+comma m e (InChoice before condition c) = Go (Wanted (Front (InCondition (and_pair before condition e) c)))
 comma m e _ = Stuck
 
--- the list that it stands in has no room for another
+-- the colon behind an expression
+abbrev pub colon : Expr → Outer → Next
+colon e (InCondition before c) = Go (Wanted (Front (InChoice before e c)))
+colon e _ = Stuck
+
+-- the list that it stands in is at its limit
 abbrev pub is_full : Limits → Outer → Bool
-is_full m (InList scope word before p) = not (nat_lt (count before + 1) m.width)
+is_full m (InList w before) = is_limited w && not (nat_lt (count before + 1) (most_of m w))
 is_full m _ = false
 
 -- a comma that stands where an operand is wanted
@@ -156,7 +218,9 @@ stray_comma m o = if is_full m o then Long else Stuck
 abbrev pub close : Expr → Outer → Next
 close e Alone = Stuck
 close e (InGroup c) = Go (filled (Group e) c)
-close e (InList scope word before p) = Go (placed (Var scope word (and_more before e)) p)
+close e (InList w before) = if nat_le (least_of w) (count before + 1) then Go (closed w (and_more before e)) else Stuck
+close e (InCondition before c) = Stuck
+close e (InChoice before condition c) = Go (filled (Select (before_choices before (Last condition e))) c)
 
 -- where an operand is wanted
 abbrev pub want_other : Limits → Within → Sign → Next
@@ -172,6 +236,7 @@ want_sign m c s None = want_other m c s
 abbrev pub want : Limits → Within → Symbol → Next
 want m c (Constant value) = Go (filled (Literal value) c)
 want m c (Name word) = Go (Named Local word (AsOperand c))
+want m c (Applied callee) = opens m (depth_of c) (Calling callee c)
 want m c (Mark s) = want_sign m c s (unary_of s)
 want m c _ = Stuck
 
@@ -195,6 +260,7 @@ after_caret m p _ = Stuck
 abbrev pub hold_other : Limits → Expr → Outer → Sign → Next
 hold_other m e o Close = close e o
 hold_other m e o Comma = comma m e o
+hold_other m e o Colon = colon e o
 hold_other m e o _ = Stuck
 
 abbrev pub hold_sign : Limits → Operand → Tails → Outer → Sign → Option Op → Next
@@ -211,14 +277,24 @@ on m (Held x r o) k = hold m x r o k
 on m _ k = Stuck
 
 abbrev pub after_name : Limits → Scope → List ℕ → Place → Symbol → Next
-after_name m scope word p (Mark Open) = opens m (place_depth p) (Wanted (Front (InList scope word No p)))
+after_name m scope word p (Mark Open) = opens m (place_depth p) (Wanted (Front (InList (Subscripts scope word p) No)))
 after_name m scope word p k = on m (placed (Var scope word No) p) k
+
+-- behind a function
+abbrev pub inside : Callee → Within → Outer
+inside (callee.Texts f) c = InList (Arguments f c) No
+inside callee.Select c = InCondition NoPairs c
+
+abbrev pub after_function : Limits → Callee → Within → Symbol → Next
+after_function m callee c (Mark Open) = Go (Wanted (Front (inside callee c)))
+after_function m callee c _ = Stuck
 
 abbrev pub step : Limits → State → Symbol → Next
 step m (Wanted c) k = want m c k
 step m (Sought p) k = seek p k
 step m (Marked p) k = after_caret m p k
 step m (Named scope word p) k = after_name m scope word p k
+step m (Calling callee c) k = after_function m callee c k
 step m (Held x r o) k = hold m x r o k
 step m (Got v) k = Stuck
 

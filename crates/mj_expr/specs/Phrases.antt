@@ -1,7 +1,7 @@
 -- What is read at the front of the tokens, and what a refusal says.
 use Rattle.std.specs.Prelude.{ℕ, ◌≡◌, ◌+◌, ◌<◌, ◌≤◌, List, [], ◌∷◌, ◌++◌, length}
 use Rattle.mj_ast.specs.declared.sign.Sign.TheVariants.{Comma}
-use Rattle.mj_ast.specs.Tokens.{Token, Word, Signed}
+use Rattle.mj_ast.specs.Tokens.{Token, Word, Called, Special, Signed}
 use Rattle.mj_ast.specs.Lines.{Filler}
 use Rattle.mj_ast.specs.Expressions.{Phrases, Spells, IsWithin, Begins, BeginsWithin, name_limit, width_limit}
 use Rattle.mj_expr.specs.declared.stop.Stop.{Stop}
@@ -16,6 +16,13 @@ pub record IsRead {T : Type 0} (P : Phrases T) (depth : ℕ) (ks : List Token) (
   pub only : (u : T) → Spells P front u → u ≡ t
   pub ends : (k : Token) (more : List Token) → rest ≡ k ∷ more → Begins P (front ++ k ∷ []) → ⊥
 
+-- the token is no word over its limit, with a `$` or without
+abbrev pub IsShort : Token → Type 0
+IsShort (Word word) = length word ≤ name_limit
+IsShort (Called word) = length word ≤ name_limit
+IsShort (Special word) = length word ≤ name_limit
+IsShort _ = Unit {0}
+
 -- The tokens up to those that are left begin a phrase within the limits and spell none, and with the next one, if there is
 -- one, they begin none, whatever the limits. That one is no word over its limit.
 pub record IsStuck {T : Type 0} (P : Phrases T) (depth : ℕ) (ks : List Token) (left : ℕ) : Type 0 where
@@ -26,7 +33,7 @@ pub record IsStuck {T : Type 0} (P : Phrases T) (depth : ℕ) (ks : List Token) 
   pub before : BeginsWithin P depth width_limit front
   pub whole : (t : T) → Spells P front t → ⊥
   pub at : (k : Token) (more : List Token) → rest ≡ k ∷ more → Begins P (front ++ k ∷ []) → ⊥
-  pub short : (word : List ℕ) (more : List Token) → rest ≡ Word word ∷ more → length word ≤ name_limit
+  pub short : (k : Token) (more : List Token) → rest ≡ k ∷ more → IsShort k
 
 -- The tokens up to those that are left begin a phrase within the limits. With the next one they begin one that nests one
 -- level deeper than is allowed, and none that nests less.
@@ -48,15 +55,17 @@ pub record IsLastComma {T : Type 0} (P : Phrases T) (ks : List Token) : Type 0 w
   pub begins : Begins P (ks ++ (filler ++ Signed Comma ∷ []))
   pub too_long : (depth : ℕ) → BeginsWithin P depth width_limit (ks ++ (filler ++ Signed Comma ∷ [])) → ⊥
 
--- a word that no phrase goes on with and that is over its limit, where no phrase ends before it
-pub record IsLongWord {T : Type 0} (P : Phrases T) (front : List Token) (word : List ℕ) : Type 0 where
+-- a word, with a `$` or without, that no phrase goes on with and that is over its limit, where no phrase ends before it
+pub record IsLongWord {T : Type 0} (P : Phrases T) (front : List Token) (k : Token) (word : List ℕ) : Type 0 where
   pub long : name_limit < length word
   pub whole : (t : T) → Spells P front t → ⊥
-  pub at : Begins P (front ++ Word word ∷ []) → ⊥
+  pub at : Begins P (front ++ k ∷ []) → ⊥
 
 -- a word over its limit, or a comma with which a list has too many
 abbrev pub IsOverlong : {T : Type 0} → Phrases T → List Token → Token → Type 0
-IsOverlong P front (Word word) = IsLongWord P front word
+IsOverlong P front (Word word) = IsLongWord P front (Word word) word
+IsOverlong P front (Called word) = IsLongWord P front (Called word) word
+IsOverlong P front (Special word) = IsLongWord P front (Special word) word
 IsOverlong P front (Signed Comma) = IsLastComma P front
 IsOverlong P front k = ⊥
 

@@ -1,14 +1,16 @@
 -- What a function that reads a part of a line returns.
-use Rattle.std.specs.Prelude.{ℕ, ◌≡◌, ◌≤◌, List, ◌∷◌, length, map, Result, Ok, Err, Some, None}
-use Rattle.mj_ast.specs.declared.sign.Sign.TheVariants.{Caret, Open, Comma, Close}
+use Rattle.std.specs.Prelude.{ℕ, ◌≡◌, ◌≤◌, List, ◌∷◌, length, map, Bool, true, false, Result, Ok, Err, Some, None}
+use Rattle.mj_ast.specs.declared.sign.Sign.TheVariants.{Caret, Open, Comma, Colon, Close}
 use Rattle.mj_ast.specs.declared.sign.Sign.{Sign}
 use Rattle.mj_oper.specs.declared.op.Op.{Op}
-use Rattle.mj_ast.specs.Expressions.{Symbol, Constant, Name, Mark, symbol, width_limit}
+use Rattle.mj_ast.specs.Expressions.{Symbol, Constant, Name, Applied, Mark, symbol, width_limit, least, most}
 use Rattle.mj_lex.specs.declared.token.Lexeme.{Lexeme}
 use Rattle.mj_lex.specs.Seen.{tokens_seen}
-use Rattle.mj_expr.specs.Machine.{Limits, State, Phrase, Outcome, Accept, StuckAt, DeepAt, TooLong, run, unary_of, binary_of}
+use Rattle.mj_expr.specs.Machine.{Owner, Subscripts, Arguments, Limits, State, Phrase, Outcome, Accept, StuckAt, DeepAt, TooLong, run, unary_of, binary_of}
 use Rattle.mj_expr.specs.declared.stop.Stop.{Stop}
 use Rattle.mj_expr.specs.declared.stop.Stop.TheVariants.{Stuck, Deep, Long, Memory}
+use Rattle.mj_expr.specs.declared.token.ListKind.{ListKind}
+use Rattle.mj_expr.specs.declared.token.ListKind.TheVariants as kind
 use Rattle.mj_expr.specs.declared.token.Head.{Head}
 use Rattle.mj_expr.specs.declared.token.Head.TheVariants as head
 
@@ -35,10 +37,29 @@ abbrev pub Gives : {X : Type 0} → (X → Phrase) → (X → List Lexeme) → R
 Gives phrase rest (Ok x) o = o ≡ Accept (phrase x) (symbols_seen (rest x))
 Gives phrase rest (Err e) o = Refuses e o
 
+-- the kind of a list, by what it stands behind
+abbrev pub kind_of : Owner → ListKind
+kind_of (Subscripts scope word p) = kind.Subscripts
+kind_of (Arguments f c) = kind.Arguments f
+
+-- how many expressions a list of the kind has at least and at most, and whether one more is a list over its limit
+abbrev pub least_in : ListKind → ℕ
+least_in kind.Subscripts = 0
+least_in (kind.Arguments f) = least f
+
+abbrev pub most_in : ListKind → ℕ
+most_in kind.Subscripts = width_limit
+most_in (kind.Arguments f) = most f
+
+abbrev pub limited_in : ListKind → Bool
+limited_in kind.Subscripts = true
+limited_in (kind.Arguments f) = false
+
 -- no operand begins with it
 abbrev pub BeginsNone : Symbol → Type 0
 BeginsNone (Constant value) = ⊥
 BeginsNone (Name word) = ⊥
+BeginsNone (Applied callee) = ⊥
 BeginsNone (Mark Caret) = ⊥
 BeginsNone (Mark Open) = ⊥
 BeginsNone (Mark s) = unary_of s ≡ None
@@ -48,6 +69,7 @@ BeginsNone _ = Unit {0}
 abbrev pub IsHead : Head → Symbol → Type 0
 IsHead (head.Constant text) k = k ≡ Constant text
 IsHead (head.Name word) k = (k ≡ Name word.now) × (length word.now ≤ 31)
+IsHead (head.Callee callee) k = k ≡ Applied callee
 IsHead head.Caret k = k ≡ Mark Caret
 IsHead head.Open k = k ≡ Mark Open
 IsHead (head.Unary s op) k = (k ≡ Mark s) × (unary_of s ≡ Some op)
@@ -72,6 +94,10 @@ HasNoOpen _ = Unit {0}
 abbrev pub HasNoComma : List Symbol → Type 0
 HasNoComma (Mark Comma ∷ ks) = ⊥
 HasNoComma _ = Unit {0}
+
+abbrev pub HasNoColon : List Symbol → Type 0
+HasNoColon (Mark Colon ∷ ks) = ⊥
+HasNoColon _ = Unit {0}
 
 abbrev pub HasNoCaret : List Symbol → Type 0
 HasNoCaret (Mark Caret ∷ ks) = ⊥

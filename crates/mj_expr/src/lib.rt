@@ -11,3 +11,4 @@ mod token;
 
 pub use phrase::{DEPTH_LIMIT, expression, variable};
 pub use stop::Stop;
+pub use token::{ListKind, callee, least, most};

@@ -2,22 +2,19 @@
 
 ghost use Rattle.std.specs.Prelude.{◌≡◌, ◌<◌, ◌≤◌, ◌+◌, ℕ, List, length, IfOk};
 ghost use Rattle.mj_ast.specs.declared.expr.Scope.{Scope};
-ghost use Rattle.mj_ast.specs.Syntax.{No, Var, Group};
-ghost use Rattle.mj_ast.specs.Trees.{operand_of, expr_of, variable_of, exprs_of};
-ghost use Rattle.mj_expr.specs.Machine.{Outer, Within, Place, AsTarget, Front, InGroup, InList, Wanted, Sought, Marked, Named, Got, filled, placed, held, outer_depth, depth_of, place_depth, outer_of, is_full, is_full_in};
-ghost use Rattle.mj_expr.specs.Reads.{symbols_seen, limits, Reads, HasNoBinary};
+ghost use Rattle.mj_ast.specs.Syntax.{No, Group, Select};
+ghost use Rattle.mj_ast.specs.Trees.{operand_of, expr_of, variable_of, exprs_of, choice_of};
+ghost use Rattle.mj_expr.specs.Machine.{Outer, Owner, Within, Place, Pairs, AsTarget, Front, InGroup, InList, InCondition, Wanted, Sought, Marked, Named, Calling, Got, before_choices, filled, placed, closed, held, outer_depth, owner_depth, depth_of, place_depth, outer_of, is_full, is_full_in};
+ghost use Rattle.mj_expr.specs.Reads.{symbols_seen, limits, Reads, HasNoBinary, kind_of};
 
 use crate::stop::Stop;
 use crate::token::{
-    Head, behind_binary, behind_caret, behind_close, behind_comma, behind_name, behind_open,
-    head_of, name_text, refusal, taken,
+    Head, ListKind, behind_binary, behind_caret, behind_close, behind_colon, behind_comma,
+    behind_name, behind_open, fills, head_of, is_limited, least, most, name_text, refusal, taken,
 };
-use mj_ast::{Expr, Operand, Scope, Tail, Variable};
+use mj_ast::{Callee, Choice, Expr, Operand, Scope, Tail, Variable};
 use mj_lex::Lexeme;
 use std::alloc::Global;
-
-/// The most subscripts of a variable.
-const WIDTH: usize = 31;
 
 /// The operand in front and the tokens behind it. `room` is how many levels may be opened, and `full` says that the list of
 /// subscripts that it stands in has no room for another.
@@ -39,6 +36,12 @@ fn operand<'a, 't>(
         Head::Name(word) => {
             let (variable, rest) = named(alloc, Scope::Local, word, rest, room)?;
             Ok((Operand::Variable(variable), rest))
+        }
+        Head::Callee(callee) => {
+            if room == 0 {
+                return Err(Stop::Deep(tokens.len()));
+            }
+            call(alloc, callee, rest, room - 1)
         }
         Head::Caret => {
             let (variable, rest) = global(alloc, rest, room, full)?;
@@ -79,6 +82,72 @@ fn group<'a, 't>(
     }
 }
 
+/// The call of a function whose word was read, which opened a level.
+#[cycle(parse)]
+fn call<'a, 't>(
+    alloc: Global,
+    callee: Callee,
+    tokens: &'t [Lexeme<'a>],
+    room: usize,
+) -> Result<(Operand, &'t [Lexeme<'a>]), Stop>
+    ensures shorter { IfOk result (λ x. length x.1.now < length tokens.now) }
+    ensures reads { (c : Within) → (d : ℕ) → depth_of c + 1 + room ≡ d → Reads (λ x. operand_of x.0) (λ x. x.1.now) result d tokens.now (Calling callee c) (λ x. filled x c) }
+{
+    let Some(rest) = behind_open(tokens) else {
+        return Err(refusal(tokens, false));
+    };
+    match callee {
+        Callee::Texts(function) => {
+            let (arguments, rest) = list(alloc, ListKind::Arguments(function), rest, room)?;
+            Ok((Operand::Call(function, arguments), rest))
+        }
+        Callee::Select => {
+            let (choice, rest) = choices(alloc, rest, room)?;
+            Ok((Operand::Select(Box::new(alloc, choice)?), rest))
+        }
+    }
+}
+
+/// The choices of `$SELECT` behind the opening parenthesis, and the tokens behind the closing one.
+#[cycle(parse)]
+fn choices<'a, 't>(
+    alloc: Global,
+    tokens: &'t [Lexeme<'a>],
+    room: usize,
+) -> Result<(Choice, &'t [Lexeme<'a>]), Stop>
+    ensures shorter { IfOk result (λ x. length x.1.now < length tokens.now) }
+    ensures reads { (before : Pairs) → (c : Within) → (d : ℕ) → depth_of c + 1 + room ≡ d → Reads (λ x. choice_of x.0) (λ x. x.1.now) result d tokens.now (Wanted (Front (InCondition before c))) (λ x. filled (Select (before_choices before x)) c) }
+{
+    let (condition, rest) = expr(alloc, tokens, room, false)?;
+    let Some(rest) = behind_colon(rest) else {
+        return Err(refusal(rest, false));
+    };
+    let (value, rest) = expr(alloc, rest, room, false)?;
+    if let Some(behind) = behind_comma(rest) {
+        let (others, rest) = choices(alloc, behind, room)?;
+        let others = Some(Box::new(alloc, others)?);
+        return Ok((
+            Choice {
+                condition,
+                value,
+                others,
+            },
+            rest,
+        ));
+    }
+    match behind_close(rest) {
+        Some(rest) => Ok((
+            Choice {
+                condition,
+                value,
+                others: None,
+            },
+            rest,
+        )),
+        None => Err(refusal(rest, false)),
+    }
+}
+
 /// The variable behind a `^`.
 #[cycle(parse)]
 fn global<'a, 't>(
@@ -115,7 +184,7 @@ fn named<'a, 't>(
             if room == 0 {
                 return Err(Stop::Deep(tokens.len()));
             }
-            let (subscripts, rest) = list(alloc, rest, room - 1)?;
+            let (subscripts, rest) = list(alloc, ListKind::Subscripts, rest, room - 1)?;
             Ok((
                 Variable {
                     scope,
@@ -158,30 +227,34 @@ pub(crate) fn expr<'a, 't>(
     Ok((Expr { first, rest: tails }, rest))
 }
 
-/// The subscripts behind their opening parenthesis, and the tokens behind the closing one.
+/// The expressions of a list behind its opening parenthesis, and the tokens behind the closing one.
 #[cycle(parse)]
 fn list<'a, 't>(
     alloc: Global,
+    kind: ListKind,
     tokens: &'t [Lexeme<'a>],
     room: usize,
 ) -> Result<(Vec<Expr>, &'t [Lexeme<'a>]), Stop>
     ensures shorter { IfOk result (λ x. length x.1.now < length tokens.now) }
-    ensures reads { (scope : Scope) → (word : List ℕ) → (p : Place) → (d : ℕ) → place_depth p + 1 + room ≡ d → Reads (λ x. exprs_of x.0.items) (λ x. x.1.now) result d tokens.now (Wanted (Front (InList scope word No p))) (λ es. placed (Var scope word es) p) }
+    ensures reads { (w : Owner) → (d : ℕ) → owner_depth w + 1 + room ≡ d → kind_of w ≡ kind → Reads (λ x. exprs_of x.0.items) (λ x. x.1.now) result d tokens.now (Wanted (Front (InList w No))) (λ es. closed w es) }
 {
     let (first, mut rest) = expr(alloc, tokens, room, false)?;
-    let mut subscripts = Vec::new(alloc);
-    subscripts.push(first)?;
+    let mut items = Vec::new(alloc);
+    items.push(first)?;
     'commas: while let Some(after) = behind_comma(rest) {
-        if subscripts.len() >= WIDTH {
-            return Err(Stop::Long);
+        if items.len() >= most(kind) {
+            return Err(refusal(rest, is_limited(kind)));
         }
-        let full = subscripts.len() + 1 >= WIDTH;
-        let (subscript, behind) = expr(alloc, after, room, full)?;
-        subscripts.push(subscript)?;
+        let full = fills(kind, items.len());
+        let (item, behind) = expr(alloc, after, room, full)?;
+        items.push(item)?;
         rest = behind;
     }
+    if items.len() < least(kind) {
+        return Err(refusal(rest, false));
+    }
     match behind_close(rest) {
-        Some(rest) => Ok((subscripts, rest)),
+        Some(rest) => Ok((items, rest)),
         None => Err(refusal(rest, false)),
     }
 }

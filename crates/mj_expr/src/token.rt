@@ -1,15 +1,17 @@
 // What a token is to an expression.
 
-ghost use Rattle.std.specs.Prelude.{◌≡◌, ◌∷◌, ◌<◌, ◌≤◌, [], length, IfOk, MatchOption};
-ghost use Rattle.mj_ast.specs.Expressions.{symbol, constant_of, Constant, Name, Mark, Other};
-ghost use Rattle.mj_ast.specs.declared.sign.Sign.TheVariants.{Caret, Open, Close, Comma};
+ghost use Rattle.std.specs.Prelude.{◌≡◌, ◌+◌, List, ◌∷◌, ◌<◌, ◌≤◌, [], length, nat_le, ◌&&◌, if◌then◌else◌, IfOk, MatchOption};
+ghost use Rattle.mj_expr.specs.declared.stop.Stop.TheVariants.{Stuck, Long};
+ghost use Rattle.std.specs.Str.{str_eq_ignore_ascii_case};
+ghost use Rattle.mj_ast.specs.Expressions.{Symbol, symbol, constant_of, Constant, Name, Mark, Other, callee_of, is_named, least as least_of_function, most as most_of_function};
+ghost use Rattle.mj_ast.specs.declared.sign.Sign.TheVariants.{Caret, Open, Close, Comma, Colon};
 ghost use Rattle.mj_expr.specs.Machine.{unary_of, binary_of, refused_in};
-ghost use Rattle.mj_expr.specs.Reads.{symbols_seen, Refuses, IsHead, StartsBinary, HasNoBinary, HasNoOpen, HasNoComma, HasNoClose, HasNoCaret, HasNoName};
+ghost use Rattle.mj_expr.specs.Reads.{symbols_seen, Refuses, IsHead, StartsBinary, HasNoBinary, HasNoOpen, HasNoComma, HasNoColon, HasNoClose, HasNoCaret, HasNoName, least_in, most_in, limited_in};
 ghost use Rattle.mj_num.specs.Number.{reading};
 ghost use Rattle.mj_lex.specs.Seen.{token_seen};
 
 use crate::stop::Stop;
-use mj_ast::Sign;
+use mj_ast::{Callee, Function, Sign};
 use mj_lex::{Lexeme, Token, next, unquoted};
 use mj_num::Num;
 use mj_oper::{Op, TruthOp, UnaryOp};
@@ -19,10 +21,108 @@ use std::alloc::{AllocError, Global};
 /// The most bytes of a name.
 const NAME_LIMIT: usize = 31;
 
+/// What a list of expressions is: the subscripts of a variable, or the arguments of a function.
+#[derive(Clone, Copy)]
+pub enum ListKind {
+    Subscripts,
+    Arguments(Function),
+}
+
+/// The most subscripts of a variable.
+const WIDTH: usize = 31;
+
+/// How many expressions there are at least.
+pub fn least(kind: ListKind) -> usize
+    ensures { result ≡ least_in kind }
+{
+    match kind {
+        ListKind::Subscripts => 0,
+        ListKind::Arguments(function) => match function {
+            Function::Find | Function::Justify | Function::Piece | Function::Translate => 2,
+            Function::Ascii
+            | Function::Char
+            | Function::Extract
+            | Function::Length
+            | Function::Reverse => 1,
+        },
+    }
+}
+
+/// How many expressions there are at most.
+pub fn most(kind: ListKind) -> usize
+    ensures { result ≡ most_in kind }
+{
+    match kind {
+        ListKind::Subscripts => WIDTH,
+        ListKind::Arguments(function) => match function {
+            Function::Reverse => 1,
+            Function::Ascii | Function::Justify | Function::Length => 2,
+            Function::Extract | Function::Find | Function::Translate => 3,
+            Function::Piece => 4,
+            Function::Char => 8192,
+        },
+    }
+}
+
+/// Whether one more than that is a list over its limit, and no mistake of grammar.
+pub(crate) fn is_limited(kind: ListKind) -> bool
+    ensures { result ≡ limited_in kind }
+{
+    match kind {
+        ListKind::Subscripts => true,
+        ListKind::Arguments(_) => false,
+    }
+}
+
+/// Whether another one behind so many makes the list full, behind which a comma is over its limit.
+pub(crate) fn fills(kind: ListKind, count: usize) -> bool
+    requires { count < most_in kind }
+    ensures { result ≡ (limited_in kind && nat_le (most_in kind) (count + 1)) }
+{
+    is_limited(kind) && count + 1 >= most(kind)
+}
+
+/// Whether the word is this one or its abbreviation, in any case.
+fn is_word(word: &[u8], full: &[u8], short: &[u8]) -> bool
+    ensures { result ≡ is_named word.now full.now short.now }
+{
+    word.eq_ignore_ascii_case(full) || word.eq_ignore_ascii_case(short)
+}
+
+/// What a `$` word names, if arguments may stand behind it.
+pub fn callee(word: &[u8]) -> Option<Callee>
+    ensures { result ≡ callee_of word.now }
+{
+    if is_word(word, b"ASCII", b"A") {
+        Some(Callee::Texts(Function::Ascii))
+    } else if is_word(word, b"CHAR", b"C") {
+        Some(Callee::Texts(Function::Char))
+    } else if is_word(word, b"EXTRACT", b"E") {
+        Some(Callee::Texts(Function::Extract))
+    } else if is_word(word, b"FIND", b"F") {
+        Some(Callee::Texts(Function::Find))
+    } else if is_word(word, b"JUSTIFY", b"J") {
+        Some(Callee::Texts(Function::Justify))
+    } else if is_word(word, b"LENGTH", b"L") {
+        Some(Callee::Texts(Function::Length))
+    } else if is_word(word, b"PIECE", b"P") {
+        Some(Callee::Texts(Function::Piece))
+    } else if is_word(word, b"REVERSE", b"RE") {
+        Some(Callee::Texts(Function::Reverse))
+    } else if is_word(word, b"SELECT", b"S") {
+        Some(Callee::Select)
+    } else if is_word(word, b"TRANSLATE", b"TR") {
+        Some(Callee::Texts(Function::Translate))
+    } else {
+        None
+    }
+}
+
 /// What an operand may begin with.
 pub(crate) enum Head<'a> {
     Constant(Text),
     Name(&'a [u8]),
+    Callee(Callee),
     Caret,
     Open,
     Unary(Sign, UnaryOp),
@@ -111,10 +211,21 @@ pub(crate) fn head_of<'a>(alloc: Global, token: Token<'a>) -> Result<Head<'a>, A
                 Ok(Head::Nothing)
             }
         }
+        Token::Called(word) => {
+            if word.len() > NAME_LIMIT {
+                return Ok(Head::Nothing);
+            }
+            match callee(word) {
+                Some(callee) => Ok(Head::Callee(callee)),
+                None => Ok(Head::Nothing),
+            }
+        }
         Token::Sign(sign) => Ok(sign_head(sign)),
-        Token::Blank | Token::Comment(_) | Token::Unclosed(_) | Token::Stray(_) => Ok(
-            Head::Nothing,
-        ),
+        Token::Special(_)
+        | Token::Blank
+        | Token::Comment(_)
+        | Token::Unclosed(_)
+        | Token::Stray(_) => Ok(Head::Nothing),
     }
 }
 
@@ -168,6 +279,16 @@ pub(crate) fn behind_comma<'a, 't>(tokens: &'t [Lexeme<'a>]) -> Option<&'t [Lexe
     }
 }
 
+/// The tokens behind a colon in front.
+pub(crate) fn behind_colon<'a, 't>(tokens: &'t [Lexeme<'a>]) -> Option<&'t [Lexeme<'a>]>
+    ensures { MatchOption result (HasNoColon (symbols_seen tokens.now)) (λ x. (symbols_seen tokens.now ≡ Mark Colon ∷ symbols_seen x.now) × (length x.now < length tokens.now)) }
+{
+    match taken(tokens) {
+        Some((Token::Sign(Sign::Colon), rest)) => Some(rest),
+        _ => None,
+    }
+}
+
 /// The tokens behind a closing parenthesis in front.
 pub(crate) fn behind_close<'a, 't>(tokens: &'t [Lexeme<'a>]) -> Option<&'t [Lexeme<'a>]>
     ensures { MatchOption result (HasNoClose (symbols_seen tokens.now)) (λ x. (symbols_seen tokens.now ≡ Mark Close ∷ symbols_seen x.now) × (length x.now < length tokens.now)) }
@@ -205,25 +326,51 @@ pub(crate) fn name_text(alloc: Global, word: &[u8]) -> Result<Text, AllocError>
     }
 }
 
+/// Why nothing is given where a word stands with which no phrase goes on.
+fn refused_word(word: &[u8], left: usize) -> Stop
+    ensures { result ≡ (if nat_le (length word.now) 31 then Stuck left else Long) }
+{
+    if word.len() <= NAME_LIMIT {
+        Stop::Stuck(left)
+    } else {
+        Stop::Long
+    }
+}
+
+/// The same where this token stands before others, `left` with it.
+fn refused_at(token: Token<'_>, left: usize, full: bool) -> Stop
+    ensures { (ks : List Symbol) → length ks + 1 ≡ left → Refuses result (refused_in full (symbol (token_seen token.entry) ∷ ks)) }
+{
+    match token {
+        Token::Word(word) => refused_word(word, left),
+        Token::Called(word) => refused_word(word, left),
+        Token::Special(word) => refused_word(word, left),
+        Token::Sign(sign) => refused_sign(sign, left, full),
+        Token::Digits(_) => Stop::Stuck(left),
+        Token::Quoted(_) => Stop::Stuck(left),
+        Token::Blank => Stop::Stuck(left),
+        Token::Comment(_) => Stop::Stuck(left),
+        Token::Unclosed(_) => Stop::Stuck(left),
+        Token::Stray(_) => Stop::Stuck(left),
+    }
+}
+
+/// The same where it is a sign.
+fn refused_sign(sign: Sign, left: usize, full: bool) -> Stop
+    ensures { (ks : List Symbol) → length ks + 1 ≡ left → Refuses result (refused_in full (Mark sign ∷ ks)) }
+{
+    match sign {
+        Sign::Comma => { if full { Stop::Long } else { Stop::Stuck(left) } }
+        _ => Stop::Stuck(left),
+    }
+}
+
 /// Why nothing is given where no phrase goes on. A comma in a list that is full is too long.
 pub(crate) fn refusal(tokens: &[Lexeme<'_>], full: bool) -> Stop
     ensures { Refuses result (refused_in full (symbols_seen tokens.now)) }
 {
     match taken(tokens) {
-        Some((Token::Word(word), _)) => {
-            if word.len() <= NAME_LIMIT {
-                Stop::Stuck(tokens.len())
-            } else {
-                Stop::Long
-            }
-        }
-        Some((Token::Sign(Sign::Comma), _)) => {
-            if full {
-                Stop::Long
-            } else {
-                Stop::Stuck(tokens.len())
-            }
-        }
-        _ => Stop::Stuck(tokens.len()),
+        None => Stop::Stuck(0),
+        Some((token, _)) => refused_at(token, tokens.len(), full),
     }
 }

@@ -8,6 +8,7 @@
 #![tactic(auto)]
 
 mod asking;
+mod calls;
 mod column;
 mod control;
 mod ending;

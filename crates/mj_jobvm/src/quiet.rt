@@ -68,6 +68,14 @@ pub fn leave(unit: &Unit, pc: usize, machine: &mut Machine) -> Result<Step, Allo
     Ok(Step::Next)
 }
 
+/// The job goes on at another instruction.
+pub fn jump(target: usize, machine: &mut Machine) -> Step
+    ensures { (reply : Option Reply) → Does (λ next. next target (stack_of machine.old)) machine.old reply result machine.new }
+{
+    machine.control = Control::At(target);
+    Step::Next
+}
+
 /// The job ends.
 pub fn halt(machine: &mut Machine) -> Step
     ensures { (reply : Option Reply) → Does (λ next. told.end None) machine.old reply result machine.new }

@@ -13,9 +13,9 @@ use crate::ending::{close, finish, tell_fault};
 use crate::format::write_marks;
 use crate::frame::Place;
 use crate::machine::{Machine, STEPS_LIMIT, Step};
-use crate::quiet::{enter_line, fail, halt, leave, push};
+use crate::quiet::{enter_line, fail, halt, jump, leave, push};
 use crate::target::Target;
-use crate::values::{apply_binary, apply_unary, test, write};
+use crate::values::{apply_binary, apply_unary, call, test, write};
 use crate::variables::{check, load, store};
 use mj_ask::{Ask, Reply};
 use mj_pcode::{Instr, Unit};
@@ -42,11 +42,14 @@ pub fn obey(
         Instr::Load(reference) => load(alloc, pc, reference, machine, given),
         Instr::Unary(op) => apply_unary(alloc, pc, *op, machine),
         Instr::Binary(op) => apply_binary(alloc, pc, *op, machine),
+        Instr::Call(function, count) => call(alloc, pc, *function, *count, machine),
         Instr::Check(reference) => check(alloc, pc, reference, machine),
         Instr::Store(reference) => store(alloc, pc, reference, machine, given),
         Instr::Write => write(alloc, pc, machine, given),
         Instr::Format(marks) => write_marks(alloc, pc, marks, machine, given),
         Instr::Unless(target) => test(alloc, pc, *target, machine),
+        Instr::Jump(target) => Ok(jump(*target, machine)),
+        Instr::NoneTrue => Ok(fail(Fault::Select, machine)),
         Instr::Halt => Ok(halt(machine)),
     }
 }

@@ -3,26 +3,28 @@
 ghost use Rattle.std.specs.Prelude.{◌≡◌, ℕ, ◌+◌, ◌<◌, ◌^◌, ◌∷◌, drop, map, List, Option, Some, Result, IfOk, OnErr, if◌then◌else◌};
 ghost use Rattle.mj_text.specs.declared.fault.Fault as faults;
 ghost use Rattle.mj_ask.specs.declared.ask.Reply as replies;
-ghost use Rattle.mj_text.specs.Failing.{Answers};
+ghost use Rattle.mj_strfn.specs.Functions.{AnswersOrMemory};
 ghost use Rattle.mj_oper.specs.Operators.{unary_value, binary_value, truth_value};
+ghost use Rattle.mj_semantics.specs.Functions.{call_value};
 ghost use Rattle.mj_semantics.specs.Outcome as told;
 ghost use Rattle.mj_semantics.specs.Commands as commands;
-ghost use Rattle.mj_pcode.specs.Machine.{top, below};
+ghost use Rattle.mj_pcode.specs.Machine.{top, below, operands};
 ghost use Rattle.mj_jobvm.specs.Kept.{standing, stack_of, Does, replied};
 
 use crate::asking::put_out;
+use crate::calls::value_of;
 use crate::control::Control;
 use crate::machine::{Machine, Step};
 use crate::quiet::fail;
 use crate::stack;
 use mj_ask::Reply;
-use mj_ast::Mark;
+use mj_ast::{Function, Mark};
 use mj_oper::{Op, UnaryOp, binary, truth, unary};
 use mj_pcode::Marks;
 use mj_text::{Failure, Text};
 use std::alloc::{AllocError, Global};
 
-/// Puts what an operator gave in the place of its `count` operands, or fails.
+/// Puts what an operator or a function gave in the place of its `count` operands, or fails.
 pub fn put_value(
     pc: usize,
     count: usize,
@@ -30,7 +32,7 @@ pub fn put_value(
     machine: &mut Machine,
 ) -> Result<Step, AllocError>
     requires { pc + 1 < 2 ^ 64 }
-    ensures ok { (r : Result (List ℕ) faults.Fault) → Answers r value → IfOk result (λ step. (reply : Option replies.Reply) → Does (λ next. told.given r (λ v. next (pc + 1) (v ∷ drop count (stack_of machine.old)))) machine.old reply step machine.new) }
+    ensures ok { (r : Result (List ℕ) faults.Fault) → AnswersOrMemory r value → IfOk result (λ step. (reply : Option replies.Reply) → Does (λ next. told.given r (λ v. next (pc + 1) (v ∷ drop count (stack_of machine.old)))) machine.old reply step machine.new) }
     ensures err { OnErr result ((reply : Option replies.Reply) → standing machine.new reply ≡ standing machine.old reply) }
 {
     match value {
@@ -81,6 +83,22 @@ pub fn apply_binary(
         stack::top(&machine.stack, &none),
     );
     put_value(pc, 2, value, machine)
+}
+
+/// A function of the topmost `count` operands.
+pub fn call(
+    alloc: Global,
+    pc: usize,
+    function: Function,
+    count: usize,
+    machine: &mut Machine,
+) -> Result<Step, AllocError>
+    requires { pc + 1 < 2 ^ 64 }
+    ensures ok { IfOk result (λ step. (reply : Option replies.Reply) → Does (λ next. told.given (call_value function (operands count (stack_of machine.old))) (λ v. next (pc + 1) (v ∷ drop count (stack_of machine.old)))) machine.old reply step machine.new) }
+    ensures err { OnErr result ((reply : Option replies.Reply) → standing machine.new reply ≡ standing machine.old reply) }
+{
+    let value = value_of(alloc, function, stack::topmost(&machine.stack, count));
+    put_value(pc, count, value, machine)
 }
 
 /// A postcondition.

@@ -1,7 +1,7 @@
 // The token at the front of the bytes of a line.
 
 ghost use Rattle.std.specs.Prelude.{◌∷◌, ◌≡◌, ◌<◌, ◌≤◌, ◌+◌, [], length, take_while, IfSome, IfOk, MatchOption, drop};
-ghost use Rattle.mj_ast.specs.Tokens.{front_of, lexemes, quotation, quoted_token, class_of, is_digit, continues_word, bracket_front, truth_front, longest_sign};
+ghost use Rattle.mj_ast.specs.Tokens.{front_of, lexemes, quotation, quoted_token, class_of, is_digit, continues_word, bracket_front, truth_front, longest_sign, begins_word, dollar_word, dollar_front};
 ghost use Rattle.mj_lex.specs.Seen.{BeginsWith, placed, places_seen, class_seen, token_seen};
 
 use crate::token::{Lexeme, Token};
@@ -13,6 +13,7 @@ use std::alloc::{AllocError, Global};
 #[derive(Clone, Copy)]
 enum Class {
     Word,
+    Dollar,
     Digit,
     Quote,
     Blank,
@@ -30,6 +31,7 @@ fn begun_by(byte: u8) -> Class
         b' ' | b'\t' => Class::Blank,
         b'"' => Class::Quote,
         b';' => Class::Comment,
+        b'$' => Class::Dollar,
         b'+' => Class::Sign(Sign::Plus),
         b'-' => Class::Sign(Sign::Minus),
         b'*' => Class::Sign(Sign::Star),
@@ -64,6 +66,12 @@ fn is_digit_byte(byte: u8) -> bool
     ensures { result ≡ is_digit byte }
 {
     matches!(byte, b'0'..=b'9')
+}
+
+fn begins_word_byte(byte: u8) -> bool
+    ensures { result ≡ begins_word byte }
+{
+    matches!(byte, b'A'..=b'Z' | b'a'..=b'z' | b'%')
 }
 
 /// How many letters and digits stand in front.
@@ -163,6 +171,33 @@ fn first(bytes: &[u8]) -> Option<(u8, &[u8])>
     }
 }
 
+/// The token of `$` and a word, by what stands behind it.
+fn dollar_token<'a>(word: &'a [u8], rest: &[u8]) -> Token<'a>
+    ensures { token_seen result ≡ dollar_word word.now rest.now }
+{
+    match rest {
+        [b'(', ..] => Token::Called(word),
+        _ => Token::Special(word),
+    }
+}
+
+/// The token of a `$`, by the bytes behind it, and what follows it.
+fn dollar(bytes: &[u8]) -> (Token<'_>, &[u8])
+    ensures token { token_seen result.0 ≡ (dollar_front bytes.now).0 }
+    ensures rest { result.1.now ≡ drop (dollar_front bytes.now).1 bytes.now }
+    ensures within { length result.1.now ≤ length bytes.now }
+{
+    let Some((byte, behind)) = first(bytes) else {
+        return (Token::Stray(b'$'), bytes);
+    };
+    if !begins_word_byte(byte) {
+        return (Token::Stray(b'$'), bytes);
+    }
+    let n = word_length(behind);
+    let rest = &behind[n..];
+    (dollar_token(&bytes[..n + 1], rest), rest)
+}
+
 /// The token that a first byte begins, and the bytes behind it, where these stand behind the first.
 fn begun<'a>(bytes: &'a [u8], first: u8, rest: &'a [u8]) -> (Token<'a>, &'a [u8])
     requires { bytes.now ≡ first ∷ rest.now }
@@ -175,6 +210,7 @@ fn begun<'a>(bytes: &'a [u8], first: u8, rest: &'a [u8]) -> (Token<'a>, &'a [u8]
             let n = word_length(rest);
             (Token::Word(&bytes[..n + 1]), &rest[n..])
         }
+        Class::Dollar => dollar(rest),
         Class::Digit => {
             let n = digits_length(rest);
             (Token::Digits(&bytes[..n + 1]), &rest[n..])

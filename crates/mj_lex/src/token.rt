@@ -15,6 +15,10 @@ use std::alloc::Global;
 pub enum Token<'a> {
     /// a letter or `%`, then letters and digits
     Word(&'a [u8]),
+    /// `$` and a word, by the bytes of the word, with a `(` directly behind it
+    Called(&'a [u8]),
+    /// `$` and a word, with anything else behind it
+    Special(&'a [u8]),
     /// digits
     Digits(&'a [u8]),
     /// a quoted text: the bytes between its quotes, in which each quote is doubled

@@ -1,7 +1,7 @@
 // Instructions, and the unit that a routine becomes.
 
 use crate::marks::Marks;
-use mj_ast::Scope;
+use mj_ast::{Function, Scope};
 use mj_oper::{Op, UnaryOp};
 use mj_text::Text;
 
@@ -26,6 +26,8 @@ pub enum Instr {
     Unary(UnaryOp),
     /// takes the right and the left operand off, and puts what the operator gives on
     Binary(Op),
+    /// takes so many arguments off, the last one on top, and puts what the function gives on
+    Call(Function, usize),
     /// looks whether the subscripts on the stack make the variable's name
     Check(Reference),
     /// takes the value off, and then the variable's subscripts, and assigns
@@ -36,6 +38,10 @@ pub enum Instr {
     Format(Marks),
     /// takes a truth value off, and goes on at the instruction with this number where it is false
     Unless(usize),
+    /// goes on at the instruction with this number
+    Jump(usize),
+    /// no condition of a `$SELECT` was true
+    NoneTrue,
     /// ends the job
     Halt,
 }

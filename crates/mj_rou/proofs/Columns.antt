@@ -2,8 +2,8 @@
 use Rattle.std.proofs.Common.{◌≡◌, ℕ, zero, suc, ◌+◌, ◌≤◌, ◌<◌, List, [], ◌∷◌, length, take, drop, get_or, map, refl, ap, sym, ◌∙◌, Bool, true, false, arith, inl, inr, ◌⊎◌}
 use Rattle.std.specs.Prelude.{cond, take_while}
 use Rattle.std.specs.List.{prefix_len}
-use Rattle.std.proofs.lemmas.List.{length-drop, length-take}
-use Rattle.mj_ast.specs.Tokens.{Token, Quoted, Unclosed, Lexeme, Class, AWord, ADigit, AQuote, ABlank, AComment, ASign, Nothing, class_of, front_of, quotation, is_digit, first_lexemes, lexemes, tokens, bytes_of, column}
+use Rattle.std.proofs.lemmas.List.{length-drop, length-take, length-map}
+use Rattle.mj_ast.specs.Tokens.{Token, Quoted, Unclosed, Lexeme, Class, AWord, ADigit, AQuote, ABlank, AComment, ASign, Nothing, class_of, front_of, quotation, is_digit, first_lexemes, lexemes, tokens, bytes_of, column, Word, Called, Special, Digits, Signed, Blank, Comment, Stray, ADollar, quoted_token, begins_word, continues_word, opens, dollar_front}
 use Rattle.mj_lex.specs.Seen.{tokens_seen, token_seen, placed, places_seen}
 use Rattle.mj_lex.specs.declared.token.Lexeme as kept
 use Rattle.mj_lex.specs.declared.token.Token.TheVariants as kept_token
@@ -40,8 +40,18 @@ quote_short : (b : Bool) (q : List ℕ) (ks : List Token) → IsLabelShort (cond
 quote_short true q ks = tt
 quote_short false q ks = tt
 
+dollar_as : (b d : Bool) (w : List ℕ) (n : ℕ) (ks : List Token) → let front : Token × ℕ = cond b (cond d (Called w) (Special w), n) (Stray 36, 0) in IsLabelShort (front.0 ∷ ks)
+dollar_as true true w n ks = tt
+dollar_as true false w n ks = tt
+dollar_as false d w n ks = tt
+
+dollar_short : (bs : List ℕ) (ks : List Token) → IsLabelShort ((dollar_front bs).0 ∷ ks)
+dollar_short [] ks = tt
+dollar_short (b ∷ bs) ks = let w = take_while continues_word bs in dollar_as (begins_word b) (opens (drop (length w) bs)) (b ∷ w) (1 + length w) ks
+
 front_short : (c : Class) (b : ℕ) (bs : List ℕ) (ks : List Token) → length (b ∷ bs) ≤ 8192 → IsLabelShort ((front_of c b bs).0 ∷ ks)
 front_short AWord b bs ks h = tt
+front_short ADollar b bs ks h = dollar_short bs ks
 front_short ADigit b bs ks h = let n = while_short is_digit bs in omega arith
 front_short AQuote b bs ks h = quote_short (quotation bs).closed (quotation bs).content ks
 front_short ABlank b bs ks h = tt

@@ -3,6 +3,8 @@
 #![tactic(auto)]
 
 #[cfg(test)]
+mod functions;
+#[cfg(test)]
 mod operators;
 #[cfg(test)]
 mod runs;

@@ -1,14 +1,15 @@
 -- The values of expressions, strictly from left to right (ISO/IEC 11756:1999, 7).
 use Rattle.std.specs.Prelude.{ℕ, List, [], ◌∷◌, Option, None, Some, Bool, true, false, Result, Ok, Err, length, nat_lt, if◌then◌else◌}
 use Rattle.mj_text.specs.declared.fault.Fault.{Fault}
-use Rattle.mj_text.specs.declared.fault.Fault.TheVariants.{Undefined, Subscript, Limit}
+use Rattle.mj_text.specs.declared.fault.Fault.TheVariants.{Undefined, Subscript, Limit, Select as NoneTrue}
 use Rattle.mj_subs.specs.Name.{Name}
 use Rattle.mj_store.specs.declared.access.Access.TheVariants as accesses
 use Rattle.mj_oper.specs.Operators.{binary_value, unary_value, truth_value}
 use Rattle.mj_ast.specs.declared.expr.Scope.{Scope}
 use Rattle.mj_ast.specs.declared.expr.Scope.TheVariants as scopes
-use Rattle.mj_ast.specs.Syntax.{Expr, Chain, Tails, Done, Then, Operand, Literal, Value, Unary, Group, Variable, Var, Exprs, No, More}
-use Rattle.mj_semantics.specs.Outcome.{Timed, turn, need, given}
+use Rattle.mj_ast.specs.Syntax.{Expr, Chain, Tails, Done, Then, Operand, Literal, Value, Unary, Group, Call, Select, Variable, Var, Exprs, No, More, Choices, Last, Before}
+use Rattle.mj_semantics.specs.Functions.{call_value}
+use Rattle.mj_semantics.specs.Outcome.{Timed, turn, need, given, fault}
 use Rattle.mj_semantics.specs.Accesses.{access, value_told}
 
 -- whether a list of subscripts has an empty one
@@ -43,12 +44,22 @@ abbrev mutual
   ev_tails v (Then op x ts) rest =
       ev_operand x (λ w. turn (given (binary_value op v w) (λ u. ev_tails u ts rest)))
 
-  -- 7.1: a literal, a variable, an operator with its operand, an expression in parentheses
+  -- 7.1: a literal, a variable, an operator with its operand, an expression in parentheses, a function with its arguments
   pub ev_operand : Operand → (List ℕ → Timed) → Timed
   ev_operand (Literal t) rest = turn (rest t)
   ev_operand (Value v) rest = ev_name v (λ x. read x rest)
   ev_operand (Unary op x) rest = ev_operand x (λ v. turn (given (unary_value op v) rest))
   ev_operand (Group e) rest = ev e rest
+  ev_operand (Call f es) rest = ev_all es (λ vs. turn (given (call_value f vs) rest))
+  ev_operand (Select choices) rest = ev_choices choices rest
+
+  -- `$SELECT` (7.1.5.17): the value of the first true condition; later ones aren't looked at. Where none is true it is SELECT.
+  -- A condition is tested in a turn of its own (this profile).
+  pub ev_choices : Choices → (List ℕ → Timed) → Timed
+  ev_choices (Last c e) rest =
+      ev c (λ v. turn (given (truth_value v) (λ b. if b then ev e (λ w. turn (rest w)) else turn (fault NoneTrue))))
+  ev_choices (Before c e others) rest =
+      ev c (λ v. turn (given (truth_value v) (λ b. if b then ev e (λ w. turn (rest w)) else ev_choices others rest)))
 
   -- the name that a variable is: its subscripts in order, and then the whole
   pub ev_name : Variable → (Name → Timed) → Timed

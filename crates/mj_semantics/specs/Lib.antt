@@ -2,6 +2,7 @@ pub mod State
 pub mod Faults
 pub mod Outcome
 pub mod Accesses
+pub mod Functions
 pub mod Evaluation
 pub mod Lines
 pub mod Points

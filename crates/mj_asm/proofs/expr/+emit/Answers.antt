@@ -1,26 +1,55 @@
-use Rattle.std.proofs.Common.{◌++◌, ap, sym, ◌∙◌, append_assoc}
+use Rattle.std.proofs.Common.{◌+◌, [], ◌∷◌, ◌++◌, length, ap, sym, ◌∙◌, append_assoc, length-append}
 use Rattle.std.proofs.lemmas.Result.{on_ok_weaker}
 use Rattle.mj_ast.specs.Trees.{tails_of, operand_of, exprs_of}
 use Rattle.mj_ast.specs.declared.expr.Expr.{out-Expr}
-use Rattle.mj_asm.specs.Code.{expr_code, tails_code, operand_code, exprs_code, subscripts_code}
-use Rattle.mj_asm.proofs.Rows.{expr_is, variable_is}
+use Rattle.mj_ast.specs.Trees.{expr_of, choice_of}
+use Rattle.mj_ast.specs.declared.expr.Choice.{out-Choice}
+use Rattle.mj_pcode.specs.declared.instr.Instr.TheVariants.{Unless, Jump}
+use Rattle.mj_pcode.specs.declared.instr.Instr.TheVariants as instr
+use Rattle.mj_asm.specs.Code.{expr_code, tails_code, operand_code, exprs_code, subscripts_code, others_code}
+use Rattle.mj_asm.proofs.Emitted.{chosen}
+use Rattle.mj_asm.proofs.Rows.{expr_is, variable_is, call_is, choice_is, count_is}
 use Rattle.mj_asm.proofs.expr.+emit.Goals as goal
 
 pub emit_expr-returns : goal.emit_expr-returns
 emit_expr-returns t c =
     let base = c.args.code.now.items in
-    let x = operand_code (operand_of (out-Expr c.args.e.now).first) in
+    let x = operand_code (length base) (operand_of (out-Expr c.args.e.now).first) in
     on_ok_weaker c.emit_tails.result (λ h.
     h
-    ∙ ap (λ is. is ++ tails_code (tails_of c.deref.result.now)) c.in_ok-emit_operand.ensures
+    ∙ ap (λ is. is ++ tails_code (length is) (tails_of c.deref.result.now)) c.in_ok-emit_operand.ensures
     ∙ append_assoc base x _
-    ∙ ap (λ ts. base ++ (x ++ tails_code (tails_of ts))) c.deref.ensures.value
-    ∙ ap (λ e. base ++ expr_code e) (sym (expr_is c.args.e.now))) c.emit_tails.ensures
+    ∙ ap (λ n. base ++ (x ++ tails_code n (tails_of c.deref.result.now))) (length-append base x)
+    ∙ ap (λ ts. base ++ (x ++ tails_code (length base + length x) (tails_of ts))) c.deref.ensures.value
+    ∙ ap (λ e. base ++ expr_code (length base) e) (sym (expr_is c.args.e.now))) c.emit_tails.ensures
 
 pub emit_subscripts-returns : goal.emit_subscripts-returns
 emit_subscripts-returns t c =
     let base = c.args.code.now.items in
     on_ok_weaker c.emit_all.result (λ h.
     h
-    ∙ ap (λ es. base ++ exprs_code (exprs_of es)) c.deref.ensures.value
-    ∙ ap (λ v. base ++ subscripts_code v) (sym (variable_is c.args.variable.now))) c.emit_all.ensures
+    ∙ ap (λ es. base ++ exprs_code (length base) (exprs_of es)) c.deref.ensures.value
+    ∙ ap (λ v. base ++ subscripts_code (length base) v) (sym (variable_is c.args.variable.now))) c.emit_all.ensures
+
+pub emit_choice-returns : goal.emit_choice-returns
+emit_choice-returns t c =
+    let base = c.args.code.now.items in
+    let x = c.args.choice.now in
+    chosen base (expr_code (length base) (expr_of (out-Choice x).condition)) (λ k. expr_code k (expr_of (out-Choice x).value)) (λ k. others_code k (choice_of x))
+    c.emit_expr.new.code.items c.put.new.code.items c.emit_expr-2.new.code.items c.put-2.new.code.items c.aim.new.code.items c.emit_others.new.code.items _ (Unless 0) (Jump 0) c.len-test.result c.len-exit.result
+    c.in_ok-emit_expr.ensures (c.len-test.ensures ∙ c.emit_expr.new.code.ok.0) c.in_ok-put.ensures c.in_ok-emit_expr-2.ensures (c.len-exit.ensures ∙ c.emit_expr-2.new.code.ok.0) c.in_ok-put-2.ensures c.aim.ensures c.in_ok-emit_others.ensures c.aim_jump.ensures
+    ∙ ap (λ is. base ++ is) (sym (choice_is (length base) x))
+
+pub emit_operand-returns-in_ok-emit_all-in-Call : goal.emit_operand-returns-in_ok-emit_all-in-Call
+emit_operand-returns-in_ok-emit_all-in-Call t c =
+    let base = c.args.code.now.items in
+    let f = c.in-Call.function in
+    let es = exprs_of c.in-Call.arguments.items in
+    let all = c.in_ok-emit_all-in-Call.ensures ∙ ap (λ l. base ++ exprs_code (length base) (exprs_of l)) c.deref-in-Call.ensures.value in
+    let n = c.len.ensures ∙ c.in-Call.arguments.ok.0 ∙ sym (count_is c.in-Call.arguments.items) in
+    on_ok_weaker c.put-in-Call.result (λ h.
+    h
+    ∙ ap (λ l. l ++ instr.Call f c.len.result ∷ []) all
+    ∙ append_assoc base (exprs_code (length base) es) (instr.Call f c.len.result ∷ [])
+    ∙ ap (λ k. base ++ (exprs_code (length base) es ++ instr.Call f k ∷ [])) n
+    ∙ ap (λ x. base ++ operand_code (length base) x) (sym (ap operand_of c.in-Call.is ∙ call_is f c.in-Call.arguments))) c.put-in-Call.ensures

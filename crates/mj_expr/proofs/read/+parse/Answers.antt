@@ -1,13 +1,61 @@
-use Rattle.std.proofs.Common.{◌∷◌, [], ℕ, length, length-append, ap, sym, ◌∙◌, arith, List}
-use Rattle.mj_ast.specs.Expressions.{Symbol, count}
-use Rattle.mj_ast.specs.Syntax.{Expr, Variable, Exprs, Tails, No, Var}
-use Rattle.mj_ast.specs.Trees.{operand_of, expr_of, tails_of, exprs_of}
+use Rattle.std.proofs.Common.{◌≡◌, ◌<◌, ◌≤◌, ◌∷◌, [], ℕ, Bool, subst, length, length-append, ap, sym, ◌∙◌, refl, arith, List}
+use Rattle.mj_ast.specs.declared.sign.Sign.TheVariants.{Open, Comma}
+use Rattle.mj_ast.specs.declared.function.Callee.{Callee}
+use Rattle.mj_ast.specs.Expressions.{Symbol, Applied, Mark, symbol, count}
+use Rattle.mj_ast.specs.declared.expr.Choice as choice
+use Rattle.mj_lex.specs.Seen.{token_seen}
+use Rattle.mj_ast.specs.Syntax.{Expr, Operand, Variable, Exprs, Tails, No, Select, Choices, Before, Var}
+use Rattle.mj_ast.specs.Trees.{operand_of, expr_of, choice_of, tails_of, exprs_of}
 use Rattle.mj_expr.specs.Lists.{behind_list}
-use Rattle.mj_expr.specs.Machine.{State, Marked, Named, Right, InList, Held, held, placed, run}
-use Rattle.mj_expr.specs.Reads.{limits, symbols_seen}
-use Rattle.mj_expr.proofs.Made.{expr_made, variable_made, tails_push, exprs_push, count_exprs}
-use Rattle.mj_expr.proofs.Steps.{named_ends, comma_goes, comma_long, close_goes, list_refuses, behind_pushed, reads_from, reads_err, refuses_from, binary_goes, open_goes, full_is}
+use Rattle.mj_expr.specs.Machine.{State, Marked, Named, Right, Subscripts, Arguments, InList, InCondition, InChoice, Held, Wanted, Calling, held, placed, filled, and_pair, before_choices, run, refused_in, most_of, least_of}
+use Rattle.mj_expr.specs.declared.token.Head.{Head}
+use Rattle.mj_expr.specs.Reads.{limits, symbols_seen, least_in, most_in, limited_in, IsHead, BeginsNone}
+use Rattle.mj_expr.proofs.Made.{expr_made, variable_made, call_made, choice_made, tails_push, exprs_push, count_exprs}
+use Rattle.mj_expr.proofs.Steps.{named_ends, comma_goes, comma_over, close_goes, list_refuses, few_refuses, kind_least, kind_most, kind_limited, behind_pushed, reads_from, reads_err, refuses_from, binary_goes, open_goes, call_goes, choice_goes, choice_refuses, before_pair, value_read, kind_full}
+use Rattle.mj_expr.proofs.Facts.{none_refuses}
 use Rattle.mj_expr.proofs.read.+parse.Goals as goal
+
+pub call-returns-in_ok-arguments-in-Texts-clause-reads : goal.call-returns-in_ok-arguments-in-Texts-clause-reads
+call-returns-in_ok-arguments-in-Texts-clause-reads t c = λ c' d e.
+    ap (λ (ks : List Symbol). run (limits d) ks (Calling c.args.callee c')) c.in-Some.ensures.0
+    ∙ ap (λ (f : Callee). run (limits d) (Mark Open ∷ symbols_seen c.in-Some.rest.now) (Calling f c')) c.in-Texts.is
+    ∙ c.in_ok-arguments-in-Texts.ensures.reads (Arguments c.in-Texts.function c') d e refl
+    ∙ ap (λ (x : Operand). run (limits d) (symbols_seen c.in_ok-arguments-in-Texts.rest.now) (filled x c')) (sym (call_made c.in-Texts.function c.in_ok-arguments-in-Texts.arguments))
+
+pub choices-returns-in_err-others-clause-reads : goal.choices-returns-in_err-others-clause-reads
+choices-returns-in_err-others-clause-reads t c = λ before c' d e.
+    let a = expr_of c.in_ok-condition.condition in
+    let v = expr_of c.in_ok-value.value in
+    let went = value_read (limits d) (symbols_seen c.args.tokens.now) (symbols_seen c.in_ok-condition.rest.now) (symbols_seen c.in-Some.rest.now) (symbols_seen c.in_ok-value.rest.now) before a v c'
+    (c.in_ok-condition.ensures.reads (InCondition before c') d e refl) c.in-Some.ensures.0 (c.in_ok-value.ensures.reads (InChoice before a c') d e refl)
+    ∙ ap (λ (ks : List Symbol). run (limits d) ks (held v (InChoice before a c'))) c.in-Some-behind_comma.ensures.0
+    ∙ choice_goes (limits d) (symbols_seen c.in-Some-behind_comma.behind.now) before a v c' in
+    reads_from _ _ c.from_residual-in_err-others.result d c.args.tokens.now c.in-Some-behind_comma.behind.now _ _ _ went
+    (reads_err _ _ c.from_residual-in_err-others.result c.in_err-others.field-0.0 d c.in-Some-behind_comma.behind.now _ _ c.from_residual-in_err-others.ensures.1
+    (c.in_err-others.ensures.reads (and_pair before a v) c' d e))
+
+pub choices-returns-in-Some-behind_comma-clause-reads : goal.choices-returns-in-Some-behind_comma-clause-reads
+choices-returns-in-Some-behind_comma-clause-reads t c = λ before c' d e.
+    let a = expr_of c.in_ok-condition.condition in
+    let v = expr_of c.in_ok-value.value in
+    let others = choice_of c.in_ok-others.others in
+    value_read (limits d) (symbols_seen c.args.tokens.now) (symbols_seen c.in_ok-condition.rest.now) (symbols_seen c.in-Some.rest.now) (symbols_seen c.in_ok-value.rest.now) before a v c'
+    (c.in_ok-condition.ensures.reads (InCondition before c') d e refl) c.in-Some.ensures.0 (c.in_ok-value.ensures.reads (InChoice before a c') d e refl)
+    ∙ ap (λ (ks : List Symbol). run (limits d) ks (held v (InChoice before a c'))) c.in-Some-behind_comma.ensures.0
+    ∙ choice_goes (limits d) (symbols_seen c.in-Some-behind_comma.behind.now) before a v c'
+    ∙ c.in_ok-others.ensures.reads (and_pair before a v) c' d e
+    ∙ ap (λ (x : Choices). run (limits d) (symbols_seen c.in_ok-others.rest.now) (filled (Select x) c')) (before_pair before a v others)
+    ∙ ap (λ (x : Choices). run (limits d) (symbols_seen c.in_ok-others.rest.now) (filled (Select (before_choices before x)) c')) (ap (λ (x : choice.Choice). Before a v (choice_of x)) (sym c.in_ok-new.ensures.ok) ∙ sym (choice_made c.in_ok-condition.condition c.in_ok-value.value c.in_ok-new.field-0))
+
+pub choices-returns-in-None-clause-reads : goal.choices-returns-in-None-clause-reads
+choices-returns-in-None-clause-reads t c = λ before c' d e.
+    let a = expr_of c.in_ok-condition.condition in
+    let v = expr_of c.in_ok-value.value in
+    refuses_from c.refusal-in-None.result _ _
+    (value_read (limits d) (symbols_seen c.args.tokens.now) (symbols_seen c.in_ok-condition.rest.now) (symbols_seen c.in-Some.rest.now) (symbols_seen c.in_ok-value.rest.now) before a v c'
+    (c.in_ok-condition.ensures.reads (InCondition before c') d e refl) c.in-Some.ensures.0 (c.in_ok-value.ensures.reads (InChoice before a c') d e refl)
+    ∙ choice_refuses (limits d) (symbols_seen c.in_ok-value.rest.now) before a v c' c.in_ok-value.ensures.stops c.in_default-behind_comma.ensures c.in-None.ensures)
+    c.refusal-in-None.ensures
 
 pub expr-joins-preserved : goal.expr-joins-preserved
 expr-joins-preserved t c = record {
@@ -29,62 +77,82 @@ global-returns-in-Some-clause-reads t c = λ p d e f.
     reads_from _ _ c.named.result d c.args.tokens.now c.in-Some.rest.now _ _ _
     (ap (λ (ks : List Symbol). run (limits d) ks (Marked p)) c.in-Some.ensures.0) (c.named.ensures.reads p d e)
 
-pub list-returns-then-len-ge-WIDTH-clause-reads : goal.list-returns-then-len-ge-WIDTH-clause-reads
-list-returns-then-len-ge-WIDTH-clause-reads t c = λ scope word p d e.
-    let n = count_exprs c.commas.subscripts.items in
-    c.commas.invariant.reads scope word p d e
-    ∙ ap (λ (ks : List Symbol). run (limits d) ks (behind_list scope word (exprs_of c.commas.subscripts.items) p)) c.in-Some.ensures.0
-    ∙ comma_long (limits d) (symbols_seen c.in-Some.after.now) scope word (exprs_of c.commas.subscripts.items) p (omega (arith, n)) (omega (arith, n, c.len.ensures))
+pub list-returns-then-len-most-clause-reads : goal.list-returns-then-len-most-clause-reads
+list-returns-then-len-most-clause-reads t c = λ w d e k.
+    let n = count_exprs c.commas.items.items in
+    let es = exprs_of c.commas.items.items in
+    let most : most_of (limits d) w ≤ count es = omega (arith, n, c.if-len-most.true, c.len.ensures, c.most.ensures, kind_most d w, ap most_in k) in
+    refuses_from c.refusal.result _ _
+    (c.commas.invariant.reads w d e k
+    ∙ ap (λ (ks : List Symbol). run (limits d) ks (behind_list w es)) c.in-Some.ensures.0
+    ∙ comma_over (limits d) (symbols_seen c.in-Some.after.now) w es (omega (arith, n, c.commas.invariant.shorter.1)) most
+    ∙ ap (λ (b : Bool). refused_in b (Mark Comma ∷ symbols_seen c.in-Some.after.now)) (sym (kind_limited w) ∙ ap limited_in k ∙ sym c.is_limited.ensures)
+    ∙ ap (λ (ks : List Symbol). refused_in c.is_limited.result ks) (sym c.in-Some.ensures.0))
+    c.refusal.ensures
 
-pub list-returns-in_err-subscript-clause-reads : goal.list-returns-in_err-subscript-clause-reads
-list-returns-in_err-subscript-clause-reads t c = λ scope word p d e.
-    let n = count_exprs c.commas.subscripts.items in
-    let at = InList scope word (exprs_of c.commas.subscripts.items) p in
-    let went = c.commas.invariant.reads scope word p d e
-    ∙ ap (λ (ks : List Symbol). run (limits d) ks (behind_list scope word (exprs_of c.commas.subscripts.items) p)) c.in-Some.ensures.0
-    ∙ comma_goes (limits d) (symbols_seen c.in-Some.after.now) scope word (exprs_of c.commas.subscripts.items) p (omega (arith, n)) (omega (arith, n, c.len.ensures)) in
-    reads_from _ _ c.from_residual-in_err-subscript.result d c.args.tokens.now c.in-Some.after.now _ _ _ went
-    (reads_err _ _ c.from_residual-in_err-subscript.result c.in_err-subscript.field-0.0 d c.in-Some.after.now _ _ c.from_residual-in_err-subscript.ensures.1
-    (c.in_err-subscript.ensures.reads at d e (full_is (count (exprs_of c.commas.subscripts.items)) c.len-in-Some.result (omega (arith, n, c.len-in-Some.ensures)))))
+pub list-returns-in_err-item-clause-reads : goal.list-returns-in_err-item-clause-reads
+list-returns-in_err-item-clause-reads t c = λ w d e k.
+    let n = count_exprs c.commas.items.items in
+    let es = exprs_of c.commas.items.items in
+    let few : count es < most_of (limits d) w = omega (arith, n, c.if-len-most.false, c.len.ensures, c.most.ensures, kind_most d w, ap most_in k) in
+    let went = c.commas.invariant.reads w d e k
+    ∙ ap (λ (ks : List Symbol). run (limits d) ks (behind_list w es)) c.in-Some.ensures.0
+    ∙ comma_goes (limits d) (symbols_seen c.in-Some.after.now) w es (omega (arith, n, c.commas.invariant.shorter.1)) few in
+    reads_from _ _ c.from_residual-in_err-item.result d c.args.tokens.now c.in-Some.after.now _ _ _ went
+    (reads_err _ _ c.from_residual-in_err-item.result c.in_err-item.field-0.0 d c.in-Some.after.now _ _ c.from_residual-in_err-item.ensures.1
+    (c.in_err-item.ensures.reads (InList w es) d e (kind_full w c.args.kind (count es) c.len-in-Some.result k (omega (arith, n, c.len-in-Some.ensures)) ∙ sym c.fills-full.ensures)))
 
 pub list-commas-preserved : goal.list-commas-preserved
 list-commas-preserved t c = record {
-  reads = λ scope word p d e.
-      let n = count_exprs c.commas.subscripts.items in
-      let es = exprs_of c.commas.subscripts.items in
-      c.commas.invariant.reads scope word p d e
-      ∙ ap (λ (ks : List Symbol). run (limits d) ks (behind_list scope word es p)) c.in-Some.ensures.0
-      ∙ comma_goes (limits d) (symbols_seen c.in-Some.after.now) scope word es p (omega (arith, n)) (omega (arith, n, c.len.ensures))
-      ∙ c.in_ok-subscript.ensures.reads (InList scope word es p) d e (full_is (count (exprs_of c.commas.subscripts.items)) c.len-in-Some.result (omega (arith, n, c.len-in-Some.ensures)))
-      ∙ ap (λ (s : State). run (limits d) (symbols_seen c.in_ok-subscript.behind.now) s) (sym (behind_pushed scope word es (expr_of c.in_ok-subscript.subscript) p))
-      ∙ ap (λ (xs : Exprs). run (limits d) (symbols_seen c.in_ok-subscript.behind.now) (behind_list scope word xs p)) (sym (ap exprs_of c.in_ok-push-2.ensures.items ∙ exprs_push c.commas.subscripts.items c.in_ok-subscript.subscript));
+  reads = λ w d e k.
+      let n = count_exprs c.commas.items.items in
+      let es = exprs_of c.commas.items.items in
+      let few : count es < most_of (limits d) w = omega (arith, n, c.if-len-most.false, c.len.ensures, c.most.ensures, kind_most d w, ap most_in k) in
+      c.commas.invariant.reads w d e k
+      ∙ ap (λ (ks : List Symbol). run (limits d) ks (behind_list w es)) c.in-Some.ensures.0
+      ∙ comma_goes (limits d) (symbols_seen c.in-Some.after.now) w es (omega (arith, n, c.commas.invariant.shorter.1)) few
+      ∙ c.in_ok-item.ensures.reads (InList w es) d e (kind_full w c.args.kind (count es) c.len-in-Some.result k (omega (arith, n, c.len-in-Some.ensures)) ∙ sym c.fills-full.ensures)
+      ∙ ap (λ (s : State). run (limits d) (symbols_seen c.in_ok-item.behind.now) s) (sym (behind_pushed w es (expr_of c.in_ok-item.item)))
+      ∙ ap (λ (xs : Exprs). run (limits d) (symbols_seen c.in_ok-item.behind.now) (behind_list w xs)) (sym (ap exprs_of c.in_ok-push-2.ensures.items ∙ exprs_push c.commas.items.items c.in_ok-item.item));
   shorter = (
-    omega (arith, c.in_ok-subscript.ensures.shorter, c.in-Some.ensures.1, c.commas.invariant.shorter.0),
-    omega (arith, ap length c.in_ok-push-2.ensures.items, length-append c.commas.subscripts.items (c.in_ok-subscript.subscript ∷ [])),
-    c.in_ok-subscript.ensures.stops,
+    omega (arith, c.in_ok-item.ensures.shorter, c.in-Some.ensures.1, c.commas.invariant.shorter.0),
+    omega (arith, ap length c.in_ok-push-2.ensures.items, length-append c.commas.items.items (c.in_ok-item.item ∷ [])),
+    c.in_ok-item.ensures.stops,
   );
 }
 
+pub list-returns-then-len-least-clause-reads : goal.list-returns-then-len-least-clause-reads
+list-returns-then-len-least-clause-reads t c = λ w d e k.
+    let n = count_exprs c.commas.items.items in
+    let es = exprs_of c.commas.items.items in
+    let few : count es < least_of w = omega (arith, n, c.if-len-least.true, c.len-2.ensures, c.least.ensures, kind_least w, ap least_in k) in
+    refuses_from c.refusal-then-len-least.result _ _
+    (c.commas.invariant.reads w d e k
+    ∙ few_refuses (limits d) (symbols_seen c.commas.rest.now) w es (omega (arith, n, c.commas.invariant.shorter.1)) few c.commas.invariant.shorter.2 c.in_default.ensures)
+    c.refusal-then-len-least.ensures
+
 pub list-returns-in-Some-behind_close-clause-reads : goal.list-returns-in-Some-behind_close-clause-reads
-list-returns-in-Some-behind_close-clause-reads t c = λ scope word p d e.
-    let n = count_exprs c.commas.subscripts.items in
-    c.commas.invariant.reads scope word p d e
-    ∙ ap (λ (ks : List Symbol). run (limits d) ks (behind_list scope word (exprs_of c.commas.subscripts.items) p)) c.in-Some-behind_close.ensures.0
-    ∙ close_goes (limits d) (symbols_seen c.in-Some-behind_close.rest.now) scope word (exprs_of c.commas.subscripts.items) p (omega (arith, n))
+list-returns-in-Some-behind_close-clause-reads t c = λ w d e k.
+    let n = count_exprs c.commas.items.items in
+    let es = exprs_of c.commas.items.items in
+    let many : least_of w ≤ count es = omega (arith, n, c.if-len-least.false, c.len-2.ensures, c.least.ensures, kind_least w, ap least_in k) in
+    c.commas.invariant.reads w d e k
+    ∙ ap (λ (ks : List Symbol). run (limits d) ks (behind_list w es)) c.in-Some-behind_close.ensures.0
+    ∙ close_goes (limits d) (symbols_seen c.in-Some-behind_close.rest.now) w es (omega (arith, n, c.commas.invariant.shorter.1)) many
 
 pub list-returns-clause-reads : goal.list-returns-clause-reads
-list-returns-clause-reads t c = λ scope word p d e.
-    let n = count_exprs c.commas.subscripts.items in
-    refuses_from c.refusal.result _ _
-    (c.commas.invariant.reads scope word p d e
-    ∙ list_refuses (limits d) (symbols_seen c.commas.rest.now) scope word (exprs_of c.commas.subscripts.items) p (omega (arith, n)) c.commas.invariant.shorter.2 c.in_default.ensures c.in-None.ensures)
-    c.refusal.ensures
+list-returns-clause-reads t c = λ w d e k.
+    let n = count_exprs c.commas.items.items in
+    refuses_from c.refusal-in-None.result _ _
+    (c.commas.invariant.reads w d e k
+    ∙ list_refuses (limits d) (symbols_seen c.commas.rest.now) w (exprs_of c.commas.items.items) (omega (arith, n, c.commas.invariant.shorter.1)) c.commas.invariant.shorter.2 c.in_default.ensures c.in-None.ensures)
+    c.refusal-in-None.ensures
 
 pub named-returns-in_ok-subscripts-in-Some-clause-reads : goal.named-returns-in_ok-subscripts-in-Some-clause-reads
 named-returns-in_ok-subscripts-in-Some-clause-reads t c = λ p d e.
     ap (λ (ks : List Symbol). run (limits d) ks (Named c.args.scope c.args.word.now p)) c.in-Some.ensures.0
     ∙ open_goes (limits d) (symbols_seen c.in-Some.rest.now) c.args.scope c.args.word.now p (omega (arith, c.if-room-eq0.false))
-    ∙ c.in_ok-subscripts-in-Some.ensures.reads c.args.scope c.args.word.now p d (omega (arith, c.if-room-eq0.false))
+    ∙ c.in_ok-subscripts-in-Some.ensures.reads (Subscripts c.args.scope c.args.word.now p) d (omega (arith, c.if-room-eq0.false)) refl
     ∙ ap (λ (v : Variable). run (limits d) (symbols_seen c.in_ok-subscripts-in-Some.rest.now) (placed v p))
     (ap (λ (w : List ℕ). Var c.args.scope w (exprs_of c.in_ok-subscripts-in-Some.subscripts.items)) (sym c.in_ok-word.ensures)
     ∙ sym (variable_made c.args.scope c.in_ok-word.word c.in_ok-subscripts-in-Some.subscripts))
@@ -96,3 +164,22 @@ named-returns-in-None-clause-reads t c = λ p d e.
     (ap (λ (w : List ℕ). Var c.args.scope w No) (sym c.in_ok-word.ensures)
     ∙ ap (λ (es : Exprs). Var c.args.scope c.in_ok-word.word es) (sym (ap exprs_of c.new.ensures.items))
     ∙ sym (variable_made c.args.scope c.in_ok-word.word c.new.result))
+
+pub operand-returns-else-room-eq0-clause-reads : goal.operand-returns-else-room-eq0-clause-reads
+operand-returns-else-room-eq0-clause-reads t c = λ c' d e f.
+    let P : Head → Type 0 = λ h. IsHead h (symbol (token_seen c.in-Some.token)) in
+    let head : symbol (token_seen c.in-Some.token) ≡ Applied c.in-Callee.callee = subst P c.in-Callee.is c.in_ok-text.ensures in
+    let went = ap (λ (ks : List Symbol). run (limits d) ks (Wanted c')) c.in-Some.ensures.0
+    ∙ ap (λ (k : Symbol). run (limits d) (k ∷ symbols_seen c.in-Some.rest.now) (Wanted c')) head
+    ∙ call_goes (limits d) (symbols_seen c.in-Some.rest.now) c.in-Callee.callee c' (omega (arith, e, c.if-room-eq0.false)) in
+    reads_from _ _ c.call.result d c.args.tokens.now c.in-Some.rest.now _ _ _ went (c.call.ensures.reads c' d (omega (arith, e, c.if-room-eq0.false)))
+
+pub operand-returns-in-Nothing-clause-reads : goal.operand-returns-in-Nothing-clause-reads
+operand-returns-in-Nothing-clause-reads t c = λ c' d e f.
+    let P : Head → Type 0 = λ h. IsHead h (symbol (token_seen c.in-Some.token)) in
+    let none : BeginsNone (symbol (token_seen c.in-Some.token)) = subst P c.in-Nothing.is c.in_ok-text.ensures in
+    refuses_from c.refusal-in-Nothing.result _ _
+    (ap (λ (ks : List Symbol). run (limits d) ks (Wanted c')) c.in-Some.ensures.0
+    ∙ none_refuses (limits d) (limits 0) c' (symbol (token_seen c.in-Some.token)) (symbols_seen c.in-Some.rest.now) c.args.full refl f none
+    ∙ ap (λ (ks : List Symbol). refused_in c.args.full ks) (sym c.in-Some.ensures.0))
+    c.refusal-in-Nothing.ensures

@@ -1,14 +1,19 @@
-use Rattle.std.proofs.Common.{◌≡◌, ◌<◌, ◌+◌, ◌*◌, ℕ, length, List}
-use Rattle.mj_ast.specs.declared.expr.Scope.{Scope}
+use Rattle.std.proofs.Common.{◌≡◌, ◌<◌, ◌+◌, ◌*◌, ℕ, length}
 use Rattle.mj_ast.specs.Syntax.{No}
 use Rattle.mj_ast.specs.Trees.{operand_of, tails_of, exprs_of}
-use Rattle.mj_expr.specs.Machine.{Outer, Place, Front, InList, Wanted, Held, run, outer_depth, place_depth, is_full}
-use Rattle.mj_expr.specs.Reads.{symbols_seen, limits, HasNoBinary}
+use Rattle.mj_expr.specs.Machine.{Outer, Owner, Front, InList, Wanted, Held, run, outer_depth, owner_depth, is_full}
+use Rattle.mj_expr.specs.Reads.{symbols_seen, limits, HasNoBinary, kind_of}
 use Rattle.mj_expr.specs.Lists.{behind_list}
 use Rattle.mj_expr.proofs.read.+parse.Given as goal
 
 abbrev pub decreases-list : goal.decreases-list
 decreases-list l = 4 * length l.tokens.now + 2
+
+abbrev pub decreases-call : goal.decreases-call
+decreases-call l = 4 * length l.tokens.now + 3
+
+abbrev pub decreases-choices : goal.decreases-choices
+decreases-choices l = 4 * length l.tokens.now + 2
 
 abbrev pub decreases-group : goal.decreases-group
 decreases-group l = 4 * length l.tokens.now + 2
@@ -40,9 +45,9 @@ decreases-expr-joins l = length l.rest
 
 abbrev pub invariant-list-commas : goal.invariant-list-commas
 invariant-list-commas l = IsReadSo
-    ((scope : Scope) → (word : List ℕ) → (p : Place) → (d : ℕ) → place_depth p + 1 + l.room ≡ d →
-    run (limits d) (symbols_seen l.tokens) (Wanted (Front (InList scope word No p))) ≡ run (limits d) (symbols_seen l.rest) (behind_list scope word (exprs_of l.subscripts.items) p))
-    ((length l.rest < length l.tokens) × (0 < length l.subscripts.items) × HasNoBinary (symbols_seen l.rest))
+    ((w : Owner) → (d : ℕ) → owner_depth w + 1 + l.room ≡ d → kind_of w ≡ l.kind →
+    run (limits d) (symbols_seen l.tokens) (Wanted (Front (InList w No))) ≡ run (limits d) (symbols_seen l.rest) (behind_list w (exprs_of l.items.items)))
+    ((length l.rest < length l.tokens) × (0 < length l.items.items) × HasNoBinary (symbols_seen l.rest))
 
 abbrev pub decreases-list-commas : goal.decreases-list-commas
 decreases-list-commas l = length l.rest

@@ -72,6 +72,18 @@ pub returns-in-Format-clause-ok : goal.returns-in-Format-clause-ok
 returns-in-Format-clause-ok c =
     IfOk-weaker c.write_marks.result _ _ (λ step d. obeys c.args.unit.now c.args.instr.now (instrs.Format c.in-Format.marks) c.args.pc c.args.machine.now (replied c.args.given) step _ c.in-Format.is d) c.write_marks.ensures.ok
 
+pub returns-in-Call-clause-ok : goal.returns-in-Call-clause-ok
+returns-in-Call-clause-ok c =
+    IfOk-weaker c.call.result _ _ (λ step d. obeys c.args.unit.now c.args.instr.now _ c.args.pc c.args.machine.now (replied c.args.given) step _ c.in-Call.is (d (replied c.args.given))) c.call.ensures.ok
+
+pub returns-in-Jump-clause-ok : goal.returns-in-Jump-clause-ok
+returns-in-Jump-clause-ok c =
+    obeys c.args.unit.now c.args.instr.now (instrs.Jump c.in-Jump.target) c.args.pc c.args.machine.now (replied c.args.given) c.jump.result _ c.in-Jump.is (c.jump.ensures (replied c.args.given))
+
+pub returns-in-NoneTrue-clause-ok : goal.returns-in-NoneTrue-clause-ok
+returns-in-NoneTrue-clause-ok c =
+    obeys c.args.unit.now c.args.instr.now instrs.NoneTrue c.args.pc c.args.machine.now (replied c.args.given) c.fail.result _ c.in-NoneTrue.is (c.fail.ensures (replied c.args.given))
+
 pub returns-in-Halt-clause-ok : goal.returns-in-Halt-clause-ok
 returns-in-Halt-clause-ok c =
     obeys c.args.unit.now c.args.instr.now instrs.Halt c.args.pc c.args.machine.now (replied c.args.given) c.halt.result _ c.in-Halt.is (c.halt.ensures (replied c.args.given))

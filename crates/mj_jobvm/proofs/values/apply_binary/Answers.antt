@@ -3,6 +3,7 @@ use Rattle.mj_text.specs.Failing.{Answers}
 use Rattle.mj_oper.specs.Operators.{binary_value}
 use Rattle.mj_pcode.specs.Machine.{top, below}
 use Rattle.mj_jobvm.specs.Kept.{stack_of}
+use Rattle.mj_jobvm.proofs.Asks.{or_memory}
 use Rattle.mj_jobvm.proofs.values.apply_binary.Goals as goal
 
 pub returns-clause-ok : goal.returns-clause-ok
@@ -12,4 +13,4 @@ returns-clause-ok c =
     let P : List ℕ → Type 0 = λ x. Answers (binary_value c.args.op x c.top.result.now) c.binary-value.result in
     let Q : List ℕ → Type 0 = λ x. Answers (binary_value c.args.op (top (below (stack_of c.args.machine.now))) x) c.binary-value.result in
     c.put_value.ensures.ok (binary_value c.args.op (top (below (stack_of c.args.machine.now))) (top (stack_of c.args.machine.now)))
-    (subst Q r (subst P l c.binary-value.ensures))
+    (or_memory _ c.binary-value.result (subst Q r (subst P l c.binary-value.ensures)))

@@ -1,0 +1,33 @@
+// The functions of the language.
+
+/// A function of texts.
+#[derive(Clone, Copy, PartialEq, Eq, Debug)]
+pub enum Function {
+    /// `$ASCII`: the code of a byte
+    Ascii,
+    /// `$CHAR`: the bytes of codes
+    Char,
+    /// `$EXTRACT`: the bytes at some places
+    Extract,
+    /// `$FIND`: the place behind a text in another
+    Find,
+    /// `$JUSTIFY`: a text with spaces before it
+    Justify,
+    /// `$LENGTH`: how many bytes, or how many pieces
+    Length,
+    /// `$PIECE`: the pieces between separators
+    Piece,
+    /// `$REVERSE`: the bytes from the last to the first
+    Reverse,
+    /// `$TRANSLATE`: a text with other bytes in the place of some
+    Translate,
+}
+
+/// What a `$` word with arguments behind it names.
+#[derive(Clone, Copy, PartialEq, Eq, Debug)]
+pub enum Callee {
+    /// a function whose arguments are texts
+    Texts(Function),
+    /// `$SELECT`
+    Select,
+}

@@ -1,0 +1,27 @@
+-- What functions give of the values of their arguments (ISO/IEC 11756:1999, 7.1.5). The arguments are texts, all of which have
+-- their values before one of them is looked at.
+use Rattle.std.specs.Prelude.{ℕ, List, [], Option, Some, None, Result, Ok, slice_get}
+use Rattle.mj_text.specs.declared.fault.Fault.{Fault}
+use Rattle.mj_ast.specs.declared.function.Function.{Function}
+use Rattle.mj_ast.specs.declared.function.Function.TheVariants.{Ascii, Char, Extract, Find, Justify, Length, Piece, Reverse, Translate}
+use Rattle.mj_strfn.specs.Functions.{ascii_value, char_value, extract_value, find_value, justify_value, length_value, piece_value, reverse_value, translate_value}
+
+-- the argument behind n others, if there is one
+abbrev pub optional : ℕ → List (List ℕ) → Option (List ℕ)
+optional n arguments = slice_get arguments n
+
+-- an argument that is always there; one that is missing would count as the empty text
+abbrev pub needed : ℕ → List (List ℕ) → List ℕ
+needed n arguments = elim (slice_get arguments n) [ None ↦ [] | Some t ↦ t ]
+
+-- the value of a call
+abbrev pub call_value : Function → List (List ℕ) → Result (List ℕ) Fault
+call_value Ascii a = ascii_value (needed 0 a) (optional 1 a)
+call_value Char a = char_value a
+call_value Extract a = extract_value (needed 0 a) (optional 1 a) (optional 2 a)
+call_value Find a = find_value (needed 0 a) (needed 1 a) (optional 2 a)
+call_value Justify a = justify_value (needed 0 a) (needed 1 a)
+call_value Length a = Ok (length_value (needed 0 a) (optional 1 a))
+call_value Piece a = piece_value (needed 0 a) (needed 1 a) (optional 2 a) (optional 3 a)
+call_value Reverse a = Ok (reverse_value (needed 0 a))
+call_value Translate a = Ok (translate_value (needed 0 a) (needed 1 a) (optional 2 a))
