@@ -43,7 +43,9 @@ impl Work {
 
 // nodes of two subscripts, and siblings of one level
 const FIRST: u32 = 400;
+
 const SECOND: u32 = 500;
+
 const SIBLINGS: u32 = 200_000;
 
 /// Does a work, and gives the number of nodes that it met.
