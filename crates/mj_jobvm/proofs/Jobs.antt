@@ -7,7 +7,7 @@ use Rattle.mj_ask.specs.declared.ask.Reply.{Reply}
 use Rattle.mj_ask.specs.declared.entry.Entry.{Entry}
 use Rattle.mj_ask.specs.Fits.{fits}
 use Rattle.mj_ast.specs.Syntax.{Routine}
-use Rattle.mj_semantics.specs.State.{State, places}
+use Rattle.mj_semantics.specs.State.{State, Locals, Place, places}
 use Rattle.mj_semantics.specs.Outcome.{Outcome, Needs, More, Handler}
 use Rattle.mj_semantics.specs.Outcome as outcomes
 use Rattle.mj_semantics.specs.Job.{next, no_restart}
@@ -18,7 +18,7 @@ use Rattle.mj_jobvm.specs.declared.control.Control.TheVariants as controls
 use Rattle.mj_jobvm.specs.declared.job.Turn.TheVariants as reports
 use Rattle.mj_jobvm.specs.Standing.{Standing, Code, from, left, given_first, onward, Steps}
 use Rattle.mj_jobvm.specs.Standing as turns
-use Rattle.mj_jobvm.specs.Run.{Log, Run, replies_of, begins, goes_on, IsRun}
+use Rattle.mj_jobvm.specs.Run.{Log, Run, replies_of, TurnsBefore, begins, goes_on, IsRun}
 use Rattle.mj_jobvm.specs.Told.{Told}
 
 abbrev pub run : Log → Option Ask → ℕ → Standing → Run
@@ -40,6 +40,18 @@ idle_left code controls.Over stack s replies = refl
 idle : (code : Code) (at : Standing) (replies : List Reply) → onward code 0 at replies ≡ More
 idle code at replies = idle_left code at.control at.stack at.state (given_first at.given replies)
 
+-- lists without their last elements
+last_off : (xs ys : Log) (e f : Ask × Reply) → xs ++ e ∷ [] ≡ ys ++ f ∷ [] → xs ≡ ys
+last_off [] [] e f h = refl
+last_off [] (y ∷ []) e f h = cc
+last_off [] (y ∷ z ∷ ys) e f h = cc
+last_off (x ∷ []) [] e f h = cc
+last_off (x ∷ z ∷ xs) [] e f h = cc
+last_off (x ∷ xs) (y ∷ ys) e f h =
+    let head : x ≡ y = cc in
+    let tail : xs ++ e ∷ [] ≡ ys ++ f ∷ [] = cc in
+    ap (λ l. x ∷ l) (last_off xs ys e f tail) ∙ ap (λ z. z ∷ ys) head
+
 -- a fact of each number up to one, and of the next
 one_further : (P : ℕ → Type 0) (m : ℕ) → ((n : ℕ) → n ≤ m → P n) → P (m + 1) → (n : ℕ) → n ≤ m + 1 → P n
 one_further P m up here n le = by (nat_lt m n) refl
@@ -50,6 +62,39 @@ one_further P m up here n le = by (nat_lt m n) refl
     by : (b : Bool) → nat_lt m n ≡ b → P n
     by true e = along (m + 1) n (let h = ltb-true m n e in omega (arith, h)) here
     by false e = up n (ltb-false m n e)
+
+-- the turns before the last reply of a log are the only ones
+module _ (routines : List Routine) (entry : Entry) where
+  some_more : (log : Log) (e : Ask × Reply) → [] ≡ log ++ e ∷ [] → ⊥
+  some_more [] e h = cc
+  some_more (x ∷ log) e h = cc
+
+  -- a run that goes on doesn't ask
+  never_both : (o : Outcome) (a : Ask) (locals : Locals) (at : List Place) → o ≡ More → o ≡ Needs a locals at → ⊥
+  never_both o a locals at e f = let h : More ≡ Needs a locals at = sym e ∙ f in cc
+
+  -- where it asks with each number above one, it goes on with none above it
+  no_later : (replies : List Reply) (m k : ℕ) (a : Ask) (locals : Locals) (at : List Place)
+      → ((n : ℕ) → n ≤ m → next routines entry n replies ≡ More)
+      → ((n : ℕ) → next routines entry (k + suc n) replies ≡ Needs a locals at) → m ≤ k
+  no_later replies m k a locals at going needs = by (nat_lt k m) refl
+    where
+      by : (b : Bool) → nat_lt k m ≡ b → m ≤ k
+      by false e = ltb-false k m e
+      by true e = absurd (never_both (next routines entry (k + 1) replies) a locals at
+          (going (k + 1) (let h = ltb-true k m e in omega (arith, h))) (needs 0))
+
+  pub only_one : (log : Log) (k m : ℕ) → TurnsBefore routines entry log k → TurnsBefore routines entry log m → k ≡ m
+  only_one log k m (inl (e, c)) (inl (f, d)) = c ∙ sym d
+  only_one log k m (inl (e, c)) (inr (earlier, a, r, locals, at, is, going, needs)) = absurd (some_more earlier (a, r) (sym e ∙ is))
+  only_one log k m (inr (earlier, a, r, locals, at, is, going, needs)) (inl (f, d)) = absurd (some_more earlier (a, r) (sym f ∙ is))
+  only_one log k m (inr (earlier, a, r, locals, at, is, going, needs)) (inr (earlier', a', r', locals', at', is', going', needs')) =
+      let same : earlier ≡ earlier' = last_off earlier earlier' (a, r) (a', r') (sym is ∙ is') in
+      let P : Log → Type 0 = λ l. (n : ℕ) → n ≤ m → next routines entry n (replies_of l) ≡ More in
+      let Q : Log → Type 0 = λ l. (n : ℕ) → next routines entry (m + suc n) (replies_of l) ≡ Needs a' locals' at' in
+      let le : k ≤ m = no_later (replies_of earlier) k m a' locals' at' going (subst Q (sym same) needs') in
+      let ge : m ≤ k = no_later (replies_of earlier) m k a locals at (subst P (sym same) going') needs in
+      omega (arith, le, ge)
 
 module _ (routines : List Routine) (entry : Entry) (code : Code) where
   -- what the routines do with the log
@@ -65,7 +110,7 @@ module _ (routines : List Routine) (entry : Entry) (code : Code) where
     trace = begins;
     turns = 0;
     within = omega arith;
-    going = λ n le. ap (λ k. next routines entry k []) (let e : 0 + n ≡ 0 = omega arith in e);
+    going = λ n le replies. ap (λ k. next routines entry k replies) (let e : n ≡ 0 = omega (arith, le) in e);
     rest = λ n replies. h n replies ∙ ap (λ k. next routines entry k replies) (let e : n ≡ 0 + 0 + n = omega arith in e);
     asks = tt;
   }
@@ -93,9 +138,8 @@ module _ (routines : List Routine) (entry : Entry) (code : Code) where
     trace = r.trace;
     turns = r.turns + 1;
     within = let w = r.within in omega (arith, w);
-    going = one_further (λ n. next routines entry (r.before + n) (replies_of log) ≡ More) r.turns r.going
-        (ap (λ k. next routines entry k (replies_of log)) (let e : r.before + (r.turns + 1) ≡ r.before + r.turns + 1 = omega arith in e)
-        ∙ sym (now log None spent 1 old r) ∙ h 0 [] ∙ idle code new []);
+    going = λ n le. one_further (λ k. (replies : List Reply) → next routines entry k (replies_of log ++ replies) ≡ More) (r.before + r.turns) r.going
+        (λ replies. sym (r.rest 1 replies) ∙ h 0 replies ∙ idle code new replies) n (let l : n ≤ r.before + r.turns + 1 = omega (arith, le) in l);
     rest = λ n replies. sym (h n replies) ∙ r.rest (suc n) replies ∙ ap (λ k. next routines entry k (replies_of log ++ replies)) (let e : r.before + r.turns + suc n ≡ r.before + (r.turns + 1) + n = omega arith in e);
     asks = tt;
   }
@@ -115,25 +159,35 @@ module _ (routines : List Routine) (entry : Entry) (code : Code) where
     asks = (g, h);
   }
 
-  -- a run asks within the turns that it asks in
+  -- a run asks in the turn that it asks in, and in each later one
   pub needs : (log : Log) (spent : ℕ) (a : Ask) (at : Standing) (r : IsRun routines entry code (run log (Some a) spent at))
-      → next routines entry (r.before + r.turns + 1) (replies_of log) ≡ Needs a at.state.locals (places at.state)
-  needs log spent a at r = sym (now log (Some a) spent 1 at r) ∙ r.asks.1 0
+      → (n : ℕ) → next routines entry (r.before + r.turns + suc n) (replies_of log) ≡ Needs a at.state.locals (places at.state)
+  needs log spent a at r n = sym (now log (Some a) spent (suc n) at r) ∙ r.asks.1 n
+
+  -- and is still going in each before
+  still : (log : Log) (pending : Option Ask) (spent : ℕ) (at : Standing) (r : IsRun routines entry code (run log pending spent at))
+      → (n : ℕ) → n ≤ r.before + r.turns → next routines entry n (replies_of log) ≡ More
+  still log pending spent at r n le = ap (next routines entry n) (sym (append-nil (replies_of log))) ∙ r.going n le []
 
   pub told_asks : (log : Log) (spent : ℕ) (a : Ask) (at : Standing) → IsRun routines entry code (run log (Some a) spent at)
       → Told routines entry reports.Asks (run log (Some a) spent at)
-  told_asks log spent a at r = (a, refl, (r.before + r.turns + 1, needs log spent a at r))
+  told_asks log spent a at r = (a, refl, (r.before + r.turns + 1, needs log spent a at r 0))
 
   -- what is told again while an ask is pending
   pub told_again : (job : Run) (a : Ask) → job.pending ≡ Some a → IsRun routines entry code job → Told routines entry reports.Asks job
   told_again job a e r =
       let P : Option Ask → Type 0 = λ p. IsRun routines entry code (run job.log p job.spent job.at) in
       let pending : IsRun routines entry code (run job.log (Some a) job.spent job.at) = subst P e r in
-      (a, e, (pending.before + pending.turns + 1, needs job.log job.spent a job.at pending))
+      (a, e, (pending.before + pending.turns + 1, needs job.log job.spent a job.at pending 0))
 
   pub told_ran : (log : Log) (pending : Option Ask) (spent : ℕ) (at : Standing) → IsRun routines entry code (run log pending spent at)
       → Told routines entry reports.Ran (run log pending spent at)
-  told_ran log pending spent at r = (r.before, r.counted, r.going spent r.within)
+  told_ran log pending spent at r = (
+    r.before,
+    r.counted,
+    (λ k c. only_one routines entry log k r.before c r.counted),
+    λ n le. still log pending spent at r n (let w = r.within in omega (arith, le, w)),
+  )
 
   pub told_ended : (log : Log) (pending : Option Ask) (spent : ℕ) (at : Standing)
       → ((n : ℕ) (replies : List Reply) → onward code (suc n) at replies ≡ outcomes.Ended)
@@ -162,16 +216,14 @@ module _ (routines : List Routine) (entry : Entry) (code : Code) where
           at.state.locals,
           places at.state,
           refl,
-          is.going is.turns (let le : is.turns ≤ is.turns = omega arith in le),
+          still log (Some a) spent at is,
           needs log spent a at is,
         );
-        trace = goes_on log a r (is.before + is.turns + 1) at.state.locals (places at.state) is.trace (needs log spent a at is) fit;
+        trace = goes_on log a r (is.before + is.turns + 1) at.state.locals (places at.state) is.trace (needs log spent a at is 0) fit;
         turns = 0;
         within = omega arith;
-        going = λ n le. ap (λ k. next routines entry k (replies_of (log ++ (a, r) ∷ []))) (let e : is.before + is.turns + n ≡ is.before + is.turns + 0 = omega (arith, le) in e)
-            ∙ ap (next routines entry (is.before + is.turns + 0)) (sym (append-nil (replies_of (log ++ (a, r) ∷ []))))
-            ∙ sym (after 0 [])
-            ∙ idle_left code at.control at.stack at.state (r ∷ []);
+        going = λ n le replies. ap (next routines entry n) (sym (replies_more log a r replies))
+            ∙ is.going n (let l : n ≤ is.before + is.turns = omega (arith, le) in l) (r ∷ replies);
         rest = λ n replies. after n replies
             ∙ ap (λ k. next routines entry k (replies_of (log ++ (a, r) ∷ []) ++ replies)) (let e : is.before + is.turns + n ≡ is.before + is.turns + 0 + n = omega arith in e);
         asks = tt;

@@ -7,3 +7,5 @@ pub mod Innermost
 pub mod Asks
 pub mod Loops
 pub mod Small
+pub mod Limit
+mod Examples

@@ -5,5 +5,6 @@ pub mod Standing
 pub mod Answers
 pub mod Kept
 pub mod Run
+pub mod Limit
 pub mod Told
 pub mod Jobs

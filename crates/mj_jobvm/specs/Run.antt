@@ -19,13 +19,21 @@ abbrev pub replies_of : Log → List Reply
 replies_of log = map (λ e. e.1) log
 
 -- the turns that were over when the last reply of the log was taken, after which the run asked for it; none where there was
--- no reply yet
+-- no reply yet. Without that reply the run goes on for as many turns and for each fewer, and needs it with each more: so
+-- there is only one such number
 abbrev pub TurnsBefore : List Routine → Entry → Log → ℕ → Type 0
 TurnsBefore routines entry log m =
     ((log ≡ []) × (m ≡ 0))
     ⊎ ((earlier : Log) × (a : Ask) × (r : Reply) × (locals : Locals) × (at : List Place) × (log ≡ earlier ++ (a, r) ∷ [])
-    × (next routines entry m (replies_of earlier) ≡ More)
-    × (next routines entry (m + 1) (replies_of earlier) ≡ Needs a locals at))
+    × ((n : ℕ) → n ≤ m → next routines entry n (replies_of earlier) ≡ More)
+    × ((n : ℕ) → next routines entry (m + suc n) (replies_of earlier) ≡ Needs a locals at))
+
+-- for as many turns after those before the last reply, and for each fewer, the run over the log is still going; and the turns
+-- before the last reply are the only ones
+abbrev pub GoesOn : List Routine → Entry → Log → ℕ → Type 0
+GoesOn routines entry log turns =
+    (m : ℕ) × TurnsBefore routines entry log m × ((k : ℕ) → TurnsBefore routines entry log k → k ≡ m)
+    × ((n : ℕ) → n ≤ m + turns → next routines entry n (replies_of log) ≡ More)
 
 -- each entry's ask is the one that the job makes after the replies before it, and its reply fits it
 pub data IsTrace (routines : List Routine) (entry : Entry) : Log → Type 0 where
@@ -54,8 +62,8 @@ pub record IsRun (routines : List Routine) (entry : Entry) (code : Code) (job : 
   -- the turns that are over since the last reply, which are at least those that it counted
   pub turns : ℕ
   pub within : job.spent ≤ turns
-  -- at none of them the run was over, or asked
-  pub going : (n : ℕ) → n ≤ turns → next routines entry (before + n) (replies_of job.log) ≡ More
+  -- at none of all turns the run was over, or asked for more than the log's replies, whatever is told next
+  pub going : (n : ℕ) → n ≤ before + turns → (replies : List Reply) → next routines entry n (replies_of job.log ++ replies) ≡ More
   -- what is left of the run is what the routines mean after as many turns
   pub rest : (n : ℕ) (replies : List Reply) → onward code n job.at replies ≡ next routines entry (before + turns + n) (replies_of job.log ++ replies)
   -- and with an ask pending, the run needs its reply

@@ -11,7 +11,7 @@ use Rattle.mj_jobvm.specs.declared.job.Turn.TheVariants.{Asks, Ran, Ended}
 use Rattle.mj_jobvm.specs.declared.job.Went.{Went}
 use Rattle.mj_jobvm.specs.declared.job.Went.TheVariants as wents
 use Rattle.mj_jobvm.specs.Standing as turns
-use Rattle.mj_jobvm.specs.Run.{Run, replies_of, TurnsBefore, HasEnded}
+use Rattle.mj_jobvm.specs.Run.{Run, replies_of, GoesOn, HasEnded}
 
 -- it asks only what the run over its log needs, and its locals and its frames are those that stand beside it; it has ended
 -- only where the run has; and only where the run is still going after the turns before the last reply was taken, and those
@@ -19,8 +19,7 @@ use Rattle.mj_jobvm.specs.Run.{Run, replies_of, TurnsBefore, HasEnded}
 abbrev pub Told : List Routine → Entry → Turn → Run → Type 0
 Told routines entry Asks job =
     (a : Ask) × (job.pending ≡ Some a) × ((n : ℕ) × (next routines entry n (replies_of job.log) ≡ outcomes.Needs a job.at.state.locals (places job.at.state)))
-Told routines entry Ran job =
-    (m : ℕ) × TurnsBefore routines entry job.log m × (next routines entry (m + job.spent) (replies_of job.log) ≡ outcomes.More)
+Told routines entry Ran job = GoesOn routines entry job.log job.spent
 Told routines entry Ended job = HasEnded routines entry job.log
 
 -- the turns that are counted since the last reply: its fuel, where it ran as far as it was let, up to 2 ^ 63

@@ -10,6 +10,7 @@ ghost use Rattle.mj_jobvm.specs.Jobs.{Fits, IsRunOf, given_of, opened};
 ghost use Rattle.mj_jobvm.specs.Standing.{Steps};
 ghost use Rattle.mj_jobvm.specs.Kept.{standing, replied, target_of, target_at};
 ghost use Rattle.mj_jobvm.specs.Run.{IsTrace};
+ghost use Rattle.mj_jobvm.specs.Limit.{IsLimited};
 ghost use Rattle.mj_jobvm.specs.Told.{Told, told_of, spent_after};
 ghost use Rattle.mj_jobvm.specs.Units.{unit_at, IsFit};
 
@@ -183,10 +184,11 @@ impl Job {
         }
     }
 
-    /// What it asked, with the replies, in order.
+    /// What it asked, with the replies, in order: at most 1,000,000 entries, and those of its ending.
     pub fn log(&self) -> &[(Ask, Reply)]
         ensures which { result.now ≡ self.now.run.log }
         ensures trace { (image : Loaded) (entry : entries.Entry) → IsRunOf image entry self.now → IsTrace (routines_of image) entry result.now }
+        ensures limit { (image : Loaded) (entry : entries.Entry) → IsRunOf image entry self.now → IsLimited result.now }
     {
         self.log.as_slice()
     }

@@ -4,10 +4,9 @@ use crate::alone::one;
 use crate::ended::Alone;
 use crate::routines::loaded;
 use crate::stop::{FAILED, FAULTED, Stop, WORDS};
-use crate::words::{Order, read_words};
-use clap::Error;
-use clap::error::ErrorKind;
 use mj_ask::Entry;
+use mj_words::{Order, Refusal, read_words};
+use std::alloc::Global;
 use std::convert::AsStr;
 use std::io::{Read, Write};
 use std::rt::Files;
@@ -25,7 +24,7 @@ where
 {
     let done = match read_words(rt.alloc(), words) {
         Ok(order) => obey(rt, &order, out),
-        Err(error) => tell(&error, out, err),
+        Err(refusal) => tell(&refusal, out, err),
     };
     match done {
         Ok(status) => status,
@@ -45,36 +44,65 @@ fn obey<'a, R: Files + AllocGlobal, O: Write>(
 ) -> Result<u8, Stop<'a>> {
     match order {
         Order::Run { start, files } => {
-            let Some(entry) = Entry::read(rt.alloc(), start.as_bytes())? else {
-                return Err(Stop::Value(*start));
-            };
-            let image = loaded(rt, files)?;
-            match one(rt.alloc(), &image, entry, u64::MAX)? {
-                Alone::Ended(done) => {
-                    print(done.output(), out)?;
-                    Ok(if done.has_faulted() { FAULTED } else { 0 })
-                }
-                Alone::Stopped(done) => {
-                    print(done.output(), out)?;
-                    Err(Stop::Full)
-                }
-            }
+            let ran = run_alone(rt, *start, files)?;
+            show(&ran, out)
+        }
+    }
+}
+
+// Runs one job alone, from this entry.
+fn run_alone<'a, R: Files + AllocGlobal>(
+    rt: &R,
+    start: &'a str,
+    files: &[&'a str],
+) -> Result<Alone, Stop<'a>> {
+    let entry = entry(rt.alloc(), start)?;
+    let image = loaded(rt, files)?;
+    match one(rt.alloc(), &image, entry, u64::MAX) {
+        Ok(ran) => Ok(ran),
+        Err(_) => Err(Stop::Memory),
+    }
+}
+
+// The entry that a word names.
+fn entry<'a>(alloc: Global, word: &'a str) -> Result<Entry, Stop<'a>> {
+    match Entry::read(alloc, word.as_bytes())? {
+        Some(entry) => Ok(entry),
+        None => Err(Stop::Value(word)),
+    }
+}
+
+// Writes what a job wrote, and gives the exit status.
+fn show<'a, O: Write>(ran: &Alone, out: &mut O) -> Result<u8, Stop<'a>> {
+    match ran {
+        Alone::Ended(done) => {
+            print(done.output(), out)?;
+            Ok(if done.has_faulted() { FAULTED } else { 0 })
+        }
+        Alone::Stopped(done) => {
+            print(done.output(), out)?;
+            Err(Stop::Full)
         }
     }
 }
 
 // The text on words that are no order: help, which was asked for, or what is wrong.
-fn tell<'a, O: Write, E: Write>(error: &Error, out: &mut O, err: &mut E) -> Result<u8, Stop<'a>> {
-    if error.kind() == ErrorKind::OutOfMemory {
-        return Err(Stop::Memory);
-    }
-    if error.use_stderr() {
-        let _ = write!(err, "{error}");
-        return Ok(WORDS);
-    }
-    match write!(out, "{error}") {
-        Ok(()) => Ok(0),
-        Err(_) => Err(Stop::File("-")),
+fn tell<'a, O: Write, E: Write>(
+    refusal: &Refusal,
+    out: &mut O,
+    err: &mut E,
+) -> Result<u8, Stop<'a>> {
+    match refusal {
+        Refusal::Help(text) => {
+            print(text.as_bytes(), out)?;
+            Ok(0)
+        }
+        Refusal::Wrong(text) => {
+            // Where this can't be written, the status alone tells.
+            let _ = write!(err, "{text}");
+            Ok(WORDS)
+        }
+        Refusal::Memory => Err(Stop::Memory),
     }
 }
 

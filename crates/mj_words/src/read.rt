@@ -1,24 +1,38 @@
 // The words of the command line.
 
+use crate::order::{Order, Refusal};
 use clap::error::ErrorKind;
 use clap::{Arg, ArgAction, ArgMatches, Command, Error};
 use std::alloc::{AllocError, Global};
 use std::convert::AsStr;
 
-/// What the words ask for.
-#[derive(Drop)]
-pub enum Order<'a> {
-    /// to run these routines' files, with one job that starts at this entry
-    Run { start: &'a str, files: Vec<&'a str> },
+/// Reads the words, of which the first is the program's name.
+pub fn read_words<'a, S: AsStr>(alloc: Global, words: &'a [S]) -> Result<Order<'a>, Refusal> {
+    match order(alloc, words) {
+        Ok(order) => Ok(order),
+        Err(error) => Err(refusal(alloc, &error)),
+    }
 }
 
-/// Reads the words, of which the first is the program's name. An error has the text for the user.
-pub fn read_words<'a, S: AsStr>(alloc: Global, words: &'a [S]) -> Result<Order<'a>, Error> {
+// What the words ask for.
+fn order<'a, S: AsStr>(alloc: Global, words: &'a [S]) -> Result<Order<'a>, Error> {
     let mut command = command(alloc)?;
     let matches = command.try_get_matches_from_mut(words)?;
     match matches.subcommand() {
         Some(("run", found)) => Ok(run_order(alloc, found)?),
         _ => Err(command.error(ErrorKind::MissingSubcommand, "a command is required")?),
+    }
+}
+
+// What an error says to the user. Help, which was asked for, is one that isn't for standard error.
+fn refusal(alloc: Global, error: &Error) -> Refusal {
+    if error.kind() == ErrorKind::OutOfMemory {
+        return Refusal::Memory;
+    }
+    match format!(in alloc; "{error}") {
+        Ok(text) if error.use_stderr() => Refusal::Wrong(text),
+        Ok(text) => Refusal::Help(text),
+        Err(_) => Refusal::Memory,
     }
 }
 

@@ -1,0 +1,36 @@
+-- Which asks a log may hold behind the others, on rows.
+use Rattle.std.proofs.Common.{[], None, Some, true, inl, inr, refl, arith, codes}
+use Rattle.mj_text.specs.declared.fault.Fault.TheVariants.{Steps}
+use Rattle.mj_subs.specs.Name.{Name}
+use Rattle.mj_store.specs.declared.access.Access.TheVariants.{Value}
+use Rattle.mj_ask.specs.declared.ask.Ask.TheVariants as asks
+use Rattle.mj_semantics.specs.State.{State}
+use Rattle.mj_semantics.specs.Outcome.{principal, fault_bytes}
+use Rattle.mj_jobvm.specs.Limit.{IsAllowed}
+
+abbrev name : Name
+name = record { global = true; word = codes "A"; subscripts = [] }
+
+-- the one that makes 1,000,000
+last_access : IsAllowed 999999 (asks.Access (Value name))
+last_access = inl (omega arith)
+
+-- one more isn't
+one_more : IsAllowed 1000000 (asks.Access (Value name)) → ⊥
+one_more (inl lt) = absurd (omega (arith, lt))
+one_more (inr e) = e
+
+-- but the ending is: the fault's line, the end of the session, and the job's
+fault_line : (s : State) → IsAllowed 1000000 (asks.DeviceWrite principal (fault_bytes Steps s))
+fault_line s = inr (omega arith, refl, (Steps, s, refl))
+
+session_end : IsAllowed 1000001 (asks.DeviceEnd principal)
+session_end = inr (omega arith, refl)
+
+job_end : IsAllowed 1000002 (asks.Halt (Some Steps))
+job_end = inr (omega arith)
+
+-- and nothing after it
+nothing_after : IsAllowed 1000003 (asks.Halt None) → ⊥
+nothing_after (inl lt) = absurd (omega (arith, lt))
+nothing_after (inr le) = absurd (omega (arith, le))

@@ -1,0 +1,10 @@
+// The words of the command line: what they ask for.
+//
+// They are read by `clap`. Everything that is `clap`'s stands in here, so that the program is checked without it.
+#![tactic(auto)]
+
+mod order;
+mod read;
+
+pub use order::{Order, Refusal};
+pub use read::read_words;
