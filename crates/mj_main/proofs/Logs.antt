@@ -1,16 +1,19 @@
 -- A job alone whose log grows.
-use Rattle.std.proofs.Common.{◌≡◌, [], ◌∷◌, ◌++◌, refl, sym, ap, ◌∙◌, subst}
+use Rattle.std.specs.Prelude.{IsSome}
+use Rattle.std.proofs.Common.{◌≡◌, ℕ, ◌+◌, ◌^◌, min, [], ◌∷◌, ◌++◌, refl, sym, ap, ◌∙◌, subst}
 use Rattle.mj_ask.specs.declared.ask.Ask.{Ask}
 use Rattle.mj_ask.specs.declared.ask.Reply.{Reply}
 use Rattle.mj_ask.specs.declared.entry.Entry.{Entry}
 use Rattle.mj_store.specs.Questions.{Content}
 use Rattle.mj_load.specs.Image.{Loaded, routines_of}
 use Rattle.mj_jobvm.specs.declared.job.Turn.{Turn}
-use Rattle.mj_jobvm.specs.declared.job.Turn.TheVariants.{Ended}
+use Rattle.mj_jobvm.specs.declared.job.Turn.TheVariants.{Asks, Ended}
 use Rattle.mj_jobvm.specs.Jobs.{Running, IsRunOf}
 use Rattle.mj_jobvm.specs.Told.{Told}
 use Rattle.mj_main.specs.Output.{output_of}
 use Rattle.mj_main.specs.Alone.{Shown, Stands, IsAlone}
+use Rattle.mj_main.specs.Calls.{fuel, TakesCalls}
+use Rattle.mj_main.proofs.Calls.{made_none, made_still, made_ran, made_asked, takes_them}
 use Rattle.mj_jobvm.specs.Run.{Log, HasEnded}
 use Rattle.mj_main.specs.Service.{reply_to, globals_after, globals_of, Served}
 
@@ -24,28 +27,66 @@ pub served_with : (globals : Content) (log : Log) (a : Ask) (r : Reply)
 served_with globals [] a r served reply = (reply, tt)
 served_with globals (e ∷ log) a r served reply = (served.0, served_with (globals_after globals e.0) log a r served.1 reply)
 
-module _ (image : Loaded) (entry : Entry) (job : Running) (globals : Content) (s : Stands image entry job globals) where
-  pub stands_as : (same : Running) (left : Content) → same ≡ job → left ≡ globals → Stands image entry same left
+-- a job that asks waits for a reply
+pub waits : (image : Loaded) (entry : Entry) (job : Running) (turn : Turn) → turn ≡ Asks → Told (routines_of image) entry turn job.run → IsSome job.run.pending
+waits image entry job turn is told =
+    let P : Turn → Type 0 = λ t. Told (routines_of image) entry t job.run in
+    let asks : Told (routines_of image) entry Asks job.run = subst P is told in
+    subst IsSome (sym asks.1) refl
+
+-- a job before its first call
+pub stands_first : (image : Loaded) (entry : Entry) (job : Running) (globals : Content) → IsRunOf image entry job
+    → job.run.log ≡ [] → job.run.spent ≡ 0 → globals ≡ [] → Stands image entry 0 job globals
+stands_first image entry job globals r log spent left =
+    let P : Log → Type 0 = λ l. Served [] l in
+    record {
+      run = r;
+      served = subst P (sym log) tt;
+      left = left ∙ ap (globals_of []) (sym log);
+      made = made_none image entry job log spent;
+    }
+
+module _ (image : Loaded) (entry : Entry) (calls : ℕ) (job : Running) (globals : Content) (s : Stands image entry calls job globals) where
+  pub stands_as : (same : Running) (left : Content) → same ≡ job → left ≡ globals → Stands image entry calls same left
   stands_as same left e f =
-      let P : Running → Type 0 = λ j. Stands image entry j globals in
-      let Q : Content → Type 0 = λ g. Stands image entry same g in
+      let P : Running → Type 0 = λ j. Stands image entry calls j globals in
+      let Q : Content → Type 0 = λ g. Stands image entry calls same g in
       subst Q (sym f) (subst P (sym e) s)
 
-  -- turns that add nothing to the log
-  pub stands_on : (new : Running) → IsRunOf image entry new → new.run.log ≡ job.run.log → Stands image entry new globals
-  stands_on new r e =
+  -- turns that add nothing to the log, of a call that asks or ends
+  pub stands_on : (new : Running) → IsRunOf image entry new → new.run.log ≡ job.run.log → new.run.spent ≡ job.run.spent → Stands image entry calls new globals
+  stands_on new r e spent =
       let P : Log → Type 0 = λ l. Served [] l in
-      record { run = r; served = subst P (sym e) s.served; left = s.left ∙ ap (globals_of []) (sym e) }
+      record {
+        run = r;
+        served = subst P (sym e) s.served;
+        left = s.left ∙ ap (globals_of []) (sym e);
+        made = made_still image entry job calls s.made new e spent;
+      }
+
+  -- a call that ran
+  pub stands_ran : (new : Running) → IsRunOf image entry new → new.run.log ≡ job.run.log → new.run.spent ≡ min (job.run.spent + fuel) (2 ^ 63)
+      → Stands image entry (calls + 1) new globals
+  stands_ran new r e spent =
+      let P : Log → Type 0 = λ l. Served [] l in
+      record {
+        run = r;
+        served = subst P (sym e) s.served;
+        left = s.left ∙ ap (globals_of []) (sym e);
+        made = made_ran image entry job calls s.made new e spent;
+      }
 
   -- a reply of the service
   pub stands_replied : (new : Running) (left : Content) (a : Ask) (r : Reply) → IsRunOf image entry new
-      → new.run.log ≡ job.run.log ++ (a, r) ∷ [] → r ≡ reply_to globals a → left ≡ globals_after globals a → Stands image entry new left
-  stands_replied new left a r is e reply after =
+      → new.run.log ≡ job.run.log ++ (a, r) ∷ [] → new.run.spent ≡ 0 → r ≡ reply_to globals a → left ≡ globals_after globals a
+      → Stands image entry (calls + 1) new left
+  stands_replied new left a r is e spent reply after =
       let P : Log → Type 0 = λ l. Served [] l in
       record {
         run = is;
         served = subst P (sym e) (served_with [] job.run.log a r s.served (reply ∙ ap (λ g. reply_to g a) s.left));
         left = after ∙ ap (λ g. globals_after g a) s.left ∙ sym (globals_with [] job.run.log a r) ∙ ap (globals_of []) (sym e);
+        made = made_asked image entry job calls s.made new a r s.run e spent;
       }
 
   -- what is seen of it
@@ -60,3 +101,10 @@ module _ (image : Loaded) (entry : Entry) (job : Running) (globals : Content) (s
       let P : Shown → Type 0 = λ o. HasEnded (routines_of image) entry o.log in
       let Q : Turn → Type 0 = λ t. Told (routines_of image) entry t job.run in
       subst P (sym e) (subst Q is told)
+
+  pub stopped_is : (one : Shown) → one ≡ record { log = job.run.log; globals = globals; output = output_of job.run.log }
+      → (many : ℕ) → calls ≡ many → TakesCalls (routines_of image) entry one.log many
+  stopped_is one e many all =
+      let P : Shown → Type 0 = λ o. TakesCalls (routines_of image) entry o.log calls in
+      let Q : ℕ → Type 0 = λ n. TakesCalls (routines_of image) entry one.log n in
+      subst Q all (subst P (sym e) (takes_them image entry job calls s.made s.run))

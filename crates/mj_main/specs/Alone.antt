@@ -5,11 +5,12 @@ use Rattle.mj_ask.specs.declared.ask.Ask.TheVariants as asks
 use Rattle.mj_ask.specs.declared.entry.Entry.{Entry}
 use Rattle.mj_ast.specs.Syntax.{Routine}
 use Rattle.mj_store.specs.Questions.{Content}
-use Rattle.mj_load.specs.Image.{Loaded}
+use Rattle.mj_load.specs.Image.{Loaded, routines_of}
 use Rattle.mj_jobvm.specs.Run.{Log, IsTrace}
 use Rattle.mj_jobvm.specs.Jobs.{Running, IsRunOf}
 use Rattle.mj_main.specs.Service.{globals_of, Served}
 use Rattle.mj_main.specs.Output.{output_of}
+use Rattle.mj_main.specs.Calls.{Made}
 
 -- what is seen of it: its log, the globals that it left, and the bytes that its principal device took
 pub record Shown : Type 0 where
@@ -17,11 +18,12 @@ pub record Shown : Type 0 where
   pub globals : Content
   pub output : List ℕ
 
--- where a job stands that runs alone, and the globals there
-pub record Stands (image : Loaded) (entry : Entry) (job : Running) (globals : Content) : Type 0 where
+-- where a job stands that runs alone, after so many calls of `advance` that let it go on, and the globals there
+pub record Stands (image : Loaded) (entry : Entry) (calls : ℕ) (job : Running) (globals : Content) : Type 0 where
   pub run : IsRunOf image entry job
   pub served : Served [] job.run.log
   pub left : globals ≡ globals_of [] job.run.log
+  pub made : Made (routines_of image) entry job.run calls
 
 -- it ran the routines from the entry, over no globals: its log is a trace, each of its replies is the service's, the globals
 -- are those after its asks, and the bytes are the output of its log

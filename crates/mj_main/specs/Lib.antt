@@ -1,4 +1,5 @@
 pub mod Service
 pub mod Output
+pub mod Calls
 pub mod Alone
 pub mod Ways

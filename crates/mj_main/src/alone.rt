@@ -1,6 +1,6 @@
 // One job that runs alone.
 
-ghost use Rattle.std.specs.Prelude.{◌≡◌, IfOk, OnOk};
+ghost use Rattle.std.specs.Prelude.{◌≡◌, ℕ, ◌+◌, IsSome, IfOk, OnOk};
 ghost use Rattle.mj_ask.specs.declared.entry.Entry as entries;
 ghost use Rattle.mj_load.specs.Image.{Loaded, routines_of};
 ghost use Rattle.mj_main.specs.Alone.{Stands};
@@ -20,9 +20,9 @@ use std::alloc::{AllocError, Global};
 const FUEL: u64 = 10_000;
 
 /// Runs one job alone that starts at this entry, over no globals and a device that takes every byte, up to its end or to
-/// the end of so many calls of `advance`.
+/// the end of so many calls of `advance`, each of which asked or used its turns up.
 pub fn one(alloc: Global, image: &Image, entry: Entry, calls: u64) -> Result<Alone, AllocError>
-    ensures { IfOk result (Went (routines_of image.now) entry) }
+    ensures { IfOk result (Went (routines_of image.now) entry calls) }
 {
     let mut job = Job::start(alloc, image, entry)?;
     let mut globals = Flat::new(alloc);
@@ -48,9 +48,9 @@ fn shown(alloc: Global, job: Job, globals: Flat) -> Result<One, AllocError>
     })
 }
 
-// Answers what the job asks.
+// Answers what the job asks, which ends a call.
 fn answer(job: &mut Job, globals: &mut Flat) -> Result<(), AllocError>
-    ensures { OnOk result ((image : Loaded) (entry : entries.Entry) → Stands image entry job.old globals.old → Stands image entry job.new globals.new) }
+    ensures { OnOk result ((image : Loaded) (entry : entries.Entry) (calls : ℕ) → IsSome job.old.run.pending → Stands image entry calls job.old globals.old → Stands image entry (calls + 1) job.new globals.new) }
 {
     let Some(ask) = job.ask() else {
         return Ok(());

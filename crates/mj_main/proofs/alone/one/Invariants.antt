@@ -2,4 +2,4 @@ use Rattle.mj_main.specs.Alone.{Stands}
 use Rattle.mj_main.proofs.alone.one.Given as goal
 
 abbrev pub invariant-calls : goal.invariant-calls
-invariant-calls l = Stands l.image l.fn.entry l.job l.globals
+invariant-calls l = Stands l.image l.fn.entry l.done l.job l.globals
