@@ -5,7 +5,7 @@ use Rattle.mj_oper.specs.declared.op.TruthOp.TheVariants.{Equal, SortsAfter, Or}
 use Rattle.mj_ast.specs.declared.sign.Sign.TheVariants.{Star, Equals, CloseBracket, CloseBrackets, Exclamation, Apostrophe, Negated, Open, Close, Comma}
 use Rattle.mj_ast.specs.Tokens.{Word, Called, Special, Digits, Quoted, Signed, Blank, Comment, Unclosed, Stray, lexemes, tokens, column}
 use Rattle.mj_ast.specs.declared.keyword.Keyword.TheVariants as keyword
-use Rattle.mj_ast.specs.declared.function.Function.TheVariants.{Reverse, Translate}
+use Rattle.mj_ast.specs.declared.function.Function.TheVariants.{QLength, QSubscript, Reverse, Translate}
 use Rattle.mj_ast.specs.declared.function.Callee.TheVariants.{Texts}
 use Rattle.mj_ast.specs.Expressions.{callee_of}
 use Rattle.mj_ast.specs.Syntax.{Chain, Done, Literal, Shown, Write, Halt, Step}
@@ -76,6 +76,12 @@ functions = refl
 
 short_function : callee_of (codes "re") ≡ Some (Texts Reverse)
 short_function = refl
+
+name_length : callee_of (codes "ql") ≡ Some (Texts QLength)
+name_length = refl
+
+name_part : callee_of (codes "qSubscript") ≡ Some (Texts QSubscript)
+name_part = refl
 
 no_function : callee_of (codes "LEN") ≡ None
 no_function = refl

@@ -21,7 +21,7 @@ use Rattle.mj_oper.specs.declared.op.TruthOp.TheVariants as truth
 use Rattle.mj_oper.specs.declared.op.UnaryOp.{UnaryOp}
 use Rattle.mj_oper.specs.declared.op.UnaryOp.TheVariants as unary
 use Rattle.mj_ast.specs.declared.function.Function.{Function}
-use Rattle.mj_ast.specs.declared.function.Function.TheVariants.{Ascii, Char, Extract, Find, Justify, Length, Piece, Reverse, Translate}
+use Rattle.mj_ast.specs.declared.function.Function.TheVariants.{Ascii, Char, Extract, Find, Justify, Length, Piece, QLength, QSubscript, Reverse, Translate}
 use Rattle.mj_ast.specs.declared.function.Callee.{Callee}
 use Rattle.mj_ast.specs.declared.function.Callee.TheVariants as callee
 use Rattle.mj_ast.specs.Syntax.{Expr, Chain, Tails, Done, Then, Operand, Literal, Value, Unary, Group, Call, Select, Variable, Var, Exprs, No, More, Choices, Last, Before}
@@ -43,6 +43,8 @@ callee_of w =
     else if is_named w (codes "JUSTIFY") (codes "J") then Some (callee.Texts Justify)
     else if is_named w (codes "LENGTH") (codes "L") then Some (callee.Texts Length)
     else if is_named w (codes "PIECE") (codes "P") then Some (callee.Texts Piece)
+    else if is_named w (codes "QLENGTH") (codes "QL") then Some (callee.Texts QLength)
+    else if is_named w (codes "QSUBSCRIPT") (codes "QS") then Some (callee.Texts QSubscript)
     else if is_named w (codes "REVERSE") (codes "RE") then Some (callee.Texts Reverse)
     else if is_named w (codes "SELECT") (codes "S") then Some callee.Select
     else if is_named w (codes "TRANSLATE") (codes "TR") then Some (callee.Texts Translate)
@@ -57,6 +59,8 @@ least Find = 2
 least Justify = 2
 least Length = 1
 least Piece = 2
+least QLength = 1
+least QSubscript = 2
 least Reverse = 1
 least Translate = 2
 
@@ -69,6 +73,8 @@ most Find = 3
 most Justify = 2
 most Length = 2
 most Piece = 4
+most QLength = 1
+most QSubscript = 2
 most Reverse = 1
 most Translate = 3
 

@@ -17,6 +17,10 @@ pub enum Function {
     Length,
     /// `$PIECE`: the pieces between separators
     Piece,
+    /// `$QLENGTH`: how many subscripts a name text has
+    QLength,
+    /// `$QSUBSCRIPT`: a part of a name text
+    QSubscript,
     /// `$REVERSE`: the bytes from the last to the first
     Reverse,
     /// `$TRANSLATE`: a text with other bytes in the place of some

@@ -7,7 +7,7 @@ use Rattle.mj_ast.specs.declared.expr.Scope.TheVariants.{Local, Global}
 use Rattle.mj_oper.specs.declared.op.Op.{Op}
 use Rattle.mj_num.specs.Number.{canonic_text}
 use Rattle.mj_ast.specs.declared.function.Function.{Function}
-use Rattle.mj_ast.specs.declared.function.Function.TheVariants.{Ascii, Char, Extract, Find, Justify, Length, Piece, Reverse, Translate}
+use Rattle.mj_ast.specs.declared.function.Function.TheVariants.{Ascii, Char, Extract, Find, Justify, Length, Piece, QLength, QSubscript, Reverse, Translate}
 use Rattle.mj_ast.specs.declared.function.Callee.TheVariants as callee
 use Rattle.mj_ast.specs.Syntax.{Expr, Chain, Tails, Done, Then, Operand, Literal, Value, Unary, Group, Call, Select, Variable, Var, Exprs, No, More, Choices, Last}
 use Rattle.mj_ast.specs.Expressions.{Symbol, Constant, Name, Applied, Mark, scoped, unary_sign, binary_sign, expr_symbols, tails_symbols, operand_symbols, variable_symbols, list_symbols, more_symbols, choices_symbols, count, least, most, expr_nesting, tails_nesting, operand_nesting, variable_nesting, list_nesting, exprs_nesting, choices_nesting, expr_width, tails_width, operand_width, variable_width, exprs_width, choices_width, expr_misfits, tails_misfits, operand_misfits, variable_misfits, exprs_misfits, choices_misfits}
@@ -210,6 +210,8 @@ least_some Find = omega arith
 least_some Justify = omega arith
 least_some Length = omega arith
 least_some Piece = omega arith
+least_some QLength = omega arith
+least_some QSubscript = omega arith
 least_some Reverse = omega arith
 least_some Translate = omega arith
 
@@ -221,6 +223,8 @@ least_most Find = omega arith
 least_most Justify = omega arith
 least_most Length = omega arith
 least_most Piece = omega arith
+least_most QLength = omega arith
+least_most QSubscript = omega arith
 least_most Reverse = omega arith
 least_most Translate = omega arith
 

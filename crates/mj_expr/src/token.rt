@@ -38,11 +38,16 @@ pub fn least(kind: ListKind) -> usize
     match kind {
         ListKind::Subscripts => 0,
         ListKind::Arguments(function) => match function {
-            Function::Find | Function::Justify | Function::Piece | Function::Translate => 2,
+            Function::Find
+            | Function::Justify
+            | Function::Piece
+            | Function::QSubscript
+            | Function::Translate => 2,
             Function::Ascii
             | Function::Char
             | Function::Extract
             | Function::Length
+            | Function::QLength
             | Function::Reverse => 1,
         },
     }
@@ -55,8 +60,8 @@ pub fn most(kind: ListKind) -> usize
     match kind {
         ListKind::Subscripts => WIDTH,
         ListKind::Arguments(function) => match function {
-            Function::Reverse => 1,
-            Function::Ascii | Function::Justify | Function::Length => 2,
+            Function::QLength | Function::Reverse => 1,
+            Function::Ascii | Function::Justify | Function::Length | Function::QSubscript => 2,
             Function::Extract | Function::Find | Function::Translate => 3,
             Function::Piece => 4,
             Function::Char => 8192,
@@ -107,6 +112,10 @@ pub fn callee(word: &[u8]) -> Option<Callee>
         Some(Callee::Texts(Function::Length))
     } else if is_word(word, b"PIECE", b"P") {
         Some(Callee::Texts(Function::Piece))
+    } else if is_word(word, b"QLENGTH", b"QL") {
+        Some(Callee::Texts(Function::QLength))
+    } else if is_word(word, b"QSUBSCRIPT", b"QS") {
+        Some(Callee::Texts(Function::QSubscript))
     } else if is_word(word, b"REVERSE", b"RE") {
         Some(Callee::Texts(Function::Reverse))
     } else if is_word(word, b"SELECT", b"S") {

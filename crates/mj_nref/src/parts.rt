@@ -1,6 +1,6 @@
 // How many subscripts a name text has, and each of them.
 
-ghost use Rattle.std.specs.Prelude.{◌≡◌, ◌⊎◌, length, IfOk, IfErr, MatchOption, None};
+ghost use Rattle.std.specs.Prelude.{◌≡◌, ◌≤◌, ◌⊎◌, length, IfOk, IfErr, MatchOption, None};
 ghost use Rattle.mj_text.specs.declared.fault.Failure.TheVariants as failure;
 ghost use Rattle.mj_text.specs.declared.fault.Fault.TheVariants as fault;
 ghost use Rattle.mj_nref.specs.Spelling.{part_at, word_text};
@@ -15,6 +15,7 @@ use std::alloc::{AllocError, Global};
 /// How many subscripts a name text has. One that is no name text is `Subscript`.
 pub fn qlength(alloc: Global, text: &Text) -> Result<usize, Failure>
     ensures ok { IfOk result (λ k. MatchOption (name_of text.now) ⊥ (λ n. k ≡ length n.subscripts)) }
+    ensures few { IfOk result (λ k. k ≤ 31) }
     ensures err { IfErr result (λ e. (e ≡ failure.Memory)
         ⊎ ((e ≡ failure.Fault fault.Subscript) × (name_of text.now ≡ None))) }
 {

@@ -34,6 +34,27 @@ fn functions_give_values(rt: HostRuntime) -> Result<(), Fail> {
             1,
         ),
         (" WRITE $CHAR(256)\n", "F21 CHAR R:1\n", 1),
+        (
+            " WRITE $QLENGTH(\"^A(1,\"\"x\"\")\"),$QSUBSCRIPT(\"^A(1,\"\"x\"\")\",2),$QSUBSCRIPT(\"^A(1)\",0)\n",
+            "2x^A",
+            0,
+        ),
+        (
+            " WRITE $qs(\"A(-5)\",1),$QL(\"%\"),$QS(\"A(5)\",2),$QS(\"A(5)\",-1)\n",
+            "-50",
+            0,
+        ),
+        (" WRITE $QLENGTH(\"^A(01)\")\n", "F6 SUBSCRIPT R:1\n", 1),
+        (
+            " WRITE $QSUBSCRIPT(\"^A(01)\",\"9999999999999999999\")\n",
+            "F6 SUBSCRIPT R:1\n",
+            1,
+        ),
+        (
+            " WRITE $QSUBSCRIPT(\"^A\",\"9999999999999999999\")\n",
+            "F4 RANGE R:1\n",
+            1,
+        ),
     ] {
         let ran = row(&rt, "functions", bytes)?;
         assert_eq!(rt; str::from_utf8(&ran.out)?, out);
