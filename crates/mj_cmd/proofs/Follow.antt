@@ -26,7 +26,9 @@ use Rattle.mj_lex.specs.declared.token.Lexeme.{Lexeme}
 use Rattle.mj_lex.specs.Seen.{tokens_seen}
 use Rattle.mj_cmd.specs.Machine.{Begin, Behind, Over, Worded, Bare, Aimed, Assigned, Marked, Goal, Text, State, At, In, Either, bare_line, with_step, printed_at, expression_wanted, behind, Outcome, Accept, refused, run, turn, begins, first, Go, Stuck}
 use Rattle.mj_cmd.specs.Heads.{HasNoComma, HasNoEquals, HasNoMark, HasNoBlank, HasNoWord, HasParted, HasOther, label_gap}
-use Rattle.mj_cmd.specs.Reads.{HasRoom, Refuses, Reads, Ends, HasEnded}
+use Rattle.mj_cmd.specs.Reads.{HasRoom, Refuses, Reads, Prints, Ends, HasEnded}
+use Rattle.mj_expr.specs.Shapes.{IsEndOf}
+use Rattle.mj_expr.specs.Shapes as shapes
 use Rattle.mj_cmd.proofs.Facts.{lift_accept, lift_stuck, lift_deep, lift_long}
 use Rattle.mj_cmd.proofs.Complete.{complete_marks, blanks_go}
 
@@ -69,12 +71,12 @@ memory_ends limited tree r m ls s made h = ends_err limited tree r stop.Memory m
 -- room for a part is there where it is for the whole
 pub room_for : (limited : Bool) (m : Limits) (ls ms : List Lexeme) → length ms ≤ length ls → HasRoom limited m ls → HasRoom limited m ms
 room_for true m ls ms h r = r
-room_for false m ls ms h r = r
+room_for false m ls ms h r = (r.0, let n = r.1 in omega arith)
 
--- nothing is said without the limits
-pub no_room : (limited : Bool) (m : Limits) (ls : List Lexeme) → limited ≡ false → HasRoom limited m ls → ⊥
-no_room true m ls e h = let f : true ≡ false = e in cc
-no_room false m ls e h = h
+-- without the limit on levels
+pub room_free : (limited : Bool) (m : Limits) (ls : List Lexeme) → limited ≡ false → HasRoom limited m ls → (m.width ≡ 31) × (length ls ≤ m.depth)
+room_free true m ls e h = absurd (let f : true ≡ false = e in cc)
+room_free false m ls e h = h
 
 -- ---- phrases
 
@@ -112,6 +114,32 @@ pub limited_reads : {X T : Type 0} (P : Phrases T) (limited : Bool) (tree : X �
 limited_reads P limited tree wrap rest r m ls g s l h c e =
     let Q : Limits → Type 0 = λ n. phrases.Gives (λ x. wrap (tree x)) rest r (phrase.run n (symbols_seen ls) s) in
     phrase_reads limited tree wrap rest r m ls g s l (cut_of P (tokens_seen ls) tree rest r c) (subst Q (sym (room_limits limited m ls l h)) e)
+
+-- the same however deep it nests
+no_limit : (limited : Bool) → limited ≡ false → limited ≡ true → ⊥
+no_limit limited e f = let h : false ≡ true = sym e ∙ f in cc
+
+pub free_reads : {T : Type 0} (limited : Bool) (wrap : T → phrase.Phrase) (m : Limits) (ls rest : List Lexeme) (g : Goal) (s : phrase.State) (u : T) → limited ≡ false → IsEndOf (tokens_seen ls) (tokens_seen rest) →
+    (t : T) × (phrase.run m (symbols_seen ls) s ≡ phrase.Accept (wrap t) (symbols_seen rest)) →
+    (t : T) × (limited ≡ true → t ≡ u) × (run m (tokens_seen ls) (In g s) ≡ run m (tokens_seen rest) (At (behind g (wrap t))))
+free_reads limited wrap m ls rest g s u l c h = (
+  h.0,
+  λ e. absurd (no_limit limited l e),
+  ap (λ (ks : List Token). run m ks (In g s)) c.1
+      ∙ lift_accept m c.0 (tokens_seen rest) g s (wrap h.0) (ap (λ (ks : List Token). phrase.run m (map symbol ks) s) (sym c.1) ∙ h.1),
+)
+
+pub free_refuses : {X T : Type 0} (limited : Bool) (wrap : T → phrase.Phrase) (rest : X → List Lexeme) (e : Stop) (m : Limits) (ls : List Lexeme) (g : Goal) (s : phrase.State) → shapes.Ends wrap rest (Err e) (phrase.run m (symbols_seen ls) s) → Refuses limited e (run m (tokens_seen ls) (In g s))
+free_refuses limited wrap rest stop.Memory m ls g s h = tt
+free_refuses limited wrap rest (stop.Stuck n) m ls g s h = lift_stuck m (tokens_seen ls) g s n h
+free_refuses limited wrap rest (stop.Deep n) m ls g s h = absurd h
+free_refuses limited wrap rest stop.Long m ls g s h = lift_long m (tokens_seen ls) g s h
+
+-- a refusal of an argument of WRITE that is passed on
+pub prints_err : {X : Type 0} (limited : Bool) (tree : X → Output) (rest : X → List Lexeme) (r : Result X Stop) (x : Stop) (m : Limits) (ls : List Lexeme) (o : Line) (condition : Option Expr) (done : List Output) →
+    IsErrAnd r (λ e. e ≡ x) → Refuses limited x (run m (tokens_seen ls) (Either o condition done)) → Prints limited tree rest r m ls o condition done
+prints_err limited tree rest (Ok y) x m ls o condition done e h = absurd e
+prints_err limited tree rest (Err y) x m ls o condition done e h = let P : Stop → Type 0 = λ v. Refuses limited v (run m (tokens_seen ls) (Either o condition done)) in subst P (sym e) h
 
 -- ---- what goes on, and what doesn't
 
@@ -262,14 +290,6 @@ marks_all m o condition done (suc n) xs ks rest h l e =
 pub no_marks : (n : ℕ) (ks rest : List Token) → n ≤ 0 → ks ≡ map mark_token (replicate n NewLine) ++ rest → HasNoMark rest → HasNoMark ks
 no_marks zero ks rest l e h = let P : List Token → Type 0 = λ zs. HasNoMark zs in subst P (sym e) h
 no_marks (suc n) ks rest l e h = absurd (omega arith)
-
--- within the limits
-pub room_limited : (limited : Bool) (m : Limits) (ls : List Lexeme) → HasRoom limited m ls → limited ≡ true
-room_limited true m ls h = refl
-room_limited false m ls h = absurd h
-
-pub ended_as : (x y : Output) (ks : List Token) → x ≡ y → HasEnded y ks → HasEnded x ks
-ended_as x y ks e h = let P : Output → Type 0 = λ z. HasEnded z ks in subst P (sym e) h
 
 -- ---- commands of a line
 

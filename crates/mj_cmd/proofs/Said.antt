@@ -473,8 +473,8 @@ said_stuck ks n e = stuck_as ks n (ends_as (limits 64) ks (StuckAt n) (omega ari
 
 -- ---- DEEP
 
-pub said_deep : (ks : List Token) (n : ℕ) → run (limits 64) ks (At Begin) ≡ DeepAt n → IsDeepWith ks n
-said_deep ks n e =
+pub said_deep : (ks : List Token) (n : ℕ) → (HasOverlong ks → ⊥) → run (limits 64) ks (At Begin) ≡ DeepAt n → IsDeepWith ks n
+said_deep ks n short e =
     let m = limits 64 in
     let h : Deepens m (At Begin) ks n = ends_as m ks (DeepAt n) (omega arith) e in
     let r = came m h.front h.end h.along in
@@ -504,6 +504,7 @@ said_deep ks n e =
         at = subst B (sym more) (record { rest = d.rest; line = d.line; spells = d.spells });
         beyond = subst S (sym more) beyond;
       };
+      short = short;
     }
 
 -- ---- LONG
@@ -562,21 +563,42 @@ long_as m ks w (inr h) =
 pub said_long : (m : Limits) (ks : List Token) → m.width ≡ 31 → run m ks (At Begin) ≡ TooLong → HasOverlong ks
 said_long m ks w e = long_as m ks w (ends_as m ks TooLong (omega arith) e)
 
+-- a level too many is one only where nothing is over its limit
+abbrev pub NeedsShort : List Token → Stop → Type 0
+NeedsShort ks (stop.Deep n) = HasOverlong ks → ⊥
+NeedsShort ks e = Unit {0}
+
 -- what a refusal says
-pub said_refused : (ks : List Token) (e : Stop) → Refuses true e (run (limits 64) ks (At Begin)) → IsRefused ks e
-said_refused ks stop.Memory h = tt
-said_refused ks (stop.Stuck n) h = said_stuck ks n h
-said_refused ks (stop.Deep n) h = said_deep ks n h.1
-said_refused ks stop.Long h = tt
+pub said_refused : (ks : List Token) (e : Stop) → NeedsShort ks e → Refuses true e (run (limits 64) ks (At Begin)) → IsRefused ks e
+said_refused ks stop.Memory s h = tt
+said_refused ks (stop.Stuck n) s h = said_stuck ks n h
+said_refused ks (stop.Deep n) s h = said_deep ks n s h.1
+said_refused ks stop.Long s h = said_long (limits 64) ks refl h
 
-pub refused_as : (ks : List Token) (e f : Stop) → e ≡ f → Refuses true e (run (limits 64) ks (At Begin)) → IsRefused ks f
-refused_as ks e f i h = let P : Stop → Type 0 = λ x. IsRefused ks x in subst P i (said_refused ks e h)
+pub refused_as : (ks : List Token) (e f : Stop) → e ≡ f → NeedsShort ks f → Refuses true e (run (limits 64) ks (At Begin)) → IsRefused ks f
+refused_as ks e f i s h = let P : Stop → Type 0 = λ x. NeedsShort ks x → IsRefused ks x in subst P i (λ t. said_refused ks e t h) s
 
-pub late_refused : (ks : List Token) (e : Stop) → IsLate e → IsRefused ks e
+-- what a reading without the limit on levels says
+abbrev pub IsFound : List Token → Stop → Type 0
+IsFound ks stop.Memory = Unit {0}
+IsFound ks (stop.Stuck n) = HasOverlong ks → ⊥
+IsFound ks (stop.Deep n) = HasOverlong ks → ⊥
+IsFound ks stop.Long = HasOverlong ks
+
+pub found : (m : Limits) (ks : List Token) (e f : Stop) → m.width ≡ 31 → e ≡ f → Refuses false e (run m ks (At Begin)) → IsFound ks f
+found m ks e f w i h = let P : Stop → Type 0 = λ x. IsFound ks x in subst P i (by e h)
+  where
+    by : (x : Stop) → Refuses false x (run m ks (At Begin)) → IsFound ks x
+    by stop.Memory g = tt
+    by (stop.Stuck n) g = short_stuck m ks n w g
+    by (stop.Deep n) g = absurd (let z : false ≡ true = g.0 in cc)
+    by stop.Long g = said_long m ks w g
+
+pub late_refused : (ks : List Token) (e : Stop) → IsLate ks e → IsRefused ks e
 late_refused ks stop.Memory h = tt
 late_refused ks (stop.Stuck n) h = absurd h
 late_refused ks (stop.Deep n) h = absurd h
-late_refused ks stop.Long h = tt
+late_refused ks stop.Long h = h
 
 pub read_as : (ks : List Token) (t l : Line) → t ≡ l → run (limits 64) ks (At Begin) ≡ Accept t → IsRead ks l
 read_as ks t l e h = let P : Line → Type 0 = λ x. IsRead ks x in subst P e (said_read ks t h)

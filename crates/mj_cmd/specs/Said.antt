@@ -21,23 +21,23 @@ pub record IsStuckWith (ks : List Token) (left : ℕ) : Type 0 where
   pub stuck : IsStuck ks place
   pub short : HasOverlong ks → ⊥
 
--- A level too many opens where so many tokens are left.
+-- A level too many opens where so many tokens are left, and no word and no list is over its limit, before it or behind.
 pub record IsDeepWith (ks : List Token) (left : ℕ) : Type 0 where
   pub place : ℕ
   pub left_is : place + left ≡ length ks
   pub deep : IsDeep ks place
+  pub short : HasOverlong ks → ⊥
 
--- What a refusal says of the line. Want of memory says nothing. Where a word or a list is over its limit nothing is said yet,
--- nor that none is where a level too many opens.
+-- What a refusal says of the line. Want of memory says nothing.
 abbrev pub IsRefused : List Token → Stop → Type 0
 IsRefused ks stop.Memory = Unit {0}
 IsRefused ks (stop.Stuck left) = IsStuckWith ks left
 IsRefused ks (stop.Deep left) = IsDeepWith ks left
-IsRefused ks stop.Long = Unit {0}
+IsRefused ks stop.Long = HasOverlong ks
 
 -- what comes before a level too many
-abbrev pub IsLate : Stop → Type 0
-IsLate stop.Memory = Unit {0}
-IsLate (stop.Stuck left) = ⊥
-IsLate (stop.Deep left) = ⊥
-IsLate stop.Long = Unit {0}
+abbrev pub IsLate : List Token → Stop → Type 0
+IsLate ks stop.Memory = Unit {0}
+IsLate ks (stop.Stuck left) = ⊥
+IsLate ks (stop.Deep left) = ⊥
+IsLate ks stop.Long = HasOverlong ks

@@ -9,7 +9,7 @@ ghost use Rattle.mj_expr.specs.Machine.{Limits};
 ghost use Rattle.mj_lex.specs.Seen.{tokens_seen};
 ghost use Rattle.mj_cmd.specs.Machine.{At, In, Either, Destination, Assigned, Bare, Worded, Behind, after_step, with_step, variable_wanted, printed_at};
 ghost use Rattle.mj_cmd.specs.Heads.{HasNoMark, HasParted};
-ghost use Rattle.mj_cmd.specs.Reads.{HasRoom, Reads, HasEnded, no_tree};
+ghost use Rattle.mj_cmd.specs.Reads.{HasRoom, Reads, Prints, no_tree};
 
 use crate::parts::{
     behind_blank, behind_colon, behind_comma, behind_equals, behind_mark, parted, stuck,
@@ -84,8 +84,7 @@ fn output<'a, 't>(
     tokens: &'t [Lexeme<'a>],
 ) -> Result<(Output, &'t [Lexeme<'a>]), Stop>
     ensures shorter { IfOk result (λ x. length x.1.now ≤ length tokens.now) }
-    ensures reads { (m : Limits) → HasRoom phrases.limited m tokens.now → (o : tree.Line) → (condition : Option tree.Expr) → (done : List tree.Output) → Reads phrases.limited (λ x. output_of x.0) (λ x. x.1.now) result m tokens.now (Either o condition done) (λ x. At (printed_at o condition done x)) }
-    ensures ends { IfOk result (λ x. HasEnded (output_of x.0) (tokens_seen x.1.now)) }
+    ensures reads { (m : Limits) → HasRoom phrases.limited m tokens.now → (o : tree.Line) → (condition : Option tree.Expr) → (done : List tree.Output) → Prints phrases.limited (λ x. output_of x.0) (λ x. x.1.now) result m tokens.now o condition done }
 {
     let (count, rest) = marks(tokens);
     if count > 0 {

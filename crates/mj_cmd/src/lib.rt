@@ -4,7 +4,6 @@
 // it is the token there that is named, by how many tokens are left from it on (none at the line's end).
 #![tactic(auto)]
 
-mod beyond;
 mod command;
 mod keyword;
 mod lines;

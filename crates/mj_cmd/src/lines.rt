@@ -1,6 +1,6 @@
 // Lines.
 
-ghost use Rattle.std.specs.Prelude.{◌≡◌, ◌++◌, ◌<◌, ◌≤◌, Bool, IfErr, IfOk, IfSome, length, map};
+ghost use Rattle.std.specs.Prelude.{◌≡◌, ◌++◌, ◌<◌, ◌≤◌, Bool, IfErr, IfOk, MatchOption, length, map};
 ghost use Rattle.mj_ast.specs.Syntax as tree;
 ghost use Rattle.mj_ast.specs.Lines.{comment_gap};
 ghost use Rattle.mj_ast.specs.Trees.{line_of, step_of};
@@ -10,6 +10,7 @@ ghost use Rattle.mj_lex.specs.Seen.{tokens_seen};
 ghost use Rattle.mj_cmd.specs.Machine.{At, Begin, Behind, bare_line};
 ghost use Rattle.mj_cmd.specs.Heads.{HasNoBlank, HasNoWord, HasParted, IsLabelShort, label_gap};
 ghost use Rattle.mj_cmd.specs.Reads.{HasRoom, Reads, Ends, no_tree};
+ghost use Rattle.mj_ast.specs.Lines.{HasOverlong};
 ghost use Rattle.mj_cmd.specs.Said.{IsLate, IsRead, IsRefused};
 
 use crate::command::step;
@@ -140,20 +141,20 @@ fn line_by(phrases: Phrases, tokens: &[Lexeme]) -> Result<Line, Stop>
 /// What a reading without the depth limit comes to: a word or a list over its limit, or want of memory.
 fn late(alloc: Global, tokens: &[Lexeme]) -> Option<Stop>
     requires { IsLabelShort (tokens_seen tokens.now) }
-    ensures { IfSome result (λ e. IsLate e) }
+    ensures { MatchOption result (HasOverlong (tokens_seen tokens.now) → ⊥) (λ e. IsLate (tokens_seen tokens.now) e) }
 {
     let unlimited = Phrases {
         alloc,
         limited: false,
     };
-    match line_by(unlimited, tokens) {
-        Ok(_) => None,
-        Err(stop) => match stop {
-            Stop::Long => Some(Stop::Long),
-            Stop::Memory => Some(Stop::Memory),
-            Stop::Stuck(_) => None,
-            Stop::Deep(_) => None,
-        },
+    let Err(stop) = line_by(unlimited, tokens) else {
+        return None;
+    };
+    match stop {
+        Stop::Long => Some(Stop::Long),
+        Stop::Memory => Some(Stop::Memory),
+        Stop::Stuck(_) => None,
+        Stop::Deep(_) => None,
     }
 }
 

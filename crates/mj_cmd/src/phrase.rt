@@ -6,9 +6,8 @@ ghost use Rattle.mj_expr.specs.Machine.{Limits, Whole, Target};
 ghost use Rattle.mj_cmd.specs.Machine.{Goal, At, In, behind, expression_wanted, variable_wanted};
 ghost use Rattle.mj_cmd.specs.Reads.{HasRoom, Reads};
 
-use crate::beyond::beyond;
 use mj_ast::{Expr, Operand, Scope, Variable};
-use mj_expr::Stop;
+use mj_expr::{Stop, behind_expression, behind_variable};
 use mj_lex::Lexeme;
 use mj_text::Text;
 use std::alloc::Global;
@@ -32,7 +31,7 @@ impl Phrases {
         if self.limited {
             return mj_expr::expression(self.alloc, tokens, 0);
         }
-        let rest = beyond(self.alloc, tokens, true)?;
+        let rest = behind_expression(self.alloc, tokens)?;
         let any = Expr {
             first: Operand::Literal(Text::new(self.alloc)),
             rest: Vec::new(self.alloc),
@@ -51,7 +50,7 @@ impl Phrases {
         if self.limited {
             return mj_expr::variable(self.alloc, tokens, 0);
         }
-        let rest = beyond(self.alloc, tokens, false)?;
+        let rest = behind_variable(self.alloc, tokens)?;
         let any = Variable {
             scope: Scope::Local,
             word: Text::new(self.alloc),

@@ -8,4 +8,5 @@ pub mod Ends
 pub mod Told
 pub mod Said
 pub mod Turns
+pub mod Shapes
 pub mod Examples

@@ -2,3 +2,4 @@ pub mod Machine
 pub mod Reads
 pub mod Lists
 pub mod Phrases
+pub mod Shapes

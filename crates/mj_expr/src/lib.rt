@@ -4,11 +4,13 @@
 // behind it, or say at which token no expression goes on so, or a level too many opens.
 #![tactic(auto)]
 
+mod beyond;
 mod phrase;
 mod read;
 mod stop;
 mod token;
 
+pub use beyond::{behind_expression, behind_variable};
 pub use phrase::{DEPTH_LIMIT, expression, variable};
 pub use stop::Stop;
 pub use token::{ListKind, callee, least, most};

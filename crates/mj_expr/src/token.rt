@@ -148,7 +148,7 @@ fn number_text(alloc: Global, digits: &[u8]) -> Option<Text>
     }
 }
 
-fn unary(sign: Sign) -> Option<UnaryOp>
+pub(crate) fn unary(sign: Sign) -> Option<UnaryOp>
     ensures { result ≡ unary_of sign }
 {
     match sign {
@@ -159,7 +159,7 @@ fn unary(sign: Sign) -> Option<UnaryOp>
     }
 }
 
-fn binary(sign: Sign) -> Option<Op>
+pub(crate) fn binary(sign: Sign) -> Option<Op>
     ensures { result ≡ binary_of sign }
 {
     match sign {

@@ -6,7 +6,7 @@ use Rattle.mj_lex.specs.declared.token.Lexeme.{Lexeme}
 use Rattle.mj_lex.specs.Seen.{tokens_seen}
 use Rattle.mj_cmd.specs.Machine.{Behind, At, after_step, printed_at, run}
 use Rattle.mj_cmd.proofs.Complete.{run_rests, printed_rests, comma_goes}
-use Rattle.mj_cmd.proofs.Follow.{reads_err, refuses_from, room_for, room_limited, ended_as, printed_stuck, first_pushed, next_pushed}
+use Rattle.mj_cmd.proofs.Follow.{reads_err, refuses_from, room_for, printed_stuck, first_pushed, next_pushed}
 use Rattle.mj_cmd.proofs.command.outputs.Goals as goal
 
 pub commas-init : goal.commas-init
@@ -16,7 +16,7 @@ commas-init c = record {
         [],
         a.0,
         λ l. first_pushed output_of c.new-arguments.result.items c.push.new.self.items c.in_ok-first.first a.0 c.new-arguments.ensures.items c.in_ok-push.ensures.items (a.1 l),
-        ended_as a.0 (output_of c.in_ok-first.first) (tokens_seen c.in_ok-first.rest.now) (a.1 (room_limited c.args.phrases.limited m c.args.tokens.now r)) c.in_ok-first.ensures.ends,
+        a.3,
         a.2,
       );
   falls = c.in_ok-first.ensures.shorter;
@@ -38,7 +38,7 @@ commas-preserved c = record {
         h.0 ++ h.1 ∷ [],
         a.0,
         λ l. next_pushed output_of c.commas.arguments.items c.push-in-Some.new.self.items c.in_ok-argument.argument (h.0 ++ h.1 ∷ []) a.0 c.in_ok-push-2.ensures.items (h.2 l) (a.1 l),
-        ended_as a.0 (output_of c.in_ok-argument.argument) (tokens_seen c.in_ok-argument.behind.now) (a.1 (room_limited c.args.phrases.limited m c.args.tokens.now r)) c.in_ok-argument.ensures.ends,
+        a.3,
         h.4 ∙ ap (λ (ks : List Token). run m ks (At (printed_at o condition h.0 h.1))) c.in-Some.ensures.0 ∙ comma_goes m o condition h.0 h.1 (tokens_seen c.in-Some.behind.now) ∙ a.2,
       );
   falls = omega (arith, c.in_ok-argument.ensures.shorter, c.in-Some.ensures.1, c.commas.invariant.falls);

@@ -12,7 +12,10 @@ returns-in-Ok-clause-read c =
     read_as (tokens_seen c.args.tokens.now) h.0 (line_of c.in-Ok.line) (h.1 refl) h.2
 
 pub returns-in-None-clause-refused : goal.returns-in-None-clause-refused
-returns-in-None-clause-refused c = refused_as (tokens_seen c.args.tokens.now) c.in-Err.stop (stop.Deep c.in-Deep.left) c.in-Deep.is (c.in-Err.ensures (limits 64) refl)
+returns-in-None-clause-refused c = refused_as (tokens_seen c.args.tokens.now) c.in-Err.stop (stop.Deep c.in-Deep.left) c.in-Deep.is c.in-None.ensures (c.in-Err.ensures (limits 64) refl)
 
 pub returns-in-Stuck-clause-refused : goal.returns-in-Stuck-clause-refused
-returns-in-Stuck-clause-refused c = refused_as (tokens_seen c.args.tokens.now) c.in-Err.stop (stop.Stuck c.in-Stuck.left) c.in-Stuck.is (c.in-Err.ensures (limits 64) refl)
+returns-in-Stuck-clause-refused c = refused_as (tokens_seen c.args.tokens.now) c.in-Err.stop (stop.Stuck c.in-Stuck.left) c.in-Stuck.is tt (c.in-Err.ensures (limits 64) refl)
+
+pub returns-in-Long-clause-refused : goal.returns-in-Long-clause-refused
+returns-in-Long-clause-refused c = refused_as (tokens_seen c.args.tokens.now) c.in-Err.stop stop.Long c.in-Long.is tt (c.in-Err.ensures (limits 64) refl)

@@ -1,0 +1,419 @@
+-- The machine goes as its shapes do, where no level is too deep.
+use Rattle.std.proofs.Common.{◌≡◌, ℕ, ◌+◌, ◌<◌, ◌≤◌, List, [], ◌∷◌, ◌++◌, append_assoc, length, refl, ap, sym, ◌∙◌, subst, Bool, true, false, nat_lt, nat_le, Option, Some, None, Result, Ok, Err, arith}
+use Rattle.std.specs.Prelude.{cond, not, ◌&&◌}
+use Rattle.mj_ast.specs.declared.sign.Sign.{Sign}
+use Rattle.mj_ast.specs.declared.sign.Sign.TheVariants.{Caret, Open, Close, Comma, Colon}
+use Rattle.mj_oper.specs.declared.op.UnaryOp.{UnaryOp}
+use Rattle.mj_oper.specs.declared.op.Op.{Op}
+use Rattle.mj_ast.specs.declared.function.Callee.TheVariants as callee
+use Rattle.mj_ast.specs.Syntax.{Expr, Chain, Operand, Literal, Value, Unary, Group, Call, Select, Tails, Variable, Var, Exprs, No, Last}
+use Rattle.mj_ast.specs.Tokens.{Token}
+use Rattle.mj_ast.specs.Expressions.{Symbol, Constant, Name, Applied, Overlong, Mark, Other, count}
+use Rattle.mj_lex.specs.declared.token.Lexeme.{Lexeme}
+use Rattle.mj_expr.specs.Machine.{Outer, Alone, InGroup, InList, InCondition, InChoice, Owner, Subscripts, Arguments, Within, Front, Right, Under, Place, AsOperand, AsTarget, State, Wanted, Sought, Marked, Named, Calling, Held, Got, filled, placed, closed, outer_of, outer_depth, owner_depth, depth_of, place_depth, Limits, Next, Go, Stuck, Deep, Long, opens, is_full, most_of, comma, close, want_other, want_sign, hold_other, hold_sign, hold, on, step, unary_of, binary_of, and_more, before_choices, Phrase, Whole, Target, Outcome, Accept, TooLong, ends, finish, run, goes}
+use Rattle.mj_expr.specs.Reads.{symbols_seen, kind_of, least_in, most_in, limited_in}
+use Rattle.mj_expr.specs.declared.stop.Stop.{Stop}
+use Rattle.mj_expr.specs.declared.stop.Stop.TheVariants as stop
+use Rattle.mj_expr.specs.declared.beyond.Around.{Around}
+use Rattle.mj_expr.specs.declared.beyond.Around.TheVariants as around
+use Rattle.mj_expr.specs.declared.beyond.Stage.{Stage}
+use Rattle.mj_expr.specs.declared.beyond.Stage.TheVariants as stage
+use Rattle.mj_expr.specs.declared.beyond.Turn.{Turn}
+use Rattle.mj_expr.specs.declared.beyond.Turn.TheVariants as turn
+use Rattle.mj_expr.specs.Shapes.{Shape, outer_shape, owner_shape, shape_of, place_shape, state_shape, stage_of, sort_of, stray_turn, behind_sign, behind_turn, other_turn, operand_other, operand_sign, turn_at, Passed, Passes, Halts, ended, Led, To, Nowhere, Beyond, led, on_from, pass, PassesAs, IsEndOf, Ends}
+use Rattle.mj_expr.proofs.Steps.{less_true, kind_least, kind_limited}
+use Rattle.mj_expr.proofs.Zipper.{count-more}
+use Rattle.mj_expr.proofs.Facts.{filled_outer}
+
+-- ---- what a state keeps
+
+-- how many levels are open at a state
+abbrev pub state_depth : State → ℕ
+state_depth (Wanted c) = depth_of c
+state_depth (Sought p) = place_depth p
+state_depth (Marked p) = place_depth p
+state_depth (Named scope word p) = place_depth p
+state_depth (Calling f c) = depth_of c
+state_depth (Held x r o) = outer_depth o
+state_depth (Got v) = 0
+
+-- whether an expression is read, and not a variable
+abbrev mutual
+  pub outer_whole : Outer → Bool
+  outer_whole Alone = true
+  outer_whole (InGroup c) = whole_of c
+  outer_whole (InList w before) = owner_whole w
+  outer_whole (InCondition before c) = whole_of c
+  outer_whole (InChoice before condition c) = whole_of c
+
+  pub owner_whole : Owner → Bool
+  owner_whole (Subscripts scope word p) = place_whole p
+  owner_whole (Arguments f c) = whole_of c
+
+  pub whole_of : Within → Bool
+  whole_of (Front o) = outer_whole o
+  whole_of (Right first rest op o) = outer_whole o
+  whole_of (Under op c) = whole_of c
+
+  pub place_whole : Place → Bool
+  place_whole (AsOperand c) = whole_of c
+  place_whole AsTarget = false
+
+abbrev pub state_whole : State → Bool
+state_whole (Wanted c) = whole_of c
+state_whole (Sought p) = place_whole p
+state_whole (Marked p) = place_whole p
+state_whole (Named scope word p) = place_whole p
+state_whole (Calling f c) = whole_of c
+state_whole (Held x r o) = outer_whole o
+state_whole (Got v) = false
+
+-- where a state is among shapes
+abbrev pub place_at : Stage → Shape → Led
+place_at s a = To s a.around a.others
+
+-- A state of this stage and shape, with no more levels and in the same phrase.
+pub record IsAt (t : State) (s : Stage) (a : Shape) (d : ℕ) (whole : Bool) : Type 0 where
+  pub led : place_at s a ≡ place_at (stage_of t) (state_shape t)
+  pub depth : state_depth t ≤ d
+  pub same : state_whole t ≡ whole
+
+-- ---- what was read
+
+filled_at : (x : Operand) (c : Within) → IsAt (filled x c) stage.Behind (shape_of c) (depth_of c) (whole_of c)
+filled_at x (Front o) = record { led = refl; depth = omega arith; same = refl }
+filled_at x (Right first rest op o) = record { led = refl; depth = omega arith; same = refl }
+filled_at x (Under op c) = let h = filled_at (Unary op x) c in record { led = h.led; depth = omega (arith, h.depth); same = h.same }
+
+placed_at : (v : Variable) (p : Place) → IsAt (placed v p) stage.Behind (place_shape p) (place_depth p) (place_whole p)
+placed_at v (AsOperand c) = filled_at (Value v) c
+placed_at v AsTarget = record { led = refl; depth = omega arith; same = refl }
+
+closed_at : (w : Owner) (es : Exprs) → IsAt (closed w es) stage.Behind (owner_shape w) (owner_depth w) (owner_whole w)
+closed_at (Subscripts scope word p) es = placed_at (Var scope word es) p
+closed_at (Arguments f c) es = filled_at (Call f es) c
+
+-- the shape of a place is that of the expression that it stands in
+outer_same : (c : Within) → shape_of c ≡ outer_shape (outer_of c)
+outer_same (Front o) = refl
+outer_same (Right first rest op o) = refl
+outer_same (Under op c) = outer_same c
+
+outer_less : (c : Within) → outer_depth (outer_of c) ≤ depth_of c
+outer_less (Front o) = omega arith
+outer_less (Right first rest op o) = omega arith
+outer_less (Under op c) = let h = outer_less c in omega arith
+
+outer_kept : (c : Within) → outer_whole (outer_of c) ≡ whole_of c
+outer_kept (Front o) = refl
+outer_kept (Right first rest op o) = refl
+outer_kept (Under op c) = outer_kept c
+
+-- ---- steps
+
+-- the machine steps as the shape does
+abbrev pub Follows : ℕ → Bool → Next → Led → Type 0
+Follows d whole (Go t) l = (l ≡ place_at (stage_of t) (state_shape t)) × (state_depth t ≤ d + 1) × (state_whole t ≡ whole)
+Follows d whole Stuck l = l ≡ Nowhere
+Follows d whole Deep l = ⊥
+Follows d whole Long l = l ≡ Beyond
+
+goes_at : (t : State) (s : Stage) (a : Shape) (c d : ℕ) (whole : Bool) → IsAt t s a c whole → c ≤ d + 1 → Follows d whole (Go t) (place_at s a)
+goes_at t s a c d whole h i = (h.led, omega (arith, h.depth), h.same)
+
+opens_follow : (m : Limits) (d e : ℕ) (whole : Bool) (t : State) (l : Led) → d < m.depth → Follows e whole (Go t) l → Follows e whole (opens m d t) l
+opens_follow m d e whole t l i h = let P : Bool → Type 0 = λ b. Follows e whole (cond b (Go t) Deep) l in subst P (sym (less_true d m.depth i)) h
+
+most_same : (m : Limits) (w : Owner) → m.width ≡ 31 → most_of m w ≡ most_in (kind_of w)
+most_same m (Subscripts scope word p) e = e
+most_same m (Arguments f c) e = refl
+
+abbrev full_test : Around → Bool
+full_test (around.List k n) = limited_in k && not (nat_lt n (most_in k))
+full_test a = false
+
+full_same : (m : Limits) (o : Outer) → m.width ≡ 31 → is_full m o ≡ full_test (outer_shape o).around
+full_same m Alone e = refl
+full_same m (InGroup c) e = refl
+full_same m (InList w before) e =
+    ap (λ (b : Bool). b && not (nat_lt (count before + 1) (most_of m w))) (sym (kind_limited w))
+    ∙ ap (λ (n : ℕ). limited_in (kind_of w) && not (nat_lt (count before + 1) n)) (most_same m w e)
+full_same m (InCondition before c) e = refl
+full_same m (InChoice before condition c) e = refl
+
+stray_test : (a : Around) → stray_turn a ≡ cond (full_test a) turn.Long turn.Stuck
+stray_test (around.List k n) = refl
+stray_test around.Alone = refl
+stray_test around.Target = refl
+stray_test around.Group = refl
+stray_test around.Condition = refl
+stray_test around.Choice = refl
+
+stray_by : (d : ℕ) (whole : Bool) (a : Around) (others : List Around) (b : Bool) → Follows d whole (cond b Long Stuck) (led a others (cond b turn.Long turn.Stuck))
+stray_by d whole a others true = refl
+stray_by d whole a others false = refl
+
+stray_follows : (m : Limits) (d : ℕ) (whole : Bool) (a : Around) (others : List Around) (b : Bool) → b ≡ full_test a → Follows d whole (cond b Long Stuck) (led a others (stray_turn a))
+stray_follows m d whole a others b e =
+    let P : Turn → Type 0 = λ t. Follows d whole (cond b Long Stuck) (led a others t) in
+    subst P (ap (λ (x : Bool). cond x turn.Long turn.Stuck) e ∙ sym (stray_test a)) (stray_by d whole a others b)
+
+within_full : (m : Limits) (c : Within) → m.width ≡ 31 → is_full m (outer_of c) ≡ full_test (shape_of c).around
+within_full m c e = full_same m (outer_of c) e ∙ ap (λ (s : Shape). full_test s.around) (sym (outer_same c))
+
+-- behind a variable that is wanted alone nothing goes on
+target_other : (s : Sign) → other_turn around.Target s ≡ turn.Stuck
+target_other Close = refl
+target_other Comma = refl
+target_other Colon = refl
+target_other s = refl
+
+target_sign : (s : Sign) (q : Option Op) → behind_sign around.Target s q ≡ turn.Stuck
+target_sign s (Some op) = refl
+target_sign s None = target_other s
+
+target_stuck : (k : Symbol) → behind_turn around.Target (sort_of k) ≡ turn.Stuck
+target_stuck (Mark s) = target_sign s (binary_of s)
+target_stuck (Constant v) = refl
+target_stuck (Name w) = refl
+target_stuck (Applied f) = refl
+target_stuck Overlong = refl
+target_stuck Other = refl
+
+-- behind an expression
+comma_by : (d : ℕ) (whole : Bool) (t : State) (a : Around) (others : List Around) (u : Turn) (b f : Bool) → Follows d whole (Go t) (led a others u) → Follows d whole (cond b (Go t) (cond f Long Stuck)) (led a others (cond b u (cond f turn.Long turn.Stuck)))
+comma_by d whole t a others u true f h = h
+comma_by d whole t a others u false true h = refl
+comma_by d whole t a others u false false h = refl
+
+list_comma : (m : Limits) (e : Expr) (w : Owner) (before : Exprs) → m.width ≡ 31 → Follows (owner_depth w + 1) (owner_whole w) (comma m e (InList w before)) (led (around.List (kind_of w) (count before + 1)) ((owner_shape w).around ∷ (owner_shape w).others) (other_turn (around.List (kind_of w) (count before + 1)) Comma))
+list_comma m e w before i =
+    let n = count before + 1 in
+    let s = owner_shape w in
+    let t = Wanted (Front (InList w (and_more before e))) in
+    let P : Next → Type 0 = λ x. Follows (owner_depth w + 1) (owner_whole w) x (led (around.List (kind_of w) n) (s.around ∷ s.others) (other_turn (around.List (kind_of w) n) Comma)) in
+    subst P (ap (λ (k : ℕ). cond (nat_lt n k) (Go t) (cond (limited_in (kind_of w)) Long Stuck)) (sym (most_same m w i)) ∙ ap (λ (b : Bool). cond (nat_lt n (most_of m w)) (Go t) (cond b Long Stuck)) (kind_limited w))
+    (comma_by (owner_depth w + 1) (owner_whole w) t (around.List (kind_of w) n) (s.around ∷ s.others) (turn.Goes stage.Operand (around.List (kind_of w) (n + 1))) (nat_lt n (most_in (kind_of w))) (limited_in (kind_of w))
+    (ap (λ (k : ℕ). To stage.Operand (around.List (kind_of w) (k + 1)) (s.around ∷ s.others)) (sym (count-more before e)), omega arith, refl))
+
+close_by : (d : ℕ) (whole : Bool) (t : State) (a : Around) (others : List Around) (b : Bool) → Follows d whole (Go t) (led a others turn.Closes) → Follows d whole (cond b (Go t) Stuck) (led a others (cond b turn.Closes turn.Stuck))
+close_by d whole t a others true h = h
+close_by d whole t a others false h = refl
+
+list_close : (m : Limits) (e : Expr) (w : Owner) (before : Exprs) → Follows (owner_depth w + 1) (owner_whole w) (close e (InList w before)) (led (around.List (kind_of w) (count before + 1)) ((owner_shape w).around ∷ (owner_shape w).others) (other_turn (around.List (kind_of w) (count before + 1)) Close))
+list_close m e w before =
+    let n = count before + 1 in
+    let s = owner_shape w in
+    let t = closed w (and_more before e) in
+    let P : Next → Type 0 = λ x. Follows (owner_depth w + 1) (owner_whole w) x (led (around.List (kind_of w) n) (s.around ∷ s.others) (other_turn (around.List (kind_of w) n) Close)) in
+    subst P (ap (λ (k : ℕ). cond (nat_le k n) (Go t) Stuck) (kind_least w))
+    (close_by (owner_depth w + 1) (owner_whole w) t (around.List (kind_of w) n) (s.around ∷ s.others) (nat_le (least_in (kind_of w)) n)
+    (goes_at t stage.Behind s (owner_depth w) (owner_depth w + 1) (owner_whole w) (closed_at w (and_more before e)) (omega arith)))
+
+other_follows : (m : Limits) (x : Operand) (r : Tails) (o : Outer) (s : Sign) → m.width ≡ 31 → Follows (outer_depth o) (outer_whole o) (hold_other m (Chain x r) o s) (led (outer_shape o).around (outer_shape o).others (other_turn (outer_shape o).around s))
+other_follows m x r Alone Close e = refl
+other_follows m x r (InGroup c) Close e = goes_at (filled (Group (Chain x r)) c) stage.Behind (shape_of c) (depth_of c) (depth_of c + 1) (whole_of c) (filled_at (Group (Chain x r)) c) (omega arith)
+other_follows m x r (InList w before) Close e = list_close m (Chain x r) w before
+other_follows m x r (InCondition before c) Close e = refl
+other_follows m x r (InChoice before a c) Close e =
+    let y = Select (before_choices before (Last a (Chain x r))) in
+    goes_at (filled y c) stage.Behind (shape_of c) (depth_of c) (depth_of c + 1) (whole_of c) (filled_at y c) (omega arith)
+other_follows m x r Alone Comma e = refl
+other_follows m x r (InGroup c) Comma e = refl
+other_follows m x r (InList w before) Comma e = list_comma m (Chain x r) w before e
+other_follows m x r (InCondition before c) Comma e = refl
+other_follows m x r (InChoice before a c) Comma e = (refl, omega arith, refl)
+other_follows m x r Alone Colon e = refl
+other_follows m x r (InGroup c) Colon e = refl
+other_follows m x r (InList w before) Colon e = refl
+other_follows m x r (InCondition before c) Colon e = (refl, omega arith, refl)
+other_follows m x r (InChoice before a c) Colon e = refl
+other_follows m x r o s e = refl
+
+sign_follows : (m : Limits) (x : Operand) (r : Tails) (o : Outer) (s : Sign) (q : Option Op) → m.width ≡ 31 → Follows (outer_depth o) (outer_whole o) (hold_sign m x r o s q) (led (outer_shape o).around (outer_shape o).others (behind_sign (outer_shape o).around s q))
+sign_follows m x r Alone s (Some op) e = (refl, omega arith, refl)
+sign_follows m x r (InGroup c) s (Some op) e = (refl, omega arith, refl)
+sign_follows m x r (InList w before) s (Some op) e = (refl, omega arith, refl)
+sign_follows m x r (InCondition before c) s (Some op) e = (refl, omega arith, refl)
+sign_follows m x r (InChoice before a c) s (Some op) e = (refl, omega arith, refl)
+sign_follows m x r o s None e = other_follows m x r o s e
+
+held_follows : (m : Limits) (x : Operand) (r : Tails) (o : Outer) (k : Symbol) → m.width ≡ 31 → Follows (outer_depth o) (outer_whole o) (hold m x r o k) (led (outer_shape o).around (outer_shape o).others (behind_turn (outer_shape o).around (sort_of k)))
+held_follows m x r o (Mark s) e = sign_follows m x r o s (binary_of s) e
+held_follows m x r o (Constant v) e = refl
+held_follows m x r o (Name w) e = refl
+held_follows m x r o (Applied f) e = refl
+held_follows m x r o Overlong e = refl
+held_follows m x r o Other e = refl
+
+-- fewer levels are no hindrance
+follows_more : (c d : ℕ) (v w : Bool) (n : Next) (l : Led) → c ≤ d → v ≡ w → Follows c v n l → Follows d w n l
+follows_more c d v w (Go t) l i e h = (h.0, omega (arith, h.1), h.2 ∙ e)
+follows_more c d v w Stuck l i e h = h
+follows_more c d v w Deep l i e h = h
+follows_more c d v w Long l i e h = h
+
+-- behind a name without subscripts
+named_follows : (m : Limits) (v : Variable) (p : Place) (k : Symbol) → m.width ≡ 31 → Follows (place_depth p) (place_whole p) (on m (placed v p) k) (led (place_shape p).around (place_shape p).others (behind_turn (place_shape p).around (sort_of k)))
+named_follows m v (AsOperand c) k e =
+    let f = filled_outer (Value v) c in
+    let o = outer_of c in
+    let P : State → Type 0 = λ s. Follows (depth_of c) (whole_of c) (on m s k) (led (shape_of c).around (shape_of c).others (behind_turn (shape_of c).around (sort_of k))) in
+    let Q : Shape → Type 0 = λ a. Follows (depth_of c) (whole_of c) (hold m f.0 f.1 o k) (led a.around a.others (behind_turn a.around (sort_of k))) in
+    subst P (sym f.2) (subst Q (sym (outer_same c)) (follows_more (outer_depth o) (depth_of c) (outer_whole o) (whole_of c) _ _ (outer_less c) (outer_kept c) (held_follows m f.0 f.1 o k e)))
+named_follows m v AsTarget k e = ap (led around.Target []) (target_stuck k)
+
+want_other_follows : (m : Limits) (c : Within) (s : Sign) → m.width ≡ 31 → depth_of c < m.depth → Follows (depth_of c) (whole_of c) (want_other m c s) (led (shape_of c).around (shape_of c).others (operand_other (shape_of c).around s))
+want_other_follows m c Caret e i = (refl, omega arith, refl)
+want_other_follows m c Open e i = opens_follow m (depth_of c) (depth_of c) (whole_of c) (Wanted (Front (InGroup c))) _ i (refl, omega arith, refl)
+want_other_follows m c Comma e i = stray_follows m (depth_of c) (whole_of c) (shape_of c).around (shape_of c).others (is_full m (outer_of c)) (within_full m c e)
+want_other_follows m c s e i = refl
+
+want_sign_follows : (m : Limits) (c : Within) (s : Sign) (q : Option UnaryOp) → m.width ≡ 31 → depth_of c < m.depth → Follows (depth_of c) (whole_of c) (want_sign m c s q) (led (shape_of c).around (shape_of c).others (operand_sign (shape_of c).around s q))
+want_sign_follows m c s (Some op) e i = opens_follow m (depth_of c) (depth_of c) (whole_of c) (Wanted (Under op c)) _ i (refl, omega arith, refl)
+want_sign_follows m c s None e i = want_other_follows m c s e i
+
+-- what a state does with a symbol, and its shape
+abbrev led_from : State → Symbol → Led
+led_from s k = led (state_shape s).around (state_shape s).others (turn_at (stage_of s) (state_shape s).around (sort_of k))
+
+follows : (m : Limits) (s : State) (k : Symbol) → m.width ≡ 31 → state_depth s < m.depth → Follows (state_depth s) (state_whole s) (step m s k) (led_from s k)
+follows m (Wanted c) (Constant v) e i = goes_at (filled (Literal v) c) stage.Behind (shape_of c) (depth_of c) (depth_of c) (whole_of c) (filled_at (Literal v) c) (omega arith)
+follows m (Wanted c) (Name w) e i = (refl, omega arith, refl)
+follows m (Wanted c) (Applied f) e i = opens_follow m (depth_of c) (depth_of c) (whole_of c) (Calling f c) _ i (refl, omega arith, refl)
+follows m (Wanted c) (Mark s) e i = want_sign_follows m c s (unary_of s) e i
+follows m (Wanted c) Overlong e i = refl
+follows m (Wanted c) Other e i = refl
+follows m (Sought p) (Name w) e i = (refl, omega arith, refl)
+follows m (Sought p) (Mark Caret) e i = (refl, omega arith, refl)
+follows m (Sought p) (Mark s) e i = refl
+follows m (Sought p) (Constant v) e i = refl
+follows m (Sought p) (Applied f) e i = refl
+follows m (Sought p) Overlong e i = refl
+follows m (Sought p) Other e i = refl
+follows m (Marked p) (Name w) e i = (refl, omega arith, refl)
+follows m (Marked (AsOperand c)) (Mark Comma) e i = stray_follows m (depth_of c) (whole_of c) (shape_of c).around (shape_of c).others (is_full m (outer_of c)) (within_full m c e)
+follows m (Marked AsTarget) (Mark Comma) e i = refl
+follows m (Marked p) (Mark s) e i = refl
+follows m (Marked p) (Constant v) e i = refl
+follows m (Marked p) (Applied f) e i = refl
+follows m (Marked p) Overlong e i = refl
+follows m (Marked p) Other e i = refl
+follows m (Named scope word p) (Mark Open) e i = opens_follow m (place_depth p) (place_depth p) (place_whole p) (Wanted (Front (InList (Subscripts scope word p) No))) _ i (refl, omega arith, refl)
+follows m (Named scope word p) k e i = named_follows m (Var scope word No) p k e
+follows m (Calling (callee.Texts f) c) (Mark Open) e i = (refl, omega arith, refl)
+follows m (Calling callee.Select c) (Mark Open) e i = (refl, omega arith, refl)
+follows m (Calling f c) (Mark s) e i = refl
+follows m (Calling f c) (Constant v) e i = refl
+follows m (Calling f c) (Name w) e i = refl
+follows m (Calling f c) (Applied g) e i = refl
+follows m (Calling f c) Overlong e i = refl
+follows m (Calling f c) Other e i = refl
+follows m (Held x r o) k e i = held_follows m x r o k e
+follows m (Got v) k e i = ap (led around.Target []) (target_stuck k)
+
+-- ---- runs
+
+-- a phrase of this kind
+abbrev pub IsOf : Bool → Phrase → Type 0
+IsOf true (Whole e) = Unit {0}
+IsOf true (Target v) = ⊥
+IsOf false (Whole e) = ⊥
+IsOf false (Target v) = Unit {0}
+
+-- what was passed is what was read, without its tree
+abbrev pub Agrees : Bool → Passed → Outcome → Type 0
+Agrees whole (Passes rest) o = (p : Phrase) × IsOf whole p × (o ≡ Accept p rest)
+Agrees whole (Halts x) o = o ≡ x
+
+held_ends : (x : Operand) (r : Tails) (o : Outer) (ks : List Symbol) → Agrees (outer_whole o) (ended stage.Behind (outer_shape o).around ks) (ends (Held x r o) ks)
+held_ends x r Alone ks = (Whole (Chain x r), tt, refl)
+held_ends x r (InGroup c) ks = refl
+held_ends x r (InList w before) ks = refl
+held_ends x r (InCondition before c) ks = refl
+held_ends x r (InChoice before a c) ks = refl
+
+named_ends : (v : Variable) (p : Place) (ks : List Symbol) → Agrees (place_whole p) (ended stage.Subscripts (place_shape p).around ks) (ends (placed v p) ks)
+named_ends v (AsOperand c) ks =
+    let f = filled_outer (Value v) c in
+    let P : State → Type 0 = λ s. Agrees (whole_of c) (ended stage.Subscripts (shape_of c).around ks) (ends s ks) in
+    let Q : Shape → Type 0 = λ a. Agrees (whole_of c) (ended stage.Subscripts a.around ks) (ends (Held f.0 f.1 (outer_of c)) ks) in
+    let R : Bool → Type 0 = λ b. Agrees b (ended stage.Subscripts (outer_shape (outer_of c)).around ks) (ends (Held f.0 f.1 (outer_of c)) ks) in
+    subst P (sym f.2) (subst Q (sym (outer_same c)) (subst R (outer_kept c) (held_ends f.0 f.1 (outer_of c) ks)))
+named_ends v AsTarget ks = (Target v, tt, refl)
+
+state_ends : (s : State) (ks : List Symbol) → Agrees (state_whole s) (ended (stage_of s) (state_shape s).around ks) (finish s ks)
+state_ends (Wanted c) ks = refl
+state_ends (Sought p) ks = refl
+state_ends (Marked p) ks = refl
+state_ends (Named scope word p) ks = named_ends (Var scope word No) p ks
+state_ends (Calling f c) ks = refl
+state_ends (Held x r o) ks = held_ends x r o ks
+state_ends (Got v) ks = (Target v, tt, refl)
+
+-- what is passed from a state on
+abbrev pub passed_from : State → List Symbol → Passed
+passed_from s ks = pass ks (stage_of s) (state_shape s).around (state_shape s).others
+
+goes_as : (m : Limits) (ks : List Symbol) (d left : ℕ) (whole : Bool) (out : Outcome) (end : Passed) (n : Next) (l : Led) → Agrees whole end out →
+    ((t : State) → state_depth t ≤ d + 1 → Agrees (state_whole t) (passed_from t ks) (run m ks t)) → Follows d whole n l → Agrees whole (on_from (pass ks) end l) (goes (run m ks) out left n)
+goes_as m ks d left whole out end (Go t) l a h f =
+    let P : Led → Type 0 = λ x. Agrees whole (on_from (pass ks) end x) (run m ks t) in
+    let Q : Bool → Type 0 = λ b. Agrees b (passed_from t ks) (run m ks t) in
+    subst P (sym f.0) (subst Q f.2 (h t f.1))
+goes_as m ks d left whole out end Stuck l a h f = let P : Led → Type 0 = λ x. Agrees whole (on_from (pass ks) end x) out in subst P (sym f) a
+goes_as m ks d left whole out end Deep l a h f = absurd f
+goes_as m ks d left whole out end Long l a h f = let P : Led → Type 0 = λ x. Agrees whole (on_from (pass ks) end x) TooLong in subst P (sym f) refl
+
+pub passed : (ks : List Symbol) (m : Limits) (s : State) → m.width ≡ 31 → state_depth s + length ks ≤ m.depth → Agrees (state_whole s) (passed_from s ks) (run m ks s)
+passed [] m s e i = state_ends s []
+passed (k ∷ ks) m s e i =
+    goes_as m ks (state_depth s) (length (k ∷ ks)) (state_whole s) (finish s (k ∷ ks)) (ended (stage_of s) (state_shape s).around (k ∷ ks)) (step m s k) (led_from s k)
+    (state_ends s (k ∷ ks)) (λ t h. passed ks m t e (omega arith)) (follows m s k e (omega arith))
+
+-- ---- what a call returns
+
+whole_ends : {X : Type 0} (rest : X → List Lexeme) (r : Result X Stop) (p : Passed) (o : Outcome) → PassesAs rest r p → Agrees true p o → Ends Whole rest r o
+whole_ends rest (Ok x) p o h a = let P : Passed → Type 0 = λ q. Agrees true q o in of_whole (subst P h a)
+  where
+    of_whole : {ks : List Symbol} → Agrees true (Passes ks) o → (e : Expr) × (o ≡ Accept (Whole e) ks)
+    of_whole (Whole e, i, f) = (e, f)
+    of_whole (Target v, i, f) = absurd i
+whole_ends rest (Err stop.Memory) p o h a = tt
+whole_ends rest (Err (stop.Stuck n)) p o h a = let P : Passed → Type 0 = λ q. Agrees true q o in subst P h a
+whole_ends rest (Err (stop.Deep n)) p o h a = absurd h
+whole_ends rest (Err stop.Long) p o h a = let P : Passed → Type 0 = λ q. Agrees true q o in subst P h a
+
+target_ends : {X : Type 0} (rest : X → List Lexeme) (r : Result X Stop) (p : Passed) (o : Outcome) → PassesAs rest r p → Agrees false p o → Ends Target rest r o
+target_ends rest (Ok x) p o h a = let P : Passed → Type 0 = λ q. Agrees false q o in of_target (subst P h a)
+  where
+    of_target : {ks : List Symbol} → Agrees false (Passes ks) o → (v : Variable) × (o ≡ Accept (Target v) ks)
+    of_target (Whole e, i, f) = absurd i
+    of_target (Target v, i, f) = (v, f)
+target_ends rest (Err stop.Memory) p o h a = tt
+target_ends rest (Err (stop.Stuck n)) p o h a = let P : Passed → Type 0 = λ q. Agrees false q o in subst P h a
+target_ends rest (Err (stop.Deep n)) p o h a = absurd h
+target_ends rest (Err stop.Long) p o h a = let P : Passed → Type 0 = λ q. Agrees false q o in subst P h a
+
+-- one token less, and again
+pub end_next : (ks ms : List Token) → (k : Token) × (ks ≡ k ∷ ms) → IsEndOf ks ms
+end_next ks ms h = (h.0 ∷ [], h.1)
+
+pub end_more : (ks ms ns : List Token) → IsEndOf ks ms → (k : Token) × (ms ≡ k ∷ ns) → IsEndOf ks ns
+end_more ks ms ns e h = (e.0 ++ h.0 ∷ [], e.1 ∙ ap (λ (zs : List Token). e.0 ++ zs) h.1 ∙ sym (append_assoc e.0 (h.0 ∷ []) ns))
+
+seen_length : (ls : List Lexeme) → length (symbols_seen ls) ≡ length ls
+seen_length [] = refl
+seen_length (l ∷ ls) = let h = seen_length ls in omega arith
+
+pub ends_whole : {X : Type 0} (rest : X → List Lexeme) (r : Result X Stop) (ls : List Lexeme) (m : Limits) → m.width ≡ 31 → length ls ≤ m.depth → PassesAs rest r (pass (symbols_seen ls) stage.Operand around.Alone []) → Ends Whole rest r (run m (symbols_seen ls) (Wanted (Front Alone)))
+ends_whole rest r ls m e i h =
+    let ks = symbols_seen ls in
+    let n = seen_length ls in
+    whole_ends rest r (pass ks stage.Operand around.Alone []) (run m ks (Wanted (Front Alone))) h (passed ks m (Wanted (Front Alone)) e (omega arith))
+
+pub ends_target : {X : Type 0} (rest : X → List Lexeme) (r : Result X Stop) (ls : List Lexeme) (m : Limits) → m.width ≡ 31 → length ls ≤ m.depth → PassesAs rest r (pass (symbols_seen ls) stage.Variable around.Target []) → Ends Target rest r (run m (symbols_seen ls) (Sought AsTarget))
+ends_target rest r ls m e i h =
+    let ks = symbols_seen ls in
+    let n = seen_length ls in
+    target_ends rest r (pass ks stage.Variable around.Target []) (run m ks (Sought AsTarget)) h (passed ks m (Sought AsTarget) e (omega arith))

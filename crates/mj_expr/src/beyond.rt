@@ -1,0 +1,405 @@
+// Where a phrase ends whose depth doesn't matter: without its tree, and without recursion.
+
+ghost use Rattle.std.specs.Prelude.{◌≡◌, ◌∷◌, ◌<◌, ◌≤◌, ◌&&◌, [], IfOk, IfSome, length, reverse};
+ghost use Rattle.mj_ast.specs.Expressions.{symbol, width_limit};
+ghost use Rattle.mj_ast.specs.Tokens.{Token as SpelledToken};
+ghost use Rattle.mj_expr.specs.Machine.{Limits, Whole, Target, Wanted, Sought, Front, AsTarget, Alone, unary_of, binary_of, run};
+ghost use Rattle.mj_expr.specs.Reads.{symbols_seen, BeginsNone};
+ghost use Rattle.mj_expr.specs.Shapes.{Ends, IsEndOf, PassesAs, sort_of as the_sort, stray_turn, comma_turn, close_turn, colon_turn, behind_turn, operand_turn, variable_turn, name_turn, arguments_turn, subscripts_turn, inside as the_inside, turn_at, may_end, is_last, ended as the_end, led as the_lead, IsLed, IsAdvanced, pass};
+ghost use Rattle.mj_lex.specs.Seen.{token_seen, tokens_seen};
+
+use crate::stop::Stop;
+use crate::token::{Head, ListKind, binary, head_of, is_limited, least, most, refusal, unary};
+use mj_ast::{Callee, Sign};
+use mj_lex::{Lexeme, Token, next};
+use std::alloc::{AllocError, Global};
+
+/// What is open around a place.
+#[derive(Clone, Copy)]
+pub(crate) enum Around {
+    /// nothing, and an expression is read
+    Alone,
+    /// nothing, and a variable is read
+    Target,
+    /// parentheses
+    Group,
+    /// a list, and how many expressions it has with the one that is read
+    List(ListKind, usize),
+    /// `$SELECT`, in a condition
+    Condition,
+    /// `$SELECT`, in the value of a condition
+    Choice,
+}
+
+/// What may come at a place.
+#[derive(Clone, Copy)]
+pub(crate) enum Stage {
+    /// a variable
+    Variable,
+    /// an operand
+    Operand,
+    /// a name, behind a `^`
+    Name,
+    /// the arguments of a function
+    Arguments(Callee),
+    /// subscripts, or what follows an operand
+    Subscripts,
+    /// what follows an operand
+    Behind,
+}
+
+/// What a token is to a phrase, without what it stands for.
+#[derive(Clone, Copy)]
+pub(crate) enum Sort {
+    Constant,
+    Name,
+    Callee(Callee),
+    Sign(Sign),
+    Other,
+}
+
+/// What a token does at a place.
+#[derive(Clone, Copy)]
+pub(crate) enum Turn {
+    /// leads to another place, where this is open instead
+    Goes(Stage, Around),
+    /// opens this too, and an operand is wanted in it
+    Opens(Around),
+    /// ends what is open
+    Closes,
+    Stuck,
+    Long,
+}
+
+/// What a token is with which no operand begins.
+fn other_sort(token: Token<'_>) -> Sort
+    requires { BeginsNone (symbol (token_seen token)) }
+    ensures { result ≡ the_sort (symbol (token_seen token.entry)) }
+{
+    match token {
+        Token::Sign(sign) => Sort::Sign(sign),
+        Token::Word(_) => Sort::Other,
+        Token::Called(_) => Sort::Other,
+        Token::Special(_) => Sort::Other,
+        Token::Digits(_) => Sort::Other,
+        Token::Quoted(_) => Sort::Other,
+        Token::Blank => Sort::Other,
+        Token::Comment(_) => Sort::Other,
+        Token::Unclosed(_) => Sort::Other,
+        Token::Stray(_) => Sort::Other,
+    }
+}
+
+/// What the token is.
+fn sort_of(alloc: Global, token: Token<'_>) -> Result<Sort, AllocError>
+    ensures { IfOk result (λ s. s ≡ the_sort (symbol (token_seen token.entry))) }
+{
+    match head_of(alloc, token)? {
+        Head::Constant(_) => Ok(Sort::Constant),
+        Head::Name(_) => Ok(Sort::Name),
+        Head::Callee(callee) => Ok(Sort::Callee(callee)),
+        Head::Caret => Ok(Sort::Sign(Sign::Caret)),
+        Head::Open => Ok(Sort::Sign(Sign::Open)),
+        Head::Unary(sign, _) => Ok(Sort::Sign(sign)),
+        Head::Nothing => Ok(other_sort(token)),
+    }
+}
+
+/// A comma where an operand is wanted: it can't stand there, and may be one too many.
+fn stray(around: Around) -> Turn
+    ensures { result ≡ stray_turn around }
+{
+    match around {
+        Around::List(kind, count) => {
+            if is_limited(kind) && count >= most(kind) {
+                Turn::Long
+            } else {
+                Turn::Stuck
+            }
+        }
+        Around::Alone | Around::Target | Around::Group | Around::Condition | Around::Choice => {
+            Turn::Stuck
+        }
+    }
+}
+
+/// A comma behind an expression.
+fn comma(around: Around) -> Turn
+    ensures { result ≡ comma_turn around }
+{
+    match around {
+        Around::List(kind, count) => {
+            if count < most(kind) {
+                Turn::Goes(Stage::Operand, Around::List(kind, count + 1))
+            } else if is_limited(kind) {
+                Turn::Long
+            } else {
+                Turn::Stuck
+            }
+        }
+        Around::Choice => Turn::Goes(Stage::Operand, Around::Condition),
+        Around::Alone | Around::Target | Around::Group | Around::Condition => Turn::Stuck,
+    }
+}
+
+/// A closing parenthesis behind an expression.
+fn close(around: Around) -> Turn
+    ensures { result ≡ close_turn around }
+{
+    match around {
+        Around::List(kind, count) => {
+            if least(kind) <= count {
+                Turn::Closes
+            } else {
+                Turn::Stuck
+            }
+        }
+        Around::Group | Around::Choice => Turn::Closes,
+        Around::Alone | Around::Target | Around::Condition => Turn::Stuck,
+    }
+}
+
+/// A colon behind an expression.
+fn colon(around: Around) -> Turn
+    ensures { result ≡ colon_turn around }
+{
+    match around {
+        Around::Condition => Turn::Goes(Stage::Operand, Around::Choice),
+        _ => Turn::Stuck,
+    }
+}
+
+/// Behind an operand. A variable that is wanted alone goes on with no operator.
+fn behind(around: Around, sort: Sort) -> Turn
+    ensures { result ≡ behind_turn around sort }
+{
+    match sort {
+        Sort::Sign(sign) => match binary(sign) {
+            Some(_) => match around {
+                Around::Target => Turn::Stuck,
+                _ => Turn::Goes(Stage::Operand, around),
+            },
+            None => match sign {
+                Sign::Close => close(around),
+                Sign::Comma => comma(around),
+                Sign::Colon => colon(around),
+                _ => Turn::Stuck,
+            },
+        },
+        _ => Turn::Stuck,
+    }
+}
+
+/// Where an operand is wanted.
+fn operand(around: Around, sort: Sort) -> Turn
+    ensures { result ≡ operand_turn around sort }
+{
+    match sort {
+        Sort::Constant => Turn::Goes(Stage::Behind, around),
+        Sort::Name => Turn::Goes(Stage::Subscripts, around),
+        Sort::Callee(callee) => Turn::Goes(Stage::Arguments(callee), around),
+        Sort::Sign(sign) => match unary(sign) {
+            Some(_) => Turn::Goes(Stage::Operand, around),
+            None => match sign {
+                Sign::Caret => Turn::Goes(Stage::Name, around),
+                Sign::Open => Turn::Opens(Around::Group),
+                Sign::Comma => stray(around),
+                _ => Turn::Stuck,
+            },
+        },
+        Sort::Other => Turn::Stuck,
+    }
+}
+
+/// Where a variable is wanted.
+fn variable(around: Around, sort: Sort) -> Turn
+    ensures { result ≡ variable_turn around sort }
+{
+    match sort {
+        Sort::Name => Turn::Goes(Stage::Subscripts, around),
+        Sort::Sign(Sign::Caret) => Turn::Goes(Stage::Name, around),
+        _ => Turn::Stuck,
+    }
+}
+
+/// Behind a `^`.
+fn name(around: Around, sort: Sort) -> Turn
+    ensures { result ≡ name_turn around sort }
+{
+    match sort {
+        Sort::Name => Turn::Goes(Stage::Subscripts, around),
+        Sort::Sign(Sign::Comma) => stray(around),
+        _ => Turn::Stuck,
+    }
+}
+
+/// What opens behind a function.
+fn inside(callee: Callee) -> Around
+    ensures { result ≡ the_inside callee }
+{
+    match callee {
+        Callee::Texts(function) => Around::List(ListKind::Arguments(function), 1),
+        Callee::Select => Around::Condition,
+    }
+}
+
+/// Behind a function.
+fn arguments(callee: Callee, sort: Sort) -> Turn
+    ensures { result ≡ arguments_turn callee sort }
+{
+    match sort {
+        Sort::Sign(Sign::Open) => Turn::Opens(inside(callee)),
+        _ => Turn::Stuck,
+    }
+}
+
+/// Behind a name.
+fn subscripts(around: Around, sort: Sort) -> Turn
+    ensures { result ≡ subscripts_turn around sort }
+{
+    match sort {
+        Sort::Sign(Sign::Open) => Turn::Opens(Around::List(ListKind::Subscripts, 1)),
+        _ => behind(around, sort),
+    }
+}
+
+/// What the token does at the place.
+fn turn_of(stage: Stage, around: Around, sort: Sort) -> Turn
+    ensures { result ≡ turn_at stage around sort }
+{
+    match stage {
+        Stage::Variable => variable(around, sort),
+        Stage::Operand => operand(around, sort),
+        Stage::Name => name(around, sort),
+        Stage::Arguments(callee) => arguments(callee, sort),
+        Stage::Subscripts => subscripts(around, sort),
+        Stage::Behind => behind(around, sort),
+    }
+}
+
+/// Whether a phrase may end at the place.
+fn is_end(stage: Stage, around: Around) -> bool
+    ensures { result ≡ (may_end stage && is_last around) }
+{
+    matches!(stage, Stage::Subscripts | Stage::Behind)
+        && matches!(around, Around::Alone | Around::Target)
+}
+
+/// What follows the phrase where no token goes on, or why none ends there.
+fn ended<'a, 't>(
+    stage: Stage,
+    around: Around,
+    tokens: &'t [Lexeme<'a>],
+) -> Result<&'t [Lexeme<'a>], Stop>
+    ensures same { IfOk result (λ x. x.now ≡ tokens.now) }
+    ensures passes { PassesAs (λ x. x.now) result (the_end stage around (symbols_seen tokens.now)) }
+{
+    if is_end(stage, around) {
+        return Ok(tokens);
+    }
+    Err(refusal(tokens, false))
+}
+
+/// Where the turn leads, if it leads somewhere. `others` is what is open around `around`.
+fn led(
+    others: &mut Vec<Around>,
+    around: Around,
+    turn: Turn,
+) -> Result<Option<(Stage, Around)>, Stop>
+    ensures { IsLed result others.new.items (the_lead around (reverse others.old.items) turn) }
+{
+    match turn {
+        Turn::Goes(next, inner) => Ok(Some((next, inner))),
+        Turn::Opens(inner) => {
+            others.push(around)?;
+            Ok(Some((Stage::Operand, inner)))
+        }
+        Turn::Closes => match others.pop() {
+            Some(outer) => Ok(Some((Stage::Behind, outer))),
+            None => Ok(None),
+        },
+        Turn::Stuck => Ok(None),
+        Turn::Long => Err(Stop::Long),
+    }
+}
+
+/// The place behind the token in front, if a phrase goes on with it, and the tokens there.
+fn advanced<'a, 't>(
+    alloc: Global,
+    others: &mut Vec<Around>,
+    stage: Stage,
+    around: Around,
+    tokens: &'t [Lexeme<'a>],
+) -> Result<Option<(Stage, Around, &'t [Lexeme<'a>])>, Stop>
+    ensures shorter { IfOk result (λ x. IfSome x (λ y. length y.2.now < length tokens.now)) }
+    ensures next { IfOk result (λ x. IfSome x (λ y. (k : SpelledToken) × (tokens_seen tokens.now ≡ k ∷ tokens_seen y.2.now))) }
+    ensures goes { IsAdvanced (λ x. x.now) result (symbols_seen tokens.now) others.new.items (pass (symbols_seen tokens.now) stage around (reverse others.old.items)) stage around }
+{
+    let Some((token, rest)) = next(tokens) else {
+        return Ok(None);
+    };
+    let sort = sort_of(alloc, token)?;
+    match led(others, around, turn_of(stage, around, sort))? {
+        Some((next, inner)) => Ok(Some((next, inner, rest))),
+        None => Ok(None),
+    }
+}
+
+/// What follows the phrase that is read from this place on.
+#[tactic(auto, using(crate::proofs::Shapes::end_next, crate::proofs::Shapes::end_more))]
+fn beyond<'a, 't>(
+    alloc: Global,
+    tokens: &'t [Lexeme<'a>],
+    stage: Stage,
+    around: Around,
+) -> Result<&'t [Lexeme<'a>], Stop>
+    ensures shorter { IfOk result (λ x. length x.now ≤ length tokens.now) }
+    ensures back { IfOk result (λ x. IsEndOf (tokens_seen tokens.now) (tokens_seen x.now)) }
+    ensures passes { PassesAs (λ x. x.now) result (pass (symbols_seen tokens.now) stage around []) }
+{
+    let mut others = Vec::new(alloc);
+    match advanced(alloc, &mut others, stage, around, tokens)? {
+        None => ended(stage, around, tokens),
+        Some((next, inner, after)) => {
+            let mut stage = next;
+            let mut around = inner;
+            let mut rest = after;
+            'tokens: while let Some((next, inner, after)) = advanced(
+                alloc,
+                &mut others,
+                stage,
+                around,
+                rest,
+            )? {
+                stage = next;
+                around = inner;
+                rest = after;
+            }
+            ended(stage, around, rest)
+        }
+    }
+}
+
+/// What follows the expression in front, however deep it nests.
+pub fn behind_expression<'a, 't>(
+    alloc: Global,
+    tokens: &'t [Lexeme<'a>],
+) -> Result<&'t [Lexeme<'a>], Stop>
+    ensures shorter { IfOk result (λ x. length x.now ≤ length tokens.now) }
+    ensures back { IfOk result (λ x. IsEndOf (tokens_seen tokens.now) (tokens_seen x.now)) }
+    ensures ends { (m : Limits) → m.width ≡ width_limit → length tokens.now ≤ m.depth → Ends Whole (λ x. x.now) result (run m (symbols_seen tokens.now) (Wanted (Front Alone))) }
+{
+    beyond(alloc, tokens, Stage::Operand, Around::Alone)
+}
+
+/// What follows the variable in front, likewise.
+pub fn behind_variable<'a, 't>(
+    alloc: Global,
+    tokens: &'t [Lexeme<'a>],
+) -> Result<&'t [Lexeme<'a>], Stop>
+    ensures shorter { IfOk result (λ x. length x.now ≤ length tokens.now) }
+    ensures back { IfOk result (λ x. IsEndOf (tokens_seen tokens.now) (tokens_seen x.now)) }
+    ensures ends { (m : Limits) → m.width ≡ width_limit → length tokens.now ≤ m.depth → Ends Target (λ x. x.now) result (run m (symbols_seen tokens.now) (Sought AsTarget)) }
+{
+    beyond(alloc, tokens, Stage::Variable, Around::Target)
+}
