@@ -59,6 +59,11 @@ impl Globals {
         }
     }
 
+    /// Where its memory comes from.
+    pub fn allocator(&self) -> Global {
+        self.alloc
+    }
+
     /// The same store once more.
     pub fn try_clone(&self) -> Result<Globals, AllocError>
         ensures { IfOk result (λ g. g ≡ self.now) }

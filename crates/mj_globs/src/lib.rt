@@ -7,6 +7,8 @@
 
 mod change;
 mod globals;
+#[cfg(test)]
+mod tests;
 mod words;
 
 pub use change::Change;
