@@ -55,10 +55,10 @@ pub fn push(unit: &Unit, pc: usize, text: &Text, machine: &mut Machine) -> Resul
 }
 
 /// The end of the unit.
-pub fn leave(unit: &Unit, pc: usize, machine: &mut Machine) -> Result<Step, AllocError>
+pub fn leave(unit: &Unit, machine: &mut Machine) -> Result<Step, AllocError>
     requires lines { length unit.now.starts.items < 2 ^ 32 }
     requires short { length unit.now.name ≤ 31 }
-    ensures ok { IfOk result (λ step. (reply : Option Reply) → Does (λ next. act unit.now None next pc (stack_of machine.old)) machine.old reply step machine.new) }
+    ensures ok { IfOk result (λ step. (pc : ℕ) (reply : Option Reply) → Does (λ next. act unit.now None next pc (stack_of machine.old)) machine.old reply step machine.new) }
     ensures err { OnErr result ((reply : Option Reply) → standing machine.new reply ≡ standing machine.old reply) }
 {
     let routine = unit.name.try_clone()?;

@@ -103,7 +103,7 @@ pub fn turn(
         Control::At(pc) => match unit {
             None => Ok(Step::Ends),
             Some(unit) => match unit.instrs.get(pc) {
-                None => leave(unit, pc, machine),
+                None => leave(unit, machine),
                 Some(instr) => obey(alloc, unit, pc, instr, machine, given),
             },
         },

@@ -37,7 +37,7 @@ returns-in-None-get-clause-ok c =
     ∙ ap (λ o. from (unit_at o) pc (stack_of old) (suc n) no_restart (state_of old) replies) c.in-Some.is
     ∙ ap (λ i. act u i (λ p stack m. exec u n p stack) pc (stack_of old) n no_restart (state_of old) replies) none)
     (λ n p stack s replies. sym (ap (λ o. from (unit_at o) p stack n no_restart s replies) c.in-Some.is))
-    (d (replied c.args.given)))
+    (d pc (replied c.args.given)))
     c.leave.ensures.ok
 
 pub returns-in-Some-get-clause-ok : goal.returns-in-Some-get-clause-ok
