@@ -2,8 +2,8 @@
 use Rattle.std.proofs.Common.{◌≡◌, ℕ, zero, suc, ◌+◌, ◌≤◌, ◌<◌, List, [], ◌∷◌, length, take, drop, get_or, map, refl, ap, sym, ◌∙◌, Bool, true, false, arith, inl, inr, ◌⊎◌}
 use Rattle.std.specs.Prelude.{cond, take_while}
 use Rattle.std.specs.List.{prefix_len}
-use Rattle.std.proofs.lemmas.List.{length-drop, length-take, length-map}
-use Rattle.mj_ast.specs.Tokens.{Token, Quoted, Unclosed, Lexeme, Class, AWord, ADigit, AQuote, ABlank, AComment, ASign, Nothing, class_of, front_of, quotation, is_digit, first_lexemes, lexemes, tokens, bytes_of, column, Word, Called, Special, Digits, Signed, Blank, Comment, Stray, ADollar, quoted_token, begins_word, continues_word, opens, dollar_front}
+use Rattle.std.proofs.lemmas.List.{length-drop, length-take}
+use Rattle.mj_ast.specs.Tokens.{Token, Quoted, Unclosed, Lexeme, Class, AWord, ADigit, AQuote, ABlank, AComment, ASign, Nothing, class_of, front_of, quotation, is_digit, first_lexemes, lexemes, tokens, bytes_of, column, Called, Special, Stray, ADollar, begins_word, continues_word, opens, dollar_front}
 use Rattle.mj_lex.specs.Seen.{tokens_seen, token_seen, placed, places_seen}
 use Rattle.mj_lex.specs.declared.token.Lexeme as kept
 use Rattle.mj_lex.specs.declared.token.Token.TheVariants as kept_token

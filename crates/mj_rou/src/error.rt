@@ -1,5 +1,9 @@
 // Why a routine is refused.
 
+ghost use Rattle.std.specs.Prelude.{◌≡◌, ℕ, List};
+ghost use Rattle.mj_ast.specs.Routines.{IsName};
+ghost use Rattle.mj_rou.specs.Read.{IsRefusedAt, IsRoutineRefused};
+
 use arrayvec::ArrayString;
 use thiserror::Error;
 
@@ -55,7 +59,9 @@ pub enum Refusal {
 }
 
 /// The refusal of a routine for one of its lines.
-pub fn at_line(refusal: Refusal, routine: RoutineName, line: usize) -> LoadError {
+pub fn at_line(refusal: Refusal, routine: RoutineName, line: usize) -> LoadError
+    ensures { (name bytes : List ℕ) → IsName name → routine.bytes ≡ name → IsRefusedAt bytes line refusal → IsRoutineRefused name bytes result }
+{
     match refusal {
         Refusal::Stuck(column) => LoadError::Stuck {
             routine,

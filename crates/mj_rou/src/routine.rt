@@ -1,18 +1,23 @@
 // Routines.
 
-ghost use Rattle.std.specs.Prelude.{◌≡◌, ◌+◌, ◌≤◌, ◌<◌, ℕ, IfErr, IfOk, IfSome, List, length};
-ghost use Rattle.mj_ast.specs.Tokens.{lexemes as the_lexemes, column as the_column};
+ghost use Rattle.std.specs.Prelude.{◌≡◌, ◌+◌, ◌≤◌, ◌<◌, ◌&&◌, ℕ, IfErr, IfOk, List, MatchOption, length, nat_le};
+ghost use Rattle.std.specs.List.{list_all};
+ghost use Rattle.std.specs.Result.{IsErrAnd};
+ghost use Rattle.mj_ast.specs.Tokens.{Token as SpelledToken, lexemes as the_lexemes, column as the_column, tokens as the_tokens, begins_word, continues_word};
+ghost use Rattle.mj_ast.specs.Lines.{HasLabelOf, label_of};
+ghost use Rattle.mj_ast.specs.Routines.{IsName};
 ghost use Rattle.mj_ast.specs.Trees.{line_of, routine_of};
-ghost use Rattle.mj_lex.specs.Seen.{placed, places_seen};
-ghost use Rattle.mj_rou.specs.Read.{IsLineRead, IsLineRefused, IsRoutineRead};
+ghost use Rattle.mj_lex.specs.Seen.{placed, places_seen, tokens_seen};
+ghost use Rattle.mj_rou.specs.Read.{IsLineRead, IsRefusedAlone, IsLineRefused, IsKept, IsTwice, IsRoutineRead, IsRoutineRefused, label_seen, and_label, is_word as the_word, is_name as the_name};
+ghost use Rattle.mj_rou.specs.declared.error.LoadError.TheVariants.{Name};
 
 use crate::error::{LoadError, Refusal, RoutineName, at_line};
 use crate::file::first_line;
 use mj_ast::{Line, Routine};
 use mj_expr::Stop;
-use mj_lex::{Lexeme, Token, tokens};
+use mj_lex::{Lexeme, Token, next, tokens};
 use mj_text::Text;
-use std::alloc::Global;
+use std::alloc::{AllocError, Global};
 use std::collections::BTreeSet;
 use std::str;
 
@@ -22,20 +27,61 @@ pub const LINE_LIMIT: usize = 8_192;
 /// The most lines of a routine.
 pub const ROUTINE_LIMIT: usize = 10_000;
 
-/// The name, if it is a word of a length that a name may have.
-fn word(name: &[u8]) -> Option<RoutineName>
-    ensures { IfSome result (λ _. length name.now ≤ 31) }
+/// The most bytes of a name.
+const NAME_LIMIT: usize = 31;
+
+/// Whether a word begins with the byte.
+fn begins(byte: u8) -> bool
+    ensures { result ≡ begins_word byte }
 {
-    let (first, rest) = match name {
-        [] => return None,
-        [first, rest @ ..] => (*first, rest),
-    };
-    if !(first.is_ascii_alphabetic() || first == b'%')
-        || !rest.iter().all(|b| b.is_ascii_alphanumeric())
-    {
+    matches!(byte, b'A'..=b'Z' | b'a'..=b'z' | b'%')
+}
+
+/// Whether a word goes on with it.
+fn continues(byte: u8) -> bool
+    ensures { result ≡ continues_word byte }
+{
+    matches!(byte, b'A'..=b'Z' | b'a'..=b'z' | b'0'..=b'9')
+}
+
+/// Whether a word goes on with all of them.
+fn all_continue(bytes: &[u8]) -> bool
+    ensures { result ≡ list_all continues_word bytes.now }
+{
+    bytes.iter().all(|byte| continues(*byte))
+}
+
+/// Whether the bytes are a word.
+fn is_word(bytes: &[u8]) -> bool
+    ensures { result ≡ the_word bytes.now }
+{
+    match bytes {
+        [] => false,
+        [first, rest @ ..] => begins(*first) && all_continue(rest),
+    }
+}
+
+/// Whether the bytes are a word of a length that a name may have.
+fn is_name(bytes: &[u8]) -> bool
+    ensures { result ≡ the_name bytes.now }
+{
+    is_word(bytes) && bytes.len() <= NAME_LIMIT
+}
+
+/// The name, if it is a word of a length that a name may have.
+fn name_of(name: &[u8]) -> Option<RoutineName>
+    ensures { MatchOption result (IsName name.now → ⊥) (λ r. IsName name.now × (r.bytes ≡ name.now)) }
+{
+    if !is_name(name) {
         return None;
     }
-    RoutineName::from(str::from_utf8(name).ok()?).ok()
+    match str::from_utf8(name) {
+        Err(_) => None,
+        Ok(text) => match RoutineName::from(text) {
+            Err(_) => None,
+            Ok(routine) => Some(routine),
+        },
+    }
 }
 
 /// The column of the token from which on so many are left, or of the line's end.
@@ -51,10 +97,39 @@ fn column(line: &[u8], lexemes: &[Lexeme], left: usize) -> usize
 }
 
 /// The label of a line, as far as its first token says.
-fn label<'a>(lexemes: &[Lexeme<'a>]) -> Option<&'a [u8]> {
-    match lexemes.first()?.token {
-        Token::Word(bytes) | Token::Digits(bytes) => Some(bytes),
-        _ => None,
+fn label<'a>(lexemes: &[Lexeme<'a>]) -> Option<&'a [u8]>
+    ensures { label_seen result ≡ label_of (tokens_seen lexemes.now) }
+{
+    match next(lexemes) {
+        None => None,
+        Some((token, _)) => match token {
+            Token::Word(bytes) => Some(bytes),
+            Token::Digits(bytes) => Some(bytes),
+            _ => None,
+        },
+    }
+}
+
+/// Whether the label is kept.
+fn is_kept<'a>(labels: &BTreeSet<&'a [u8]>, label: Option<&'a [u8]>) -> bool
+    ensures { (before : List (List ℕ)) → (ks : List SpelledToken) → IsKept before labels.now → label_seen label.entry ≡ label_of ks → IsTwice result before ks }
+{
+    match label {
+        None => false,
+        Some(label) => labels.contains(&label),
+    }
+}
+
+/// Keeps the label, if there is one.
+fn keep<'a>(labels: &mut BTreeSet<&'a [u8]>, label: Option<&'a [u8]>) -> Result<(), AllocError>
+    ensures { IfOk result (λ _. (before : List (List ℕ)) → IsKept before labels.old → IsKept (and_label before (label_seen label.entry)) labels.new) }
+{
+    let Some(label) = label else {
+        return Ok(());
+    };
+    match labels.insert(label) {
+        Ok(_) => Ok(()),
+        Err(_) => Err(AllocError),
     }
 }
 
@@ -63,7 +138,7 @@ fn tree_of(alloc: Global, line: &[u8], lexemes: &[Lexeme]) -> Result<Line, Refus
     requires short { length line.now ≤ 8192 }
     requires placed { places_seen lexemes.now ≡ placed 0 (the_lexemes line.now) }
     ensures read { IfOk result (λ l. IsLineRead line.now (line_of l)) }
-    ensures refused { IfErr result (λ e. IsLineRefused line.now e) }
+    ensures refused { IfErr result (λ e. IsRefusedAlone line.now e) }
 {
     match mj_cmd::line(alloc, lexemes) {
         Ok(tree) => Ok(tree),
@@ -78,7 +153,7 @@ fn tree_of(alloc: Global, line: &[u8], lexemes: &[Lexeme]) -> Result<Line, Refus
 
 /// Which of two refusals is given: what is over its limit comes before a label that stands twice, that before the others.
 fn ranked(refusal: Refusal, twice: bool) -> Refusal
-    ensures { (bytes : List ℕ) → IsLineRefused bytes refusal → IsLineRefused bytes result }
+    ensures { (before : List (List ℕ)) → (bytes : List ℕ) → IsRefusedAlone bytes refusal → IsTwice twice before (the_tokens bytes) → IsLineRefused before bytes result }
 {
     match refusal {
         Refusal::Memory => Refusal::Memory,
@@ -99,14 +174,16 @@ fn ranked(refusal: Refusal, twice: bool) -> Refusal
     }
 }
 
-/// The tree of a line, and its label.
+/// The tree of a line, and its label. `labels` are those of the lines before.
 fn line_tree<'a>(
     alloc: Global,
     line: &'a [u8],
     labels: &BTreeSet<&'a [u8]>,
 ) -> Result<(Line, Option<&'a [u8]>), Refusal>
     ensures read { IfOk result (λ x. IsLineRead line.now (line_of x.0)) }
-    ensures refused { IfErr result (λ e. IsLineRefused line.now e) }
+    ensures label { IfOk result (λ x. label_seen x.1 ≡ label_of (the_tokens line.now)) }
+    ensures apart { IfOk result (λ x. (before : List (List ℕ)) → IsKept before labels.now → HasLabelOf before (the_tokens line.now) → ⊥) }
+    ensures refused { IfErr result (λ e. (before : List (List ℕ)) → IsKept before labels.now → IsLineRefused before line.now e) }
 {
     if line.len() > LINE_LIMIT {
         return Err(Refusal::Long);
@@ -116,10 +193,7 @@ fn line_tree<'a>(
         Err(_) => return Err(Refusal::Memory),
     };
     let label = label(&lexemes);
-    let twice = match label {
-        Some(label) => labels.contains(&label),
-        None => false,
-    };
+    let twice = is_kept(labels, label);
     match tree_of(alloc, line, &lexemes) {
         Err(refusal) => Err(ranked(refusal, twice)),
         Ok(tree) => {
@@ -135,9 +209,11 @@ fn line_tree<'a>(
 pub fn read(alloc: Global, name: &[u8], bytes: &[u8]) -> Result<Routine, LoadError>
     ensures name { IfOk result (λ routine. (routine.name ≡ name.now) × (length routine.name ≤ 31)) }
     ensures lines { IfOk result (λ routine. length routine.lines.items ≤ ROUTINE_LIMIT) }
-    ensures read { IfOk result (λ routine. IsRoutineRead name.now bytes.now (routine_of routine)) }
+    ensures read { IfOk result (λ routine. IsName name.now × IsRoutineRead name.now bytes.now (routine_of routine)) }
+    ensures refused { IfErr result (λ e. IsRoutineRefused name.now bytes.now e) }
+    ensures unnamed { (IsName name.now → ⊥) → IsErrAnd result (λ e. e ≡ Name) }
 {
-    let Some(routine) = word(name) else {
+    let Some(routine) = name_of(name) else {
         return Err(LoadError::Name);
     };
     let Ok(name) = Text::from(alloc, name) else {
@@ -152,17 +228,12 @@ pub fn read(alloc: Global, name: &[u8], bytes: &[u8]) -> Result<Routine, LoadErr
             return Err(at_line(Refusal::Long, routine, number));
         }
         match line_tree(alloc, line, &labels) {
+            Err(refusal) => return Err(at_line(refusal, routine, number)),
             Ok((tree, label)) => {
-                if lines.push(tree).is_err() {
+                if lines.push(tree).is_err() || keep(&mut labels, label).is_err() {
                     return Err(LoadError::Memory);
                 }
-                if let Some(label) = label {
-                    if labels.insert(label).is_err() {
-                        return Err(LoadError::Memory);
-                    }
-                }
             }
-            Err(refusal) => return Err(at_line(refusal, routine, number)),
         }
         rest = behind;
     }
