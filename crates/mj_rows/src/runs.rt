@@ -98,3 +98,35 @@ fn words_are_refused(rt: HostRuntime) -> Result<(), Fail> {
     assert_eq!(rt; ran.status, 4);
     Ok(())
 }
+
+#[test]
+fn files_are_refused(rt: HostRuntime) -> Result<(), Fail> {
+    let folder = folder(&rt, "files")?;
+    let unnamed = format!(in rt.alloc(); "{folder}/1R.m")?;
+    fs::write(&rt, unnamed.as_str(), " WRITE (")?;
+    let ran = run_words(&rt, &["mj", "run", "--start", "^R", unnamed.as_str()]);
+    let err = format!(in rt.alloc(); "L1 {unnamed}\n")?;
+    assert_eq!(rt; str::from_utf8(&ran.err)?, err.as_str());
+    assert_eq!(rt; ran.status, 2);
+
+    let first = format!(in rt.alloc(); "{folder}/R.m")?;
+    fs::write(&rt, first.as_str(), " WRITE 1")?;
+    let below = format!(in rt.alloc(); "{folder}/other")?;
+    fs::create_dir_all(&rt, below.as_str())?;
+    let second = format!(in rt.alloc(); "{folder}/other/R.m")?;
+    fs::write(&rt, second.as_str(), " WRITE 2")?;
+    let words = [
+        "mj",
+        "run",
+        "--start",
+        "^R",
+        first.as_str(),
+        second.as_str(),
+    ];
+    let ran = run_words(&rt, &words);
+    assert!(rt; ran.out.is_empty());
+    assert_eq!(rt; str::from_utf8(&ran.err)?, "L4 R\n");
+    assert_eq!(rt; ran.status, 2);
+    fs::remove_dir_all(&rt, folder.as_str())?;
+    Ok(())
+}
