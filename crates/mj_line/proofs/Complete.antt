@@ -1,0 +1,458 @@
+-- What the grammar has, the machine reads.
+use Rattle.std.proofs.Common.{◌≡◌, ℕ, zero, suc, ◌-◌, ◌≤◌, ◌==◌, nat_le, List, [], ◌∷◌, ◌++◌, length, refl, ap, sym, ◌∙◌, subst, Bool, true, false, append_assoc, append-nil, arith, Option, Some, None, map, ◌⊎◌, inl, inr}
+use Rattle.std.specs.Prelude.{cond, replicate}
+use Rattle.std.proofs.lemmas.List.{map-append}
+use Rattle.std.proofs.lemmas.Bool.Decides.{nat_tests}
+use Rattle.mj_ast.specs.declared.sign.Sign.TheVariants.{Equals, Comma, Colon, Close}
+use Rattle.mj_ast.specs.declared.function.Function.TheVariants.{Piece}
+use Rattle.mj_ast.specs.declared.function.Callee.TheVariants.{Texts}
+use Rattle.mj_ast.specs.declared.keyword.Keyword.{Keyword}
+use Rattle.mj_ast.specs.Syntax.{Expr}
+use Rattle.mj_ast.specs.Tokens.{Token, Word, Digits, Signed, Blank, Comment, Called, Special, Quoted, Unclosed, Stray}
+use Rattle.mj_ast.specs.Expressions.{Symbol, Constant, Name, Applied, Overlong, Mark, Other, symbol, expr_symbols, variable_symbols, expr_nesting, expr_width, callee_of}
+use Rattle.mj_ast.specs.Commands.{Part, Put, Named, PieceCall, Text, Place, SpellsPart, SpellsParts, SpellsCondition, SpellsArguments, greatest, part_nesting, part_width, condition_measure, gap_of, comment_gap_of, keyword_of}
+use Rattle.mj_ast.specs.Lines.{SpellsEnd, SpellsLabel, comment_gap}
+use Rattle.mj_expr.specs.Machine.{Limits}
+use Rattle.mj_expr.specs.Machine as phrase
+use Rattle.mj_expr.proofs.Zipper.{Kind, AnExpression, AVariable}
+use Rattle.mj_expr.proofs.Complete.{Ceases, complete_phrase}
+use Rattle.mj_line.specs.Forms.{Node, Want, AnExpr, AVar, piece_part, part_of, takes, wants, ends, first_node, may_be_bare, Fits, IsForm}
+use Rattle.mj_line.specs.Sentences.{Clause, Sentence, SpellsClause, SpellsClauses, SpellsSentence, clause_nesting, clause_width, IsWithin}
+use Rattle.mj_line.specs.Machine.{Rest, Spot, Begin, Behind, Worded, Asked, Bare, Args, Goal, Condition, Argument, At, In, empty_line, labelled, clause, with_clause, bare_rest, args_rest, expression_wanted, start, wanted, level, level_of, inside, behind, bare_rested, rested, argument, entry, Next, Go, Stuck, Deep, Long, opened, moved, taken, begins, on, on_rested, first, spot_step, phrase_step, in_step, entering, step, ended_at, ended_spot, Accept, run, turn}
+use Rattle.mj_line.proofs.Tables.{next_of, shut, first_ends, followed, FollowsWant, apart, part_taken}
+use Rattle.mj_line.proofs.Leaves.{want_kind}
+use Rattle.mj_line.proofs.Facts.{lift_accept, plain_step, start_stuck}
+
+-- ---- where a command may end
+
+-- a blank, a comment or the line's end
+abbrev pub Parted : List Token → Type 0
+Parted [] = Unit {0}
+Parted (Blank ∷ ks) = Unit {0}
+Parted (Comment text ∷ ks) = Unit {0}
+Parted ks = ⊥
+
+parted_ceases : (K : Kind) (ks : List Token) → Parted ks → Ceases K (map symbol ks)
+parted_ceases AnExpression [] h = (tt, tt)
+parted_ceases AnExpression (Blank ∷ ks) h = (tt, tt)
+parted_ceases AnExpression (Comment text ∷ ks) h = (tt, tt)
+parted_ceases AVariable [] h = tt
+parted_ceases AVariable (Blank ∷ ks) h = tt
+parted_ceases AVariable (Comment text ∷ ks) h = tt
+parted_ceases K (Word w ∷ ks) h = absurd h
+parted_ceases K (Digits d ∷ ks) h = absurd h
+parted_ceases K (Signed s ∷ ks) h = absurd h
+parted_ceases K (Quoted q ∷ ks) h = absurd h
+parted_ceases K (Called w ∷ ks) h = absurd h
+parted_ceases K (Special w ∷ ks) h = absurd h
+parted_ceases K (Unclosed t ∷ ks) h = absurd h
+parted_ceases K (Stray b ∷ ks) h = absurd h
+
+-- and behind one blank too
+abbrev pub Parted2 : List Token → Type 0
+Parted2 [] = Unit {0}
+Parted2 (Blank ∷ ks) = Parted ks
+Parted2 (Comment text ∷ ks) = Unit {0}
+Parted2 ks = ⊥
+
+parted_two : (ks : List Token) → Parted2 ks → Parted ks
+parted_two [] h = tt
+parted_two (Blank ∷ ks) h = tt
+parted_two (Comment text ∷ ks) h = tt
+parted_two (Word w ∷ ks) h = absurd h
+parted_two (Digits d ∷ ks) h = absurd h
+parted_two (Signed s ∷ ks) h = absurd h
+parted_two (Quoted q ∷ ks) h = absurd h
+parted_two (Called w ∷ ks) h = absurd h
+parted_two (Special w ∷ ks) h = absurd h
+parted_two (Unclosed t ∷ ks) h = absurd h
+parted_two (Stray b ∷ ks) h = absurd h
+
+-- as much as arguments, or none, want behind them
+abbrev pub Gapped : List Part → List Token → Type 0
+Gapped [] ks = Parted2 ks
+Gapped (p ∷ ps) ks = Parted ks
+
+gapped_parted : (ps : List Part) (ks : List Token) → Gapped ps ks → Parted ks
+gapped_parted [] ks h = parted_two ks h
+gapped_parted (p ∷ ps) ks h = h
+
+want_other : (m : Limits) (w : Want) → phrase.step m (wanted w) Other ≡ phrase.Stuck
+want_other m (AnExpr lv next) = refl
+want_other m (AVar lv next) = refl
+
+start_other : (m : Limits) (g : Goal) → phrase.step m (start g) Other ≡ phrase.Stuck
+start_other m (Condition l k) = refl
+start_other m (Argument l condition k done w) = want_other m w
+
+-- no phrase begins with a blank or a comment
+enter_other : (m : Limits) (q : Option Goal) (k : Token) → symbol k ≡ Other → entering m q k ≡ Stuck
+enter_other m (Some g) k e =
+    ap (λ (x : Symbol). phrase_step g (start g) k (phrase.step (inside m (level g)) (start g) x)) e
+    ∙ ap (phrase_step g (start g) k) (start_other (inside m (level g)) g)
+    ∙ start_stuck g k
+enter_other m None k e = refl
+
+-- the spot is behind a command, where a blank, a comment or the end stands
+pub record Rests (p : Spot) (r : Rest) : Type 0 where
+  pub blank : spot_step p Blank ≡ on r Blank
+  pub comment : (text : List ℕ) → spot_step p (Comment text) ≡ on r (Comment text)
+  pub ends : ended_spot p ≡ Accept r.line
+
+behind_step_is : (m : Limits) (r : Rest) (k : Token) → step m (At (Behind r)) k ≡ on r k
+behind_step_is m r k = plain_step m (Behind r) k refl ∙ first_own r k
+  where
+    first_own : (r : Rest) (k : Token) → spot_step (Behind r) k ≡ on r k
+    first_own r k = refl
+
+first_stuck : (n : Next) → first n Stuck ≡ n
+first_stuck (Go s) = refl
+first_stuck Stuck = refl
+first_stuck Deep = refl
+first_stuck Long = refl
+
+rests_step : (m : Limits) (p : Spot) (r : Rest) (k : Token) → symbol k ≡ Other → spot_step p k ≡ on r k → step m (At p) k ≡ step m (At (Behind r)) k
+rests_step m p r k e h =
+    ap (λ (n : Next). first (spot_step p k) n) (enter_other m (entry p) k e)
+    ∙ first_stuck (spot_step p k)
+    ∙ h
+    ∙ sym (behind_step_is m r k)
+
+pub run_rests : (m : Limits) (p : Spot) (r : Rest) (ks : List Token) → Rests p r → Parted ks → run m ks (At p) ≡ run m ks (At (Behind r))
+run_rests m p r [] h i = h.ends
+run_rests m p r (Blank ∷ ks) h i = ap (turn m ks Blank) (rests_step m p r Blank refl h.blank)
+run_rests m p r (Comment text ∷ ks) h i = ap (turn m ks (Comment text)) (rests_step m p r (Comment text) refl (h.comment text))
+run_rests m p r (Word w ∷ ks) h i = absurd i
+run_rests m p r (Digits d ∷ ks) h i = absurd i
+run_rests m p r (Signed s ∷ ks) h i = absurd i
+run_rests m p r (Quoted q ∷ ks) h i = absurd i
+run_rests m p r (Called w ∷ ks) h i = absurd i
+run_rests m p r (Special w ∷ ks) h i = absurd i
+run_rests m p r (Unclosed t ∷ ks) h i = absurd i
+run_rests m p r (Stray b ∷ ks) h i = absurd i
+
+pub begin_rests : Rests Begin (record { line = empty_line; gap = 1; comment = 0 })
+begin_rests = record { blank = refl; comment = λ text. refl; ends = refl }
+
+pub args_rests : (o : Sentence) (condition : Option Expr) (k : Keyword) (done : List Part) (n : Node) → ends n ≡ true → Rests (Args o condition k done n) (args_rest o condition k done)
+args_rests o condition k done n e =
+    let r = args_rest o condition k done in
+    record {
+      blank = ap (λ (b : Bool). on_rested (bare_rested b r) Blank) e;
+      comment = λ text. ap (λ (b : Bool). on_rested (bare_rested b r) (Comment text)) e;
+      ends = ap (λ (b : Bool). ended_at (bare_rested b r)) e;
+    }
+
+-- ---- phrases
+
+refused_accept : (ks : List Symbol) (p : phrase.Phrase) (r : List Symbol) → phrase.refused ks ≡ phrase.Accept p r → ⊥
+refused_accept [] p r e = cc
+refused_accept (Overlong ∷ ks) p r e = cc
+refused_accept (Constant v ∷ ks) p r e = cc
+refused_accept (Name w ∷ ks) p r e = cc
+refused_accept (Applied f ∷ ks) p r e = cc
+refused_accept (Mark s ∷ ks) p r e = cc
+refused_accept (Other ∷ ks) p r e = cc
+
+want_refuses : (w : Want) (ks : List Symbol) → phrase.finish (wanted w) ks ≡ phrase.refused ks
+want_refuses (AnExpr lv next) ks = refl
+want_refuses (AVar lv next) ks = refl
+
+-- where a phrase is read, it begins with its first token
+want_begins : (m : Limits) (w : Want) (x : Symbol) (xs : List Symbol) (p : phrase.Phrase) (r : List Symbol) → phrase.run m (x ∷ xs) (wanted w) ≡ phrase.Accept p r → phrase.step m (wanted w) x ≡ phrase.Stuck → ⊥
+want_begins m w x xs p r e h =
+    refused_accept (x ∷ xs) p r (sym (want_refuses w (x ∷ xs)) ∙ sym (ap (phrase.turn m xs (wanted w) x) h) ∙ e)
+
+-- a spot where no such token is taken doesn't go on with it
+untaken : (o : Sentence) (condition : Option Expr) (k : Keyword) (done : List Part) (n : Node) (q : Option Part) → part_taken n q ≡ None → taken o condition k done n q ≡ Stuck
+untaken o condition k done n (Some p) e = ap (moved o condition k (done ++ p ∷ [])) e
+untaken o condition k done n None e = refl
+
+unrested : (r : Rest) (b : Bool) (t : Token) → r.gap ≡ 1 → (symbol t ≡ Other → ⊥) ⊎ (on_rested (bare_rested b r) t ≡ Stuck) → on_rested (bare_rested b r) t ≡ Stuck
+unrested r b t g (inr e) = e
+unrested r false t g (inl h) = refl
+unrested r true Blank g (inl h) = absurd (h refl)
+unrested r true (Comment text) g (inl h) = absurd (h refl)
+unrested r true (Word w) g (inl h) = ap (λ (n : ℕ). cond (n == 0) (begins r.line (keyword_of w)) Stuck) g
+unrested r true (Digits d) g (inl h) = refl
+unrested r true (Signed s) g (inl h) = refl
+unrested r true (Quoted q) g (inl h) = refl
+unrested r true (Called w) g (inl h) = refl
+unrested r true (Special w) g (inl h) = refl
+unrested r true (Unclosed x) g (inl h) = refl
+unrested r true (Stray x) g (inl h) = refl
+
+enter_step : (m : Limits) (o : Sentence) (condition : Option Expr) (k : Keyword) (done : List Part) (n : Node) (w : Want) (t : Token) → wants n ≡ Some w → (phrase.step (inside m (level_of w)) (wanted w) (symbol t) ≡ phrase.Stuck → ⊥) → (phrase.step (inside m (level_of w)) (wanted w) (symbol t) ≡ phrase.Stuck) ⊎ (part_taken n (part_of t) ≡ None) →
+    step m (At (Args o condition k done n)) t ≡ in_step m (Argument o condition k done w) (wanted w) t
+enter_step m o condition k done n w t e h (inl i) = absurd (h i)
+enter_step m o condition k done n w t e h (inr i) =
+    let r = args_rest o condition k done in
+    let q = argument o condition k done (wants n) in
+    ap (λ (x : Next). first (first x (on_rested (bare_rested (ends n) r) t)) (entering m q t)) (untaken o condition k done n (part_of t) i)
+    ∙ ap (λ (x : Next). first x (entering m q t)) (unrested r (ends n) t refl (inl (λ z. h (ap (phrase.step (inside m (level_of w)) (wanted w)) z ∙ want_other (inside m (level_of w)) w))))
+    ∙ ap (λ (x : Option Want). entering m (argument o condition k done x) t) e
+
+-- a phrase that is read where it begins
+pub enter_run : (m : Limits) (o : Sentence) (condition : Option Expr) (k : Keyword) (done : List Part) (n : Node) (w : Want) (ks : List Token) (p : phrase.Phrase) (r : List Symbol) → wants n ≡ Some w → phrase.run (inside m (level_of w)) (map symbol ks) (wanted w) ≡ phrase.Accept p r →
+    run m ks (At (Args o condition k done n)) ≡ run m ks (In (Argument o condition k done w) (wanted w))
+enter_run m o condition k done n w [] p r e h = absurd (refused_accept [] p r (sym (want_refuses w []) ∙ h))
+enter_run m o condition k done n w (t ∷ ks) p r e h =
+    ap (turn m ks t) (enter_step m o condition k done n w t e (want_begins (inside m (level_of w)) w (symbol t) (map symbol ks) p r h) (apart (inside m (level_of w)) n t w e))
+
+-- what follows doesn't go on with the phrase
+follows_ceases : (w : Want) (p : Part) (front rest : List Token) → FollowsWant w p → SpellsPart front p → Ceases (want_kind w) (map symbol (front ++ rest))
+follows_ceases (AnExpr lv next) (Put Comma) front rest h s = let P : List Token → Type 0 = λ ks. Ceases AnExpression (map symbol (ks ++ rest)) in subst P (sym s) (tt, refl)
+follows_ceases (AnExpr lv next) (Put Close) front rest h s = let P : List Token → Type 0 = λ ks. Ceases AnExpression (map symbol (ks ++ rest)) in subst P (sym s) (tt, refl)
+follows_ceases (AVar lv next) (Put Equals) front rest h s = let P : List Token → Type 0 = λ ks. Ceases AVariable (map symbol (ks ++ rest)) in subst P (sym s) tt
+follows_ceases (AVar lv next) (Put Comma) front rest h s = let P : List Token → Type 0 = λ ks. Ceases AVariable (map symbol (ks ++ rest)) in subst P (sym s) tt
+follows_ceases (AVar lv next) (Put Close) front rest h s = let P : List Token → Type 0 = λ ks. Ceases AVariable (map symbol (ks ++ rest)) in subst P (sym s) tt
+follows_ceases (AnExpr lv next) p front rest h s = absurd h
+follows_ceases (AVar lv next) p front rest h s = absurd h
+
+parts_cease : (n : Node) (w : Want) (ps : List Part) (front rest : List Token) → wants n ≡ Some w → Fits (next_of w) ps → SpellsParts front ps → Parted rest → Ceases (want_kind w) (map symbol (front ++ rest))
+parts_cease n w [] front rest e f s h = let P : List Token → Type 0 = λ ks. Ceases (want_kind w) (map symbol (ks ++ rest)) in subst P (sym s) (parted_ceases (want_kind w) rest h)
+parts_cease n w (p ∷ ps) front rest e f s h =
+    let P : List Token → Type 0 = λ ks. Ceases (want_kind w) (map symbol ks) in
+    subst P (sym (ap (λ (ks : List Token). ks ++ rest) s.2 ∙ append_assoc s.0 s.1 rest)) (follows_ceases w p s.0 (s.1 ++ rest) (followed n w e p f.0 f.1) s.3)
+
+read_phrase : (m : Limits) (o : Sentence) (condition : Option Expr) (k : Keyword) (done : List Part) (n : Node) (w : Want) (x : phrase.Phrase) (front rest : List Token) (xs : List Symbol) → wants n ≡ Some w → map symbol front ≡ xs → phrase.run (inside m (level_of w)) (xs ++ map symbol rest) (wanted w) ≡ phrase.Accept x (map symbol rest) →
+    run m (front ++ rest) (At (Args o condition k done n)) ≡ run m rest (At (behind (Argument o condition k done w) x))
+read_phrase m o condition k done n w x front rest xs e s h =
+    let g = Argument o condition k done w in
+    let z = ap (λ (ys : List Symbol). phrase.run (inside m (level_of w)) ys (wanted w)) (map-append symbol front rest ∙ ap (λ (ys : List Symbol). ys ++ map symbol rest) s) ∙ h in
+    enter_run m o condition k done n w (front ++ rest) x (map symbol rest) e z
+    ∙ lift_accept m front rest g (wanted w) x (shut n w e) z
+
+-- ---- arguments
+
+token_run : (m : Limits) (o : Sentence) (condition : Option Expr) (k : Keyword) (done : List Part) (n next : Node) (t : Token) (p : Part) (ks : List Token) → part_of t ≡ Some p → takes n p ≡ Some next →
+    run m (t ∷ ks) (At (Args o condition k done n)) ≡ run m ks (At (Args o condition k (done ++ p ∷ []) next))
+token_run m o condition k done n next t p ks e h =
+    let s = Args o condition k done n in
+    ap (λ (q : Option Part). turn m ks t (first (first (taken o condition k done n q) (on_rested (rested s) t)) (entering m (entry s) t))) e
+    ∙ ap (λ (q : Option Node). turn m ks t (first (first (moved o condition k (done ++ p ∷ []) q) (on_rested (rested s) t)) (entering m (entry s) t))) h
+
+word_part : (w : List ℕ) → length w ≤ 31 → part_of (Word w) ≡ Some (Named w)
+word_part w h = ap (λ (b : Bool). cond b (Some (Named w)) None) (let e : nat_le (length w) 31 ≡ true = grind (arith, nat_tests) in e)
+
+called_part : (w : List ℕ) → length w ≤ 31 → callee_of w ≡ Some (Texts Piece) → part_of (Called w) ≡ Some PieceCall
+called_part w h e =
+    ap (λ (b : Bool). cond b (piece_part (callee_of w)) None) (let e : nat_le (length w) 31 ≡ true = grind (arith, nat_tests) in e)
+    ∙ ap piece_part e
+
+pub complete_args : (ps : List Part) (m : Limits) (o : Sentence) (condition : Option Expr) (k : Keyword) (done : List Part) (n : Node) (front rest : List Token) → Fits n ps → SpellsParts front ps → greatest part_nesting ps ≤ m.depth → greatest part_width ps ≤ m.width → Parted rest →
+    run m (front ++ rest) (At (Args o condition k done n)) ≡ run m rest (At (Behind (args_rest o condition k (done ++ ps))))
+complete_args [] m o condition k done n front rest f s d w h =
+    ap (λ (ks : List Token). run m (ks ++ rest) (At (Args o condition k done n))) s
+    ∙ run_rests m (Args o condition k done n) (args_rest o condition k done) rest (args_rests o condition k done n f) h
+    ∙ ap (λ (ps : List Part). run m rest (At (Behind (args_rest o condition k ps)))) (sym (append-nil done))
+complete_args (Put z ∷ ps) m o condition k done n front rest f s d w h =
+    ap (λ (ks : List Token). run m (ks ++ rest) (At (Args o condition k done n))) (s.2 ∙ ap (λ (ks : List Token). ks ++ s.1) s.3)
+    ∙ token_run m o condition k done n f.0 (Signed z) (Put z) (s.1 ++ rest) refl f.1
+    ∙ complete_args ps m o condition k (done ++ Put z ∷ []) f.0 s.1 rest f.2 s.4 (omega arith) (omega arith) h
+    ∙ ap (λ (qs : List Part). run m rest (At (Behind (args_rest o condition k qs)))) (append_assoc done (Put z ∷ []) ps)
+complete_args (Named z ∷ ps) m o condition k done n front rest f s d w h =
+    ap (λ (ks : List Token). run m (ks ++ rest) (At (Args o condition k done n))) (s.2 ∙ ap (λ (ks : List Token). ks ++ s.1) s.3.0)
+    ∙ token_run m o condition k done n f.0 (Word z) (Named z) (s.1 ++ rest) (word_part z s.3.1) f.1
+    ∙ complete_args ps m o condition k (done ++ Named z ∷ []) f.0 s.1 rest f.2 s.4 (omega arith) (omega arith) h
+    ∙ ap (λ (qs : List Part). run m rest (At (Behind (args_rest o condition k qs)))) (append_assoc done (Named z ∷ []) ps)
+complete_args (PieceCall ∷ ps) m o condition k done n front rest f s d w h =
+    ap (λ (ks : List Token). run m (ks ++ rest) (At (Args o condition k done n))) (s.2 ∙ ap (λ (ks : List Token). ks ++ s.1) s.3.1)
+    ∙ token_run m o condition k done n f.0 (Called s.3.0) PieceCall (s.1 ++ rest) (called_part s.3.0 s.3.2 s.3.3) f.1
+    ∙ complete_args ps m o condition k (done ++ PieceCall ∷ []) f.0 s.1 rest f.2 s.4 (omega arith) (omega arith) h
+    ∙ ap (λ (qs : List Part). run m rest (At (Behind (args_rest o condition k qs)))) (append_assoc done (PieceCall ∷ []) ps)
+complete_args (Text lv e ∷ ps) m o condition k done n front rest f s d w h =
+    let a = AnExpr lv f.0 in
+    ap (λ (ks : List Token). run m (ks ++ rest) (At (Args o condition k done n))) s.2
+    ∙ ap (λ (ks : List Token). run m ks (At (Args o condition k done n))) (append_assoc s.0 s.1 rest)
+    ∙ read_phrase m o condition k done n a (phrase.Whole e) s.0 (s.1 ++ rest) (expr_symbols e) f.1 s.3.0
+    (complete_phrase AnExpression (phrase.Whole e) (inside m lv) (map symbol (s.1 ++ rest)) (record { kind = tt; nests = omega arith; lists = omega arith; formed = s.3.1 }) (parts_cease n a ps s.1 rest f.1 f.2 s.4 h))
+    ∙ complete_args ps m o condition k (done ++ Text lv e ∷ []) f.0 s.1 rest f.2 s.4 (omega arith) (omega arith) h
+    ∙ ap (λ (qs : List Part). run m rest (At (Behind (args_rest o condition k qs)))) (append_assoc done (Text lv e ∷ []) ps)
+complete_args (Place lv v ∷ ps) m o condition k done n front rest f s d w h =
+    let a = AVar lv f.0 in
+    ap (λ (ks : List Token). run m (ks ++ rest) (At (Args o condition k done n))) s.2
+    ∙ ap (λ (ks : List Token). run m ks (At (Args o condition k done n))) (append_assoc s.0 s.1 rest)
+    ∙ read_phrase m o condition k done n a (phrase.Target v) s.0 (s.1 ++ rest) (variable_symbols v) f.1 s.3.0
+    (complete_phrase AVariable (phrase.Target v) (inside m lv) (map symbol (s.1 ++ rest)) (record { kind = tt; nests = omega arith; lists = omega arith; formed = s.3.1 }) (parts_cease n a ps s.1 rest f.1 f.2 s.4 h))
+    ∙ complete_args ps m o condition k (done ++ Place lv v ∷ []) f.0 s.1 rest f.2 s.4 (omega arith) (omega arith) h
+    ∙ ap (λ (qs : List Part). run m rest (At (Behind (args_rest o condition k qs)))) (append_assoc done (Place lv v ∷ []) ps)
+
+-- ---- commands
+
+-- no arguments
+bare_blank : (m : Limits) (o : Sentence) (condition : Option Expr) (k : Keyword) (ks : List Token) (q : Option Node) → first_node k ≡ q → may_be_bare k ≡ true → Parted ks → run m (Blank ∷ ks) (At (Bare o condition k)) ≡ run m ks (At (Behind (args_rest o condition k [])))
+bare_blank m o condition k ks (Some n) e b h =
+    ap (λ (q : Option Node). turn m ks Blank (first (first (opened o condition k q) (on_rested (rested (Bare o condition k)) Blank)) Stuck)) e
+    ∙ run_rests m (Args o condition k [] n) (args_rest o condition k []) ks (args_rests o condition k [] n (first_ends k n e b)) h
+bare_blank m o condition k ks None e b h =
+    ap (λ (q : Option Node). turn m ks Blank (first (first (opened o condition k q) (on_rested (rested (Bare o condition k)) Blank)) Stuck)) e
+    ∙ ap (λ (x : Bool). turn m ks Blank (first (on_rested (bare_rested x (bare_rest o condition k)) Blank) Stuck)) b
+
+comment_stuck : (n : Next) → first n Stuck ≡ n
+comment_stuck n = first_stuck n
+
+pub complete_bare : (m : Limits) (o : Sentence) (condition : Option Expr) (k : Keyword) (ks : List Token) → may_be_bare k ≡ true → Parted2 ks → run m ks (At (Bare o condition k)) ≡ run m ks (At (Behind (bare_rest o condition k)))
+complete_bare m o condition k [] b h = ap (λ (x : Bool). ended_at (bare_rested x (bare_rest o condition k))) b
+complete_bare m o condition k (Blank ∷ ks) b h = bare_blank m o condition k ks (first_node k) refl b h
+complete_bare m o condition k (Comment text ∷ ks) b h = ap (λ (x : Bool). turn m ks (Comment text) (first (on_rested (bare_rested x (bare_rest o condition k)) (Comment text)) Stuck)) b
+complete_bare m o condition k (Word w ∷ ks) b h = absurd h
+complete_bare m o condition k (Digits d ∷ ks) b h = absurd h
+complete_bare m o condition k (Signed s ∷ ks) b h = absurd h
+complete_bare m o condition k (Quoted q ∷ ks) b h = absurd h
+complete_bare m o condition k (Called w ∷ ks) b h = absurd h
+complete_bare m o condition k (Special w ∷ ks) b h = absurd h
+complete_bare m o condition k (Unclosed t ∷ ks) b h = absurd h
+complete_bare m o condition k (Stray x ∷ ks) b h = absurd h
+
+-- behind a command
+abbrev pub clause_rest : Sentence → Option Expr → Keyword → List Part → Rest
+clause_rest o condition k ps = record { line = with_clause o (clause condition k ps); gap = gap_of ps; comment = comment_gap_of ps }
+
+pub blank_opens : (m : Limits) (o : Sentence) (condition : Option Expr) (k : Keyword) (n : Node) (ks : List Token) → first_node k ≡ Some n → run m (Blank ∷ ks) (At (Bare o condition k)) ≡ run m ks (At (Args o condition k [] n))
+blank_opens m o condition k n ks e = ap (λ (q : Option Node). turn m ks Blank (first (first (opened o condition k q) (on_rested (rested (Bare o condition k)) Blank)) Stuck)) e
+
+complete_arguments : (m : Limits) (o : Sentence) (condition : Option Expr) (k : Keyword) (ps : List Part) (front rest : List Token) → SpellsArguments front ps → IsForm k ps → greatest part_nesting ps ≤ m.depth → greatest part_width ps ≤ m.width → Gapped ps rest →
+    run m (front ++ rest) (At (Bare o condition k)) ≡ run m rest (At (Behind (clause_rest o condition k ps)))
+complete_arguments m o condition k [] front rest s f d w h =
+    ap (λ (ks : List Token). run m (ks ++ rest) (At (Bare o condition k))) s
+    ∙ complete_bare m o condition k rest f h
+complete_arguments m o condition k (p ∷ ps) front rest s f d w h =
+    ap (λ (ks : List Token). run m (ks ++ rest) (At (Bare o condition k))) s.1
+    ∙ blank_opens m o condition k f.0 (s.0 ++ rest) f.1
+    ∙ complete_args (p ∷ ps) m o condition k [] f.0 s.0 rest f.2 s.2 d w h
+
+-- no colon stands in front
+abbrev pub NoColon : List Token → Type 0
+NoColon (Signed Colon ∷ ks) = ⊥
+NoColon ks = Unit {0}
+
+parted_colon : (ks : List Token) → Parted ks → NoColon ks
+parted_colon [] h = tt
+parted_colon (Blank ∷ ks) h = tt
+parted_colon (Comment text ∷ ks) h = tt
+parted_colon (Word w ∷ ks) h = absurd h
+parted_colon (Digits d ∷ ks) h = absurd h
+parted_colon (Signed s ∷ ks) h = absurd h
+parted_colon (k ∷ ks) h = absurd h
+
+pub worded_bare : (m : Limits) (o : Sentence) (k : Keyword) (ks : List Token) → NoColon ks → run m ks (At (Worded o k)) ≡ run m ks (At (Bare o None k))
+worded_bare m o k [] h = refl
+worded_bare m o k (Signed Colon ∷ ks) h = absurd h
+worded_bare m o k (Blank ∷ ks) h = refl
+worded_bare m o k (z ∷ ks) h = refl
+
+asked_stuck : (o : Sentence) (k : Keyword) (t : Token) → spot_step (Asked o k) t ≡ Stuck
+asked_stuck o k t = refl
+
+asked_run : (m : Limits) (o : Sentence) (k : Keyword) (ks : List Token) (p : phrase.Phrase) (r : List Symbol) → phrase.run (inside m 0) (map symbol ks) expression_wanted ≡ phrase.Accept p r → run m ks (At (Asked o k)) ≡ run m ks (In (Condition o k) expression_wanted)
+asked_run m o k [] p r h = absurd (refused_accept [] p r h)
+asked_run m o k (t ∷ ks) p r h = ap (λ (n : Next). turn m ks t (first n (in_step m (Condition o k) expression_wanted t))) (asked_stuck o k t)
+
+complete_condition : (m : Limits) (o : Sentence) (k : Keyword) (condition : Option Expr) (front rest : List Token) → SpellsCondition front condition → condition_measure expr_nesting condition ≤ m.depth → condition_measure expr_width condition ≤ m.width → Parted rest →
+    run m (front ++ rest) (At (Worded o k)) ≡ run m rest (At (Bare o condition k))
+complete_condition m o k None front rest s n w h =
+    ap (λ (zs : List Token). run m (zs ++ rest) (At (Worded o k))) s
+    ∙ worded_bare m o k rest (parted_colon rest h)
+complete_condition m o k (Some e) front rest s n w h =
+    let z = ap (λ (ys : List Symbol). phrase.run (inside m 0) ys expression_wanted) (map-append symbol s.0 rest ∙ ap (λ (ys : List Symbol). ys ++ map symbol rest) s.2.0) ∙ complete_phrase AnExpression (phrase.Whole e) (inside m 0) (map symbol rest) (record { kind = tt; nests = omega arith; lists = omega arith; formed = s.2.1 }) (parted_ceases AnExpression rest h) in
+    ap (λ (zs : List Token). run m (zs ++ rest) (At (Worded o k))) s.1
+    ∙ asked_run m o k (s.0 ++ rest) (phrase.Whole e) (map symbol rest) z
+    ∙ lift_accept m s.0 rest (Condition o k) expression_wanted (phrase.Whole e) tt z
+
+arguments_parted : (ps : List Part) (front rest : List Token) → SpellsArguments front ps → Gapped ps rest → Parted (front ++ rest)
+arguments_parted [] front rest s h = let P : List Token → Type 0 = λ zs. Parted (zs ++ rest) in subst P (sym s) (parted_two rest h)
+arguments_parted (p ∷ ps) front rest s h = let P : List Token → Type 0 = λ zs. Parted (zs ++ rest) in subst P (sym s.1) tt
+
+complete_clause : (m : Limits) (o : Sentence) (c : ℕ) (x : Clause) (front rest : List Token) → SpellsClause front x → clause_nesting x ≤ m.depth → clause_width x ≤ m.width → Gapped x.parts rest →
+    run m (front ++ rest) (At (Behind (record { line = o; gap = 0; comment = c }))) ≡ run m rest (At (Behind (clause_rest o x.condition x.keyword x.parts)))
+complete_clause m o c x front rest h n w i =
+    ap (λ (zs : List Token). run m (zs ++ rest) (At (Behind (record { line = o; gap = 0; comment = c })))) h.3
+    ∙ ap (λ (q : Option Keyword). turn m ((h.1 ++ h.2) ++ rest) (Word h.0) (first (begins o q) Stuck)) h.4
+    ∙ ap (λ (zs : List Token). run m zs (At (Worded o x.keyword))) (append_assoc h.1 h.2 rest)
+    ∙ complete_condition m o x.keyword x.condition h.1 (h.2 ++ rest) h.5 (omega arith) (omega arith) (arguments_parted x.parts h.2 rest h.6 i)
+    ∙ complete_arguments m o x.condition x.keyword x.parts h.2 rest h.6 h.7 (omega arith) (omega arith) i
+
+-- ---- lines
+
+pub blanks_go : (m : Limits) (n : ℕ) (r : Rest) (ks : List Token) → run m (replicate n Blank ++ ks) (At (Behind r)) ≡ run m ks (At (Behind (record { line = r.line; gap = r.gap - n; comment = r.comment - n })))
+blanks_go m zero r ks =
+    ap (λ (g : ℕ). run m ks (At (Behind (record { line = r.line; gap = g; comment = r.comment })))) (let e : r.gap ≡ r.gap - 0 = omega arith in e)
+    ∙ ap (λ (c : ℕ). run m ks (At (Behind (record { line = r.line; gap = r.gap - 0; comment = c })))) (let e : r.comment ≡ r.comment - 0 = omega arith in e)
+blanks_go m (suc n) r ks =
+    blanks_go m n (record { line = r.line; gap = r.gap - 1; comment = r.comment - 1 }) ks
+    ∙ ap (λ (g : ℕ). run m ks (At (Behind (record { line = r.line; gap = g; comment = (r.comment - 1) - n })))) (let e : (r.gap - 1) - n ≡ r.gap - suc n = omega arith in e)
+    ∙ ap (λ (c : ℕ). run m ks (At (Behind (record { line = r.line; gap = r.gap - suc n; comment = c })))) (let e : (r.comment - 1) - n ≡ r.comment - suc n = omega arith in e)
+
+replicate_parted : (n : ℕ) (ks : List Token) → Parted ks → Parted (replicate n Blank ++ ks)
+replicate_parted zero ks h = h
+replicate_parted (suc n) ks h = tt
+
+replicate_two : (n : ℕ) (ks : List Token) → Parted2 ks → Parted2 (replicate n Blank ++ ks)
+replicate_two zero ks h = h
+replicate_two (suc n) ks h = replicate_parted n ks (parted_two ks h)
+
+end_two : (c : ℕ) (ks : List Token) → SpellsEnd c ks → Parted2 ks
+end_two c ks (inl h) = let P : List Token → Type 0 = λ zs. Parted2 zs in subst P (append-nil (replicate h.0 Blank) ∙ sym h.1) (replicate_two h.0 [] tt)
+end_two c ks (inr h) = let P : List Token → Type 0 = λ zs. Parted2 zs in subst P (sym h.3) (replicate_two h.0 (Comment h.1 ∷ []) tt)
+
+gap_parted : (n g : ℕ) (ks zs : List Token) → ks ≡ replicate n Blank ++ zs → g ≤ n → 1 ≤ g → Parted ks
+gap_parted zero g ks zs e l i = absurd (omega arith)
+gap_parted (suc n) g ks zs e l i = let P : List Token → Type 0 = λ xs. Parted xs in subst P (sym e) tt
+
+gap_two : (n g : ℕ) (ks zs : List Token) → ks ≡ replicate n Blank ++ zs → g ≤ n → 2 ≤ g → Parted2 ks
+gap_two zero g ks zs e l i = absurd (omega arith)
+gap_two (suc zero) g ks zs e l i = absurd (omega arith)
+gap_two (suc (suc n)) g ks zs e l i = let P : List Token → Type 0 = λ xs. Parted2 xs in subst P (sym e) tt
+
+clauses_parted : (g c : ℕ) (ks : List Token) (ss : List Clause) → 1 ≤ g → SpellsClauses g c ks ss → Parted ks
+clauses_parted g c ks [] i h = parted_two ks (end_two c ks h)
+clauses_parted g c ks (s ∷ ss) i h = gap_parted h.0 g ks (h.1 ++ h.2) h.4 h.3 i
+
+clauses_two : (g c : ℕ) (ks : List Token) (ss : List Clause) → 2 ≤ g → SpellsClauses g c ks ss → Parted2 ks
+clauses_two g c ks [] i h = end_two c ks h
+clauses_two g c ks (s ∷ ss) i h = gap_two h.0 g ks (h.1 ++ h.2) h.4 h.3 i
+
+clauses_gapped : (ps : List Part) (ks : List Token) (ss : List Clause) → SpellsClauses (gap_of ps) (comment_gap_of ps) ks ss → Gapped ps ks
+clauses_gapped [] ks ss h = clauses_two 2 1 ks ss (omega arith) h
+clauses_gapped (p ∷ ps) ks ss h = clauses_parted 1 0 ks ss (omega arith) h
+
+complete_end : (m : Limits) (r : Rest) (ks : List Token) → SpellsEnd r.comment ks → run m ks (At (Behind r)) ≡ Accept r.line
+complete_end m r ks (inl h) =
+    ap (λ (zs : List Token). run m zs (At (Behind r))) (h.1 ∙ sym (append-nil (replicate h.0 Blank)))
+    ∙ blanks_go m h.0 r []
+complete_end m r ks (inr h) =
+    ap (λ (zs : List Token). run m zs (At (Behind r))) h.3
+    ∙ blanks_go m h.0 r (Comment h.1 ∷ [])
+    ∙ ap (λ (c : ℕ). run m (Comment h.1 ∷ []) (At (Behind (record { line = r.line; gap = r.gap - h.0; comment = c })))) (let n = h.2 in let e : r.comment - h.0 ≡ 0 = omega arith in e)
+
+pub complete_clauses : (ss : List Clause) (m : Limits) (r : Rest) (ks : List Token) → SpellsClauses r.gap r.comment ks ss → greatest clause_nesting ss ≤ m.depth → greatest clause_width ss ≤ m.width →
+    run m ks (At (Behind r)) ≡ Accept (record { label = r.line.label; clauses = r.line.clauses ++ ss })
+complete_clauses [] m r ks h n w = complete_end m r ks h ∙ ap (λ (xs : List Clause). Accept (record { label = r.line.label; clauses = xs })) (sym (append-nil r.line.clauses))
+complete_clauses (s ∷ ss) m r ks h n w =
+    ap (λ (zs : List Token). run m zs (At (Behind r))) h.4
+    ∙ blanks_go m h.0 r (h.1 ++ h.2)
+    ∙ ap (λ (g : ℕ). run m (h.1 ++ h.2) (At (Behind (record { line = r.line; gap = g; comment = r.comment - h.0 })))) (let l = h.3 in let e : r.gap - h.0 ≡ 0 = omega arith in e)
+    ∙ complete_clause m r.line (r.comment - h.0) s h.1 h.2 h.5 (omega arith) (omega arith) (clauses_gapped s.parts h.2 ss h.6)
+    ∙ complete_clauses ss m (clause_rest r.line s.condition s.keyword s.parts) h.2 h.6 (omega arith) (omega arith)
+    ∙ ap (λ (xs : List Clause). Accept (record { label = r.line.label; clauses = xs })) (append_assoc r.line.clauses (s ∷ []) ss)
+
+complete_label : (m : Limits) (l : Option (List ℕ)) (ss : List Clause) (front rest : List Token) → SpellsLabel front l → SpellsClauses 1 (comment_gap l) rest ss → greatest clause_nesting ss ≤ m.depth → greatest clause_width ss ≤ m.width →
+    run m (front ++ rest) (At Begin) ≡ Accept (record { label = l; clauses = ss })
+complete_label m None ss front rest s h n w =
+    ap (λ (zs : List Token). run m (zs ++ rest) (At Begin)) s
+    ∙ run_rests m Begin (record { line = empty_line; gap = 1; comment = 0 }) rest begin_rests (clauses_parted 1 0 rest ss (omega arith) h)
+    ∙ complete_clauses ss m (record { line = empty_line; gap = 1; comment = 0 }) rest h n w
+complete_label m (Some l) ss front rest (inl s) h n w =
+    ap (λ (zs : List Token). run m (zs ++ rest) (At Begin)) s.0
+    ∙ ap (λ (b : Bool). turn m rest (Word l) (first (first (cond b (Go (At (Behind (record { line = labelled l; gap = 1; comment = 1 })))) Stuck) Stuck) Stuck)) (let i = s.1 in let e : nat_le (length l) 31 ≡ true = grind (arith, nat_tests) in e)
+    ∙ complete_clauses ss m (record { line = labelled l; gap = 1; comment = 1 }) rest h n w
+complete_label m (Some l) ss front rest (inr s) h n w =
+    ap (λ (zs : List Token). run m (zs ++ rest) (At Begin)) s
+    ∙ complete_clauses ss m (record { line = labelled l; gap = 1; comment = 1 }) rest h n w
+
+-- COMPLETE
+pub complete_line : (m : Limits) (ks : List Token) (l : Sentence) → SpellsSentence ks l → IsWithin m.depth m.width l → run m ks (At Begin) ≡ Accept l
+complete_line m ks l s w =
+    ap (λ (zs : List Token). run m zs (At Begin)) s.2
+    ∙ complete_label m l.label l.clauses s.0 s.1 s.3 s.4 w.nests w.lists

@@ -1,0 +1,12 @@
+pub mod Tables
+pub mod Leaves
+pub mod Good
+pub mod Facts
+pub mod Ends
+pub mod Complete
+pub mod Commas
+pub mod Trees
+pub mod Formed
+pub mod Once
+pub mod Spelled
+pub mod Said

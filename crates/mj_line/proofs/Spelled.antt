@@ -1,0 +1,116 @@
+-- Lines as trees and by the parts of their commands are spelled alike.
+use Rattle.std.proofs.Common.{◌≡◌, ℕ, max, List, [], ◌∷◌, refl, ap, sym, ◌∙◌, subst, true, arith, Option, Some, map}
+use Rattle.mj_ast.specs.declared.keyword.Keyword.{Keyword}
+use Rattle.mj_ast.specs.Syntax.{Expr, Command, Step, Line}
+use Rattle.mj_ast.specs.Tokens.{Token}
+use Rattle.mj_ast.specs.Commands.{Part, SpellsStep, SpellsArguments, keyword_for, command_parts, is_formed, gap_of, comment_gap_of, greatest, step_nesting, step_width}
+use Rattle.mj_ast.specs.Lines.{SpellsSteps, SpellsLine, IsLineWithin}
+use Rattle.mj_line.specs.Sentences.{Clause, Sentence, SpellsClause, SpellsClauses, SpellsSentence, clause_of, sentence_of, clause_nesting, clause_width, IsWithin}
+use Rattle.mj_line.proofs.Trees.{made}
+use Rattle.mj_line.proofs.Formed.{formed_form}
+use Rattle.mj_line.proofs.Once.{command_once}
+
+-- ---- from trees
+
+spelled_clause : (ks : List Token) (s : Step) → SpellsStep ks s → SpellsClause ks (clause_of s)
+spelled_clause ks s h = (h.0, h.1, h.2, h.3, h.4, h.5, h.6, formed_form s.command h.7)
+
+spelled_clauses : (g c : ℕ) (ks : List Token) (ss : List Step) → SpellsSteps g c ks ss → SpellsClauses g c ks (map clause_of ss)
+spelled_clauses g c ks [] h = h
+spelled_clauses g c ks (s ∷ ss) h = (h.0, h.1, h.2, h.3, h.4, spelled_clause h.1 s h.5, spelled_clauses (gap_of (command_parts s.command)) (comment_gap_of (command_parts s.command)) h.2 ss h.6)
+
+pub spelled_sentence : (ks : List Token) (l : Line) → SpellsLine ks l → SpellsSentence ks (sentence_of l)
+spelled_sentence ks l h = (h.0, h.1, h.2, h.3, spelled_clauses 1 _ h.1 l.steps h.4)
+
+-- ---- to trees
+
+clause_made : (c : Clause) (command : Command) → keyword_for command ≡ c.keyword → command_parts command ≡ c.parts → clause_of (record { condition = c.condition; command = command }) ≡ c
+clause_made c command k p =
+    ap (λ (w : Keyword). let x : Clause = record { condition = c.condition; keyword = w; parts = command_parts command } in x) k
+    ∙ ap (λ (ps : List Part). let x : Clause = record { condition = c.condition; keyword = c.keyword; parts = ps } in x) p
+
+-- a command with these parts
+record Back (ks : List Token) (c : Clause) : Type 0 where
+  step : Step
+  made : clause_of step ≡ c
+  spells : SpellsStep ks step
+
+clause_back : (ks : List Token) (c : Clause) → SpellsClause ks c → Back ks c
+clause_back ks c h =
+    let m = made c.keyword c.parts h.7 in
+    let A : List Part → Type 0 = λ ps. SpellsArguments h.2 ps in
+    record {
+      step = record { condition = c.condition; command = m.command };
+      made = clause_made c m.command m.named m.parts;
+      spells = (h.0, h.1, h.2, h.3, h.4 ∙ ap (λ (k : Keyword). Some k) (sym m.named), h.5, subst A (sym m.parts) h.6, m.formed);
+    }
+
+clauses_back : (g c : ℕ) (ks : List Token) (cs : List Clause) → SpellsClauses g c ks cs → (ss : List Step) × (map clause_of ss ≡ cs) × SpellsSteps g c ks ss
+clauses_back g c ks [] h = ([], refl, h)
+clauses_back g c ks (x ∷ xs) h =
+    let b = clause_back h.1 x h.5 in
+    let r = clauses_back (gap_of x.parts) (comment_gap_of x.parts) h.2 xs h.6 in
+    let P : Clause → Type 0 = λ z. SpellsSteps (gap_of z.parts) (comment_gap_of z.parts) h.2 r.0 in (
+      b.step ∷ r.0,
+      ap (λ (z : Clause). z ∷ map clause_of r.0) b.made ∙ ap (λ (zs : List Clause). x ∷ zs) r.1,
+      (h.0, h.1, h.2, h.3, h.4, b.spells, subst P (sym b.made) r.2),
+    )
+
+-- a line with these commands
+pub record LineBack (ks : List Token) (l : Sentence) : Type 0 where
+  pub line : Line
+  pub made : sentence_of line ≡ l
+  pub spells : SpellsLine ks line
+
+pub sentence_back : (ks : List Token) (l : Sentence) → SpellsSentence ks l → LineBack ks l
+sentence_back ks l h =
+    let r = clauses_back 1 _ h.1 l.clauses h.4 in
+    record {
+      line = record { label = l.label; steps = r.0 };
+      made = ap (λ (cs : List Clause). let x : Sentence = record { label = l.label; clauses = cs } in x) r.1;
+      spells = (h.0, h.1, h.2, h.3, r.2);
+    }
+
+-- ---- measures
+
+nesting_same : (ss : List Step) → greatest clause_nesting (map clause_of ss) ≡ greatest step_nesting ss
+nesting_same [] = refl
+nesting_same (s ∷ ss) = ap (max (step_nesting s)) (nesting_same ss)
+
+width_same : (ss : List Step) → greatest clause_width (map clause_of ss) ≡ greatest step_width ss
+width_same [] = refl
+width_same (s ∷ ss) = ap (max (step_width s)) (width_same ss)
+
+pub line_within : (d w : ℕ) (l : Line) → IsWithin d w (sentence_of l) → IsLineWithin d w l
+line_within d w l h = record { nests = let e = nesting_same l.steps in let n = h.nests in omega arith; lists = let e = width_same l.steps in let n = h.lists in omega arith }
+
+pub sentence_within : (d w : ℕ) (l : Line) → IsLineWithin d w l → IsWithin d w (sentence_of l)
+sentence_within d w l h = record { nests = let e = nesting_same l.steps in let n = h.nests in omega arith; lists = let e = width_same l.steps in let n = h.lists in omega arith }
+
+-- ---- no two lines are spelled by the same commands
+
+step_made : (s t : Step) → s.condition ≡ t.condition → s.command ≡ t.command → s ≡ t
+step_made s t e f = ap (λ (c : Option Expr). let x : Step = record { condition = c; command = s.command } in x) e ∙ ap (λ (c : Command). let x : Step = record { condition = t.condition; command = c } in x) f
+
+head_same : {A : Type 0} {x y : A} {xs ys : List A} → x ∷ xs ≡ y ∷ ys → x ≡ y
+head_same e = cc
+
+tail_same : {A : Type 0} {x y : A} {xs ys : List A} → x ∷ xs ≡ y ∷ ys → xs ≡ ys
+tail_same e = cc
+
+step_once : (s t : Step) → is_formed s.command ≡ true → clause_of s ≡ clause_of t → s ≡ t
+step_once s t f e =
+    step_made s t (ap (λ (c : Clause). c.condition) e) (command_once s.command t.command f (ap (λ (c : Clause). c.keyword) e) (ap (λ (c : Clause). c.parts) e))
+
+steps_once : (g c : ℕ) (ks : List Token) (ss ts : List Step) → SpellsSteps g c ks ss → map clause_of ss ≡ map clause_of ts → ss ≡ ts
+steps_once g c ks [] [] h e = refl
+steps_once g c ks [] (t ∷ ts) h e = absurd (let f : [] ≡ clause_of t ∷ map clause_of ts = e in cc)
+steps_once g c ks (s ∷ ss) [] h e = absurd (let f : clause_of s ∷ map clause_of ss ≡ [] = e in cc)
+steps_once g c ks (s ∷ ss) (t ∷ ts) h e =
+    ap (λ (x : Step). x ∷ ss) (step_once s t h.5.7 (head_same e))
+    ∙ ap (λ (xs : List Step). t ∷ xs) (steps_once (gap_of (command_parts s.command)) (comment_gap_of (command_parts s.command)) h.2 ss ts h.6 (tail_same e))
+
+pub line_once : (ks : List Token) (o l : Line) → SpellsLine ks o → sentence_of o ≡ sentence_of l → o ≡ l
+line_once ks o l h e =
+    ap (λ (x : Option (List ℕ)). let z : Line = record { label = x; steps = o.steps } in z) (ap (λ (s : Sentence). s.label) e)
+    ∙ ap (λ (xs : List Step). let z : Line = record { label = l.label; steps = xs } in z) (steps_once 1 _ h.1 o.steps l.steps h.4 (ap (λ (s : Sentence). s.clauses) e))

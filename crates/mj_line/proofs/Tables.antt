@@ -1,0 +1,426 @@
+-- What is known of the table of arguments, each fact by a look at every row.
+use Rattle.std.proofs.Common.{◌≡◌, ℕ, zero, suc, ◌≤◌, nat_le, List, [], ◌∷◌, length, refl, subst, Bool, true, false, arith, Option, Some, None, ◌⊎◌, inl, inr, lit≤}
+use Rattle.std.specs.Prelude.{cond}
+use Rattle.std.proofs.lemmas.Bool.Decides.{nat_tests}
+use Rattle.std.specs.Fmt.{digits}
+use Rattle.mj_ast.specs.declared.sign.Sign.{Sign}
+use Rattle.mj_ast.specs.declared.sign.Sign.TheVariants.{Equals, Comma, Exclamation, Open, Close}
+use Rattle.mj_ast.specs.declared.expr.Scope.TheVariants.{Local}
+use Rattle.mj_ast.specs.declared.function.Function.TheVariants.{Piece}
+use Rattle.mj_ast.specs.declared.function.Callee.{Callee}
+use Rattle.mj_ast.specs.declared.function.Callee.TheVariants as callee
+use Rattle.mj_ast.specs.declared.keyword.Keyword.{Keyword}
+use Rattle.mj_ast.specs.declared.keyword.Keyword.TheVariants as keyword
+use Rattle.mj_ast.specs.Syntax.{Expr, Chain, Done, Literal, Variable, Var, No}
+use Rattle.mj_ast.specs.Tokens.{Token, Word, Called, Digits, Signed}
+use Rattle.mj_ast.specs.Expressions.{symbol, function_symbol, callee_of, Overlong, Mark, Spells, expressions}
+use Rattle.mj_ast.specs.Commands.{Part, Put, Named, PieceCall, Text, Place, SpellsPart, SpellsParts, greatest, part_nesting, part_width}
+use Rattle.mj_expr.specs.Machine as phrase
+use Rattle.mj_line.specs.Forms.{Node, SetTarget, PieceOpens, PieceVariable, PieceComma, PieceText, PieceBehind, SetBehind, SetValue, SetEnd, OutputWanted, OutputEnd, MarksEnd, KillWanted, NameWanted, NameBehind, KillEnd, MergeInto, MergeBehind, MergeFrom, MergeEnd, Want, AnExpr, AVar, piece_part, part_of, takes, wants, ends, first_node, may_be_bare, Goes, Fits}
+use Rattle.mj_line.specs.Machine.{wanted, level_of}
+
+pub none_some : {A : Type 0} (x : A) → None ≡ Some x → ⊥
+none_some x e = cc
+
+pub some_same : {A : Type 0} (x y : A) → Some x ≡ Some y → x ≡ y
+some_same x y e = cc
+
+-- ---- levels
+
+abbrev IsSmall : Option Want → Type 0
+IsSmall None = Unit {0}
+IsSmall (Some w) = level_of w ≤ 1
+
+all_small : (n : Node) → IsSmall (wants n)
+all_small (SetTarget listed) = omega arith
+all_small (PieceVariable listed) = omega arith
+all_small (PieceText listed more) = omega arith
+all_small SetValue = omega arith
+all_small OutputWanted = omega arith
+all_small (KillWanted first) = omega arith
+all_small MergeInto = omega arith
+all_small MergeFrom = omega arith
+all_small n = tt
+
+-- a command opens one level at most
+pub small : (n : Node) (w : Want) → wants n ≡ Some w → level_of w ≤ 1
+small n w e = subst IsSmall e (all_small n)
+
+-- ---- tokens
+
+abbrev pub IsTokenPart : Part → Type 0
+IsTokenPart (Text level e) = ⊥
+IsTokenPart (Place level v) = ⊥
+IsTokenPart p = Unit {0}
+
+-- what a token that is a part alone spells
+pub record Alone (t : Token) (p : Part) : Type 0 where
+  pub spells : SpellsPart (t ∷ []) p
+  pub token : IsTokenPart p
+
+word_alone : (w : List ℕ) (p : Part) (b : Bool) → nat_le (length w) 31 ≡ b → cond b (Some (Named w)) None ≡ Some p → Alone (Word w) p
+word_alone w p true h e = let P : Part → Type 0 = λ q. Alone (Word w) q in subst P (some_same (Named w) p e) (record { spells = (refl, (let s : length w ≤ 31 = grind (arith, nat_tests) in s)); token = tt })
+word_alone w p false h e = absurd (none_some p e)
+
+callee_alone : (w : List ℕ) (p : Part) (q : Option Callee) → length w ≤ 31 → callee_of w ≡ q → piece_part q ≡ Some p → Alone (Called w) p
+callee_alone w p (Some (callee.Texts Piece)) s h e = let P : Part → Type 0 = λ z. Alone (Called w) z in subst P (some_same PieceCall p e) (record { spells = (w, refl, s, h); token = tt })
+callee_alone w p q s h e = absurd (none_some p e)
+
+called_alone : (w : List ℕ) (p : Part) (b : Bool) → nat_le (length w) 31 ≡ b → cond b (piece_part (callee_of w)) None ≡ Some p → Alone (Called w) p
+called_alone w p true h e = callee_alone w p (callee_of w) (let s : length w ≤ 31 = grind (arith, nat_tests) in s) refl e
+called_alone w p false h e = absurd (none_some p e)
+
+pub alone : (t : Token) (p : Part) → part_of t ≡ Some p → Alone t p
+alone (Signed s) p e = let P : Part → Type 0 = λ q. Alone (Signed s) q in subst P (some_same (Put s) p e) (record { spells = refl; token = tt })
+alone (Word w) p e = word_alone w p (nat_le (length w) 31) refl e
+alone (Called w) p e = called_alone w p (nat_le (length w) 31) refl e
+alone t p e = absurd (none_some p e)
+
+-- a part of one token leads where it is taken
+pub token_goes : (n next : Node) (p : Part) → IsTokenPart p → takes n p ≡ Some next → Goes n p next
+token_goes n next (Put s) h e = e
+token_goes n next (Named w) h e = e
+token_goes n next PieceCall h e = e
+token_goes n next (Text level x) h e = absurd h
+token_goes n next (Place level v) h e = absurd h
+
+pub token_nesting : (p : Part) → IsTokenPart p → part_nesting p ≡ 0
+token_nesting (Put s) h = refl
+token_nesting (Named w) h = refl
+token_nesting PieceCall h = refl
+token_nesting (Text level x) h = absurd h
+token_nesting (Place level v) h = absurd h
+
+pub token_width : (p : Part) → IsTokenPart p → part_width p ≡ 0
+token_width (Put s) h = refl
+token_width (Named w) h = refl
+token_width PieceCall h = refl
+token_width (Text level x) h = absurd h
+token_width (Place level v) h = absurd h
+
+-- ---- commands without arguments
+
+abbrev IsBareThere : Keyword → Option Node → Type 0
+IsBareThere k None = may_be_bare k ≡ true
+IsBareThere k (Some n) = ends n ≡ true → may_be_bare k ≡ true
+
+false_true : {A : Type 0} → false ≡ true → A
+false_true e = absurd (let f : false ≡ true = e in cc)
+
+all_bare : (k : Keyword) → IsBareThere k (first_node k)
+all_bare keyword.Set = λ e. e
+all_bare keyword.Write = λ e. e
+all_bare keyword.Halt = refl
+all_bare keyword.Kill = λ e. refl
+all_bare keyword.Merge = λ e. e
+
+-- where the arguments may end before the first, there may be none
+pub bare_first : (k : Keyword) (n : Node) → first_node k ≡ Some n → ends n ≡ true → may_be_bare k ≡ true
+bare_first k n e = let P : Option Node → Type 0 = λ q. IsBareThere k q in subst P e (all_bare k)
+
+-- where there may be none at all, none is right
+pub bare_none : (k : Keyword) → first_node k ≡ None → may_be_bare k ≡ true
+bare_none k e = let P : Option Node → Type 0 = λ q. IsBareThere k q in subst P e (all_bare k)
+
+-- ---- what follows a phrase
+
+-- behind an expression
+abbrev pub FollowsText : Part → Type 0
+FollowsText (Put Comma) = Unit {0}
+FollowsText (Put Close) = Unit {0}
+FollowsText p = ⊥
+
+-- behind a variable
+abbrev pub FollowsPlace : Part → Type 0
+FollowsPlace (Put Equals) = Unit {0}
+FollowsPlace (Put Comma) = Unit {0}
+FollowsPlace (Put Close) = Unit {0}
+FollowsPlace p = ⊥
+
+abbrev pub FollowsWant : Want → Part → Type 0
+FollowsWant (AnExpr level next) p = FollowsText p
+FollowsWant (AVar level next) p = FollowsPlace p
+
+abbrev pub next_of : Want → Node
+next_of (AnExpr level next) = next
+next_of (AVar level next) = next
+
+piece_follows : (listed : Bool) (more : ℕ) (p : Part) (m : Node) → Goes (PieceBehind listed more) p m → FollowsText p
+piece_follows listed more (Put Comma) m e = tt
+piece_follows listed more (Put Close) m e = tt
+piece_follows listed zero p m e = absurd (none_some _ e)
+piece_follows listed (suc more) p m e = absurd (none_some _ e)
+
+set_follows : (p : Part) (m : Node) → Goes SetEnd p m → FollowsText p
+set_follows (Put Comma) m e = tt
+set_follows p m e = absurd (none_some _ e)
+
+output_follows : (p : Part) (m : Node) → Goes OutputEnd p m → FollowsText p
+output_follows (Put Comma) m e = tt
+output_follows p m e = absurd (none_some _ e)
+
+target_follows : (listed : Bool) (p : Part) (m : Node) → Goes (SetBehind listed) p m → FollowsPlace p
+target_follows listed (Put Equals) m e = tt
+target_follows listed (Put Comma) m e = tt
+target_follows listed (Put Close) m e = tt
+target_follows false p m e = absurd (none_some _ e)
+target_follows true p m e = absurd (none_some _ e)
+
+comma_follows : (listed : Bool) (p : Part) (m : Node) → Goes (PieceComma listed) p m → FollowsPlace p
+comma_follows listed (Put Comma) m e = tt
+comma_follows listed p m e = absurd (none_some _ e)
+
+kill_follows : (p : Part) (m : Node) → Goes KillEnd p m → FollowsPlace p
+kill_follows (Put Comma) m e = tt
+kill_follows p m e = absurd (none_some _ e)
+
+into_follows : (p : Part) (m : Node) → Goes MergeBehind p m → FollowsPlace p
+into_follows (Put Equals) m e = tt
+into_follows p m e = absurd (none_some _ e)
+
+from_follows : (p : Part) (m : Node) → Goes MergeEnd p m → FollowsPlace p
+from_follows (Put Comma) m e = tt
+from_follows p m e = absurd (none_some _ e)
+
+abbrev IsFollowed : Option Want → Type 0
+IsFollowed None = Unit {0}
+IsFollowed (Some w) = (p : Part) (m : Node) → Goes (next_of w) p m → FollowsWant w p
+
+all_followed : (n : Node) → IsFollowed (wants n)
+all_followed (SetTarget listed) = λ p m e. target_follows listed p m e
+all_followed (PieceVariable listed) = λ p m e. comma_follows listed p m e
+all_followed (PieceText listed more) = λ p m e. piece_follows listed more p m e
+all_followed SetValue = λ p m e. set_follows p m e
+all_followed OutputWanted = λ p m e. output_follows p m e
+all_followed (KillWanted first) = λ p m e. kill_follows p m e
+all_followed MergeInto = λ p m e. into_follows p m e
+all_followed MergeFrom = λ p m e. from_follows p m e
+all_followed n = tt
+
+-- behind a phrase stands a sign that no such phrase goes on with
+pub followed : (n : Node) (w : Want) → wants n ≡ Some w → (p : Part) (m : Node) → Goes (next_of w) p m → FollowsWant w p
+followed n w e = subst IsFollowed e (all_followed n)
+
+-- no phrase stands directly behind another
+abbrev IsShut : Option Want → Type 0
+IsShut None = Unit {0}
+IsShut (Some w) = wants (next_of w) ≡ None
+
+all_shut : (n : Node) → IsShut (wants n)
+all_shut (SetTarget listed) = refl
+all_shut (PieceVariable listed) = refl
+all_shut (PieceText listed more) = refl
+all_shut SetValue = refl
+all_shut OutputWanted = refl
+all_shut (KillWanted first) = refl
+all_shut MergeInto = refl
+all_shut MergeFrom = refl
+all_shut n = tt
+
+pub shut : (n : Node) (w : Want) → wants n ≡ Some w → wants (next_of w) ≡ None
+shut n w e = subst IsShut e (all_shut n)
+
+-- where a command may have no arguments, they may end before the first
+abbrev EndsThere : Keyword → Option Node → Type 0
+EndsThere k None = Unit {0}
+EndsThere k (Some n) = may_be_bare k ≡ true → ends n ≡ true
+
+all_ends : (k : Keyword) → EndsThere k (first_node k)
+all_ends keyword.Set = λ e. e
+all_ends keyword.Write = λ e. e
+all_ends keyword.Halt = tt
+all_ends keyword.Kill = λ e. refl
+all_ends keyword.Merge = λ e. e
+
+pub first_ends : (k : Keyword) (n : Node) → first_node k ≡ Some n → may_be_bare k ≡ true → ends n ≡ true
+first_ends k n e = let P : Option Node → Type 0 = λ q. EndsThere k q in subst P e (all_ends k)
+
+-- ---- where a phrase may begin, no other token is taken that begins one
+
+abbrev pub part_taken : Node → Option Part → Option Node
+part_taken n (Some p) = takes n p
+part_taken n None = None
+
+abbrev IsApart : phrase.Limits → Node → Token → Option Want → Type 0
+IsApart m n t None = Unit {0}
+IsApart m n t (Some w) = (phrase.step m (wanted w) (symbol t) ≡ phrase.Stuck) ⊎ (part_taken n (part_of t) ≡ None)
+
+word_apart : (n : Node) (w : List ℕ) (b : Bool) → takes n (Named w) ≡ None → part_taken n (cond b (Some (Named w)) None) ≡ None
+word_apart n w true h = h
+word_apart n w false h = refl
+
+piece_apart : (n : Node) (q : Option Callee) → takes n PieceCall ≡ None → part_taken n (piece_part q) ≡ None
+piece_apart n (Some (callee.Texts Piece)) h = h
+piece_apart n q h = refl
+
+called_apart : (n : Node) (q : Option Callee) (b : Bool) → takes n PieceCall ≡ None → part_taken n (cond b (piece_part q) None) ≡ None
+called_apart n q true h = piece_apart n q h
+called_apart n q false h = refl
+
+callee_sought : (q : Option Callee) → phrase.seek phrase.AsTarget (function_symbol q) ≡ phrase.Stuck
+callee_sought None = refl
+callee_sought (Some c) = refl
+
+called_sought : (q : Option Callee) (b : Bool) → phrase.seek phrase.AsTarget (cond b (function_symbol q) Overlong) ≡ phrase.Stuck
+called_sought q true = callee_sought q
+called_sought q false = refl
+
+-- a variable is wanted
+abbrev SignApart : phrase.Limits → Node → Sign → Type 0
+SignApart m n s = (phrase.seek phrase.AsTarget (Mark s) ≡ phrase.Stuck) ⊎ (takes n (Put s) ≡ None)
+
+place_apart : (m : phrase.Limits) (n : Node) (l : ℕ) (next : Node) (t : Token) → ((w : List ℕ) → takes n (Named w) ≡ None) → ((s : Sign) → SignApart m n s) → IsApart m n t (Some (AVar l next))
+place_apart m n l next (Word w) h i = inr (word_apart n w (nat_le (length w) 31) (h w))
+place_apart m n l next (Called w) h i = inl (called_sought (callee_of w) (nat_le (length w) 31))
+place_apart m n l next (Signed s) h i = i s
+place_apart m n l next t h i = inr refl
+
+-- an expression is wanted
+abbrev WantApart : phrase.Limits → Node → Sign → Type 0
+WantApart m n s = (phrase.want m (phrase.Front phrase.Alone) (Mark s) ≡ phrase.Stuck) ⊎ (takes n (Put s) ≡ None)
+
+text_apart : (m : phrase.Limits) (n : Node) (l : ℕ) (next : Node) (t : Token) → ((w : List ℕ) → takes n (Named w) ≡ None) → takes n PieceCall ≡ None → ((s : Sign) → WantApart m n s) → IsApart m n t (Some (AnExpr l next))
+text_apart m n l next (Word w) h j i = inr (word_apart n w (nat_le (length w) 31) (h w))
+text_apart m n l next (Called w) h j i = inr (called_apart n (callee_of w) (nat_le (length w) 31) j)
+text_apart m n l next (Signed s) h j i = i s
+text_apart m n l next t h j i = inr refl
+
+target_sign : (m : phrase.Limits) (listed : Bool) (s : Sign) → SignApart m (SetTarget listed) s
+target_sign m listed Open = inl refl
+target_sign m false s = inr refl
+target_sign m true s = inr refl
+
+kill_sign : (m : phrase.Limits) (first : Bool) (s : Sign) → SignApart m (KillWanted first) s
+kill_sign m first Open = inl refl
+kill_sign m first s = inr refl
+
+output_sign : (m : phrase.Limits) (s : Sign) → WantApart m OutputWanted s
+output_sign m Exclamation = inl refl
+output_sign m s = inr refl
+
+all_apart : (m : phrase.Limits) (n : Node) (t : Token) → IsApart m n t (wants n)
+all_apart m (SetTarget listed) t = place_apart m (SetTarget listed) 0 (SetBehind listed) t (λ w. refl) (target_sign m listed)
+all_apart m (PieceVariable listed) t = place_apart m (PieceVariable listed) 1 (PieceComma listed) t (λ w. refl) (λ s. inr refl)
+all_apart m (PieceText listed more) t = text_apart m (PieceText listed more) 1 (PieceBehind listed more) t (λ w. refl) refl (λ s. inr refl)
+all_apart m SetValue t = text_apart m SetValue 0 SetEnd t (λ w. refl) refl (λ s. inr refl)
+all_apart m OutputWanted t = text_apart m OutputWanted 0 OutputEnd t (λ w. refl) refl (output_sign m)
+all_apart m (KillWanted first) t = place_apart m (KillWanted first) 0 KillEnd t (λ w. refl) (kill_sign m first)
+all_apart m MergeInto t = place_apart m MergeInto 0 MergeBehind t (λ w. refl) (λ s. inr refl)
+all_apart m MergeFrom t = place_apart m MergeFrom 0 MergeEnd t (λ w. refl) (λ s. inr refl)
+all_apart m n t = tt
+
+pub apart : (m : phrase.Limits) (n : Node) (t : Token) (w : Want) → wants n ≡ Some w → (phrase.step m (wanted w) (symbol t) ≡ phrase.Stuck) ⊎ (part_taken n (part_of t) ≡ None)
+apart m n t w e = let P : Option Want → Type 0 = λ q. IsApart m n t q in subst P e (all_apart m n t)
+
+-- ---- a way to the end of the arguments
+
+-- parts that may follow, and how they are spelled
+pub record Finish (n : Node) : Type 0 where
+  pub parts : List Part
+  pub tokens : List Token
+  pub fits : Fits n parts
+  pub spells : SpellsParts tokens parts
+  pub nests : greatest part_nesting parts ≤ 1
+  pub lists : greatest part_width parts ≤ 0
+
+-- with a part before it
+token_before : (n next : Node) (t : Token) (p : Part) → takes n p ≡ Some next → Alone t p → Finish next → Finish n
+token_before n next t p e a f = record {
+  parts = p ∷ f.parts;
+  tokens = t ∷ f.tokens;
+  fits = (next, token_goes n next p a.token e, f.fits);
+  spells = (t ∷ [], f.tokens, refl, a.spells, f.spells);
+  nests = let i = token_nesting p a.token in let j = f.nests in omega arith;
+  lists = let i = token_width p a.token in let j = f.lists in omega arith;
+}
+
+sign_before : (n next : Node) (s : Sign) → takes n (Put s) ≡ Some next → Finish next → Finish n
+sign_before n next s e f = token_before n next (Signed s) (Put s) e (record { spells = refl; token = tt }) f
+
+-- `A` and `0`
+abbrev pub an_a : Variable
+an_a = Var Local (65 ∷ []) No
+
+abbrev pub a_zero : Expr
+a_zero = Chain (Literal (48 ∷ [])) Done
+
+place_before : (n next : Node) (l : ℕ) → l ≤ 1 → wants n ≡ Some (AVar l next) → Finish next → Finish n
+place_before n next l i e f = record {
+  parts = Place l an_a ∷ f.parts;
+  tokens = Word (65 ∷ []) ∷ f.tokens;
+  fits = (next, e, f.fits);
+  spells = (Word (65 ∷ []) ∷ [], f.tokens, refl, (refl, refl), f.spells);
+  nests = let j = f.nests in omega arith;
+  lists = let j = f.lists in omega arith;
+}
+
+pub zero_spelled : Spells expressions (Digits (48 ∷ []) ∷ []) a_zero
+unfolding digits
+zero_spelled = (refl, refl)
+
+text_before : (n next : Node) (l : ℕ) → l ≤ 1 → wants n ≡ Some (AnExpr l next) → Finish next → Finish n
+text_before n next l i e f = record {
+  parts = Text l a_zero ∷ f.parts;
+  tokens = Digits (48 ∷ []) ∷ f.tokens;
+  fits = (next, e, f.fits);
+  spells = (Digits (48 ∷ []) ∷ [], f.tokens, refl, zero_spelled, f.spells);
+  nests = let j = f.nests in omega arith;
+  lists = let j = f.lists in omega arith;
+}
+
+at_end : (n : Node) → ends n ≡ true → Finish n
+at_end n e = record { parts = []; tokens = []; fits = e; spells = refl; nests = omega arith; lists = omega arith }
+
+value_finish : Finish SetValue
+value_finish = text_before SetValue SetEnd 0 (omega arith) refl (at_end SetEnd refl)
+
+behind_finish : (listed : Bool) → Finish (SetBehind listed)
+behind_finish false = sign_before (SetBehind false) SetValue Equals refl value_finish
+behind_finish true = sign_before (SetBehind true) (SetBehind false) Close refl (sign_before (SetBehind false) SetValue Equals refl value_finish)
+
+closes : (listed : Bool) (more : ℕ) → takes (PieceBehind listed more) (Put Close) ≡ Some (SetBehind listed)
+closes listed zero = refl
+closes listed (suc more) = refl
+
+piece_finish : (listed : Bool) (more : ℕ) → Finish (PieceBehind listed more)
+piece_finish listed more = sign_before (PieceBehind listed more) (SetBehind listed) Close (closes listed more) (behind_finish listed)
+
+text_finish : (listed : Bool) (more : ℕ) → Finish (PieceText listed more)
+text_finish listed more = text_before (PieceText listed more) (PieceBehind listed more) 1 (omega arith) refl (piece_finish listed more)
+
+comma_finish : (listed : Bool) → Finish (PieceComma listed)
+comma_finish listed = sign_before (PieceComma listed) (PieceText listed 2) Comma refl (text_finish listed 2)
+
+variable_finish : (listed : Bool) → Finish (PieceVariable listed)
+variable_finish listed = place_before (PieceVariable listed) (PieceComma listed) 1 (omega arith) refl (comma_finish listed)
+
+kill_closes : Finish NameBehind
+kill_closes = sign_before NameBehind KillEnd Close refl (at_end KillEnd refl)
+
+from_finish : Finish MergeFrom
+from_finish = place_before MergeFrom MergeEnd 0 (omega arith) refl (at_end MergeEnd refl)
+
+into_finish : Finish MergeBehind
+into_finish = sign_before MergeBehind MergeFrom Equals refl from_finish
+
+pub finish : (n : Node) → Finish n
+finish (SetTarget listed) = place_before (SetTarget listed) (SetBehind listed) 0 (omega arith) refl (behind_finish listed)
+finish (PieceOpens listed) = sign_before (PieceOpens listed) (PieceVariable listed) Open refl (variable_finish listed)
+finish (PieceVariable listed) = variable_finish listed
+finish (PieceComma listed) = comma_finish listed
+finish (PieceText listed more) = text_finish listed more
+finish (PieceBehind listed more) = piece_finish listed more
+finish (SetBehind listed) = behind_finish listed
+finish SetValue = value_finish
+finish SetEnd = at_end SetEnd refl
+finish OutputWanted = text_before OutputWanted OutputEnd 0 (omega arith) refl (at_end OutputEnd refl)
+finish OutputEnd = at_end OutputEnd refl
+finish MarksEnd = at_end MarksEnd refl
+finish (KillWanted first) = place_before (KillWanted first) KillEnd 0 (omega arith) refl (at_end KillEnd refl)
+finish NameWanted = token_before NameWanted NameBehind (Word (65 ∷ [])) (Named (65 ∷ [])) refl (record { spells = (refl, lit≤ tt); token = tt }) kill_closes
+finish NameBehind = kill_closes
+finish KillEnd = at_end KillEnd refl
+finish MergeInto = place_before MergeInto MergeBehind 0 (omega arith) refl into_finish
+finish MergeBehind = into_finish
+finish MergeFrom = from_finish
+finish MergeEnd = at_end MergeEnd refl

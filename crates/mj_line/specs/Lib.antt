@@ -1,0 +1,4 @@
+pub mod Forms
+pub mod Sentences
+pub mod Machine
+pub mod Said

@@ -1,0 +1,268 @@
+-- Reads the tokens of a line from the left, one at a time: what was read, and what may come next.
+use Rattle.std.specs.Prelude.{ℕ, ◌-◌, ◌==◌, nat_le, Bool, if◌then◌else◌, List, [], ◌∷◌, ◌++◌, length, Option, Some, None}
+use Rattle.mj_ast.specs.declared.sign.Sign.TheVariants.{Colon}
+use Rattle.mj_ast.specs.declared.keyword.Keyword.{Keyword}
+use Rattle.mj_ast.specs.Syntax.{Expr}
+use Rattle.mj_ast.specs.Tokens.{Token, Word, Called, Special, Digits, Signed, Blank, Comment}
+use Rattle.mj_ast.specs.Expressions.{symbol, name_limit}
+use Rattle.mj_ast.specs.Commands.{Part, Text, Place, keyword_of}
+use Rattle.mj_expr.specs.Machine as phrase
+use Rattle.mj_line.specs.Forms.{Node, Want, AnExpr, AVar, part_of, takes, wants, ends, first_node, may_be_bare}
+use Rattle.mj_line.specs.Sentences.{Clause, Sentence}
+
+-- ---- spots between phrases
+
+-- What was read of a line, and how many blanks have to stand before another command, and before a comment.
+pub record Rest : Type 0 where
+  pub line : Sentence
+  pub gap : ℕ
+  pub comment : ℕ
+
+pub data Spot : Type 0 where
+  -- nothing was read
+  Begin : Spot
+  -- a label was read, or a command and what ends it, and blanks
+  Behind : (r : Rest) → Spot
+  -- a comment was read
+  Over : (l : Sentence) → Spot
+  -- the word of a command was read
+  Worded : (l : Sentence) (keyword : Keyword) → Spot
+  -- and the colon of a postcondition
+  Asked : (l : Sentence) (keyword : Keyword) → Spot
+  -- its postcondition was read too, if it has one
+  Bare : (l : Sentence) (condition : Option Expr) (keyword : Keyword) → Spot
+  -- and a blank, and parts of arguments up to a place in them
+  Args : (l : Sentence) (condition : Option Expr) (keyword : Keyword) (done : List Part) (n : Node) → Spot
+
+-- what a phrase is read for: a postcondition, or an argument
+pub data Goal : Type 0 where
+  Condition : (l : Sentence) (keyword : Keyword) → Goal
+  Argument : (l : Sentence) (condition : Option Expr) (keyword : Keyword) (done : List Part) (w : Want) → Goal
+
+pub data State : Type 0 where
+  At : (p : Spot) → State
+  -- inside a phrase
+  In : (g : Goal) (s : phrase.State) → State
+
+-- no line was read
+abbrev pub empty_line : Sentence
+empty_line = record { label = None; clauses = [] }
+
+-- a line of a label alone, or of nothing
+abbrev pub bare_line : Option (List ℕ) → Sentence
+bare_line label = record { label = label; clauses = [] }
+
+abbrev pub labelled : List ℕ → Sentence
+labelled label = record { label = Some label; clauses = [] }
+
+abbrev pub clause : Option Expr → Keyword → List Part → Clause
+clause condition keyword parts = record { condition = condition; keyword = keyword; parts = parts }
+
+-- with another command
+abbrev pub with_clause : Sentence → Clause → Sentence
+with_clause l c = record { label = l.label; clauses = l.clauses ++ c ∷ [] }
+
+-- behind a command without arguments
+abbrev pub bare_rest : Sentence → Option Expr → Keyword → Rest
+bare_rest l condition k = record { line = with_clause l (clause condition k []); gap = 2; comment = 1 }
+
+-- behind its arguments, or behind one blank where there are none
+abbrev pub args_rest : Sentence → Option Expr → Keyword → List Part → Rest
+args_rest l condition k done = record { line = with_clause l (clause condition k done); gap = 1; comment = 0 }
+
+-- where an expression is wanted, and where a variable is
+abbrev pub expression_wanted : phrase.State
+expression_wanted = phrase.Wanted (phrase.Front phrase.Alone)
+
+abbrev pub variable_wanted : phrase.State
+variable_wanted = phrase.Sought phrase.AsTarget
+
+abbrev pub wanted : Want → phrase.State
+wanted (AnExpr level next) = expression_wanted
+wanted (AVar level next) = variable_wanted
+
+-- the beginning of a phrase that is read for this
+abbrev pub start : Goal → phrase.State
+start (Condition l k) = expression_wanted
+start (Argument l condition k done w) = wanted w
+
+-- how many levels are open around it
+abbrev pub level_of : Want → ℕ
+level_of (AnExpr level next) = level
+level_of (AVar level next) = level
+
+abbrev pub level : Goal → ℕ
+level (Condition l k) = 0
+level (Argument l condition k done w) = level_of w
+
+-- the limits inside them
+abbrev pub inside : phrase.Limits → ℕ → phrase.Limits
+inside m n = record { depth = m.depth - n; width = m.width }
+
+-- the spot behind a phrase that was read for this; a phrase of another kind is none
+abbrev pub behind_want : Sentence → Option Expr → Keyword → List Part → Want → phrase.Phrase → Spot
+behind_want l condition k done (AnExpr level next) (phrase.Whole e) = Args l condition k (done ++ Text level e ∷ []) next
+behind_want l condition k done (AVar level next) (phrase.Target v) = Args l condition k (done ++ Place level v ∷ []) next
+behind_want l condition k done w p = Begin
+
+abbrev pub behind : Goal → phrase.Phrase → Spot
+behind (Condition l k) (phrase.Whole e) = Bare l (Some e) k
+behind (Condition l k) p = Begin
+behind (Argument l condition k done w) p = behind_want l condition k done w p
+
+abbrev pub bare_rested : Bool → Rest → Option Rest
+bare_rested b r = if b then Some r else None
+
+-- what the spot is where a command may end there, or none was begun
+abbrev pub rested : Spot → Option Rest
+rested Begin = Some (record { line = empty_line; gap = 1; comment = 0 })
+rested (Behind r) = Some r
+rested (Over l) = None
+rested (Worded l k) = bare_rested (may_be_bare k) (bare_rest l None k)
+rested (Asked l k) = None
+rested (Bare l condition k) = bare_rested (may_be_bare k) (bare_rest l condition k)
+rested (Args l condition k done n) = bare_rested (ends n) (args_rest l condition k done)
+
+-- what a phrase may be read for there
+abbrev pub argument : Sentence → Option Expr → Keyword → List Part → Option Want → Option Goal
+argument l condition k done (Some w) = Some (Argument l condition k done w)
+argument l condition k done None = None
+
+abbrev pub entry : Spot → Option Goal
+entry (Asked l k) = Some (Condition l k)
+entry (Args l condition k done n) = argument l condition k done (wants n)
+entry p = None
+
+-- ---- steps
+
+pub data Next : Type 0 where
+  Go : (s : State) → Next
+  Stuck : Next
+  Deep : Next
+  Long : Next
+
+-- the arguments of a command, if it may have some
+abbrev pub opened : Sentence → Option Expr → Keyword → Option Node → Next
+opened l condition k (Some n) = Go (At (Args l condition k [] n))
+opened l condition k None = Stuck
+
+abbrev pub arguments : Sentence → Option Expr → Keyword → Next
+arguments l condition k = opened l condition k (first_node k)
+
+-- behind a part of one token
+abbrev pub moved : Sentence → Option Expr → Keyword → List Part → Option Node → Next
+moved l condition k done (Some n) = Go (At (Args l condition k done n))
+moved l condition k done None = Stuck
+
+abbrev pub taken : Sentence → Option Expr → Keyword → List Part → Node → Option Part → Next
+taken l condition k done n (Some p) = moved l condition k (done ++ p ∷ []) (takes n p)
+taken l condition k done n None = Stuck
+
+-- the tokens that only this spot goes on with
+abbrev pub own : Spot → Token → Next
+own Begin (Word w) = if nat_le (length w) name_limit then Go (At (Behind (record { line = labelled w; gap = 1; comment = 1 }))) else Stuck
+own Begin (Digits d) = Go (At (Behind (record { line = labelled d; gap = 1; comment = 1 })))
+own (Worded l k) (Signed Colon) = Go (At (Asked l k))
+own (Worded l k) Blank = arguments l None k
+own (Bare l condition k) Blank = arguments l condition k
+own (Args l condition k done n) t = taken l condition k done n (part_of t)
+own p k = Stuck
+
+-- a command begins
+abbrev pub begins : Sentence → Option Keyword → Next
+begins l (Some k) = Go (At (Worded l k))
+begins l None = Stuck
+
+-- behind a command
+abbrev pub on : Rest → Token → Next
+on r Blank = Go (At (Behind (record { line = r.line; gap = r.gap - 1; comment = r.comment - 1 })))
+on r (Comment text) = if r.comment == 0 then Go (At (Over r.line)) else Stuck
+on r (Word w) = if r.gap == 0 then begins r.line (keyword_of w) else Stuck
+on r k = Stuck
+
+abbrev pub on_rested : Option Rest → Token → Next
+on_rested (Some r) k = on r k
+on_rested None k = Stuck
+
+-- the first that goes on
+abbrev pub first : Next → Next → Next
+first Stuck n = n
+first n m = n
+
+-- between phrases
+abbrev pub spot_step : Spot → Token → Next
+spot_step p k = first (own p k) (on_rested (rested p) k)
+
+-- behind a phrase that is whole
+abbrev pub behind_step : Goal → phrase.Outcome → Token → Next
+behind_step g (phrase.Accept p rest) k = spot_step (behind g p) k
+behind_step g o k = Stuck
+
+-- inside a phrase, as the phrase steps
+abbrev pub phrase_step : Goal → phrase.State → Token → phrase.Next → Next
+phrase_step g s k (phrase.Go t) = Go (In g t)
+phrase_step g s k phrase.Stuck = behind_step g (phrase.finish s []) k
+phrase_step g s k phrase.Deep = Deep
+phrase_step g s k phrase.Long = Long
+
+abbrev pub in_step : phrase.Limits → Goal → phrase.State → Token → Next
+in_step m g s k = phrase_step g s k (phrase.step (inside m (level g)) s (symbol k))
+
+-- a phrase begins, if one may
+abbrev pub entering : phrase.Limits → Option Goal → Token → Next
+entering m (Some g) k = in_step m g (start g) k
+entering m None k = Stuck
+
+abbrev pub step : phrase.Limits → State → Token → Next
+step m (At p) k = first (spot_step p k) (entering m (entry p) k)
+step m (In g s) k = in_step m g s k
+
+-- ---- runs
+
+pub data Outcome : Type 0 where
+  Accept : (l : Sentence) → Outcome
+  -- how many tokens are left where none goes on
+  StuckAt : (left : ℕ) → Outcome
+  -- how many are left where a level too many opens
+  DeepAt : (left : ℕ) → Outcome
+  -- a word or a list is too long
+  TooLong : Outcome
+
+-- no line goes on here
+abbrev pub refused : List Token → Outcome
+refused [] = StuckAt 0
+refused (Word w ∷ ks) = if nat_le (length w) name_limit then StuckAt (length (Word w ∷ ks)) else TooLong
+refused (Called w ∷ ks) = if nat_le (length w) name_limit then StuckAt (length (Called w ∷ ks)) else TooLong
+refused (Special w ∷ ks) = if nat_le (length w) name_limit then StuckAt (length (Special w ∷ ks)) else TooLong
+refused (k ∷ ks) = StuckAt (length (k ∷ ks))
+
+-- where the tokens end
+abbrev pub ended_at : Option Rest → Outcome
+ended_at (Some r) = Accept r.line
+ended_at None = StuckAt 0
+
+abbrev pub ended_spot : Spot → Outcome
+ended_spot (Over l) = Accept l
+ended_spot p = ended_at (rested p)
+
+abbrev pub ended_behind : Goal → phrase.Outcome → Outcome
+ended_behind g (phrase.Accept p rest) = ended_spot (behind g p)
+ended_behind g o = StuckAt 0
+
+abbrev pub ended : State → Outcome
+ended (At p) = ended_spot p
+ended (In g s) = ended_behind g (phrase.finish s [])
+
+abbrev pub goes : (State → Outcome) → Outcome → ℕ → Next → Outcome
+goes run out left (Go s) = run s
+goes run out left Stuck = out
+goes run out left Deep = DeepAt left
+goes run out left Long = TooLong
+
+abbrev pub run : phrase.Limits → List Token → State → Outcome
+run m [] s = ended s
+run m (k ∷ ks) s = goes (run m ks) (refused (k ∷ ks)) (length (k ∷ ks)) (step m s k)
+
+-- one step, and on
+abbrev pub turn : phrase.Limits → List Token → Token → Next → Outcome
+turn m ks k x = goes (run m ks) (refused (k ∷ ks)) (length (k ∷ ks)) x

@@ -1,0 +1,60 @@
+-- Lines by the parts of their commands, and how they are spelled.
+use Rattle.std.specs.Prelude.{◌≡◌, ℕ, ◌≤◌, max, List, [], ◌∷◌, ◌++◌, Option, Some, replicate, map}
+use Rattle.mj_ast.specs.declared.keyword.Keyword.{Keyword}
+use Rattle.mj_ast.specs.Syntax.{Expr, Step, Line}
+use Rattle.mj_ast.specs.Tokens.{Token, Word, Blank}
+use Rattle.mj_ast.specs.Expressions.{expr_nesting, expr_width}
+use Rattle.mj_ast.specs.Commands.{Part, keyword_of, keyword_for, command_parts, SpellsCondition, SpellsArguments, gap_of, comment_gap_of, greatest, part_nesting, part_width, condition_measure}
+use Rattle.mj_ast.specs.Lines.{SpellsEnd, SpellsLabel, comment_gap}
+use Rattle.mj_line.specs.Forms.{IsForm}
+
+-- a command: its postcondition, its word and the parts of its arguments
+pub record Clause : Type 0 where
+  pub condition : Option Expr
+  pub keyword : Keyword
+  pub parts : List Part
+
+-- a line of them
+pub record Sentence : Type 0 where
+  pub label : Option (List ℕ)
+  pub clauses : List Clause
+
+abbrev pub SpellsClause : List Token → Clause → Type 0
+SpellsClause ks c =
+    (word : List ℕ) × (condition : List Token) × (arguments : List Token)
+    × (ks ≡ Word word ∷ (condition ++ arguments)) × (keyword_of word ≡ Some c.keyword)
+    × SpellsCondition condition c.condition × SpellsArguments arguments c.parts × IsForm c.keyword c.parts
+
+abbrev pub SpellsClauses : ℕ → ℕ → List Token → List Clause → Type 0
+SpellsClauses g c ks [] = SpellsEnd c ks
+SpellsClauses g c ks (x ∷ xs) =
+    (n : ℕ) × (front : List Token) × (rest : List Token)
+    × (g ≤ n) × (ks ≡ replicate n Blank ++ (front ++ rest)) × SpellsClause front x
+    × SpellsClauses (gap_of x.parts) (comment_gap_of x.parts) rest xs
+
+abbrev pub SpellsSentence : List Token → Sentence → Type 0
+SpellsSentence ks l =
+    (front : List Token) × (rest : List Token)
+    × (ks ≡ front ++ rest) × SpellsLabel front l.label × SpellsClauses 1 (comment_gap l.label) rest l.clauses
+
+-- ---- lines as trees
+
+-- a command by its parts
+abbrev pub clause_of : Step → Clause
+clause_of s = record { condition = s.condition; keyword = keyword_for s.command; parts = command_parts s.command }
+
+abbrev pub sentence_of : Line → Sentence
+sentence_of l = record { label = l.label; clauses = map clause_of l.steps }
+
+-- ---- limits
+
+abbrev pub clause_nesting : Clause → ℕ
+clause_nesting c = max (condition_measure expr_nesting c.condition) (greatest part_nesting c.parts)
+
+abbrev pub clause_width : Clause → ℕ
+clause_width c = max (condition_measure expr_width c.condition) (greatest part_width c.parts)
+
+-- no expression nests deeper, and no list of subscripts is longer
+pub record IsWithin (depth width : ℕ) (l : Sentence) : Type 0 where
+  pub nests : greatest clause_nesting l.clauses ≤ depth
+  pub lists : greatest clause_width l.clauses ≤ width
