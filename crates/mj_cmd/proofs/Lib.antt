@@ -1,9 +1,3 @@
-pub mod Leaves
-pub mod Good
-pub mod Facts
-pub mod Ends
-pub mod Complete
-pub mod Commas
 pub mod Said
 pub mod Follow
 pub mod Words

@@ -1,7 +1,9 @@
 -- What stands in front of the tokens.
-use Rattle.std.specs.Prelude.{ℕ, ◌≤◌, Bool, true, false, List, [], ◌∷◌, length}
-use Rattle.mj_ast.specs.Expressions.{text_limit}
-use Rattle.mj_ast.specs.declared.sign.Sign.TheVariants.{Equals, Comma, Colon, Exclamation}
+use Rattle.std.specs.Prelude.{ℕ, ◌≡◌, ◌≤◌, Bool, true, false, List, [], ◌∷◌, length, Some}
+use Rattle.mj_ast.specs.Expressions.{name_limit, text_limit}
+use Rattle.mj_ast.specs.Commands.{PieceCall}
+use Rattle.mj_line.specs.Forms.{part_of}
+use Rattle.mj_ast.specs.declared.sign.Sign.TheVariants.{Equals, Comma, Colon, Exclamation, Open, Close}
 use Rattle.mj_ast.specs.Tokens.{Token, Word, Digits, Signed, Blank, Comment}
 
 -- such a token doesn't
@@ -16,6 +18,24 @@ HasNoEquals ks = Unit {0}
 abbrev pub HasNoColon : List Token → Type 0
 HasNoColon (Signed Colon ∷ ks) = ⊥
 HasNoColon ks = Unit {0}
+
+abbrev pub HasNoOpen : List Token → Type 0
+HasNoOpen (Signed Open ∷ ks) = ⊥
+HasNoOpen ks = Unit {0}
+
+abbrev pub HasNoClose : List Token → Type 0
+HasNoClose (Signed Close ∷ ks) = ⊥
+HasNoClose ks = Unit {0}
+
+-- `$PIECE` with a `(` behind it
+abbrev pub HasNoPiece : List Token → Type 0
+HasNoPiece (k ∷ ks) = part_of k ≡ Some PieceCall → ⊥
+HasNoPiece [] = Unit {0}
+
+-- a word of a length that a name may have
+abbrev pub HasNoName : List Token → Type 0
+HasNoName (Word w ∷ ks) = length w ≤ name_limit → ⊥
+HasNoName ks = Unit {0}
 
 abbrev pub HasNoMark : List Token → Type 0
 HasNoMark (Signed Exclamation ∷ ks) = ⊥

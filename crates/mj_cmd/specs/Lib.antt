@@ -1,5 +1,5 @@
-pub mod Machine
 pub mod Reads
 pub mod Heads
 pub mod Said
 pub mod Words
+pub mod Parts

@@ -36,5 +36,17 @@ pub fn keyword_of(word: &[u8]) -> Option<Keyword>
     if is_spelled(word, b"H") {
         return Some(Keyword::Halt);
     }
+    if is_spelled(word, b"KILL") {
+        return Some(Keyword::Kill);
+    }
+    if is_spelled(word, b"K") {
+        return Some(Keyword::Kill);
+    }
+    if is_spelled(word, b"MERGE") {
+        return Some(Keyword::Merge);
+    }
+    if is_spelled(word, b"M") {
+        return Some(Keyword::Merge);
+    }
     None
 }

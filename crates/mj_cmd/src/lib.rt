@@ -6,8 +6,11 @@
 
 mod command;
 mod keyword;
+mod kill;
 mod lines;
 mod parts;
 mod phrase;
+mod set;
+mod write;
 
 pub use lines::line;

@@ -1,13 +1,12 @@
 // Lines.
 
 ghost use Rattle.std.specs.Prelude.{◌≡◌, ◌++◌, ◌<◌, ◌≤◌, Bool, IfErr, IfOk, MatchOption, length, map};
-ghost use Rattle.mj_ast.specs.Syntax as tree;
 ghost use Rattle.mj_ast.specs.Lines.{comment_gap};
 ghost use Rattle.mj_ast.specs.Trees.{line_of, step_of};
 ghost use Rattle.mj_expr.specs.Machine.{Limits};
-ghost use Rattle.mj_expr.specs.declared.stop.Stop.TheVariants.{Memory};
 ghost use Rattle.mj_lex.specs.Seen.{tokens_seen};
-ghost use Rattle.mj_cmd.specs.Machine.{At, Begin, Behind, bare_line};
+ghost use Rattle.mj_line.specs.Machine.{At, Begin, Behind, bare_line};
+ghost use Rattle.mj_line.specs.Sentences.{Sentence, clause_of, sentence_of};
 ghost use Rattle.mj_cmd.specs.Heads.{HasNoBlank, HasNoWord, HasParted, IsLabelShort, label_gap};
 ghost use Rattle.mj_cmd.specs.Reads.{HasRoom, Reads, Ends, no_tree};
 ghost use Rattle.mj_ast.specs.Lines.{HasOverlong};
@@ -15,6 +14,7 @@ ghost use Rattle.mj_cmd.specs.Said.{IsLate, IsRead, IsRefused};
 
 use crate::command::step;
 use crate::keyword::keyword_of;
+use crate::kill::word_text;
 use crate::parts::{WORD_LIMIT, behind_blank, behind_blanks, behind_word, parted, stuck};
 use crate::phrase::Phrases;
 use mj_ast::{Line, Step};
@@ -22,18 +22,6 @@ use mj_expr::Stop;
 use mj_lex::{Lexeme, Token, next};
 use mj_text::Text;
 use std::alloc::Global;
-
-/// A label as a text.
-fn label_text(alloc: Global, bytes: &[u8]) -> Result<Text, Stop>
-    requires { length bytes.now ≤ 32767 }
-    ensures ok { IfOk result (λ t. t ≡ bytes.now) }
-    ensures memory { IfErr result (λ e. e ≡ Memory) }
-{
-    match Text::from(alloc, bytes) {
-        Ok(text) => Ok(text),
-        Err(_) => Err(Stop::Memory),
-    }
-}
 
 /// A label, if one stands in front, and what follows it.
 fn label<'a, 't>(
@@ -49,14 +37,14 @@ fn label<'a, 't>(
         Some((token, rest)) => match token {
             Token::Word(word) => {
                 if word.len() <= WORD_LIMIT {
-                    let text = label_text(alloc, word)?;
+                    let text = word_text(alloc, word)?;
                     Ok((Some(text), rest))
                 } else {
                     Err(Stop::Long)
                 }
             }
             Token::Digits(digits) => {
-                let text = label_text(alloc, digits)?;
+                let text = word_text(alloc, digits)?;
                 Ok((Some(text), rest))
             }
             _ => Ok((None, tokens)),
@@ -68,7 +56,7 @@ fn label<'a, 't>(
 fn behind_label<'a, 't>(labelled: bool, tokens: &'t [Lexeme<'a>]) -> Result<&'t [Lexeme<'a>], Stop>
     ensures same { IfOk result (λ x. x.now ≡ tokens.now) }
     ensures parted { IfOk result (λ x. HasParted (tokens_seen x.now)) }
-    ensures reads { (m : Limits) → (limited : Bool) → (o : tree.Line) → Reads limited (λ _. no_tree) (λ x. x.now) result m tokens.now (At (Behind (record { line = o; gap = 1; comment = label_gap labelled }))) (λ _. At (Behind (record { line = o; gap = 1; comment = 0 }))) }
+    ensures reads { (m : Limits) → (limited : Bool) → (o : Sentence) → Reads limited (λ _. no_tree) (λ x. x.now) result m tokens.now (At (Behind (record { line = o; gap = 1; comment = label_gap labelled }))) (λ _. At (Behind (record { line = o; gap = 1; comment = 0 }))) }
 {
     if !labelled {
         return parted(tokens);
@@ -86,7 +74,7 @@ fn behind_label<'a, 't>(labelled: bool, tokens: &'t [Lexeme<'a>]) -> Result<&'t 
 fn ended(tokens: &[Lexeme]) -> Result<(), Stop>
     requires word { HasNoWord (tokens_seen tokens.now) }
     requires blank { HasNoBlank (tokens_seen tokens.now) }
-    ensures { (m : Limits) → (limited : Bool) → (o : tree.Line) → Ends limited (λ _. no_tree) result m tokens.now (At (Behind (record { line = o; gap = 0; comment = 0 }))) (λ _. o) }
+    ensures { (m : Limits) → (limited : Bool) → (o : Sentence) → Ends limited (λ _. no_tree) result m tokens.now (At (Behind (record { line = o; gap = 0; comment = 0 }))) (λ _. o) }
 {
     match next(tokens) {
         None => Ok(()),
@@ -106,7 +94,7 @@ fn ended(tokens: &[Lexeme]) -> Result<(), Stop>
 /// The commands behind the blanks in front, up to a comment or the line's end.
 fn steps(phrases: Phrases, tokens: &[Lexeme]) -> Result<Vec<Step>, Stop>
     requires { HasParted (tokens_seen tokens.now) }
-    ensures { (m : Limits) → HasRoom phrases.limited m tokens.now → (o : tree.Line) → Ends phrases.limited (λ v. map step_of v.items) result m tokens.now (At (Behind (record { line = o; gap = 1; comment = 0 }))) (λ ss. record { label = o.label; steps = o.steps ++ ss }) }
+    ensures { (m : Limits) → HasRoom phrases.limited m tokens.now → (o : Sentence) → Ends phrases.limited (λ v. map clause_of (map step_of v.items)) result m tokens.now (At (Behind (record { line = o; gap = 1; comment = 0 }))) (λ ss. record { label = o.label; clauses = o.clauses ++ ss }) }
 {
     let mut steps = Vec::new(phrases.alloc);
     let (_, mut rest) = behind_blanks(tokens);
@@ -130,7 +118,7 @@ fn steps(phrases: Phrases, tokens: &[Lexeme]) -> Result<Vec<Step>, Stop>
 /// The line that the tokens spell, its phrases read in this way.
 fn line_by(phrases: Phrases, tokens: &[Lexeme]) -> Result<Line, Stop>
     requires { IsLabelShort (tokens_seen tokens.now) }
-    ensures { (m : Limits) → HasRoom phrases.limited m tokens.now → Ends phrases.limited (λ l. line_of l) result m tokens.now (At Begin) (λ l. l) }
+    ensures { (m : Limits) → HasRoom phrases.limited m tokens.now → Ends phrases.limited (λ l. sentence_of (line_of l)) result m tokens.now (At Begin) (λ l. l) }
 {
     let (label, rest) = label(phrases.alloc, tokens)?;
     let rest = behind_label(label.is_some(), rest)?;

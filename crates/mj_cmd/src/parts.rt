@@ -1,16 +1,18 @@
 // What commands and lines are made of: single tokens, blanks, and where a command may end.
 
-ghost use Rattle.std.specs.Prelude.{◌≡◌, ◌∷◌, ◌++◌, ◌+◌, ◌<◌, ◌≤◌, Bool, IfErr, IfOk, MatchOption, length, nat_le, if◌then◌else◌, replicate, ℕ};
+ghost use Rattle.std.specs.Prelude.{◌≡◌, List, Some, false, true, ◌∷◌, ◌++◌, ◌+◌, ◌<◌, ◌≤◌, Bool, IfErr, IfOk, MatchOption, length, nat_le, if◌then◌else◌, replicate, ℕ};
 ghost use Rattle.mj_expr.specs.declared.stop.Stop.TheVariants.{Stuck, Long};
-ghost use Rattle.mj_ast.specs.Tokens.{Blank, Signed, Word};
-ghost use Rattle.mj_ast.specs.declared.sign.Sign.TheVariants.{Colon, Comma, Equals, Exclamation};
+ghost use Rattle.mj_ast.specs.Tokens.{Blank, Called, Signed, Word};
+ghost use Rattle.mj_ast.specs.Commands.{PieceCall};
+ghost use Rattle.mj_line.specs.Forms.{part_of};
+ghost use Rattle.mj_ast.specs.declared.sign.Sign.TheVariants.{Close, Colon, Comma, Equals, Exclamation, Open};
 ghost use Rattle.mj_lex.specs.Seen.{tokens_seen};
-ghost use Rattle.mj_cmd.specs.Machine.{refused};
+ghost use Rattle.mj_line.specs.Machine.{refused};
 ghost use Rattle.mj_cmd.specs.Reads.{Refuses};
-ghost use Rattle.mj_cmd.specs.Heads.{HasNoBlank, HasNoColon, HasNoComma, HasNoEquals, HasNoMark, HasNoWord, HasOther, HasParted};
+ghost use Rattle.mj_cmd.specs.Heads.{HasNoBlank, HasNoClose, HasNoColon, HasNoComma, HasNoEquals, HasNoMark, HasNoName, HasNoOpen, HasNoPiece, HasNoWord, HasOther, HasParted};
 
-use mj_ast::Sign;
-use mj_expr::Stop;
+use mj_ast::{Callee, Function, Sign};
+use mj_expr::{Stop, callee};
 use mj_lex::{Lexeme, Token, next};
 
 /// The most bytes of a word.
@@ -45,6 +47,73 @@ pub fn behind_word<'a, 't>(tokens: &'t [Lexeme<'a>]) -> Option<(&'a [u8], &'t [L
 {
     match next(tokens) {
         Some((Token::Word(word), rest)) => Some((word, rest)),
+        _ => None,
+    }
+}
+
+/// The word of a length that a name may have in front, and what follows it.
+pub fn behind_name<'a, 't>(tokens: &'t [Lexeme<'a>]) -> Option<(&'a [u8], &'t [Lexeme<'a>])>
+    ensures { MatchOption result (HasNoName (tokens_seen tokens.now)) (λ x. (tokens_seen tokens.now ≡ Word x.0.now ∷ tokens_seen x.1.now) × (length x.0.now ≤ 31) × (length x.1.now < length tokens.now)) }
+{
+    match behind_word(tokens) {
+        None => None,
+        Some((word, rest)) => {
+            if word.len() <= WORD_LIMIT {
+                return Some((word, rest));
+            }
+            None
+        }
+    }
+}
+
+/// Whether the `$` word is that of `$PIECE`.
+fn is_piece(word: &[u8]) -> bool
+    ensures yes { result ≡ true → part_of (Called word.now) ≡ Some PieceCall }
+    ensures no { result ≡ false → part_of (Called word.now) ≡ Some PieceCall → ⊥ }
+{
+    if word.len() > WORD_LIMIT {
+        return false;
+    }
+    match callee(word) {
+        Some(Callee::Texts(Function::Piece)) => true,
+        _ => false,
+    }
+}
+
+/// What follows `$PIECE`, if it stands in front with a `(` behind it.
+pub fn behind_piece<'a, 't>(tokens: &'t [Lexeme<'a>]) -> Option<&'t [Lexeme<'a>]>
+    ensures { MatchOption result (HasNoPiece (tokens_seen tokens.now)) (λ x. (word : List ℕ) × (tokens_seen tokens.now ≡ Called word ∷ tokens_seen x.now) × (part_of (Called word) ≡ Some PieceCall) × (length x.now < length tokens.now)) }
+{
+    match next(tokens) {
+        None => None,
+        Some((token, rest)) => match token {
+            Token::Called(word) => {
+                if is_piece(word) {
+                    return Some(rest);
+                }
+                None
+            }
+            _ => None,
+        },
+    }
+}
+
+/// What follows a `(`, if it stands in front.
+pub fn behind_open<'a, 't>(tokens: &'t [Lexeme<'a>]) -> Option<&'t [Lexeme<'a>]>
+    ensures { MatchOption result (HasNoOpen (tokens_seen tokens.now)) (λ x. (tokens_seen tokens.now ≡ Signed Open ∷ tokens_seen x.now) × (length x.now < length tokens.now)) }
+{
+    match next(tokens) {
+        Some((Token::Sign(Sign::Open), rest)) => Some(rest),
+        _ => None,
+    }
+}
+
+/// What follows a `)`, if it stands in front.
+pub fn behind_close<'a, 't>(tokens: &'t [Lexeme<'a>]) -> Option<&'t [Lexeme<'a>]>
+    ensures { MatchOption result (HasNoClose (tokens_seen tokens.now)) (λ x. (tokens_seen tokens.now ≡ Signed Close ∷ tokens_seen x.now) × (length x.now < length tokens.now)) }
+{
+    match next(tokens) {
+        Some((Token::Sign(Sign::Close), rest)) => Some(rest),
         _ => None,
     }
 }

@@ -1,9 +1,10 @@
 // The phrases of commands: expressions and variables, with their trees, or without them and however deep they nest.
 
-ghost use Rattle.std.specs.Prelude.{◌≤◌, IfOk, length};
+ghost use Rattle.std.specs.Prelude.{◌≡◌, ◌≤◌, IfOk, length};
 ghost use Rattle.mj_ast.specs.Trees.{expr_of, variable_of};
 ghost use Rattle.mj_expr.specs.Machine.{Limits, Whole, Target};
-ghost use Rattle.mj_cmd.specs.Machine.{Goal, At, In, behind, expression_wanted, variable_wanted};
+ghost use Rattle.mj_line.specs.Machine.{Goal, At, In, IsClosed, behind, expression_wanted, variable_wanted};
+ghost use Rattle.mj_line.specs.Machine as lines;
 ghost use Rattle.mj_cmd.specs.Reads.{HasRoom, Reads};
 
 use mj_ast::{Expr, Operand, Scope, Variable};
@@ -20,16 +21,18 @@ pub struct Phrases {
 }
 
 impl Phrases {
-    /// An expression, from nesting level 0 on. Where depth doesn't matter its tree stands for any.
+    /// An expression that stands inside so many levels, at most one. Where depth doesn't matter its tree stands for any.
     pub fn expression<'a, 't>(
         self,
+        level: usize,
         tokens: &'t [Lexeme<'a>],
     ) -> Result<(Expr, &'t [Lexeme<'a>]), Stop>
+        requires { level ≤ 1 }
         ensures shorter { IfOk result (λ x. length x.1.now ≤ length tokens.now) }
-        ensures reads { (m : Limits) → HasRoom self.limited m tokens.now → (g : Goal) → Reads self.limited (λ x. expr_of x.0) (λ x. x.1.now) result m tokens.now (In g expression_wanted) (λ e. At (behind g (Whole e))) }
+        ensures reads { (m : Limits) → HasRoom self.limited m tokens.now → (g : Goal) → lines.level g ≡ level → IsClosed g → Reads self.limited (λ x. expr_of x.0) (λ x. x.1.now) result m tokens.now (In g expression_wanted) (λ e. At (behind g (Whole e))) }
     {
         if self.limited {
-            return mj_expr::expression(self.alloc, tokens, 0);
+            return mj_expr::expression(self.alloc, tokens, level);
         }
         let rest = behind_expression(self.alloc, tokens)?;
         let any = Expr {
@@ -42,13 +45,15 @@ impl Phrases {
     /// A variable, likewise.
     pub fn variable<'a, 't>(
         self,
+        level: usize,
         tokens: &'t [Lexeme<'a>],
     ) -> Result<(Variable, &'t [Lexeme<'a>]), Stop>
+        requires { level ≤ 1 }
         ensures shorter { IfOk result (λ x. length x.1.now ≤ length tokens.now) }
-        ensures reads { (m : Limits) → HasRoom self.limited m tokens.now → (g : Goal) → Reads self.limited (λ x. variable_of x.0) (λ x. x.1.now) result m tokens.now (In g variable_wanted) (λ v. At (behind g (Target v))) }
+        ensures reads { (m : Limits) → HasRoom self.limited m tokens.now → (g : Goal) → lines.level g ≡ level → IsClosed g → Reads self.limited (λ x. variable_of x.0) (λ x. x.1.now) result m tokens.now (In g variable_wanted) (λ v. At (behind g (Target v))) }
     {
         if self.limited {
-            return mj_expr::variable(self.alloc, tokens, 0);
+            return mj_expr::variable(self.alloc, tokens, level);
         }
         let rest = behind_variable(self.alloc, tokens)?;
         let any = Variable {

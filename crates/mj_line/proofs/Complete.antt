@@ -16,10 +16,10 @@ use Rattle.mj_expr.specs.Machine.{Limits}
 use Rattle.mj_expr.specs.Machine as phrase
 use Rattle.mj_expr.proofs.Zipper.{Kind, AnExpression, AVariable}
 use Rattle.mj_expr.proofs.Complete.{Ceases, complete_phrase}
-use Rattle.mj_line.specs.Forms.{Node, Want, AnExpr, AVar, piece_part, part_of, takes, wants, ends, first_node, may_be_bare, Fits, IsForm}
+use Rattle.mj_line.specs.Forms.{next_of, Node, Want, AnExpr, AVar, piece_part, part_of, takes, wants, ends, first_node, may_be_bare, Fits, IsForm}
 use Rattle.mj_line.specs.Sentences.{Clause, Sentence, SpellsClause, SpellsClauses, SpellsSentence, clause_nesting, clause_width, IsWithin}
 use Rattle.mj_line.specs.Machine.{Rest, Spot, Begin, Behind, Worded, Asked, Bare, Args, Goal, Condition, Argument, At, In, empty_line, labelled, clause, with_clause, bare_rest, args_rest, expression_wanted, start, wanted, level, level_of, inside, behind, bare_rested, rested, argument, entry, Next, Go, Stuck, Deep, Long, opened, moved, taken, begins, on, on_rested, first, spot_step, phrase_step, in_step, entering, step, ended_at, ended_spot, Accept, run, turn}
-use Rattle.mj_line.proofs.Tables.{next_of, shut, first_ends, followed, FollowsWant, apart, part_taken}
+use Rattle.mj_line.proofs.Tables.{shut, first_ends, followed, FollowsWant, apart, part_taken}
 use Rattle.mj_line.proofs.Leaves.{want_kind}
 use Rattle.mj_line.proofs.Facts.{lift_accept, plain_step, start_stuck}
 

@@ -23,10 +23,10 @@ use Rattle.mj_expr.proofs.Told.{accepts}
 use Rattle.mj_expr.proofs.Ends.{finish_deep}
 use Rattle.mj_expr.proofs.Said.{finish_stuck, finish_long, overlong_finish, overlong_word, comma_token, Over as OverLimit}
 use Rattle.mj_expr.proofs.Turns.{finish_again, accept_length}
-use Rattle.mj_line.specs.Forms.{Want, AnExpr, AVar, piece_part, wants}
+use Rattle.mj_line.specs.Forms.{next_of, Want, AnExpr, AVar, piece_part, wants}
 use Rattle.mj_line.specs.Sentences.{Sentence}
-use Rattle.mj_line.specs.Machine.{Rest, Spot, Begin, Behind, Args, Goal, Condition, Argument, State, At, In, labelled, start, wanted, level, inside, behind, behind_want, argument, entry, rested, Next, Go, Stuck, Deep, Long, taken, own, begins, on_rested, first, spot_step, behind_step, phrase_step, in_step, entering, step, StuckAt, DeepAt, TooLong, refused, ended_behind, run, turn}
-use Rattle.mj_line.proofs.Tables.{none_some, next_of}
+use Rattle.mj_line.specs.Machine.{IsClosed, Rest, Spot, Begin, Behind, Args, Goal, Condition, Argument, State, At, In, labelled, start, wanted, level, inside, behind, behind_want, argument, entry, rested, Next, Go, Stuck, Deep, Long, taken, own, begins, on_rested, first, spot_step, behind_step, phrase_step, in_step, entering, step, StuckAt, DeepAt, TooLong, refused, ended_behind, run, turn}
+use Rattle.mj_line.proofs.Tables.{none_some}
 use Rattle.mj_line.proofs.Leaves.{Leads, NextLeads, kind, spot_leads, entry_leads, EntryLeads}
 use Rattle.mj_line.proofs.Good.{StateGood, SpotGood, NextGood, spot_good, behind_good, goal_more, inside_more, level_small, entry_good, EntryGood}
 
@@ -195,11 +195,6 @@ finished_as m g s k (phrase.DeepAt n) d e at f = λ l i. f l i ∙ ap (λ (x : p
 finished_as m g s k phrase.TooLong d e at f = λ l i. f l i ∙ ap (λ (x : phrase.Outcome). behind_step g x k) e
 
 -- ---- a run inside a phrase is the phrase's run
-
--- no phrase begins directly behind this one
-abbrev pub IsClosed : Goal → Type 0
-IsClosed (Condition l k) = Unit {0}
-IsClosed (Argument l condition k done w) = wants (next_of w) ≡ None
 
 want_closed : (l : Sentence) (condition : Option Expr) (k : Keyword) (done : List Part) (w : Want) (p : phrase.Phrase) → wants (next_of w) ≡ None → entry (behind_want l condition k done w p) ≡ None
 want_closed l condition k done (AnExpr lv next) (phrase.Whole e) h = ap (argument l condition k (done ++ _ ∷ [])) h

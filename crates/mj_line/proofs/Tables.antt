@@ -16,7 +16,7 @@ use Rattle.mj_ast.specs.Tokens.{Token, Word, Called, Digits, Signed}
 use Rattle.mj_ast.specs.Expressions.{symbol, function_symbol, callee_of, Overlong, Mark, Spells, expressions}
 use Rattle.mj_ast.specs.Commands.{Part, Put, Named, PieceCall, Text, Place, SpellsPart, SpellsParts, greatest, part_nesting, part_width}
 use Rattle.mj_expr.specs.Machine as phrase
-use Rattle.mj_line.specs.Forms.{Node, SetTarget, PieceOpens, PieceVariable, PieceComma, PieceText, PieceBehind, SetBehind, SetValue, SetEnd, OutputWanted, OutputEnd, MarksEnd, KillWanted, NameWanted, NameBehind, KillEnd, MergeInto, MergeBehind, MergeFrom, MergeEnd, Want, AnExpr, AVar, piece_part, part_of, takes, wants, ends, first_node, may_be_bare, Goes, Fits}
+use Rattle.mj_line.specs.Forms.{Node, SetTarget, PieceOpens, PieceVariable, PieceComma, PieceText, PieceBehind, SetBehind, SetValue, SetEnd, OutputWanted, OutputEnd, MarksEnd, KillWanted, NameWanted, NameBehind, KillEnd, MergeInto, MergeBehind, MergeFrom, MergeEnd, Want, AnExpr, AVar, next_of, piece_part, part_of, takes, wants, ends, first_node, may_be_bare, Goes, Fits}
 use Rattle.mj_line.specs.Machine.{wanted, level_of}
 
 pub none_some : {A : Type 0} (x : A) → None ≡ Some x → ⊥
@@ -141,10 +141,6 @@ abbrev pub FollowsWant : Want → Part → Type 0
 FollowsWant (AnExpr level next) p = FollowsText p
 FollowsWant (AVar level next) p = FollowsPlace p
 
-abbrev pub next_of : Want → Node
-next_of (AnExpr level next) = next
-next_of (AVar level next) = next
-
 piece_follows : (listed : Bool) (more : ℕ) (p : Part) (m : Node) → Goes (PieceBehind listed more) p m → FollowsText p
 piece_follows listed more (Put Comma) m e = tt
 piece_follows listed more (Put Close) m e = tt
@@ -245,7 +241,7 @@ abbrev IsApart : phrase.Limits → Node → Token → Option Want → Type 0
 IsApart m n t None = Unit {0}
 IsApart m n t (Some w) = (phrase.step m (wanted w) (symbol t) ≡ phrase.Stuck) ⊎ (part_taken n (part_of t) ≡ None)
 
-word_apart : (n : Node) (w : List ℕ) (b : Bool) → takes n (Named w) ≡ None → part_taken n (cond b (Some (Named w)) None) ≡ None
+pub word_apart : (n : Node) (w : List ℕ) (b : Bool) → takes n (Named w) ≡ None → part_taken n (cond b (Some (Named w)) None) ≡ None
 word_apart n w true h = h
 word_apart n w false h = refl
 
@@ -253,7 +249,7 @@ piece_apart : (n : Node) (q : Option Callee) → takes n PieceCall ≡ None → 
 piece_apart n (Some (callee.Texts Piece)) h = h
 piece_apart n q h = refl
 
-called_apart : (n : Node) (q : Option Callee) (b : Bool) → takes n PieceCall ≡ None → part_taken n (cond b (piece_part q) None) ≡ None
+pub called_apart : (n : Node) (q : Option Callee) (b : Bool) → takes n PieceCall ≡ None → part_taken n (cond b (piece_part q) None) ≡ None
 called_apart n q true h = piece_apart n q h
 called_apart n q false h = refl
 

@@ -84,6 +84,10 @@ pub data Want : Type 0 where
   AnExpr : (level : ℕ) (next : Node) → Want
   AVar : (level : ℕ) (next : Node) → Want
 
+abbrev pub next_of : Want → Node
+next_of (AnExpr level next) = next
+next_of (AVar level next) = next
+
 -- what may stand here
 abbrev pub wants : Node → Option Want
 wants (SetTarget listed) = Some (AVar 0 (SetBehind listed))

@@ -1,5 +1,5 @@
 -- Reads the tokens of a line from the left, one at a time: what was read, and what may come next.
-use Rattle.std.specs.Prelude.{ℕ, ◌-◌, ◌==◌, nat_le, Bool, if◌then◌else◌, List, [], ◌∷◌, ◌++◌, length, Option, Some, None}
+use Rattle.std.specs.Prelude.{ℕ, ◌≡◌, ◌-◌, ◌==◌, nat_le, Bool, if◌then◌else◌, List, [], ◌∷◌, ◌++◌, length, Option, Some, None}
 use Rattle.mj_ast.specs.declared.sign.Sign.TheVariants.{Colon}
 use Rattle.mj_ast.specs.declared.keyword.Keyword.{Keyword}
 use Rattle.mj_ast.specs.Syntax.{Expr}
@@ -7,7 +7,7 @@ use Rattle.mj_ast.specs.Tokens.{Token, Word, Called, Special, Digits, Signed, Bl
 use Rattle.mj_ast.specs.Expressions.{symbol, name_limit}
 use Rattle.mj_ast.specs.Commands.{Part, Text, Place, keyword_of}
 use Rattle.mj_expr.specs.Machine as phrase
-use Rattle.mj_line.specs.Forms.{Node, Want, AnExpr, AVar, part_of, takes, wants, ends, first_node, may_be_bare}
+use Rattle.mj_line.specs.Forms.{Node, Want, AnExpr, AVar, next_of, part_of, takes, wants, ends, first_node, may_be_bare}
 use Rattle.mj_line.specs.Sentences.{Clause, Sentence}
 
 -- ---- spots between phrases
@@ -85,6 +85,11 @@ wanted (AVar level next) = variable_wanted
 abbrev pub start : Goal → phrase.State
 start (Condition l k) = expression_wanted
 start (Argument l condition k done w) = wanted w
+
+-- no phrase begins directly behind this one
+abbrev pub IsClosed : Goal → Type 0
+IsClosed (Condition l k) = Unit {0}
+IsClosed (Argument l condition k done w) = wants (next_of w) ≡ None
 
 -- how many levels are open around it
 abbrev pub level_of : Want → ℕ

@@ -1,6 +1,6 @@
 use Rattle.std.proofs.Common.{◌∙◌, refl, true}
 use Rattle.mj_lex.specs.Seen.{tokens_seen}
-use Rattle.mj_cmd.specs.Machine.{bare_line}
+use Rattle.mj_line.specs.Machine.{bare_line}
 use Rattle.mj_cmd.proofs.Follow.{ends_err, refuses_from, room_for, gap_same, line_made, line_same, shorter_rest}
 use Rattle.mj_cmd.proofs.lines.line_by.Goals as goal
 

@@ -1,9 +1,9 @@
 use Rattle.std.proofs.Common.{◌≡◌, ◌≤◌, List, ◌++◌, length, map, true}
-use Rattle.mj_ast.specs.Syntax.{Line, Step}
 use Rattle.mj_ast.specs.Trees.{step_of}
 use Rattle.mj_expr.specs.Machine.{Limits}
 use Rattle.mj_lex.specs.Seen.{tokens_seen}
-use Rattle.mj_cmd.specs.Machine.{At, Behind, run}
+use Rattle.mj_line.specs.Machine.{At, Behind, run}
+use Rattle.mj_line.specs.Sentences.{Sentence, Clause, clause_of}
 use Rattle.mj_cmd.specs.Heads.{HasNoBlank}
 use Rattle.mj_cmd.specs.Reads.{HasRoom}
 use Rattle.mj_cmd.proofs.lines.steps.Given as goal
@@ -15,7 +15,7 @@ pub record SoFar (Goes : Type 0) (Bare : Type 0) (Falls : Type 0) : Type 0 where
 
 abbrev pub invariant-steps : goal.invariant-steps
 invariant-steps l = SoFar
-    ((m : Limits) → HasRoom l.phrases.limited m l.tokens → (o : Line) → (ss : List Step) × (l.phrases.limited ≡ true → ss ≡ map step_of l.steps.items) × (run m (tokens_seen l.tokens) (At (Behind (record { line = o; gap = 1; comment = 0 }))) ≡ run m (tokens_seen l.rest) (At (Behind (record { line = record { label = o.label; steps = o.steps ++ ss }; gap = 0; comment = 0 })))))
+    ((m : Limits) → HasRoom l.phrases.limited m l.tokens → (o : Sentence) → (ss : List Clause) × (l.phrases.limited ≡ true → ss ≡ map clause_of (map step_of l.steps.items)) × (run m (tokens_seen l.tokens) (At (Behind (record { line = o; gap = 1; comment = 0 }))) ≡ run m (tokens_seen l.rest) (At (Behind (record { line = record { label = o.label; clauses = o.clauses ++ ss }; gap = 0; comment = 0 })))))
     (HasNoBlank (tokens_seen l.rest))
     (length l.rest ≤ length l.tokens)
 

@@ -1,0 +1,23 @@
+-- What stands inside the arguments of SET.
+use Rattle.std.specs.Prelude.{ℕ, zero, suc, ◌-◌, Bool, true, false, List, [], ◌∷◌, ◌++◌}
+use Rattle.mj_ast.specs.declared.sign.Sign.TheVariants.{Open, Close}
+use Rattle.mj_ast.specs.Syntax.{Destination, Plain, Pieces}
+use Rattle.mj_ast.specs.Tokens.{Token}
+use Rattle.mj_ast.specs.Commands.{Part, Put, Place, more_parts}
+use Rattle.mj_line.specs.Forms.{Node, PieceComma, PieceBehind}
+use Rattle.mj_cmd.specs.Heads.{HasNoOpen}
+
+-- what stands behind the word of `$PIECE`
+abbrev pub opened_parts : Destination → List Part
+opened_parts (Plain v) = []
+opened_parts (Pieces v es) = Put Open ∷ Place 1 v ∷ (more_parts es ++ Put Close ∷ [])
+
+-- the place behind so many of its expressions
+abbrev pub piece_node : Bool → ℕ → Node
+piece_node listed zero = PieceComma listed
+piece_node listed (suc n) = PieceBehind listed (2 - n)
+
+-- inside a list no other list begins
+abbrev pub NotListed : Bool → List Token → Type 0
+NotListed true ks = Unit {0}
+NotListed false ks = HasNoOpen ks

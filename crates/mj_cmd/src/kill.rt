@@ -1,0 +1,148 @@
+// The arguments of KILL and MERGE.
+
+ghost use Rattle.std.specs.Prelude.{◌≡◌, ◌⊎◌, ◌∷◌, ◌++◌, ◌≤◌, Bool, IfErr, IfOk, [], false, length, map, true};
+ghost use Rattle.mj_ast.specs.Commands.{Put, killed_parts, merged_parts, name_parts, with_commas};
+ghost use Rattle.mj_ast.specs.Trees.{killed_of, merged_of};
+ghost use Rattle.mj_ast.specs.declared.sign.Sign.TheVariants.{Close};
+ghost use Rattle.mj_expr.specs.Machine.{Limits};
+ghost use Rattle.mj_expr.specs.declared.stop.Stop.TheVariants.{Memory};
+ghost use Rattle.mj_lex.specs.Seen.{tokens_seen};
+ghost use Rattle.mj_line.specs.Forms.{KillEnd, KillWanted, MergeEnd, MergeInto, NameWanted};
+ghost use Rattle.mj_cmd.specs.Heads.{HasOther, HasParted};
+ghost use Rattle.mj_cmd.specs.Reads.{HasRoom, Passes};
+
+use crate::parts::{
+    behind_close, behind_comma, behind_equals, behind_name, behind_open, parted, stuck,
+};
+use crate::phrase::Phrases;
+use mj_ast::{Killed, Merged};
+use mj_expr::Stop;
+use mj_lex::Lexeme;
+use mj_text::Text;
+use std::alloc::Global;
+
+/// A word as a text.
+pub fn word_text(alloc: Global, bytes: &[u8]) -> Result<Text, Stop>
+    requires { length bytes.now ≤ 32767 }
+    ensures ok { IfOk result (λ t. t ≡ bytes.now) }
+    ensures memory { IfErr result (λ e. e ≡ Memory) }
+{
+    match Text::from(alloc, bytes) {
+        Ok(text) => Ok(text),
+        Err(_) => Err(Stop::Memory),
+    }
+}
+
+/// The names of a list behind its `(`, and the `)` that closes it.
+fn names<'a, 't>(
+    phrases: Phrases,
+    tokens: &'t [Lexeme<'a>],
+) -> Result<(Vec<Text>, &'t [Lexeme<'a>]), Stop>
+    ensures shorter { IfOk result (λ x. length x.1.now ≤ length tokens.now) }
+    ensures reads { (m : Limits) → Passes phrases.limited (λ x. with_commas name_parts x.0.items ++ Put Close ∷ []) (λ x. x.1.now) result m tokens.now NameWanted KillEnd }
+{
+    let mut names = Vec::new(phrases.alloc);
+    match behind_name(tokens) {
+        None => Err(stuck(tokens)),
+        Some((first, behind)) => {
+            let first = word_text(phrases.alloc, first)?;
+            names.push(first)?;
+            let mut rest = behind;
+            'commas: while let Some(behind) = behind_comma(rest) {
+                match behind_name(behind) {
+                    None => return Err(stuck(behind)),
+                    Some((name, behind)) => {
+                        let name = word_text(phrases.alloc, name)?;
+                        names.push(name)?;
+                        rest = behind;
+                    }
+                }
+            }
+            match behind_close(rest) {
+                None => Err(stuck(rest)),
+                Some(behind) => Ok((names, behind)),
+            }
+        }
+    }
+}
+
+/// A variable, or names in parentheses.
+fn killed<'a, 't>(
+    phrases: Phrases,
+    tokens: &'t [Lexeme<'a>],
+) -> Result<(Killed, &'t [Lexeme<'a>]), Stop>
+    ensures shorter { IfOk result (λ x. length x.1.now ≤ length tokens.now) }
+    ensures reads { (m : Limits) → HasRoom phrases.limited m tokens.now → (first : Bool) → (first ≡ false) ⊎ HasOther (tokens_seen tokens.now) → Passes phrases.limited (λ x. killed_parts (killed_of x.0)) (λ x. x.1.now) result m tokens.now (KillWanted first) KillEnd }
+{
+    match behind_open(tokens) {
+        None => {
+            let (variable, rest) = phrases.variable(0, tokens)?;
+            Ok((Killed::Tree(variable), rest))
+        }
+        Some(behind) => {
+            let (names, rest) = names(phrases, behind)?;
+            Ok((Killed::Except(names), rest))
+        }
+    }
+}
+
+/// The arguments of KILL, of which there is one at least, up to where the command ends.
+pub fn kills<'a, 't>(
+    phrases: Phrases,
+    tokens: &'t [Lexeme<'a>],
+) -> Result<(Vec<Killed>, &'t [Lexeme<'a>]), Stop>
+    requires { HasOther (tokens_seen tokens.now) }
+    ensures shorter { IfOk result (λ x. length x.1.now ≤ length tokens.now) }
+    ensures parted { IfOk result (λ x. HasParted (tokens_seen x.1.now)) }
+    ensures reads { (m : Limits) → HasRoom phrases.limited m tokens.now → Passes phrases.limited (λ x. with_commas killed_parts (map killed_of x.0.items)) (λ x. x.1.now) result m tokens.now (KillWanted true) KillEnd }
+{
+    let mut arguments = Vec::new(phrases.alloc);
+    let (first, mut rest) = killed(phrases, tokens)?;
+    arguments.push(first)?;
+    'commas: while let Some(behind) = behind_comma(rest) {
+        let (argument, behind) = killed(phrases, behind)?;
+        arguments.push(argument)?;
+        rest = behind;
+    }
+    let rest = parted(rest)?;
+    Ok((arguments, rest))
+}
+
+/// A variable, `=` and the variable that is copied.
+fn merged<'a, 't>(
+    phrases: Phrases,
+    tokens: &'t [Lexeme<'a>],
+) -> Result<(Merged, &'t [Lexeme<'a>]), Stop>
+    ensures shorter { IfOk result (λ x. length x.1.now ≤ length tokens.now) }
+    ensures reads { (m : Limits) → HasRoom phrases.limited m tokens.now → Passes phrases.limited (λ x. merged_parts (merged_of x.0)) (λ x. x.1.now) result m tokens.now MergeInto MergeEnd }
+{
+    let (into, rest) = phrases.variable(0, tokens)?;
+    match behind_equals(rest) {
+        None => Err(stuck(rest)),
+        Some(behind) => {
+            let (from, rest) = phrases.variable(0, behind)?;
+            Ok((Merged { into, from }, rest))
+        }
+    }
+}
+
+/// The arguments of MERGE, up to where the command ends.
+pub fn merges<'a, 't>(
+    phrases: Phrases,
+    tokens: &'t [Lexeme<'a>],
+) -> Result<(Vec<Merged>, &'t [Lexeme<'a>]), Stop>
+    ensures shorter { IfOk result (λ x. length x.1.now ≤ length tokens.now) }
+    ensures parted { IfOk result (λ x. HasParted (tokens_seen x.1.now)) }
+    ensures reads { (m : Limits) → HasRoom phrases.limited m tokens.now → Passes phrases.limited (λ x. with_commas merged_parts (map merged_of x.0.items)) (λ x. x.1.now) result m tokens.now MergeInto MergeEnd }
+{
+    let mut arguments = Vec::new(phrases.alloc);
+    let (first, mut rest) = merged(phrases, tokens)?;
+    arguments.push(first)?;
+    'commas: while let Some(behind) = behind_comma(rest) {
+        let (argument, behind) = merged(phrases, behind)?;
+        arguments.push(argument)?;
+        rest = behind;
+    }
+    let rest = parted(rest)?;
+    Ok((arguments, rest))
+}

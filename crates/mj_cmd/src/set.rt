@@ -1,0 +1,189 @@
+// The arguments of SET.
+
+ghost use Rattle.std.specs.Prelude.{◌≡◌, ◌<◌, ◌-◌, ◌∷◌, ◌++◌, ◌≤◌, Bool, IfOk, [], false, length, map, true};
+ghost use Rattle.mj_ast.specs.Commands.{PieceCall, Put, Text, assignment_parts, destination_parts, more_parts, targets_parts, with_commas};
+ghost use Rattle.mj_ast.specs.Tokens.{Signed};
+ghost use Rattle.mj_ast.specs.Trees.{assignment_of, destination_of, expr_of, exprs_of, targets_of};
+ghost use Rattle.mj_ast.specs.declared.sign.Sign.TheVariants.{Close, Comma};
+ghost use Rattle.mj_expr.specs.Machine.{Limits};
+ghost use Rattle.mj_lex.specs.Seen.{tokens_seen};
+ghost use Rattle.mj_line.specs.Forms.{PieceBehind, PieceComma, PieceOpens, SetBehind, SetEnd, SetTarget};
+ghost use Rattle.mj_cmd.specs.Heads.{HasParted};
+ghost use Rattle.mj_cmd.specs.Parts.{NotListed, opened_parts, piece_node};
+ghost use Rattle.mj_cmd.specs.Reads.{HasRoom, Passes};
+
+use crate::parts::{
+    behind_close, behind_comma, behind_equals, behind_open, behind_piece, parted, stuck,
+};
+use crate::phrase::Phrases;
+use mj_ast::{Assignment, Destination, Expr, Targets};
+use mj_expr::Stop;
+use mj_lex::Lexeme;
+
+/// The most expressions behind the variable of `$PIECE`.
+const PIECE_LIMIT: usize = 3;
+
+/// Another expression of `$PIECE`, behind a comma, where so many stand before it.
+fn text<'a, 't>(
+    phrases: Phrases,
+    count: usize,
+    tokens: &'t [Lexeme<'a>],
+    behind: &'t [Lexeme<'a>],
+) -> Result<(Expr, &'t [Lexeme<'a>]), Stop>
+    requires comma { tokens_seen tokens.now ≡ Signed Comma ∷ tokens_seen behind.now }
+    requires count { count ≤ 3 }
+    requires room { length behind.now ≤ length tokens.now }
+    ensures shorter { IfOk result (λ x. length x.1.now ≤ length behind.now) }
+    ensures few { IfOk result (λ _. count < 3) }
+    ensures reads { (m : Limits) → HasRoom phrases.limited m tokens.now → (listed : Bool) → Passes phrases.limited (λ x. Put Comma ∷ Text 1 (expr_of x.0) ∷ []) (λ x. x.1.now) result m tokens.now (piece_node listed count) (PieceBehind listed (2 - count)) }
+{
+    if count >= PIECE_LIMIT {
+        return Err(stuck(tokens));
+    }
+    let (text, rest) = phrases.expression(1, behind)?;
+    Ok((text, rest))
+}
+
+/// The expressions of `$PIECE`, each behind a comma, and the `)` that closes them.
+fn texts<'a, 't>(
+    phrases: Phrases,
+    tokens: &'t [Lexeme<'a>],
+) -> Result<(Vec<Expr>, &'t [Lexeme<'a>]), Stop>
+    ensures shorter { IfOk result (λ x. length x.1.now ≤ length tokens.now) }
+    ensures reads { (m : Limits) → HasRoom phrases.limited m tokens.now → (listed : Bool) → Passes phrases.limited (λ x. more_parts (exprs_of x.0.items) ++ Put Close ∷ []) (λ x. x.1.now) result m tokens.now (PieceComma listed) (SetBehind listed) }
+{
+    let mut texts = Vec::new(phrases.alloc);
+    match behind_comma(tokens) {
+        None => Err(stuck(tokens)),
+        Some(behind) => {
+            let (first, mut rest) = phrases.expression(1, behind)?;
+            texts.push(first)?;
+            'commas: while let Some(behind) = behind_comma(rest) {
+                let (text, behind) = text(phrases, texts.len(), rest, behind)?;
+                texts.push(text)?;
+                rest = behind;
+            }
+            match behind_close(rest) {
+                None => Err(stuck(rest)),
+                Some(behind) => Ok((texts, behind)),
+            }
+        }
+    }
+}
+
+/// What stands behind `$PIECE`, up to the `)` that closes it.
+fn pieces<'a, 't>(
+    phrases: Phrases,
+    tokens: &'t [Lexeme<'a>],
+) -> Result<(Destination, &'t [Lexeme<'a>]), Stop>
+    ensures shorter { IfOk result (λ x. length x.1.now ≤ length tokens.now) }
+    ensures reads { (m : Limits) → HasRoom phrases.limited m tokens.now → (listed : Bool) → Passes phrases.limited (λ x. opened_parts (destination_of x.0)) (λ x. x.1.now) result m tokens.now (PieceOpens listed) (SetBehind listed) }
+    ensures pieces { IfOk result (λ x. destination_parts (destination_of x.0) ≡ PieceCall ∷ opened_parts (destination_of x.0)) }
+{
+    match behind_open(tokens) {
+        None => Err(stuck(tokens)),
+        Some(behind) => {
+            let (variable, rest) = phrases.variable(1, behind)?;
+            let (texts, rest) = texts(phrases, rest)?;
+            Ok((Destination::Pieces(variable, texts), rest))
+        }
+    }
+}
+
+/// What a value is assigned to: a variable, or pieces of one.
+fn destination<'a, 't>(
+    phrases: Phrases,
+    tokens: &'t [Lexeme<'a>],
+) -> Result<(Destination, &'t [Lexeme<'a>]), Stop>
+    ensures shorter { IfOk result (λ x. length x.1.now ≤ length tokens.now) }
+    ensures reads { (m : Limits) → HasRoom phrases.limited m tokens.now → (listed : Bool) → NotListed listed (tokens_seen tokens.now) → Passes phrases.limited (λ x. destination_parts (destination_of x.0)) (λ x. x.1.now) result m tokens.now (SetTarget listed) (SetBehind listed) }
+{
+    match behind_piece(tokens) {
+        Some(behind) => pieces(phrases, behind),
+        None => {
+            let (variable, rest) = phrases.variable(0, tokens)?;
+            Ok((Destination::Whole(variable), rest))
+        }
+    }
+}
+
+/// The destinations of a list behind its `(`, and the `)` that closes it.
+fn listed<'a, 't>(
+    phrases: Phrases,
+    tokens: &'t [Lexeme<'a>],
+) -> Result<(Vec<Destination>, &'t [Lexeme<'a>]), Stop>
+    ensures shorter { IfOk result (λ x. length x.1.now ≤ length tokens.now) }
+    ensures reads { (m : Limits) → HasRoom phrases.limited m tokens.now → Passes phrases.limited (λ x. with_commas destination_parts (map destination_of x.0.items) ++ Put Close ∷ []) (λ x. x.1.now) result m tokens.now (SetTarget true) (SetBehind false) }
+{
+    let mut destinations = Vec::new(phrases.alloc);
+    let (first, mut rest) = destination(phrases, tokens)?;
+    destinations.push(first)?;
+    'commas: while let Some(behind) = behind_comma(rest) {
+        let (destination, behind) = destination(phrases, behind)?;
+        destinations.push(destination)?;
+        rest = behind;
+    }
+    match behind_close(rest) {
+        None => Err(stuck(rest)),
+        Some(behind) => Ok((destinations, behind)),
+    }
+}
+
+/// One destination, or a list in parentheses.
+fn targets<'a, 't>(
+    phrases: Phrases,
+    tokens: &'t [Lexeme<'a>],
+) -> Result<(Targets, &'t [Lexeme<'a>]), Stop>
+    ensures shorter { IfOk result (λ x. length x.1.now ≤ length tokens.now) }
+    ensures reads { (m : Limits) → HasRoom phrases.limited m tokens.now → Passes phrases.limited (λ x. targets_parts (targets_of x.0)) (λ x. x.1.now) result m tokens.now (SetTarget false) (SetBehind false) }
+{
+    match behind_open(tokens) {
+        None => {
+            let (destination, rest) = destination(phrases, tokens)?;
+            Ok((Targets::One(destination), rest))
+        }
+        Some(behind) => {
+            let (destinations, rest) = listed(phrases, behind)?;
+            Ok((Targets::Several(destinations), rest))
+        }
+    }
+}
+
+/// Destinations, `=` and the value.
+fn assignment<'a, 't>(
+    phrases: Phrases,
+    tokens: &'t [Lexeme<'a>],
+) -> Result<(Assignment, &'t [Lexeme<'a>]), Stop>
+    ensures shorter { IfOk result (λ x. length x.1.now ≤ length tokens.now) }
+    ensures reads { (m : Limits) → HasRoom phrases.limited m tokens.now → Passes phrases.limited (λ x. assignment_parts (assignment_of x.0)) (λ x. x.1.now) result m tokens.now (SetTarget false) SetEnd }
+{
+    let (targets, rest) = targets(phrases, tokens)?;
+    match behind_equals(rest) {
+        None => Err(stuck(rest)),
+        Some(behind) => {
+            let (value, rest) = phrases.expression(0, behind)?;
+            Ok((Assignment { targets, value }, rest))
+        }
+    }
+}
+
+/// The arguments of SET, up to where the command ends.
+pub fn assignments<'a, 't>(
+    phrases: Phrases,
+    tokens: &'t [Lexeme<'a>],
+) -> Result<(Vec<Assignment>, &'t [Lexeme<'a>]), Stop>
+    ensures shorter { IfOk result (λ x. length x.1.now ≤ length tokens.now) }
+    ensures parted { IfOk result (λ x. HasParted (tokens_seen x.1.now)) }
+    ensures reads { (m : Limits) → HasRoom phrases.limited m tokens.now → Passes phrases.limited (λ x. with_commas assignment_parts (map assignment_of x.0.items)) (λ x. x.1.now) result m tokens.now (SetTarget false) SetEnd }
+{
+    let mut arguments = Vec::new(phrases.alloc);
+    let (first, mut rest) = assignment(phrases, tokens)?;
+    arguments.push(first)?;
+    'commas: while let Some(behind) = behind_comma(rest) {
+        let (argument, behind) = assignment(phrases, behind)?;
+        arguments.push(argument)?;
+        rest = behind;
+    }
+    let rest = parted(rest)?;
+    Ok((arguments, rest))
+}
