@@ -212,6 +212,7 @@ enter_here m o condition k done n x [] w u e = ap (λ (q : Option Rest). ended_o
     ended_of : Option Rest → Outcome
     ended_of (Some r) = Accept r.line
     ended_of None = StuckAt 0
+
     none_read : (x : Want) → run m [] (In (Argument o condition k done x) (wanted x)) ≡ StuckAt 0
     none_read (AnExpr lv next) = refl
     none_read (AVar lv next) = refl
@@ -527,7 +528,6 @@ more_more (x ∷ es) e = ap (λ (zs : List Part). Put Comma ∷ Text 1 (expr_of 
 
 pub more_pushed : (old new : List kept.Expr) (e : kept.Expr) → new ≡ old ++ e ∷ [] → more_parts (exprs_of old) ++ (Put Comma ∷ Text 1 (expr_of e) ∷ []) ≡ more_parts (exprs_of new)
 more_pushed old new e h = sym (more_more old e) ∙ ap (λ (es : List kept.Expr). more_parts (exprs_of es)) (sym h)
-
 
 -- a comma behind so many expressions of `$PIECE`
 pub piece_comma_takes : (listed : Bool) (n : ℕ) → n < 3 → takes (piece_node listed n) (Put Comma) ≡ Some (PieceText listed (2 - n))
