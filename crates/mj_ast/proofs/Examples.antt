@@ -8,8 +8,9 @@ use Rattle.mj_ast.specs.declared.keyword.Keyword.TheVariants as keyword
 use Rattle.mj_ast.specs.declared.function.Function.TheVariants.{Reverse, Translate}
 use Rattle.mj_ast.specs.declared.function.Callee.TheVariants.{Texts}
 use Rattle.mj_ast.specs.Expressions.{callee_of}
-use Rattle.mj_ast.specs.Syntax.{Chain, Done, Literal, Shown, Write, Halt, Step}
-use Rattle.mj_ast.specs.Commands.{keyword_of}
+use Rattle.mj_ast.specs.declared.expr.Scope.TheVariants.{Local}
+use Rattle.mj_ast.specs.Syntax.{Expr, Variable, Var, No, More, Chain, Done, Literal, Value, Plain, Pieces, One, Several, Gone, Spared, Shown, Set, Write, Halt, Kill, Step}
+use Rattle.mj_ast.specs.Commands.{keyword_of, Put, Named, PieceCall, Text, Place, command_parts, step_nesting}
 use Rattle.mj_ast.specs.Lines.{SpellsLine}
 use Rattle.mj_ast.specs.Routines.{lines_of}
 
@@ -88,6 +89,27 @@ keywords = refl
 no_keyword : keyword_of (codes "HANG") ≡ None
 no_keyword = refl
 
+kill : keyword_of (codes "k") ≡ Some keyword.Kill
+kill = refl
+
+-- `(X,$PIECE(X,Y))=X` and `(A,B),X`
+abbrev x : Variable
+x = Var Local (codes "X") No
+
+abbrev ex : Expr
+ex = Chain (Value x) Done
+
+piece_parts : command_parts (Set (record { targets = Several (Plain x ∷ Pieces x (More ex No) ∷ []); value = ex } ∷ [])) ≡
+    Put Open ∷ Place 0 x ∷ Put Comma ∷ PieceCall ∷ Put Open ∷ Place 1 x ∷ Put Comma ∷ Text 1 ex ∷ Put Close ∷ Put Close ∷ Put Equals ∷ Text 0 ex ∷ []
+piece_parts = refl
+
+kill_parts : command_parts (Kill (Spared (codes "A" ∷ codes "B" ∷ []) ∷ Gone x ∷ [])) ≡ Put Open ∷ Named (codes "A") ∷ Put Comma ∷ Named (codes "B") ∷ Put Close ∷ Put Comma ∷ Place 0 x ∷ []
+kill_parts = refl
+
+-- the subscripts of `$PIECE`'s variable stand two levels deep
+piece_depth : step_nesting (record { condition = None; command = Set (record { targets = One (Pieces (Var Local (codes "X") (More ex No)) (More ex No)); value = ex } ∷ []) }) ≡ 2
+piece_depth = refl
+
 -- the lines of a file: one byte 13 before a byte 10 is dropped, a last line without byte 10 keeps it
 file_lines : lines_of (65 ∷ 13 ∷ 13 ∷ 10 ∷ 10 ∷ 66 ∷ 13 ∷ []) ≡ (65 ∷ 13 ∷ []) ∷ [] ∷ (66 ∷ 13 ∷ []) ∷ []
 file_lines = refl
@@ -118,14 +140,14 @@ spelled_line = (
     tokens (codes "  H ;c"),
     lit≤ tt,
     refl,
-    (119 ∷ [], [], tokens (codes " 007"), refl, refl, refl, (tokens (codes "007"), refl, (refl, refl))),
+    (119 ∷ [], [], tokens (codes " 007"), refl, refl, refl, (tokens (codes "007"), refl, (tokens (codes "007"), [], refl, (refl, refl), refl)), refl),
     (
       2,
       tokens (codes "H"),
       tokens (codes " ;c"),
       lit≤ tt,
       refl,
-      (72 ∷ [], [], [], refl, refl, refl, refl),
+      (72 ∷ [], [], [], refl, refl, refl, refl, refl),
       inr (1, 99 ∷ [], lit≤ tt, refl),
     ),
   ),

@@ -1,19 +1,26 @@
 -- The grammar of commands, as the spelling of trees (ISO/IEC 11756:1999, 6.2 and 8; this profile):
 --
---   command  = word [":" expression] blank arguments
---            | word [":" expression]
---   SET      variable "=" expression, and more behind commas
---   WRITE    an expression or a run of "!", and more behind commas
---   HALT     no arguments
-use Rattle.std.specs.Prelude.{◌≡◌, ◌≢◌, ℕ, ◌-◌, nat_le, ◌&&◌, if◌then◌else◌, List, [], ◌∷◌, ◌++◌, map, max, Option, Some, None, bytes_eq, codes}
-use Rattle.mj_ast.specs.declared.sign.Sign.TheVariants.{Equals, Comma, Colon, Exclamation}
+--   command     = word [":" expression] blank arguments
+--               | word [":" expression]
+--   SET         targets "=" expression, and more behind commas
+--   targets     = destination | "(" destination {"," destination} ")"
+--   destination = variable | "$PIECE" "(" variable "," expression ["," expression ["," expression]] ")"
+--   WRITE       an expression or a run of "!", and more behind commas
+--   HALT        no arguments
+--   KILL        nothing, or a variable or names in parentheses with commas between them, and more behind commas
+--   MERGE       variable "=" variable, and more behind commas
+use Rattle.std.specs.Prelude.{◌≡◌, ℕ, ◌+◌, ◌-◌, ◌≤◌, nat_le, Bool, true, false, ◌&&◌, if◌then◌else◌, List, [], ◌∷◌, ◌++◌, length, map, max, Option, Some, None, bytes_eq, codes}
+use Rattle.mj_ast.specs.declared.sign.Sign.{Sign}
+use Rattle.mj_ast.specs.declared.sign.Sign.TheVariants.{Equals, Comma, Colon, Exclamation, Open, Close}
+use Rattle.mj_ast.specs.declared.function.Function.TheVariants.{Piece}
+use Rattle.mj_ast.specs.declared.function.Callee.TheVariants.{Texts}
 use Rattle.mj_ast.specs.declared.routine.Mark.{Mark}
 use Rattle.mj_ast.specs.declared.routine.Mark.TheVariants.{NewLine}
 use Rattle.mj_ast.specs.declared.keyword.Keyword.{Keyword}
 use Rattle.mj_ast.specs.declared.keyword.Keyword.TheVariants as keyword
-use Rattle.mj_ast.specs.Syntax.{Expr, Assignment, Output, Shown, Format, Command, Set, Write, Halt, Step}
-use Rattle.mj_ast.specs.Tokens.{Token, Word, Signed, Blank}
-use Rattle.mj_ast.specs.Expressions.{Spells, expressions, variables, expr_nesting, variable_nesting, expr_width, variable_width}
+use Rattle.mj_ast.specs.Syntax.{Expr, Exprs, No, More, Variable, Destination, Plain, Pieces, Targets, One, Several, Assignment, Killed, Gone, Spared, Merged, Output, Shown, Format, Command, Set, Write, Halt, Kill, Merge, Step}
+use Rattle.mj_ast.specs.Tokens.{Token, Word, Called, Signed, Blank}
+use Rattle.mj_ast.specs.Expressions.{Spells, expressions, variables, callee_of, name_limit, count, expr_nesting, variable_nesting, expr_width, variable_width}
 
 -- ---- the words of commands
 
@@ -26,7 +33,9 @@ abbrev pub command_words : List (List ℕ × Keyword)
 command_words =
     (codes "SET", keyword.Set) ∷ (codes "S", keyword.Set)
     ∷ (codes "WRITE", keyword.Write) ∷ (codes "W", keyword.Write)
-    ∷ (codes "HALT", keyword.Halt) ∷ (codes "H", keyword.Halt) ∷ []
+    ∷ (codes "HALT", keyword.Halt) ∷ (codes "H", keyword.Halt)
+    ∷ (codes "KILL", keyword.Kill) ∷ (codes "K", keyword.Kill)
+    ∷ (codes "MERGE", keyword.Merge) ∷ (codes "M", keyword.Merge) ∷ []
 
 -- what stands beside the word in the table
 abbrev pub looked_up : List ℕ → List (List ℕ × Keyword) → Option Keyword
@@ -42,58 +51,150 @@ abbrev pub keyword_for : Command → Keyword
 keyword_for (Set arguments) = keyword.Set
 keyword_for (Write arguments) = keyword.Write
 keyword_for Halt = keyword.Halt
+keyword_for (Kill arguments) = keyword.Kill
+keyword_for (Merge arguments) = keyword.Merge
+
+-- ---- what arguments are made of
+
+-- A part of the arguments of a command: a sign, a name, `$PIECE` with a `(` behind it, an expression or a variable. These two
+-- stand inside so many levels that the command itself opens.
+pub data Part : Type 0 where
+  Put : (s : Sign) → Part
+  Named : (word : List ℕ) → Part
+  PieceCall : Part
+  Text : (level : ℕ) (e : Expr) → Part
+  Place : (level : ℕ) (v : Variable) → Part
+
+-- the parts of some, with commas between them
+abbrev mutual
+  pub with_commas : {A : Type 0} → (A → List Part) → List A → List Part
+  with_commas parts [] = []
+  with_commas parts (x ∷ xs) = parts x ++ behind_commas parts xs
+
+  -- each behind a comma
+  pub behind_commas : {A : Type 0} → (A → List Part) → List A → List Part
+  behind_commas parts [] = []
+  behind_commas parts (x ∷ xs) = Put Comma ∷ (parts x ++ behind_commas parts xs)
+
+-- expressions inside one level, each behind a comma
+abbrev pub more_parts : Exprs → List Part
+more_parts No = []
+more_parts (More e es) = Put Comma ∷ Text 1 e ∷ more_parts es
+
+abbrev pub destination_parts : Destination → List Part
+destination_parts (Plain v) = Place 0 v ∷ []
+destination_parts (Pieces v es) = PieceCall ∷ Put Open ∷ Place 1 v ∷ (more_parts es ++ Put Close ∷ [])
+
+abbrev pub targets_parts : Targets → List Part
+targets_parts (One d) = destination_parts d
+targets_parts (Several list) = Put Open ∷ (with_commas destination_parts list ++ Put Close ∷ [])
+
+abbrev pub assignment_parts : Assignment → List Part
+assignment_parts a = targets_parts a.targets ++ Put Equals ∷ Text 0 a.value ∷ []
+
+-- the sign of a format mark
+abbrev pub mark_part : Mark → Part
+mark_part NewLine = Put Exclamation
+
+abbrev pub output_parts : Output → List Part
+output_parts (Shown e) = Text 0 e ∷ []
+output_parts (Format marks) = map mark_part marks
+
+abbrev pub name_parts : List ℕ → List Part
+name_parts word = Named word ∷ []
+
+abbrev pub killed_parts : Killed → List Part
+killed_parts (Gone v) = Place 0 v ∷ []
+killed_parts (Spared words) = Put Open ∷ (with_commas name_parts words ++ Put Close ∷ [])
+
+abbrev pub merged_parts : Merged → List Part
+merged_parts a = Place 0 a.into ∷ Put Equals ∷ Place 0 a.from ∷ []
+
+abbrev pub command_parts : Command → List Part
+command_parts (Set list) = with_commas assignment_parts list
+command_parts (Write list) = with_commas output_parts list
+command_parts Halt = []
+command_parts (Kill list) = with_commas killed_parts list
+command_parts (Merge list) = with_commas merged_parts list
+
+-- ---- which trees commands have
+
+abbrev pub has_items : {A : Type 0} → List A → Bool
+has_items [] = false
+has_items (x ∷ xs) = true
+
+abbrev pub every : {A : Type 0} → (A → Bool) → List A → Bool
+every p [] = true
+every p (x ∷ xs) = p x && every p xs
+
+-- `$PIECE` has a separator, and at most two places
+abbrev pub is_destination : Destination → Bool
+is_destination (Plain v) = true
+is_destination (Pieces v es) = nat_le 1 (count es) && nat_le (count es) 3
+
+abbrev pub are_targets : Targets → Bool
+are_targets (One d) = is_destination d
+are_targets (Several list) = has_items list && every is_destination list
+
+abbrev pub is_assignment : Assignment → Bool
+is_assignment a = are_targets a.targets
+
+abbrev pub is_output : Output → Bool
+is_output (Shown e) = true
+is_output (Format marks) = has_items marks
+
+abbrev pub is_killed : Killed → Bool
+is_killed (Gone v) = true
+is_killed (Spared words) = has_items words
+
+-- no list is empty where the grammar has none
+abbrev pub is_formed : Command → Bool
+is_formed (Set list) = has_items list && every is_assignment list
+is_formed (Write list) = has_items list && every is_output list
+is_formed Halt = true
+is_formed (Kill list) = every is_killed list
+is_formed (Merge list) = has_items list
 
 -- ---- spelling
 
--- one or more, with commas between them
-abbrev pub SpellsFrom : {A : Type 0} → (List Token → A → Type 0) → List Token → A → List A → Type 0
-SpellsFrom P ks x [] = P ks x
-SpellsFrom P ks x (y ∷ ys) = (front : List Token) × (rest : List Token) × (ks ≡ front ++ Signed Comma ∷ rest) × P front x × SpellsFrom P rest y ys
+abbrev pub SpellsPart : List Token → Part → Type 0
+SpellsPart ks (Put s) = ks ≡ Signed s ∷ []
+SpellsPart ks (Named word) = (ks ≡ Word word ∷ []) × (length word ≤ name_limit)
+SpellsPart ks PieceCall = (word : List ℕ) × (ks ≡ Called word ∷ []) × (length word ≤ name_limit) × (callee_of word ≡ Some (Texts Piece))
+SpellsPart ks (Text level e) = Spells expressions ks e
+SpellsPart ks (Place level v) = Spells variables ks v
 
-abbrev pub SpellsList : {A : Type 0} → (List Token → A → Type 0) → List Token → List A → Type 0
-SpellsList P ks [] = ⊥
-SpellsList P ks (x ∷ xs) = SpellsFrom P ks x xs
-
--- an argument of SET
-abbrev pub SpellsAssignment : List Token → Assignment → Type 0
-SpellsAssignment ks a = (front : List Token) × (rest : List Token) × (ks ≡ front ++ Signed Equals ∷ rest) × Spells variables front a.destination × Spells expressions rest a.value
-
--- the token of a format mark
-abbrev pub mark_token : Mark → Token
-mark_token NewLine = Signed Exclamation
-
--- an argument of WRITE
-abbrev pub SpellsOutput : List Token → Output → Type 0
-SpellsOutput ks (Shown e) = Spells expressions ks e
-SpellsOutput ks (Format marks) = (marks ≢ []) × (ks ≡ map mark_token marks)
+-- parts, one directly behind the other
+abbrev pub SpellsParts : List Token → List Part → Type 0
+SpellsParts ks [] = ks ≡ []
+SpellsParts ks (p ∷ ps) = (front : List Token) × (rest : List Token) × (ks ≡ front ++ rest) × SpellsPart front p × SpellsParts rest ps
 
 -- a postcondition, or none
 abbrev pub SpellsCondition : List Token → Option Expr → Type 0
 SpellsCondition ks None = ks ≡ []
 SpellsCondition ks (Some e) = (rest : List Token) × (ks ≡ Signed Colon ∷ rest) × Spells expressions rest e
 
--- the arguments of a command, with the blank before them
-abbrev pub SpellsArguments : List Token → Command → Type 0
-SpellsArguments ks (Set arguments) = (rest : List Token) × (ks ≡ Blank ∷ rest) × SpellsList SpellsAssignment rest arguments
-SpellsArguments ks (Write arguments) = (rest : List Token) × (ks ≡ Blank ∷ rest) × SpellsList SpellsOutput rest arguments
-SpellsArguments ks Halt = ks ≡ []
+-- arguments, if there are any, with the blank before them
+abbrev pub SpellsArguments : List Token → List Part → Type 0
+SpellsArguments ks [] = ks ≡ []
+SpellsArguments ks (p ∷ ps) = (rest : List Token) × (ks ≡ Blank ∷ rest) × SpellsParts rest (p ∷ ps)
 
 -- a command with its postcondition
 abbrev pub SpellsStep : List Token → Step → Type 0
 SpellsStep ks s =
     (word : List ℕ) × (condition : List Token) × (arguments : List Token)
     × (ks ≡ Word word ∷ (condition ++ arguments)) × (keyword_of word ≡ Some (keyword_for s.command))
-    × SpellsCondition condition s.condition × SpellsArguments arguments s.command
+    × SpellsCondition condition s.condition × SpellsArguments arguments (command_parts s.command) × (is_formed s.command ≡ true)
 
--- how many blanks stand behind a command before another one, at least
-abbrev pub gap_behind : Command → ℕ
-gap_behind Halt = 2
-gap_behind _ = 1
+-- how many blanks stand behind arguments before another command, at least
+abbrev pub gap_of : List Part → ℕ
+gap_of [] = 2
+gap_of (p ∷ ps) = 1
 
--- how many blanks stand behind a command before a comment, at least
-abbrev pub comment_gap_behind : Command → ℕ
-comment_gap_behind Halt = 1
-comment_gap_behind _ = 0
+-- how many blanks stand behind them before a comment, at least
+abbrev pub comment_gap_of : List Part → ℕ
+comment_gap_of [] = 1
+comment_gap_of (p ∷ ps) = 0
 
 -- ---- limits
 
@@ -102,20 +203,15 @@ abbrev pub greatest : {A : Type 0} → (A → ℕ) → List A → ℕ
 greatest f [] = 0
 greatest f (x ∷ xs) = max (f x) (greatest f xs)
 
--- a measure of the expressions and variables of a command: e is that of an expression, v that of a variable
-abbrev pub output_measure : (Expr → ℕ) → Output → ℕ
-output_measure e (Shown x) = e x
-output_measure e (Format marks) = 0
+abbrev pub part_nesting : Part → ℕ
+part_nesting (Text level e) = expr_nesting e + level
+part_nesting (Place level v) = variable_nesting v + level
+part_nesting p = 0
 
-abbrev pub command_nesting : Command → ℕ
-command_nesting (Set arguments) = greatest (λ a. max (variable_nesting a.destination) (expr_nesting a.value)) arguments
-command_nesting (Write arguments) = greatest (output_measure expr_nesting) arguments
-command_nesting Halt = 0
-
-abbrev pub command_width : Command → ℕ
-command_width (Set arguments) = greatest (λ a. max (variable_width a.destination) (expr_width a.value)) arguments
-command_width (Write arguments) = greatest (output_measure expr_width) arguments
-command_width Halt = 0
+abbrev pub part_width : Part → ℕ
+part_width (Text level e) = expr_width e
+part_width (Place level v) = variable_width v
+part_width p = 0
 
 abbrev pub condition_measure : (Expr → ℕ) → Option Expr → ℕ
 condition_measure e None = 0
@@ -123,8 +219,8 @@ condition_measure e (Some x) = e x
 
 -- how deep a command nests
 abbrev pub step_nesting : Step → ℕ
-step_nesting s = max (condition_measure expr_nesting s.condition) (command_nesting s.command)
+step_nesting s = max (condition_measure expr_nesting s.condition) (greatest part_nesting (command_parts s.command))
 
 -- the length of its longest list of subscripts
 abbrev pub step_width : Step → ℕ
-step_width s = max (condition_measure expr_width s.condition) (command_width s.command)
+step_width s = max (condition_measure expr_width s.condition) (greatest part_width (command_parts s.command))

@@ -12,7 +12,7 @@ use Rattle.mj_ast.specs.declared.sign.Sign.TheVariants.{Comma}
 use Rattle.mj_ast.specs.Syntax.{Step, Line}
 use Rattle.mj_ast.specs.Tokens.{Token, Word, Called, Special, Digits, Signed, Blank, Comment, tokens, column}
 use Rattle.mj_ast.specs.Expressions.{name_limit, depth_limit, width_limit}
-use Rattle.mj_ast.specs.Commands.{SpellsStep, gap_behind, comment_gap_behind, greatest, step_nesting, step_width}
+use Rattle.mj_ast.specs.Commands.{SpellsStep, command_parts, gap_of, comment_gap_of, greatest, step_nesting, step_width}
 
 -- ---- spelling
 
@@ -28,7 +28,7 @@ SpellsSteps g c ks [] = SpellsEnd c ks
 SpellsSteps g c ks (s ∷ ss) =
     (n : ℕ) × (front : List Token) × (rest : List Token)
     × (g ≤ n) × (ks ≡ replicate n Blank ++ (front ++ rest)) × SpellsStep front s
-    × SpellsSteps (gap_behind s.command) (comment_gap_behind s.command) rest ss
+    × SpellsSteps (gap_of (command_parts s.command)) (comment_gap_of (command_parts s.command)) rest ss
 
 -- a label, or none
 abbrev pub SpellsLabel : List Token → Option (List ℕ) → Type 0

@@ -41,10 +41,31 @@ mutual
     Last : (condition value : Expr) → Choices
     Before : (condition value : Expr) (others : Choices) → Choices
 
--- an argument of SET: a destination and the value that it gets
+-- what a value is assigned to: the value of a variable, or pieces of it, with a separator and perhaps the place of the first
+-- piece and of the last
+pub data Destination : Type 0 where
+  Plain : (v : Variable) → Destination
+  Pieces : (v : Variable) (arguments : Exprs) → Destination
+
+-- one destination, or a list in parentheses
+pub data Targets : Type 0 where
+  One : (d : Destination) → Targets
+  Several : (list : List Destination) → Targets
+
+-- an argument of SET: destinations and the value that each gets
 pub record Assignment : Type 0 where
-  pub destination : Variable
+  pub targets : Targets
   pub value : Expr
+
+-- an argument of KILL: a variable with what is below it, or all locals but those of these names
+pub data Killed : Type 0 where
+  Gone : (v : Variable) → Killed
+  Spared : (words : List (List ℕ)) → Killed
+
+-- an argument of MERGE: what is copied into the first variable from the second
+pub record Merged : Type 0 where
+  pub into : Variable
+  pub from : Variable
 
 -- an argument of WRITE: the text of an expression, or a run of format marks
 pub data Output : Type 0 where
@@ -56,6 +77,8 @@ pub data Command : Type 0 where
   Set : (arguments : List Assignment) → Command
   Write : (arguments : List Output) → Command
   Halt : Command
+  Kill : (arguments : List Killed) → Command
+  Merge : (arguments : List Merged) → Command
 
 -- a command with its postcondition, if it has one
 pub record Step : Type 0 where

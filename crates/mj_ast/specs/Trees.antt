@@ -5,7 +5,14 @@ use Rattle.mj_ast.specs.declared.expr.Tail as tail
 use Rattle.mj_ast.specs.declared.expr.Operand as operand
 use Rattle.mj_ast.specs.declared.expr.Variable as variable
 use Rattle.mj_ast.specs.declared.expr.Choice as choice
+use Rattle.mj_ast.specs.declared.routine.Destination as kept_destination
+use Rattle.mj_ast.specs.declared.routine.Destination.TheVariants as destination
+use Rattle.mj_ast.specs.declared.routine.Targets as kept_targets
+use Rattle.mj_ast.specs.declared.routine.Targets.TheVariants as targets
 use Rattle.mj_ast.specs.declared.routine.Assignment as assignment
+use Rattle.mj_ast.specs.declared.routine.Killed as kept_killed
+use Rattle.mj_ast.specs.declared.routine.Killed.TheVariants as killed
+use Rattle.mj_ast.specs.declared.routine.Merged as merged
 use Rattle.mj_ast.specs.declared.routine.Output as kept_output
 use Rattle.mj_ast.specs.declared.routine.Output.TheVariants as output
 use Rattle.mj_ast.specs.declared.routine.Command as kept_command
@@ -13,7 +20,7 @@ use Rattle.mj_ast.specs.declared.routine.Command.TheVariants as command
 use Rattle.mj_ast.specs.declared.routine.Step as step
 use Rattle.mj_ast.specs.declared.routine.Line as line
 use Rattle.mj_ast.specs.declared.routine.Routine as routine
-use Rattle.mj_ast.specs.Syntax.{Expr, Chain, Tails, Done, Then, Operand, Literal, Value, Unary, Group, Call, Select, Variable, Var, Exprs, No, More, Choices, Last, Before, Assignment, Output, Shown, Format, Command, Set, Write, Halt, Step, Line, Routine}
+use Rattle.mj_ast.specs.Syntax.{Expr, Chain, Tails, Done, Then, Operand, Literal, Value, Unary, Group, Call, Select, Variable, Var, Exprs, No, More, Choices, Last, Before, Destination, Plain, Pieces, Targets, One, Several, Assignment, Killed, Gone, Spared, Merged, Output, Shown, Format, Command, Set, Write, Halt, Kill, Merge, Step, Line, Routine}
 
 abbrev mutual
   pub operand_of : operand.Operand → Operand
@@ -52,8 +59,23 @@ abbrev pub exprs_of : List expr.Expr → Exprs
 exprs_of [] = No
 exprs_of (e ∷ es) = More (expr_of e) (exprs_of es)
 
+abbrev pub destination_of : kept_destination.Destination → Destination
+destination_of (destination.Whole v) = Plain (variable_of v)
+destination_of (destination.Pieces v es) = Pieces (variable_of v) (exprs_of es.items)
+
+abbrev pub targets_of : kept_targets.Targets → Targets
+targets_of (targets.One d) = One (destination_of d)
+targets_of (targets.Several list) = Several (map destination_of list.items)
+
 abbrev pub assignment_of : assignment.Assignment → Assignment
-assignment_of a = record { destination = variable_of a.destination; value = expr_of a.value }
+assignment_of a = record { targets = targets_of a.targets; value = expr_of a.value }
+
+abbrev pub killed_of : kept_killed.Killed → Killed
+killed_of (killed.Tree v) = Gone (variable_of v)
+killed_of (killed.Except words) = Spared words.items
+
+abbrev pub merged_of : merged.Merged → Merged
+merged_of m = record { into = variable_of m.into; from = variable_of m.from }
 
 abbrev pub output_of : kept_output.Output → Output
 output_of (output.Value e) = Shown (expr_of e)
@@ -63,6 +85,8 @@ abbrev pub command_of : kept_command.Command → Command
 command_of (command.Set v) = Set (map assignment_of v.items)
 command_of (command.Write v) = Write (map output_of v.items)
 command_of command.Halt = Halt
+command_of (command.Kill v) = Kill (map killed_of v.items)
+command_of (command.Merge v) = Merge (map merged_of v.items)
 
 abbrev pub step_of : step.Step → Step
 step_of s = record { condition = option_map expr_of s.condition; command = command_of s.command }

@@ -6,4 +6,6 @@ pub enum Keyword {
     Set,
     Write,
     Halt,
+    Kill,
+    Merge,
 }

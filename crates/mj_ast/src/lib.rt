@@ -13,5 +13,7 @@ mod sign;
 pub use expr::{Choice, Expr, Operand, Scope, Tail, Variable};
 pub use function::{Callee, Function};
 pub use keyword::Keyword;
-pub use routine::{Assignment, Command, Line, Mark, Output, Routine, Step};
+pub use routine::{
+    Assignment, Command, Destination, Killed, Line, Mark, Merged, Output, Routine, Step, Targets,
+};
 pub use sign::Sign;

@@ -3,11 +3,44 @@
 use crate::expr::{Expr, Variable};
 use mj_text::Text;
 
-/// An argument of SET: a destination and the value that it gets.
+/// What a value is assigned to.
+#[derive(Drop)]
+pub enum Destination {
+    /// the value of a variable
+    Whole(Variable),
+    /// pieces of a variable's value, by `$PIECE`: a separator, and perhaps the place of the first piece and of the last
+    Pieces(Variable, Vec<Expr>),
+}
+
+/// The destinations of an argument of SET.
+#[derive(Drop)]
+pub enum Targets {
+    One(Destination),
+    /// a list in parentheses, not empty
+    Several(Vec<Destination>),
+}
+
+/// An argument of SET: the destinations and the value that each gets.
 #[derive(Drop)]
 pub struct Assignment {
-    pub destination: Variable,
+    pub targets: Targets,
     pub value: Expr,
+}
+
+/// An argument of KILL.
+#[derive(Drop)]
+pub enum Killed {
+    /// a variable, with what is below it
+    Tree(Variable),
+    /// all locals but those of these names, of which there is one at least
+    Except(Vec<Text>),
+}
+
+/// An argument of MERGE.
+#[derive(Drop)]
+pub struct Merged {
+    pub into: Variable,
+    pub from: Variable,
 }
 
 /// A byte that a format writes.
@@ -26,12 +59,15 @@ pub enum Output {
     Format(Vec<Mark>),
 }
 
-/// What a command does, with its arguments, of which there is one at least.
+/// What a command does, with its arguments, of which there is one at least where nothing else is said.
 #[derive(Drop)]
 pub enum Command {
     Set(Vec<Assignment>),
     Write(Vec<Output>),
     Halt,
+    /// without arguments it is all locals
+    Kill(Vec<Killed>),
+    Merge(Vec<Merged>),
 }
 
 /// A command with its postcondition, if it has one.
