@@ -1,10 +1,11 @@
 // A store with a tree for each word.
 
-ghost use Rattle.std.specs.Prelude.{◌≡◌, ◌↔◌, [], List, ℕ, option_copied, IsTrue, IfOk, OnOk, OnErr, false};
+ghost use Rattle.std.specs.Prelude.{◌≡◌, ◌↔◌, if◌then◌else◌, [], List, ℕ, option_copied, IsTrue, IfOk, IfErr, OnOk, OnErr, false};
 ghost use Rattle.std.specs.List.{list_any};
 ghost use Rattle.std.specs.FinMap.{find};
 ghost use Rattle.std.specs.Cmp.Lexicographic.{slice_cmp};
 ghost use Rattle.mj_subs.specs.Collation.{subscript_cmp};
+ghost use Rattle.mj_store.specs.Changes.{is_too_deep as too_deep};
 ghost use Rattle.mj_store.specs.Nodes.{subtree};
 ghost use Rattle.mj_store.specs.Questions.{with_subscripts, value_at, subtree_at};
 ghost use Rattle.mj_tree.specs.Nest.{nodes_of};
@@ -15,8 +16,8 @@ ghost use Rattle.mj_text.specs.declared.fault.Fault.TheVariants as fault;
 use crate::change::Change;
 use crate::words::{self, Words};
 use mj_store::{Direction, Nodes, Store};
-use mj_subs::{Name, Sub, Subs};
-use mj_text::{Failure, Text};
+use mj_subs::{Name, SUBSCRIPT_LIMIT, Sub, Subs};
+use mj_text::{Failure, Fault, Text};
 use mj_tree::Tree;
 use std::alloc::{AllocError, Global};
 use std::collections::BTreeMap;
@@ -72,16 +73,22 @@ impl Globals {
     /// Makes the changes in order, all of them or none. `Limit` where one would give a name too many subscripts.
     pub fn apply(&mut self, changes: &[Change]) -> Result<(), Failure>
         ensures ok { OnOk result (self.new ≡ after_changes self.old changes.now) }
-        ensures limit { result ≡ Err (failure.Fault fault.Limit) → IsTrue (list_any goes_too_deep changes.now) }
+        ensures limit { (result ≡ Err (failure.Fault fault.Limit)) ↔ IsTrue (list_any goes_too_deep changes.now) }
         ensures within { OnOk result (list_any goes_too_deep changes.now ≡ false) }
+        ensures error { IfErr result (λ e. e ≡ (if list_any goes_too_deep changes.now then failure.Fault fault.Limit else failure.Memory)) }
         ensures err { OnErr result (self.new ≡ self.old) }
     {
+        if is_any_too_deep(changes) {
+            return Err(Failure::Fault(Fault::Limit));
+        }
         let mut changed = match self.try_clone() {
             Ok(changed) => changed,
             Err(_) => return Err(Failure::Memory),
         };
         for change in changes {
-            changed.make(change)?;
+            if changed.make(change).is_err() {
+                return Err(Failure::Memory);
+            }
         }
         *self = changed;
         Ok(())
@@ -91,7 +98,6 @@ impl Globals {
     fn make(&mut self, change: &Change) -> Result<(), Failure>
         ensures ok { OnOk result (self.new ≡ after_change self.old change.now) }
         ensures limit { (result ≡ Err (failure.Fault fault.Limit)) ↔ IsTrue (goes_too_deep change.now) }
-        ensures within { OnOk result (goes_too_deep change.now ≡ false) }
         ensures err { OnErr result (self.new ≡ self.old) }
     {
         match change {
@@ -216,4 +222,31 @@ fn with(name: &Name, list: Subs) -> Result<Name, AllocError>
     } else {
         Name::local(word, list)
     })
+}
+
+// Whether one of the changes would give a name too many subscripts.
+fn is_any_too_deep(changes: &[Change]) -> bool
+    ensures { result ≡ list_any goes_too_deep changes.now }
+{
+    changes.iter().any(|change| goes_too_deep(change))
+}
+
+// Whether a change would give a name too many subscripts.
+fn goes_too_deep(change: &Change) -> bool
+    ensures { result ≡ goes_too_deep change.now }
+{
+    match change {
+        Change::Put(name, nodes) => is_too_deep(name, nodes.as_slice()),
+        Change::Set(_, _) | Change::Kill(_) => false,
+    }
+}
+
+// Whether a list would follow the name with more subscripts than a name can have.
+fn is_too_deep(name: &Name, nodes: &[(Subs, Text)]) -> bool
+    ensures { result ≡ too_deep name.now nodes.now }
+{
+    let above = name.subscripts().len();
+    nodes
+        .iter()
+        .any(|node| SUBSCRIPT_LIMIT < above + node.0.len())
 }

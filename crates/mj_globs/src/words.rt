@@ -1,6 +1,6 @@
 // The words of one kind, each with its tree.
 
-ghost use Rattle.std.specs.Prelude.{◌≡◌, ◌↔◌, Bool, option_copied, IsTrue, IfOk, OnOk, OnErr, T};
+ghost use Rattle.std.specs.Prelude.{◌≡◌, ◌↔◌, if◌then◌else◌, Bool, option_copied, IsTrue, IfOk, IfErr, OnOk, OnErr, T};
 ghost use Rattle.std.specs.FinMap.{put, is_sorted};
 ghost use Rattle.std.specs.Map.{lookup, remove_entry};
 ghost use Rattle.std.specs.BTreeMap.{is_at, insert_entry};
@@ -85,6 +85,7 @@ pub fn put(
     ensures rises { T (is_sorted (slice_cmp nat_cmp) (spelled words.new.entries)) }
     ensures ok { OnOk result ((g : Bool) → of_kind g (spelled words.new.entries) ≡ after_put (of_kind g (spelled words.old.entries)) (name g word.now path.now) nodes.now) }
     ensures limit { (result ≡ Err (failure.Fault fault.Limit)) ↔ IsTrue (is_too_long path.now nodes.now) }
+    ensures error { IfErr result (λ e. e ≡ (if is_too_long path.now nodes.now then failure.Fault fault.Limit else failure.Memory)) }
     ensures err { OnErr result (spelled words.new.entries ≡ spelled words.old.entries) }
 {
     let mut digits = Digits::new();

@@ -1,5 +1,4 @@
 pub mod Frames
-pub mod Entries
 pub mod Units
 pub mod Standing
 pub mod Answers

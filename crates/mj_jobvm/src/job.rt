@@ -15,14 +15,13 @@ ghost use Rattle.mj_jobvm.specs.Units.{unit_at, IsFit};
 
 use crate::control::Control;
 use crate::frame::Place;
-use crate::locals::Locals;
 use crate::machine::{Machine, Step};
 use crate::target::Target;
 use crate::turn::turn;
 use mj_ask::{Ask, Entry, Reply};
+use mj_globs::Globals;
 use mj_load::Image;
 use mj_pcode::Unit;
-use mj_subs::Name;
 use mj_text::Text;
 use std::alloc::{AllocError, Global};
 use std::marker::Model;
@@ -111,7 +110,7 @@ impl Job {
             machine: Machine {
                 control: Control::Begin,
                 stack: Vec::new(alloc),
-                locals: Locals::new(alloc),
+                locals: Globals::new(alloc),
                 frames: Vec::new(alloc),
                 column: 0,
                 replied: 0,
@@ -191,11 +190,11 @@ impl Job {
         self.log.as_slice()
     }
 
-    /// Its locals that have a value, by rising names.
-    pub fn locals(&self) -> &[(Name, Text)]
+    /// Its locals, which can be asked as every store can.
+    pub fn locals(&self) -> &Globals
         ensures { result.now ≡ self.now.run.at.state.locals }
     {
-        self.machine.locals.entries()
+        &self.machine.locals
     }
 
     /// The lines where its frames stand, the outermost first.

@@ -16,7 +16,6 @@ mod fault;
 mod format;
 mod frame;
 mod job;
-mod locals;
 mod machine;
 mod moves;
 mod names;

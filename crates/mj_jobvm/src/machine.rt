@@ -4,8 +4,8 @@ ghost use Rattle.std.specs.Prelude.{◌*◌, ◌≤◌};
 
 use crate::control::Control;
 use crate::frame::Place;
-use crate::locals::Locals;
 use mj_ask::Ask;
+use mj_globs::Globals;
 use mj_text::Text;
 
 /// How many asks a job may make before its ending.
@@ -17,7 +17,7 @@ pub struct Machine {
     pub control: Control,
     // the topmost last
     pub stack: Vec<Text>,
-    pub locals: Locals,
+    pub locals: Globals,
     // the innermost last
     pub frames: Vec<Place>,
     // of the principal device

@@ -17,7 +17,7 @@ use crate::quiet::fail;
 use crate::stack;
 use mj_ask::{Ask, Reply};
 use mj_pcode::Reference;
-use mj_store::{Access, Answer};
+use mj_store::{Access, Answer, Store};
 use mj_subs::Name;
 use mj_text::{Fault, Text};
 use std::alloc::{AllocError, Global};
@@ -59,7 +59,7 @@ fn read_local(
     ensures ok { IfOk result (λ step. (reply : Option replies.Reply) → Does (λ next. evaluation.read name.now (λ v. next (pc + 1) (v ∷ drop count (stack_of machine.old)))) machine.old reply step machine.new) }
     ensures err { OnErr result ((reply : Option replies.Reply) → standing machine.new reply ≡ standing machine.old reply) }
 {
-    match machine.locals.get(name) {
+    match machine.locals.value(name) {
         Some(value) => {
             let value = value.try_clone()?;
             stack::replace(&mut machine.stack, count, value)?;
@@ -170,19 +170,19 @@ pub fn store(
     if name.is_global() {
         return set_global(pc, reference.count, name, value, machine, given);
     }
-    set_local(pc, reference.count, name, value, machine)
+    set_local(pc, reference.count, &name, &value, machine)
 }
 
 fn set_local(
     pc: usize,
     count: usize,
-    name: Name,
-    value: Text,
+    name: &Name,
+    value: &Text,
     machine: &mut Machine,
 ) -> Result<Step, AllocError>
     requires next { pc + 1 < 2 ^ 64 }
-    requires local { name.global ≡ false }
-    ensures ok { IfOk result (λ step. (reply : Option replies.Reply) → Does (λ next. commands.store name value (next (pc + 1) (drop count (below (stack_of machine.old))))) machine.old reply step machine.new) }
+    requires local { name.now.global ≡ false }
+    ensures ok { IfOk result (λ step. (reply : Option replies.Reply) → Does (λ next. commands.store name.now value.now (next (pc + 1) (drop count (below (stack_of machine.old))))) machine.old reply step machine.new) }
     ensures err { OnErr result ((reply : Option replies.Reply) → standing machine.new reply ≡ standing machine.old reply) }
 {
     machine.locals.set(name, value)?;

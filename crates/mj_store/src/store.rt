@@ -1,6 +1,6 @@
 // What every store offers.
 
-ghost use Rattle.std.specs.Prelude.{◌≡◌, ◌↔◌, IfOk, IsTrue, OnOk, OnErr, option_copied, T};
+ghost use Rattle.std.specs.Prelude.{◌≡◌, ◌↔◌, if◌then◌else◌, IfOk, IfErr, IsTrue, OnOk, OnErr, option_copied, T};
 ghost use Rattle.std.specs.FinMap.{is_sorted};
 ghost use Rattle.mj_subs.specs.Collation.{name_cmp};
 ghost use Rattle.mj_store.specs.Questions.{Content, value_at, data_at, order_at, query_at, subtree_at};
@@ -62,9 +62,10 @@ pub trait Store {
         ensures { contents self.new ≡ after_kill (contents self.old) name.now };
 
     /// The name followed by each list of subscripts has that list's text from now on. Nothing goes. `Limit` where that gives a name too
-    /// many subscripts.
+    /// many subscripts, and otherwise nothing but memory can be wanting.
     fn put(&mut self, name: &Name, nodes: &Nodes) -> Result<(), Failure>
         ensures ok { OnOk result (contents self.new ≡ after_put (contents self.old) name.now nodes.now) }
         ensures limit { (result ≡ Err (failure.Fault fault.Limit)) ↔ IsTrue (is_too_deep name.now nodes.now) }
+        ensures error { IfErr result (λ e. e ≡ (if is_too_deep name.now nodes.now then failure.Fault fault.Limit else failure.Memory)) }
         ensures err { OnErr result (contents self.new ≡ contents self.old) };
 }

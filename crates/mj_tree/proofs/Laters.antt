@@ -3,20 +3,22 @@ use Rattle.std.proofs.Common.{◌≡◌, ℕ, suc, ◌+◌, ◌-◌, ◌<◌, �
 use Rattle.std.specs.Prelude.{T, MatchOption}
 use Rattle.std.specs.declared.cmp.Ordering.{Ordering}
 use Rattle.std.specs.declared.cmp.Ordering.TheVariants.{Less, Equal, Greater}
-use Rattle.std.specs.Ordering.{is_eq, is_lt, ordering_then}
+use Rattle.std.specs.Ordering.{is_eq, is_le, is_lt, ordering_then}
 use Rattle.std.specs.Cmp.{IsTotalOrder}
 use Rattle.std.specs.Cmp.Lexicographic.{slice_cmp}
 use Rattle.std.specs.FinMap.{IsAntisymmetric, is_sorted}
+use Rattle.std.specs.FinMap.Entries.{below_all}
+use Rattle.std.specs.List.{filter}
 use Rattle.std.specs.Option.{option_map}
 use Rattle.std.specs.Map.{lookup}
 use Rattle.std.specs.BTreeMap.{is_at}
 use Rattle.mj_tree.specs.Nest.{own, under, below, AreFilled, nodes_of, lead, later, beyond}
-use Rattle.mj_tree.specs.Maps.{first_so, second_so, lookup_before, tied_before, before_less}
+use Rattle.mj_tree.specs.Maps.{first_so, second_so, is_less, lookup_before, tied_before, before_less}
 use Rattle.mj_tree.proofs.Nest.{first_and_rest}
 use Rattle.mj_tree.proofs.Orders.{after_all, filter_same}
 use Rattle.std.specs.Map.Iter.{deref_pair}
 use Rattle.std.specs.BTreeMap.Range.{entries_between}
-use Rattle.std.specs.declared.ops.Bound.TheVariants.{Excluded, Unbounded}
+use Rattle.std.specs.declared.ops.Bound.TheVariants.{Included, Unbounded}
 
 -- ---- the first of some nodes
 
@@ -134,10 +136,93 @@ module _ {K V : Type 0} (R : K → K → Ordering) where
   filled_beyond s [] f = tt
   filled_beyond s (k ∷ ks) f = elim (is_lt (R s k.0)) as (λ b. AreFilled (cond b (k ∷ beyond R s ks) (beyond R s ks))) [ true ↦ (f.0, filled_beyond s ks f.1) | false ↦ filled_beyond s ks f.1 ]
 
-  pub first_beyond : (s : K) (es fs t : List (K × List (List K × V))) (x : Bor K × Bor (List (List K × V))) → AreFilled es → fs ≡ entries_between R (Excluded s) Unbounded es → fs ≡ deref_pair x ∷ t → (0 < length x.1.now) × (lead (below (beyond R s es)) ≡ option_map (λ q. x.0.now ∷ q) (lead x.1.now))
-  first_beyond s es fs t x f between taken =
-      let part : beyond R s es ≡ deref_pair x ∷ t = sym (between ∙ filter_same (λ k. is_lt (R s k.0) && true) (λ k. is_lt (R s k.0)) (λ k. after_all (is_lt (R s k.0))) es) ∙ taken in
-      let some : AreFilled (deref_pair x ∷ t) = subst AreFilled part (filled_beyond s es f) in (
-        some.0,
-        ap (λ (ks : List (K × List (List K × V))). lead (below ks)) part ∙ lead_filled x.0.now x.1.now (below t) some.0,
-      )
+module _ {K X : Type 0} (R : K → K → Ordering) where
+  abbrev from : K → List (K × X) → List (K × X)
+  from s ks = filter (λ k. is_le (R s k.0)) ks
+
+  from_beyond : (s : K) (ks : List (K × X)) → T (below_all R s ks) → beyond R s ks ≡ from s ks
+  from_beyond s [] h = refl
+  from_beyond s (k ∷ ks) h =
+      let e = is_less (R s k.0) (first_so _ _ h) in
+      ap (λ r. cond (is_lt r) (k ∷ beyond R s ks) (beyond R s ks)) e
+      ∙ ap (λ (rest : List (K × X)). k ∷ rest) (from_beyond s ks (second_so _ _ h))
+      ∙ sym (ap (λ r. cond (is_le r) (k ∷ from s ks) (from s ks)) e)
+
+  -- the child at a subscript and the children beyond it, by the children from it on
+  abbrev Around : K → List (K × X) → List (K × X) → Type 0
+  Around s ks [] = (lookup (is_at (R s)) ks ≡ None) × (beyond R s ks ≡ [])
+  Around s ks (x ∷ t) = (is_eq (R s x.0) ≡ true → (lookup (is_at (R s)) ks ≡ Some x.1) × (beyond R s ks ≡ t)) × (is_eq (R s x.0) ≡ false → (lookup (is_at (R s)) ks ≡ None) × (beyond R s ks ≡ x ∷ t))
+
+  further : (s : K) (k : K × X) (ks rest : List (K × X)) → R s k.0 ≡ Greater → Around s ks rest → Around s (k ∷ ks) rest
+  further s k ks [] e a = (
+    ap (λ r. cond (is_eq r) (Some k.1) (lookup (is_at (R s)) ks)) e ∙ a.0,
+    ap (λ r. cond (is_lt r) (k ∷ beyond R s ks) (beyond R s ks)) e ∙ a.1,
+  )
+  further s k ks (x ∷ t) e a = (
+    λ is. (
+      ap (λ r. cond (is_eq r) (Some k.1) (lookup (is_at (R s)) ks)) e ∙ (a.0 is).0,
+      ap (λ r. cond (is_lt r) (k ∷ beyond R s ks) (beyond R s ks)) e ∙ (a.0 is).1,
+    ),
+    λ is. (
+      ap (λ r. cond (is_eq r) (Some k.1) (lookup (is_at (R s)) ks)) e ∙ (a.1 is).0,
+      ap (λ r. cond (is_lt r) (k ∷ beyond R s ks) (beyond R s ks)) e ∙ (a.1 is).1,
+    ),
+  )
+
+  from_around : (o : IsTotalOrder R) (s : K) (ks : List (K × X)) → T (is_sorted R ks) → Around s ks (from s ks)
+  from_around o s [] h = (refl, refl)
+  from_around o s (k ∷ ks) h =
+      elim (R s k.0) as (λ r. R s k.0 ≡ r → Around s (k ∷ ks) (cond (is_le r) (k ∷ from s ks) (from s ks))) [
+        | Less ↦ λ e.
+            let before = before_less R o s k.0 ks e (first_so _ _ h) in (
+              λ is. let f : false ≡ true = sym (ap is_eq e) ∙ is in absurd cc,
+              λ is. (
+                ap (λ r. cond (is_eq r) (Some k.1) (lookup (is_at (R s)) ks)) e ∙ lookup_before R s ks before,
+                ap (λ r. cond (is_lt r) (k ∷ beyond R s ks) (beyond R s ks)) e ∙ ap (λ (rest : List (K × X)). k ∷ rest) (from_beyond s ks before),
+              ),
+            )
+        | Equal ↦ λ e.
+            let before = tied_before R o s k.0 ks e (first_so _ _ h) in (
+              λ is. (
+                ap (λ r. cond (is_eq r) (Some k.1) (lookup (is_at (R s)) ks)) e,
+                ap (λ r. cond (is_lt r) (k ∷ beyond R s ks) (beyond R s ks)) e ∙ from_beyond s ks before,
+              ),
+              λ is. let f : true ≡ false = sym (ap is_eq e) ∙ is in absurd cc,
+            )
+        | Greater ↦ λ e. further s k ks (from s ks) e (from_around o s ks (second_so _ _ h))
+      ] refl
+
+  around_of : (o : IsTotalOrder R) (s : K) (es fs : List (K × X)) → T (is_sorted R es) → fs ≡ entries_between R (Included s) Unbounded es → Around s es fs
+  around_of o s es fs h between =
+      subst (λ (xs : List (K × X)). Around s es xs) (sym (between ∙ filter_same (λ k. is_le (R s k.0) && true) (λ k. is_le (R s k.0)) (λ k. after_all (is_le (R s k.0))) es)) (from_around o s es h)
+
+module _ {K V : Type 0} (R : K → K → Ordering) (o : IsTotalOrder R) (s : K) (es fs : List (K × List (List K × V))) (h : T (is_sorted R es)) (between : fs ≡ entries_between R (Included s) Unbounded es) where
+  -- nothing stands from the subscript on
+  pub around_none : fs ≡ [] → (lookup (is_at (R s)) es ≡ None) × (lead (below (beyond R s es)) ≡ None)
+  around_none none =
+      let a = subst (λ (xs : List (K × List (List K × V))). Around R s es xs) none (around_of R o s es fs h between) in
+      (a.0, ap (λ (ks : List (K × List (List K × V))). lead (below ks)) a.1)
+
+  module _ (x : Bor K × Bor (List (List K × V))) (t : List (K × List (List K × V))) (taken : fs ≡ deref_pair x ∷ t) where
+    first_around : Around R s es (deref_pair x ∷ t)
+    first_around = subst (λ (xs : List (K × List (List K × V))). Around R s es xs) taken (around_of R o s es fs h between)
+
+    -- the first that does stands beyond it
+    pub around_aside : AreFilled es → is_eq (R s x.0.now) ≡ false → (lookup (is_at (R s)) es ≡ None) × (0 < length x.1.now) × (lead (below (beyond R s es)) ≡ option_map (λ q. x.0.now ∷ q) (lead x.1.now))
+    around_aside f is =
+        let a = first_around.1 is in
+        let some : AreFilled (deref_pair x ∷ t) = subst AreFilled a.1 (filled_beyond R s es f) in
+        (a.0, some.0, ap (λ (ks : List (K × List (List K × V))). lead (below ks)) a.1 ∙ lead_filled x.0.now x.1.now (below t) some.0)
+
+    -- it stands at it, and is the last
+    pub around_last : is_eq (R s x.0.now) ≡ true → t ≡ [] → (lookup (is_at (R s)) es ≡ Some x.1.now) × (lead (below (beyond R s es)) ≡ None)
+    around_last is none =
+        let a = first_around.0 is in
+        (a.0, ap (λ (ks : List (K × List (List K × V))). lead (below ks)) (a.1 ∙ none))
+
+    -- it stands at it, and another one beyond
+    pub around_next : (y : Bor K × Bor (List (List K × V))) (u : List (K × List (List K × V))) → AreFilled es → is_eq (R s x.0.now) ≡ true → t ≡ deref_pair y ∷ u → (lookup (is_at (R s)) es ≡ Some x.1.now) × (0 < length y.1.now) × (lead (below (beyond R s es)) ≡ option_map (λ q. y.0.now ∷ q) (lead y.1.now))
+    around_next y u f is more =
+        let a = first_around.0 is in
+        let some : AreFilled (deref_pair y ∷ u) = subst AreFilled (a.1 ∙ more) (filled_beyond R s es f) in
+        (a.0, some.0, ap (λ (ks : List (K × List (List K × V))). lead (below ks)) (a.1 ∙ more) ∙ lead_filled y.0.now y.1.now (below u) some.0)

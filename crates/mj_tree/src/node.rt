@@ -1,12 +1,12 @@
 // A node: a text of its own, and children by their subscripts.
 
-ghost use Rattle.std.specs.Prelude.{◌≡◌, ◌<◌, ◌≤◌, ◌↔◌, [], ◌∷◌, ◌++◌, take, length, option_copied, IsTrue, IfSome, IfOk, OnOk, OnErr, MatchOption};
+ghost use Rattle.std.specs.Prelude.{◌≡◌, ◌<◌, ◌≤◌, ◌↔◌, [], ◌∷◌, ◌++◌, take, length, option_copied, IsTrue, IfSome, IfOk, OnOk, OnErr, MatchOption, T};
 ghost use Rattle.std.specs.Option.{option_map};
-ghost use Rattle.std.specs.FinMap.{find, put};
+ghost use Rattle.std.specs.FinMap.{find, is_sorted, put};
 ghost use Rattle.std.specs.Cmp.Lexicographic.{slice_cmp};
 ghost use Rattle.mj_subs.specs.Collation.{subscript_cmp};
 ghost use Rattle.std.specs.BTreeMap.{keys, insert_entry, is_at};
-ghost use Rattle.std.specs.Map.{remove_entry};
+ghost use Rattle.std.specs.Map.{lookup, remove_entry};
 ghost use Rattle.mj_store.specs.declared.store.Direction.TheVariants as way;
 ghost use Rattle.mj_store.specs.Nodes.{is_empty, subtree, data_of, first_subscripts, next_past};
 ghost use Rattle.mj_tree.specs.Nest.{AreFilled, behind, below, beyond, lead, later, nodes_of, own, put_behind, without};
@@ -134,13 +134,16 @@ impl Node {
                 None => None,
                 Some((sub, child)) => Some((0, sub, child)),
             },
-            [sub, rest @ ..] => match self.children.get(sub) {
-                None => aside(&self.children, sub),
-                Some(child) => match child.turn(rest) {
-                    None => aside(&self.children, sub),
-                    Some((kept, next, below)) => Some((kept + 1, next, below)),
-                },
-            },
+            [sub, rest @ ..] => {
+                let (child, aside) = around(&self.children, sub);
+                match child {
+                    None => aside,
+                    Some(child) => match child.turn(rest) {
+                        None => aside,
+                        Some((kept, next, below)) => Some((kept + 1, next, below)),
+                    },
+                }
+            }
         }
     }
 
@@ -356,15 +359,28 @@ fn extend(list: &mut Subs, more: &[Sub]) -> Result<(), AllocError>
     Ok(())
 }
 
-// The first child after this subscript. None of a path stays there.
-fn aside<'a>(children: &'a BTreeMap<Sub, Node>, sub: &Sub) -> Option<(usize, &'a Sub, &'a Node)>
-    requires { AreFilled children.now.entries }
-    ensures { MatchOption result (lead (below (beyond subscript_cmp sub.now children.now.entries)) ≡ None) (λ t. (t.0 ≡ 0) × (0 < length t.2.now) × (lead (below (beyond subscript_cmp sub.now children.now.entries)) ≡ option_map (λ rest. t.1.now ∷ rest) (lead t.2.now))) }
+// The child at a subscript, and the first child after it, where none of a path stays.
+fn around<'a>(
+    children: &'a BTreeMap<Sub, Node>,
+    sub: &Sub,
+) -> (Option<&'a Node>, Option<(usize, &'a Sub, &'a Node)>)
+    requires rises { T (is_sorted subscript_cmp children.now.entries) }
+    requires filled { AreFilled children.now.entries }
+    ensures child { option_copied result.0 ≡ lookup (is_at (subscript_cmp sub.now)) children.now.entries }
+    ensures aside { MatchOption result.1 (lead (below (beyond subscript_cmp sub.now children.now.entries)) ≡ None) (λ t. (t.0 ≡ 0) × (0 < length t.2.now) × (lead (below (beyond subscript_cmp sub.now children.now.entries)) ≡ option_map (λ rest. t.1.now ∷ rest) (lead t.2.now))) }
 {
-    let mut others = children.range((Bound::Excluded(sub), Bound::Unbounded));
-    match others.next() {
-        None => None,
-        Some((next, child)) => Some((0, next, child)),
+    let mut from = children.range((Bound::Included(sub), Bound::Unbounded));
+    match from.next() {
+        None => (None, None),
+        Some((first, child)) => {
+            if !sub.cmp(first).is_eq() {
+                return (None, Some((0, first, child)));
+            }
+            match from.next() {
+                None => (Some(child), None),
+                Some((next, other)) => (Some(child), Some((0, next, other))),
+            }
+        }
     }
 }
 

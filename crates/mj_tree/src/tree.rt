@@ -1,6 +1,6 @@
 // A tree: what stands at the names of one word.
 
-ghost use Rattle.std.specs.Prelude.{◌≡◌, ◌↔◌, [], option_copied, IsTrue, IfOk, OnOk, OnErr, T};
+ghost use Rattle.std.specs.Prelude.{◌≡◌, ◌↔◌, if◌then◌else◌, [], option_copied, IsTrue, IfOk, IfErr, OnOk, OnErr, T};
 ghost use Rattle.std.specs.FinMap.{find, put, is_sorted};
 ghost use Rattle.std.specs.Cmp.Lexicographic.{slice_cmp};
 ghost use Rattle.mj_subs.specs.Collation.{subscript_cmp};
@@ -116,10 +116,11 @@ impl Tree {
     }
 
     /// The list followed by each of the nodes' lists has that node's text from now on. Nothing goes. `Limit` where one would be too
-    /// long.
+    /// long, and otherwise nothing but memory can be wanting.
     pub fn put(&mut self, path: &Subs, nodes: &Nodes) -> Result<(), Failure>
         ensures ok { OnOk result (self.new ≡ put_behind subscript_cmp path.now nodes.now self.old) }
         ensures limit { (result ≡ Err (failure.Fault fault.Limit)) ↔ IsTrue (is_too_long path.now nodes.now) }
+        ensures error { IfErr result (λ e. e ≡ (if is_too_long path.now nodes.now then failure.Fault fault.Limit else failure.Memory)) }
         ensures err { OnErr result (self.new ≡ self.old) }
     {
         if is_too_long(path, nodes.as_slice()) {

@@ -11,7 +11,7 @@ use Rattle.mj_jobvm.proofs.variables.read_local.Goals as goal
 pub returns-in-None-clause-ok : goal.returns-in-None-clause-ok
 returns-in-None-clause-ok c = λ reply.
     let old = c.args.machine.now in
-    let none : value_at old.locals c.args.name.now ≡ None = sym c.get.ensures ∙ ap option_copied c.in-None.is in
+    let none : value_at old.locals c.args.name.now ≡ None = sym c.value.ensures ∙ ap option_copied c.in-None.is in
     does_as (λ next. read c.args.name.now (λ v. next (c.args.pc + 1) (v ∷ drop c.args.count (stack_of old)))) (λ next. fault Undefined)
     old reply c.fail.result c.fail.new.machine
     (λ next n replies. read_made c.args.name.now (λ v. next (c.args.pc + 1) (v ∷ drop c.args.count (stack_of old))) n (state_of old) None replies c.requires.local none)

@@ -1,11 +1,13 @@
 use Rattle.std.proofs.Common.{◌≡◌, ℕ, Bool, List, sym, ap, ◌∙◌, subst}
-use Rattle.std.specs.Prelude.{IsTrue}
+use Rattle.std.specs.Prelude.{IsTrue, IfErr, if◌then◌else◌}
 use Rattle.std.proofs.lemmas.Result.{on_ok_weaker, on_err_weaker}
 use Rattle.mj_store.specs.Questions.{Content}
 use Rattle.mj_store.specs.Changes.{after_put}
 use Rattle.mj_tree.specs.Nest.{is_too_long}
 use Rattle.mj_globs.specs.Words.{Words, spelled, name, of_kind, of_both}
 use Rattle.mj_globs.proofs.Both.{put_globals, put_locals, rises_put, rises_either}
+use Rattle.mj_text.specs.declared.fault.Failure.TheVariants as failure
+use Rattle.mj_text.specs.declared.fault.Fault.TheVariants as fault
 use Rattle.mj_globs.proofs.globals.GlobalsStore.put.Goals as goal
 
 pub invariant_of-self : goal.invariant_of-self
@@ -31,3 +33,11 @@ returns-clause-limit c = (
   λ e. subst (λ (p : List (List ℕ)). IsTrue (is_too_long p c.args.nodes.now)) c.subscripts-2.ensures (c.put-2.ensures.limit.0 e),
   λ h. c.put-2.ensures.limit.1 (subst (λ (p : List (List ℕ)). IsTrue (is_too_long p c.args.nodes.now)) (sym c.subscripts-2.ensures) h),
 )
+
+pub returns-then-is_global-clause-error : goal.returns-then-is_global-clause-error
+returns-then-is_global-clause-error c =
+    subst (λ (p : List (List ℕ)). IfErr c.put.result (λ e. e ≡ (if is_too_long p c.args.nodes.now then failure.Fault fault.Limit else failure.Memory))) c.subscripts.ensures c.put.ensures.error
+
+pub returns-clause-error : goal.returns-clause-error
+returns-clause-error c =
+    subst (λ (p : List (List ℕ)). IfErr c.put-2.result (λ e. e ≡ (if is_too_long p c.args.nodes.now then failure.Fault fault.Limit else failure.Memory))) c.subscripts-2.ensures c.put-2.ensures.error
