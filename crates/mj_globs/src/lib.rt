@@ -7,6 +7,7 @@
 
 mod change;
 mod globals;
+mod keep;
 mod words;
 
 pub use change::Change;
