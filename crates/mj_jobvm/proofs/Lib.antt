@@ -7,3 +7,4 @@ pub mod Innermost
 pub mod Asks
 pub mod Loops
 pub mod Small
+pub mod Altered

@@ -36,7 +36,7 @@ pub fn value_of(alloc: Global, function: Function, arguments: &[Text]) -> Result
 }
 
 /// The argument behind `n` others, which is always there.
-fn needed<'a>(arguments: &'a [Text], n: usize, none: &'a Text) -> &'a Text
+pub fn needed<'a>(arguments: &'a [Text], n: usize, none: &'a Text) -> &'a Text
     requires { none.now ≡ [] }
     ensures { result.now ≡ needed_of n arguments.now }
 {
@@ -47,7 +47,7 @@ fn needed<'a>(arguments: &'a [Text], n: usize, none: &'a Text) -> &'a Text
 }
 
 /// The argument behind `n` others, if there is one.
-fn optional(arguments: &[Text], n: usize) -> Option<&Text>
+pub fn optional(arguments: &[Text], n: usize) -> Option<&Text>
     ensures { option_copied result ≡ optional_of n arguments.now }
 {
     arguments.get(n)
