@@ -1,23 +1,26 @@
 -- The code of each piece of a routine does what the piece does.
 use Rattle.std.proofs.Common.{◌≡◌, ℕ, zero, suc, ◌+◌, ◌<◌, ◌≤◌, List, [], ◌∷◌, ◌++◌, length, reverse, take, drop, map, Option, Some, None, refl, sym, ap, ◌∙◌, subst, arith, append_assoc, length-append}
 use Rattle.std.proofs.lemmas.List.{reverse-append, reverse-reverse, length-reverse}
-use Rattle.std.proofs.Math.Seq.{drop-append_seam, take-append_seam}
-use Rattle.std.specs.Prelude.{slice_get}
+use Rattle.std.proofs.Math.Seq.{drop-append_seam, take-append_seam, drop-drop}
+use Rattle.std.specs.Prelude.{slice_get, Ok}
 use Rattle.mj_subs.specs.Name.{Name}
 use Rattle.mj_oper.specs.Operators.{binary_value, unary_value, truth_value}
 use Rattle.mj_text.specs.declared.fault.Fault.TheVariants.{Select as NoTrue}
-use Rattle.mj_ast.specs.Syntax.{Expr, Chain, Tails, Done, Then, Operand, Literal, Value, Unary, Group, Call, Select, Variable, Var, Exprs, No, More, Choices, Last, Before, Assignment, Output, Shown, Format, Command, Set, Write, Halt, Step}
+use Rattle.mj_ast.specs.Syntax.{Expr, Chain, Tails, Done, Then, Operand, Literal, Value, Unary, Group, Call, Select, Variable, Var, Exprs, No, More, Choices, Last, Before, Destination, Plain, Pieces, Targets, One, Several, Assignment, Killed, Gone, Spared, Merged, Output, Shown, Format, Command, Set, Write, Halt, Kill, Merge, Step}
 use Rattle.mj_semantics.specs.Functions.{call_value}
-use Rattle.mj_semantics.specs.Outcome.{Timed, turn, given, fault}
+use Rattle.mj_semantics.specs.State.{spare}
+use Rattle.mj_semantics.specs.Outcome.{Timed, turn, change, given, fault}
 use Rattle.mj_semantics.specs.Evaluation.{ev, ev_tails, ev_operand, ev_choices, ev_name, ev_all, name_of, read, when}
 use Rattle.mj_semantics.specs.Points.{Ways}
-use Rattle.mj_semantics.specs.Commands.{store, assign, assign_all, mark_byte, output, output_all, obey, obey_all}
+use Rattle.mj_semantics.specs.Commands.{Aim, Whole, Part, ev_destination, ev_destinations, store, renew, put, put_all, assign_to, assign, assign_all, remove, kill, kill_list, kill_all, take_nodes, put_nodes, merge, merge_all, mark_byte, output, output_all, obey, obey_all}
+use Rattle.mj_pcode.specs.declared.instr.Reference.{Reference}
+use Rattle.mj_pcode.specs.declared.instr.Depth.{Depth}
 use Rattle.mj_pcode.specs.declared.instr.Instr.{Instr}
 use Rattle.mj_pcode.specs.declared.instr.Instr.TheVariants as instr
 use Rattle.mj_pcode.specs.declared.instr.Unit as unit
-use Rattle.mj_pcode.specs.Machine.{Stack, act, exec, operands}
-use Rattle.mj_asm.specs.Code.{count, reference, expr_code, tails_code, operand_code, choices_code, subscripts_code, exprs_code, assignment_code, assignments_code, output_code, outputs_code, command_code, code_if, step_code, steps_code}
-use Rattle.mj_asm.proofs.Agree.{Agree, if_at, given_at, read_at, store_at, write_at}
+use Rattle.mj_pcode.specs.Machine.{Stack, top, act, exec, operands}
+use Rattle.mj_asm.specs.Code.{count, reference, expr_code, tails_code, operand_code, choices_code, subscripts_code, exprs_code, size, sizes, destination_code, destinations_code, store_code, stores_code, targets_code, assignment_code, assignments_code, kill_code, kills_code, kill_all_code, merge_code, merges_code, output_code, outputs_code, command_code, code_if, step_code, steps_code}
+use Rattle.mj_asm.proofs.Agree.{Agree, if_at, given_at, change_at, read_at, store_at, renew_at, remove_at, take_nodes_at, put_nodes_at, write_at}
 
 -- the instructions stand in the code at this place
 abbrev pub HasAt : List Instr → ℕ → List Instr → Type 0
@@ -53,6 +56,47 @@ operands_are vs stack n e =
     ap (λ l. reverse (take n l)) (onto_is vs stack) ∙ ap (λ k. reverse (take k (reverse vs ++ stack))) (sym (length-reverse vs ∙ e))
     ∙ ap reverse (take-append_seam (reverse vs) stack) ∙ reverse-reverse vs
 
+-- one more is taken off
+drop_more : (k : ℕ) (v : List ℕ) (stack : Stack) → drop (k + 1) (v ∷ stack) ≡ drop k stack
+drop_more k v stack = let e : k + 1 ≡ suc k = omega arith in ap (λ j. drop j (v ∷ stack)) e
+
+-- the operands of a destination lie on a stack
+abbrev Lies : Destination → Aim → Stack → Stack → Type 0
+Lies (Plain v) (Whole x) stack base =
+    (ss : List (List ℕ)) × (length ss ≡ (reference v).count) × (name_of (reference v).scope (reference v).word ss ≡ Ok x)
+    × (stack ≡ onto ss base)
+Lies (Plain v) (Part x ts) stack base = ⊥
+Lies (Pieces v es) (Whole x) stack base = ⊥
+Lies (Pieces v es) (Part x ts) stack base =
+    (ss : List (List ℕ)) × (length ss ≡ (reference v).count) × (name_of (reference v).scope (reference v).word ss ≡ Ok x)
+    × (length ts ≡ count es) × (stack ≡ onto ts (onto ss base))
+
+-- and those of a list of them, one upon the other
+abbrev LieAll : List Destination → List Aim → Stack → Stack → Type 0
+LieAll [] [] stack base = stack ≡ base
+LieAll [] (t ∷ ts) stack base = ⊥
+LieAll (d ∷ list) [] stack base = ⊥
+LieAll (d ∷ list) (t ∷ ts) stack base = (mid : Stack) × Lies d t mid base × LieAll list ts stack mid
+
+below_one : (d : Destination) (t : Aim) (stack base : Stack) → Lies d t stack base → drop (size d) stack ≡ base
+below_one (Plain v) (Whole x) stack base l = ap (drop (reference v).count) l.3 ∙ rest_below l.0 base (reference v).count l.1
+below_one (Plain v) (Part x ts) stack base l = absurd l
+below_one (Pieces v es) (Whole x) stack base l = absurd l
+below_one (Pieces v es) (Part x ts) stack base l =
+    let n = (reference v).count in
+    let e : n + count es ≡ count es + n = omega arith in
+    ap (λ k. drop k stack) e ∙ sym (drop-drop n (count es) stack)
+    ∙ ap (λ st. drop n (drop (count es) st)) l.4 ∙ ap (drop n) (rest_below ts (onto l.0 base) (count es) l.3) ∙ rest_below l.0 base n l.1
+
+below_all : (list : List Destination) (ts : List Aim) (stack base : Stack) → LieAll list ts stack base → drop (sizes list) stack ≡ base
+below_all [] [] stack base l = l
+below_all [] (t ∷ ts) stack base l = absurd l
+below_all (d ∷ list) [] stack base l = absurd l
+below_all (d ∷ list) (t ∷ ts) stack base l =
+    let e : size d + sizes list ≡ sizes list + size d = omega arith in
+    ap (λ k. drop k stack) e ∙ sym (drop-drop (size d) (sizes list) stack)
+    ∙ ap (drop (size d)) (below_all list ts stack l.0 l.2) ∙ below_one d t l.0 base l.1
+
 module _ (u : unit.Unit) where
   abbrev code : List Instr
   code = u.instrs.items
@@ -77,6 +121,10 @@ module _ (u : unit.Unit) where
     -- from another place that is the same
     pub moved : (pc pc' : ℕ) (stack : Stack) (rest : Timed) → pc ≡ pc' → Agree b (from pc' stack) rest → Agree b (from pc stack) rest
     moved pc pc' stack rest e h = record { by = λ n le. ap (λ p. exec u n p stack) e ∙ h.by n le }
+
+    -- with another stack that is the same
+    over : (pc : ℕ) (stack stack' : Stack) (rest : Timed) → stack ≡ stack' → Agree b (from pc stack') rest → Agree b (from pc stack) rest
+    over pc stack stack' rest e h = record { by = λ n le. ap (λ st. exec u n pc st) e ∙ h.by n le }
 
     end_of : (pc : ℕ) (is : List Instr) (i : Instr) → pc + length is + 1 ≡ pc + length (is ++ i ∷ [])
     end_of pc is i = omega (arith, length-append is (i ∷ []))
@@ -183,23 +231,124 @@ module _ (u : unit.Unit) where
           all_follow es (pc + length ce) (v ∷ stack) _ (has_back code pc ce _ has) (λ vs many.
           moved _ _ (onto vs (v ∷ stack)) (rest (v ∷ vs)) (seam pc ce cr) (k (v ∷ vs) (omega (arith, many)))))
 
+    -- a name that is looked at, and then what comes behind it
+    checked : (v : Variable) (pc : ℕ) (stack : Stack) (rest : Name → Timed) → HasAt code pc (subscripts_code pc v) → slice_get code (pc + length (subscripts_code pc v)) ≡ Some (instr.Check (reference v))
+        → ((x : Name) (ss : List (List ℕ)) → length ss ≡ (reference v).count → name_of (reference v).scope (reference v).word ss ≡ Ok x → Agree b (from (pc + length (subscripts_code pc v) + 1) (onto ss stack)) (rest x))
+        → Agree b (from pc stack) (ev_name v rest)
+    checked v pc stack rest has at k =
+        let r = reference v in
+        let behind = pc + length (subscripts_code pc v) + 1 in
+        name_follows v (instr.Check r) pc stack rest has at (λ ss n lt many.
+        ap (λ l. given (name_of r.scope r.word l) (λ x m. exec u n behind (onto ss stack)) n) (operands_are ss stack _ many)
+        ∙ given_at n (name_of r.scope r.word ss) (λ x m. exec u n behind (onto ss stack)) rest (λ x e. (k x ss many e).by n (omega arith)))
+
+    destination_follows : (d : Destination) (pc : ℕ) (stack : Stack) (rest : Aim → Timed) → HasAt code pc (destination_code pc d)
+        → ((t : Aim) (st : Stack) → Lies d t st stack → Agree b (from (pc + length (destination_code pc d)) st) (rest t))
+        → Agree b (from pc stack) (ev_destination d rest)
+    destination_follows (Plain v) pc stack rest has k =
+        let cs = subscripts_code pc v in
+        let i = instr.Check (reference v) in
+        checked v pc stack _ (has_front code pc cs _ has) (has_back code pc cs _ has).0 (λ x ss many e.
+        moved _ _ (onto ss stack) (rest (Whole x)) (end_of pc cs i) (k (Whole x) (onto ss stack) (ss, many, e, refl)))
+    destination_follows (Pieces v es) pc stack rest has k =
+        let cs = subscripts_code pc v in
+        let i = instr.Check (reference v) in
+        let ce = exprs_code (pc + length cs + 1) es in
+        let len : pc + length cs + 1 + length ce ≡ pc + length (cs ++ i ∷ ce) = omega (arith, length-append cs (i ∷ ce)) in
+        let back = has_back code pc cs (i ∷ ce) has in
+        checked v pc stack _ (has_front code pc cs _ has) back.0 (λ x ss many e.
+        all_follow es (pc + length cs + 1) (onto ss stack) _ back.1 (λ ts many'.
+        moved _ _ (onto ts (onto ss stack)) (rest (Part x ts)) len (k (Part x ts) (onto ts (onto ss stack)) (ss, many, e, many', refl))))
+
+    destinations_follow : (list : List Destination) (pc : ℕ) (stack : Stack) (rest : List Aim → Timed) → HasAt code pc (destinations_code pc list)
+        → ((ts : List Aim) (st : Stack) → LieAll list ts st stack → Agree b (from (pc + length (destinations_code pc list)) st) (rest ts))
+        → Agree b (from pc stack) (ev_destinations list rest)
+    destinations_follow [] pc stack rest has k = moved pc (pc + 0) stack (rest []) (omega arith) (k [] stack refl)
+    destinations_follow (d ∷ list) pc stack rest has k =
+        let cd = destination_code pc d in
+        destination_follows d pc stack _ (has_front code pc cd _ has) (λ t mid l.
+        destinations_follow list (pc + length cd) mid _ (has_back code pc cd _ has) (λ ts st ls.
+        moved _ _ st (rest (t ∷ ts)) (seam pc cd (destinations_code (pc + length cd) list)) (k (t ∷ ts) st (mid, l, ls))))
+
+    -- the topmost operand is assigned to a name whose subscripts lie at a depth
+    stored : (r : Reference) (depth : Depth) (x : Name) (ss : List (List ℕ)) (pc : ℕ) (stack base : Stack) (rest : Timed)
+        → length ss ≡ r.count → name_of r.scope r.word ss ≡ Ok x → drop depth.above stack ≡ onto ss base
+        → slice_get code pc ≡ Some (instr.Store r depth) → Agree b (from (pc + 1) (drop depth.taken stack)) rest
+        → Agree b (from pc stack) (turn (store x (top stack) rest))
+    stored r depth x ss pc stack base rest many e under at k =
+        one pc stack (instr.Store r depth) _ at (λ n lt.
+        ap (λ l. given (name_of r.scope r.word (operands r.count l)) (λ y. store y (top stack) (λ q. exec u n (pc + 1) (drop depth.taken stack))) n) under
+        ∙ ap (λ l. given (name_of r.scope r.word l) (λ y. store y (top stack) (λ q. exec u n (pc + 1) (drop depth.taken stack))) n) (operands_are ss base r.count many)
+        ∙ ap (λ o. given o (λ y. store y (top stack) (λ q. exec u n (pc + 1) (drop depth.taken stack))) n) e
+        ∙ store_at n x (top stack) (λ q. exec u n (pc + 1) (drop depth.taken stack)) rest (k.by n (omega arith)))
+
+    store_follows : (d : Destination) (t : Aim) (depth : Depth) (pc : ℕ) (stack base : Stack) (rest : Timed)
+        → Lies d t (drop depth.above stack) base → HasAt code pc (store_code d depth)
+        → Agree b (from (pc + length (store_code d depth)) (drop depth.taken stack)) rest
+        → Agree b (from pc stack) (turn (put t (top stack) rest))
+    store_follows (Plain v) (Whole x) depth pc stack base rest l has k =
+        stored (reference v) depth x l.0 pc stack base rest l.1 l.2 l.3 has.0 k
+    store_follows (Plain v) (Part x ts) depth pc stack base rest l has k = absurd l
+    store_follows (Pieces v es) (Whole x) depth pc stack base rest l has k = absurd l
+    store_follows (Pieces v es) (Part x ts) depth pc stack base rest l has k =
+        let r = reference v in
+        let n = count es in
+        let behind : ℕ → List ℕ → Timed = λ m w q. exec u m (pc + 1) (w ∷ stack) in
+        let past : ℕ → Timed = λ m q. exec u m (pc + 2) (drop depth.taken stack) in
+        let under : drop n (drop depth.above stack) ≡ onto l.0 base = ap (drop n) l.4 ∙ rest_below ts (onto l.0 base) n l.3 in
+        let args : operands n (drop depth.above stack) ≡ ts = ap (operands n) l.4 ∙ operands_are ts (onto l.0 base) n l.3 in
+        let deeper : (w : List ℕ) → drop (depth.above + n + 1) (w ∷ stack) ≡ onto l.0 base = λ w. drop_more (depth.above + n) w stack ∙ sym (drop-drop n depth.above stack) ∙ under in
+        one pc stack (instr.Renew r n depth) _ has.0 (λ m lt.
+        ap (λ st. given (name_of r.scope r.word (operands r.count st)) (λ y. renew y (operands n (drop depth.above stack)) (top stack) (past m) (behind m)) m) under
+        ∙ ap (λ ss. given (name_of r.scope r.word ss) (λ y. renew y (operands n (drop depth.above stack)) (top stack) (past m) (behind m)) m) (operands_are l.0 base r.count l.1)
+        ∙ ap (λ o. given o (λ y. renew y (operands n (drop depth.above stack)) (top stack) (past m) (behind m)) m) l.2
+        ∙ ap (λ l. renew x l (top stack) (past m) (behind m) m) args
+        ∙ renew_at m x ts (top stack) (past m) rest (behind m) (λ w. turn (store x w rest)) ((moved (pc + 2) _ _ rest (omega arith) k).by m (omega arith))
+        (λ w. (stored r (record { above = depth.above + n + 1; taken = depth.taken + 1 }) x l.0 (pc + 1) (w ∷ stack) base rest l.1 l.2 (deeper w) has.1.0
+        (over (pc + 1 + 1) (drop (depth.taken + 1) (w ∷ stack)) (drop depth.taken stack) rest (drop_more depth.taken w stack) (moved (pc + 1 + 1) _ _ rest (omega arith) k))).by m (omega arith)))
+
+    stores_follow : (list : List Destination) (ts : List Aim) (pc : ℕ) (e : List ℕ) (full base : Stack) (rest : Timed)
+        → LieAll list ts full base → HasAt code pc (stores_code list)
+        → Agree b (from (pc + length (stores_code list)) (e ∷ full)) rest → Agree b (from pc (e ∷ full)) (put_all ts e rest)
+    stores_follow [] [] pc e full base rest l has k = moved pc (pc + 0) (e ∷ full) rest (omega arith) k
+    stores_follow [] (t ∷ ts) pc e full base rest l has k = absurd l
+    stores_follow (d ∷ list) [] pc e full base rest l has k = absurd l
+    stores_follow (d ∷ list) (t ∷ ts) pc e full base rest l has k =
+        let depth : Depth = record { above = sizes list + 1; taken = 0 } in
+        let cs = store_code d depth in
+        let under : drop (sizes list + 1) (e ∷ full) ≡ l.0 = drop_more (sizes list) e full ∙ below_all list ts full l.0 l.2 in
+        store_follows d t depth pc (e ∷ full) base (put_all ts e rest) (subst (λ st. Lies d t st base) (sym under) l.1) (has_front code pc cs _ has)
+        (stores_follow list ts (pc + length cs) e full l.0 rest l.2 (has_back code pc cs _ has) (moved _ _ (e ∷ full) rest (seam pc cs (stores_code list)) k))
+
+    targets_follow : (targets : Targets) (e : Expr) (pc : ℕ) (stack : Stack) (rest : Timed) → HasAt code pc (targets_code pc targets e) → Agree b (from (pc + length (targets_code pc targets e)) stack) rest → Agree b (from pc stack) (assign_to targets e rest)
+    targets_follow (One d) e pc stack rest has k =
+        let depth : Depth = record { above = 1; taken = size d + 1 } in
+        let cd = destination_code pc d in
+        let ce = expr_code (pc + length cd) e in
+        let cs = store_code d depth in
+        let back = has_back code pc cd (ce ++ cs) has in
+        let len : pc + length cd + length ce + length cs ≡ pc + length (cd ++ (ce ++ cs)) = omega (arith, length-append cd (ce ++ cs), length-append ce cs) in
+        destination_follows d pc stack _ (has_front code pc cd _ has) (λ t st l.
+        expr_follows e (pc + length cd) st (λ v. turn (put t v rest)) (has_front code (pc + length cd) ce _ back) (λ v.
+        store_follows d t depth (pc + length cd + length ce) (v ∷ st) stack rest l (has_back code (pc + length cd) ce _ back)
+        (over _ (drop (size d + 1) (v ∷ st)) stack rest (drop_more (size d) v st ∙ below_one d t st stack l) (moved _ _ stack rest len k))))
+    targets_follow (Several list) e pc stack rest has k =
+        let i = instr.Discard (sizes list + 1) in
+        let cd = destinations_code pc list in
+        let ce = expr_code (pc + length cd) e in
+        let cs = stores_code list in
+        let back = has_back code pc cd (ce ++ (cs ++ i ∷ [])) has in
+        let back' = has_back code (pc + length cd) ce (cs ++ i ∷ []) back in
+        let at = pc + length cd + length ce in
+        let len : at + length cs + 1 ≡ pc + length (cd ++ (ce ++ (cs ++ i ∷ []))) = omega (arith, length-append cd (ce ++ (cs ++ i ∷ [])), length-append ce (cs ++ i ∷ []), length-append cs (i ∷ [])) in
+        destinations_follow list pc stack _ (has_front code pc cd _ has) (λ ts st l.
+        expr_follows e (pc + length cd) st (λ v. put_all ts v (turn rest)) (has_front code (pc + length cd) ce _ back) (λ v.
+        stores_follow list ts at v st stack (turn rest) l (has_front code at cs _ back')
+        (one (at + length cs) (v ∷ st) i rest (has_back code at cs _ back').0 (λ n lt.
+        (over (at + length cs + 1) (drop (sizes list + 1) (v ∷ st)) stack rest (drop_more (sizes list) v st ∙ below_all list ts st stack l) (moved _ _ stack rest len k)).by n (omega arith)))))
+
     assign_follows : (a : Assignment) (pc : ℕ) (stack : Stack) (rest : Timed) → HasAt code pc (assignment_code pc a) → Agree b (from (pc + length (assignment_code pc a)) stack) rest → Agree b (from pc stack) (assign a rest)
-    assign_follows a pc stack rest has k =
-        let r = reference a.destination in
-        let cs = subscripts_code pc a.destination in
-        let pv = pc + length cs + 1 in
-        let cv = expr_code pv a.value in
-        let back = has_back code pc cs (instr.Check r ∷ (cv ++ instr.Store r ∷ [])) has in
-        let len : pv + length cv + 1 ≡ pc + length (cs ++ instr.Check r ∷ (cv ++ instr.Store r ∷ [])) = omega (arith, length-append cs (instr.Check r ∷ (cv ++ instr.Store r ∷ [])), length-append cv (instr.Store r ∷ [])) in
-        name_follows a.destination (instr.Check r) pc stack _ (has_front code pc cs _ has) back.0 (λ ss n lt many.
-        ap (λ l. given (name_of r.scope r.word l) (λ x m. exec u n pv (onto ss stack)) n) (operands_are ss stack _ many)
-        ∙ given_at n (name_of r.scope r.word ss) _ _ (λ x e.
-        (expr_follows a.value pv (onto ss stack) (λ v. turn (store x v rest)) (has_front code pv cv _ back.1) (λ v.
-        one (pv + length cv) (v ∷ onto ss stack) (instr.Store r) _ (has_back code pv cv _ back.1).0 (λ m lt'.
-        ap (λ l. given (name_of r.scope r.word l) (λ y. store y v (λ q. exec u m (pv + length cv + 1) (drop r.count (onto ss stack)))) m) (operands_are ss stack _ many)
-        ∙ ap (λ st. given (name_of r.scope r.word ss) (λ y. store y v (λ q. exec u m (pv + length cv + 1) st)) m) (rest_below ss stack _ many)
-        ∙ ap (λ o. given o (λ y. store y v (λ q. exec u m (pv + length cv + 1) stack)) m) e
-        ∙ store_at m x v (λ q. exec u m (pv + length cv + 1) stack) rest ((moved _ _ stack rest len k).by m (omega arith))))).by n (omega arith)))
+    assign_follows a pc stack rest has k = targets_follow a.targets a.value pc stack rest has k
 
     assigns_follow : (list : List Assignment) (pc : ℕ) (stack : Stack) (rest : Timed) → HasAt code pc (assignments_code pc list) → Agree b (from (pc + length (assignments_code pc list)) stack) rest → Agree b (from pc stack) (assign_all list rest)
     assigns_follow [] pc stack rest has k = moved pc (pc + 0) stack rest (omega arith) k
@@ -207,6 +356,71 @@ module _ (u : unit.Unit) where
         let ca = assignment_code pc a in
         assign_follows a pc stack _ (has_front code pc ca _ has)
         (assigns_follow list (pc + length ca) stack rest (has_back code pc ca _ has) (moved _ _ stack rest (seam pc ca (assignments_code (pc + length ca) list)) k))
+
+    kill_follows : (x : Killed) (pc : ℕ) (stack : Stack) (rest : Timed) → HasAt code pc (kill_code pc x) → Agree b (from (pc + length (kill_code pc x)) stack) rest → Agree b (from pc stack) (kill x rest)
+    kill_follows (Gone v) pc stack rest has k =
+        let r = reference v in
+        let cs = subscripts_code pc v in
+        let i = instr.Check r in
+        let j = instr.Kill r in
+        let behind = pc + length cs + 1 in
+        let back = has_back code pc cs (i ∷ j ∷ []) has in
+        let len : behind + 1 ≡ pc + length (cs ++ i ∷ j ∷ []) = omega (arith, length-append cs (i ∷ j ∷ [])) in
+        checked v pc stack _ (has_front code pc cs _ has) back.0 (λ x ss many e.
+        one behind (onto ss stack) j _ back.1.0 (λ n lt.
+        ap (λ l. given (name_of r.scope r.word l) (λ y. remove y (λ q. exec u n (behind + 1) (drop r.count (onto ss stack)))) n) (operands_are ss stack _ many)
+        ∙ ap (λ o. given o (λ y. remove y (λ q. exec u n (behind + 1) (drop r.count (onto ss stack)))) n) e
+        ∙ remove_at n x (λ q. exec u n (behind + 1) (drop r.count (onto ss stack))) rest
+        ((over (behind + 1) (drop r.count (onto ss stack)) stack rest (rest_below ss stack _ many) (moved _ _ stack rest len k)).by n (omega arith))))
+    kill_follows (Spared words) pc stack rest has k =
+        one pc stack (instr.Spare words) _ has.0 (λ n lt. change_at n (spare words) (λ q. exec u n (pc + 1) stack) rest (k.by n (omega arith)))
+
+    kills_follow : (list : List Killed) (pc : ℕ) (stack : Stack) (rest : Timed) → HasAt code pc (kills_code pc list) → Agree b (from (pc + length (kills_code pc list)) stack) rest → Agree b (from pc stack) (kill_list list rest)
+    kills_follow [] pc stack rest has k = moved pc (pc + 0) stack rest (omega arith) k
+    kills_follow (x ∷ list) pc stack rest has k =
+        let cx = kill_code pc x in
+        kill_follows x pc stack _ (has_front code pc cx _ has)
+        (kills_follow list (pc + length cx) stack rest (has_back code pc cx _ has) (moved _ _ stack rest (seam pc cx (kills_code (pc + length cx) list)) k))
+
+    kill_all_follows : (list : List Killed) (pc : ℕ) (stack : Stack) (rest : Timed) → HasAt code pc (kill_all_code pc list) → Agree b (from (pc + length (kill_all_code pc list)) stack) rest → Agree b (from pc stack) (kill_all list rest)
+    kill_all_follows [] pc stack rest has k =
+        one pc stack (instr.Spare []) _ has.0 (λ n lt. change_at n (spare []) (λ q. exec u n (pc + 1) stack) rest (k.by n (omega arith)))
+    kill_all_follows (x ∷ list) pc stack rest has k = kills_follow (x ∷ list) pc stack rest has k
+
+    merge_follows : (m : Merged) (pc : ℕ) (stack : Stack) (rest : Timed) → HasAt code pc (merge_code pc m) → Agree b (from (pc + length (merge_code pc m)) stack) rest → Agree b (from pc stack) (merge m rest)
+    merge_follows m pc stack rest has k =
+        let a = reference m.into in
+        let f = reference m.from in
+        let ca = subscripts_code pc m.into in
+        let behind = pc + length ca + 1 in
+        let cf = subscripts_code behind m.from in
+        let i = instr.Check a in
+        let j = instr.Take a f in
+        let p = instr.Put a in
+        let at = behind + length cf in
+        let back = has_back code pc ca (i ∷ (cf ++ j ∷ p ∷ [])) has in
+        let back' = has_back code behind cf (j ∷ p ∷ []) back.1 in
+        let len : at + 1 + 1 ≡ pc + length (ca ++ i ∷ (cf ++ j ∷ p ∷ [])) = omega (arith, length-append ca (i ∷ (cf ++ j ∷ p ∷ [])), length-append cf (j ∷ p ∷ [])) in
+        checked m.into pc stack _ (has_front code pc ca _ has) back.0 (λ x ss many e.
+        name_follows m.from j behind (onto ss stack) _ (has_front code behind cf _ back.1) back'.0 (λ qs n lt many'.
+        ap (λ l. given (name_of f.scope f.word l) (λ y. given (name_of a.scope a.word (operands a.count (drop f.count (onto qs (onto ss stack))))) (λ z. take_nodes z y (λ q. exec u n (at + 1) (drop f.count (onto qs (onto ss stack)))))) n) (operands_are qs (onto ss stack) _ many')
+        ∙ ap (λ st. given (name_of f.scope f.word qs) (λ y. given (name_of a.scope a.word (operands a.count st)) (λ z. take_nodes z y (λ q. exec u n (at + 1) st))) n) (rest_below qs (onto ss stack) _ many')
+        ∙ given_at n (name_of f.scope f.word qs) (λ y. given (name_of a.scope a.word (operands a.count (onto ss stack))) (λ z. take_nodes z y (λ q. exec u n (at + 1) (onto ss stack)))) (λ y. take_nodes x y (turn (put_nodes x rest))) (λ y e'.
+        ap (λ l. given (name_of a.scope a.word l) (λ z. take_nodes z y (λ q. exec u n (at + 1) (onto ss stack))) n) (operands_are ss stack _ many)
+        ∙ ap (λ o. given o (λ z. take_nodes z y (λ q. exec u n (at + 1) (onto ss stack))) n) e
+        ∙ take_nodes_at n x y (λ q. exec u n (at + 1) (onto ss stack)) (turn (put_nodes x rest))
+        ((one (at + 1) (onto ss stack) p (put_nodes x rest) back'.1.0 (λ o lt'.
+        ap (λ l. given (name_of a.scope a.word l) (λ z. put_nodes z (λ q. exec u o (at + 1 + 1) (drop a.count (onto ss stack)))) o) (operands_are ss stack _ many)
+        ∙ ap (λ r. given r (λ z. put_nodes z (λ q. exec u o (at + 1 + 1) (drop a.count (onto ss stack)))) o) e
+        ∙ put_nodes_at o x (λ q. exec u o (at + 1 + 1) (drop a.count (onto ss stack))) rest
+        ((over (at + 1 + 1) (drop a.count (onto ss stack)) stack rest (rest_below ss stack _ many) (moved _ _ stack rest len k)).by o (omega arith)))).by n (omega arith)))))
+
+    merges_follow : (list : List Merged) (pc : ℕ) (stack : Stack) (rest : Timed) → HasAt code pc (merges_code pc list) → Agree b (from (pc + length (merges_code pc list)) stack) rest → Agree b (from pc stack) (merge_all list rest)
+    merges_follow [] pc stack rest has k = moved pc (pc + 0) stack rest (omega arith) k
+    merges_follow (m ∷ list) pc stack rest has k =
+        let cm = merge_code pc m in
+        merge_follows m pc stack _ (has_front code pc cm _ has)
+        (merges_follow list (pc + length cm) stack rest (has_back code pc cm _ has) (moved _ _ stack rest (seam pc cm (merges_code (pc + length cm) list)) k))
 
     output_follows : (o : Output) (pc : ℕ) (stack : Stack) (rest : Timed) → HasAt code pc (output_code pc o) → Agree b (from (pc + length (output_code pc o)) stack) rest → Agree b (from pc stack) (output o rest)
     output_follows (Shown e) pc stack rest has k =
@@ -228,6 +442,8 @@ module _ (u : unit.Unit) where
     command_follows (Set list) ways pc stack rest has k = assigns_follow list pc stack rest has k
     command_follows (Write list) ways pc stack rest has k = outputs_follow list pc stack rest has k
     command_follows Halt ways pc stack rest has k = one pc stack instr.Halt _ has.0 (λ n lt. refl)
+    command_follows (Kill list) ways pc stack rest has k = kill_all_follows list pc stack rest has k
+    command_follows (Merge list) ways pc stack rest has k = merges_follow list pc stack rest has k
 
     -- a command behind a postcondition, and what comes after it
     when_follows : (o : Option Expr) (c : Command) (ways : Ways) (pc : ℕ) (stack : Stack) (rest : Timed) → HasAt code pc (code_if pc o c) → Agree b (from (pc + length (code_if pc o c)) stack) rest → Agree b (from pc stack) (when o (obey c ways rest) rest)

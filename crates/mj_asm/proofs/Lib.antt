@@ -4,4 +4,5 @@ pub mod Follows
 pub mod Lines
 pub mod Labels
 pub mod Emitted
+pub mod Counted
 pub mod Examples

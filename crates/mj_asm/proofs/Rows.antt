@@ -11,7 +11,7 @@ use Rattle.mj_ast.specs.declared.function.Function.{Function}
 use Rattle.mj_ast.specs.Syntax.{Chain, Then, Call, Var, More}
 use Rattle.mj_ast.specs.Trees.{operand_of, expr_of, variable_of, choice_of, tail_row, expr_row, tails_of, exprs_of}
 use Rattle.mj_pcode.specs.declared.instr.Instr.TheVariants.{NoneTrue}
-use Rattle.mj_asm.specs.Code.{count, expr_code, choices_code, others_code}
+use Rattle.mj_asm.specs.Code.{count, reference, expr_code, choices_code, others_code}
 use Rattle.mj_asm.proofs.Emitted.{choice_code}
 
 tails_row : {m : _} (row : expr.Row_of-Tail m) → tail_row row ≡ tails_of (expr.items-the_row-Tail m row)
@@ -61,3 +61,7 @@ others_some pc (choice.Choice' c e choice.None') b h = absurd (none_some _ h)
     none_some : {A : Type 0} (a : A) → None ≡ Some a → ⊥
     none_some a g = cc
 others_some pc (choice.Choice' c e (choice.Some' p o)) b h = ap (λ (q : Option (Box choice.Choice Global)). elim q [ None ↦ choices_code pc (choice_of o) | Some z ↦ choices_code pc (choice_of z.value) ]) h
+
+-- how many subscripts
+pub reference_count : (v : variable.Variable) → (reference (variable_of v)).count ≡ length (out-Variable v).subscripts.items
+reference_count v = ap (λ x. (reference x).count) (variable_is v) ∙ count_is (out-Variable v).subscripts.items

@@ -1,7 +1,8 @@
 -- The instructions of each piece of a routine.
 use Rattle.std.specs.Prelude.{ℕ, ◌+◌, List, [], ◌∷◌, ◌++◌, Option, Some, None, length}
-use Rattle.mj_ast.specs.Syntax.{Expr, Chain, Tails, Done, Then, Operand, Literal, Value, Unary, Group, Call, Select, Variable, Var, Exprs, No, More, Choices, Last, Before, Assignment, Output, Shown, Format, Command, Set, Write, Halt, Step, Line}
+use Rattle.mj_ast.specs.Syntax.{Expr, Chain, Tails, Done, Then, Operand, Literal, Value, Unary, Group, Call, Select, Variable, Var, Exprs, No, More, Choices, Last, Before, Destination, Plain, Pieces, Targets, One, Several, Assignment, Killed, Gone, Spared, Merged, Output, Shown, Format, Command, Set, Write, Halt, Kill, Merge, Step, Line}
 use Rattle.mj_pcode.specs.declared.instr.Reference.{Reference}
+use Rattle.mj_pcode.specs.declared.instr.Depth.{Depth}
 use Rattle.mj_pcode.specs.declared.instr.Instr.{Instr}
 use Rattle.mj_pcode.specs.declared.instr.Instr.TheVariants as instr
 
@@ -54,10 +55,48 @@ abbrev pub others_code : ℕ → Choices → List Instr
 others_code pc (Last c e) = instr.NoneTrue ∷ []
 others_code pc (Before c e rest) = choices_code pc rest
 
+-- how many operands a destination is: its subscripts, and its arguments
+abbrev pub size : Destination → ℕ
+size (Plain v) = (reference v).count
+size (Pieces v es) = (reference v).count + count es
+
+abbrev pub sizes : List Destination → ℕ
+sizes [] = 0
+sizes (d ∷ list) = size d + sizes list
+
+-- a name that is looked at once its subscripts have their values, and then of pieces the arguments
+abbrev pub destination_code : ℕ → Destination → List Instr
+destination_code pc (Plain v) = subscripts_code pc v ++ instr.Check (reference v) ∷ []
+destination_code pc (Pieces v es) =
+    subscripts_code pc v ++ instr.Check (reference v) ∷ exprs_code (pc + length (subscripts_code pc v) + 1) es
+
+abbrev pub destinations_code : ℕ → List Destination → List Instr
+destinations_code pc [] = []
+destinations_code pc (d ∷ list) = destination_code pc d ++ destinations_code (pc + length (destination_code pc d)) list
+
+-- the assignment of the topmost operand, at a depth
+abbrev pub store_code : Destination → Depth → List Instr
+store_code (Plain v) depth = instr.Store (reference v) depth ∷ []
+store_code (Pieces v es) depth =
+    instr.Renew (reference v) (count es) depth
+    ∷ instr.Store (reference v) (record { above = depth.above + count es + 1; taken = depth.taken + 1 }) ∷ []
+
+-- the assignments of a list: above the operands of each lie those of the later ones, and the value
+abbrev pub stores_code : List Destination → List Instr
+stores_code [] = []
+stores_code (d ∷ list) = store_code d (record { above = sizes list + 1; taken = 0 }) ++ stores_code list
+
+-- destinations, then the value, then the assignments
+abbrev pub targets_code : ℕ → Targets → Expr → List Instr
+targets_code pc (One d) e =
+    destination_code pc d
+    ++ (expr_code (pc + length (destination_code pc d)) e ++ store_code d (record { above = 1; taken = size d + 1 }))
+targets_code pc (Several list) e =
+    destinations_code pc list
+    ++ (expr_code (pc + length (destinations_code pc list)) e ++ (stores_code list ++ instr.Discard (sizes list + 1) ∷ []))
+
 abbrev pub assignment_code : ℕ → Assignment → List Instr
-assignment_code pc a =
-    let value = pc + length (subscripts_code pc a.destination) + 1 in
-    subscripts_code pc a.destination ++ instr.Check (reference a.destination) ∷ (expr_code value a.value ++ instr.Store (reference a.destination) ∷ [])
+assignment_code pc a = targets_code pc a.targets a.value
 
 abbrev pub assignments_code : ℕ → List Assignment → List Instr
 assignments_code pc [] = []
@@ -71,10 +110,38 @@ abbrev pub outputs_code : ℕ → List Output → List Instr
 outputs_code pc [] = []
 outputs_code pc (o ∷ list) = output_code pc o ++ outputs_code (pc + length (output_code pc o)) list
 
+-- a name that goes is looked at once its subscripts have their values
+abbrev pub kill_code : ℕ → Killed → List Instr
+kill_code pc (Gone v) = subscripts_code pc v ++ instr.Check (reference v) ∷ instr.Kill (reference v) ∷ []
+kill_code pc (Spared words) = instr.Spare words ∷ []
+
+abbrev pub kills_code : ℕ → List Killed → List Instr
+kills_code pc [] = []
+kills_code pc (k ∷ list) = kill_code pc k ++ kills_code (pc + length (kill_code pc k)) list
+
+-- without arguments all locals go
+abbrev pub kill_all_code : ℕ → List Killed → List Instr
+kill_all_code pc [] = instr.Spare [] ∷ []
+kill_all_code pc (k ∷ list) = kills_code pc (k ∷ list)
+
+-- the name to which is looked at before the name from which
+abbrev pub merge_code : ℕ → Merged → List Instr
+merge_code pc m =
+    subscripts_code pc m.into
+    ++ instr.Check (reference m.into)
+    ∷ (subscripts_code (pc + length (subscripts_code pc m.into) + 1) m.from
+    ++ instr.Take (reference m.into) (reference m.from) ∷ instr.Put (reference m.into) ∷ [])
+
+abbrev pub merges_code : ℕ → List Merged → List Instr
+merges_code pc [] = []
+merges_code pc (m ∷ list) = merge_code pc m ++ merges_code (pc + length (merge_code pc m)) list
+
 abbrev pub command_code : ℕ → Command → List Instr
 command_code pc (Set list) = assignments_code pc list
 command_code pc (Write list) = outputs_code pc list
 command_code pc Halt = instr.Halt ∷ []
+command_code pc (Kill list) = kill_all_code pc list
+command_code pc (Merge list) = merges_code pc list
 
 -- a command behind a postcondition, which begins at pc
 abbrev pub code_if : ℕ → Option Expr → Command → List Instr

@@ -1,13 +1,14 @@
 // The instructions of commands, lines and routines.
 
 ghost use Rattle.std.specs.Prelude.{◌≡◌, ◌<◌, ◌+◌, ◌^◌, [], ◌∷◌, ◌++◌, length, map, slice_set, IfOk, OnOk};
-ghost use Rattle.mj_ast.specs.Trees.{expr_of, assignment_of, output_of, command_of, step_of, line_of, routine_of};
-ghost use Rattle.mj_asm.specs.Code.{assignment_code, assignments_code, output_code, outputs_code, command_code, step_code, steps_code, line_code};
+ghost use Rattle.mj_ast.specs.Trees.{expr_of, assignment_of, killed_of, merged_of, output_of, command_of, step_of, line_of, routine_of};
+ghost use Rattle.mj_asm.specs.Code.{assignment_code, assignments_code, kill_code, kills_code, kill_all_code, merge_code, merges_code, output_code, outputs_code, command_code, step_code, steps_code, line_code};
 ghost use Rattle.mj_asm.specs.Correct.{labels_of, IsUnitOf};
 
 use crate::expr::{aim, emit_expr, emit_subscripts, put, reference};
-use mj_ast::{Assignment, Command, Line, Output, Routine, Step};
-use mj_pcode::{Instr, Label, Marks, Unit};
+use crate::targets::{emit_name, emit_one, emit_several};
+use mj_ast::{Assignment, Command, Killed, Line, Merged, Output, Routine, Step, Targets};
+use mj_pcode::{Instr, Label, Marks, Unit, Words};
 use std::alloc::{AllocError, Global};
 
 /// The p-code of a routine. Its lines are numbered from 1 on.
@@ -80,6 +81,8 @@ fn emit_command(alloc: Global, code: &mut Vec<Instr>, command: &Command) -> Resu
         Command::Set(assignments) => emit_assignments(code, assignments),
         Command::Write(outputs) => emit_outputs(alloc, code, outputs),
         Command::Halt => put(code, Instr::Halt),
+        Command::Kill(list) => emit_kill_all(alloc, code, list),
+        Command::Merge(list) => emit_merges(code, list),
     }
 }
 
@@ -92,17 +95,14 @@ fn emit_assignments(code: &mut Vec<Instr>, assignments: &[Assignment]) -> Result
     Ok(())
 }
 
-// The subscripts, then the name's check, then the value, then the assignment.
+// The destinations, then the value, then the assignments.
 fn emit_assignment(code: &mut Vec<Instr>, assignment: &Assignment) -> Result<(), AllocError>
     ensures { OnOk result (code.new.items ≡ code.old.items ++ assignment_code (length code.old.items) (assignment_of assignment.now)) }
 {
-    let destination = &assignment.destination;
-    emit_subscripts(code, destination)?;
-    let checked = reference(destination)?;
-    put(code, Instr::Check(checked))?;
-    emit_expr(code, &assignment.value)?;
-    let stored = reference(destination)?;
-    put(code, Instr::Store(stored))
+    match &assignment.targets {
+        Targets::One(destination) => emit_one(code, destination, &assignment.value),
+        Targets::Several(list) => emit_several(code, list, &assignment.value),
+    }
 }
 
 fn emit_outputs(alloc: Global, code: &mut Vec<Instr>, outputs: &[Output]) -> Result<(), AllocError>
@@ -127,4 +127,62 @@ fn emit_output(alloc: Global, code: &mut Vec<Instr>, output: &Output) -> Result<
             put(code, Instr::Format(marks))
         }
     }
+}
+
+// One kill, or that of all locals.
+fn emit_kill_all(alloc: Global, code: &mut Vec<Instr>, list: &[Killed]) -> Result<(), AllocError>
+    ensures { OnOk result (code.new.items ≡ code.old.items ++ kill_all_code (length code.old.items) (map killed_of list.now)) }
+{
+    if list.is_empty() {
+        let none = Words::copied(alloc, &[])?;
+        return put(code, Instr::Spare(none));
+    }
+    emit_kills(alloc, code, list)
+}
+
+fn emit_kills(alloc: Global, code: &mut Vec<Instr>, list: &[Killed]) -> Result<(), AllocError>
+    ensures { OnOk result (code.new.items ≡ code.old.items ++ kills_code (length code.old.items) (map killed_of list.now)) }
+{
+    for killed in list {
+        emit_kill(alloc, code, killed)?;
+    }
+    Ok(())
+}
+
+fn emit_kill(alloc: Global, code: &mut Vec<Instr>, killed: &Killed) -> Result<(), AllocError>
+    ensures { OnOk result (code.new.items ≡ code.old.items ++ kill_code (length code.old.items) (killed_of killed.now)) }
+{
+    match killed {
+        Killed::Tree(variable) => {
+            emit_name(code, variable)?;
+            let gone = reference(variable)?;
+            put(code, Instr::Kill(gone))
+        }
+        Killed::Except(words) => {
+            let words = Words::copied(alloc, words)?;
+            put(code, Instr::Spare(words))
+        }
+    }
+}
+
+fn emit_merges(code: &mut Vec<Instr>, list: &[Merged]) -> Result<(), AllocError>
+    ensures { OnOk result (code.new.items ≡ code.old.items ++ merges_code (length code.old.items) (map merged_of list.now)) }
+{
+    for merged in list {
+        emit_merge(code, merged)?;
+    }
+    Ok(())
+}
+
+// The name to which is looked at before the name from which.
+fn emit_merge(code: &mut Vec<Instr>, merged: &Merged) -> Result<(), AllocError>
+    ensures { OnOk result (code.new.items ≡ code.old.items ++ merge_code (length code.old.items) (merged_of merged.now)) }
+{
+    emit_name(code, &merged.into)?;
+    emit_subscripts(code, &merged.from)?;
+    let into = reference(&merged.into)?;
+    let from = reference(&merged.from)?;
+    put(code, Instr::Take(into, from))?;
+    let filled = reference(&merged.into)?;
+    put(code, Instr::Put(filled))
 }

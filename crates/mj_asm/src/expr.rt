@@ -119,8 +119,9 @@ pub fn emit_subscripts(code: &mut Vec<Instr>, variable: &Variable) -> Result<(),
     emit_all(code, &variable.subscripts)
 }
 
+/// Expressions, whose values come onto the stack in order.
 #[cycle(emit)]
-fn emit_all(code: &mut Vec<Instr>, expressions: &[Expr]) -> Result<(), AllocError>
+pub fn emit_all(code: &mut Vec<Instr>, expressions: &[Expr]) -> Result<(), AllocError>
     ensures { OnOk result (code.new.items ≡ code.old.items ++ exprs_code (length code.old.items) (exprs_of expressions.now)) }
 {
     for expression in expressions {

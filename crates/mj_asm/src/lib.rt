@@ -6,5 +6,6 @@
 
 mod emit;
 mod expr;
+mod targets;
 
 pub use emit::assemble;

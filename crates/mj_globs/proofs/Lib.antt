@@ -2,3 +2,4 @@ pub mod Groups
 pub mod Spelled
 pub mod Changed
 pub mod Both
+pub mod Keeping

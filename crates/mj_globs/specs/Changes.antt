@@ -1,6 +1,7 @@
 -- What a list of changes leaves.
-use Rattle.std.specs.Prelude.{Bool, false, List}
-use Rattle.std.specs.List.{fold}
+use Rattle.std.specs.Prelude.{ℕ, Bool, false, List}
+use Rattle.std.specs.List.{filter, fold, list_any}
+use Rattle.std.specs.Str.{bytes_eq}
 use Rattle.mj_store.specs.Questions.{Content}
 use Rattle.mj_store.specs.Changes.{after_set, after_kill, after_put, is_too_deep}
 use Rattle.mj_globs.specs.declared.change.Change.{Change}
@@ -21,3 +22,7 @@ abbrev pub goes_too_deep : Change → Bool
 goes_too_deep (change.Set n text) = false
 goes_too_deep (change.Kill n) = false
 goes_too_deep (change.Put n nodes) = is_too_deep n nodes
+
+-- all names go but those whose word is one of these
+abbrev pub keeping : List (List ℕ) → Content → Content
+keeping words content = filter (λ e. list_any (bytes_eq e.0.word) words) content

@@ -9,11 +9,12 @@ ghost use Rattle.mj_store.specs.Changes.{is_too_deep as too_deep};
 ghost use Rattle.mj_store.specs.Nodes.{subtree};
 ghost use Rattle.mj_store.specs.Questions.{with_subscripts, value_at, subtree_at};
 ghost use Rattle.mj_tree.specs.Nest.{nodes_of};
-ghost use Rattle.mj_globs.specs.Changes.{after_change, after_changes, goes_too_deep};
+ghost use Rattle.mj_globs.specs.Changes.{after_change, after_changes, goes_too_deep, keeping};
 ghost use Rattle.mj_text.specs.declared.fault.Failure.TheVariants as failure;
 ghost use Rattle.mj_text.specs.declared.fault.Fault.TheVariants as fault;
 
 use crate::change::Change;
+use crate::keep::keep;
 use crate::words::{self, Words};
 use mj_store::{Direction, Nodes, Store};
 use mj_subs::{Name, SUBSCRIPT_LIMIT, Sub, Subs};
@@ -97,6 +98,14 @@ impl Globals {
         }
         *self = changed;
         Ok(())
+    }
+
+    /// All names go but those whose word is one of these.
+    pub fn keep_words(&mut self, list: &[Text])
+        ensures { self.new ≡ keeping list.now self.old }
+    {
+        keep(&mut self.globals, list);
+        keep(&mut self.locals, list);
     }
 
     // Makes one change.

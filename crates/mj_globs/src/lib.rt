@@ -9,6 +9,7 @@ mod change;
 mod globals;
 #[cfg(test)]
 mod tests;
+mod keep;
 mod words;
 
 pub use change::Change;

@@ -9,3 +9,4 @@ pub mod Loops
 pub mod Small
 pub mod Limit
 mod Examples
+pub mod Altered

@@ -64,7 +64,7 @@ fn name_part(alloc: Global, name: &Text, place: &Text) -> Result<Text, Failure>
 }
 
 /// The argument behind `n` others, which is always there.
-fn needed<'a>(arguments: &'a [Text], n: usize, none: &'a Text) -> &'a Text
+pub fn needed<'a>(arguments: &'a [Text], n: usize, none: &'a Text) -> &'a Text
     requires { none.now ≡ [] }
     ensures { result.now ≡ needed_of n arguments.now }
 {
@@ -75,7 +75,7 @@ fn needed<'a>(arguments: &'a [Text], n: usize, none: &'a Text) -> &'a Text
 }
 
 /// The argument behind `n` others, if there is one.
-fn optional(arguments: &[Text], n: usize) -> Option<&Text>
+pub fn optional(arguments: &[Text], n: usize) -> Option<&Text>
     ensures { option_copied result ≡ optional_of n arguments.now }
 {
     arguments.get(n)

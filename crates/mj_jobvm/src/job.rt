@@ -23,6 +23,7 @@ use mj_ask::{Ask, Entry, Reply};
 use mj_globs::Globals;
 use mj_load::Image;
 use mj_pcode::Unit;
+use mj_store::Nodes;
 use mj_text::Text;
 use std::alloc::{AllocError, Global};
 use std::marker::Model;
@@ -115,6 +116,7 @@ impl Job {
                 frames: Vec::new(alloc),
                 column: 0,
                 replied: 0,
+                held: Nodes::new(alloc),
             },
             log: Vec::new(alloc),
             given: false,

@@ -9,6 +9,7 @@
 
 mod asking;
 mod calls;
+mod changes;
 mod column;
 mod control;
 mod ending;
@@ -17,8 +18,10 @@ mod format;
 mod frame;
 mod job;
 mod machine;
+mod merges;
 mod moves;
 mod names;
+mod pieces;
 mod quiet;
 mod stack;
 mod target;

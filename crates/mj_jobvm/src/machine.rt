@@ -6,6 +6,7 @@ use crate::control::Control;
 use crate::frame::Place;
 use mj_ask::Ask;
 use mj_globs::Globals;
+use mj_store::Nodes;
 use mj_text::Text;
 
 /// How many asks a job may make before its ending.
@@ -24,6 +25,8 @@ pub struct Machine {
     pub column: u64,
     // asks that were replied to
     pub replied: u64,
+    // what a MERGE has read and not put yet
+    pub held: Nodes,
     ghost bounded: { (column ≤ 32767 * replied) × (replied ≤ 1000000) },
 }
 

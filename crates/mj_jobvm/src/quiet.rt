@@ -1,7 +1,8 @@
 // What the instructions do that ask nothing.
 
-ghost use Rattle.std.specs.Prelude.{◌≡◌, ℕ, ◌+◌, ◌<◌, ◌≤◌, ◌^◌, length, Option, Some, None, IfOk, OnErr};
+ghost use Rattle.std.specs.Prelude.{◌≡◌, ℕ, ◌+◌, ◌<◌, ◌≤◌, ◌^◌, length, drop, Option, Some, None, IfOk, OnErr};
 ghost use Rattle.mj_ask.specs.declared.ask.Reply.{Reply};
+ghost use Rattle.mj_semantics.specs.State as states;
 ghost use Rattle.mj_semantics.specs.Outcome as told;
 ghost use Rattle.mj_pcode.specs.declared.instr.Instr.TheVariants as instrs;
 ghost use Rattle.mj_pcode.specs.Machine.{act};
@@ -12,7 +13,7 @@ use crate::frame::Place;
 use crate::machine::{Machine, Step};
 use crate::moves::move_to;
 use crate::stack;
-use mj_pcode::Unit;
+use mj_pcode::{Unit, Words};
 use mj_text::{Fault, Text};
 use std::alloc::AllocError;
 
@@ -66,6 +67,26 @@ pub fn leave(unit: &Unit, machine: &mut Machine) -> Result<Step, AllocError>
     move_to(&mut machine.frames, Place { routine, line });
     machine.control = Control::Closing(None);
     Ok(Step::Next)
+}
+
+/// So many operands are taken off.
+pub fn discard(pc: usize, count: usize, machine: &mut Machine) -> Step
+    requires { pc + 1 < 2 ^ 64 }
+    ensures { (reply : Option Reply) → Does (λ next. next (pc + 1) (drop count (stack_of machine.old))) machine.old reply result machine.new }
+{
+    stack::take_off(&mut machine.stack, count);
+    machine.control = Control::At(pc + 1);
+    Step::Next
+}
+
+/// All locals go but those of these names.
+pub fn spare(pc: usize, words: &Words, machine: &mut Machine) -> Step
+    requires { pc + 1 < 2 ^ 64 }
+    ensures { (reply : Option Reply) → Does (λ next. told.change (states.spare words.now) (next (pc + 1) (stack_of machine.old))) machine.old reply result machine.new }
+{
+    machine.locals.keep_words(words.as_slice());
+    machine.control = Control::At(pc + 1);
+    Step::Next
 }
 
 /// The job goes on at another instruction.

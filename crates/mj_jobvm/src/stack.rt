@@ -56,17 +56,16 @@ pub fn replace(stack: &mut Vec<Text>, count: usize, value: Text) -> Result<(), A
     Ok(())
 }
 
-/// The operands below the topmost one.
-pub fn under(stack: &[Text]) -> &[Text]
-    ensures { reverse result.now ≡ below (reverse stack.now) }
+/// The operands below the `count` topmost ones.
+pub fn under(stack: &[Text], count: usize) -> &[Text]
+    ensures { reverse result.now ≡ drop count (reverse stack.now) }
 {
-    &stack[..stack.len().saturating_sub(1)]
+    &stack[..stack.len().saturating_sub(count)]
 }
 
-/// Takes the topmost operand off, and then `count` more, or all.
-pub fn take_off_under(stack: &mut Vec<Text>, count: usize)
-    ensures { reverse stack.new.items ≡ drop count (below (reverse stack.old.items)) }
+/// The `count` topmost operands, or all, of those below `above` and then `more` others.
+pub fn below_both(stack: &[Text], above: usize, more: usize, count: usize) -> &[Text]
+    ensures { result.now ≡ operands count (drop more (drop above (reverse stack.now))) }
 {
-    take_off(stack, 1);
-    take_off(stack, count);
+    topmost(under(under(stack, above), more), count)
 }

@@ -8,15 +8,18 @@ ghost use Rattle.mj_jobvm.specs.Kept.{standing, stack_of, Does, replied, target_
 ghost use Rattle.mj_jobvm.specs.Units.{unit_at, IsFit};
 
 use crate::asking::principal;
+use crate::changes::{kill, store};
 use crate::control::Control;
 use crate::ending::{close, finish, tell_fault};
 use crate::format::write_marks;
 use crate::frame::Place;
 use crate::machine::{Machine, STEPS_LIMIT, Step};
-use crate::quiet::{enter_line, fail, halt, jump, leave, push};
+use crate::merges::{put, take};
+use crate::pieces::renew;
+use crate::quiet::{discard, enter_line, fail, halt, jump, leave, push, spare};
 use crate::target::Target;
 use crate::values::{apply_binary, apply_unary, call, test, write};
-use crate::variables::{check, load, store};
+use crate::variables::{check, load};
 use mj_ask::{Ask, Reply};
 use mj_pcode::{Instr, Unit};
 use mj_text::Fault;
@@ -31,7 +34,7 @@ pub fn obey(
     machine: &mut Machine,
     given: Option<&Reply>,
 ) -> Result<Step, AllocError>
-    requires next { pc + 1 < 2 ^ 64 }
+    requires next { pc + 2 < 2 ^ 64 }
     requires short { length unit.now.name ≤ 31 }
     ensures ok { IfOk result (λ step. Does (λ next. act unit.now (Some instr.now) next pc (stack_of machine.old)) machine.old (replied given.entry) step machine.new) }
     ensures err { OnErr result ((reply : Option replies.Reply) → standing machine.new reply ≡ standing machine.old reply) }
@@ -44,7 +47,15 @@ pub fn obey(
         Instr::Binary(op) => apply_binary(alloc, pc, *op, machine),
         Instr::Call(function, count) => call(alloc, pc, *function, *count, machine),
         Instr::Check(reference) => check(alloc, pc, reference, machine),
-        Instr::Store(reference) => store(alloc, pc, reference, machine, given),
+        Instr::Store(reference, depth) => store(alloc, pc, reference, *depth, machine, given),
+        Instr::Renew(reference, count, depth) => {
+            renew(alloc, pc, reference, *count, *depth, machine, given)
+        }
+        Instr::Discard(count) => Ok(discard(pc, *count, machine)),
+        Instr::Kill(reference) => kill(alloc, pc, reference, machine, given),
+        Instr::Spare(words) => Ok(spare(pc, words, machine)),
+        Instr::Take(into, from) => take(alloc, pc, into, from, machine, given),
+        Instr::Put(reference) => put(alloc, pc, reference, machine, given),
         Instr::Write => write(alloc, pc, machine, given),
         Instr::Format(marks) => write_marks(alloc, pc, marks, machine, given),
         Instr::Unless(target) => test(alloc, pc, *target, machine),

@@ -1,13 +1,12 @@
-// Reading and assigning variables.
+// Reading variables, and their names.
 
 ghost use Rattle.std.specs.Prelude.{◌≡◌, ◌+◌, ◌<◌, ◌^◌, ◌∷◌, drop, List, ℕ, Option, true, false, Ok, Err, IfOk, IfErr, OnErr};
 ghost use Rattle.mj_ask.specs.declared.ask.Reply as replies;
 ghost use Rattle.mj_semantics.specs.Outcome as told;
-ghost use Rattle.mj_semantics.specs.Commands as commands;
 ghost use Rattle.mj_semantics.specs.Evaluation as evaluation;
 ghost use Rattle.mj_semantics.specs.Accesses.{answer_told};
 ghost use Rattle.mj_jobvm.specs.Answers as answers;
-ghost use Rattle.mj_pcode.specs.Machine.{top, below, operands};
+ghost use Rattle.mj_pcode.specs.Machine.{operands};
 ghost use Rattle.mj_jobvm.specs.Kept.{standing, stack_of, Does, replied};
 
 use crate::control::Control;
@@ -116,16 +115,6 @@ fn value_read(reply: &Reply) -> Result<&Text, Fault>
     }
 }
 
-// Whether a reply says that a change is done.
-fn change_done(reply: &Reply) -> Result<(), Fault>
-    ensures { result ≡ answers.change_done (answer_told reply.now) }
-{
-    match reply {
-        Reply::Answer(Answer::Limit) => Err(Fault::Limit),
-        _ => Ok(()),
-    }
-}
-
 /// The subscripts on the stack make the variable's name, or fail.
 pub fn check(
     alloc: Global,
@@ -146,81 +135,4 @@ pub fn check(
     }
     machine.control = Control::At(pc + 1);
     Ok(Step::Next)
-}
-
-/// The topmost operand is assigned to the variable whose subscripts lie below it, and all are taken off.
-pub fn store(
-    alloc: Global,
-    pc: usize,
-    reference: &Reference,
-    machine: &mut Machine,
-    given: Option<&Reply>,
-) -> Result<Step, AllocError>
-    requires { pc + 1 < 2 ^ 64 }
-    ensures ok { IfOk result (λ step. Does (λ next. told.given (evaluation.name_of reference.now.scope reference.now.word (operands reference.now.count (below (stack_of machine.old)))) (λ x. commands.store x (top (stack_of machine.old)) (next (pc + 1) (drop reference.now.count (below (stack_of machine.old)))))) machine.old (replied given.entry) step machine.new) }
-    ensures err { OnErr result ((reply : Option replies.Reply) → standing machine.new reply ≡ standing machine.old reply) }
-{
-    let none = Text::new(alloc);
-    let value = stack::top(&machine.stack, &none).try_clone()?;
-    let subscripts = stack::topmost(stack::under(&machine.stack), reference.count);
-    let name = match name_of(alloc, reference, subscripts)? {
-        Ok(name) => name,
-        Err(fault) => return Ok(fail(fault, machine)),
-    };
-    if name.is_global() {
-        return set_global(pc, reference.count, name, value, machine, given);
-    }
-    set_local(pc, reference.count, &name, &value, machine)
-}
-
-fn set_local(
-    pc: usize,
-    count: usize,
-    name: &Name,
-    value: &Text,
-    machine: &mut Machine,
-) -> Result<Step, AllocError>
-    requires next { pc + 1 < 2 ^ 64 }
-    requires local { name.now.global ≡ false }
-    ensures ok { IfOk result (λ step. (reply : Option replies.Reply) → Does (λ next. commands.store name.now value.now (next (pc + 1) (drop count (below (stack_of machine.old))))) machine.old reply step machine.new) }
-    ensures err { OnErr result ((reply : Option replies.Reply) → standing machine.new reply ≡ standing machine.old reply) }
-{
-    machine.locals.set(name, value)?;
-    stack::take_off_under(&mut machine.stack, count);
-    machine.control = Control::At(pc + 1);
-    Ok(Step::Next)
-}
-
-fn set_global(
-    pc: usize,
-    count: usize,
-    name: Name,
-    value: Text,
-    machine: &mut Machine,
-    given: Option<&Reply>,
-) -> Result<Step, AllocError>
-    requires next { pc + 1 < 2 ^ 64 }
-    requires global { name.global ≡ true }
-    ensures ok { IfOk result (λ step. Does (λ next. commands.store name value (next (pc + 1) (drop count (below (stack_of machine.old))))) machine.old (replied given.entry) step machine.new) }
-    ensures err { OnErr result ((reply : Option replies.Reply) → standing machine.new reply ≡ standing machine.old reply) }
-{
-    if machine.replied >= STEPS_LIMIT {
-        return Ok(fail(Fault::Steps, machine));
-    }
-    let Some(reply) = given else {
-        return Ok(Step::Asks(Ask::Access(Access::Set(name, value))));
-    };
-    match change_done(reply) {
-        Ok(()) => {
-            stack::take_off_under(&mut machine.stack, count);
-            machine.replied += 1;
-            machine.control = Control::At(pc + 1);
-            Ok(Step::Took)
-        }
-        Err(fault) => {
-            machine.replied += 1;
-            machine.control = Control::Faulted(fault);
-            Ok(Step::Took)
-        }
-    }
 }

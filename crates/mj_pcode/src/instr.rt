@@ -1,6 +1,7 @@
 // Instructions, and the unit that a routine becomes.
 
 use crate::marks::Marks;
+use crate::words::Words;
 use mj_ast::{Function, Scope};
 use mj_oper::{Op, UnaryOp};
 use mj_text::Text;
@@ -11,6 +12,14 @@ pub struct Reference {
     pub scope: Scope,
     pub word: Text,
     pub count: usize,
+}
+
+/// How deep the operands of a destination lie: how many lie above them, of which the topmost is the value. Once it is assigned,
+/// so many operands in all are taken off.
+#[derive(Clone, Copy, PartialEq, Eq, Debug)]
+pub struct Depth {
+    pub above: usize,
+    pub taken: usize,
 }
 
 /// An instruction. Operands lie on a stack of texts.
@@ -30,8 +39,23 @@ pub enum Instr {
     Call(Function, usize),
     /// looks whether the subscripts on the stack make the variable's name
     Check(Reference),
-    /// takes the value off, and then the variable's subscripts, and assigns
-    Store(Reference),
+    /// assigns the topmost operand to the variable whose subscripts lie at this depth
+    Store(Reference, Depth),
+    /// so many arguments of a `$PIECE` lie at this depth, and below them the variable's subscripts: puts the variable's value on,
+    /// in which the pieces are the topmost operand. Where they are none, the next instruction is passed over, and the operands
+    /// are taken off in its place
+    Renew(Reference, usize, Depth),
+    /// takes so many operands off
+    Discard(usize),
+    /// takes the subscripts of a variable off, which goes with all that is below it
+    Kill(Reference),
+    /// all locals go but those of these names
+    Spare(Words),
+    /// takes the subscripts of the second variable off, below which those of the first lie, and takes in hand what stands at it
+    /// and below it
+    Take(Reference, Reference),
+    /// takes the subscripts of a variable off, and puts there what is in hand
+    Put(Reference),
     /// takes a text off, and writes it
     Write,
     /// writes what the marks of a format stand for

@@ -5,6 +5,8 @@
 
 mod instr;
 mod marks;
+mod words;
 
-pub use instr::{Instr, Label, Reference, Unit};
+pub use instr::{Depth, Instr, Label, Reference, Unit};
 pub use marks::Marks;
+pub use words::Words;

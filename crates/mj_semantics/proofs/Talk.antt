@@ -4,7 +4,7 @@ use Rattle.mj_ask.specs.declared.ask.Ask.{Ask}
 use Rattle.mj_ask.specs.declared.ask.Reply.{Reply}
 use Rattle.mj_subs.specs.Name.{Name}
 use Rattle.mj_ast.specs.declared.expr.Scope.TheVariants.{Local, Global}
-use Rattle.mj_ast.specs.Syntax.{Expr, Chain, Done, Operand, Literal, Variable, Var, No, More as Another, Command, Step, Line}
+use Rattle.mj_ast.specs.Syntax.{Expr, Chain, Done, Operand, Literal, Variable, Var, No, More as Another, Targets, One, Plain, Assignment, Output, Shown, Command, Step, Line}
 use Rattle.mj_semantics.specs.Outcome.{Outcome, Needs, Ended, More}
 use Rattle.mj_semantics.specs.Job.{next}
 
@@ -51,3 +51,21 @@ global w = Var Global w No
 -- a global's name without subscripts
 abbrev pub name : List ℕ → Name
 name w = record { global = true; word = w; subscripts = [] }
+
+abbrev pub global_at : List ℕ → Expr → Variable
+global_at w e = Var Global w (Another e No)
+
+-- a global's name
+abbrev pub name_at : List ℕ → List (List ℕ) → Name
+name_at w ss = record { global = true; word = w; subscripts = ss }
+
+-- one variable as the destination
+abbrev pub to : Variable → Targets
+to v = One (Plain v)
+
+abbrev pub set : Targets → Expr → Assignment
+set t e = record { targets = t; value = e }
+
+-- an operand that is written
+abbrev pub show : Operand → Output
+show x = Shown (one x)

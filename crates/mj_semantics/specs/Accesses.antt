@@ -1,7 +1,8 @@
 -- Questions on trees, and changes of them: of the job's own, and of the globals, which all jobs share.
-use Rattle.std.specs.Prelude.{ℕ, List, Option, None, Result, Ok, Err, if◌then◌else◌}
+use Rattle.std.specs.Prelude.{ℕ, List, [], Option, None, Result, Ok, Err, if◌then◌else◌}
 use Rattle.mj_text.specs.declared.fault.Fault.{Fault}
 use Rattle.mj_text.specs.declared.fault.Fault.TheVariants.{Limit}
+use Rattle.mj_store.specs.Questions.{Subtree}
 use Rattle.mj_store.specs.Runs.{name_of, answer_of}
 use Rattle.mj_store.specs.declared.access.Access.{Access}
 use Rattle.mj_store.specs.declared.access.Answer.{Answer}
@@ -38,3 +39,8 @@ access a rest =
 abbrev pub value_told : Answer → Option (List ℕ)
 value_told (answers.Value v) = v
 value_told _ = None
+
+-- the nodes that an answer brings
+abbrev pub nodes_told : Answer → Subtree
+nodes_told (answers.Subtree nodes) = nodes
+nodes_told _ = []

@@ -35,7 +35,7 @@ points_of image (suc d) point = λ n h s replies. at_point image (points_of imag
 
 -- a job before its first ask
 abbrev pub opening : State
-opening = record { locals = []; frames = []; column = 0; replied = 0 }
+opening = record { locals = []; frames = []; column = 0; replied = 0; held = [] }
 
 -- what a job does from its start, where points lead to points at most so deep: its principal session begins, in a
 -- turn, and then the line that its entry names; the QUIT of its first frame ends it

@@ -1,6 +1,8 @@
 -- What a job holds for itself, and what changes it.
 use Rattle.std.specs.Prelude.{ℕ, ◌+◌, ◌==◌, List, [], ◌∷◌, Option, Some, None, map, if◌then◌else◌}
-use Rattle.mj_store.specs.Questions.{Content}
+use Rattle.std.specs.List.{filter, list_any}
+use Rattle.std.specs.Str.{bytes_eq}
+use Rattle.mj_store.specs.Questions.{Content, Subtree}
 use Rattle.mj_store.specs.Runs.{after_access}
 use Rattle.mj_store.specs.declared.access.Access.{Access}
 
@@ -18,12 +20,13 @@ pub record Frame : Type 0 where
   pub place : Place
 
 -- the locals; the frames, the innermost first; the column of the principal device, `$X` (8.2.25, WRITE); how many asks
--- were replied to
+-- were replied to; and what a MERGE has read and not put yet
 pub record State : Type 0 where
   pub locals : Locals
   pub frames : List Frame
   pub column : ℕ
   pub replied : ℕ
+  pub held : Subtree
 
 -- Questions.
 
@@ -39,6 +42,18 @@ place_of s = elim s.frames [ [] ↦ None | f ∷ fs ↦ Some f.place ]
 -- an access to the locals was made
 abbrev pub accessed : Access → State → State
 accessed a s = record s { locals = after_access a s.locals }
+
+-- of some locals, those whose word is one of these
+abbrev pub spared : List (List ℕ) → Locals → Locals
+spared words locals = filter (λ e. list_any (bytes_eq e.0.word) words) locals
+
+-- all locals go but those whose word is one of these
+abbrev pub spare : List (List ℕ) → State → State
+spare words s = record s { locals = spared words s.locals }
+
+-- a MERGE has this in hand
+abbrev pub hold : Subtree → State → State
+hold nodes s = record s { held = nodes }
 
 abbrev pub pushed : Place → State → State
 pushed p s = record s { frames = record { place = p } ∷ s.frames }

@@ -87,3 +87,27 @@ returns-in-NoneTrue-clause-ok c =
 pub returns-in-Halt-clause-ok : goal.returns-in-Halt-clause-ok
 returns-in-Halt-clause-ok c =
     obeys c.args.unit.now c.args.instr.now instrs.Halt c.args.pc c.args.machine.now (replied c.args.given) c.halt.result _ c.in-Halt.is (c.halt.ensures (replied c.args.given))
+
+pub returns-in-Renew-clause-ok : goal.returns-in-Renew-clause-ok
+returns-in-Renew-clause-ok c =
+    IfOk-weaker c.renew.result _ _ (λ step d. obeys c.args.unit.now c.args.instr.now _ c.args.pc c.args.machine.now (replied c.args.given) step _ c.in-Renew.is d) c.renew.ensures.ok
+
+pub returns-in-Kill-clause-ok : goal.returns-in-Kill-clause-ok
+returns-in-Kill-clause-ok c =
+    IfOk-weaker c.kill.result _ _ (λ step d. obeys c.args.unit.now c.args.instr.now _ c.args.pc c.args.machine.now (replied c.args.given) step _ c.in-Kill.is d) c.kill.ensures.ok
+
+pub returns-in-Take-clause-ok : goal.returns-in-Take-clause-ok
+returns-in-Take-clause-ok c =
+    IfOk-weaker c.take.result _ _ (λ step d. obeys c.args.unit.now c.args.instr.now _ c.args.pc c.args.machine.now (replied c.args.given) step _ c.in-Take.is d) c.take.ensures.ok
+
+pub returns-in-Put-clause-ok : goal.returns-in-Put-clause-ok
+returns-in-Put-clause-ok c =
+    IfOk-weaker c.put.result _ _ (λ step d. obeys c.args.unit.now c.args.instr.now _ c.args.pc c.args.machine.now (replied c.args.given) step _ c.in-Put.is d) c.put.ensures.ok
+
+pub returns-in-Discard-clause-ok : goal.returns-in-Discard-clause-ok
+returns-in-Discard-clause-ok c =
+    obeys c.args.unit.now c.args.instr.now (instrs.Discard c.in-Discard.count) c.args.pc c.args.machine.now (replied c.args.given) c.discard.result _ c.in-Discard.is (c.discard.ensures (replied c.args.given))
+
+pub returns-in-Spare-clause-ok : goal.returns-in-Spare-clause-ok
+returns-in-Spare-clause-ok c =
+    obeys c.args.unit.now c.args.instr.now (instrs.Spare c.in-Spare.words) c.args.pc c.args.machine.now (replied c.args.given) c.spare.result _ c.in-Spare.is (c.spare.ensures (replied c.args.given))
