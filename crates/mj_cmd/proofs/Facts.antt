@@ -40,7 +40,7 @@ pub record LongFacts (m : Limits) (s : State) (k : Token) : Type 0 where
 abbrev pub Facts : Limits → State → Token → (Limits → Next) → Next → Type 0
 Facts m s k at (Go t) = (StateGood m s → Leads s (k ∷ []) t × StateGood m t) × ((l : Limits) → IsMore m l → at l ≡ Go t)
 Facts m s k at Stuck = (l : Limits) → IsMore m l → at l ≡ Stuck
-Facts m s k at Deep = StateGood m s → (t : State) × Leads s (k ∷ []) t × StateGood (deeper m) t
+Facts m s k at Deep = StateGood m s → (t : State) × Leads s (k ∷ []) t × StateGood (deeper (symbol k) m) t
 Facts m s k at Long = LongFacts m s k
 
 abbrev pub FactsAt : Limits → State → Token → Type 0
@@ -311,7 +311,7 @@ in_as m g s k (phrase.Go t) f = (
   λ l i. ap (phrase_step g s k) (f.1 l i),
 )
 in_as m g s k phrase.Stuck f = finished_as m g s k (phrase.finish s []) refl (λ l. in_step l g s k) (λ l i. ap (phrase_step g s k) (f l i))
-in_as m g s k phrase.Deep f = λ i. let r = f.1 (sofar s) (has_read m g s i) in (In g f.0, phrase_leads g s f.0 (k ∷ []) r.read, (goal_more m (deeper m) g (more_deeper m) i.0, r.good))
+in_as m g s k phrase.Deep f = λ i. let r = f.1 (sofar s) (has_read m g s i) in (In g f.0, phrase_leads g s f.0 (k ∷ []) r.read, (goal_more m (deeper (symbol k) m) g (more_deeper (symbol k) m) i.0, r.good))
 in_as m g s k phrase.Long f = record {
   comma = comma_token k f.comma;
   filler = f.filler;

@@ -74,7 +74,7 @@ room_for true m ls ms h r = r
 room_for false m ls ms h r = (r.0, let n = r.1 in omega arith)
 
 -- without the limit on levels
-pub room_free : (limited : Bool) (m : Limits) (ls : List Lexeme) → limited ≡ false → HasRoom limited m ls → (m.width ≡ 31) × (length ls ≤ m.depth)
+pub room_free : (limited : Bool) (m : Limits) (ls : List Lexeme) → limited ≡ false → HasRoom limited m ls → (m.width ≡ 31) × (length ls < m.depth)
 room_free true m ls e h = absurd (let f : true ≡ false = e in cc)
 room_free false m ls e h = h
 

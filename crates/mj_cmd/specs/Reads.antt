@@ -1,5 +1,5 @@
 -- What a function that reads a part of a line returns.
-use Rattle.std.specs.Prelude.{◌≡◌, ◌≤◌, Bool, true, false, List, length, Option, Result, Ok, Err}
+use Rattle.std.specs.Prelude.{◌≡◌, ◌<◌, Bool, true, false, List, length, Option, Result, Ok, Err}
 use Rattle.mj_ast.specs.Expressions.{depth_limit, width_limit}
 use Rattle.mj_lex.specs.declared.token.Lexeme.{Lexeme}
 use Rattle.mj_lex.specs.Seen.{tokens_seen}
@@ -20,7 +20,7 @@ no_tree = tt
 -- level too many.
 abbrev pub HasRoom : Bool → Limits → List Lexeme → Type 0
 HasRoom true m ls = m ≡ limits depth_limit
-HasRoom false m ls = (m.width ≡ width_limit) × (length ls ≤ m.depth)
+HasRoom false m ls = (m.width ≡ width_limit) × (length ls < m.depth)
 
 -- What a refusal says of a run; want of memory says nothing. A level too many is refused within the limits of the language.
 abbrev pub Refuses : Bool → Stop → Outcome → Type 0

@@ -7,6 +7,7 @@
 // `advance` tells (`specs/Told.antt`).
 #![tactic(auto)]
 
+mod about;
 mod asking;
 mod calls;
 mod column;
@@ -22,6 +23,7 @@ mod names;
 mod quiet;
 mod stack;
 mod target;
+mod tellings;
 mod turn;
 mod values;
 mod variables;

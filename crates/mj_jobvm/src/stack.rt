@@ -63,6 +63,13 @@ pub fn under(stack: &[Text]) -> &[Text]
     &stack[..stack.len().saturating_sub(1)]
 }
 
+/// The operands below the `count` topmost.
+pub fn past(stack: &[Text], count: usize) -> &[Text]
+    ensures { reverse result.now ≡ drop count (reverse stack.now) }
+{
+    &stack[..stack.len().saturating_sub(count)]
+}
+
 /// Takes the topmost operand off, and then `count` more, or all.
 pub fn take_off_under(stack: &mut Vec<Text>, count: usize)
     ensures { reverse stack.new.items ≡ drop count (below (reverse stack.old.items)) }

@@ -1,7 +1,7 @@
 // Instructions, and the unit that a routine becomes.
 
 use crate::marks::Marks;
-use mj_ast::{Function, Scope};
+use mj_ast::{Function, NameFunction, Scope};
 use mj_oper::{Op, UnaryOp};
 use mj_text::Text;
 
@@ -28,6 +28,11 @@ pub enum Instr {
     Binary(Op),
     /// takes so many arguments off, the last one on top, and puts what the function gives on
     Call(Function, usize),
+    /// looks whether the subscripts on the stack make a name that the function may be about
+    Named(NameFunction, Reference),
+    /// takes so many operands off, the subscripts of a variable and above them what stands behind it, and puts what the function
+    /// gives on
+    About(NameFunction, Reference, usize),
     /// looks whether the subscripts on the stack make the variable's name
     Check(Reference),
     /// takes the value off, and then the variable's subscripts, and assigns

@@ -1,4 +1,4 @@
-use Rattle.std.proofs.Common.{List, length, refl, arith}
+use Rattle.std.proofs.Common.{◌+◌, List, length, refl, arith}
 use Rattle.mj_lex.specs.declared.token.Lexeme.{Lexeme}
 use Rattle.mj_lex.specs.Seen.{tokens_seen}
 use Rattle.mj_expr.specs.Machine.{Limits}
@@ -6,9 +6,9 @@ use Rattle.mj_expr.specs.declared.stop.Stop.TheVariants as stop
 use Rattle.mj_cmd.proofs.Said.{short_accept, found}
 use Rattle.mj_cmd.proofs.lines.late.Goals as goal
 
--- as many levels as there are tokens
+-- more levels than there are tokens
 abbrev free : List Lexeme → Limits
-free ls = record { depth = length ls; width = 31 }
+free ls = record { depth = length ls + 1; width = 31 }
 
 pub returns-in_default : goal.returns-in_default
 returns-in_default c =
