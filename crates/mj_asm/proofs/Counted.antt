@@ -1,6 +1,6 @@
 -- There is an instruction for each operand at least, so that operands can be counted where instructions can.
 use Rattle.std.proofs.Common.{◌≡◌, ℕ, ◌+◌, ◌≤◌, ◌<◌, ◌^◌, List, [], ◌∷◌, ◌++◌, length, arith, length-append}
-use Rattle.mj_ast.specs.Syntax.{Expr, Chain, Operand, Literal, Value, Unary, Group, Call, Select, Variable, Var, Exprs, No, More, Choices, Last, Before, Destination, Plain, Pieces}
+use Rattle.mj_ast.specs.Syntax.{Expr, Chain, Operand, Literal, Value, Unary, Group, Call, About, Select, Variable, Var, Exprs, No, More, Choices, Last, Before, Destination, Plain, Pieces}
 use Rattle.mj_pcode.specs.declared.instr.Instr.{Instr}
 use Rattle.mj_pcode.specs.declared.instr.Instr.TheVariants as instr
 use Rattle.mj_asm.specs.Code.{count, reference, expr_code, tails_code, operand_code, choices_code, subscripts_code, exprs_code, size, sizes, destination_code, destinations_code}
@@ -21,6 +21,7 @@ mutual
   operand_some pc (Unary op x) = middle (operand_code pc x) (instr.Unary op) []
   operand_some pc (Group e) = expr_some pc e
   operand_some pc (Call f es) = middle (exprs_code pc es) (instr.Call f (count es)) []
+  operand_some pc (About f v es) = middle (subscripts_code pc v) _ _
   operand_some pc (Select (Last c e)) = middle (expr_code pc c) _ _
   operand_some pc (Select (Before c e rest)) = middle (expr_code pc c) _ _
 

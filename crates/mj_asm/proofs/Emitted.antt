@@ -56,3 +56,13 @@ chosen base cc body more c1 c2 c3 c4 c5 c6 c7 y z test exit e1 t e2 e3 x e4 e5 e
     ∙ ap (λ w. made c1 w (w + length (body w) + 1) (w + length (body w) + 1) (w + length (body w) + 1 + length (more (w + length (body w) + 1)))) nv
     ∙ ap (λ l. made l (length base + length cc + 1) (length base + length cc + 1 + length (body (length base + length cc + 1)) + 1) (length base + length cc + 1 + length (body (length base + length cc + 1)) + 1) (length base + length cc + 1 + length (body (length base + length cc + 1)) + 1 + length (more (length base + length cc + 1 + length (body (length base + length cc + 1)) + 1)))) e1
     ∙ last
+
+-- a function of a variable: its name, what stands behind it, and the question
+pub about_made : (base cs : List Instr) (ce : ℕ → List Instr) (c1 c2 c3 c4 : List Instr) (y z : Instr) → c1 ≡ base ++ cs → c2 ≡ c1 ++ y ∷ [] → c3 ≡ c2 ++ ce (length c2) → c4 ≡ c3 ++ z ∷ []
+    → c4 ≡ base ++ (cs ++ y ∷ (ce (length base + length cs + 1) ++ z ∷ []))
+about_made base cs ce c1 c2 c3 c4 y z e1 e2 e3 e4 =
+    let n : length c2 ≡ length base + length cs + 1 = omega (arith, ap length e2, ap length e1, length-append base cs, length-append c1 (y ∷ [])) in
+    let front : c2 ≡ (base ++ cs) ++ y ∷ [] = e2 ∙ ap (λ l. l ++ y ∷ []) e1 in
+    let k : ℕ = length base + length cs + 1 in
+    let last : (((base ++ cs) ++ y ∷ []) ++ ce k) ++ z ∷ [] ≡ base ++ (cs ++ y ∷ (ce k ++ z ∷ [])) = simp append_assoc in
+    e4 ∙ ap (λ l. l ++ z ∷ []) (e3 ∙ ap (λ j. c2 ++ ce j) n ∙ ap (λ l. l ++ ce k) front) ∙ last

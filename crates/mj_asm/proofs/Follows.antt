@@ -2,15 +2,16 @@
 use Rattle.std.proofs.Common.{◌≡◌, ℕ, zero, suc, ◌+◌, ◌<◌, ◌≤◌, List, [], ◌∷◌, ◌++◌, length, reverse, take, drop, map, Option, Some, None, refl, sym, ap, ◌∙◌, subst, arith, append_assoc, length-append}
 use Rattle.std.proofs.lemmas.List.{reverse-append, reverse-reverse, length-reverse}
 use Rattle.std.proofs.Math.Seq.{drop-append_seam, take-append_seam, drop-drop}
-use Rattle.std.specs.Prelude.{slice_get, Ok}
+use Rattle.std.specs.Prelude.{slice_get, Ok, ◌-◌}
 use Rattle.mj_subs.specs.Name.{Name}
 use Rattle.mj_oper.specs.Operators.{binary_value, unary_value, truth_value}
 use Rattle.mj_text.specs.declared.fault.Fault.TheVariants.{Select as NoTrue}
-use Rattle.mj_ast.specs.Syntax.{Expr, Chain, Tails, Done, Then, Operand, Literal, Value, Unary, Group, Call, Select, Variable, Var, Exprs, No, More, Choices, Last, Before, Destination, Plain, Pieces, Targets, One, Several, Assignment, Killed, Gone, Spared, Merged, Output, Shown, Format, Command, Set, Write, Halt, Kill, Merge, Step}
-use Rattle.mj_semantics.specs.Functions.{call_value}
+use Rattle.mj_ast.specs.Syntax.{Expr, Chain, Tails, Done, Then, Operand, Literal, Value, Unary, Group, Call, Select, Variable, Var, Exprs, No, More, Choices, Last, Before, Destination, Plain, Pieces, Targets, One, Several, Assignment, Killed, Gone, Spared, Merged, Output, Shown, Format, Command, Set, Write, Halt, Kill, Merge, Step, About}
+use Rattle.mj_semantics.specs.Functions.{call_value, optional}
 use Rattle.mj_semantics.specs.State.{spare}
 use Rattle.mj_semantics.specs.Outcome.{Timed, turn, change, given, fault}
-use Rattle.mj_semantics.specs.Evaluation.{ev, ev_tails, ev_operand, ev_choices, ev_name, ev_all, name_of, read, when}
+use Rattle.mj_semantics.specs.Evaluation.{ev, ev_tails, ev_operand, ev_choices, ev_name, ev_all, name_of, read, when, ev_named, named_for, about}
+use Rattle.mj_ast.specs.declared.function.NameFunction.{NameFunction}
 use Rattle.mj_semantics.specs.Points.{Ways}
 use Rattle.mj_semantics.specs.Commands.{Aim, Whole, Part, ev_destination, ev_destinations, store, renew, put, put_all, assign_to, assign, assign_all, remove, kill, kill_list, kill_all, take_nodes, put_nodes, merge, merge_all, mark_byte, output, output_all, obey, obey_all}
 use Rattle.mj_pcode.specs.declared.instr.Reference.{Reference}
@@ -20,7 +21,7 @@ use Rattle.mj_pcode.specs.declared.instr.Instr.TheVariants as instr
 use Rattle.mj_pcode.specs.declared.instr.Unit as unit
 use Rattle.mj_pcode.specs.Machine.{Stack, top, act, exec, operands}
 use Rattle.mj_asm.specs.Code.{count, reference, expr_code, tails_code, operand_code, choices_code, subscripts_code, exprs_code, size, sizes, destination_code, destinations_code, store_code, stores_code, targets_code, assignment_code, assignments_code, kill_code, kills_code, kill_all_code, merge_code, merges_code, output_code, outputs_code, command_code, code_if, step_code, steps_code}
-use Rattle.mj_asm.proofs.Agree.{Agree, if_at, given_at, change_at, read_at, store_at, renew_at, remove_at, take_nodes_at, put_nodes_at, write_at}
+use Rattle.mj_asm.proofs.Agree.{Agree, if_at, given_at, change_at, read_at, store_at, renew_at, remove_at, take_nodes_at, put_nodes_at, write_at, about_at}
 
 -- the instructions stand in the code at this place
 abbrev pub HasAt : List Instr → ℕ → List Instr → Type 0
@@ -96,6 +97,11 @@ below_all (d ∷ list) (t ∷ ts) stack base l =
     let e : size d + sizes list ≡ sizes list + size d = omega arith in
     ap (λ k. drop k stack) e ∙ sym (drop-drop (size d) (sizes list) stack)
     ∙ ap (drop (size d)) (below_all list ts stack l.0 l.2) ∙ below_one d t l.0 base l.1
+both_below : (ss vs : List (List ℕ)) (stack : Stack) (n : ℕ) → length ss + length vs ≡ n → drop n (onto vs (onto ss stack)) ≡ stack
+both_below ss vs stack n e =
+    let all : onto vs (onto ss stack) ≡ (reverse vs ++ reverse ss) ++ stack = onto_is vs (onto ss stack) ∙ ap (λ l. reverse vs ++ l) (onto_is ss stack) ∙ sym (append_assoc (reverse vs) (reverse ss) stack) in
+    let len : n ≡ length (reverse vs ++ reverse ss) = omega (arith, e, length-append (reverse vs) (reverse ss), length-reverse vs, length-reverse ss) in
+    ap (drop n) all ∙ ap (λ k. drop k ((reverse vs ++ reverse ss) ++ stack)) len ∙ drop-append_seam (reverse vs ++ reverse ss) stack
 
 module _ (u : unit.Unit) where
   abbrev code : List Instr
@@ -178,6 +184,29 @@ module _ (u : unit.Unit) where
           ap (λ l. given (call_value f l) (λ w m. exec u n (pc + length ce + 1) (w ∷ drop (count es) (onto vs stack))) n) (operands_are vs stack _ many)
           ∙ ap (λ st. given (call_value f vs) (λ w m. exec u n (pc + length ce + 1) (w ∷ st)) n) (rest_below vs stack _ many)
           ∙ given_at n (call_value f vs) _ _ (λ r e. (moved _ _ (r ∷ stack) (rest r) (end_of pc ce i) (k r)).by n (omega arith))))
+      operand_follows (About f v es) pc stack rest has k =
+          let r = reference v in
+          let total = r.count + count es in
+          let cs = subscripts_code pc v in
+          let pv = pc + length cs + 1 in
+          let ce = exprs_code pv es in
+          let i = instr.About f r total in
+          let back = has_back code pc cs (instr.Named f r ∷ (ce ++ i ∷ [])) has in
+          let len : pv + length ce + 1 ≡ pc + length (cs ++ instr.Named f r ∷ (ce ++ i ∷ [])) = omega (arith, length-append cs (instr.Named f r ∷ (ce ++ i ∷ [])), length-append ce (i ∷ [])) in
+          let few : total - r.count ≡ count es = omega arith in
+          named_follows f v (instr.Named f r) pc stack _ (has_front code pc cs _ has) back.0 (λ ss n lt many.
+          ap (λ l. given (named_for f r.scope r.word l) (λ x m. exec u n pv (onto ss stack)) n) (operands_are ss stack _ many)
+          ∙ given_at n (named_for f r.scope r.word ss) _ _ (λ x e.
+          (all_follow es pv (onto ss stack) (λ vs. turn (about f x (optional 0 vs) rest)) (has_front code pv ce _ back.1) (λ vs some.
+          let st = onto vs (onto ss stack) in
+          one (pv + length ce) st i _ (has_back code pv ce _ back.1).0 (λ m lt'.
+          ap (λ j. given (named_for f r.scope r.word (operands r.count (drop j st))) (λ y. about f y (optional 0 (operands j st)) (λ w q. exec u m (pv + length ce + 1) (w ∷ drop total st))) m) few
+          ∙ ap (λ l. given (named_for f r.scope r.word (operands r.count l)) (λ y. about f y (optional 0 (operands (count es) st)) (λ w q. exec u m (pv + length ce + 1) (w ∷ drop total st))) m) (rest_below vs (onto ss stack) _ some)
+          ∙ ap (λ l. given (named_for f r.scope r.word l) (λ y. about f y (optional 0 (operands (count es) st)) (λ w q. exec u m (pv + length ce + 1) (w ∷ drop total st))) m) (operands_are ss stack _ many)
+          ∙ ap (λ l. given (named_for f r.scope r.word ss) (λ y. about f y (optional 0 l) (λ w q. exec u m (pv + length ce + 1) (w ∷ drop total st))) m) (operands_are vs (onto ss stack) _ some)
+          ∙ ap (λ l. given (named_for f r.scope r.word ss) (λ y. about f y (optional 0 vs) (λ w q. exec u m (pv + length ce + 1) (w ∷ l))) m) (both_below ss vs stack total (omega (arith, many, some)))
+          ∙ ap (λ o. given o (λ y. about f y (optional 0 vs) (λ w q. exec u m (pv + length ce + 1) (w ∷ stack))) m) e
+          ∙ about_at m f x (optional 0 vs) (λ w q. exec u m (pv + length ce + 1) (w ∷ stack)) rest (λ w. (moved _ _ (w ∷ stack) (rest w) len (k w)).by m (omega arith))))).by n (omega arith)))
       operand_follows (Select choices) pc stack rest has k = choices_follow choices pc stack rest has k
 
       choices_follow : (x : Choices) (pc : ℕ) (stack : Stack) (rest : List ℕ → Timed) → HasAt code pc (choices_code pc x) → ((v : List ℕ) → Agree b (from (pc + length (choices_code pc x)) (v ∷ stack)) (rest v)) → Agree b (from pc stack) (ev_choices x rest)
@@ -220,6 +249,11 @@ module _ (u : unit.Unit) where
       -- a variable's subscripts, and an instruction that takes its name
       name_follows : (v : Variable) (i : Instr) (pc : ℕ) (stack : Stack) (rest : Name → Timed) → HasAt code pc (subscripts_code pc v) → slice_get code (pc + length (subscripts_code pc v)) ≡ Some i → ((ss : List (List ℕ)) (n : ℕ) → n < b → length ss ≡ (reference v).count → acts i (pc + length (subscripts_code pc v)) (onto ss stack) n n ≡ given (name_of (reference v).scope (reference v).word ss) rest n) → Agree b (from pc stack) (ev_name v rest)
       name_follows (Var scope word es) i pc stack rest has at k =
+          all_follow es pc stack _ has (λ ss many. one _ (onto ss stack) i _ at (λ n lt. k ss n lt many))
+
+      -- and one that takes the name for a function
+      named_follows : (f : NameFunction) (v : Variable) (i : Instr) (pc : ℕ) (stack : Stack) (rest : Name → Timed) → HasAt code pc (subscripts_code pc v) → slice_get code (pc + length (subscripts_code pc v)) ≡ Some i → ((ss : List (List ℕ)) (n : ℕ) → n < b → length ss ≡ (reference v).count → acts i (pc + length (subscripts_code pc v)) (onto ss stack) n n ≡ given (named_for f (reference v).scope (reference v).word ss) rest n) → Agree b (from pc stack) (ev_named f v rest)
+      named_follows f (Var scope word es) i pc stack rest has at k =
           all_follow es pc stack _ has (λ ss many. one _ (onto ss stack) i _ at (λ n lt. k ss n lt many))
 
       all_follow : (es : Exprs) (pc : ℕ) (stack : Stack) (rest : List (List ℕ) → Timed) → HasAt code pc (exprs_code pc es) → ((vs : List (List ℕ)) → length vs ≡ count es → Agree b (from (pc + length (exprs_code pc es)) (onto vs stack)) (rest vs)) → Agree b (from pc stack) (ev_all es rest)

@@ -8,7 +8,8 @@ use Rattle.mj_ast.specs.declared.expr.Choice as choice
 use Rattle.mj_ast.specs.declared.expr.Choice.{out-Choice}
 use Rattle.mj_ast.specs.declared.expr.Operand as operand
 use Rattle.mj_ast.specs.declared.function.Function.{Function}
-use Rattle.mj_ast.specs.Syntax.{Chain, Then, Call, Var, More}
+use Rattle.mj_ast.specs.declared.function.NameFunction.{NameFunction}
+use Rattle.mj_ast.specs.Syntax.{Chain, Then, Call, About, Var, More}
 use Rattle.mj_ast.specs.Trees.{operand_of, expr_of, variable_of, choice_of, tail_row, expr_row, tails_of, exprs_of}
 use Rattle.mj_pcode.specs.declared.instr.Instr.TheVariants.{NoneTrue}
 use Rattle.mj_asm.specs.Code.{count, reference, expr_code, choices_code, others_code}
@@ -29,6 +30,10 @@ exprs_row (variable.more_of-Expr e rest) = ap (More (expr_of e)) (exprs_row rest
 -- a call
 pub call_is : (f : Function) (v : Vec expr.Expr Global) → operand_of (operand.Call f v) ≡ Call f (exprs_of v.items)
 call_is f v = ap (Call f) (exprs_row (operand.TheBlock.hidden-the_row-Expr-0 v) ∙ ap exprs_of (variable.items_hidden-the_row-Expr-0 v))
+
+-- a function of a variable
+pub about_is : (f : NameFunction) (x : variable.Variable) (v : Vec expr.Expr Global) → operand_of (operand.About f x v) ≡ About f (variable_of x) (exprs_of v.items)
+about_is f x v = ap (About f (variable_of x)) (exprs_row (operand.TheBlock.hidden-the_row-Expr-0 v) ∙ ap exprs_of (variable.items_hidden-the_row-Expr-0 v))
 
 -- a variable
 pub variable_is : (v : variable.Variable) → variable_of v ≡ Var (out-Variable v).scope (out-Variable v).word (exprs_of (out-Variable v).subscripts.items)

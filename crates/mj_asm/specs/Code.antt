@@ -1,6 +1,6 @@
 -- The instructions of each piece of a routine.
 use Rattle.std.specs.Prelude.{ℕ, ◌+◌, List, [], ◌∷◌, ◌++◌, Option, Some, None, length}
-use Rattle.mj_ast.specs.Syntax.{Expr, Chain, Tails, Done, Then, Operand, Literal, Value, Unary, Group, Call, Select, Variable, Var, Exprs, No, More, Choices, Last, Before, Destination, Plain, Pieces, Targets, One, Several, Assignment, Killed, Gone, Spared, Merged, Output, Shown, Format, Command, Set, Write, Halt, Kill, Merge, Step, Line}
+use Rattle.mj_ast.specs.Syntax.{Expr, Chain, Tails, Done, Then, Operand, Literal, Value, Unary, Group, Call, Select, Variable, Var, Exprs, No, More, Choices, Last, Before, Destination, Plain, Pieces, Targets, One, Several, Assignment, Killed, Gone, Spared, Merged, Output, Shown, Format, Command, Set, Write, Halt, Kill, Merge, Step, Line, About}
 use Rattle.mj_pcode.specs.declared.instr.Reference.{Reference}
 use Rattle.mj_pcode.specs.declared.instr.Depth.{Depth}
 use Rattle.mj_pcode.specs.declared.instr.Instr.{Instr}
@@ -30,6 +30,8 @@ abbrev mutual
   operand_code pc (Unary op x) = operand_code pc x ++ instr.Unary op ∷ []
   operand_code pc (Group e) = expr_code pc e
   operand_code pc (Call f es) = exprs_code pc es ++ instr.Call f (count es) ∷ []
+  operand_code pc (About f v es) =
+      subscripts_code pc v ++ instr.Named f (reference v) ∷ (exprs_code (pc + length (subscripts_code pc v) + 1) es ++ instr.About f (reference v) ((reference v).count + count es) ∷ [])
   operand_code pc (Select choices) = choices_code pc choices
 
   pub subscripts_code : ℕ → Variable → List Instr

@@ -79,6 +79,15 @@ fn emit_operand(code: &mut Vec<Instr>, operand: &Operand) -> Result<(), AllocErr
             emit_all(code, arguments)?;
             put(code, Instr::Call(*function, arguments.len()))
         }
+        Operand::About(function, variable, others) => {
+            emit_subscripts(code, variable)?;
+            let name = reference(variable)?;
+            put(code, Instr::Named(*function, name))?;
+            emit_all(code, others)?;
+            let name = reference(variable)?;
+            let count = variable.subscripts.len() + others.len();
+            put(code, Instr::About(*function, name, count))
+        }
         Operand::Select(choice) => emit_choice(code, choice),
     }
 }

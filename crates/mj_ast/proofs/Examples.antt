@@ -6,7 +6,8 @@ use Rattle.mj_ast.specs.declared.sign.Sign.TheVariants.{Star, Equals, CloseBrack
 use Rattle.mj_ast.specs.Tokens.{Word, Called, Special, Digits, Quoted, Signed, Blank, Comment, Unclosed, Stray, lexemes, tokens, column}
 use Rattle.mj_ast.specs.declared.keyword.Keyword.TheVariants as keyword
 use Rattle.mj_ast.specs.declared.function.Function.TheVariants.{QLength, QSubscript, Reverse, Translate}
-use Rattle.mj_ast.specs.declared.function.Callee.TheVariants.{Texts}
+use Rattle.mj_ast.specs.declared.function.NameFunction.TheVariants as names
+use Rattle.mj_ast.specs.declared.function.Callee.TheVariants.{Texts, Names}
 use Rattle.mj_ast.specs.Expressions.{callee_of}
 use Rattle.mj_ast.specs.declared.expr.Scope.TheVariants.{Local}
 use Rattle.mj_ast.specs.Syntax.{Expr, Variable, Var, No, More, Chain, Done, Literal, Value, Plain, Pieces, One, Several, Gone, Spared, Shown, Set, Write, Halt, Kill, Step}
@@ -83,6 +84,12 @@ name_length = refl
 
 name_part : callee_of (codes "qSubscript") ≡ Some (Texts QSubscript)
 name_part = refl
+
+name_function : callee_of (codes "na") ≡ Some (Names names.Name)
+name_function = refl
+
+order_function : callee_of (codes "o") ∷ callee_of (codes "q") ∷ callee_of (codes "Data") ∷ callee_of (codes "G") ∷ [] ≡ Some (Names names.Order) ∷ Some (Names names.Query) ∷ Some (Names names.Data) ∷ Some (Names names.Get) ∷ []
+order_function = refl
 
 no_function : callee_of (codes "LEN") ≡ None
 no_function = refl

@@ -3,8 +3,11 @@
 --   expression = operand {binary operand}
 --   operand    = unary operand | digits | quoted text | variable | "(" expression ")"
 --              | "$" word "(" expression {"," expression} ")"
+--              | "$" word "(" variable ["," expression] ")"
 --              | "$SELECT" "(" expression ":" expression {"," expression ":" expression} ")"
 --   variable   = ["^"] name ["(" expression {"," expression} ")"]
+--
+-- The variable of `$ORDER` has subscripts.
 use Rattle.std.specs.Prelude.{◌≡◌, ℕ, ◌+◌, ◌-◌, ◌≤◌, max, nat_le, Bool, ◌||◌, Option, Some, None, codes, if◌then◌else◌, List, [], ◌∷◌, ◌++◌, length, map, Result, Ok, Err, ℤ}
 use Rattle.std.specs.Str.{str_eq_ignore_ascii_case}
 use Rattle.mj_text.specs.declared.fault.Fault.{Fault}
@@ -22,9 +25,11 @@ use Rattle.mj_oper.specs.declared.op.UnaryOp.{UnaryOp}
 use Rattle.mj_oper.specs.declared.op.UnaryOp.TheVariants as unary
 use Rattle.mj_ast.specs.declared.function.Function.{Function}
 use Rattle.mj_ast.specs.declared.function.Function.TheVariants.{Ascii, Char, Extract, Find, Justify, Length, Piece, QLength, QSubscript, Reverse, Translate}
+use Rattle.mj_ast.specs.declared.function.NameFunction.{NameFunction}
+use Rattle.mj_ast.specs.declared.function.NameFunction.TheVariants as names
 use Rattle.mj_ast.specs.declared.function.Callee.{Callee}
 use Rattle.mj_ast.specs.declared.function.Callee.TheVariants as callee
-use Rattle.mj_ast.specs.Syntax.{Expr, Chain, Tails, Done, Then, Operand, Literal, Value, Unary, Group, Call, Select, Variable, Var, Exprs, No, More, Choices, Last, Before}
+use Rattle.mj_ast.specs.Syntax.{Expr, Chain, Tails, Done, Then, Operand, Literal, Value, Unary, Group, Call, About, Select, Variable, Var, Exprs, No, More, Choices, Last, Before}
 use Rattle.mj_ast.specs.Tokens.{Token, Word, Called, Special, Digits, Quoted, Signed}
 
 -- ---- functions
@@ -38,13 +43,18 @@ abbrev pub callee_of : List ℕ → Option Callee
 callee_of w =
     if is_named w (codes "ASCII") (codes "A") then Some (callee.Texts Ascii)
     else if is_named w (codes "CHAR") (codes "C") then Some (callee.Texts Char)
+    else if is_named w (codes "DATA") (codes "D") then Some (callee.Names names.Data)
     else if is_named w (codes "EXTRACT") (codes "E") then Some (callee.Texts Extract)
     else if is_named w (codes "FIND") (codes "F") then Some (callee.Texts Find)
+    else if is_named w (codes "GET") (codes "G") then Some (callee.Names names.Get)
     else if is_named w (codes "JUSTIFY") (codes "J") then Some (callee.Texts Justify)
     else if is_named w (codes "LENGTH") (codes "L") then Some (callee.Texts Length)
+    else if is_named w (codes "NAME") (codes "NA") then Some (callee.Names names.Name)
+    else if is_named w (codes "ORDER") (codes "O") then Some (callee.Names names.Order)
     else if is_named w (codes "PIECE") (codes "P") then Some (callee.Texts Piece)
     else if is_named w (codes "QLENGTH") (codes "QL") then Some (callee.Texts QLength)
     else if is_named w (codes "QSUBSCRIPT") (codes "QS") then Some (callee.Texts QSubscript)
+    else if is_named w (codes "QUERY") (codes "Q") then Some (callee.Names names.Query)
     else if is_named w (codes "REVERSE") (codes "RE") then Some (callee.Texts Reverse)
     else if is_named w (codes "SELECT") (codes "S") then Some callee.Select
     else if is_named w (codes "TRANSLATE") (codes "TR") then Some (callee.Texts Translate)
@@ -77,6 +87,28 @@ most QLength = 1
 most QSubscript = 2
 most Reverse = 1
 most Translate = 3
+
+-- how many subscripts its variable has at least
+abbrev pub least_subscripts : NameFunction → ℕ
+least_subscripts names.Data = 0
+least_subscripts names.Get = 0
+least_subscripts names.Name = 0
+least_subscripts names.Order = 1
+least_subscripts names.Query = 0
+
+-- how many arguments stand behind its variable at most
+abbrev pub most_others : NameFunction → ℕ
+most_others names.Data = 0
+most_others names.Get = 1
+most_others names.Name = 0
+most_others names.Order = 1
+most_others names.Query = 0
+
+-- How many levels open with a function at least: its own, and that of the subscripts that its variable needs.
+abbrev pub levels : Callee → ℕ
+levels (callee.Texts f) = 1
+levels (callee.Names f) = least_subscripts f + 1
+levels callee.Select = 1
 
 -- ---- what a token is to an expression
 
@@ -126,6 +158,11 @@ symbol (Quoted value) = if nat_le (length value) text_limit then Constant value 
 symbol (Signed s) = Mark s
 symbol _ = Other
 
+-- how many levels open with a symbol at least, where one does
+abbrev pub levels_of : Symbol → ℕ
+levels_of (Applied callee) = levels callee
+levels_of _ = 1
+
 -- ---- spelling
 
 -- the sign of a unary operator
@@ -171,13 +208,15 @@ abbrev mutual
   tails_symbols Done = []
   tails_symbols (Then op operand rest) = Mark (binary_sign op) ∷ (operand_symbols operand ++ tails_symbols rest)
 
-  -- a constant, a variable, an operator before an operand, an expression in parentheses, or a function with its arguments
+  -- a constant, a variable, an operator before an operand, an expression in parentheses, or a function with its arguments, of
+  -- which the first may be a variable
   pub operand_symbols : Operand → List Symbol
   operand_symbols (Literal value) = Constant value ∷ []
   operand_symbols (Value v) = variable_symbols v
   operand_symbols (Unary op operand) = Mark (unary_sign op) ∷ operand_symbols operand
   operand_symbols (Group e) = Mark Open ∷ (expr_symbols e ++ Mark Close ∷ [])
   operand_symbols (Call f arguments) = Applied (callee.Texts f) ∷ list_symbols arguments
+  operand_symbols (About f v others) = Applied (callee.Names f) ∷ Mark Open ∷ (variable_symbols v ++ more_symbols others)
   operand_symbols (Select choices) = Applied callee.Select ∷ Mark Open ∷ choices_symbols choices
 
   -- a name, and its subscripts
@@ -206,6 +245,10 @@ abbrev pub count : Exprs → ℕ
 count No = 0
 count (More e rest) = count rest + 1
 
+-- how many subscripts
+abbrev pub subscript_count : Variable → ℕ
+subscript_count (Var scope word subscripts) = count subscripts
+
 -- The nesting: how many levels are open at once at most. Parentheses, subscript lists, argument lists and unary operators
 -- open one each, a unary operator for its operand alone.
 abbrev mutual
@@ -222,6 +265,7 @@ abbrev mutual
   operand_nesting (Unary op operand) = operand_nesting operand + 1
   operand_nesting (Group e) = expr_nesting e + 1
   operand_nesting (Call f arguments) = list_nesting arguments
+  operand_nesting (About f v others) = max (variable_nesting v) (exprs_nesting others) + 1
   operand_nesting (Select choices) = choices_nesting choices + 1
 
   pub variable_nesting : Variable → ℕ
@@ -254,6 +298,7 @@ abbrev mutual
   operand_width (Unary op operand) = operand_width operand
   operand_width (Group e) = expr_width e
   operand_width (Call f arguments) = exprs_width arguments
+  operand_width (About f v others) = max (variable_width v) (exprs_width others)
   operand_width (Select choices) = choices_width choices
 
   pub variable_width : Variable → ℕ
@@ -267,7 +312,8 @@ abbrev mutual
   choices_width (Last c e) = max (expr_width c) (expr_width e)
   choices_width (Before c e others) = max (max (expr_width c) (expr_width e)) (choices_width others)
 
--- How far the numbers of arguments are from what the functions take: by how many there are too few or too many, in all.
+-- How far the numbers of arguments, and of the subscripts of variables that are such, are from what the functions take: by how
+-- many there are too few or too many, in all.
 abbrev mutual
   pub expr_misfits : Expr → ℕ
   expr_misfits (Chain first rest) = operand_misfits first + tails_misfits rest
@@ -282,6 +328,8 @@ abbrev mutual
   operand_misfits (Unary op operand) = operand_misfits operand
   operand_misfits (Group e) = expr_misfits e
   operand_misfits (Call f arguments) = (least f - count arguments) + (count arguments - most f) + exprs_misfits arguments
+  operand_misfits (About f v others) =
+      (least_subscripts f - subscript_count v) + (count others - most_others f) + variable_misfits v + exprs_misfits others
   operand_misfits (Select choices) = choices_misfits choices
 
   pub variable_misfits : Variable → ℕ

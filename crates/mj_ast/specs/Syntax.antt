@@ -2,6 +2,7 @@
 use Rattle.std.specs.Prelude.{ℕ, List, Option}
 use Rattle.mj_ast.specs.declared.expr.Scope.{Scope}
 use Rattle.mj_ast.specs.declared.function.Function.{Function}
+use Rattle.mj_ast.specs.declared.function.NameFunction.{NameFunction}
 use Rattle.mj_oper.specs.declared.op.Op.{Op}
 use Rattle.mj_oper.specs.declared.op.UnaryOp.{UnaryOp}
 use Rattle.mj_ast.specs.declared.routine.Mark.{Mark}
@@ -18,13 +19,14 @@ mutual
 
   -- what stands between binary operators: a quoted text, or the canonic text of the number that digits read; the
   -- value of a variable; an operator and its operand; an expression in parentheses; a function and its arguments;
-  -- `$SELECT` and its choices
+  -- a function of a variable, and what stands behind that; `$SELECT` and its choices
   pub data Operand : Type 0 where
     Literal : (value : List ℕ) → Operand
     Value : (v : Variable) → Operand
     Unary : (op : UnaryOp) (operand : Operand) → Operand
     Group : (e : Expr) → Operand
     Call : (f : Function) (arguments : Exprs) → Operand
+    About : (f : NameFunction) (v : Variable) (others : Exprs) → Operand
     Select : (choices : Choices) → Operand
 
   -- a local or a global, with its subscripts

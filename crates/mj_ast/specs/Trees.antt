@@ -20,7 +20,7 @@ use Rattle.mj_ast.specs.declared.routine.Command.TheVariants as command
 use Rattle.mj_ast.specs.declared.routine.Step as step
 use Rattle.mj_ast.specs.declared.routine.Line as line
 use Rattle.mj_ast.specs.declared.routine.Routine as routine
-use Rattle.mj_ast.specs.Syntax.{Expr, Chain, Tails, Done, Then, Operand, Literal, Value, Unary, Group, Call, Select, Variable, Var, Exprs, No, More, Choices, Last, Before, Destination, Plain, Pieces, Targets, One, Several, Assignment, Killed, Gone, Spared, Merged, Output, Shown, Format, Command, Set, Write, Halt, Kill, Merge, Step, Line, Routine}
+use Rattle.mj_ast.specs.Syntax.{Expr, Chain, Tails, Done, Then, Operand, Literal, Value, Unary, Group, Call, Select, Variable, Var, Exprs, No, More, Choices, Last, Before, Destination, Plain, Pieces, Targets, One, Several, Assignment, Killed, Gone, Spared, Merged, Output, Shown, Format, Command, Set, Write, Halt, Kill, Merge, Step, Line, Routine, About}
 
 abbrev mutual
   pub operand_of : operand.Operand → Operand
@@ -29,6 +29,7 @@ abbrev mutual
   operand_of (operand.Unary' op p x) = Unary op (operand_of x)
   operand_of (operand.Group' p e) = Group (expr_of e)
   operand_of (operand.Call' f shape row) = Call f (expr_row row)
+  operand_of (operand.About' f v shape row) = About f (variable_of v) (expr_row row)
   operand_of (operand.Select' p choice) = Select (choice_of choice)
 
   pub choice_of : choice.Choice → Choices

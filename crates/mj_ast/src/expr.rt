@@ -1,6 +1,6 @@
 // Expressions.
 
-use crate::function::Function;
+use crate::function::{Function, NameFunction};
 use mj_oper::{Op, UnaryOp};
 use mj_text::Text;
 
@@ -41,6 +41,8 @@ pub enum Operand {
     Group(Box<Expr>),
     /// a function and its arguments
     Call(Function, Vec<Expr>),
+    /// a function of a variable, and what stands behind that
+    About(NameFunction, Variable, Vec<Expr>),
     /// `$SELECT` and its choices
     Select(Box<Choice>),
 }

@@ -27,11 +27,28 @@ pub enum Function {
     Translate,
 }
 
+/// A function of a variable, which stands for its name.
+#[derive(Clone, Copy, PartialEq, Eq, Debug)]
+pub enum NameFunction {
+    /// `$DATA`: whether it has a value, and descendants
+    Data,
+    /// `$GET`: its value, or another where it has none
+    Get,
+    /// `$NAME`: its name text
+    Name,
+    /// `$ORDER`: the subscript beside its last
+    Order,
+    /// `$QUERY`: the name text of the next node with a value
+    Query,
+}
+
 /// What a `$` word with arguments behind it names.
 #[derive(Clone, Copy, PartialEq, Eq, Debug)]
 pub enum Callee {
     /// a function whose arguments are texts
     Texts(Function),
+    /// a function whose first argument is a variable
+    Names(NameFunction),
     /// `$SELECT`
     Select,
 }

@@ -11,7 +11,7 @@ mod routine;
 mod sign;
 
 pub use expr::{Choice, Expr, Operand, Scope, Tail, Variable};
-pub use function::{Callee, Function};
+pub use function::{Callee, Function, NameFunction};
 pub use keyword::Keyword;
 pub use routine::{
     Assignment, Command, Destination, Killed, Line, Mark, Merged, Output, Routine, Step, Targets,

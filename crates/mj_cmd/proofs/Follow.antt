@@ -85,15 +85,15 @@ room_for true m ls ms h r = r
 room_for false m ls ms h r = (r.0, let n = r.1 in omega arith)
 
 -- without the limit on levels
-pub room_free : (limited : Bool) (m : Limits) (ls : List Lexeme) → limited ≡ false → HasRoom limited m ls → (m.width ≡ 31) × (length ls + 1 ≤ m.depth)
+pub room_free : (limited : Bool) (m : Limits) (ls : List Lexeme) → limited ≡ false → HasRoom limited m ls → (m.width ≡ 31) × (length ls + 2 ≤ m.depth)
 room_free true m ls e h = absurd (let f : true ≡ false = e in cc)
 room_free false m ls e h = h
 
 pub level_one : (lv n : ℕ) → n ≡ lv → lv ≤ 1 → n ≤ 1
 level_one lv n e h = omega arith
 
--- inside a level there is as much room as there are tokens
-pub inside_room : (m : Limits) (g : Goal) (ls : List Lexeme) → level g ≤ 1 → length ls + 1 ≤ m.depth → length ls ≤ m.depth - level g
+-- inside a level there is more room than there are tokens
+pub inside_room : (m : Limits) (g : Goal) (ls : List Lexeme) → level g ≤ 1 → length ls + 2 ≤ m.depth → length ls < m.depth - level g
 inside_room m g ls l h = omega arith
 
 -- ---- phrases

@@ -24,7 +24,7 @@ no_tree = tt
 -- level too many, nor one around it.
 abbrev pub HasRoom : Bool → Limits → List Lexeme → Type 0
 HasRoom true m ls = m ≡ limits depth_limit
-HasRoom false m ls = (m.width ≡ width_limit) × (length ls + 1 ≤ m.depth)
+HasRoom false m ls = (m.width ≡ width_limit) × (length ls + 2 ≤ m.depth)
 
 -- What a refusal says of a run; want of memory says nothing. A level too many is refused within the limits of the language.
 abbrev pub Refuses : Bool → Stop → Outcome → Type 0

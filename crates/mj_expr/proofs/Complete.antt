@@ -10,13 +10,15 @@ use Rattle.mj_oper.specs.declared.op.Op.{Op}
 use Rattle.mj_oper.specs.declared.op.Op.TheVariants as binary
 use Rattle.mj_oper.specs.declared.op.TruthOp.{TruthOp}
 use Rattle.mj_oper.specs.declared.op.TruthOp.TheVariants as truth
+use Rattle.mj_ast.specs.declared.function.NameFunction.{NameFunction}
+use Rattle.mj_ast.specs.declared.function.NameFunction.TheVariants as names
 use Rattle.mj_ast.specs.declared.function.Callee.TheVariants as callee
-use Rattle.mj_ast.specs.Syntax.{Expr, Chain, Tails, Done, Then, Operand, Literal, Value, Unary, Group, Call, Select, Variable, Var, Exprs, No, More, Choices, Last, Before}
-use Rattle.mj_ast.specs.Expressions.{Symbol, Name, Mark, scoped, unary_sign, truth_sign, binary_sign, expr_symbols, tails_symbols, operand_symbols, variable_symbols, list_symbols, more_symbols, choices_symbols, count, expr_nesting, tails_nesting, operand_nesting, variable_nesting, list_nesting, exprs_nesting, choices_nesting, expr_width, tails_width, operand_width, variable_width, exprs_width, choices_width, expr_misfits, tails_misfits, operand_misfits, variable_misfits, exprs_misfits, choices_misfits}
-use Rattle.mj_expr.specs.Machine.{Outer, Alone, InGroup, InList, InCondition, InChoice, Owner, Subscripts, Arguments, Within, Front, Right, Under, Place, AsOperand, AsTarget, Pairs, NoPairs, and_pair, before_choices, Wanted, Sought, Named, Held, Limits, Phrase, Whole, Target, Accept, and_then, and_more, filled, placed, closed, held, outer_depth, owner_depth, depth_of, place_depth, least_of, most_of, is_limited, run, turn, Go, Deep, Stuck, Long, unary_of, binary_of, want_sign, hold_sign}
+use Rattle.mj_ast.specs.Syntax.{Expr, Chain, Tails, Done, Then, Operand, Literal, Value, Unary, Group, Call, About, Select, Variable, Var, Exprs, No, More, Choices, Last, Before}
+use Rattle.mj_ast.specs.Expressions.{Symbol, Name, Mark, scoped, unary_sign, truth_sign, binary_sign, expr_symbols, tails_symbols, operand_symbols, variable_symbols, list_symbols, more_symbols, choices_symbols, count, subscript_count, least_subscripts, most_others, expr_nesting, tails_nesting, operand_nesting, variable_nesting, list_nesting, exprs_nesting, choices_nesting, expr_width, tails_width, operand_width, variable_width, exprs_width, choices_width, expr_misfits, tails_misfits, operand_misfits, variable_misfits, exprs_misfits, choices_misfits}
+use Rattle.mj_expr.specs.Machine.{Outer, Alone, InGroup, InList, InOther, InCondition, InChoice, Owner, Subscripts, Arguments, Within, Front, Right, Under, Place, AsOperand, AsNamed, AsTarget, Pairs, NoPairs, and_pair, before_choices, Wanted, Sought, Named, Behind, Held, Limits, Phrase, Whole, Target, Accept, and_then, and_more, filled, placed, closed, held, outer_depth, owner_depth, depth_of, place_depth, least_of, most_of, is_limited, run, turn, Go, Deep, Stuck, Long, unary_of, binary_of, want_sign, hold_sign}
 use Rattle.mj_expr.specs.Reads.{HasNoOpen, HasNoBinary}
-use Rattle.mj_expr.proofs.Steps.{named_ends, less_true, most_true, open_goes, call_opens, call_goes, colon_goes, choice_goes, choice_closes, before_pair, joined_more, joined_last, whole_done, target_done}
-use Rattle.mj_expr.proofs.Zipper.{Kind, AnExpression, AVariable, Fits, phrase_symbols, start, count-more, joined, least_some}
+use Rattle.mj_expr.proofs.Steps.{named_ends, less_true, most_true, open_goes, call_opens, call_goes, colon_goes, choice_goes, choice_closes, before_pair, about_closes, about_goes, other_closes, joined_more, joined_last, whole_done, target_done}
+use Rattle.mj_expr.proofs.Zipper.{Kind, AnExpression, AVariable, Fits, phrase_symbols, start, count-more, joined, least_some, others_few, subscripts_few}
 
 unary_again : (op : UnaryOp) → unary_of (unary_sign op) ≡ Some op
 unary_again unary.Plus = refl
@@ -115,6 +117,19 @@ more_no_open : (es : Exprs) (ks : List Symbol) → HasNoOpen (more_symbols es ++
 more_no_open No ks = tt
 more_no_open (More e es) ks = tt
 
+-- subscripts nest
+subscripts_nest : (v : Variable) → 1 ≤ subscript_count v → 1 ≤ variable_nesting v
+subscripts_nest (Var scope word No) h = absurd (omega (arith, h))
+subscripts_nest (Var scope word (More e es)) h = omega arith
+
+-- where a variable has as many subscripts as it needs, it nests as deep as that
+least_nests : (g : NameFunction) (v : Variable) → least_subscripts g ≤ subscript_count v → least_subscripts g ≤ variable_nesting v
+least_nests names.Data v h = omega arith
+least_nests names.Get v h = omega arith
+least_nests names.Name v h = omega arith
+least_nests names.Order v h = subscripts_nest v h
+least_nests names.Query v h = omega arith
+
 mutual
   pub complete_expr : (e : Expr) (m : Limits) (o : Outer) (ks : List Symbol) → expr_nesting e + outer_depth o ≤ m.depth → expr_width e ≤ m.width → expr_misfits e ≡ 0 → HasNoOpen ks →
       run m (expr_symbols e ++ ks) (Wanted (Front o)) ≡ run m ks (held e o)
@@ -153,10 +168,27 @@ mutual
       ∙ ap (λ (zs : List Symbol). run m zs (Wanted (Front (InList u No)))) (append_assoc (expr_symbols e) (more_symbols r) ks)
       ∙ complete_expr e m (InList u No) (more_symbols r ++ ks) (omega arith) (omega arith) (omega arith) (more_no_open r ks)
       ∙ complete_more r m u No e ks (omega arith) (omega arith) (omega arith) (omega (arith, f)) (omega (arith, f))
+  complete_operand (About g v others) m c ks n w f h =
+      let s : least_subscripts g ≤ subscript_count v = omega (arith, f) in
+      call_goes m (Mark Open ∷ ((variable_symbols v ++ more_symbols others) ++ ks)) (callee.Names g) c (omega (arith, n, least_nests g v s))
+      ∙ call_opens m ((variable_symbols v ++ more_symbols others) ++ ks) (callee.Names g) c
+      ∙ ap (λ (zs : List Symbol). run m zs (Sought (AsNamed g c))) (append_assoc (variable_symbols v) (more_symbols others) ks)
+      ∙ complete_variable v m (AsNamed g c) (more_symbols others ++ ks) (omega (arith, n)) (omega (arith, w)) (omega (arith, f)) (more_no_open others ks)
+      ∙ complete_others others m g v c ks (omega (arith, n)) (omega (arith, w)) (omega (arith, f)) s (omega (arith, f))
   complete_operand (Select choices) m c ks n w f h =
       call_goes m (Mark Open ∷ (choices_symbols choices ++ ks)) callee.Select c (omega arith)
       ∙ call_opens m (choices_symbols choices ++ ks) callee.Select c
       ∙ complete_choices choices m NoPairs c ks (omega arith) w f
+
+  complete_others : (others : Exprs) (m : Limits) (g : NameFunction) (v : Variable) (c : Within) (ks : List Symbol) → exprs_nesting others + depth_of c + 1 ≤ m.depth → exprs_width others ≤ m.width → exprs_misfits others ≡ 0 →
+      least_subscripts g ≤ subscript_count v → count others ≤ most_others g → run m (more_symbols others ++ ks) (Behind g v c) ≡ run m ks (filled (About g v others) c)
+  complete_others No m g v c ks n w f s t = about_closes m ks g v c s
+  complete_others (More e No) m g v c ks n w f s t =
+      about_goes m ((expr_symbols e ++ Mark Close ∷ []) ++ ks) g v c s (omega (arith, t))
+      ∙ ap (λ (zs : List Symbol). run m zs (Wanted (Front (InOther g v c)))) (append_assoc (expr_symbols e) (Mark Close ∷ []) ks)
+      ∙ complete_expr e m (InOther g v c) (Mark Close ∷ ks) (omega arith) (omega arith) (omega arith) tt
+      ∙ other_closes m ks g v e c
+  complete_others (More e (More d r)) m g v c ks n w f s t = absurd (omega (arith, t, others_few g))
 
   complete_choices : (x : Choices) (m : Limits) (ps : Pairs) (c : Within) (ks : List Symbol) → choices_nesting x + depth_of c + 1 ≤ m.depth → choices_width x ≤ m.width → choices_misfits x ≡ 0 →
       run m (choices_symbols x ++ ks) (Wanted (Front (InCondition ps c))) ≡ run m ks (filled (Select (before_choices ps x)) c)

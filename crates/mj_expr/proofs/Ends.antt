@@ -2,7 +2,7 @@
 use Rattle.std.proofs.Common.{◌≡◌, ℕ, ◌≤◌, List, [], ◌∷◌, ◌++◌, length, refl, ap, sym, ◌∙◌, subst, append_assoc, append-nil, ◌⊎◌, inl, inr}
 use Rattle.mj_ast.specs.Syntax.{Chain, Var, No}
 use Rattle.mj_ast.specs.Expressions.{Symbol, Constant, Name, Applied, Overlong, Mark, Other}
-use Rattle.mj_expr.specs.Machine.{Alone, InGroup, InList, InCondition, InChoice, State, Wanted, Sought, Marked, Named, Calling, Held, Got, placed, Limits, Next, Go, Stuck, Deep, Long, Whole, Target, Outcome, Accept, StuckAt, DeepAt, TooLong, refused, ends, finish, step, run, turn}
+use Rattle.mj_expr.specs.Machine.{Alone, InGroup, InList, InOther, InCondition, InChoice, State, Wanted, Sought, Marked, Named, Calling, Behind, Held, Got, placed, Limits, Next, Go, Stuck, Deep, Long, Whole, Target, Outcome, Accept, StuckAt, DeepAt, TooLong, refused, ends, finish, step, run, turn}
 use Rattle.mj_expr.proofs.Zipper.{Kind, HasRead}
 use Rattle.mj_expr.proofs.Facts.{IsMore, deeper, Facts, LongFacts}
 use Rattle.mj_expr.proofs.States.{step_facts}
@@ -43,7 +43,7 @@ pub record EndsDeep (K : Kind) (m : Limits) (s : State) (ks : List Symbol) (n : 
   pub left : length (token ∷ back) ≡ n
   pub along : Along K m s front end
   pub steps : step m end token ≡ Deep
-  pub opened : (pre : List Symbol) → HasRead K m end pre → HasRead K (deeper m) over (pre ++ token ∷ [])
+  pub opened : (pre : List Symbol) → HasRead K m end pre → HasRead K (deeper token m) over (pre ++ token ∷ [])
 
 -- It goes along the front, and there stands a comma too many.
 pub record EndsLong (K : Kind) (m : Limits) (s : State) (ks : List Symbol) : Type 0 where
@@ -90,9 +90,11 @@ ends_deep (Named scope word p) ks n e = refused_deep ks n e
 ends_deep (Held x r Alone) ks n e = let f : Accept (Whole (Chain x r)) ks ≡ DeepAt n = e in cc
 ends_deep (Held x r (InGroup c)) ks n e = refused_deep ks n e
 ends_deep (Held x r (InList u es)) ks n e = refused_deep ks n e
+ends_deep (Held x r (InOther f v c)) ks n e = refused_deep ks n e
 ends_deep (Held x r (InCondition ps c)) ks n e = refused_deep ks n e
 ends_deep (Held x r (InChoice ps a c)) ks n e = refused_deep ks n e
 ends_deep (Calling f c) ks n e = refused_deep ks n e
+ends_deep (Behind f v c) ks n e = refused_deep ks n e
 ends_deep (Got v) ks n e = let f : Accept (Target v) ks ≡ DeepAt n = e in cc
 
 pub finish_deep : (s : State) (ks : List Symbol) (n : ℕ) → finish s ks ≡ DeepAt n → ⊥
@@ -101,6 +103,7 @@ finish_deep (Sought p) ks n e = refused_deep ks n e
 finish_deep (Marked p) ks n e = refused_deep ks n e
 finish_deep (Named scope word p) ks n e = ends_deep (placed (Var scope word No) p) ks n e
 finish_deep (Calling f c) ks n e = refused_deep ks n e
+finish_deep (Behind f v c) ks n e = refused_deep ks n e
 finish_deep (Held x r o) ks n e = ends_deep (Held x r o) ks n e
 finish_deep (Got v) ks n e = ends_deep (Got v) ks n e
 

@@ -5,8 +5,9 @@ use Rattle.mj_ast.specs.declared.expr.Scope.TheVariants.{Local, Global}
 use Rattle.mj_oper.specs.declared.op.UnaryOp.TheVariants as unary
 use Rattle.mj_oper.specs.declared.op.Op.TheVariants as binary
 use Rattle.mj_oper.specs.declared.op.TruthOp.TheVariants as truth
-use Rattle.mj_ast.specs.Syntax.{Chain, Done, Then, Literal, Value, Unary, Group, Call, Var, No, More}
+use Rattle.mj_ast.specs.Syntax.{Chain, Done, Then, Literal, Value, Unary, Group, Call, About, Var, No, More}
 use Rattle.mj_ast.specs.declared.function.Function.TheVariants.{Length}
+use Rattle.mj_ast.specs.declared.function.NameFunction.TheVariants as names
 use Rattle.mj_ast.specs.Tokens.{Token, Word, Called, Quoted, Signed, Blank, Unclosed}
 use Rattle.mj_ast.specs.Expressions.{symbol, expr_symbols, expr_nesting}
 use Rattle.mj_expr.specs.Machine.{Wanted, Sought, Front, Alone, AsTarget, Limits, Whole, Target, Accept, StuckAt, DeepAt, TooLong, run}
@@ -82,6 +83,42 @@ select_row = refl
 
 deep_call_row : run (levels 0) (map symbol (Called (76 ∷ []) ∷ Signed Open ∷ a ∷ Signed Close ∷ [])) (Wanted (Front Alone)) ≡ DeepAt 4
 deep_call_row = refl
+
+-- `$G(^A,"x")` and `$D(A)` are read, with one level; the comma of `$D(A,` and what stands for a variable in `$D("x"` are stuck
+get_row : run (levels 1) (map symbol (Called (71 ∷ []) ∷ Signed Open ∷ Signed Caret ∷ a ∷ Signed Comma ∷ Quoted (120 ∷ []) ∷ Signed Close ∷ [])) (Wanted (Front Alone))
+    ≡ Accept (Whole (Chain (About names.Get (Var Global (65 ∷ []) No) (More (Chain (Literal (120 ∷ [])) Done) No)) Done)) []
+get_row = refl
+
+data_row : run (levels 1) (map symbol (Called (68 ∷ []) ∷ Signed Open ∷ a ∷ Signed Close ∷ Signed Plus ∷ a ∷ [])) (Wanted (Front Alone))
+    ≡ Accept (Whole (Chain (About names.Data (Var Local (65 ∷ []) No) No) (Then binary.Add (Value (Var Local (65 ∷ []) No)) Done))) []
+data_row = refl
+
+data_comma_row : run (levels 1) (map symbol (Called (68 ∷ []) ∷ Signed Open ∷ a ∷ Signed Comma ∷ a ∷ Signed Close ∷ [])) (Wanted (Front Alone)) ≡ StuckAt 3
+data_comma_row = refl
+
+data_text_row : run (levels 1) (map symbol (Called (68 ∷ []) ∷ Signed Open ∷ Quoted (120 ∷ []) ∷ Signed Close ∷ [])) (Wanted (Front Alone)) ≡ StuckAt 2
+data_text_row = refl
+
+-- `$O(A(A),A)` takes two levels; without subscripts it is stuck behind its variable, and with one level it is deep at its word
+order_row : run (levels 2) (map symbol (Called (79 ∷ []) ∷ Signed Open ∷ a ∷ Signed Open ∷ a ∷ Signed Close ∷ Signed Comma ∷ a ∷ Signed Close ∷ [])) (Wanted (Front Alone))
+    ≡ Accept (Whole (Chain (About names.Order (Var Local (65 ∷ []) (More (Chain (Value (Var Local (65 ∷ []) No)) Done) No)) (More (Chain (Value (Var Local (65 ∷ []) No)) Done) No)) Done)) []
+order_row = refl
+
+bare_order_row : run (levels 2) (map symbol (Called (79 ∷ []) ∷ Signed Open ∷ Signed Caret ∷ a ∷ Signed Close ∷ [])) (Wanted (Front Alone)) ≡ StuckAt 1
+bare_order_row = refl
+
+bare_comma_row : run (levels 2) (map symbol (Called (79 ∷ []) ∷ Signed Open ∷ a ∷ Signed Comma ∷ a ∷ Signed Close ∷ [])) (Wanted (Front Alone)) ≡ StuckAt 3
+bare_comma_row = refl
+
+deep_order_row : run (levels 1) (map symbol (Called (79 ∷ []) ∷ Signed Open ∷ a ∷ [])) (Wanted (Front Alone)) ≡ DeepAt 3
+deep_order_row = refl
+
+-- the subscripts of a function's variable open a level too, and the 31st comma of a list counts there too
+deep_query_row : run (levels 1) (map symbol (Called (81 ∷ []) ∷ Signed Open ∷ a ∷ Signed Open ∷ a ∷ [])) (Wanted (Front Alone)) ≡ DeepAt 2
+deep_query_row = refl
+
+long_query_row : run (levels 2) (map symbol (Called (81 ∷ []) ∷ Signed Open ∷ a ∷ Signed Open ∷ a ∷ Signed Comma ∷ a ∷ Signed Comma ∷ [])) (Wanted (Front Alone)) ≡ TooLong
+long_query_row = refl
 
 -- `A((B),"x")` as symbols, and how deep it nests
 spelling_row : expr_symbols (Chain (Value (Var Local (65 ∷ []) (More (Chain (Group (Chain (Value (Var Local (66 ∷ []) No)) Done)) Done) (More (Chain (Literal (120 ∷ [])) Done) No)))) Done)

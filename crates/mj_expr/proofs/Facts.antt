@@ -6,14 +6,16 @@ use Rattle.mj_ast.specs.declared.sign.Sign.{Sign}
 use Rattle.mj_ast.specs.declared.sign.Sign.TheVariants.{Plus, Minus, Apostrophe, Caret, Open, Close, Comma, Colon}
 use Rattle.mj_oper.specs.declared.op.UnaryOp.{UnaryOp}
 use Rattle.mj_oper.specs.declared.op.Op.{Op}
+use Rattle.mj_ast.specs.declared.function.NameFunction.{NameFunction}
+use Rattle.mj_ast.specs.declared.function.Callee.{Callee}
 use Rattle.mj_ast.specs.declared.function.Callee.TheVariants as callee
-use Rattle.mj_ast.specs.Syntax.{Expr, Chain, Tails, Done, Operand, Literal, Unary, Group, Select, Exprs, Last}
+use Rattle.mj_ast.specs.Syntax.{Expr, Chain, Tails, Done, Operand, Literal, Unary, Group, About, Select, Variable, Exprs, No, More, Last}
 use Rattle.mj_ast.specs.Tokens.{Token}
-use Rattle.mj_ast.specs.Expressions.{Symbol, Constant, Name, Applied, Overlong, Mark, Other, symbol, unary_sign, binary_sign, expr_symbols, count}
+use Rattle.mj_ast.specs.Expressions.{Symbol, Constant, Name, Applied, Overlong, Mark, Other, symbol, unary_sign, binary_sign, expr_symbols, variable_symbols, count, subscript_count, least_subscripts, most_others, levels, levels_of}
 use Rattle.mj_ast.specs.Lines.{Filler, no_filler}
-use Rattle.mj_expr.specs.Machine.{Outer, Alone, InGroup, InList, InCondition, InChoice, Owner, Subscripts, Arguments, Within, Front, Right, Under, Place, AsOperand, AsTarget, Pairs, and_pair, before_choices, State, Wanted, Held, Limits, Next, Go, Stuck, Deep, Long, TooLong, refused_in, and_then, and_more, filled, closed, least_of, most_of, is_limited, outer_of, run, turn, step, opens, unary_of, binary_of, hold_sign, hold_other, comma, close, is_full}
+use Rattle.mj_expr.specs.Machine.{Outer, Alone, InGroup, InList, InOther, InCondition, InChoice, Owner, Subscripts, Arguments, Within, Front, Right, Under, Place, AsOperand, AsNamed, AsTarget, Pairs, and_pair, before_choices, State, Wanted, Calling, Behind, Held, Limits, Next, Go, Stuck, Deep, Long, TooLong, refused_in, and_then, and_more, filled, closed, least_of, most_of, is_limited, outer_of, run, turn, step, depth_of, opens, opens_call, suffices, behind, unary_of, binary_of, hold_sign, hold_other, comma, close, is_full}
 use Rattle.mj_expr.specs.Reads.{BeginsNone}
-use Rattle.mj_expr.proofs.Steps.{less_true, less_false}
+use Rattle.mj_expr.proofs.Steps.{less_true, less_false, most_true}
 use Rattle.mj_expr.proofs.Zipper.{Kind, HasRead, Good, OuterGood, OwnerGood, PlaceGood, good_depth, filled_read, closed_read, outer_before, owner_before, before, listed, listed-more, list_symbols-more, exprs_nesting-more, exprs_width-more, exprs_misfits-more, count-more, list_nesting-more, pairs_symbols, pairs_symbols-and, pairs_nesting-and, pairs_width-and, pairs_misfits-and, choices_symbols-before, choices_nesting-before, choices_width-before, choices_misfits-before}
 
 -- ---- limits
@@ -23,14 +25,15 @@ pub record IsMore (m l : Limits) : Type 0 where
   pub depth : m.depth ≤ l.depth
   pub width : m.width ≤ l.width
 
-abbrev pub deeper : Limits → Limits
-deeper m = record { depth = m.depth + 1; width = m.width }
+-- with the levels that open with a symbol at least
+abbrev pub deeper : Symbol → Limits → Limits
+deeper k m = record { depth = m.depth + levels_of k; width = m.width }
 
 abbrev pub wider : Limits → Limits
 wider m = record { depth = m.depth; width = m.width + 1 }
 
-pub more_deeper : (m : Limits) → IsMore m (deeper m)
-more_deeper m = record { depth = omega arith; width = omega arith }
+pub more_deeper : (k : Symbol) (m : Limits) → IsMore m (deeper k m)
+more_deeper k m = record { depth = omega arith; width = omega arith }
 
 pub more_wider : (m : Limits) → IsMore m (wider m)
 more_wider m = record { depth = omega arith; width = omega arith }
@@ -44,6 +47,7 @@ mutual
   outer_good_more Alone K m l i g = g
   outer_good_more (InGroup c) K m l i g = (good_more c K m l i g.0, omega (arith, g.1, i.depth))
   outer_good_more (InList u es) K m l i g = (owner_good_more u K m l i g.0, omega (arith, g.1, i.depth), omega (arith, g.2, i.depth), omega (arith, g.3, i.width), omega (arith, g.4, most_more u m l i), g.5)
+  outer_good_more (InOther f v c) K m l i g = (good_more c K m l i g.0, omega (arith, g.1, i.depth), omega (arith, g.2, i.depth), omega (arith, g.3, i.width), g.4, g.5, g.6)
   outer_good_more (InCondition ps c) K m l i g = (good_more c K m l i g.0, omega (arith, g.1, i.depth), omega (arith, g.2, i.depth), omega (arith, g.3, i.width), g.4)
   outer_good_more (InChoice ps a c) K m l i g = (good_more c K m l i g.0, omega (arith, g.1, i.depth), omega (arith, g.2, i.depth), omega (arith, g.3, i.width), g.4, omega (arith, g.5, i.depth), omega (arith, g.6, i.width), g.7)
 
@@ -58,6 +62,7 @@ mutual
 
   pub place_good_more : (p : Place) (K : Kind) (m l : Limits) → IsMore m l → PlaceGood K m p → PlaceGood K l p
   place_good_more (AsOperand c) K m l i g = good_more c K m l i g
+  place_good_more (AsNamed f c) K m l i g = (good_more c K m l i g.0, omega (arith, g.1, i.depth), omega (arith, g.2, i.width))
   place_good_more AsTarget K m l i g = g
 
 -- ---- signs
@@ -89,7 +94,7 @@ binary_back s op e = ap binary_sign (some_same _ op e)
 abbrev pub Facts : Kind → Limits → (List Symbol → Type 0) → Type 0 → (Limits → Next) → Symbol → Next → Type 0
 Facts K m R L at k (Go s) = ((ks : List Symbol) → R ks → HasRead K m s (ks ++ k ∷ [])) × ((l : Limits) → IsMore m l → at l ≡ Go s)
 Facts K m R L at k Stuck = (l : Limits) → IsMore m l → at l ≡ Stuck
-Facts K m R L at k Deep = (s : State) × ((ks : List Symbol) → R ks → HasRead K (deeper m) s (ks ++ k ∷ []))
+Facts K m R L at k Deep = (s : State) × ((ks : List Symbol) → R ks → HasRead K (deeper k m) s (ks ++ k ∷ []))
 Facts K m R L at k Long = L
 
 -- where a list is too long: with a comma, and perhaps one symbol before it, it would have one subscript more
@@ -110,7 +115,7 @@ pub record HeldLong (K : Kind) (m : Limits) (R : List Symbol → Type 0) (at : L
 
 pub opens_as : (K : Kind) (m : Limits) (R : List Symbol → Type 0) (L : Type 0) (k : Symbol) (d : ℕ) (s : State) (b : Bool) → nat_lt d m.depth ≡ b →
     (d < m.depth → (ks : List Symbol) → R ks → HasRead K m s (ks ++ k ∷ [])) →
-    ((ks : List Symbol) → R ks → HasRead K (deeper m) s (ks ++ k ∷ [])) →
+    ((ks : List Symbol) → R ks → HasRead K (deeper k m) s (ks ++ k ∷ [])) →
     Facts K m R L (λ l. opens l d s) k (cond b (Go s) Deep)
 opens_as K m R L k d s true e f g =
     let h : d < m.depth = grind (arith, nat_tests) in
@@ -119,9 +124,25 @@ opens_as K m R L k d s false e f g = (s, g)
 
 pub opens_facts : (K : Kind) (m : Limits) (R : List Symbol → Type 0) (L : Type 0) (k : Symbol) (d : ℕ) (s : State) →
     (d < m.depth → (ks : List Symbol) → R ks → HasRead K m s (ks ++ k ∷ [])) →
-    ((ks : List Symbol) → R ks → HasRead K (deeper m) s (ks ++ k ∷ [])) →
+    ((ks : List Symbol) → R ks → HasRead K (deeper k m) s (ks ++ k ∷ [])) →
     Facts K m R L (λ l. opens l d s) k (opens m d s)
 opens_facts K m R L k d s f g = opens_as K m R L k d s (nat_lt d m.depth) refl f g
+
+-- the levels of a function
+call_as : (K : Kind) (m : Limits) (R : List Symbol → Type 0) (L : Type 0) (k : Symbol) (f : Callee) (c : Within) (b : Bool) → nat_le (depth_of c + levels f) m.depth ≡ b →
+    (depth_of c + levels f ≤ m.depth → (ks : List Symbol) → R ks → HasRead K m (Calling f c) (ks ++ k ∷ [])) →
+    ((ks : List Symbol) → R ks → HasRead K (deeper k m) (Calling f c) (ks ++ k ∷ [])) →
+    Facts K m R L (λ l. opens_call l f c) k (cond b (Go (Calling f c)) Deep)
+call_as K m R L k f c true e g h =
+    let n : depth_of c + levels f ≤ m.depth = grind (arith, nat_tests) in
+    (g n, λ l i. ap (λ (b : Bool). cond b (Go (Calling f c)) Deep) (most_true (depth_of c + levels f) l.depth (omega (arith, i.depth))))
+call_as K m R L k f c false e g h = (Calling f c, h)
+
+pub call_facts : (K : Kind) (m : Limits) (R : List Symbol → Type 0) (L : Type 0) (k : Symbol) (f : Callee) (c : Within) →
+    (depth_of c + levels f ≤ m.depth → (ks : List Symbol) → R ks → HasRead K m (Calling f c) (ks ++ k ∷ [])) →
+    ((ks : List Symbol) → R ks → HasRead K (deeper k m) (Calling f c) (ks ++ k ∷ [])) →
+    Facts K m R L (λ l. opens_call l f c) k (opens_call m f c)
+call_facts K m R L k f c g h = call_as K m R L k f c (nat_le (depth_of c + levels f) m.depth) refl g h
 
 -- ---- behind an expression
 
@@ -201,6 +222,7 @@ comma_facts : (K : Kind) (m : Limits) (x : Operand) (r : Tails) (o : Outer) →
 comma_facts K m x r Alone = λ l i. refl
 comma_facts K m x r (InGroup c) = λ l i. refl
 comma_facts K m x r (InList u es) = comma_as K m u es x r (nat_lt (count es + 1) (most_of m u)) refl
+comma_facts K m x r (InOther f v c) = λ l i. refl
 comma_facts K m x r (InCondition ps c) = λ l i. refl
 comma_facts K m x r (InChoice ps a c) = (choice_read K m ps a c x r, λ l i. refl)
 
@@ -221,6 +243,17 @@ group_closed K m c x r ks h =
     filled_read c K m (Group (Chain x r)) _ h.good.0.0 (let n = h.good.1 in omega arith) h.good.2 h.good.3
     (sym (simp append_assoc) ∙ ap (λ (zs : List Symbol). zs ++ Mark Close ∷ []) h.read)
 
+-- what stands behind the variable of a function
+other_closed : (K : Kind) (m : Limits) (f : NameFunction) (v : Variable) (c : Within) (x : Operand) (r : Tails) (ks : List Symbol) → HasRead K m (Held x r (InOther f v c)) ks →
+    HasRead K m (filled (About f v (More (Chain x r) No)) c) (ks ++ Mark Close ∷ [])
+other_closed K m f v c x r ks h =
+    let g = h.good in
+    let e : Expr = Chain x r in
+    let same : before c ++ Applied (callee.Names f) ∷ Mark Open ∷ (variable_symbols v ++ Mark Comma ∷ (expr_symbols e ++ Mark Close ∷ []))
+    ≡ ((before c ++ Applied (callee.Names f) ∷ Mark Open ∷ (variable_symbols v ++ Mark Comma ∷ [])) ++ expr_symbols e) ++ Mark Close ∷ [] = simp append_assoc in
+    filled_read c K m (About f v (More e No)) _ g.0.0 (omega (arith, g.0.2, g.1)) (omega (arith, g.0.3, g.2)) (omega (arith, g.0.4, g.0.5, g.0.6, g.3))
+    (same ∙ ap (λ (zs : List Symbol). zs ++ Mark Close ∷ []) h.read)
+
 list_closed : (K : Kind) (m : Limits) (u : Owner) (es : Exprs) (x : Operand) (r : Tails) (ks : List Symbol) → least_of u ≤ count es + 1 → HasRead K m (Held x r (InList u es)) ks →
     HasRead K m (closed u (and_more es (Chain x r))) (ks ++ Mark Close ∷ [])
 list_closed K m u es x r ks f h =
@@ -231,6 +264,7 @@ list_closed K m u es x r ks f h =
     (omega (arith, list_nesting-more es e, g.0.2, g.1))
     (omega (arith, exprs_width-more es e, g.0.3, g.2))
     (omega (arith, count-more es e, g.0.4))
+    (omega (arith, count-more es e))
     (omega (arith, count-more es e))
     (omega (arith, exprs_misfits-more es e, g.0.5, g.3))
     (ap (λ (zs : List Symbol). owner_before u ++ zs) (list_symbols-more es e) ∙ same ∙ ap (λ (zs : List Symbol). zs ++ Mark Close ∷ []) h.read)
@@ -263,11 +297,13 @@ other_facts : (K : Kind) (m : Limits) (x : Operand) (r : Tails) (o : Outer) (s :
 other_facts K m x r Alone Close = λ l i. refl
 other_facts K m x r (InGroup c) Close = (group_closed K m c x r, λ l i. refl)
 other_facts K m x r (InList u es) Close = close_as K m u es x r (HeldL K m x r (InList u es) Close (λ l. close (Chain x r) (InList u es))) (nat_le (least_of u) (count es + 1)) refl
+other_facts K m x r (InOther f v c) Close = (other_closed K m f v c x r, λ l i. refl)
 other_facts K m x r (InCondition ps c) Close = λ l i. refl
 other_facts K m x r (InChoice ps a c) Close = (choice_closed K m ps a c x r, λ l i. refl)
 other_facts K m x r Alone Colon = λ l i. refl
 other_facts K m x r (InGroup c) Colon = λ l i. refl
 other_facts K m x r (InList u es) Colon = λ l i. refl
+other_facts K m x r (InOther f v c) Colon = λ l i. refl
 other_facts K m x r (InCondition ps c) Colon = (colon_read K m ps c x r, λ l i. refl)
 other_facts K m x r (InChoice ps a c) Colon = λ l i. refl
 other_facts K m x r o Comma = comma_facts K m x r o
@@ -295,6 +331,64 @@ held_facts K m x r o (Name word) = λ l i. refl
 held_facts K m x r o (Applied f) = λ l i. refl
 held_facts K m x r o Overlong = λ l i. refl
 held_facts K m x r o Other = λ l i. refl
+
+-- ---- behind the variable of a function
+
+-- the end of the function
+about_read : (K : Kind) (m : Limits) (f : NameFunction) (v : Variable) (c : Within) (ks : List Symbol) → HasRead K m (Behind f v c) ks → HasRead K m (filled (About f v No) c) (ks ++ Mark Close ∷ [])
+about_read K m f v c ks h =
+    let g = h.good in
+    let same : before c ++ Applied (callee.Names f) ∷ Mark Open ∷ (variable_symbols v ++ Mark Close ∷ [])
+    ≡ ((before c ++ Applied (callee.Names f) ∷ Mark Open ∷ []) ++ variable_symbols v) ++ Mark Close ∷ [] = simp append_assoc in
+    filled_read c K m (About f v No) _ g.0 (omega (arith, g.1)) (omega (arith, g.2)) (omega (arith, g.3, g.4)) (same ∙ ap (λ (zs : List Symbol). zs ++ Mark Close ∷ []) h.read)
+
+-- what stands behind the variable is wanted
+other_read : (K : Kind) (m : Limits) (f : NameFunction) (v : Variable) (c : Within) (ks : List Symbol) → 0 < most_others f → HasRead K m (Behind f v c) ks →
+    HasRead K m (Wanted (Front (InOther f v c))) (ks ++ Mark Comma ∷ [])
+other_read K m f v c ks o h =
+    let g = h.good in
+    let same : before c ++ Applied (callee.Names f) ∷ Mark Open ∷ (variable_symbols v ++ Mark Comma ∷ [])
+    ≡ ((before c ++ Applied (callee.Names f) ∷ Mark Open ∷ []) ++ variable_symbols v) ++ Mark Comma ∷ [] = simp append_assoc in
+    record {
+      good = (g.0, omega (arith, g.1), g.1, g.2, g.3, g.4, omega arith);
+      read = same ∙ ap (λ (zs : List Symbol). zs ++ Mark Comma ∷ []) h.read;
+    }
+
+-- where a variable was read, if it has subscripts enough
+abbrev ReadBehind : Kind → Limits → (List Symbol → Type 0) → NameFunction → Variable → Within → Type 0
+ReadBehind K m R f v c = (ks : List Symbol) → least_subscripts f ≤ subscript_count v → R ks → HasRead K m (Behind f v c) ks
+
+about_as : (K : Kind) (m : Limits) (R : List Symbol → Type 0) (L : Type 0) (f : NameFunction) (v : Variable) (c : Within) (b : Bool) → suffices f v ≡ b → ReadBehind K m R f v c →
+    Facts K m R L (λ l. behind f v c (Mark Close)) (Mark Close) (cond b (Go (filled (About f v No) c)) Stuck)
+about_as K m R L f v c true e g =
+    let n : least_subscripts f ≤ subscript_count v = grind (arith, nat_tests) in
+    (λ ks h. about_read K m f v c ks (g ks n h), λ l i. ap (λ (b : Bool). cond b (Go (filled (About f v No) c)) Stuck) e)
+about_as K m R L f v c false e g = λ l i. ap (λ (b : Bool). cond b (Go (filled (About f v No) c)) Stuck) e
+
+abbrev another : NameFunction → Variable → Within → Bool → Bool → Next
+another f v c b d = cond b (cond d (Go (Wanted (Front (InOther f v c)))) Stuck) Stuck
+
+other_as : (K : Kind) (m : Limits) (R : List Symbol → Type 0) (L : Type 0) (f : NameFunction) (v : Variable) (c : Within) (b d : Bool) → suffices f v ≡ b → nat_lt 0 (most_others f) ≡ d → ReadBehind K m R f v c →
+    Facts K m R L (λ l. behind f v c (Mark Comma)) (Mark Comma) (another f v c b d)
+other_as K m R L f v c true true e i g =
+    let n : least_subscripts f ≤ subscript_count v = grind (arith, nat_tests) in
+    let o : 0 < most_others f = grind (arith, nat_tests) in
+    (λ ks h. other_read K m f v c ks o (g ks n h), λ l j. ap (λ (b : Bool). another f v c b (nat_lt 0 (most_others f))) e ∙ ap (λ (d : Bool). another f v c true d) i)
+other_as K m R L f v c true false e i g = λ l j. ap (λ (b : Bool). another f v c b (nat_lt 0 (most_others f))) e ∙ ap (λ (d : Bool). another f v c true d) i
+other_as K m R L f v c false d e i g = λ l j. ap (λ (b : Bool). another f v c b (nat_lt 0 (most_others f))) e
+
+behind_sign : (K : Kind) (m : Limits) (R : List Symbol → Type 0) (L : Type 0) (f : NameFunction) (v : Variable) (c : Within) (s : Sign) → ReadBehind K m R f v c → Facts K m R L (λ l. behind f v c (Mark s)) (Mark s) (behind f v c (Mark s))
+behind_sign K m R L f v c Close g = about_as K m R L f v c (suffices f v) refl g
+behind_sign K m R L f v c Comma g = other_as K m R L f v c (suffices f v) (nat_lt 0 (most_others f)) refl refl g
+behind_sign K m R L f v c s g = λ l i. refl
+
+pub behind_facts : (K : Kind) (m : Limits) (R : List Symbol → Type 0) (L : Type 0) (f : NameFunction) (v : Variable) (c : Within) (k : Symbol) → ReadBehind K m R f v c → Facts K m R L (λ l. behind f v c k) k (behind f v c k)
+behind_facts K m R L f v c (Mark s) g = behind_sign K m R L f v c s g
+behind_facts K m R L f v c (Constant value) g = λ l i. refl
+behind_facts K m R L f v c (Name word) g = λ l i. refl
+behind_facts K m R L f v c (Applied h) g = λ l i. refl
+behind_facts K m R L f v c Overlong g = λ l i. refl
+behind_facts K m R L f v c Other g = λ l i. refl
 
 -- ---- other facts from these
 
@@ -341,12 +435,14 @@ full_same m l Alone e = refl
 full_same m l (InGroup c) e = refl
 full_same m l (InList (Subscripts scope word p) es) e = ap (λ (w : ℕ). not (nat_lt (count es + 1) w)) e
 full_same m l (InList (Arguments f c) es) e = refl
+full_same m l (InOther f v c) e = refl
 full_same m l (InCondition ps c) e = refl
 full_same m l (InChoice ps a c) e = refl
 
 pub room_stays : (m l : Limits) (o : Outer) → is_full m o ≡ false → IsMore m l → is_full l o ≡ false
 room_stays m l Alone e i = refl
 room_stays m l (InGroup c) e i = refl
+room_stays m l (InOther f v c) e i = refl
 room_stays m l (InCondition ps c) e i = refl
 room_stays m l (InChoice ps a c) e i = refl
 room_stays m l (InList (Arguments f c) es) e i = refl
@@ -363,6 +459,7 @@ room_stays m l (InList (Subscripts scope word p) es) e i = room_as (count es + 1
 pub full_comma : (l : Limits) (y : List Symbol) (x : Operand) (r : Tails) (o : Outer) → is_full l o ≡ true → run l (Mark Comma ∷ y) (Held x r o) ≡ TooLong
 full_comma l y x r Alone e = absurd (let h : false ≡ true = e in cc)
 full_comma l y x r (InGroup c) e = absurd (let h : false ≡ true = e in cc)
+full_comma l y x r (InOther f v c) e = absurd (let h : false ≡ true = e in cc)
 full_comma l y x r (InCondition ps c) e = absurd (let h : false ≡ true = e in cc)
 full_comma l y x r (InChoice ps a c) e = absurd (let h : false ≡ true = e in cc)
 full_comma l y x r (InList (Arguments f c) es) e = absurd (let h : false ≡ true = e in cc)
@@ -376,6 +473,7 @@ full_comma l y x r (InList (Subscripts scope word p) es) e = full_as (nat_lt (co
 pub full_opened : (K : Kind) (m : Limits) (x : Operand) (r : Tails) (o : Outer) → is_full m o ≡ true → (s : State) × ((ks : List Symbol) → HasRead K m (Held x r o) ks → HasRead K (wider m) s (ks ++ Mark Comma ∷ []))
 full_opened K m x r Alone e = absurd (let h : false ≡ true = e in cc)
 full_opened K m x r (InGroup c) e = absurd (let h : false ≡ true = e in cc)
+full_opened K m x r (InOther f v c) e = absurd (let h : false ≡ true = e in cc)
 full_opened K m x r (InCondition ps c) e = absurd (let h : false ≡ true = e in cc)
 full_opened K m x r (InChoice ps a c) e = absurd (let h : false ≡ true = e in cc)
 full_opened K m x r (InList (Arguments f c) es) e = absurd (let h : false ≡ true = e in cc)

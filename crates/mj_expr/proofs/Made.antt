@@ -1,16 +1,17 @@
 -- The trees that the program makes, without where they lie in memory.
-use Rattle.std.proofs.Common.{◌≡◌, ℕ, List, [], ◌∷◌, ◌++◌, length, refl, ap, ◌∙◌, Vec, Box, Global, Some, arith}
+use Rattle.std.proofs.Common.{◌≡◌, ℕ, List, [], ◌∷◌, ◌++◌, length, refl, sym, ap, ◌∙◌, Vec, Box, Global, Some, arith}
 use mathlib.Core.Former.{Count}
 use Rattle.mj_ast.specs.declared.expr.Scope.{Scope}
 use Rattle.mj_ast.specs.declared.expr.Expr as expr
 use Rattle.mj_ast.specs.declared.expr.Tail.{Tail}
 use Rattle.mj_ast.specs.declared.expr.Operand as operand
 use Rattle.mj_ast.specs.declared.expr.Variable as variable
+use Rattle.mj_ast.specs.declared.expr.Variable.{out-Variable}
 use Rattle.mj_ast.specs.declared.expr.Choice as choice
 use Rattle.mj_ast.specs.declared.function.Function.{Function}
 use Rattle.mj_ast.specs.Syntax.{Chain, Tails, Then, Call, Var, Exprs, More, Before}
 use Rattle.mj_ast.specs.Trees.{operand_of, expr_of, variable_of, choice_of, tail_row, expr_row, tails_of, exprs_of}
-use Rattle.mj_ast.specs.Expressions.{count}
+use Rattle.mj_ast.specs.Expressions.{count, subscript_count}
 use Rattle.mj_expr.specs.Machine.{and_then, and_more}
 
 abbrev tails_in : expr.Expr → (n : Count) × expr.Row_of-Tail n
@@ -45,6 +46,10 @@ variable_made scope word es =
 pub call_made : (f : Function) (es : Vec expr.Expr Global) → Call f (expr_row (operand.TheBlock.hidden-the_row-Expr-0 es)) ≡ Call f (exprs_of es.items)
 call_made f es = ap (Call f) (expr_row_items _ (operand.TheBlock.hidden-the_row-Expr-0 es) ∙ ap exprs_of (variable.items_hidden-the_row-Expr-0 es))
 
+-- what stands behind the variable of a function
+pub others_made : (es : Vec expr.Expr Global) → expr_row (operand.TheBlock.hidden-the_row-Expr-0 es) ≡ exprs_of es.items
+others_made es = expr_row_items _ (operand.TheBlock.hidden-the_row-Expr-0 es) ∙ ap exprs_of (variable.items_hidden-the_row-Expr-0 es)
+
 -- a choice before others
 pub choice_made : (a e : expr.Expr) (others : Box choice.Choice Global) → choice_of (choice.roll-Choice (record { condition = a; value = e; others = Some others })) ≡ Before (expr_of a) (expr_of e) (choice_of others.value)
 unfolding choice.roll-Choice denote.Hole.Carrier.roll
@@ -62,3 +67,11 @@ exprs_push (f ∷ es) e = ap (λ (r : Exprs). More (expr_of f) r) (exprs_push es
 pub count_exprs : (es : List expr.Expr) → count (exprs_of es) ≡ length es
 count_exprs [] = refl
 count_exprs (e ∷ es) = let h = count_exprs es in omega arith
+
+-- the subscripts of a variable
+variable_is : (v : variable.Variable) → variable_of v ≡ Var (out-Variable v).scope (out-Variable v).word (exprs_of (out-Variable v).subscripts.items)
+unfolding out-Variable denote.Hole.Carrier.out
+variable_is (variable.Variable' scope word shape row) = ap (λ (es : Exprs). Var scope word es) (expr_row_items _ row ∙ ap exprs_of (sym (variable.items_shown-the_row-Expr-0 shape row)))
+
+pub variable_count : (v : variable.Variable) → subscript_count (variable_of v) ≡ length (out-Variable v).subscripts.items
+variable_count v = ap subscript_count (variable_is v) ∙ count_exprs (out-Variable v).subscripts.items

@@ -1,5 +1,5 @@
 -- What a run says of the tokens, in the grammar's words.
-use Rattle.std.proofs.Common.{◌≡◌, ℕ, ◌-◌, ◌≤◌, ◌<◌, max, List, [], ◌∷◌, ◌++◌, length, take, drop, refl, ap, sym, ◌∙◌, subst, append_assoc, append-nil, arith, map, ◌⊎◌, inl, inr, nat_le, Option, Some, None, Bool, true, false, length-append}
+use Rattle.std.proofs.Common.{◌≡◌, ℕ, ◌+◌, ◌-◌, ◌≤◌, ◌<◌, max, List, [], ◌∷◌, ◌++◌, length, take, drop, refl, ap, sym, ◌∙◌, subst, append_assoc, append-nil, arith, map, ◌⊎◌, inl, inr, nat_le, Option, Some, None, Bool, true, false, length-append}
 use Rattle.std.specs.Prelude.{cond, Result, Ok, Err, ℤ}
 use Rattle.std.proofs.Math.Seq.{drop-append_seam, take-length}
 use Rattle.std.specs.Result.{IfErr, IsErrAnd}
@@ -12,8 +12,8 @@ use Rattle.mj_ast.specs.declared.sign.Sign.TheVariants.{Comma}
 use Rattle.mj_ast.specs.Syntax.{Chain, Var, No}
 use Rattle.mj_ast.specs.Tokens.{Token, Word, Called, Special, Digits, Quoted, Signed, Blank, Comment, Unclosed, Stray}
 use Rattle.mj_ast.specs.declared.function.Callee.{Callee}
-use Rattle.mj_ast.specs.Expressions.{Symbol, Constant, Name, Applied, Overlong, Mark, Other, symbol, constant_of, function_symbol, callee_of, text_limit, width_limit, Phrases, Spells, Begins, BeginsWithin}
-use Rattle.mj_expr.specs.Machine.{Alone, InGroup, InList, InCondition, InChoice, State, Wanted, Sought, Marked, Named, Calling, Held, Got, placed, Limits, Stuck, Phrase, Whole, Target, Outcome, Accept, StuckAt, DeepAt, TooLong, refused, ends, finish, step, run, turn}
+use Rattle.mj_ast.specs.Expressions.{Symbol, Constant, Name, Applied, Overlong, Mark, Other, symbol, constant_of, function_symbol, callee_of, levels_of, text_limit, width_limit, Phrases, Spells, Begins, BeginsWithin}
+use Rattle.mj_expr.specs.Machine.{Alone, InGroup, InList, InOther, InCondition, InChoice, State, Wanted, Sought, Marked, Named, Calling, Behind, Held, Got, placed, Limits, Stuck, Phrase, Whole, Target, Outcome, Accept, StuckAt, DeepAt, TooLong, refused, ends, finish, step, run, turn}
 use Rattle.mj_expr.specs.Phrases.{IsRead, IsShort, IsStuck, IsDeep, IsOverlong, IsLong, IsRefused}
 use Rattle.mj_expr.specs.Reads.{limits, symbols_seen, Refuses}
 use Rattle.mj_expr.specs.declared.stop.Stop.{Stop}
@@ -49,9 +49,11 @@ ends_stuck (Named scope word p) ks n e = refused_stuck ks n e
 ends_stuck (Held x r Alone) ks n e = absurd (let f : Accept (Whole (Chain x r)) ks ≡ StuckAt n = e in cc)
 ends_stuck (Held x r (InGroup c)) ks n e = refused_stuck ks n e
 ends_stuck (Held x r (InList u es)) ks n e = refused_stuck ks n e
+ends_stuck (Held x r (InOther f v c)) ks n e = refused_stuck ks n e
 ends_stuck (Held x r (InCondition ps c)) ks n e = refused_stuck ks n e
 ends_stuck (Held x r (InChoice ps a c)) ks n e = refused_stuck ks n e
 ends_stuck (Calling f c) ks n e = refused_stuck ks n e
+ends_stuck (Behind f v c) ks n e = refused_stuck ks n e
 ends_stuck (Got v) ks n e = absurd (let f : Accept (Target v) ks ≡ StuckAt n = e in cc)
 
 pub finish_stuck : (s : State) (ks : List Symbol) (n : ℕ) → finish s ks ≡ StuckAt n → length ks ≡ n
@@ -60,6 +62,7 @@ finish_stuck (Sought p) ks n e = refused_stuck ks n e
 finish_stuck (Marked p) ks n e = refused_stuck ks n e
 finish_stuck (Named scope word p) ks n e = ends_stuck (placed (Var scope word No) p) ks n e
 finish_stuck (Calling f c) ks n e = refused_stuck ks n e
+finish_stuck (Behind f v c) ks n e = refused_stuck ks n e
 finish_stuck (Held x r o) ks n e = ends_stuck (Held x r o) ks n e
 finish_stuck (Got v) ks n e = ends_stuck (Got v) ks n e
 
@@ -80,9 +83,11 @@ ends_long (Named scope word p) ks e = refused_long ks e
 ends_long (Held x r Alone) ks e = absurd (let f : Accept (Whole (Chain x r)) ks ≡ TooLong = e in cc)
 ends_long (Held x r (InGroup c)) ks e = refused_long ks e
 ends_long (Held x r (InList u es)) ks e = refused_long ks e
+ends_long (Held x r (InOther f v c)) ks e = refused_long ks e
 ends_long (Held x r (InCondition ps c)) ks e = refused_long ks e
 ends_long (Held x r (InChoice ps a c)) ks e = refused_long ks e
 ends_long (Calling f c) ks e = refused_long ks e
+ends_long (Behind f v c) ks e = refused_long ks e
 ends_long (Got v) ks e = absurd (let f : Accept (Target v) ks ≡ TooLong = e in cc)
 
 pub finish_long : (s : State) (ks : List Symbol) → finish s ks ≡ TooLong → (y : List Symbol) × (ks ≡ Overlong ∷ y)
@@ -91,6 +96,7 @@ finish_long (Sought p) ks e = refused_long ks e
 finish_long (Marked p) ks e = refused_long ks e
 finish_long (Named scope word p) ks e = ends_long (placed (Var scope word No) p) ks e
 finish_long (Calling f c) ks e = refused_long ks e
+finish_long (Behind f v c) ks e = refused_long ks e
 finish_long (Held x r o) ks e = ends_long (Held x r o) ks e
 finish_long (Got v) ks e = ends_long (Got v) ks e
 
@@ -105,9 +111,11 @@ overlong_ends (Named scope word p) ks n e = overlong_refused ks n e
 overlong_ends (Held x r Alone) ks n e = let f : Accept (Whole (Chain x r)) (Overlong ∷ ks) ≡ StuckAt n = e in cc
 overlong_ends (Held x r (InGroup c)) ks n e = overlong_refused ks n e
 overlong_ends (Held x r (InList u es)) ks n e = overlong_refused ks n e
+overlong_ends (Held x r (InOther f v c)) ks n e = overlong_refused ks n e
 overlong_ends (Held x r (InCondition ps c)) ks n e = overlong_refused ks n e
 overlong_ends (Held x r (InChoice ps a c)) ks n e = overlong_refused ks n e
 overlong_ends (Calling f c) ks n e = overlong_refused ks n e
+overlong_ends (Behind f v c) ks n e = overlong_refused ks n e
 overlong_ends (Got v) ks n e = let f : Accept (Target v) (Overlong ∷ ks) ≡ StuckAt n = e in cc
 
 pub overlong_finish : (s : State) (ks : List Symbol) (n : ℕ) → finish s (Overlong ∷ ks) ≡ StuckAt n → ⊥
@@ -116,6 +124,7 @@ overlong_finish (Sought p) ks n e = overlong_refused ks n e
 overlong_finish (Marked p) ks n e = overlong_refused ks n e
 overlong_finish (Named scope word p) ks n e = overlong_ends (placed (Var scope word No) p) ks n e
 overlong_finish (Calling f c) ks n e = overlong_refused ks n e
+overlong_finish (Behind f v c) ks n e = overlong_refused ks n e
 overlong_finish (Held x r o) ks n e = overlong_ends (Held x r o) ks n e
 overlong_finish (Got v) ks n e = overlong_ends (Got v) ks n e
 
@@ -336,6 +345,7 @@ module _ {T : Type 0} (K : Kind) (P : Phrases T) (W : Wraps K P) where
       let s = split h.front ks (h.token ∷ h.back) h.cut in
       let c = uncons s.back h.token h.back s.last in
       let read = h.along.reads [] (start_read K (limits d)) in
+      let A : Symbol → Type 0 = λ k. BeginsWithin P (d + levels_of k) width_limit (s.front ++ c.token ∷ []) in
       record {
         front = s.front;
         token = c.token;
@@ -343,8 +353,8 @@ module _ {T : Type 0} (K : Kind) (P : Phrases T) (W : Wraps K P) where
         cut = s.cut ∙ ap (λ (v : List Token). s.front ++ v) c.is;
         place = sym (length-map (c.token ∷ c.more) symbol) ∙ ap (λ (v : List Symbol). length (symbol c.token ∷ v)) c.tail ∙ ap (λ (v : Symbol). length (v ∷ h.back)) c.head ∙ h.left;
         before = begun (limits d) s.front h.end h.front s.first read;
-        at = begun (deeper (limits d)) (s.front ++ c.token ∷ []) h.over (h.front ++ h.token ∷ [])
-            (map-append symbol s.front (c.token ∷ []) ∙ ap (λ (v : List Symbol). v ++ symbol c.token ∷ []) s.first ∙ ap (λ (v : Symbol). h.front ++ v ∷ []) c.head) (h.opened h.front read);
+        at = subst A (sym c.head) (begun (deeper h.token (limits d)) (s.front ++ c.token ∷ []) h.over (h.front ++ h.token ∷ [])
+            (map-append symbol s.front (c.token ∷ []) ∙ ap (λ (v : List Symbol). v ++ symbol c.token ∷ []) s.first ∙ ap (λ (v : Symbol). h.front ++ v ∷ []) c.head) (h.opened h.front read));
         beyond = λ b.
             let rest = map symbol b.rest in
             let whole : run (limits d) (h.front ++ symbol c.token ∷ rest) (start K) ≡ Accept (W.wrap b.tree) [] = accepted (limits d) (h.front ++ symbol c.token ∷ rest) b.tree (sym (spelled_at s.front c.token b.rest h.front s.first) ∙ b.spells.0) b.within.nests b.within.lists b.spells.1 in

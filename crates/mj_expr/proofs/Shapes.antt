@@ -3,14 +3,17 @@ use Rattle.std.proofs.Common.{◌≡◌, ℕ, ◌+◌, ◌<◌, ◌≤◌, List,
 use Rattle.std.specs.Prelude.{cond, not, ◌&&◌}
 use Rattle.mj_ast.specs.declared.sign.Sign.{Sign}
 use Rattle.mj_ast.specs.declared.sign.Sign.TheVariants.{Caret, Open, Close, Comma, Colon}
+use Rattle.mj_ast.specs.declared.expr.Scope.{Scope}
 use Rattle.mj_oper.specs.declared.op.UnaryOp.{UnaryOp}
 use Rattle.mj_oper.specs.declared.op.Op.{Op}
+use Rattle.mj_ast.specs.declared.function.NameFunction.{NameFunction}
+use Rattle.mj_ast.specs.declared.function.Callee.{Callee}
 use Rattle.mj_ast.specs.declared.function.Callee.TheVariants as callee
-use Rattle.mj_ast.specs.Syntax.{Expr, Chain, Operand, Literal, Value, Unary, Group, Call, Select, Tails, Variable, Var, Exprs, No, Last}
+use Rattle.mj_ast.specs.Syntax.{Expr, Chain, Operand, Literal, Value, Unary, Group, Call, About, Select, Tails, Variable, Var, Exprs, No, More, Last}
 use Rattle.mj_ast.specs.Tokens.{Token}
-use Rattle.mj_ast.specs.Expressions.{Symbol, Constant, Name, Applied, Overlong, Mark, Other, count}
+use Rattle.mj_ast.specs.Expressions.{Symbol, Constant, Name, Applied, Overlong, Mark, Other, count, subscript_count, least_subscripts, most_others, levels}
 use Rattle.mj_lex.specs.declared.token.Lexeme.{Lexeme}
-use Rattle.mj_expr.specs.Machine.{Outer, Alone, InGroup, InList, InCondition, InChoice, Owner, Subscripts, Arguments, Within, Front, Right, Under, Place, AsOperand, AsTarget, State, Wanted, Sought, Marked, Named, Calling, Held, Got, filled, placed, closed, outer_of, outer_depth, owner_depth, depth_of, place_depth, Limits, Next, Go, Stuck, Deep, Long, opens, is_full, most_of, comma, close, want_other, want_sign, hold_other, hold_sign, hold, on, step, unary_of, binary_of, and_more, before_choices, Phrase, Whole, Target, Outcome, Accept, TooLong, ends, finish, run, goes}
+use Rattle.mj_expr.specs.Machine.{Outer, Alone, InGroup, InList, InOther, InCondition, InChoice, Owner, Subscripts, Arguments, Within, Front, Right, Under, Place, AsOperand, AsNamed, AsTarget, State, Wanted, Sought, Marked, Named, Calling, Behind, Held, Got, filled, placed, closed, outer_of, outer_depth, owner_depth, depth_of, place_depth, Limits, Next, Go, Stuck, Deep, Long, opens, opens_call, suffices, behind, is_full, most_of, comma, close, want_other, want_sign, hold_other, hold_sign, hold, on, step, unary_of, binary_of, and_more, before_choices, Phrase, Whole, Target, Outcome, Accept, TooLong, ends, finish, run, goes}
 use Rattle.mj_expr.specs.Reads.{symbols_seen, kind_of, least_in, most_in, limited_in}
 use Rattle.mj_expr.specs.declared.stop.Stop.{Stop}
 use Rattle.mj_expr.specs.declared.stop.Stop.TheVariants as stop
@@ -20,9 +23,9 @@ use Rattle.mj_expr.specs.declared.beyond.Stage.{Stage}
 use Rattle.mj_expr.specs.declared.beyond.Stage.TheVariants as stage
 use Rattle.mj_expr.specs.declared.beyond.Turn.{Turn}
 use Rattle.mj_expr.specs.declared.beyond.Turn.TheVariants as turn
-use Rattle.mj_expr.specs.Shapes.{Shape, outer_shape, owner_shape, shape_of, place_shape, state_shape, stage_of, sort_of, stray_turn, behind_sign, behind_turn, other_turn, operand_other, operand_sign, turn_at, Passed, Passes, Halts, ended, Led, To, Nowhere, Beyond, led, on_from, pass, PassesAs, IsEndOf, Ends}
-use Rattle.mj_expr.proofs.Steps.{less_true, kind_least, kind_limited}
-use Rattle.mj_expr.proofs.Zipper.{count-more}
+use Rattle.mj_expr.specs.Shapes.{Shape, outer_shape, owner_shape, shape_of, place_shape, state_shape, stage_of, sort_of, stray_turn, behind_sign, behind_turn, bare_goes, other_turn, operand_other, operand_sign, turn_at, Passed, Passes, Halts, ended, Led, To, Nowhere, Beyond, led, on_from, pass, PassesAs, IsEndOf, Ends}
+use Rattle.mj_expr.proofs.Steps.{less_true, most_true, kind_least, kind_limited}
+use Rattle.mj_expr.proofs.Zipper.{count-more, least_at, least_at_few, levels_few}
 use Rattle.mj_expr.proofs.Facts.{filled_outer}
 
 -- ---- what a state keeps
@@ -34,6 +37,7 @@ state_depth (Sought p) = place_depth p
 state_depth (Marked p) = place_depth p
 state_depth (Named scope word p) = place_depth p
 state_depth (Calling f c) = depth_of c
+state_depth (Behind f v c) = depth_of c + 1
 state_depth (Held x r o) = outer_depth o
 state_depth (Got v) = 0
 
@@ -43,6 +47,7 @@ abbrev mutual
   outer_whole Alone = true
   outer_whole (InGroup c) = whole_of c
   outer_whole (InList w before) = owner_whole w
+  outer_whole (InOther f v c) = whole_of c
   outer_whole (InCondition before c) = whole_of c
   outer_whole (InChoice before condition c) = whole_of c
 
@@ -57,6 +62,7 @@ abbrev mutual
 
   pub place_whole : Place → Bool
   place_whole (AsOperand c) = whole_of c
+  place_whole (AsNamed f c) = whole_of c
   place_whole AsTarget = false
 
 abbrev pub state_whole : State → Bool
@@ -65,8 +71,14 @@ state_whole (Sought p) = place_whole p
 state_whole (Marked p) = place_whole p
 state_whole (Named scope word p) = place_whole p
 state_whole (Calling f c) = whole_of c
+state_whole (Behind f v c) = whole_of c
 state_whole (Held x r o) = outer_whole o
 state_whole (Got v) = false
+
+-- the variable of a function has subscripts enough
+abbrev pub IsSound : State → Type 0
+IsSound (Behind f v c) = least_subscripts f ≤ subscript_count v
+IsSound s = Unit {0}
 
 -- where a state is among shapes
 abbrev pub place_at : Stage → Shape → Led
@@ -77,21 +89,23 @@ pub record IsAt (t : State) (s : Stage) (a : Shape) (d : ℕ) (whole : Bool) : T
   pub led : place_at s a ≡ place_at (stage_of t) (state_shape t)
   pub depth : state_depth t ≤ d
   pub same : state_whole t ≡ whole
+  pub sound : IsSound t
 
 -- ---- what was read
 
 filled_at : (x : Operand) (c : Within) → IsAt (filled x c) stage.Behind (shape_of c) (depth_of c) (whole_of c)
-filled_at x (Front o) = record { led = refl; depth = omega arith; same = refl }
-filled_at x (Right first rest op o) = record { led = refl; depth = omega arith; same = refl }
-filled_at x (Under op c) = let h = filled_at (Unary op x) c in record { led = h.led; depth = omega (arith, h.depth); same = h.same }
+filled_at x (Front o) = record { led = refl; depth = omega arith; same = refl; sound = tt }
+filled_at x (Right first rest op o) = record { led = refl; depth = omega arith; same = refl; sound = tt }
+filled_at x (Under op c) = let h = filled_at (Unary op x) c in record { led = h.led; depth = omega (arith, h.depth); same = h.same; sound = h.sound }
 
-placed_at : (v : Variable) (p : Place) → IsAt (placed v p) stage.Behind (place_shape p) (place_depth p) (place_whole p)
-placed_at v (AsOperand c) = filled_at (Value v) c
-placed_at v AsTarget = record { led = refl; depth = omega arith; same = refl }
+placed_at : (v : Variable) (p : Place) → least_at p ≤ subscript_count v → IsAt (placed v p) stage.Behind (place_shape p) (place_depth p) (place_whole p)
+placed_at v (AsOperand c) h = filled_at (Value v) c
+placed_at v (AsNamed f c) h = record { led = refl; depth = omega arith; same = refl; sound = h }
+placed_at v AsTarget h = record { led = refl; depth = omega arith; same = refl; sound = tt }
 
-closed_at : (w : Owner) (es : Exprs) → IsAt (closed w es) stage.Behind (owner_shape w) (owner_depth w) (owner_whole w)
-closed_at (Subscripts scope word p) es = placed_at (Var scope word es) p
-closed_at (Arguments f c) es = filled_at (Call f es) c
+closed_at : (w : Owner) (es : Exprs) → 1 ≤ count es → IsAt (closed w es) stage.Behind (owner_shape w) (owner_depth w) (owner_whole w)
+closed_at (Subscripts scope word p) es h = placed_at (Var scope word es) p (omega (arith, least_at_few p))
+closed_at (Arguments f c) es h = filled_at (Call f es) c
 
 -- the shape of a place is that of the expression that it stands in
 outer_same : (c : Within) → shape_of c ≡ outer_shape (outer_of c)
@@ -113,13 +127,13 @@ outer_kept (Under op c) = outer_kept c
 
 -- the machine steps as the shape does
 abbrev pub Follows : ℕ → Bool → Next → Led → Type 0
-Follows d whole (Go t) l = (l ≡ place_at (stage_of t) (state_shape t)) × (state_depth t ≤ d + 1) × (state_whole t ≡ whole)
+Follows d whole (Go t) l = (l ≡ place_at (stage_of t) (state_shape t)) × (state_depth t ≤ d + 1) × (state_whole t ≡ whole) × IsSound t
 Follows d whole Stuck l = l ≡ Nowhere
 Follows d whole Deep l = ⊥
 Follows d whole Long l = l ≡ Beyond
 
 goes_at : (t : State) (s : Stage) (a : Shape) (c d : ℕ) (whole : Bool) → IsAt t s a c whole → c ≤ d + 1 → Follows d whole (Go t) (place_at s a)
-goes_at t s a c d whole h i = (h.led, omega (arith, h.depth), h.same)
+goes_at t s a c d whole h i = (h.led, omega (arith, h.depth), h.same, h.sound)
 
 opens_follow : (m : Limits) (d e : ℕ) (whole : Bool) (t : State) (l : Led) → d < m.depth → Follows e whole (Go t) l → Follows e whole (opens m d t) l
 opens_follow m d e whole t l i h = let P : Bool → Type 0 = λ b. Follows e whole (cond b (Go t) Deep) l in subst P (sym (less_true d m.depth i)) h
@@ -138,6 +152,7 @@ full_same m (InGroup c) e = refl
 full_same m (InList w before) e =
     ap (λ (b : Bool). b && not (nat_lt (count before + 1) (most_of m w))) (sym (kind_limited w))
     ∙ ap (λ (n : ℕ). limited_in (kind_of w) && not (nat_lt (count before + 1) n)) (most_same m w e)
+full_same m (InOther f v c) e = refl
 full_same m (InCondition before c) e = refl
 full_same m (InChoice before condition c) e = refl
 
@@ -146,6 +161,7 @@ stray_test (around.List k n) = refl
 stray_test around.Alone = refl
 stray_test around.Target = refl
 stray_test around.Group = refl
+stray_test (around.About f) = refl
 stray_test around.Condition = refl
 stray_test around.Choice = refl
 
@@ -194,7 +210,7 @@ list_comma m e w before i =
     let P : Next → Type 0 = λ x. Follows (owner_depth w + 1) (owner_whole w) x (led (around.List (kind_of w) n) (s.around ∷ s.others) (other_turn (around.List (kind_of w) n) Comma)) in
     subst P (ap (λ (k : ℕ). cond (nat_lt n k) (Go t) (cond (limited_in (kind_of w)) Long Stuck)) (sym (most_same m w i)) ∙ ap (λ (b : Bool). cond (nat_lt n (most_of m w)) (Go t) (cond b Long Stuck)) (kind_limited w))
     (comma_by (owner_depth w + 1) (owner_whole w) t (around.List (kind_of w) n) (s.around ∷ s.others) (turn.Goes stage.Operand (around.List (kind_of w) (n + 1))) (nat_lt n (most_in (kind_of w))) (limited_in (kind_of w))
-    (ap (λ (k : ℕ). To stage.Operand (around.List (kind_of w) (k + 1)) (s.around ∷ s.others)) (sym (count-more before e)), omega arith, refl))
+    (ap (λ (k : ℕ). To stage.Operand (around.List (kind_of w) (k + 1)) (s.around ∷ s.others)) (sym (count-more before e)), omega arith, refl, tt))
 
 close_by : (d : ℕ) (whole : Bool) (t : State) (a : Around) (others : List Around) (b : Bool) → Follows d whole (Go t) (led a others turn.Closes) → Follows d whole (cond b (Go t) Stuck) (led a others (cond b turn.Closes turn.Stuck))
 close_by d whole t a others true h = h
@@ -208,12 +224,15 @@ list_close m e w before =
     let P : Next → Type 0 = λ x. Follows (owner_depth w + 1) (owner_whole w) x (led (around.List (kind_of w) n) (s.around ∷ s.others) (other_turn (around.List (kind_of w) n) Close)) in
     subst P (ap (λ (k : ℕ). cond (nat_le k n) (Go t) Stuck) (kind_least w))
     (close_by (owner_depth w + 1) (owner_whole w) t (around.List (kind_of w) n) (s.around ∷ s.others) (nat_le (least_in (kind_of w)) n)
-    (goes_at t stage.Behind s (owner_depth w) (owner_depth w + 1) (owner_whole w) (closed_at w (and_more before e)) (omega arith)))
+    (goes_at t stage.Behind s (owner_depth w) (owner_depth w + 1) (owner_whole w) (closed_at w (and_more before e) (omega (arith, count-more before e))) (omega arith)))
 
 other_follows : (m : Limits) (x : Operand) (r : Tails) (o : Outer) (s : Sign) → m.width ≡ 31 → Follows (outer_depth o) (outer_whole o) (hold_other m (Chain x r) o s) (led (outer_shape o).around (outer_shape o).others (other_turn (outer_shape o).around s))
 other_follows m x r Alone Close e = refl
 other_follows m x r (InGroup c) Close e = goes_at (filled (Group (Chain x r)) c) stage.Behind (shape_of c) (depth_of c) (depth_of c + 1) (whole_of c) (filled_at (Group (Chain x r)) c) (omega arith)
 other_follows m x r (InList w before) Close e = list_close m (Chain x r) w before
+other_follows m x r (InOther f v c) Close e =
+    let y = About f v (More (Chain x r) No) in
+    goes_at (filled y c) stage.Behind (shape_of c) (depth_of c) (depth_of c + 1) (whole_of c) (filled_at y c) (omega arith)
 other_follows m x r (InCondition before c) Close e = refl
 other_follows m x r (InChoice before a c) Close e =
     let y = Select (before_choices before (Last a (Chain x r))) in
@@ -221,21 +240,24 @@ other_follows m x r (InChoice before a c) Close e =
 other_follows m x r Alone Comma e = refl
 other_follows m x r (InGroup c) Comma e = refl
 other_follows m x r (InList w before) Comma e = list_comma m (Chain x r) w before e
+other_follows m x r (InOther f v c) Comma e = refl
 other_follows m x r (InCondition before c) Comma e = refl
-other_follows m x r (InChoice before a c) Comma e = (refl, omega arith, refl)
+other_follows m x r (InChoice before a c) Comma e = (refl, omega arith, refl, tt)
 other_follows m x r Alone Colon e = refl
 other_follows m x r (InGroup c) Colon e = refl
 other_follows m x r (InList w before) Colon e = refl
-other_follows m x r (InCondition before c) Colon e = (refl, omega arith, refl)
+other_follows m x r (InOther f v c) Colon e = refl
+other_follows m x r (InCondition before c) Colon e = (refl, omega arith, refl, tt)
 other_follows m x r (InChoice before a c) Colon e = refl
 other_follows m x r o s e = refl
 
 sign_follows : (m : Limits) (x : Operand) (r : Tails) (o : Outer) (s : Sign) (q : Option Op) → m.width ≡ 31 → Follows (outer_depth o) (outer_whole o) (hold_sign m x r o s q) (led (outer_shape o).around (outer_shape o).others (behind_sign (outer_shape o).around s q))
-sign_follows m x r Alone s (Some op) e = (refl, omega arith, refl)
-sign_follows m x r (InGroup c) s (Some op) e = (refl, omega arith, refl)
-sign_follows m x r (InList w before) s (Some op) e = (refl, omega arith, refl)
-sign_follows m x r (InCondition before c) s (Some op) e = (refl, omega arith, refl)
-sign_follows m x r (InChoice before a c) s (Some op) e = (refl, omega arith, refl)
+sign_follows m x r Alone s (Some op) e = (refl, omega arith, refl, tt)
+sign_follows m x r (InGroup c) s (Some op) e = (refl, omega arith, refl, tt)
+sign_follows m x r (InList w before) s (Some op) e = (refl, omega arith, refl, tt)
+sign_follows m x r (InOther f v c) s (Some op) e = (refl, omega arith, refl, tt)
+sign_follows m x r (InCondition before c) s (Some op) e = (refl, omega arith, refl, tt)
+sign_follows m x r (InChoice before a c) s (Some op) e = (refl, omega arith, refl, tt)
 sign_follows m x r o s None e = other_follows m x r o s e
 
 held_follows : (m : Limits) (x : Operand) (r : Tails) (o : Outer) (k : Symbol) → m.width ≡ 31 → Follows (outer_depth o) (outer_whole o) (hold m x r o k) (led (outer_shape o).around (outer_shape o).others (behind_turn (outer_shape o).around (sort_of k)))
@@ -248,69 +270,130 @@ held_follows m x r o Other e = refl
 
 -- fewer levels are no hindrance
 follows_more : (c d : ℕ) (v w : Bool) (n : Next) (l : Led) → c ≤ d → v ≡ w → Follows c v n l → Follows d w n l
-follows_more c d v w (Go t) l i e h = (h.0, omega (arith, h.1), h.2 ∙ e)
+follows_more c d v w (Go t) l i e h = (h.0, omega (arith, h.1), h.2 ∙ e, h.3)
 follows_more c d v w Stuck l i e h = h
 follows_more c d v w Deep l i e h = h
 follows_more c d v w Long l i e h = h
 
+-- behind the variable of a function, if it has subscripts enough
+about_stuck : (a : Around) (others : List Around) (b : Bool) → led a others (cond b turn.Stuck turn.Stuck) ≡ Nowhere
+about_stuck a others true = refl
+about_stuck a others false = refl
+
+about_close : (f : NameFunction) (v : Variable) (c : Within) (b : Bool) →
+    Follows (depth_of c + 1) (whole_of c) (cond b (Go (filled (About f v No) c)) Stuck) (led (around.About f) ((shape_of c).around ∷ (shape_of c).others) (cond b turn.Closes turn.Stuck))
+about_close f v c true = goes_at (filled (About f v No) c) stage.Behind (shape_of c) (depth_of c) (depth_of c + 1) (whole_of c) (filled_at (About f v No) c) (omega arith)
+about_close f v c false = refl
+
+about_comma : (f : NameFunction) (v : Variable) (c : Within) (b d : Bool) →
+    Follows (depth_of c + 1) (whole_of c) (cond b (cond d (Go (Wanted (Front (InOther f v c)))) Stuck) Stuck)
+    (led (around.About f) ((shape_of c).around ∷ (shape_of c).others) (cond b (cond d (turn.Goes stage.Operand around.Group) turn.Stuck) turn.Stuck))
+about_comma f v c true true = (refl, omega arith, refl, tt)
+about_comma f v c true false = refl
+about_comma f v c false d = refl
+
+about_sign : (f : NameFunction) (v : Variable) (c : Within) (s : Sign) →
+    Follows (depth_of c + 1) (whole_of c) (behind f v c (Mark s)) (led (around.About f) ((shape_of c).around ∷ (shape_of c).others) (cond (suffices f v) (behind_turn (around.About f) (sort_of (Mark s))) turn.Stuck))
+about_sign f v c Close = about_close f v c (suffices f v)
+about_sign f v c Comma = about_comma f v c (suffices f v) (nat_lt 0 (most_others f))
+about_sign f v c s = about_stuck (around.About f) ((shape_of c).around ∷ (shape_of c).others) (suffices f v)
+
+about_follows : (f : NameFunction) (v : Variable) (c : Within) (k : Symbol) →
+    Follows (depth_of c + 1) (whole_of c) (behind f v c k) (led (around.About f) ((shape_of c).around ∷ (shape_of c).others) (cond (suffices f v) (behind_turn (around.About f) (sort_of k)) turn.Stuck))
+about_follows f v c (Mark s) = about_sign f v c s
+about_follows f v c (Constant u) = about_stuck (around.About f) ((shape_of c).around ∷ (shape_of c).others) (suffices f v)
+about_follows f v c (Name w) = about_stuck (around.About f) ((shape_of c).around ∷ (shape_of c).others) (suffices f v)
+about_follows f v c (Applied g) = about_stuck (around.About f) ((shape_of c).around ∷ (shape_of c).others) (suffices f v)
+about_follows f v c Overlong = about_stuck (around.About f) ((shape_of c).around ∷ (shape_of c).others) (suffices f v)
+about_follows f v c Other = about_stuck (around.About f) ((shape_of c).around ∷ (shape_of c).others) (suffices f v)
+
+-- an operand may be a variable without subscripts
+outer_goes : (o : Outer) → bare_goes (outer_shape o).around ≡ true
+outer_goes Alone = refl
+outer_goes (InGroup c) = refl
+outer_goes (InList w before) = refl
+outer_goes (InOther f v c) = refl
+outer_goes (InCondition before c) = refl
+outer_goes (InChoice before condition c) = refl
+
+within_goes : (c : Within) → bare_goes (shape_of c).around ≡ true
+within_goes (Front o) = outer_goes o
+within_goes (Right first rest op o) = outer_goes o
+within_goes (Under op c) = within_goes c
+
 -- behind a name without subscripts
-named_follows : (m : Limits) (v : Variable) (p : Place) (k : Symbol) → m.width ≡ 31 → Follows (place_depth p) (place_whole p) (on m (placed v p) k) (led (place_shape p).around (place_shape p).others (behind_turn (place_shape p).around (sort_of k)))
-named_follows m v (AsOperand c) k e =
+abbrev bare_led : Shape → Symbol → Bool → Led
+bare_led a k b = led a.around a.others (cond b (behind_turn a.around (sort_of k)) turn.Stuck)
+
+named_follows : (m : Limits) (scope : Scope) (word : List ℕ) (p : Place) (k : Symbol) → m.width ≡ 31 → Follows (place_depth p) (place_whole p) (on m (placed (Var scope word No) p) k) (bare_led (place_shape p) k (bare_goes (place_shape p).around))
+named_follows m scope word (AsOperand c) k e =
+    let v = Var scope word No in
     let f = filled_outer (Value v) c in
     let o = outer_of c in
     let P : State → Type 0 = λ s. Follows (depth_of c) (whole_of c) (on m s k) (led (shape_of c).around (shape_of c).others (behind_turn (shape_of c).around (sort_of k))) in
     let Q : Shape → Type 0 = λ a. Follows (depth_of c) (whole_of c) (hold m f.0 f.1 o k) (led a.around a.others (behind_turn a.around (sort_of k))) in
-    subst P (sym f.2) (subst Q (sym (outer_same c)) (follows_more (outer_depth o) (depth_of c) (outer_whole o) (whole_of c) _ _ (outer_less c) (outer_kept c) (held_follows m f.0 f.1 o k e)))
-named_follows m v AsTarget k e = ap (led around.Target []) (target_stuck k)
+    let R : Bool → Type 0 = λ b. Follows (depth_of c) (whole_of c) (on m (filled (Value v) c) k) (bare_led (shape_of c) k b) in
+    subst R (sym (within_goes c)) (subst P (sym f.2) (subst Q (sym (outer_same c)) (follows_more (outer_depth o) (depth_of c) (outer_whole o) (whole_of c) _ _ (outer_less c) (outer_kept c) (held_follows m f.0 f.1 o k e))))
+named_follows m scope word (AsNamed f c) k e = about_follows f (Var scope word No) c k
+named_follows m scope word AsTarget k e = ap (led around.Target []) (target_stuck k)
+
+-- a function opens its levels
+call_follows : (m : Limits) (f : Callee) (c : Within) (d : ℕ) (whole : Bool) (l : Led) → depth_of c + levels f ≤ m.depth → Follows d whole (Go (Calling f c)) l → Follows d whole (opens_call m f c) l
+call_follows m f c d whole l i h = let P : Bool → Type 0 = λ b. Follows d whole (cond b (Go (Calling f c)) Deep) l in subst P (sym (most_true (depth_of c + levels f) m.depth i)) h
 
 want_other_follows : (m : Limits) (c : Within) (s : Sign) → m.width ≡ 31 → depth_of c < m.depth → Follows (depth_of c) (whole_of c) (want_other m c s) (led (shape_of c).around (shape_of c).others (operand_other (shape_of c).around s))
-want_other_follows m c Caret e i = (refl, omega arith, refl)
-want_other_follows m c Open e i = opens_follow m (depth_of c) (depth_of c) (whole_of c) (Wanted (Front (InGroup c))) _ i (refl, omega arith, refl)
+want_other_follows m c Caret e i = (refl, omega arith, refl, tt)
+want_other_follows m c Open e i = opens_follow m (depth_of c) (depth_of c) (whole_of c) (Wanted (Front (InGroup c))) _ i (refl, omega arith, refl, tt)
 want_other_follows m c Comma e i = stray_follows m (depth_of c) (whole_of c) (shape_of c).around (shape_of c).others (is_full m (outer_of c)) (within_full m c e)
 want_other_follows m c s e i = refl
 
 want_sign_follows : (m : Limits) (c : Within) (s : Sign) (q : Option UnaryOp) → m.width ≡ 31 → depth_of c < m.depth → Follows (depth_of c) (whole_of c) (want_sign m c s q) (led (shape_of c).around (shape_of c).others (operand_sign (shape_of c).around s q))
-want_sign_follows m c s (Some op) e i = opens_follow m (depth_of c) (depth_of c) (whole_of c) (Wanted (Under op c)) _ i (refl, omega arith, refl)
+want_sign_follows m c s (Some op) e i = opens_follow m (depth_of c) (depth_of c) (whole_of c) (Wanted (Under op c)) _ i (refl, omega arith, refl, tt)
 want_sign_follows m c s None e i = want_other_follows m c s e i
 
 -- what a state does with a symbol, and its shape
 abbrev led_from : State → Symbol → Led
 led_from s k = led (state_shape s).around (state_shape s).others (turn_at (stage_of s) (state_shape s).around (sort_of k))
 
-follows : (m : Limits) (s : State) (k : Symbol) → m.width ≡ 31 → state_depth s < m.depth → Follows (state_depth s) (state_whole s) (step m s k) (led_from s k)
-follows m (Wanted c) (Constant v) e i = goes_at (filled (Literal v) c) stage.Behind (shape_of c) (depth_of c) (depth_of c) (whole_of c) (filled_at (Literal v) c) (omega arith)
-follows m (Wanted c) (Name w) e i = (refl, omega arith, refl)
-follows m (Wanted c) (Applied f) e i = opens_follow m (depth_of c) (depth_of c) (whole_of c) (Calling f c) _ i (refl, omega arith, refl)
-follows m (Wanted c) (Mark s) e i = want_sign_follows m c s (unary_of s) e i
-follows m (Wanted c) Overlong e i = refl
-follows m (Wanted c) Other e i = refl
-follows m (Sought p) (Name w) e i = (refl, omega arith, refl)
-follows m (Sought p) (Mark Caret) e i = (refl, omega arith, refl)
-follows m (Sought p) (Mark s) e i = refl
-follows m (Sought p) (Constant v) e i = refl
-follows m (Sought p) (Applied f) e i = refl
-follows m (Sought p) Overlong e i = refl
-follows m (Sought p) Other e i = refl
-follows m (Marked p) (Name w) e i = (refl, omega arith, refl)
-follows m (Marked (AsOperand c)) (Mark Comma) e i = stray_follows m (depth_of c) (whole_of c) (shape_of c).around (shape_of c).others (is_full m (outer_of c)) (within_full m c e)
-follows m (Marked AsTarget) (Mark Comma) e i = refl
-follows m (Marked p) (Mark s) e i = refl
-follows m (Marked p) (Constant v) e i = refl
-follows m (Marked p) (Applied f) e i = refl
-follows m (Marked p) Overlong e i = refl
-follows m (Marked p) Other e i = refl
-follows m (Named scope word p) (Mark Open) e i = opens_follow m (place_depth p) (place_depth p) (place_whole p) (Wanted (Front (InList (Subscripts scope word p) No))) _ i (refl, omega arith, refl)
-follows m (Named scope word p) k e i = named_follows m (Var scope word No) p k e
-follows m (Calling (callee.Texts f) c) (Mark Open) e i = (refl, omega arith, refl)
-follows m (Calling callee.Select c) (Mark Open) e i = (refl, omega arith, refl)
-follows m (Calling f c) (Mark s) e i = refl
-follows m (Calling f c) (Constant v) e i = refl
-follows m (Calling f c) (Name w) e i = refl
-follows m (Calling f c) (Applied g) e i = refl
-follows m (Calling f c) Overlong e i = refl
-follows m (Calling f c) Other e i = refl
-follows m (Held x r o) k e i = held_follows m x r o k e
-follows m (Got v) k e i = ap (led around.Target []) (target_stuck k)
+follows : (m : Limits) (s : State) (k : Symbol) → m.width ≡ 31 → state_depth s + 1 < m.depth → IsSound s → Follows (state_depth s) (state_whole s) (step m s k) (led_from s k)
+follows m (Wanted c) (Constant v) e i g = goes_at (filled (Literal v) c) stage.Behind (shape_of c) (depth_of c) (depth_of c) (whole_of c) (filled_at (Literal v) c) (omega arith)
+follows m (Wanted c) (Name w) e i g = (refl, omega arith, refl, tt)
+follows m (Wanted c) (Applied f) e i g = call_follows m f c (depth_of c) (whole_of c) _ (omega (arith, levels_few f)) (refl, omega arith, refl, tt)
+follows m (Wanted c) (Mark s) e i g = want_sign_follows m c s (unary_of s) e (omega arith)
+follows m (Wanted c) Overlong e i g = refl
+follows m (Wanted c) Other e i g = refl
+follows m (Sought p) (Name w) e i g = (refl, omega arith, refl, tt)
+follows m (Sought p) (Mark Caret) e i g = (refl, omega arith, refl, tt)
+follows m (Sought p) (Mark s) e i g = refl
+follows m (Sought p) (Constant v) e i g = refl
+follows m (Sought p) (Applied f) e i g = refl
+follows m (Sought p) Overlong e i g = refl
+follows m (Sought p) Other e i g = refl
+follows m (Marked p) (Name w) e i g = (refl, omega arith, refl, tt)
+follows m (Marked (AsOperand c)) (Mark Comma) e i g = stray_follows m (depth_of c) (whole_of c) (shape_of c).around (shape_of c).others (is_full m (outer_of c)) (within_full m c e)
+follows m (Marked (AsNamed f c)) (Mark Comma) e i g = refl
+follows m (Marked AsTarget) (Mark Comma) e i g = refl
+follows m (Marked p) (Mark s) e i g = refl
+follows m (Marked p) (Constant v) e i g = refl
+follows m (Marked p) (Applied f) e i g = refl
+follows m (Marked p) Overlong e i g = refl
+follows m (Marked p) Other e i g = refl
+follows m (Named scope word p) (Mark Open) e i g = opens_follow m (place_depth p) (place_depth p) (place_whole p) (Wanted (Front (InList (Subscripts scope word p) No))) _ (omega arith) (refl, omega arith, refl, tt)
+follows m (Named scope word p) k e i g = named_follows m scope word p k e
+follows m (Calling (callee.Texts f) c) (Mark Open) e i g = (refl, omega arith, refl, tt)
+follows m (Calling (callee.Names f) c) (Mark Open) e i g = (refl, omega arith, refl, tt)
+follows m (Calling callee.Select c) (Mark Open) e i g = (refl, omega arith, refl, tt)
+follows m (Calling f c) (Mark s) e i g = refl
+follows m (Calling f c) (Constant v) e i g = refl
+follows m (Calling f c) (Name w) e i g = refl
+follows m (Calling f c) (Applied h) e i g = refl
+follows m (Calling f c) Overlong e i g = refl
+follows m (Calling f c) Other e i g = refl
+follows m (Behind f v c) k e i g =
+    let P : Bool → Type 0 = λ b. Follows (depth_of c + 1) (whole_of c) (behind f v c k) (led (around.About f) ((shape_of c).around ∷ (shape_of c).others) (cond b (behind_turn (around.About f) (sort_of k)) turn.Stuck)) in
+    subst P (most_true (least_subscripts f) (subscript_count v) g) (about_follows f v c k)
+follows m (Held x r o) k e i g = held_follows m x r o k e
+follows m (Got v) k e i g = ap (led around.Target []) (target_stuck k)
 
 -- ---- runs
 
@@ -330,6 +413,7 @@ held_ends : (x : Operand) (r : Tails) (o : Outer) (ks : List Symbol) → Agrees 
 held_ends x r Alone ks = (Whole (Chain x r), tt, refl)
 held_ends x r (InGroup c) ks = refl
 held_ends x r (InList w before) ks = refl
+held_ends x r (InOther f v c) ks = refl
 held_ends x r (InCondition before c) ks = refl
 held_ends x r (InChoice before a c) ks = refl
 
@@ -340,6 +424,7 @@ named_ends v (AsOperand c) ks =
     let Q : Shape → Type 0 = λ a. Agrees (whole_of c) (ended stage.Subscripts a.around ks) (ends (Held f.0 f.1 (outer_of c)) ks) in
     let R : Bool → Type 0 = λ b. Agrees b (ended stage.Subscripts (outer_shape (outer_of c)).around ks) (ends (Held f.0 f.1 (outer_of c)) ks) in
     subst P (sym f.2) (subst Q (sym (outer_same c)) (subst R (outer_kept c) (held_ends f.0 f.1 (outer_of c) ks)))
+named_ends v (AsNamed f c) ks = refl
 named_ends v AsTarget ks = (Target v, tt, refl)
 
 state_ends : (s : State) (ks : List Symbol) → Agrees (state_whole s) (ended (stage_of s) (state_shape s).around ks) (finish s ks)
@@ -348,6 +433,7 @@ state_ends (Sought p) ks = refl
 state_ends (Marked p) ks = refl
 state_ends (Named scope word p) ks = named_ends (Var scope word No) p ks
 state_ends (Calling f c) ks = refl
+state_ends (Behind f v c) ks = refl
 state_ends (Held x r o) ks = held_ends x r o ks
 state_ends (Got v) ks = (Target v, tt, refl)
 
@@ -356,20 +442,20 @@ abbrev pub passed_from : State → List Symbol → Passed
 passed_from s ks = pass ks (stage_of s) (state_shape s).around (state_shape s).others
 
 goes_as : (m : Limits) (ks : List Symbol) (d left : ℕ) (whole : Bool) (out : Outcome) (end : Passed) (n : Next) (l : Led) → Agrees whole end out →
-    ((t : State) → state_depth t ≤ d + 1 → Agrees (state_whole t) (passed_from t ks) (run m ks t)) → Follows d whole n l → Agrees whole (on_from (pass ks) end l) (goes (run m ks) out left n)
+    ((t : State) → state_depth t ≤ d + 1 → IsSound t → Agrees (state_whole t) (passed_from t ks) (run m ks t)) → Follows d whole n l → Agrees whole (on_from (pass ks) end l) (goes (run m ks) out left n)
 goes_as m ks d left whole out end (Go t) l a h f =
     let P : Led → Type 0 = λ x. Agrees whole (on_from (pass ks) end x) (run m ks t) in
     let Q : Bool → Type 0 = λ b. Agrees b (passed_from t ks) (run m ks t) in
-    subst P (sym f.0) (subst Q f.2 (h t f.1))
+    subst P (sym f.0) (subst Q f.2 (h t f.1 f.3))
 goes_as m ks d left whole out end Stuck l a h f = let P : Led → Type 0 = λ x. Agrees whole (on_from (pass ks) end x) out in subst P (sym f) a
 goes_as m ks d left whole out end Deep l a h f = absurd f
 goes_as m ks d left whole out end Long l a h f = let P : Led → Type 0 = λ x. Agrees whole (on_from (pass ks) end x) TooLong in subst P (sym f) refl
 
-pub passed : (ks : List Symbol) (m : Limits) (s : State) → m.width ≡ 31 → state_depth s + length ks ≤ m.depth → Agrees (state_whole s) (passed_from s ks) (run m ks s)
-passed [] m s e i = state_ends s []
-passed (k ∷ ks) m s e i =
+pub passed : (ks : List Symbol) (m : Limits) (s : State) → m.width ≡ 31 → state_depth s + length ks + 1 ≤ m.depth → IsSound s → Agrees (state_whole s) (passed_from s ks) (run m ks s)
+passed [] m s e i g = state_ends s []
+passed (k ∷ ks) m s e i g =
     goes_as m ks (state_depth s) (length (k ∷ ks)) (state_whole s) (finish s (k ∷ ks)) (ended (stage_of s) (state_shape s).around (k ∷ ks)) (step m s k) (led_from s k)
-    (state_ends s (k ∷ ks)) (λ t h. passed ks m t e (omega arith)) (follows m s k e (omega arith))
+    (state_ends s (k ∷ ks)) (λ t h z. passed ks m t e (omega arith) z) (follows m s k e (omega arith) g)
 
 -- ---- what a call returns
 
@@ -406,14 +492,14 @@ seen_length : (ls : List Lexeme) → length (symbols_seen ls) ≡ length ls
 seen_length [] = refl
 seen_length (l ∷ ls) = let h = seen_length ls in omega arith
 
-pub ends_whole : {X : Type 0} (rest : X → List Lexeme) (r : Result X Stop) (ls : List Lexeme) (m : Limits) → m.width ≡ 31 → length ls ≤ m.depth → PassesAs rest r (pass (symbols_seen ls) stage.Operand around.Alone []) → Ends Whole rest r (run m (symbols_seen ls) (Wanted (Front Alone)))
+pub ends_whole : {X : Type 0} (rest : X → List Lexeme) (r : Result X Stop) (ls : List Lexeme) (m : Limits) → m.width ≡ 31 → length ls < m.depth → PassesAs rest r (pass (symbols_seen ls) stage.Operand around.Alone []) → Ends Whole rest r (run m (symbols_seen ls) (Wanted (Front Alone)))
 ends_whole rest r ls m e i h =
     let ks = symbols_seen ls in
     let n = seen_length ls in
-    whole_ends rest r (pass ks stage.Operand around.Alone []) (run m ks (Wanted (Front Alone))) h (passed ks m (Wanted (Front Alone)) e (omega arith))
+    whole_ends rest r (pass ks stage.Operand around.Alone []) (run m ks (Wanted (Front Alone))) h (passed ks m (Wanted (Front Alone)) e (omega arith) tt)
 
-pub ends_target : {X : Type 0} (rest : X → List Lexeme) (r : Result X Stop) (ls : List Lexeme) (m : Limits) → m.width ≡ 31 → length ls ≤ m.depth → PassesAs rest r (pass (symbols_seen ls) stage.Variable around.Target []) → Ends Target rest r (run m (symbols_seen ls) (Sought AsTarget))
+pub ends_target : {X : Type 0} (rest : X → List Lexeme) (r : Result X Stop) (ls : List Lexeme) (m : Limits) → m.width ≡ 31 → length ls < m.depth → PassesAs rest r (pass (symbols_seen ls) stage.Variable around.Target []) → Ends Target rest r (run m (symbols_seen ls) (Sought AsTarget))
 ends_target rest r ls m e i h =
     let ks = symbols_seen ls in
     let n = seen_length ls in
-    target_ends rest r (pass ks stage.Variable around.Target []) (run m ks (Sought AsTarget)) h (passed ks m (Sought AsTarget) e (omega arith))
+    target_ends rest r (pass ks stage.Variable around.Target []) (run m ks (Sought AsTarget)) h (passed ks m (Sought AsTarget) e (omega arith) tt)

@@ -6,10 +6,11 @@ use Rattle.std.specs.Result.{IsErrAnd}
 use Rattle.mj_ast.specs.declared.sign.Sign.TheVariants.{Apostrophe, Caret, Open, Close, Comma, Colon}
 use Rattle.mj_ast.specs.declared.expr.Scope.{Scope}
 use Rattle.mj_oper.specs.declared.op.Op.{Op}
+use Rattle.mj_ast.specs.declared.function.NameFunction.{NameFunction}
 use Rattle.mj_ast.specs.declared.function.Callee.{Callee}
-use Rattle.mj_ast.specs.Syntax.{Expr, Chain, Tails, Done, Operand, Value, Unary, Select, Variable, Var, Exprs, No, More, Choices, Last, Before}
-use Rattle.mj_ast.specs.Expressions.{Symbol, Constant, Name, Applied, Overlong, Mark, Other, count, constant_of, function_symbol}
-use Rattle.mj_expr.specs.Machine.{Outer, Alone, InList, InCondition, InChoice, Owner, Subscripts, Arguments, Within, Front, Right, Under, Place, AsOperand, AsTarget, Pairs, NoPairs, Pair, and_pair, before_choices, State, Wanted, Named, Calling, Held, Got, filled, placed, closed, held, Limits, Go, Stuck, Deep, Long, Outcome, Accept, StuckAt, Whole, Target, run, turn, refused_in, and_more, and_then, hold_sign, depth_of, place_depth, inside, least_of, most_of, is_limited}
+use Rattle.mj_ast.specs.Syntax.{Expr, Chain, Tails, Done, Operand, Value, Unary, About, Select, Variable, Var, Exprs, No, More, Choices, Last, Before}
+use Rattle.mj_ast.specs.Expressions.{Symbol, Constant, Name, Applied, Overlong, Mark, Other, count, subscript_count, least_subscripts, most_others, levels, constant_of, function_symbol}
+use Rattle.mj_expr.specs.Machine.{Outer, Alone, InList, InOther, InCondition, InChoice, Owner, Subscripts, Arguments, Within, Front, Right, Under, Place, AsOperand, AsNamed, AsTarget, Pairs, NoPairs, Pair, and_pair, before_choices, State, Wanted, Named, Calling, Behind, Held, Got, filled, placed, closed, held, Limits, Next, Go, Stuck, Deep, Long, Outcome, Accept, StuckAt, DeepAt, Whole, Target, run, turn, refused_in, and_more, and_then, hold_sign, depth_of, place_depth, inside, suffices, least_of, most_of, is_limited}
 use Rattle.mj_expr.specs.Reads.{limits, symbols_seen, Reads, Refuses, HasNoBinary, HasNoOpen, HasNoComma, HasNoColon, HasNoClose, StartsBinary, kind_of, least_in, most_in, limited_in}
 use Rattle.mj_expr.specs.Lists.{behind_from, behind_list}
 use Rattle.mj_expr.specs.declared.token.ListKind.{ListKind}
@@ -38,9 +39,15 @@ named_alone m scope word [] h = refl
 named_alone m scope word (Mark Open ∷ ks) h = absurd h
 named_alone m scope word (k ∷ ks) h = refl
 
+named_about : (m : Limits) (scope : Scope) (word : List ℕ) (f : NameFunction) (c : Within) (ks : List Symbol) → HasNoOpen ks → run m ks (Named scope word (AsNamed f c)) ≡ run m ks (Behind f (Var scope word No) c)
+named_about m scope word f c [] h = refl
+named_about m scope word f c (Mark Open ∷ ks) h = absurd h
+named_about m scope word f c (k ∷ ks) h = refl
+
 -- a name without subscripts is a variable
 pub named_ends : (m : Limits) (scope : Scope) (word : List ℕ) (p : Place) (ks : List Symbol) → HasNoOpen ks → run m ks (Named scope word p) ≡ run m ks (placed (Var scope word No) p)
 named_ends m scope word (AsOperand c) ks h = let e = filled_holds (Value (Var scope word No)) c in named_as m scope word (AsOperand c) ks e.0 e.1 e.2 e.3 h
+named_ends m scope word (AsNamed f c) ks h = named_about m scope word f c ks h
 named_ends m scope word AsTarget ks h = named_alone m scope word ks h
 
 -- the last of a list, with those before it
@@ -260,17 +267,93 @@ pub value_read : (m : Limits) (ks k1 k2 k3 : List Symbol) (ps : Pairs) (a e : Ex
 value_read m ks k1 k2 k3 ps a e c h i j = h ∙ ap (λ (zs : List Symbol). run m zs (held a (InCondition ps c))) i ∙ colon_goes m k2 ps a c ∙ j
 
 -- behind a function
-pub call_opens : (m : Limits) (ks : List Symbol) (f : Callee) (c : Within) → run m (Mark Open ∷ ks) (Calling f c) ≡ run m ks (Wanted (Front (inside f c)))
+pub call_opens : (m : Limits) (ks : List Symbol) (f : Callee) (c : Within) → run m (Mark Open ∷ ks) (Calling f c) ≡ run m ks (inside f c)
 call_opens m ks f c = refl
 
-pub call_goes : (m : Limits) (ks : List Symbol) (f : Callee) (c : Within) → depth_of c < m.depth → run m (Applied f ∷ ks) (Wanted c) ≡ run m ks (Calling f c)
-call_goes m ks f c h = ap (λ (b : Bool). turn m ks (Wanted c) (Applied f) (cond b (Go (Calling f c)) Deep)) (less_true (depth_of c) m.depth h)
+pub call_goes : (m : Limits) (ks : List Symbol) (f : Callee) (c : Within) → depth_of c + levels f ≤ m.depth → run m (Applied f ∷ ks) (Wanted c) ≡ run m ks (Calling f c)
+call_goes m ks f c h = ap (λ (b : Bool). turn m ks (Wanted c) (Applied f) (cond b (Go (Calling f c)) Deep)) (most_true (depth_of c + levels f) m.depth h)
+
+pub call_deep : (m : Limits) (ks : List Symbol) (f : Callee) (c : Within) → m.depth < depth_of c + levels f → run m (Applied f ∷ ks) (Wanted c) ≡ DeepAt (length (Applied f ∷ ks))
+call_deep m ks f c h = ap (λ (b : Bool). turn m ks (Wanted c) (Applied f) (cond b (Go (Calling f c)) Deep)) (most_false (depth_of c + levels f) m.depth h)
 
 pub call_refuses : (m : Limits) (ks : List Symbol) (f : Callee) (c : Within) → HasNoOpen ks → run m ks (Calling f c) ≡ refused_in false ks
 call_refuses m [] f c h = refl
 call_refuses m (Mark Open ∷ ks) f c h = absurd h
 call_refuses m (Mark Comma ∷ ks) f c h = refl
 call_refuses m (k ∷ ks) f c h = refl
+
+-- ---- behind the variable of a function
+
+abbrev another : NameFunction → Variable → Within → Bool → Bool → Next
+another f v c b d = cond b (cond d (Go (Wanted (Front (InOther f v c)))) Stuck) Stuck
+
+pub about_closes : (m : Limits) (ks : List Symbol) (f : NameFunction) (v : Variable) (c : Within) → least_subscripts f ≤ subscript_count v → run m (Mark Close ∷ ks) (Behind f v c) ≡ run m ks (filled (About f v No) c)
+about_closes m ks f v c h = ap (λ (b : Bool). turn m ks (Behind f v c) (Mark Close) (cond b (Go (filled (About f v No) c)) Stuck)) (most_true (least_subscripts f) (subscript_count v) h)
+
+pub about_goes : (m : Limits) (ks : List Symbol) (f : NameFunction) (v : Variable) (c : Within) → least_subscripts f ≤ subscript_count v → 0 < most_others f → run m (Mark Comma ∷ ks) (Behind f v c) ≡ run m ks (Wanted (Front (InOther f v c)))
+about_goes m ks f v c h i =
+    ap (λ (b : Bool). turn m ks (Behind f v c) (Mark Comma) (another f v c b (nat_lt 0 (most_others f)))) (most_true (least_subscripts f) (subscript_count v) h)
+    ∙ ap (λ (d : Bool). turn m ks (Behind f v c) (Mark Comma) (another f v c true d)) (less_true 0 (most_others f) i)
+
+-- a variable with too few subscripts
+pub about_bare : (m : Limits) (ks : List Symbol) (f : NameFunction) (v : Variable) (c : Within) → subscript_count v < least_subscripts f → run m ks (Behind f v c) ≡ refused_in false ks
+about_bare m [] f v c h = refl
+about_bare m (Constant u ∷ ks) f v c h = refl
+about_bare m (Name u ∷ ks) f v c h = refl
+about_bare m (Applied u ∷ ks) f v c h = refl
+about_bare m (Overlong ∷ ks) f v c h = refl
+about_bare m (Other ∷ ks) f v c h = refl
+about_bare m (Mark Close ∷ ks) f v c h = ap (λ (b : Bool). turn m ks (Behind f v c) (Mark Close) (cond b (Go (filled (About f v No) c)) Stuck)) (most_false (least_subscripts f) (subscript_count v) h)
+about_bare m (Mark Comma ∷ ks) f v c h = ap (λ (b : Bool). turn m ks (Behind f v c) (Mark Comma) (another f v c b (nat_lt 0 (most_others f)))) (most_false (least_subscripts f) (subscript_count v) h)
+about_bare m (Mark s ∷ ks) f v c h = refl
+
+-- what ends no function, where no comma goes on
+pub about_refuses : (m : Limits) (ks : List Symbol) (f : NameFunction) (v : Variable) (c : Within) → HasNoClose ks → HasNoComma ks → run m ks (Behind f v c) ≡ refused_in false ks
+about_refuses m [] f v c h i = refl
+about_refuses m (Constant u ∷ ks) f v c h i = refl
+about_refuses m (Name u ∷ ks) f v c h i = refl
+about_refuses m (Applied u ∷ ks) f v c h i = refl
+about_refuses m (Overlong ∷ ks) f v c h i = refl
+about_refuses m (Other ∷ ks) f v c h i = refl
+about_refuses m (Mark Close ∷ ks) f v c h i = absurd h
+about_refuses m (Mark Comma ∷ ks) f v c h i = absurd i
+about_refuses m (Mark s ∷ ks) f v c h i = refl
+
+-- nor where nothing may follow its variable
+pub about_full : (m : Limits) (ks : List Symbol) (f : NameFunction) (v : Variable) (c : Within) → HasNoClose ks → most_others f ≡ 0 → run m ks (Behind f v c) ≡ refused_in false ks
+about_full m [] f v c h i = refl
+about_full m (Constant u ∷ ks) f v c h i = refl
+about_full m (Name u ∷ ks) f v c h i = refl
+about_full m (Applied u ∷ ks) f v c h i = refl
+about_full m (Overlong ∷ ks) f v c h i = refl
+about_full m (Other ∷ ks) f v c h i = refl
+about_full m (Mark Close ∷ ks) f v c h i = absurd h
+about_full m (Mark Comma ∷ ks) f v c h i =
+    ap (λ (d : Bool). turn m ks (Behind f v c) (Mark Comma) (another f v c (suffices f v) d)) (less_false 0 (most_others f) (omega (arith, i)))
+    ∙ full_by (suffices f v)
+  where
+    full_by : (b : Bool) → turn m ks (Behind f v c) (Mark Comma) (another f v c b false) ≡ refused_in false (Mark Comma ∷ ks)
+    full_by true = refl
+    full_by false = refl
+about_full m (Mark s ∷ ks) f v c h i = refl
+
+pub other_closes : (m : Limits) (ks : List Symbol) (f : NameFunction) (v : Variable) (e : Expr) (c : Within) → run m (Mark Close ∷ ks) (held e (InOther f v c)) ≡ run m ks (filled (About f v (More e No)) c)
+other_closes m ks f v (Chain x r) c = refl
+
+pub other_refuses : (m : Limits) (ks : List Symbol) (f : NameFunction) (v : Variable) (e : Expr) (c : Within) → HasNoBinary ks → HasNoClose ks → run m ks (held e (InOther f v c)) ≡ refused_in false ks
+other_refuses m [] f v (Chain x r) c b d = refl
+other_refuses m (Constant u ∷ ks) f v (Chain x r) c b d = refl
+other_refuses m (Name u ∷ ks) f v (Chain x r) c b d = refl
+other_refuses m (Applied u ∷ ks) f v (Chain x r) c b d = refl
+other_refuses m (Overlong ∷ ks) f v (Chain x r) c b d = refl
+other_refuses m (Other ∷ ks) f v (Chain x r) c b d = refl
+other_refuses m (Mark Close ∷ ks) f v (Chain x r) c b d = absurd d
+other_refuses m (Mark Comma ∷ ks) f v (Chain x r) c b d = refl
+other_refuses m (Mark Caret ∷ ks) f v (Chain x r) c b d = refl
+other_refuses m (Mark Open ∷ ks) f v (Chain x r) c b d = refl
+other_refuses m (Mark Colon ∷ ks) f v (Chain x r) c b d = refl
+other_refuses m (Mark Apostrophe ∷ ks) f v (Chain x r) c b d = refl
+other_refuses m (Mark s ∷ ks) f v (Chain x r) c b d = absurd (some_none _ b)
 
 -- ---- refusals by tokens
 

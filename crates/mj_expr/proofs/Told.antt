@@ -3,15 +3,15 @@ use Rattle.std.proofs.Common.{◌≡◌, ℕ, zero, suc, ◌+◌, ◌-◌, ◌�
 use Rattle.std.specs.Prelude.{pos}
 use Rattle.std.proofs.lemmas.List.{map-append}
 use Rattle.mj_num.specs.Number.{canonic_text}
-use Rattle.mj_ast.specs.declared.sign.Sign.TheVariants.{Open, Close, Comma, Colon}
+use Rattle.mj_ast.specs.declared.sign.Sign.TheVariants.{Caret, Open, Close, Comma, Colon}
 use Rattle.mj_ast.specs.declared.function.Callee.TheVariants as callee
 use Rattle.mj_ast.specs.declared.expr.Scope.{Scope}
 use Rattle.mj_ast.specs.declared.expr.Scope.TheVariants.{Local, Global}
-use Rattle.mj_ast.specs.Syntax.{Expr, Chain, Operand, Literal, Value, Call, Select, Tails, Variable, Var, No, Last}
+use Rattle.mj_ast.specs.Syntax.{Expr, Chain, Operand, Literal, Value, Call, About, Select, Tails, Variable, Var, No, Last}
 use Rattle.mj_ast.specs.Tokens.{Token, Word, Digits, Signed}
-use Rattle.mj_ast.specs.Expressions.{Symbol, Constant, Name, Applied, Overlong, Mark, Other, symbol, Phrases, expressions, variables, expr_symbols, variable_symbols, operand_symbols, list_symbols, more_symbols, count, least, expr_nesting, variable_nesting, expr_width, variable_width, expr_misfits, variable_misfits}
-use Rattle.mj_expr.specs.Machine.{Outer, Alone, InGroup, InList, InCondition, InChoice, Owner, Subscripts, Arguments, Within, Front, Right, Under, Place, AsOperand, AsTarget, State, Wanted, Sought, Marked, Named, Calling, Held, Got, placed, Limits, least_of, Phrase, Whole, Target, Accept, refused, ends, finish}
-use Rattle.mj_expr.proofs.Zipper.{Kind, AnExpression, AVariable, IsKind, Fits, HasRead, good_depth, place_good_depth, plug, outer_plug, place_plug, plug_symbols, outer_plug_symbols, place_plug_symbols, plug_fits, outer_plug_fits, place_plug_fits, before, outer_before, place_before, after, outer_after, owner_after, place_after, phrase_symbols, phrase_nesting, phrase_width, phrase_misfits, start, ForExpression, ForVariable, zero_expr, pad, pad_count, pad_nesting, pad_width, pad_misfits, list_nesting-some, least_most}
+use Rattle.mj_ast.specs.Expressions.{Symbol, Constant, Name, Applied, Overlong, Mark, Other, symbol, Phrases, expressions, variables, expr_symbols, variable_symbols, operand_symbols, scoped, list_symbols, more_symbols, count, least, least_subscripts, expr_nesting, variable_nesting, expr_width, variable_width, expr_misfits, variable_misfits}
+use Rattle.mj_expr.specs.Machine.{Outer, Alone, InGroup, InList, InOther, InCondition, InChoice, Owner, Subscripts, Arguments, Within, Front, Right, Under, Place, AsOperand, AsNamed, AsTarget, State, Wanted, Sought, Marked, Named, Calling, Behind, Held, Got, placed, Limits, least_of, Phrase, Whole, Target, Accept, refused, ends, finish}
+use Rattle.mj_expr.proofs.Zipper.{Kind, AnExpression, AVariable, IsKind, Fits, HasRead, good_depth, place_good_depth, plug, outer_plug, place_plug, plug_symbols, outer_plug_symbols, place_plug_symbols, plug_fits, outer_plug_fits, place_plug_fits, before, outer_before, place_before, after, outer_after, owner_after, place_after, phrase_symbols, phrase_nesting, phrase_width, phrase_misfits, start, ForExpression, ForVariable, zero_expr, pad, pad_count, pad_nesting, pad_list, pad_width, pad_misfits, list_nesting-some, scoped-append, least_most, least_at, place_good_room, place_good_width}
 use Rattle.mj_expr.proofs.Facts.{filled_outer}
 use Rattle.mj_expr.proofs.States.{variable_read}
 
@@ -64,6 +64,7 @@ mutual
       let h = owner_closers u in
       let k = more_pads (least_of u - (count es + 1)) in
       (k.0 ++ h.0, map-append symbol k.0 h.0 ∙ ap (λ (zs : List Symbol). zs ++ map symbol h.0) k.1 ∙ ap (λ (zs : List Symbol). more_symbols (pad (least_of u - (count es + 1))) ++ zs) h.1)
+  outer_closers (InOther f v c) = let h = closers c in (Signed Close ∷ h.0, ap (λ (zs : List Symbol). Mark Close ∷ zs) h.1)
   outer_closers (InCondition ps c) =
       let h = closers c in
       (Signed Colon ∷ Digits (48 ∷ []) ∷ Signed Close ∷ h.0, ap (λ (zs : List Symbol). Mark Colon ∷ (expr_symbols zero_expr ++ Mark Close ∷ zs)) h.1)
@@ -80,6 +81,7 @@ mutual
 
   place_closers : (p : Place) → (ts : List Token) × (map symbol ts ≡ place_after p)
   place_closers (AsOperand c) = closers c
+  place_closers (AsNamed f c) = let h = closers c in (Signed Close ∷ h.0, ap (λ (zs : List Symbol). Mark Close ∷ zs) h.1)
   place_closers AsTarget = ([], refl)
 
 -- a shortest way to the end
@@ -106,19 +108,43 @@ read_goes K m (Wanted c) ks h =
     (plug_fits c K m t h.good (omega (arith, good_depth K m c h.good)) (omega arith) refl) (plug_symbols c t) (closers c).1
     (ap (λ (v : List Symbol). v ++ Constant (canonic_text (pos 0)) ∷ []) h.read)
 read_goes K m (Sought p) ks h =
-    let v : Variable = Var Local (65 ∷ []) No in
-    goes_on K m (place_plug p v) (place_before p) (Name (65 ∷ []) ∷ []) (place_after p) ks (Word (65 ∷ []) ∷ []) (place_closers p).0
-    (place_plug_fits p K m v h.good (omega (arith, place_good_depth K m p h.good)) (omega arith) refl) (place_plug_symbols p v) (place_closers p).1
-    (ap (λ (u : List Symbol). u ++ Name (65 ∷ []) ∷ []) h.read)
+    let n = least_at p in
+    let v : Variable = Var Local (65 ∷ []) (pad n) in
+    let k = list_pads n in
+    goes_on K m (place_plug p v) (place_before p) (variable_symbols v) (place_after p) ks (Word (65 ∷ []) ∷ k.0) (place_closers p).0
+    (place_plug_fits p K m v h.good (omega (arith, place_good_room K m p h.good, pad_list n)) (omega (arith, place_good_width K m p h.good, pad_count n, pad_width n)) (pad_misfits n) (omega (arith, pad_count n)))
+    (place_plug_symbols p v) (place_closers p).1
+    (ap (λ (u : List Symbol). u ++ Name (65 ∷ []) ∷ list_symbols (pad n)) h.read ∙ ap (λ (u : List Symbol). ks ++ Name (65 ∷ []) ∷ u) (sym k.1))
 read_goes K m (Marked p) ks h =
-    let v : Variable = Var Global (65 ∷ []) No in
-    goes_on K m (place_plug p v) (place_before p) (variable_symbols v) (place_after p) ks (Word (65 ∷ []) ∷ []) (place_closers p).0
-    (place_plug_fits p K m v h.good (omega (arith, place_good_depth K m p h.good)) (omega arith) refl) (place_plug_symbols p v) (place_closers p).1
-    (sym (append_assoc (place_before p) _ (Name (65 ∷ []) ∷ [])) ∙ ap (λ (u : List Symbol). u ++ Name (65 ∷ []) ∷ []) h.read)
+    let n = least_at p in
+    let v : Variable = Var Global (65 ∷ []) (pad n) in
+    let k = list_pads n in
+    goes_on K m (place_plug p v) (place_before p) (variable_symbols v) (place_after p) ks (Word (65 ∷ []) ∷ k.0) (place_closers p).0
+    (place_plug_fits p K m v h.good (omega (arith, place_good_room K m p h.good, pad_list n)) (omega (arith, place_good_width K m p h.good, pad_count n, pad_width n)) (pad_misfits n) (omega (arith, pad_count n)))
+    (place_plug_symbols p v) (place_closers p).1
+    (sym (append_assoc (place_before p) (Mark Caret ∷ []) (Name (65 ∷ []) ∷ list_symbols (pad n))) ∙ ap (λ (u : List Symbol). u ++ Name (65 ∷ []) ∷ list_symbols (pad n)) h.read ∙ ap (λ (u : List Symbol). ks ++ Name (65 ∷ []) ∷ u) (sym k.1))
 read_goes K m (Named scope word p) ks h =
-    let v : Variable = Var scope word No in
-    goes_on K m (place_plug p v) (place_before p) (variable_symbols v) (place_after p) ks [] (place_closers p).0
-    (place_plug_fits p K m v h.good (omega (arith, place_good_depth K m p h.good)) (omega arith) refl) (place_plug_symbols p v) (place_closers p).1
+    let n = least_at p in
+    let v : Variable = Var scope word (pad n) in
+    let k = list_pads n in
+    goes_on K m (place_plug p v) (place_before p) (variable_symbols v) (place_after p) ks k.0 (place_closers p).0
+    (place_plug_fits p K m v h.good (omega (arith, place_good_room K m p h.good, pad_list n)) (omega (arith, place_good_width K m p h.good, pad_count n, pad_width n)) (pad_misfits n) (omega (arith, pad_count n)))
+    (place_plug_symbols p v) (place_closers p).1
+    (ap (λ (u : List Symbol). place_before p ++ u) (sym (scoped-append scope (Name word ∷ []) (list_symbols (pad n)))) ∙ sym (append_assoc (place_before p) (scoped scope (Name word ∷ [])) (list_symbols (pad n))) ∙ ap (λ (u : List Symbol). u ++ list_symbols (pad n)) h.read ∙ ap (λ (u : List Symbol). ks ++ u) (sym k.1))
+read_goes K m (Calling (callee.Names f) c) ks h =
+    let n = least_subscripts f in
+    let v : Variable = Var Local (65 ∷ []) (pad n) in
+    let t : Operand = About f v No in
+    let k = list_pads n in
+    let more : List Symbol = Mark Open ∷ ((Name (65 ∷ []) ∷ list_symbols (pad n)) ++ Mark Close ∷ []) in
+    let spelled : map symbol (Signed Open ∷ Word (65 ∷ []) ∷ (k.0 ++ Signed Close ∷ [])) ≡ more = ap (λ (u : List Symbol). Mark Open ∷ Name (65 ∷ []) ∷ u) (map-append symbol k.0 (Signed Close ∷ []) ∙ ap (λ (u : List Symbol). u ++ Mark Close ∷ []) k.1) in
+    goes_on K m (plug c t) (before c) (operand_symbols t) (after c) ks (Signed Open ∷ Word (65 ∷ []) ∷ (k.0 ++ Signed Close ∷ [])) (closers c).0
+    (plug_fits c K m t h.good.0 (omega (arith, h.good.1, pad_list n)) (omega (arith, h.good.2, pad_count n, pad_width n)) (omega (arith, pad_count n, pad_misfits n))) (plug_symbols c t) (closers c).1
+    (sym (append_assoc (before c) (Applied (callee.Names f) ∷ []) more) ∙ ap (λ (u : List Symbol). u ++ more) h.read ∙ ap (λ (u : List Symbol). ks ++ u) (sym spelled))
+read_goes K m (Behind f v c) ks h =
+    let t : Operand = About f v No in
+    goes_on K m (plug c t) (place_before (AsNamed f c)) (variable_symbols v) (place_after (AsNamed f c)) ks [] (place_closers (AsNamed f c)).0
+    (plug_fits c K m t h.good.0 (omega (arith, h.good.1)) (omega (arith, h.good.2)) (omega (arith, h.good.3, h.good.4))) (place_plug_symbols (AsNamed f c) v) (place_closers (AsNamed f c)).1
     (h.read ∙ sym (append-nil ks))
 read_goes K m (Calling callee.Select c) ks h =
     let t : Operand = Select (Last zero_expr zero_expr) in
@@ -137,7 +163,7 @@ read_goes K m (Held x r o) ks h =
     goes_on K m (outer_plug o (Chain x r)) (outer_before o) (expr_symbols (Chain x r)) (outer_after o) ks [] (outer_closers o).0
     (outer_plug_fits o K m (Chain x r) h.good.0 h.good.1 h.good.2 h.good.3) (outer_plug_symbols o (Chain x r)) (outer_closers o).1
     (h.read ∙ sym (append-nil ks))
-read_goes K m (Got v) ks h = record { more = []; phrase = Target v; spelled = append-nil ks ∙ sym h.read; fits = place_plug_fits AsTarget K m v h.good.0 (omega (arith, h.good.1)) h.good.2 h.good.3 }
+read_goes K m (Got v) ks h = record { more = []; phrase = Target v; spelled = append-nil ks ∙ sym h.read; fits = place_plug_fits AsTarget K m v h.good.0 (omega (arith, h.good.1)) h.good.2 h.good.3 (omega arith) }
 
 pub start_read : (K : Kind) (m : Limits) → HasRead K m (start K) []
 start_read AnExpression m = record { good = tt; read = refl }
@@ -177,28 +203,33 @@ target_accepts : (K : Kind) (m : Limits) (v : Variable) (s : State) (ks : List S
 target_accepts K m v s ks p r front again k n w f read h =
     let same : Target v ≡ p = accept_phrase (Target v) p ks r (sym (again ks) ∙ h) in
     let P : Phrase → Type 0 = λ q. Accepts K m s ks q r front in
-    subst P same (record { rest = accept_rest (Target v) p ks r (sym (again ks) ∙ h); again = again; fits = place_plug_fits AsTarget K m v k (omega arith) w f; spelled = read })
+    subst P same (record { rest = accept_rest (Target v) p ks r (sym (again ks) ∙ h); again = again; fits = place_plug_fits AsTarget K m v k (omega arith) w f (omega arith); spelled = read })
 
 held_accepts : (K : Kind) (m : Limits) (x : Operand) (t : Tails) (o : Outer) (s : State) (ks : List Symbol) (p : Phrase) (r front : List Symbol) → ((ls : List Symbol) → finish s ls ≡ ends (Held x t o) ls) → HasRead K m (Held x t o) front → finish s ks ≡ Accept p r → Accepts K m s ks p r front
 held_accepts K m x t Alone s ks p r front again h e = whole_accepts K m (Chain x t) s ks p r front again h.good.0 h.good.1 h.good.2 h.good.3 h.read e
 held_accepts K m x t (InGroup c) s ks p r front again h e = absurd (refused_accept ks p r (sym (again ks) ∙ e))
 held_accepts K m x t (InList u es) s ks p r front again h e = absurd (refused_accept ks p r (sym (again ks) ∙ e))
+held_accepts K m x t (InOther f v c) s ks p r front again h e = absurd (refused_accept ks p r (sym (again ks) ∙ e))
 held_accepts K m x t (InCondition ps c) s ks p r front again h e = absurd (refused_accept ks p r (sym (again ks) ∙ e))
 held_accepts K m x t (InChoice ps a c) s ks p r front again h e = absurd (refused_accept ks p r (sym (again ks) ∙ e))
 
-named_accepts : (K : Kind) (m : Limits) (scope : Scope) (word : List ℕ) (q : Place) (ks : List Symbol) (p : Phrase) (r front : List Symbol) → HasRead K m (placed (Var scope word No) q) front → finish (Named scope word q) ks ≡ Accept p r → Accepts K m (Named scope word q) ks p r front
+named_accepts : (K : Kind) (m : Limits) (scope : Scope) (word : List ℕ) (q : Place) (ks : List Symbol) (p : Phrase) (r front : List Symbol) → HasRead K m (Named scope word q) front → finish (Named scope word q) ks ≡ Accept p r → Accepts K m (Named scope word q) ks p r front
 named_accepts K m scope word (AsOperand c) ks p r front h e =
     let f = filled_outer (Value (Var scope word No)) c in
     let P : State → Type 0 = λ s. HasRead K m s front in
-    held_accepts K m f.0 f.1 _ (Named scope word (AsOperand c)) ks p r front (λ ls. ap (λ (s : State). ends s ls) f.2) (subst P f.2 h) e
-named_accepts K m scope word AsTarget ks p r front h e = target_accepts K m (Var scope word No) (Named scope word AsTarget) ks p r front (λ ls. refl) h.good.0 h.good.1 h.good.2 h.good.3 h.read e
+    held_accepts K m f.0 f.1 _ (Named scope word (AsOperand c)) ks p r front (λ ls. ap (λ (s : State). ends s ls) f.2) (subst P f.2 (variable_read K m scope word (AsOperand c) front (omega arith) h)) e
+named_accepts K m scope word (AsNamed f c) ks p r front h e = absurd (refused_accept ks p r e)
+named_accepts K m scope word AsTarget ks p r front h e =
+    let g = variable_read K m scope word AsTarget front (omega arith) h in
+    target_accepts K m (Var scope word No) (Named scope word AsTarget) ks p r front (λ ls. refl) g.good.0 g.good.1 g.good.2 g.good.3 g.read e
 
 pub accepts : (K : Kind) (m : Limits) (s : State) (ks : List Symbol) (p : Phrase) (r front : List Symbol) → HasRead K m s front → finish s ks ≡ Accept p r → Accepts K m s ks p r front
 accepts K m (Wanted c) ks p r front h e = absurd (refused_accept ks p r e)
 accepts K m (Sought q) ks p r front h e = absurd (refused_accept ks p r e)
 accepts K m (Marked q) ks p r front h e = absurd (refused_accept ks p r e)
-accepts K m (Named scope word q) ks p r front h e = named_accepts K m scope word q ks p r front (variable_read K m scope word q front h) e
+accepts K m (Named scope word q) ks p r front h e = named_accepts K m scope word q ks p r front h e
 accepts K m (Calling f c) ks p r front h e = absurd (refused_accept ks p r e)
+accepts K m (Behind f v c) ks p r front h e = absurd (refused_accept ks p r e)
 accepts K m (Held x t o) ks p r front h e = held_accepts K m x t o (Held x t o) ks p r front (λ ls. refl) h e
 accepts K m (Got v) ks p r front h e = target_accepts K m v (Got v) ks p r front (λ ls. refl) h.good.0 h.good.1 h.good.2 h.good.3 h.read e
 

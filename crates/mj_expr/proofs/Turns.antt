@@ -7,10 +7,12 @@ use Rattle.mj_oper.specs.declared.op.UnaryOp.{UnaryOp}
 use Rattle.mj_oper.specs.declared.op.Op.{Op}
 use Rattle.mj_ast.specs.declared.expr.Scope.{Scope}
 use Rattle.mj_ast.specs.declared.expr.Scope.TheVariants.{Local, Global}
-use Rattle.mj_ast.specs.Syntax.{Expr, Chain, Operand, Literal, Value, Tails, Variable, Var, No, Group, Call, Select, Exprs, Last}
+use Rattle.mj_ast.specs.Syntax.{Expr, Chain, Operand, Literal, Value, Tails, Variable, Var, No, More, Group, Call, About, Select, Exprs, Last}
+use Rattle.mj_ast.specs.declared.function.NameFunction.{NameFunction}
 use Rattle.mj_ast.specs.declared.function.Callee.{Callee}
-use Rattle.mj_ast.specs.Expressions.{Symbol, Constant, Name, Applied, Overlong, Mark, Other, count}
-use Rattle.mj_expr.specs.Machine.{Outer, Alone, InGroup, InList, InCondition, InChoice, Owner, Subscripts, Arguments, before_choices, least_of, most_of, is_limited, Within, Place, AsOperand, AsTarget, State, Wanted, Sought, Marked, Named, Calling, Held, Got, filled, placed, closed, outer_of, Limits, Next, Go, Stuck, Deep, Long, opens, comma, is_full, is_full_in, stray_comma, close, want_other, want_sign, hold_other, hold_sign, hold, on, step, unary_of, binary_of, Phrase, Whole, Target, Outcome, Accept, StuckAt, DeepAt, TooLong, refused, ends, finish, run, turn, and_more}
+use Rattle.mj_ast.specs.declared.function.Callee.TheVariants as callee
+use Rattle.mj_ast.specs.Expressions.{Symbol, Constant, Name, Applied, Overlong, Mark, Other, count, most_others, levels}
+use Rattle.mj_expr.specs.Machine.{Outer, Alone, InGroup, InList, InOther, InCondition, InChoice, Owner, Subscripts, Arguments, before_choices, least_of, most_of, is_limited, Within, Place, AsOperand, AsNamed, AsTarget, State, Wanted, Sought, Marked, Named, Calling, Behind, Held, Got, filled, placed, closed, outer_of, Limits, Next, Go, Stuck, Deep, Long, opens, opens_call, depth_of, suffices, behind, inside, comma, is_full, is_full_in, stray_comma, close, want_other, want_sign, hold_other, hold_sign, hold, on, step, unary_of, binary_of, Phrase, Whole, Target, Outcome, Accept, StuckAt, DeepAt, TooLong, refused, ends, finish, run, turn, and_more}
 use Rattle.mj_expr.proofs.Facts.{filled_outer}
 use Rattle.mj_expr.proofs.Told.{accept_rest, accept_phrase}
 
@@ -41,9 +43,11 @@ ends_again (Named scope word q) ks p r e = absurd (no_accept ks p r e)
 ends_again (Held x t Alone) ks p r e = (accept_rest (Whole (Chain x t)) p ks r e, λ ls. ap (λ (q : Phrase). Accept q ls) (accept_phrase (Whole (Chain x t)) p ks r e))
 ends_again (Held x t (InGroup c)) ks p r e = absurd (no_accept ks p r e)
 ends_again (Held x t (InList u es)) ks p r e = absurd (no_accept ks p r e)
+ends_again (Held x t (InOther f v c)) ks p r e = absurd (no_accept ks p r e)
 ends_again (Held x t (InCondition ps c)) ks p r e = absurd (no_accept ks p r e)
 ends_again (Held x t (InChoice ps a c)) ks p r e = absurd (no_accept ks p r e)
 ends_again (Calling f c) ks p r e = absurd (no_accept ks p r e)
+ends_again (Behind f v c) ks p r e = absurd (no_accept ks p r e)
 ends_again (Got v) ks p r e = (accept_rest (Target v) p ks r e, λ ls. ap (λ (q : Phrase). Accept q ls) (accept_phrase (Target v) p ks r e))
 
 again_as : (s : State) (ks : List Symbol) (p : Phrase) (r : List Symbol) → EndsAgain s ks p r → ((ls : List Symbol) → finish s ls ≡ ends s ls) → Again s ks p r
@@ -55,6 +59,7 @@ finish_again (Sought q) ks p r e = again_as (Sought q) ks p r (ends_again (Sough
 finish_again (Marked q) ks p r e = again_as (Marked q) ks p r (ends_again (Marked q) ks p r e) (λ ls. refl)
 finish_again (Named scope word q) ks p r e = let h = ends_again (placed (Var scope word No) q) ks p r e in record { rest = h.0; again = h.1 }
 finish_again (Calling f c) ks p r e = again_as (Calling f c) ks p r (ends_again (Calling f c) ks p r e) (λ ls. refl)
+finish_again (Behind f v c) ks p r e = again_as (Behind f v c) ks p r (ends_again (Behind f v c) ks p r e) (λ ls. refl)
 finish_again (Held x t o) ks p r e = again_as (Held x t o) ks p r (ends_again (Held x t o) ks p r e) (λ ls. refl)
 finish_again (Got v) ks p r e = again_as (Got v) ks p r (ends_again (Got v) ks p r e) (λ ls. refl)
 
@@ -85,6 +90,7 @@ filled_reached x c = let f = filled_outer x c in let P : State → Type 0 = λ s
 
 placed_reached : (v : Variable) (p : Place) → IsReached (placed v p)
 placed_reached v (AsOperand c) = filled_reached (Value v) c
+placed_reached v (AsNamed f c) = tt
 placed_reached v AsTarget = tt
 
 closed_reached : (u : Owner) (es : Exprs) → IsReached (closed u es)
@@ -121,16 +127,19 @@ hold_other_reached : (m : Limits) (e : Expr) (o : Outer) (s : Sign) → NextReac
 hold_other_reached m e Alone Close = tt
 hold_other_reached m e (InGroup c) Close = filled_reached (Group e) c
 hold_other_reached m e (InList u es) Close = close_reached _ (nat_le (least_of u) (count es + 1)) (closed_reached u (and_more es e))
+hold_other_reached m e (InOther f v c) Close = filled_reached (About f v (More e No)) c
 hold_other_reached m e (InCondition ps c) Close = tt
 hold_other_reached m e (InChoice ps a c) Close = filled_reached (Select (before_choices ps (Last a e))) c
 hold_other_reached m e Alone Colon = tt
 hold_other_reached m e (InGroup c) Colon = tt
 hold_other_reached m e (InList u es) Colon = tt
+hold_other_reached m e (InOther f v c) Colon = tt
 hold_other_reached m e (InCondition ps c) Colon = tt
 hold_other_reached m e (InChoice ps a c) Colon = tt
 hold_other_reached m e Alone Comma = tt
 hold_other_reached m e (InGroup c) Comma = tt
 hold_other_reached m e (InList u es) Comma = comma_reached _ (nat_lt (count es + 1) (most_of m u)) (is_limited u) tt
+hold_other_reached m e (InOther f v c) Comma = tt
 hold_other_reached m e (InCondition ps c) Comma = tt
 hold_other_reached m e (InChoice ps a c) Comma = tt
 hold_other_reached m e o s = tt
@@ -147,8 +156,23 @@ hold_reached m x r o (Applied f) = tt
 hold_reached m x r o Overlong = tt
 hold_reached m x r o Other = tt
 
+another_reached : (s : State) (b d : Bool) → IsReached s → NextReached (cond b (cond d (Go s) Stuck) Stuck)
+another_reached s true d h = close_reached s d h
+another_reached s false d h = tt
+
+behind_reached : (f : NameFunction) (v : Variable) (c : Within) (k : Symbol) → NextReached (behind f v c k)
+behind_reached f v c (Mark Close) = close_reached _ (suffices f v) (filled_reached (About f v No) c)
+behind_reached f v c (Mark Comma) = another_reached _ (suffices f v) (nat_lt 0 (most_others f)) tt
+behind_reached f v c k = tt
+
+inside_reached : (f : Callee) (c : Within) → IsReached (inside f c)
+inside_reached (callee.Texts f) c = tt
+inside_reached (callee.Names f) c = tt
+inside_reached callee.Select c = tt
+
 on_reached : (m : Limits) (s : State) (k : Symbol) → NextReached (on m s k)
 on_reached m (Held x r o) k = hold_reached m x r o k
+on_reached m (Behind f v c) k = behind_reached f v c k
 on_reached m (Wanted c) k = tt
 on_reached m (Sought p) k = tt
 on_reached m (Marked p) k = tt
@@ -159,7 +183,7 @@ on_reached m (Got v) k = tt
 pub step_reached : (m : Limits) (s : State) (k : Symbol) → NextReached (step m s k)
 step_reached m (Wanted c) (Constant v) = filled_reached (Literal v) c
 step_reached m (Wanted c) (Name w) = tt
-step_reached m (Wanted c) (Applied f) = opens_reached _ (nat_lt _ m.depth) tt
+step_reached m (Wanted c) (Applied f) = opens_reached _ (nat_le _ m.depth) tt
 step_reached m (Wanted c) (Mark s) = want_sign_reached m c s (unary_of s)
 step_reached m (Wanted c) Overlong = tt
 step_reached m (Wanted c) Other = tt
@@ -171,8 +195,9 @@ step_reached m (Marked p) (Mark Comma) = full_reached (is_full_in m p)
 step_reached m (Marked p) k = tt
 step_reached m (Named scope word p) (Mark Open) = opens_reached _ (nat_lt _ m.depth) tt
 step_reached m (Named scope word p) k = on_reached m (placed (Var scope word No) p) k
-step_reached m (Calling f c) (Mark Open) = tt
+step_reached m (Calling f c) (Mark Open) = inside_reached f c
 step_reached m (Calling f c) k = tt
+step_reached m (Behind f v c) k = behind_reached f v c k
 step_reached m (Held x r o) k = hold_reached m x r o k
 step_reached m (Got v) k = tt
 
@@ -190,16 +215,18 @@ IsEasy Stuck = Unit {0}
 IsEasy Deep = ⊥
 IsEasy Long = ⊥
 
-on_stuck : (m : Limits) (v : Variable) (p : Place) (k : Symbol) → ((x : Operand) (r : Tails) (o : Outer) → hold m x r o k ≡ Stuck) → on m (placed v p) k ≡ Stuck
-on_stuck m v (AsOperand c) k h = let f = filled_outer (Value v) c in ap (λ (s : State). on m s k) f.2 ∙ h f.0 f.1 (outer_of c)
-on_stuck m v AsTarget k h = refl
+on_stuck : (m : Limits) (v : Variable) (p : Place) (k : Symbol) → ((x : Operand) (r : Tails) (o : Outer) → hold m x r o k ≡ Stuck) → ((f : NameFunction) (c : Within) → behind f v c k ≡ Stuck) → on m (placed v p) k ≡ Stuck
+on_stuck m v (AsNamed f c) k h i = i f c
+on_stuck m v (AsOperand c) k h i = let f = filled_outer (Value v) c in ap (λ (s : State). on m s k) f.2 ∙ h f.0 f.1 (outer_of c)
+on_stuck m v AsTarget k h i = refl
 
 pub overlong_stuck : (m : Limits) (s : State) → step m s Overlong ≡ Stuck
 overlong_stuck m (Wanted c) = refl
 overlong_stuck m (Sought p) = refl
 overlong_stuck m (Marked p) = refl
-overlong_stuck m (Named scope word p) = on_stuck m (Var scope word No) p Overlong (λ x r o. refl)
+overlong_stuck m (Named scope word p) = on_stuck m (Var scope word No) p Overlong (λ x r o. refl) (λ f c. refl)
 overlong_stuck m (Calling f c) = refl
+overlong_stuck m (Behind f v c) = refl
 overlong_stuck m (Held x r o) = refl
 overlong_stuck m (Got v) = refl
 
@@ -213,10 +240,12 @@ plain_easy m (Sought p) (Constant v) h = tt
 plain_easy m (Sought p) (Name w) h = tt
 plain_easy m (Marked p) (Constant v) h = tt
 plain_easy m (Marked p) (Name w) h = tt
-plain_easy m (Named scope word p) (Constant v) h = easy_as (step m (Named scope word p) (Constant v)) Stuck (on_stuck m (Var scope word No) p (Constant v) (λ x r o. refl)) tt
-plain_easy m (Named scope word p) (Name w) h = easy_as (step m (Named scope word p) (Name w)) Stuck (on_stuck m (Var scope word No) p (Name w) (λ x r o. refl)) tt
+plain_easy m (Named scope word p) (Constant v) h = easy_as (step m (Named scope word p) (Constant v)) Stuck (on_stuck m (Var scope word No) p (Constant v) (λ x r o. refl) (λ f c. refl)) tt
+plain_easy m (Named scope word p) (Name w) h = easy_as (step m (Named scope word p) (Name w)) Stuck (on_stuck m (Var scope word No) p (Name w) (λ x r o. refl) (λ f c. refl)) tt
 plain_easy m (Held x r o) (Constant v) h = tt
 plain_easy m (Held x r o) (Name w) h = tt
+plain_easy m (Behind f u c) (Constant v) h = tt
+plain_easy m (Behind f u c) (Name w) h = tt
 plain_easy m (Calling f c) (Constant v) h = tt
 plain_easy m (Calling f c) (Name w) h = tt
 plain_easy m (Got v) k h = tt
@@ -248,11 +277,22 @@ held_level : (m : Limits) (x : Operand) (r : Tails) (o : Outer) → IsNoLevel (h
 held_level m x r Alone = tt
 held_level m x r (InGroup c) = tt
 held_level m x r (InList u es) = level_comma _ (nat_lt (count es + 1) (most_of m u)) (is_limited u)
+held_level m x r (InOther f v c) = tt
 held_level m x r (InCondition ps c) = tt
 held_level m x r (InChoice ps a c) = tt
 
+level_another : (s : State) (b d : Bool) → IsNoLevel (cond b (cond d (Go s) Stuck) Stuck)
+level_another s true d = level_close s d
+level_another s false d = tt
+
+behind_level : (f : NameFunction) (v : Variable) (c : Within) (k : Symbol) → IsNoLevel (behind f v c k)
+behind_level f v c (Mark Close) = level_close _ (suffices f v)
+behind_level f v c (Mark Comma) = level_another _ (suffices f v) (nat_lt 0 (most_others f))
+behind_level f v c k = tt
+
 on_level : (m : Limits) (s : State) → IsNoLevel (on m s (Mark Comma))
 on_level m (Held x r o) = held_level m x r o
+on_level m (Behind f v c) = behind_level f v c (Mark Comma)
 on_level m (Wanted c) = tt
 on_level m (Sought p) = tt
 on_level m (Marked p) = tt
@@ -266,6 +306,7 @@ comma_level m (Sought p) = tt
 comma_level m (Marked p) = level_full (is_full_in m p)
 comma_level m (Named scope word p) = on_level m (placed (Var scope word No) p)
 comma_level m (Calling f c) = tt
+comma_level m (Behind f v c) = behind_level f v c (Mark Comma)
 comma_level m (Held x r o) = held_level m x r o
 comma_level m (Got v) = tt
 
@@ -289,6 +330,7 @@ held_full : (m : Limits) (x : Operand) (r : Tails) (o : Outer) → hold m x r o 
 held_full m x r Alone e = absurd (stuck_long e)
 held_full m x r (InGroup c) e = absurd (stuck_long e)
 held_full m x r (InList u es) e = full_as _ (nat_lt (count es + 1) (most_of m u)) (is_limited u) e
+held_full m x r (InOther f v c) e = absurd (stuck_long e)
 held_full m x r (InCondition ps c) e = absurd (stuck_long e)
 held_full m x r (InChoice ps a c) e = absurd (go_long _ e)
 
@@ -298,6 +340,14 @@ filled_full m x c e = let f = filled_outer x c in held_full m f.0 f.1 (outer_of 
 on_full : (m : Limits) (v : Variable) (c : Within) → on m (placed v (AsOperand c)) (Mark Comma) ≡ Long → is_full m (outer_of c) ≡ true
 on_full m v c e = let f = filled_outer (Value v) c in held_full m f.0 f.1 (outer_of c) (sym (ap (λ (s : State). on m s (Mark Comma)) f.2) ∙ e)
 
+another_long : (s : State) (b d : Bool) → cond b (cond d (Go s) Stuck) Stuck ≡ Long → ⊥
+another_long s true true e = go_long s e
+another_long s true false e = stuck_long e
+another_long s false d e = stuck_long e
+
+behind_long : (f : NameFunction) (v : Variable) (c : Within) → behind f v c (Mark Comma) ≡ Long → ⊥
+behind_long f v c e = another_long _ (suffices f v) (nat_lt 0 (most_others f)) e
+
 after_as : (m : Limits) (s : State) (n : Next) → n ≡ Stuck → CommaAfter m s n
 after_as m s n e = let P : Next → Type 0 = λ x. CommaAfter m s x in subst P (sym e) tt
 
@@ -306,14 +356,19 @@ comma_after m (Wanted c) (Constant v) i h = λ e. ap (λ (b : Bool). cond b Long
 comma_after m (Wanted c) (Name w) i h = λ e. ap (λ (b : Bool). cond b Long Stuck) (on_full m (Var Local w No) c e)
 comma_after m (Sought AsTarget) (Constant v) i h = tt
 comma_after m (Sought AsTarget) (Name w) i h = λ e. absurd (stuck_long e)
+comma_after m (Sought (AsNamed f c)) (Constant v) i h = tt
+comma_after m (Sought (AsNamed f c)) (Name w) i h = λ e. absurd (behind_long f (Var Local w No) c e)
 comma_after m (Sought (AsOperand c)) k i h = absurd i
 comma_after m (Marked p) (Constant v) i h = tt
 comma_after m (Marked (AsOperand c)) (Name w) i h = λ e. ap (λ (b : Bool). cond b Long Stuck) (on_full m (Var Global w No) c e)
+comma_after m (Marked (AsNamed f c)) (Name w) i h = λ e. absurd (behind_long f (Var Global w No) c e)
 comma_after m (Marked AsTarget) (Name w) i h = λ e. absurd (stuck_long e)
-comma_after m (Named scope word p) (Constant v) i h = after_as m (Named scope word p) (step m (Named scope word p) (Constant v)) (on_stuck m (Var scope word No) p (Constant v) (λ x r o. refl))
-comma_after m (Named scope word p) (Name w) i h = after_as m (Named scope word p) (step m (Named scope word p) (Name w)) (on_stuck m (Var scope word No) p (Name w) (λ x r o. refl))
+comma_after m (Named scope word p) (Constant v) i h = after_as m (Named scope word p) (step m (Named scope word p) (Constant v)) (on_stuck m (Var scope word No) p (Constant v) (λ x r o. refl) (λ f c. refl))
+comma_after m (Named scope word p) (Name w) i h = after_as m (Named scope word p) (step m (Named scope word p) (Name w)) (on_stuck m (Var scope word No) p (Name w) (λ x r o. refl) (λ f c. refl))
 comma_after m (Held x r o) (Constant v) i h = tt
 comma_after m (Held x r o) (Name w) i h = tt
+comma_after m (Behind f u c) (Constant v) i h = tt
+comma_after m (Behind f u c) (Name w) i h = tt
 comma_after m (Calling f c) (Constant v) i h = tt
 comma_after m (Calling f c) (Name w) i h = tt
 comma_after m (Got v) k i h = tt
@@ -332,6 +387,10 @@ DeepBy at m n = Unit {0}
 deep_opens : (m : Limits) (d : ℕ) (s : State) (b : Bool) → nat_lt d m.depth ≡ b → DeepBy (λ l. opens l d s) m (cond b (Go s) Deep)
 deep_opens m d s true e = tt
 deep_opens m d s false e = λ l i. ap (λ (n : ℕ). cond (nat_lt d n) (Go s) Deep) i ∙ ap (λ (b : Bool). cond b (Go s) Deep) e
+
+deep_call : (m : Limits) (f : Callee) (c : Within) (b : Bool) → nat_le (depth_of c + levels f) m.depth ≡ b → DeepBy (λ l. opens_call l f c) m (cond b (Go (Calling f c)) Deep)
+deep_call m f c true e = tt
+deep_call m f c false e = λ l i. ap (λ (n : ℕ). cond (nat_le (depth_of c + levels f) n) (Go (Calling f c)) Deep) i ∙ ap (λ (b : Bool). cond b (Go (Calling f c)) Deep) e
 
 no_deep : (at : Limits → Next) (m : Limits) (n : Next) → IsNoLevel n → DeepBy at m n
 no_deep at m (Go s) h = tt
@@ -352,16 +411,19 @@ held_close_level : (m : Limits) (e : Expr) (o : Outer) (s : Sign) → IsNoLevel 
 held_close_level m e Alone Close = tt
 held_close_level m e (InGroup c) Close = tt
 held_close_level m e (InList u es) Close = level_close _ (nat_le (least_of u) (count es + 1))
+held_close_level m e (InOther f v c) Close = tt
 held_close_level m e (InCondition ps c) Close = tt
 held_close_level m e (InChoice ps a c) Close = tt
 held_close_level m e Alone Colon = tt
 held_close_level m e (InGroup c) Colon = tt
 held_close_level m e (InList u es) Colon = tt
+held_close_level m e (InOther f v c) Colon = tt
 held_close_level m e (InCondition ps c) Colon = tt
 held_close_level m e (InChoice ps a c) Colon = tt
 held_close_level m e Alone Comma = tt
 held_close_level m e (InGroup c) Comma = tt
 held_close_level m e (InList u es) Comma = level_comma _ (nat_lt (count es + 1) (most_of m u)) (is_limited u)
+held_close_level m e (InOther f v c) Comma = tt
 held_close_level m e (InCondition ps c) Comma = tt
 held_close_level m e (InChoice ps a c) Comma = tt
 held_close_level m e o s = tt
@@ -380,6 +442,7 @@ hold_level m x r o Other = tt
 
 on_any_level : (m : Limits) (s : State) (k : Symbol) → IsNoLevel (on m s k)
 on_any_level m (Held x r o) k = hold_level m x r o k
+on_any_level m (Behind f v c) k = behind_level f v c k
 on_any_level m (Wanted c) k = tt
 on_any_level m (Sought p) k = tt
 on_any_level m (Marked p) k = tt
@@ -391,7 +454,7 @@ pub step_deep : (m : Limits) (s : State) (k : Symbol) → DeepBy (λ l. step l s
 step_deep m (Wanted c) (Mark s) = deep_sign m c s (unary_of s)
 step_deep m (Wanted c) (Constant v) = tt
 step_deep m (Wanted c) (Name w) = tt
-step_deep m (Wanted c) (Applied f) = deep_opens m _ _ (nat_lt _ m.depth) refl
+step_deep m (Wanted c) (Applied f) = deep_call m f c (nat_le (depth_of c + levels f) m.depth) refl
 step_deep m (Wanted c) Overlong = tt
 step_deep m (Wanted c) Other = tt
 step_deep m (Sought p) (Name w) = tt
@@ -404,5 +467,6 @@ step_deep m (Named scope word p) (Mark Open) = deep_opens m _ _ (nat_lt _ m.dept
 step_deep m (Named scope word p) k = no_deep _ m _ (on_any_level m (placed (Var scope word No) p) k)
 step_deep m (Calling f c) (Mark Open) = tt
 step_deep m (Calling f c) k = tt
+step_deep m (Behind f v c) k = no_deep _ m _ (behind_level f v c k)
 step_deep m (Held x r o) k = no_deep _ m _ (hold_level m x r o k)
 step_deep m (Got v) k = tt

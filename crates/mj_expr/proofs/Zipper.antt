@@ -8,10 +8,13 @@ use Rattle.mj_oper.specs.declared.op.Op.{Op}
 use Rattle.mj_num.specs.Number.{canonic_text}
 use Rattle.mj_ast.specs.declared.function.Function.{Function}
 use Rattle.mj_ast.specs.declared.function.Function.TheVariants.{Ascii, Char, Extract, Find, Justify, Length, Piece, QLength, QSubscript, Reverse, Translate}
+use Rattle.mj_ast.specs.declared.function.NameFunction.{NameFunction}
+use Rattle.mj_ast.specs.declared.function.NameFunction.TheVariants as names
+use Rattle.mj_ast.specs.declared.function.Callee.{Callee}
 use Rattle.mj_ast.specs.declared.function.Callee.TheVariants as callee
-use Rattle.mj_ast.specs.Syntax.{Expr, Chain, Tails, Done, Then, Operand, Literal, Value, Unary, Group, Call, Select, Variable, Var, Exprs, No, More, Choices, Last}
-use Rattle.mj_ast.specs.Expressions.{Symbol, Constant, Name, Applied, Mark, scoped, unary_sign, binary_sign, expr_symbols, tails_symbols, operand_symbols, variable_symbols, list_symbols, more_symbols, choices_symbols, count, least, most, expr_nesting, tails_nesting, operand_nesting, variable_nesting, list_nesting, exprs_nesting, choices_nesting, expr_width, tails_width, operand_width, variable_width, exprs_width, choices_width, expr_misfits, tails_misfits, operand_misfits, variable_misfits, exprs_misfits, choices_misfits}
-use Rattle.mj_expr.specs.Machine.{Outer, Alone, InGroup, InList, InCondition, InChoice, Owner, Subscripts, Arguments, Within, Front, Right, Under, Place, AsOperand, AsTarget, Pairs, NoPairs, Pair, and_pair, before_choices, State, Wanted, Sought, Marked, Named, Calling, Held, Got, Limits, Phrase, Whole, Target, and_then, and_more, filled, placed, closed, outer_depth, owner_depth, depth_of, place_depth, least_of, most_of}
+use Rattle.mj_ast.specs.Syntax.{Expr, Chain, Tails, Done, Then, Operand, Literal, Value, Unary, Group, Call, About, Select, Variable, Var, Exprs, No, More, Choices, Last}
+use Rattle.mj_ast.specs.Expressions.{Symbol, Constant, Name, Applied, Mark, scoped, unary_sign, binary_sign, expr_symbols, tails_symbols, operand_symbols, variable_symbols, list_symbols, more_symbols, choices_symbols, count, subscript_count, least, most, least_subscripts, most_others, levels, expr_nesting, tails_nesting, operand_nesting, variable_nesting, list_nesting, exprs_nesting, choices_nesting, expr_width, tails_width, operand_width, variable_width, exprs_width, choices_width, expr_misfits, tails_misfits, operand_misfits, variable_misfits, exprs_misfits, choices_misfits}
+use Rattle.mj_expr.specs.Machine.{Outer, Alone, InGroup, InList, InOther, InCondition, InChoice, Owner, Subscripts, Arguments, Within, Front, Right, Under, Place, AsOperand, AsNamed, AsTarget, Pairs, NoPairs, Pair, and_pair, before_choices, State, Wanted, Sought, Marked, Named, Calling, Behind, Held, Got, Limits, Phrase, Whole, Target, and_then, and_more, filled, placed, closed, outer_depth, owner_depth, depth_of, place_depth, least_of, most_of}
 
 -- ---- spelling of what grows at its end
 
@@ -196,6 +199,10 @@ pub pad_width : (n : ℕ) → exprs_width (pad n) ≡ 0
 pad_width zero = refl
 pad_width (suc n) = let h = pad_width n in omega arith
 
+pub pad_list : (n : ℕ) → list_nesting (pad n) ≤ n
+pad_list zero = omega arith
+pad_list (suc n) = let h = pad_nesting n in omega arith
+
 pub pad_misfits : (n : ℕ) → exprs_misfits (pad n) ≡ 0
 pad_misfits zero = refl
 pad_misfits (suc n) = let h = pad_misfits n in omega arith
@@ -231,6 +238,43 @@ least_most Translate = omega arith
 pub owner_least : (m : Limits) (w : Owner) → least_of w ≤ most_of m w
 owner_least m (Subscripts scope word p) = omega arith
 owner_least m (Arguments f c) = least_most f
+
+-- ---- how many subscripts and other arguments functions of variables take
+
+pub subscripts_few : (f : NameFunction) → least_subscripts f ≤ 1
+subscripts_few names.Data = omega arith
+subscripts_few names.Get = omega arith
+subscripts_few names.Name = omega arith
+subscripts_few names.Order = omega arith
+subscripts_few names.Query = omega arith
+
+pub others_few : (f : NameFunction) → most_others f ≤ 1
+others_few names.Data = omega arith
+others_few names.Get = omega arith
+others_few names.Name = omega arith
+others_few names.Order = omega arith
+others_few names.Query = omega arith
+
+pub levels_some : (f : Callee) → 1 ≤ levels f
+levels_some (callee.Texts f) = omega arith
+levels_some (callee.Names f) = omega arith
+levels_some callee.Select = omega arith
+
+pub levels_few : (f : Callee) → levels f ≤ 2
+levels_few (callee.Texts f) = omega arith
+levels_few (callee.Names f) = omega (arith, subscripts_few f)
+levels_few callee.Select = omega arith
+
+-- how many subscripts a variable has at least
+abbrev pub least_at : Place → ℕ
+least_at (AsOperand c) = 0
+least_at (AsNamed f c) = least_subscripts f
+least_at AsTarget = 0
+
+pub least_at_few : (p : Place) → least_at p ≤ 1
+least_at_few (AsOperand c) = omega arith
+least_at_few (AsNamed f c) = subscripts_few f
+least_at_few AsTarget = omega arith
 
 -- ---- kinds of phrases
 
@@ -278,6 +322,7 @@ abbrev mutual
   outer_before Alone = []
   outer_before (InGroup c) = before c ++ Mark Open ∷ []
   outer_before (InList w es) = owner_before w ++ Mark Open ∷ listed es
+  outer_before (InOther f v c) = before c ++ Applied (callee.Names f) ∷ Mark Open ∷ (variable_symbols v ++ Mark Comma ∷ [])
   outer_before (InCondition ps c) = before c ++ Applied callee.Select ∷ Mark Open ∷ pairs_symbols ps
   outer_before (InChoice ps e c) = before c ++ Applied callee.Select ∷ Mark Open ∷ (pairs_symbols ps ++ (expr_symbols e ++ Mark Colon ∷ []))
 
@@ -292,6 +337,7 @@ abbrev mutual
 
   pub place_before : Place → List Symbol
   place_before (AsOperand c) = before c
+  place_before (AsNamed f c) = before c ++ Applied (callee.Names f) ∷ Mark Open ∷ []
   place_before AsTarget = []
 
 abbrev mutual
@@ -299,6 +345,7 @@ abbrev mutual
   outer_after Alone = []
   outer_after (InGroup c) = Mark Close ∷ after c
   outer_after (InList w es) = more_symbols (pad (least_of w - (count es + 1))) ++ owner_after w
+  outer_after (InOther f v c) = Mark Close ∷ after c
   outer_after (InCondition ps c) = Mark Colon ∷ Constant zero_text ∷ Mark Close ∷ after c
   outer_after (InChoice ps e c) = Mark Close ∷ after c
 
@@ -313,6 +360,7 @@ abbrev mutual
 
   pub place_after : Place → List Symbol
   place_after (AsOperand c) = after c
+  place_after (AsNamed f c) = Mark Close ∷ after c
   place_after AsTarget = []
 
 abbrev mutual
@@ -320,6 +368,7 @@ abbrev mutual
   outer_plug Alone e = Whole e
   outer_plug (InGroup c) e = plug c (Group e)
   outer_plug (InList w es) e = owner_plug w (joined (and_more es e) (pad (least_of w - (count es + 1))))
+  outer_plug (InOther f v c) e = plug c (About f v (More e No))
   outer_plug (InCondition ps c) e = plug c (Select (before_choices ps (Last e zero_expr)))
   outer_plug (InChoice ps a c) e = plug c (Select (before_choices ps (Last a e)))
 
@@ -334,6 +383,7 @@ abbrev mutual
 
   pub place_plug : Place → Variable → Phrase
   place_plug (AsOperand c) v = plug c (Value v)
+  place_plug (AsNamed f c) v = plug c (About f v No)
   place_plug AsTarget v = Target v
 
 mutual
@@ -345,6 +395,7 @@ mutual
       owner_plug_symbols w (joined (and_more es e) r)
       ∙ ap (λ (ks : List Symbol). owner_before w ++ (ks ++ owner_after w)) (list_symbols-joined es e r)
       ∙ simp append_assoc
+  outer_plug_symbols (InOther f v c) e = plug_symbols c (About f v (More e No)) ∙ simp append_assoc
   outer_plug_symbols (InCondition ps c) e =
       plug_symbols c (Select (before_choices ps (Last e zero_expr)))
       ∙ ap (λ (ks : List Symbol). before c ++ (Applied callee.Select ∷ Mark Open ∷ (ks ++ after c))) (choices_symbols-before ps (Last e zero_expr))
@@ -371,6 +422,7 @@ mutual
 
   pub place_plug_symbols : (p : Place) (v : Variable) → phrase_symbols (place_plug p v) ≡ place_before p ++ (variable_symbols v ++ place_after p)
   place_plug_symbols (AsOperand c) v = plug_symbols c (Value v)
+  place_plug_symbols (AsNamed f c) v = plug_symbols c (About f v No) ∙ simp append_assoc
   place_plug_symbols AsTarget v = sym (append-nil (variable_symbols v))
 
 -- ---- within the limits
@@ -380,6 +432,9 @@ abbrev mutual
   OuterGood K m Alone = ForExpression K
   OuterGood K m (InGroup c) = Good K m c × (depth_of c + 1 ≤ m.depth)
   OuterGood K m (InList w es) = OwnerGood K m w × (owner_depth w + 1 ≤ m.depth) × (exprs_nesting es + owner_depth w + 1 ≤ m.depth) × (exprs_width es ≤ m.width) × (count es + 1 ≤ most_of m w) × (exprs_misfits es ≡ 0)
+  OuterGood K m (InOther f v c) =
+      Good K m c × (depth_of c + 1 ≤ m.depth) × (variable_nesting v + depth_of c + 1 ≤ m.depth) × (variable_width v ≤ m.width) × (variable_misfits v ≡ 0)
+      × (least_subscripts f ≤ subscript_count v) × (1 ≤ most_others f)
   OuterGood K m (InCondition ps c) = Good K m c × (depth_of c + 1 ≤ m.depth) × (pairs_nesting ps + depth_of c + 1 ≤ m.depth) × (pairs_width ps ≤ m.width) × (pairs_misfits ps ≡ 0)
   OuterGood K m (InChoice ps a c) =
       Good K m c × (depth_of c + 1 ≤ m.depth) × (pairs_nesting ps + depth_of c + 1 ≤ m.depth) × (pairs_width ps ≤ m.width) × (pairs_misfits ps ≡ 0)
@@ -396,12 +451,14 @@ abbrev mutual
 
   pub PlaceGood : Kind → Limits → Place → Type 0
   PlaceGood K m (AsOperand c) = Good K m c
+  PlaceGood K m (AsNamed f c) = Good K m c × (depth_of c + least_subscripts f + 1 ≤ m.depth) × (least_subscripts f ≤ m.width)
   PlaceGood K m AsTarget = ForVariable K
 
 pub good_depth : (K : Kind) (m : Limits) (c : Within) → Good K m c → depth_of c ≤ m.depth
 good_depth K m (Front Alone) g = omega arith
 good_depth K m (Front (InGroup c)) g = g.1
 good_depth K m (Front (InList w es)) g = g.1
+good_depth K m (Front (InOther f v c)) g = g.1
 good_depth K m (Front (InCondition ps c)) g = g.1
 good_depth K m (Front (InChoice ps a c)) g = g.1
 good_depth K m (Right first rest op o) g = omega (arith, g.1)
@@ -412,7 +469,19 @@ outer_good_depth K m o g = good_depth K m (Front o) g
 
 pub place_good_depth : (K : Kind) (m : Limits) (p : Place) → PlaceGood K m p → place_depth p ≤ m.depth
 place_good_depth K m (AsOperand c) g = good_depth K m c g
+place_good_depth K m (AsNamed f c) g = omega (arith, g.1)
 place_good_depth K m AsTarget g = omega arith
+
+-- there is room for the subscripts that a variable needs
+pub place_good_room : (K : Kind) (m : Limits) (p : Place) → PlaceGood K m p → least_at p + place_depth p ≤ m.depth
+place_good_room K m (AsOperand c) g = omega (arith, good_depth K m c g)
+place_good_room K m (AsNamed f c) g = omega (arith, g.1)
+place_good_room K m AsTarget g = omega arith
+
+pub place_good_width : (K : Kind) (m : Limits) (p : Place) → PlaceGood K m p → least_at p ≤ m.width
+place_good_width K m (AsOperand c) g = omega arith
+place_good_width K m (AsNamed f c) g = g.2
+place_good_width K m AsTarget g = omega arith
 
 pub owner_good_depth : (K : Kind) (m : Limits) (w : Owner) → OwnerGood K m w → owner_depth w ≤ m.depth
 owner_good_depth K m (Subscripts scope word p) g = place_good_depth K m p g
@@ -446,7 +515,10 @@ mutual
       (omega (arith, exprs_width-joined (and_more es e) (pad k), exprs_width-more es e, pad_width k, g.3))
       (omega (arith, c, g.4, owner_least m u))
       (omega (arith, c))
+      (omega (arith, c))
       (omega (arith, exprs_misfits-joined (and_more es e) (pad k), exprs_misfits-more es e, pad_misfits k, g.5))
+  outer_plug_fits (InOther h v c) K m e g n w f =
+      plug_fits c K m (About h v (More e No)) g.0 (omega (arith, g.2)) (omega (arith, g.3)) (omega (arith, g.4, g.5, g.6))
   outer_plug_fits (InCondition ps c) K m e g n w f =
       plug_fits c K m (Select (before_choices ps (Last e zero_expr))) g.0
       (omega (arith, choices_nesting-before ps (Last e zero_expr), g.2))
@@ -458,9 +530,9 @@ mutual
       (omega (arith, choices_width-before ps (Last a e), g.3, g.6))
       (omega (arith, choices_misfits-before ps (Last a e), g.4, g.7))
 
-  pub owner_plug_fits : (u : Owner) (K : Kind) (m : Limits) (es : Exprs) → OwnerGood K m u → list_nesting es + owner_depth u ≤ m.depth → exprs_width es ≤ m.width → count es ≤ most_of m u → least_of u ≤ count es → exprs_misfits es ≡ 0 → Fits K m (owner_plug u es)
-  owner_plug_fits (Subscripts scope word p) K m es g n w c l f = place_plug_fits p K m (Var scope word es) g n (omega arith) f
-  owner_plug_fits (Arguments h c) K m es g n w b l f = plug_fits c K m (Call h es) g n w (omega arith)
+  pub owner_plug_fits : (u : Owner) (K : Kind) (m : Limits) (es : Exprs) → OwnerGood K m u → list_nesting es + owner_depth u ≤ m.depth → exprs_width es ≤ m.width → count es ≤ most_of m u → least_of u ≤ count es → 1 ≤ count es → exprs_misfits es ≡ 0 → Fits K m (owner_plug u es)
+  owner_plug_fits (Subscripts scope word p) K m es g n w c l s f = place_plug_fits p K m (Var scope word es) g n (omega arith) f (omega (arith, least_at_few p))
+  owner_plug_fits (Arguments h c) K m es g n w b l s f = plug_fits c K m (Call h es) g n w (omega arith)
 
   pub plug_fits : (c : Within) (K : Kind) (m : Limits) (x : Operand) → Good K m c → operand_nesting x + depth_of c ≤ m.depth → operand_width x ≤ m.width → operand_misfits x ≡ 0 → Fits K m (plug c x)
   plug_fits (Front o) K m x g n w f = outer_plug_fits o K m (Chain x Done) g (omega arith) (omega arith) (omega arith)
@@ -468,9 +540,10 @@ mutual
       outer_plug_fits o K m (Chain first (and_then rest op x)) g.0 (omega (arith, tails_nesting-then rest op x, g.1)) (omega (arith, tails_width-then rest op x, g.2)) (omega (arith, tails_misfits-then rest op x, g.3))
   plug_fits (Under op c) K m x g n w f = plug_fits c K m (Unary op x) g.0 (omega arith) w f
 
-  pub place_plug_fits : (p : Place) (K : Kind) (m : Limits) (v : Variable) → PlaceGood K m p → variable_nesting v + place_depth p ≤ m.depth → variable_width v ≤ m.width → variable_misfits v ≡ 0 → Fits K m (place_plug p v)
-  place_plug_fits (AsOperand c) K m v g n w f = plug_fits c K m (Value v) g n w f
-  place_plug_fits AsTarget K m v g n w f = target_fits K m v g (omega arith) w f
+  pub place_plug_fits : (p : Place) (K : Kind) (m : Limits) (v : Variable) → PlaceGood K m p → variable_nesting v + place_depth p ≤ m.depth → variable_width v ≤ m.width → variable_misfits v ≡ 0 → least_at p ≤ subscript_count v → Fits K m (place_plug p v)
+  place_plug_fits (AsOperand c) K m v g n w f s = plug_fits c K m (Value v) g n w f
+  place_plug_fits (AsNamed h c) K m v g n w f s = plug_fits c K m (About h v No) g.0 (omega arith) (omega arith) (omega (arith, s))
+  place_plug_fits AsTarget K m v g n w f s = target_fits K m v g (omega arith) w f
 
 -- ---- states
 
@@ -480,6 +553,7 @@ sofar (Sought p) = place_before p
 sofar (Marked p) = place_before p ++ Mark Caret ∷ []
 sofar (Named scope word p) = place_before p ++ scoped scope (Name word ∷ [])
 sofar (Calling callee c) = before c ++ Applied callee ∷ []
+sofar (Behind f v c) = place_before (AsNamed f c) ++ variable_symbols v
 sofar (Held first rest o) = outer_before o ++ expr_symbols (Chain first rest)
 sofar (Got v) = variable_symbols v
 
@@ -488,7 +562,8 @@ IsGood K m (Wanted c) = Good K m c
 IsGood K m (Sought p) = PlaceGood K m p
 IsGood K m (Marked p) = PlaceGood K m p
 IsGood K m (Named scope word p) = PlaceGood K m p
-IsGood K m (Calling callee c) = Good K m c × (depth_of c + 1 ≤ m.depth)
+IsGood K m (Calling callee c) = Good K m c × (depth_of c + levels callee ≤ m.depth) × (levels callee ≤ m.width + 1)
+IsGood K m (Behind f v c) = Good K m c × (variable_nesting v + depth_of c + 1 ≤ m.depth) × (variable_width v ≤ m.width) × (variable_misfits v ≡ 0) × (least_subscripts f ≤ subscript_count v)
 IsGood K m (Held first rest o) = OuterGood K m o × (expr_nesting (Chain first rest) + outer_depth o ≤ m.depth) × (expr_width (Chain first rest) ≤ m.width) × (expr_misfits (Chain first rest) ≡ 0)
 IsGood K m (Got v) = ForVariable K × (variable_nesting v ≤ m.depth) × (variable_width v ≤ m.width) × (variable_misfits v ≡ 0)
 
@@ -511,16 +586,17 @@ filled_read (Right first rest op o) K m x ks g n w f e = record {
 }
 filled_read (Under op c) K m x ks g n w f e = filled_read c K m (Unary op x) ks g.0 (omega arith) w f (sym (append_assoc (before c) (Mark (unary_sign op) ∷ []) (operand_symbols x)) ∙ e)
 
-pub placed_read : (p : Place) (K : Kind) (m : Limits) (v : Variable) (ks : List Symbol) → PlaceGood K m p → variable_nesting v + place_depth p ≤ m.depth → variable_width v ≤ m.width → variable_misfits v ≡ 0 →
+pub placed_read : (p : Place) (K : Kind) (m : Limits) (v : Variable) (ks : List Symbol) → PlaceGood K m p → variable_nesting v + place_depth p ≤ m.depth → variable_width v ≤ m.width → variable_misfits v ≡ 0 → least_at p ≤ subscript_count v →
     place_before p ++ variable_symbols v ≡ ks → HasRead K m (placed v p) ks
-placed_read (AsOperand c) K m v ks g n w f e = filled_read c K m (Value v) ks g n w f e
-placed_read AsTarget K m v ks g n w f e = record { good = (g, omega arith, w, f); read = e }
+placed_read (AsOperand c) K m v ks g n w f s e = filled_read c K m (Value v) ks g n w f e
+placed_read (AsNamed h c) K m v ks g n w f s e = record { good = (g.0, omega arith, w, f, s); read = e }
+placed_read AsTarget K m v ks g n w f s e = record { good = (g, omega arith, w, f); read = e }
 
-pub closed_read : (u : Owner) (K : Kind) (m : Limits) (es : Exprs) (ks : List Symbol) → OwnerGood K m u → list_nesting es + owner_depth u ≤ m.depth → exprs_width es ≤ m.width → count es ≤ most_of m u → least_of u ≤ count es → exprs_misfits es ≡ 0 →
+pub closed_read : (u : Owner) (K : Kind) (m : Limits) (es : Exprs) (ks : List Symbol) → OwnerGood K m u → list_nesting es + owner_depth u ≤ m.depth → exprs_width es ≤ m.width → count es ≤ most_of m u → least_of u ≤ count es → 1 ≤ count es → exprs_misfits es ≡ 0 →
     owner_before u ++ list_symbols es ≡ ks → HasRead K m (closed u es) ks
-closed_read (Subscripts scope word p) K m es ks g n w b l f e =
-    placed_read p K m (Var scope word es) ks g n (omega arith) f
+closed_read (Subscripts scope word p) K m es ks g n w b l s f e =
+    placed_read p K m (Var scope word es) ks g n (omega arith) f (omega (arith, least_at_few p))
     (ap (λ (zs : List Symbol). place_before p ++ zs) (sym (scoped-append scope (Name word ∷ []) (list_symbols es)))
     ∙ sym (append_assoc (place_before p) (scoped scope (Name word ∷ [])) (list_symbols es)) ∙ e)
-closed_read (Arguments h c) K m es ks g n w b l f e =
+closed_read (Arguments h c) K m es ks g n w b l s f e =
     filled_read c K m (Call h es) ks g n w (omega arith) (sym (append_assoc (before c) (Applied (callee.Texts h) ∷ []) (list_symbols es)) ∙ e)

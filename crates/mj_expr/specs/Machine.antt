@@ -10,10 +10,11 @@ use Rattle.mj_oper.specs.declared.op.Op.{Op}
 use Rattle.mj_oper.specs.declared.op.Op.TheVariants as binary
 use Rattle.mj_oper.specs.declared.op.TruthOp.TheVariants as truth
 use Rattle.mj_ast.specs.declared.function.Function.{Function}
+use Rattle.mj_ast.specs.declared.function.NameFunction.{NameFunction}
 use Rattle.mj_ast.specs.declared.function.Callee.{Callee}
 use Rattle.mj_ast.specs.declared.function.Callee.TheVariants as callee
-use Rattle.mj_ast.specs.Syntax.{Expr, Chain, Tails, Done, Then, Operand, Literal, Value, Unary, Group, Call, Select, Variable, Var, Exprs, No, More, Choices, Last, Before}
-use Rattle.mj_ast.specs.Expressions.{Symbol, Constant, Name, Applied, Overlong, Mark, count, least, most}
+use Rattle.mj_ast.specs.Syntax.{Expr, Chain, Tails, Done, Then, Operand, Literal, Value, Unary, Group, Call, About, Select, Variable, Var, Exprs, No, More, Choices, Last, Before}
+use Rattle.mj_ast.specs.Expressions.{Symbol, Constant, Name, Applied, Overlong, Mark, count, subscript_count, least, most, least_subscripts, most_others, levels}
 
 -- the unary operator of a sign
 abbrev pub unary_of : Sign → Option UnaryOp
@@ -70,12 +71,13 @@ before_choices (Pair a b rest) choices = Before a b (before_choices rest choices
 -- ---- what is open
 
 mutual
-  -- where an expression stands: alone, in parentheses, in a list behind those before it, as a condition of `$SELECT` behind
-  -- other choices, or as the value of a condition
+  -- where an expression stands: alone, in parentheses, in a list behind those before it, behind the variable of a function, as
+  -- a condition of `$SELECT` behind other choices, or as the value of a condition
   pub data Outer : Type 0 where
     Alone : Outer
     InGroup : (c : Within) → Outer
     InList : (w : Owner) (before : Exprs) → Outer
+    InOther : (f : NameFunction) (v : Variable) (c : Within) → Outer
     InCondition : (before : Pairs) (c : Within) → Outer
     InChoice : (before : Pairs) (condition : Expr) (c : Within) → Outer
 
@@ -90,9 +92,10 @@ mutual
     Right : (first : Operand) (rest : Tails) (op : Op) (o : Outer) → Within
     Under : (op : UnaryOp) (c : Within) → Within
 
-  -- where a variable stands: as an operand, or alone
+  -- where a variable stands: as an operand, as what a function is about, or alone
   pub data Place : Type 0 where
     AsOperand : (c : Within) → Place
+    AsNamed : (f : NameFunction) (c : Within) → Place
     AsTarget : Place
 
 -- how many levels are open there
@@ -101,6 +104,7 @@ abbrev mutual
   outer_depth Alone = 0
   outer_depth (InGroup c) = depth_of c + 1
   outer_depth (InList w before) = owner_depth w + 1
+  outer_depth (InOther f v c) = depth_of c + 1
   outer_depth (InCondition before c) = depth_of c + 1
   outer_depth (InChoice before condition c) = depth_of c + 1
 
@@ -115,6 +119,7 @@ abbrev mutual
 
   pub place_depth : Place → ℕ
   place_depth (AsOperand c) = depth_of c
+  place_depth (AsNamed f c) = depth_of c + 1
   place_depth AsTarget = 0
 
 -- the innermost expression that it stands in
@@ -136,6 +141,8 @@ pub data State : Type 0 where
   Named : (scope : Scope) (word : List ℕ) (p : Place) → State
   -- a function was read, behind which a `(` is wanted
   Calling : (callee : Callee) (c : Within) → State
+  -- the variable of a function was read
+  Behind : (f : NameFunction) (v : Variable) (c : Within) → State
   -- an expression was read, which may go on
   Held : (first : Operand) (rest : Tails) (o : Outer) → State
   -- a variable was read, and that is all
@@ -150,6 +157,7 @@ filled x (Under op c) = filled (Unary op x) c
 -- a variable was read
 abbrev pub placed : Variable → Place → State
 placed v (AsOperand c) = filled (Value v) c
+placed v (AsNamed f c) = Behind f v c
 placed v AsTarget = Got v
 
 -- a list was read
@@ -177,6 +185,10 @@ pub data Next : Type 0 where
 -- another level
 abbrev pub opens : Limits → ℕ → State → Next
 opens m depth s = if nat_lt depth m.depth then Go s else Deep
+
+-- the levels of a function
+abbrev pub opens_call : Limits → Callee → Within → Next
+opens_call m callee c = if nat_le (depth_of c + levels callee) m.depth then Go (Calling callee c) else Deep
 
 -- how many expressions a list has at least and at most
 abbrev pub least_of : Owner → ℕ
@@ -219,6 +231,7 @@ abbrev pub close : Expr → Outer → Next
 close e Alone = Stuck
 close e (InGroup c) = Go (filled (Group e) c)
 close e (InList w before) = if nat_le (least_of w) (count before + 1) then Go (closed w (and_more before e)) else Stuck
+close e (InOther f v c) = Go (filled (About f v (More e No)) c)
 close e (InCondition before c) = Stuck
 close e (InChoice before condition c) = Go (filled (Select (before_choices before (Last condition e))) c)
 
@@ -236,7 +249,7 @@ want_sign m c s None = want_other m c s
 abbrev pub want : Limits → Within → Symbol → Next
 want m c (Constant value) = Go (filled (Literal value) c)
 want m c (Name word) = Go (Named Local word (AsOperand c))
-want m c (Applied callee) = opens m (depth_of c) (Calling callee c)
+want m c (Applied callee) = opens_call m callee c
 want m c (Mark s) = want_sign m c s (unary_of s)
 want m c _ = Stuck
 
@@ -249,6 +262,7 @@ seek p _ = Stuck
 -- behind a `^`
 abbrev pub is_full_in : Limits → Place → Bool
 is_full_in m (AsOperand c) = is_full m (outer_of c)
+is_full_in m (AsNamed f c) = false
 is_full_in m AsTarget = false
 
 abbrev pub after_caret : Limits → Place → Symbol → Next
@@ -271,9 +285,20 @@ abbrev pub hold : Limits → Operand → Tails → Outer → Symbol → Next
 hold m x r o (Mark s) = hold_sign m x r o s (binary_of s)
 hold m x r o _ = Stuck
 
+-- the variable has subscripts enough
+abbrev pub suffices : NameFunction → Variable → Bool
+suffices f v = nat_le (least_subscripts f) (subscript_count v)
+
+-- behind the variable of a function
+abbrev pub behind : NameFunction → Variable → Within → Symbol → Next
+behind f v c (Mark Close) = if suffices f v then Go (filled (About f v No) c) else Stuck
+behind f v c (Mark Comma) = if suffices f v then (if nat_lt 0 (most_others f) then Go (Wanted (Front (InOther f v c))) else Stuck) else Stuck
+behind f v c _ = Stuck
+
 -- at a state behind an expression or a variable
 abbrev pub on : Limits → State → Symbol → Next
 on m (Held x r o) k = hold m x r o k
+on m (Behind f v c) k = behind f v c k
 on m _ k = Stuck
 
 abbrev pub after_name : Limits → Scope → List ℕ → Place → Symbol → Next
@@ -281,12 +306,13 @@ after_name m scope word p (Mark Open) = opens m (place_depth p) (Wanted (Front (
 after_name m scope word p k = on m (placed (Var scope word No) p) k
 
 -- behind a function
-abbrev pub inside : Callee → Within → Outer
-inside (callee.Texts f) c = InList (Arguments f c) No
-inside callee.Select c = InCondition NoPairs c
+abbrev pub inside : Callee → Within → State
+inside (callee.Texts f) c = Wanted (Front (InList (Arguments f c) No))
+inside (callee.Names f) c = Sought (AsNamed f c)
+inside callee.Select c = Wanted (Front (InCondition NoPairs c))
 
 abbrev pub after_function : Limits → Callee → Within → Symbol → Next
-after_function m callee c (Mark Open) = Go (Wanted (Front (inside callee c)))
+after_function m callee c (Mark Open) = Go (inside callee c)
 after_function m callee c _ = Stuck
 
 abbrev pub step : Limits → State → Symbol → Next
@@ -295,6 +321,7 @@ step m (Sought p) k = seek p k
 step m (Marked p) k = after_caret m p k
 step m (Named scope word p) k = after_name m scope word p k
 step m (Calling callee c) k = after_function m callee c k
+step m (Behind f v c) k = behind f v c k
 step m (Held x r o) k = hold m x r o k
 step m (Got v) k = Stuck
 

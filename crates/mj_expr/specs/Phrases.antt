@@ -3,7 +3,7 @@ use Rattle.std.specs.Prelude.{ℕ, ◌≡◌, ◌+◌, ◌<◌, ◌≤◌, List,
 use Rattle.mj_ast.specs.declared.sign.Sign.TheVariants.{Comma}
 use Rattle.mj_ast.specs.Tokens.{Token, Word, Called, Special, Signed}
 use Rattle.mj_ast.specs.Lines.{Filler}
-use Rattle.mj_ast.specs.Expressions.{Phrases, Spells, IsWithin, Begins, BeginsWithin, name_limit, width_limit}
+use Rattle.mj_ast.specs.Expressions.{Phrases, Spells, IsWithin, Begins, BeginsWithin, symbol, levels_of, name_limit, width_limit}
 use Rattle.mj_expr.specs.declared.stop.Stop.{Stop}
 use Rattle.mj_expr.specs.declared.stop.Stop.TheVariants.{Stuck, Deep, Long, Memory}
 
@@ -35,8 +35,8 @@ pub record IsStuck {T : Type 0} (P : Phrases T) (depth : ℕ) (ks : List Token) 
   pub at : (k : Token) (more : List Token) → rest ≡ k ∷ more → Begins P (front ++ k ∷ []) → ⊥
   pub short : (k : Token) (more : List Token) → rest ≡ k ∷ more → IsShort k
 
--- The tokens up to those that are left begin a phrase within the limits. With the next one they begin one that nests one
--- level deeper than is allowed, and none that nests less.
+-- The tokens up to those that are left begin a phrase within the limits. With the next one they begin one that nests deeper
+-- than is allowed by as many levels as open with it at least, and none that nests no deeper than is allowed.
 pub record IsDeep {T : Type 0} (P : Phrases T) (depth : ℕ) (ks : List Token) (left : ℕ) : Type 0 where
   pub front : List Token
   pub token : Token
@@ -44,7 +44,7 @@ pub record IsDeep {T : Type 0} (P : Phrases T) (depth : ℕ) (ks : List Token) (
   pub cut : ks ≡ front ++ token ∷ more
   pub place : length (token ∷ more) ≡ left
   pub before : BeginsWithin P depth width_limit front
-  pub at : BeginsWithin P (depth + 1) width_limit (front ++ token ∷ [])
+  pub at : BeginsWithin P (depth + levels_of (symbol token)) width_limit (front ++ token ∷ [])
   pub beyond : BeginsWithin P depth width_limit (front ++ token ∷ []) → ⊥
 
 -- With a comma behind them the tokens begin a phrase, but none whose lists of subscripts are short enough, however deep. It

@@ -4,10 +4,11 @@ use Rattle.mj_ast.specs.declared.sign.Sign.{Sign}
 use Rattle.mj_ast.specs.declared.sign.Sign.TheVariants.{Caret, Open, Close, Comma, Colon}
 use Rattle.mj_oper.specs.declared.op.UnaryOp.{UnaryOp}
 use Rattle.mj_oper.specs.declared.op.Op.{Op}
+use Rattle.mj_ast.specs.declared.function.NameFunction.{NameFunction}
 use Rattle.mj_ast.specs.declared.function.Callee.{Callee}
 use Rattle.mj_ast.specs.declared.function.Callee.TheVariants as callee
 use Rattle.mj_ast.specs.Tokens.{Token}
-use Rattle.mj_ast.specs.Expressions.{Symbol, Constant, Name, Applied, Overlong, Mark, Other, count}
+use Rattle.mj_ast.specs.Expressions.{Symbol, Constant, Name, Applied, Overlong, Mark, Other, count, least_subscripts, most_others}
 use Rattle.mj_lex.specs.declared.token.Lexeme.{Lexeme}
 use Rattle.mj_expr.specs.Machine as machine
 use Rattle.mj_expr.specs.Machine.{unary_of, binary_of, Phrase, Outcome, Accept, StuckAt, TooLong, refused}
@@ -42,6 +43,7 @@ abbrev mutual
   outer_shape machine.Alone = bare_shape around.Alone
   outer_shape (machine.InGroup c) = opened_in around.Group (shape_of c)
   outer_shape (machine.InList w before) = opened_in (around.List (kind_of w) (count before + 1)) (owner_shape w)
+  outer_shape (machine.InOther f v c) = opened_in around.Group (shape_of c)
   outer_shape (machine.InCondition before c) = opened_in around.Condition (shape_of c)
   outer_shape (machine.InChoice before condition c) = opened_in around.Choice (shape_of c)
 
@@ -56,6 +58,7 @@ abbrev mutual
 
   pub place_shape : machine.Place → Shape
   place_shape (machine.AsOperand c) = shape_of c
+  place_shape (machine.AsNamed f c) = opened_in (around.About f) (shape_of c)
   place_shape machine.AsTarget = bare_shape around.Target
 
 abbrev pub state_shape : machine.State → Shape
@@ -64,6 +67,7 @@ state_shape (machine.Sought p) = place_shape p
 state_shape (machine.Marked p) = place_shape p
 state_shape (machine.Named scope word p) = place_shape p
 state_shape (machine.Calling f c) = shape_of c
+state_shape (machine.Behind f v c) = opened_in (around.About f) (shape_of c)
 state_shape (machine.Held x r o) = outer_shape o
 state_shape (machine.Got v) = bare_shape around.Target
 
@@ -74,6 +78,7 @@ stage_of (machine.Sought p) = stage.Variable
 stage_of (machine.Marked p) = stage.Name
 stage_of (machine.Named scope word p) = stage.Subscripts
 stage_of (machine.Calling f c) = stage.Arguments f
+stage_of (machine.Behind f v c) = stage.Behind
 stage_of (machine.Held x r o) = stage.Behind
 stage_of (machine.Got v) = stage.Behind
 
@@ -93,12 +98,13 @@ abbrev pub stray_turn : Around → Turn
 stray_turn (around.List k n) = if limited_in k && not (nat_lt n (most_in k)) then turn.Long else turn.Stuck
 stray_turn a = turn.Stuck
 
--- behind an expression in what is open
+-- behind an expression in what is open, or behind the variable of a function
 abbrev pub comma_turn : Around → Turn
 comma_turn (around.List k n) =
     if nat_lt n (most_in k) then turn.Goes stage.Operand (around.List k (n + 1))
     else if limited_in k then turn.Long
     else turn.Stuck
+comma_turn (around.About f) = if nat_lt 0 (most_others f) then turn.Goes stage.Operand around.Group else turn.Stuck
 comma_turn around.Choice = turn.Goes stage.Operand around.Condition
 comma_turn a = turn.Stuck
 
@@ -106,6 +112,7 @@ abbrev pub close_turn : Around → Turn
 close_turn around.Group = turn.Closes
 close_turn (around.List k n) = if nat_le (least_in k) n then turn.Closes else turn.Stuck
 close_turn around.Choice = turn.Closes
+close_turn (around.About f) = turn.Closes
 close_turn a = turn.Stuck
 
 abbrev pub colon_turn : Around → Turn
@@ -118,9 +125,10 @@ other_turn a Comma = comma_turn a
 other_turn a Colon = colon_turn a
 other_turn a s = turn.Stuck
 
--- a binary operator goes on, but not behind a variable that is wanted alone
+-- a binary operator goes on, but not behind a variable that is wanted alone, or by a function
 abbrev pub joined_turn : Around → Turn
 joined_turn around.Target = turn.Stuck
+joined_turn (around.About f) = turn.Stuck
 joined_turn a = turn.Goes stage.Operand a
 
 abbrev pub behind_sign : Around → Sign → Option Op → Turn
@@ -134,7 +142,7 @@ behind_turn a k = turn.Stuck
 -- where an operand is wanted
 abbrev pub operand_other : Around → Sign → Turn
 operand_other a Caret = turn.Goes stage.Name a
-operand_other a Open = turn.Opens around.Group
+operand_other a Open = turn.Opens stage.Operand around.Group
 operand_other a Comma = stray_turn a
 operand_other a s = turn.Stuck
 
@@ -162,18 +170,27 @@ name_turn a (sort.Sign Comma) = stray_turn a
 name_turn a k = turn.Stuck
 
 -- behind a function
-abbrev pub inside : Callee → Around
-inside (callee.Texts f) = around.List (kind.Arguments f) 1
-inside callee.Select = around.Condition
+abbrev pub inside : Callee → Turn
+inside (callee.Texts f) = turn.Opens stage.Operand (around.List (kind.Arguments f) 1)
+inside (callee.Names f) = turn.Opens stage.Variable (around.About f)
+inside callee.Select = turn.Opens stage.Operand around.Condition
 
 abbrev pub arguments_turn : Callee → Sort → Turn
-arguments_turn f (sort.Sign Open) = turn.Opens (inside f)
+arguments_turn f (sort.Sign Open) = inside f
 arguments_turn f k = turn.Stuck
+
+-- a variable without subscripts goes on there
+abbrev pub bare_goes : Around → Bool
+bare_goes (around.About f) = nat_le (least_subscripts f) 0
+bare_goes a = true
+
+abbrev pub bare_turn : Around → Sort → Turn
+bare_turn a k = if bare_goes a then behind_turn a k else turn.Stuck
 
 -- behind a name
 abbrev pub subscripts_turn : Around → Sort → Turn
-subscripts_turn a (sort.Sign Open) = turn.Opens (around.List kind.Subscripts 1)
-subscripts_turn a k = behind_turn a k
+subscripts_turn a (sort.Sign Open) = turn.Opens stage.Operand (around.List kind.Subscripts 1)
+subscripts_turn a k = bare_turn a k
 
 abbrev pub turn_at : Stage → Around → Sort → Turn
 turn_at stage.Variable a k = variable_turn a k
@@ -219,7 +236,7 @@ closed (outer ∷ others) = To stage.Behind outer others
 -- what is open is innermost `a`, and then the others
 abbrev pub led : Around → List Around → Turn → Led
 led a others (turn.Goes s inner) = To s inner others
-led a others (turn.Opens inner) = To stage.Operand inner (a ∷ others)
+led a others (turn.Opens s inner) = To s inner (a ∷ others)
 led a others turn.Closes = closed others
 led a others turn.Stuck = Nowhere
 led a others turn.Long = Beyond

@@ -5,12 +5,15 @@ ghost use Rattle.mj_ast.specs.Expressions.{symbol, width_limit};
 ghost use Rattle.mj_ast.specs.Tokens.{Token as SpelledToken};
 ghost use Rattle.mj_expr.specs.Machine.{Limits, Whole, Target, Wanted, Sought, Front, AsTarget, Alone, unary_of, binary_of, run};
 ghost use Rattle.mj_expr.specs.Reads.{symbols_seen, BeginsNone};
-ghost use Rattle.mj_expr.specs.Shapes.{Ends, IsEndOf, PassesAs, sort_of as the_sort, stray_turn, comma_turn, close_turn, colon_turn, behind_turn, operand_turn, variable_turn, name_turn, arguments_turn, subscripts_turn, inside as the_inside, turn_at, may_end, is_last, ended as the_end, led as the_lead, IsLed, IsAdvanced, pass};
+ghost use Rattle.mj_expr.specs.Shapes.{Ends, IsEndOf, PassesAs, sort_of as the_sort, stray_turn, comma_turn, close_turn, colon_turn, behind_turn, bare_goes as the_bare, operand_turn, variable_turn, name_turn, arguments_turn, subscripts_turn, inside as the_inside, turn_at, may_end, is_last, ended as the_end, led as the_lead, IsLed, IsAdvanced, pass};
 ghost use Rattle.mj_lex.specs.Seen.{token_seen, tokens_seen};
 
 use crate::stop::Stop;
-use crate::token::{Head, ListKind, binary, head_of, is_limited, least, most, refusal, unary};
-use mj_ast::{Callee, Sign};
+use crate::token::{
+    Head, ListKind, binary, head_of, is_limited, least, least_subscripts, most, most_others,
+    refusal, unary,
+};
+use mj_ast::{Callee, NameFunction, Sign};
 use mj_lex::{Lexeme, Token, next};
 use std::alloc::{AllocError, Global};
 
@@ -25,6 +28,8 @@ pub(crate) enum Around {
     Group,
     /// a list, and how many expressions it has with the one that is read
     List(ListKind, usize),
+    /// a function, at its variable
+    About(NameFunction),
     /// `$SELECT`, in a condition
     Condition,
     /// `$SELECT`, in the value of a condition
@@ -63,8 +68,8 @@ pub(crate) enum Sort {
 pub(crate) enum Turn {
     /// leads to another place, where this is open instead
     Goes(Stage, Around),
-    /// opens this too, and an operand is wanted in it
-    Opens(Around),
+    /// opens this too, and leads to a place in it
+    Opens(Stage, Around),
     /// ends what is open
     Closes,
     Stuck,
@@ -117,13 +122,16 @@ fn stray(around: Around) -> Turn
                 Turn::Stuck
             }
         }
-        Around::Alone | Around::Target | Around::Group | Around::Condition | Around::Choice => {
-            Turn::Stuck
-        }
+        Around::Alone
+        | Around::Target
+        | Around::Group
+        | Around::About(_)
+        | Around::Condition
+        | Around::Choice => Turn::Stuck,
     }
 }
 
-/// A comma behind an expression.
+/// A comma behind an expression, or behind the variable of a function.
 fn comma(around: Around) -> Turn
     ensures { result ≡ comma_turn around }
 {
@@ -137,12 +145,19 @@ fn comma(around: Around) -> Turn
                 Turn::Stuck
             }
         }
+        Around::About(function) => {
+            if most_others(function) > 0 {
+                Turn::Goes(Stage::Operand, Around::Group)
+            } else {
+                Turn::Stuck
+            }
+        }
         Around::Choice => Turn::Goes(Stage::Operand, Around::Condition),
         Around::Alone | Around::Target | Around::Group | Around::Condition => Turn::Stuck,
     }
 }
 
-/// A closing parenthesis behind an expression.
+/// A closing parenthesis there.
 fn close(around: Around) -> Turn
     ensures { result ≡ close_turn around }
 {
@@ -154,7 +169,7 @@ fn close(around: Around) -> Turn
                 Turn::Stuck
             }
         }
-        Around::Group | Around::Choice => Turn::Closes,
+        Around::Group | Around::About(_) | Around::Choice => Turn::Closes,
         Around::Alone | Around::Target | Around::Condition => Turn::Stuck,
     }
 }
@@ -169,14 +184,14 @@ fn colon(around: Around) -> Turn
     }
 }
 
-/// Behind an operand. A variable that is wanted alone goes on with no operator.
+/// Behind an operand. A variable that is wanted alone or by a function goes on with no operator.
 fn behind(around: Around, sort: Sort) -> Turn
     ensures { result ≡ behind_turn around sort }
 {
     match sort {
         Sort::Sign(sign) => match binary(sign) {
             Some(_) => match around {
-                Around::Target => Turn::Stuck,
+                Around::Target | Around::About(_) => Turn::Stuck,
                 _ => Turn::Goes(Stage::Operand, around),
             },
             None => match sign {
@@ -202,7 +217,7 @@ fn operand(around: Around, sort: Sort) -> Turn
             Some(_) => Turn::Goes(Stage::Operand, around),
             None => match sign {
                 Sign::Caret => Turn::Goes(Stage::Name, around),
-                Sign::Open => Turn::Opens(Around::Group),
+                Sign::Open => Turn::Opens(Stage::Operand, Around::Group),
                 Sign::Comma => stray(around),
                 _ => Turn::Stuck,
             },
@@ -234,12 +249,16 @@ fn name(around: Around, sort: Sort) -> Turn
 }
 
 /// What opens behind a function.
-fn inside(callee: Callee) -> Around
+fn inside(callee: Callee) -> Turn
     ensures { result ≡ the_inside callee }
 {
     match callee {
-        Callee::Texts(function) => Around::List(ListKind::Arguments(function), 1),
-        Callee::Select => Around::Condition,
+        Callee::Texts(function) => Turn::Opens(
+            Stage::Operand,
+            Around::List(ListKind::Arguments(function), 1),
+        ),
+        Callee::Names(function) => Turn::Opens(Stage::Variable, Around::About(function)),
+        Callee::Select => Turn::Opens(Stage::Operand, Around::Condition),
     }
 }
 
@@ -248,8 +267,23 @@ fn arguments(callee: Callee, sort: Sort) -> Turn
     ensures { result ≡ arguments_turn callee sort }
 {
     match sort {
-        Sort::Sign(Sign::Open) => Turn::Opens(inside(callee)),
+        Sort::Sign(Sign::Open) => inside(callee),
         _ => Turn::Stuck,
+    }
+}
+
+/// Whether a variable without subscripts goes on there.
+fn bare_goes(around: Around) -> bool
+    ensures { result ≡ the_bare around }
+{
+    match around {
+        Around::About(function) => least_subscripts(function) == 0,
+        Around::Alone
+        | Around::Target
+        | Around::Group
+        | Around::List(_, _)
+        | Around::Condition
+        | Around::Choice => true,
     }
 }
 
@@ -258,8 +292,17 @@ fn subscripts(around: Around, sort: Sort) -> Turn
     ensures { result ≡ subscripts_turn around sort }
 {
     match sort {
-        Sort::Sign(Sign::Open) => Turn::Opens(Around::List(ListKind::Subscripts, 1)),
-        _ => behind(around, sort),
+        Sort::Sign(Sign::Open) => Turn::Opens(
+            Stage::Operand,
+            Around::List(ListKind::Subscripts, 1),
+        ),
+        _ => {
+            if bare_goes(around) {
+                behind(around, sort)
+            } else {
+                Turn::Stuck
+            }
+        }
     }
 }
 
@@ -310,9 +353,9 @@ fn led(
 {
     match turn {
         Turn::Goes(next, inner) => Ok(Some((next, inner))),
-        Turn::Opens(inner) => {
+        Turn::Opens(next, inner) => {
             others.push(around)?;
-            Ok(Some((Stage::Operand, inner)))
+            Ok(Some((next, inner)))
         }
         Turn::Closes => match others.pop() {
             Some(outer) => Ok(Some((Stage::Behind, outer))),
@@ -387,7 +430,7 @@ pub fn behind_expression<'a, 't>(
 ) -> Result<&'t [Lexeme<'a>], Stop>
     ensures shorter { IfOk result (λ x. length x.now ≤ length tokens.now) }
     ensures back { IfOk result (λ x. IsEndOf (tokens_seen tokens.now) (tokens_seen x.now)) }
-    ensures ends { (m : Limits) → m.width ≡ width_limit → length tokens.now ≤ m.depth → Ends Whole (λ x. x.now) result (run m (symbols_seen tokens.now) (Wanted (Front Alone))) }
+    ensures ends { (m : Limits) → m.width ≡ width_limit → length tokens.now < m.depth → Ends Whole (λ x. x.now) result (run m (symbols_seen tokens.now) (Wanted (Front Alone))) }
 {
     beyond(alloc, tokens, Stage::Operand, Around::Alone)
 }
@@ -399,7 +442,7 @@ pub fn behind_variable<'a, 't>(
 ) -> Result<&'t [Lexeme<'a>], Stop>
     ensures shorter { IfOk result (λ x. length x.now ≤ length tokens.now) }
     ensures back { IfOk result (λ x. IsEndOf (tokens_seen tokens.now) (tokens_seen x.now)) }
-    ensures ends { (m : Limits) → m.width ≡ width_limit → length tokens.now ≤ m.depth → Ends Target (λ x. x.now) result (run m (symbols_seen tokens.now) (Sought AsTarget)) }
+    ensures ends { (m : Limits) → m.width ≡ width_limit → length tokens.now < m.depth → Ends Target (λ x. x.now) result (run m (symbols_seen tokens.now) (Sought AsTarget)) }
 {
     beyond(alloc, tokens, Stage::Variable, Around::Target)
 }

@@ -1,18 +1,20 @@
 // The parts of expressions, each read from the front of the tokens.
 
-ghost use Rattle.std.specs.Prelude.{◌≡◌, ◌<◌, ◌≤◌, ◌+◌, ℕ, List, length, IfOk};
+ghost use Rattle.std.specs.Prelude.{◌≡◌, ◌<◌, ◌≤◌, ◌+◌, ℕ, List, false, length, IfOk};
 ghost use Rattle.mj_ast.specs.declared.expr.Scope.{Scope};
-ghost use Rattle.mj_ast.specs.Syntax.{No, Group, Select};
+ghost use Rattle.mj_ast.specs.declared.function.NameFunction.{NameFunction as NameFunctionOf};
+ghost use Rattle.mj_ast.specs.Syntax.{No, More, Group, About, Select, Variable as VariableOf};
 ghost use Rattle.mj_ast.specs.Trees.{operand_of, expr_of, variable_of, exprs_of, choice_of};
-ghost use Rattle.mj_expr.specs.Machine.{Outer, Owner, Within, Place, Pairs, AsTarget, Front, InGroup, InList, InCondition, Wanted, Sought, Marked, Named, Calling, Got, before_choices, filled, placed, closed, held, outer_depth, owner_depth, depth_of, place_depth, outer_of, is_full, is_full_in};
+ghost use Rattle.mj_expr.specs.Machine.{Outer, Owner, Within, Place, Pairs, AsNamed, Front, InGroup, InList, InOther, InCondition, Wanted, Sought, Marked, Named, Calling, before_choices, filled, placed, closed, held, outer_depth, owner_depth, depth_of, place_depth, outer_of, is_full, is_full_in};
 ghost use Rattle.mj_expr.specs.Reads.{symbols_seen, limits, Reads, HasNoBinary, kind_of};
 
 use crate::stop::Stop;
 use crate::token::{
     Head, ListKind, behind_binary, behind_caret, behind_close, behind_colon, behind_comma,
-    behind_name, behind_open, fills, head_of, is_limited, least, most, name_text, refusal, taken,
+    behind_name, behind_open, fills, head_of, is_limited, least, least_subscripts, levels, most,
+    most_others, name_text, refusal, taken,
 };
-use mj_ast::{Callee, Choice, Expr, Operand, Scope, Tail, Variable};
+use mj_ast::{Callee, Choice, Expr, NameFunction, Operand, Scope, Tail, Variable};
 use mj_lex::Lexeme;
 use std::alloc::Global;
 
@@ -38,7 +40,7 @@ fn operand<'a, 't>(
             Ok((Operand::Variable(variable), rest))
         }
         Head::Callee(callee) => {
-            if room == 0 {
+            if room < levels(callee) {
                 return Err(Stop::Deep(tokens.len()));
             }
             call(alloc, callee, rest, room - 1)
@@ -74,6 +76,7 @@ fn group<'a, 't>(
 ) -> Result<(Expr, &'t [Lexeme<'a>]), Stop>
     ensures shorter { IfOk result (λ x. length x.1.now < length tokens.now) }
     ensures reads { (c : Within) → (d : ℕ) → depth_of c + 1 + room ≡ d → Reads (λ x. expr_of x.0) (λ x. x.1.now) result d tokens.now (Wanted (Front (InGroup c))) (λ e. filled (Group e) c) }
+    ensures other { (f : NameFunctionOf) → (v : VariableOf) → (c : Within) → (d : ℕ) → depth_of c + 1 + room ≡ d → Reads (λ x. expr_of x.0) (λ x. x.1.now) result d tokens.now (Wanted (Front (InOther f v c))) (λ e. filled (About f v (More e No)) c) }
 {
     let (inner, rest) = expr(alloc, tokens, room, false)?;
     match behind_close(rest) {
@@ -101,11 +104,42 @@ fn call<'a, 't>(
             let (arguments, rest) = list(alloc, ListKind::Arguments(function), rest, room)?;
             Ok((Operand::Call(function, arguments), rest))
         }
+        Callee::Names(function) => about(alloc, function, rest, room),
         Callee::Select => {
             let (choice, rest) = choices(alloc, rest, room)?;
             Ok((Operand::Select(Box::new(alloc, choice)?), rest))
         }
     }
+}
+
+/// The call of a function of a variable behind the opening parenthesis, and the tokens behind the closing one.
+#[cycle(parse)]
+fn about<'a, 't>(
+    alloc: Global,
+    function: NameFunction,
+    tokens: &'t [Lexeme<'a>],
+    room: usize,
+) -> Result<(Operand, &'t [Lexeme<'a>]), Stop>
+    ensures shorter { IfOk result (λ x. length x.1.now < length tokens.now) }
+    ensures reads { (c : Within) → (d : ℕ) → depth_of c + 1 + room ≡ d → Reads (λ x. operand_of x.0) (λ x. x.1.now) result d tokens.now (Sought (AsNamed function c)) (λ x. filled x c) }
+{
+    let (variable, rest) = sought(alloc, tokens, room)?;
+    if variable.subscripts.len() < least_subscripts(function) {
+        return Err(refusal(rest, false));
+    }
+    if let Some(rest) = behind_close(rest) {
+        return Ok((Operand::About(function, variable, Vec::new(alloc)), rest));
+    }
+    if most_others(function) == 0 {
+        return Err(refusal(rest, false));
+    }
+    let Some(behind) = behind_comma(rest) else {
+        return Err(refusal(rest, false));
+    };
+    let (other, rest) = group(alloc, behind, room)?;
+    let mut others = Vec::new(alloc);
+    others.push(other)?;
+    Ok((Operand::About(function, variable, others), rest))
 }
 
 /// The choices of `$SELECT` behind the opening parenthesis, and the tokens behind the closing one.
@@ -260,13 +294,14 @@ fn list<'a, 't>(
 }
 
 /// The variable in front and the tokens behind it, where it can't go on.
+#[cycle(parse)]
 pub(crate) fn sought<'a, 't>(
     alloc: Global,
     tokens: &'t [Lexeme<'a>],
     room: usize,
 ) -> Result<(Variable, &'t [Lexeme<'a>]), Stop>
     ensures shorter { IfOk result (λ x. length x.1.now < length tokens.now) }
-    ensures reads { Reads (λ x. variable_of x.0) (λ x. x.1.now) result room tokens.now (Sought AsTarget) (λ v. Got v) }
+    ensures reads { (p : Place) → (d : ℕ) → place_depth p + room ≡ d → is_full_in (limits 0) p ≡ false → Reads (λ x. variable_of x.0) (λ x. x.1.now) result d tokens.now (Sought p) (λ v. placed v p) }
 {
     match behind_name(tokens) {
         Some((word, rest)) => named(alloc, Scope::Local, word, rest, room),

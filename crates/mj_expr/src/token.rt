@@ -3,7 +3,7 @@
 ghost use Rattle.std.specs.Prelude.{◌≡◌, ◌+◌, List, ◌∷◌, ◌<◌, ◌≤◌, [], length, nat_le, ◌&&◌, if◌then◌else◌, IfOk, MatchOption};
 ghost use Rattle.mj_expr.specs.declared.stop.Stop.TheVariants.{Stuck, Long};
 ghost use Rattle.std.specs.Str.{str_eq_ignore_ascii_case};
-ghost use Rattle.mj_ast.specs.Expressions.{Symbol, symbol, constant_of, Constant, Name, Mark, Other, callee_of, is_named, least as least_of_function, most as most_of_function};
+ghost use Rattle.mj_ast.specs.Expressions.{Symbol, symbol, constant_of, Constant, Name, Mark, Other, callee_of, is_named, least as least_of_function, most as most_of_function, least_subscripts as least_subscripts_of, most_others as most_others_of, levels as levels_of_callee};
 ghost use Rattle.mj_ast.specs.declared.sign.Sign.TheVariants.{Caret, Open, Close, Comma, Colon};
 ghost use Rattle.mj_expr.specs.Machine.{unary_of, binary_of, refused_in};
 ghost use Rattle.mj_expr.specs.Reads.{symbols_seen, Refuses, IsHead, StartsBinary, HasNoBinary, HasNoOpen, HasNoComma, HasNoColon, HasNoClose, HasNoCaret, HasNoName, least_in, most_in, limited_in};
@@ -11,7 +11,7 @@ ghost use Rattle.mj_num.specs.Number.{reading};
 ghost use Rattle.mj_lex.specs.Seen.{token_seen};
 
 use crate::stop::Stop;
-use mj_ast::{Callee, Function, Sign};
+use mj_ast::{Callee, Function, NameFunction, Sign};
 use mj_lex::{Lexeme, Token, next, unquoted};
 use mj_num::Num;
 use mj_oper::{Op, TruthOp, UnaryOp};
@@ -69,6 +69,36 @@ pub fn most(kind: ListKind) -> usize
     }
 }
 
+/// How many subscripts the variable of a function has at least.
+pub fn least_subscripts(function: NameFunction) -> usize
+    ensures { result ≡ least_subscripts_of function }
+{
+    match function {
+        NameFunction::Order => 1,
+        NameFunction::Data | NameFunction::Get | NameFunction::Name | NameFunction::Query => 0,
+    }
+}
+
+/// How many arguments stand behind the variable of a function at most.
+pub fn most_others(function: NameFunction) -> usize
+    ensures { result ≡ most_others_of function }
+{
+    match function {
+        NameFunction::Get | NameFunction::Order => 1,
+        NameFunction::Data | NameFunction::Name | NameFunction::Query => 0,
+    }
+}
+
+/// How many levels open with a function at least.
+pub(crate) fn levels(callee: Callee) -> usize
+    ensures { result ≡ levels_of_callee callee }
+{
+    match callee {
+        Callee::Names(function) => least_subscripts(function) + 1,
+        Callee::Texts(_) | Callee::Select => 1,
+    }
+}
+
 /// Whether one more than that is a list over its limit, and no mistake of grammar.
 pub(crate) fn is_limited(kind: ListKind) -> bool
     ensures { result ≡ limited_in kind }
@@ -102,20 +132,30 @@ pub fn callee(word: &[u8]) -> Option<Callee>
         Some(Callee::Texts(Function::Ascii))
     } else if is_word(word, b"CHAR", b"C") {
         Some(Callee::Texts(Function::Char))
+    } else if is_word(word, b"DATA", b"D") {
+        Some(Callee::Names(NameFunction::Data))
     } else if is_word(word, b"EXTRACT", b"E") {
         Some(Callee::Texts(Function::Extract))
     } else if is_word(word, b"FIND", b"F") {
         Some(Callee::Texts(Function::Find))
+    } else if is_word(word, b"GET", b"G") {
+        Some(Callee::Names(NameFunction::Get))
     } else if is_word(word, b"JUSTIFY", b"J") {
         Some(Callee::Texts(Function::Justify))
     } else if is_word(word, b"LENGTH", b"L") {
         Some(Callee::Texts(Function::Length))
+    } else if is_word(word, b"NAME", b"NA") {
+        Some(Callee::Names(NameFunction::Name))
+    } else if is_word(word, b"ORDER", b"O") {
+        Some(Callee::Names(NameFunction::Order))
     } else if is_word(word, b"PIECE", b"P") {
         Some(Callee::Texts(Function::Piece))
     } else if is_word(word, b"QLENGTH", b"QL") {
         Some(Callee::Texts(Function::QLength))
     } else if is_word(word, b"QSUBSCRIPT", b"QS") {
         Some(Callee::Texts(Function::QSubscript))
+    } else if is_word(word, b"QUERY", b"Q") {
+        Some(Callee::Names(NameFunction::Query))
     } else if is_word(word, b"REVERSE", b"RE") {
         Some(Callee::Texts(Function::Reverse))
     } else if is_word(word, b"SELECT", b"S") {

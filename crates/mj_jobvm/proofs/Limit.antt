@@ -15,12 +15,14 @@ use Rattle.mj_ask.specs.declared.ask.Ask.TheVariants as asks
 use Rattle.mj_ask.specs.declared.ask.Reply.{Reply}
 use Rattle.mj_ask.specs.declared.entry.Entry.{Entry}
 use Rattle.mj_oper.specs.Operators.{binary_value, unary_value, truth_value}
-use Rattle.mj_ast.specs.Syntax.{Expr, Chain, Tails, Done, Then, Operand, Literal, Value, Unary, Group, Call, Select, Variable, Var, Exprs, No, More as Another, Choices, Last, Before, Assignment, Output, Shown, Format, Command, Set, Write, Halt, Step, Line, Routine}
+use Rattle.mj_ast.specs.Syntax.{Expr, Chain, Tails, Done, Then, Operand, Literal, Value, Unary, Group, Call, About, Select, Variable, Var, Exprs, No, More as Another, Choices, Last, Before, Assignment, Output, Shown, Format, Command, Set, Write, Halt, Step, Line, Routine}
 use Rattle.mj_semantics.specs.State.{State, Locals, Place, accessed, counted, wrote, pushed, at_place}
-use Rattle.mj_semantics.specs.Functions.{call_value}
+use Rattle.mj_ast.specs.declared.function.NameFunction.{NameFunction}
+use Rattle.mj_semantics.specs.Functions.{call_value, optional}
+use Rattle.mj_semantics.specs.Names.{spelled, asks as asks_some, question, told}
 use Rattle.mj_semantics.specs.Outcome.{Needs, Handler, Timed, turn, look, change, asking, over, principal, halt, end, fault_bytes, fault, steps_limit, ask, tell, need, given}
 use Rattle.mj_semantics.specs.Accesses.{answer_told, answered, access, value_told}
-use Rattle.mj_semantics.specs.Evaluation.{ev, ev_tails, ev_operand, ev_choices, ev_name, ev_all, name_of, read, when}
+use Rattle.mj_semantics.specs.Evaluation.{ev, ev_tails, ev_operand, ev_choices, ev_name, ev_named, ev_all, name_of, named_for, read, about, when}
 use Rattle.mj_semantics.specs.Lines.{Here, place_at, next_line, line_before, line_at, entered}
 use Rattle.mj_semantics.specs.Points.{Ways, Point, AtLine, Called, Points}
 use Rattle.mj_semantics.specs.Commands.{store, assign, assign_all, write, mark_byte, output, output_all, obey, obey_all}
@@ -149,6 +151,12 @@ access_keeps x rest k =
 pub read_keeps : (x : Name) (rest : List ℕ → Timed) → ((v : List ℕ) → Keeps (rest v)) → Keeps (read x rest)
 read_keeps x rest k = access_keeps (accesses.Value x) _ (λ a. need_keeps faults.Undefined (value_told a) rest k)
 
+about_keeps : (f : NameFunction) (x : Name) (o : Option (List ℕ)) (rest : List ℕ → Timed) → ((v : List ℕ) → Keeps (rest v)) → Keeps (about f x o rest)
+about_keeps f x o rest k =
+    if_keeps (asks_some f) (given (question f x o) (λ a. access a (λ r. given (told f o r) rest))) (given (spelled x) rest)
+    (given_keeps (question f x o) _ (λ a. access_keeps a _ (λ r. given_keeps (told f o r) rest k)))
+    (given_keeps (spelled x) rest k)
+
 mutual
   pub ev_keeps : (e : Expr) (rest : List ℕ → Timed) → ((v : List ℕ) → Keeps (rest v)) → Keeps (ev e rest)
   ev_keeps (Chain x ts) rest k = operand_keeps x (λ v. ev_tails v ts rest) (λ v. tails_keep v ts rest k)
@@ -164,6 +172,7 @@ mutual
   operand_keeps (Unary op x) rest k = operand_keeps x _ (λ v. turn_keeps _ (given_keeps (unary_value op v) rest k))
   operand_keeps (Group e) rest k = ev_keeps e rest k
   operand_keeps (Call f es) rest k = all_keep es _ (λ vs. turn_keeps _ (given_keeps (call_value f vs) rest k))
+  operand_keeps (About f v es) rest k = named_keeps f v _ (λ x. all_keep es _ (λ vs. turn_keeps _ (about_keeps f x (optional 0 vs) rest k)))
   operand_keeps (Select choices) rest k = choices_keep choices rest k
 
   choices_keep : (x : Choices) (rest : List ℕ → Timed) → ((v : List ℕ) → Keeps (rest v)) → Keeps (ev_choices x rest)
@@ -176,6 +185,9 @@ mutual
 
   name_keeps : (v : Variable) (rest : Name → Timed) → ((x : Name) → Keeps (rest x)) → Keeps (ev_name v rest)
   name_keeps (Var scope word es) rest k = all_keep es _ (λ ss. turn_keeps _ (given_keeps (name_of scope word ss) rest k))
+
+  named_keeps : (f : NameFunction) (v : Variable) (rest : Name → Timed) → ((x : Name) → Keeps (rest x)) → Keeps (ev_named f v rest)
+  named_keeps f (Var scope word es) rest k = all_keep es _ (λ ss. turn_keeps _ (given_keeps (named_for f scope word ss) rest k))
 
   all_keep : (es : Exprs) (rest : List (List ℕ) → Timed) → ((vs : List (List ℕ)) → Keeps (rest vs)) → Keeps (ev_all es rest)
   all_keep No rest k = k []

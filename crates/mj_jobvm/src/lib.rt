@@ -7,6 +7,7 @@
 // `advance` tells (`specs/Told.antt`).
 #![tactic(auto)]
 
+mod about;
 mod asking;
 mod calls;
 mod changes;
@@ -25,6 +26,7 @@ mod pieces;
 mod quiet;
 mod stack;
 mod target;
+mod tellings;
 mod turn;
 mod values;
 mod variables;

@@ -7,6 +7,7 @@ ghost use Rattle.mj_jobvm.specs.Standing as standings;
 ghost use Rattle.mj_jobvm.specs.Kept.{standing, stack_of, Does, replied, target_at, told, left_of};
 ghost use Rattle.mj_jobvm.specs.Units.{unit_at, IsFit};
 
+use crate::about::{about, named};
 use crate::asking::principal;
 use crate::changes::{kill, store};
 use crate::control::Control;
@@ -46,6 +47,10 @@ pub fn obey(
         Instr::Unary(op) => apply_unary(alloc, pc, *op, machine),
         Instr::Binary(op) => apply_binary(alloc, pc, *op, machine),
         Instr::Call(function, count) => call(alloc, pc, *function, *count, machine),
+        Instr::Named(function, reference) => named(alloc, pc, *function, reference, machine),
+        Instr::About(function, reference, count) => about(
+            alloc, pc, *function, reference, *count, machine, given,
+        ),
         Instr::Check(reference) => check(alloc, pc, reference, machine),
         Instr::Store(reference, depth) => store(alloc, pc, reference, *depth, machine, given),
         Instr::Renew(reference, count, depth) => {

@@ -7,7 +7,7 @@ taken_on : (b : Bool) (x : ℕ) (xs ys : List ℕ) → take (length ys) xs ≡ y
 taken_on true x xs ys h = ap (λ (zs : List ℕ). x ∷ zs) h
 taken_on false x xs ys h = refl
 
-front_taken : (p : ℕ → Bool) (xs : List ℕ) → take (length (take_while p xs)) xs ≡ take_while p xs
+pub front_taken : (p : ℕ → Bool) (xs : List ℕ) → take (length (take_while p xs)) xs ≡ take_while p xs
 front_taken p [] = refl
 front_taken p (x ∷ xs) =
     let one = take_while-cons p x xs in

@@ -2,3 +2,4 @@ pub mod Quotes
 pub mod Tokenise
 mod Fronts
 mod Signs
+pub mod Longest

@@ -1,9 +1,11 @@
 -- How a run ends.
 use Rattle.std.proofs.Common.{◌≡◌, ℕ, List, [], ◌∷◌, ◌++◌, length, refl, ap, ◌∙◌, subst, Bool, true, false, nat_le, ◌⊎◌, inl, inr, Option, Some, None}
 use Rattle.std.specs.Prelude.{cond}
+use Rattle.mj_ast.specs.Expressions.{symbol}
 use Rattle.mj_ast.specs.Tokens.{Token, Word, Digits, Quoted, Signed, Blank, Comment, Unclosed, Stray, Called, Special}
 use Rattle.mj_expr.specs.Machine.{Limits}
 use Rattle.mj_expr.specs.Machine as phrase
+use Rattle.mj_ast.specs.Expressions.{symbol}
 use Rattle.mj_expr.proofs.Facts.{IsMore, deeper}
 use Rattle.mj_line.specs.Machine.{Rest, Spot, Begin, Behind, Over, Worded, Asked, Bare, Args, Goal, State, At, In, Next, Go, Stuck, Deep, Long, behind, rested, step, Outcome, Accept, StuckAt, DeepAt, TooLong, refused, ended, ended_at, ended_spot, ended_behind, run, turn}
 use Rattle.mj_line.proofs.Leaves.{Leads}
@@ -57,7 +59,7 @@ pub record Deepens (m : Limits) (s : State) (ks : List Token) (n : ℕ) : Type 0
   pub along : Along m s front end
   pub left : length (token ∷ back) ≡ n
   pub steps : step m end token ≡ Deep
-  pub opened : StateGood m end → (t : State) × Leads end (token ∷ []) t × StateGood (deeper m) t
+  pub opened : StateGood m end → (t : State) × Leads end (token ∷ []) t × StateGood (deeper (symbol token) m) t
 
 -- it goes along the front, and there stands a comma too many
 pub record Lengthens (m : Limits) (s : State) (ks : List Token) : Type 0 where

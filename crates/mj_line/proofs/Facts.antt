@@ -9,7 +9,7 @@ use Rattle.mj_ast.specs.declared.sign.Sign.TheVariants.{Comma, Caret, Open}
 use Rattle.mj_ast.specs.declared.keyword.Keyword.{Keyword}
 use Rattle.mj_ast.specs.Syntax.{Expr}
 use Rattle.mj_ast.specs.Tokens.{Token, Word, Digits, Quoted, Signed, Blank, Comment, Unclosed, Stray, Called, Special}
-use Rattle.mj_ast.specs.Expressions.{Symbol, Constant, Name, Applied, Overlong, Mark, symbol, Other, function_symbol, callee_of}
+use Rattle.mj_ast.specs.Expressions.{levels_of, Symbol, Constant, Name, Applied, Overlong, Mark, symbol, Other, function_symbol, callee_of}
 use Rattle.mj_ast.specs.Commands.{Part, Named, keyword_of, looked_up, command_words, capital}
 use Rattle.mj_ast.specs.Lines.{Filler}
 use Rattle.mj_oper.specs.declared.op.UnaryOp.{UnaryOp}
@@ -47,7 +47,7 @@ pub record LongFacts (m : Limits) (s : State) (k : Token) : Type 0 where
 abbrev pub Facts : Limits → State → Token → (Limits → Next) → Next → Type 0
 Facts m s k at (Go t) = (StateGood m s → Leads s (k ∷ []) t × StateGood m t) × ((l : Limits) → IsMore m l → at l ≡ Go t)
 Facts m s k at Stuck = (l : Limits) → IsMore m l → at l ≡ Stuck
-Facts m s k at Deep = StateGood m s → (t : State) × Leads s (k ∷ []) t × StateGood (deeper m) t
+Facts m s k at Deep = StateGood m s → (t : State) × Leads s (k ∷ []) t × StateGood (deeper (symbol k) m) t
 Facts m s k at Long = LongFacts m s k
 
 abbrev pub FactsAt : Limits → State → Token → Type 0
@@ -314,8 +314,8 @@ lift_long l (k ∷ ks) g s e = long_on l (inside l (level g)) g s k ks (phrase.s
 -- ---- steps inside phrases
 
 -- a level more outside is one more inside
-inside_deeper : (m : Limits) (lv : ℕ) → lv ≤ 1 → 1 ≤ m.depth → deeper (inside m lv) ≡ inside (deeper m) lv
-inside_deeper m lv i d = ap (λ (n : ℕ). let l : Limits = record { depth = n; width = m.width } in l) (let e : (m.depth - lv) + 1 ≡ (m.depth + 1) - lv = omega arith in e)
+inside_deeper : (m : Limits) (k : Symbol) (lv : ℕ) → lv ≤ 1 → 1 ≤ m.depth → deeper k (inside m lv) ≡ inside (deeper k m) lv
+inside_deeper m k lv i d = ap (λ (n : ℕ). let l : Limits = record { depth = n; width = m.width } in l) (let e : (m.depth - lv) + levels_of k ≡ (m.depth + levels_of k) - lv = omega arith in e)
 
 in_as : (m : Limits) (g : Goal) (s : phrase.State) (k : Token) (n : phrase.Next) → 1 ≤ m.depth →
     known.Facts (kind g) (inside m (level g)) (HasRead (kind g) (inside m (level g)) s) (known.LongFacts (kind g) (inside m (level g)) (HasRead (kind g) (inside m (level g)) s) s (symbol k)) (λ l. phrase.step l s (symbol k)) (symbol k) n →
@@ -328,7 +328,7 @@ in_as m g s k phrase.Stuck d f = finished_as m g s k (phrase.finish s []) d refl
 in_as m g s k phrase.Deep d f = λ i.
     let r = f.1 (sofar s) (has_read m g s i) in
     let P : Limits → Type 0 = λ l. IsGood (kind g) l f.0 in
-    (In g f.0, phrase_leads g s f.0 (k ∷ []) r.read, (goal_more m (deeper m) g (more_deeper m) i.0, subst P (inside_deeper m (level g) (level_small m g i.0) d) r.good))
+    (In g f.0, phrase_leads g s f.0 (k ∷ []) r.read, (goal_more m (deeper (symbol k) m) g (more_deeper (symbol k) m) i.0, subst P (inside_deeper m (symbol k) (level g) (level_small m g i.0) d) r.good))
 in_as m g s k phrase.Long d f = record {
   comma = comma_token k f.comma;
   filler = f.filler;

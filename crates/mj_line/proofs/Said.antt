@@ -5,7 +5,7 @@ use Rattle.std.proofs.lemmas.Bool.Decides.{nat_tests}
 use Rattle.mj_ast.specs.declared.sign.Sign.TheVariants.{Comma}
 use Rattle.mj_ast.specs.Syntax.{Line}
 use Rattle.mj_ast.specs.Tokens.{Token, Word, Called, Special, Digits, Quoted, Signed, Blank, Comment, Unclosed, Stray}
-use Rattle.mj_ast.specs.Expressions.{width_limit}
+use Rattle.mj_ast.specs.Expressions.{symbol, width_limit}
 use Rattle.mj_ast.specs.Commands.{greatest, step_nesting, step_width}
 use Rattle.mj_ast.specs.Lines.{SpellsLine, BeginsLine, BeginsLineWithin, Filler, no_filler, digits_filler, word_filler, IsOverlong, HasOverlong}
 use Rattle.mj_expr.specs.Machine.{Limits}
@@ -498,7 +498,7 @@ said_deep ks n e =
     let B : List Token → Type 0 = λ zs. BeginsLine zs in
     let S : List Token → Type 0 = λ zs. (width : ℕ) → BeginsLineWithin 64 width zs → ⊥ in
     let o = h.opened r.1 in
-    let d = began (deeper m) (h.front ++ h.token ∷ []) o.0 (record { depth = omega arith; width = omega arith }) (λ rest l z. let Q : List Token → Type 0 = λ zs. SpellsSentence zs l in subst Q (sym (front_at h.front h.token rest)) (r.0 (h.token ∷ rest) l (o.1 rest l z))) o.2 in
+    let d = began (deeper (symbol h.token) m) (h.front ++ h.token ∷ []) o.0 (record { depth = omega arith; width = omega arith }) (λ rest l z. let Q : List Token → Type 0 = λ zs. SpellsSentence zs l in subst Q (sym (front_at h.front h.token rest)) (r.0 (h.token ∷ rest) l (o.1 rest l z))) o.2 in
     let beyond : (width : ℕ) → BeginsLineWithin 64 width (h.front ++ h.token ∷ []) → ⊥ = λ width b.
     let l : Limits = record { depth = 64; width = max 31 width } in
     deep_accept (length (h.token ∷ b.rest)) (sentence_of b.line)

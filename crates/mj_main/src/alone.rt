@@ -11,9 +11,9 @@ use crate::ended::{Alone, One};
 use crate::output::output;
 use crate::service::serve;
 use mj_ask::Entry;
+use mj_globs::Globals;
 use mj_jobvm::{Job, Turn};
 use mj_load::Image;
-use mj_store::Flat;
 use std::alloc::{AllocError, Global};
 
 /// The turns that a job is let go on for at a time.
@@ -25,7 +25,7 @@ pub fn one(alloc: Global, image: &Image, entry: Entry, calls: u64) -> Result<Alo
     ensures { IfOk result (Went (routines_of image.now) entry calls) }
 {
     let mut job = Job::start(alloc, image, entry)?;
-    let mut globals = Flat::new(alloc);
+    let mut globals = Globals::new(alloc);
     'calls: for done in 0..calls {
         match job.advance(image, FUEL)? {
             Turn::Ran => {}
@@ -37,7 +37,7 @@ pub fn one(alloc: Global, image: &Image, entry: Entry, calls: u64) -> Result<Alo
 }
 
 // What is seen of a job, with the globals that it left.
-fn shown(alloc: Global, job: Job, globals: Flat) -> Result<One, AllocError>
+fn shown(alloc: Global, job: Job, globals: Globals) -> Result<One, AllocError>
     ensures { IfOk result (λ one. one ≡ record { log = job.run.log; globals = globals; output = output_of job.run.log }) }
 {
     let output = output(alloc, job.log())?;
@@ -49,7 +49,7 @@ fn shown(alloc: Global, job: Job, globals: Flat) -> Result<One, AllocError>
 }
 
 // Answers what the job asks, which ends a call.
-fn answer(job: &mut Job, globals: &mut Flat) -> Result<(), AllocError>
+fn answer(job: &mut Job, globals: &mut Globals) -> Result<(), AllocError>
     ensures { OnOk result ((image : Loaded) (entry : entries.Entry) (calls : ℕ) → IsSome job.old.run.pending → Stands image entry calls job.old globals.old → Stands image entry (calls + 1) job.new globals.new) }
 {
     let Some(ask) = job.ask() else {

@@ -4,15 +4,15 @@ ghost use Rattle.std.specs.Prelude.{◌≡◌};
 ghost use Rattle.mj_main.specs.Alone.{has_faulted};
 
 use mj_ask::{Ask, Reply};
+use mj_globs::Globals;
 use mj_jobvm::Job;
-use mj_store::Flat;
 use std::marker::Model;
 
 /// How one job went that ran alone: what it asked and was told, the globals that it left, and what its device took.
 #[derive(Drop)]
 pub struct One {
     pub(crate) job: Job,
-    pub(crate) globals: Flat,
+    pub(crate) globals: Globals,
     pub(crate) output: Vec<u8>,
 }
 
@@ -42,7 +42,7 @@ impl One {
     }
 
     /// The globals that it left.
-    pub fn globals(&self) -> &Flat
+    pub fn globals(&self) -> &Globals
         ensures { result.now ≡ self.now.globals }
     {
         &self.globals

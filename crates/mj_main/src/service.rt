@@ -6,11 +6,12 @@ ghost use Rattle.mj_main.specs.Service.{reply_to, globals_after, seen};
 ghost use Rattle.mj_store.specs.Runs.{name_of, answer_of, after_access};
 
 use mj_ask::{Ask, Reply};
-use mj_store::{Access, Answer, Flat, perform};
+use mj_globs::Globals;
+use mj_store::{Access, Answer, perform};
 use std::alloc::AllocError;
 
 /// Serves an ask over these globals. Devices take every byte.
-pub fn serve(globals: &mut Flat, ask: &Ask) -> Result<Reply, AllocError>
+pub fn serve(globals: &mut Globals, ask: &Ask) -> Result<Reply, AllocError>
     ensures reply { IfOk result (λ r. r ≡ reply_to globals.old ask.now) }
     ensures fits { IfOk result (λ r. fits ask.now r ≡ true) }
     ensures ok { OnOk result (globals.new ≡ globals_after globals.old ask.now) }
@@ -25,7 +26,7 @@ pub fn serve(globals: &mut Flat, ask: &Ask) -> Result<Reply, AllocError>
 }
 
 // An access to the globals. A local, of which nobody asks here, has no value, and stays so.
-fn accessed(globals: &mut Flat, access: &Access) -> Result<Answer, AllocError>
+fn accessed(globals: &mut Globals, access: &Access) -> Result<Answer, AllocError>
     ensures reply { IfOk result (λ a. a ≡ answer_of access.now (seen globals.old access.now)) }
     ensures fits { IfOk result (λ a. answers access.now a ≡ true) }
     ensures ok { OnOk result (globals.new ≡ (if (name_of access.now).global then after_access access.now globals.old else globals.old)) }
@@ -34,6 +35,6 @@ fn accessed(globals: &mut Flat, access: &Access) -> Result<Answer, AllocError>
     if access.name().is_global() {
         return perform(globals, access);
     }
-    let mut none = Flat::new(globals.allocator());
+    let mut none = Globals::new(globals.allocator());
     perform(&mut none, access)
 }

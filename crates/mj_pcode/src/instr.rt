@@ -2,7 +2,7 @@
 
 use crate::marks::Marks;
 use crate::words::Words;
-use mj_ast::{Function, Scope};
+use mj_ast::{Function, Scope, NameFunction};
 use mj_oper::{Op, UnaryOp};
 use mj_text::Text;
 
@@ -37,6 +37,11 @@ pub enum Instr {
     Binary(Op),
     /// takes so many arguments off, the last one on top, and puts what the function gives on
     Call(Function, usize),
+    /// looks whether the subscripts on the stack make a name that the function may be about
+    Named(NameFunction, Reference),
+    /// takes so many operands off, the subscripts of a variable and above them what stands behind it, and puts what the function
+    /// gives on
+    About(NameFunction, Reference, usize),
     /// looks whether the subscripts on the stack make the variable's name
     Check(Reference),
     /// assigns the topmost operand to the variable whose subscripts lie at this depth

@@ -5,6 +5,8 @@
 #[cfg(test)]
 mod functions;
 #[cfg(test)]
+mod names;
+#[cfg(test)]
 mod operators;
 #[cfg(test)]
 mod runs;

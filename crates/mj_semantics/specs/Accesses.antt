@@ -3,6 +3,7 @@ use Rattle.std.specs.Prelude.{ℕ, List, [], Option, None, Result, Ok, Err, if�
 use Rattle.mj_text.specs.declared.fault.Fault.{Fault}
 use Rattle.mj_text.specs.declared.fault.Fault.TheVariants.{Limit}
 use Rattle.mj_store.specs.Questions.{Subtree}
+use Rattle.mj_subs.specs.Name.{Name}
 use Rattle.mj_store.specs.Runs.{name_of, answer_of}
 use Rattle.mj_store.specs.declared.access.Access.{Access}
 use Rattle.mj_store.specs.declared.access.Answer.{Answer}
@@ -34,6 +35,21 @@ access a rest =
     if (name_of a).global
     then ask (asks.Access a) (λ r. given (answered (answer_told r)) rest)
     else look (λ s. change (accessed a) (given (answered (answer_of a s.locals)) rest))
+
+-- whether there is a value, and descendants, as an answer brings it: 0, 1, 10 or 11
+abbrev pub data_told : Answer → ℕ
+data_told (answers.Data d) = d
+data_told _ = 0
+
+-- the subscript that an answer brings
+abbrev pub order_told : Answer → Option (List ℕ)
+order_told (answers.Order s) = s
+order_told _ = None
+
+-- the name that an answer brings
+abbrev pub query_told : Answer → Option Name
+query_told (answers.Query x) = x
+query_told _ = None
 
 -- the value that an answer brings
 abbrev pub value_told : Answer → Option (List ℕ)

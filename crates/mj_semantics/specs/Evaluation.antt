@@ -7,8 +7,11 @@ use Rattle.mj_store.specs.declared.access.Access.TheVariants as accesses
 use Rattle.mj_oper.specs.Operators.{binary_value, unary_value, truth_value}
 use Rattle.mj_ast.specs.declared.expr.Scope.{Scope}
 use Rattle.mj_ast.specs.declared.expr.Scope.TheVariants as scopes
-use Rattle.mj_ast.specs.Syntax.{Expr, Chain, Tails, Done, Then, Operand, Literal, Value, Unary, Group, Call, Select, Variable, Var, Exprs, No, More, Choices, Last, Before}
-use Rattle.mj_semantics.specs.Functions.{call_value}
+use Rattle.mj_ast.specs.declared.function.NameFunction.{NameFunction}
+use Rattle.mj_ast.specs.declared.function.NameFunction.TheVariants as names
+use Rattle.mj_ast.specs.Syntax.{Expr, Chain, Tails, Done, Then, Operand, Literal, Value, Unary, Group, Call, About, Select, Variable, Var, Exprs, No, More, Choices, Last, Before}
+use Rattle.mj_semantics.specs.Functions.{call_value, optional}
+use Rattle.mj_semantics.specs.Names.{spelled, asks, question, told}
 use Rattle.mj_semantics.specs.Outcome.{Timed, turn, need, given, fault}
 use Rattle.mj_semantics.specs.Accesses.{access, value_told}
 
@@ -22,16 +25,45 @@ abbrev pub is_global : Scope → Bool
 is_global scopes.Local = false
 is_global scopes.Global = true
 
--- a name, once all its subscripts have their values: an empty one is SUBSCRIPT, more than 31 are LIMIT (this profile)
-abbrev pub name_of : Scope → List ℕ → List (List ℕ) → Result Name Fault
-name_of scope word ss =
-    if has_empty ss then Err Subscript
+-- a name with these subscripts: an empty one among those that have to be filled is SUBSCRIPT, more than 31 are LIMIT (this
+-- profile)
+abbrev pub named_by : Scope → List ℕ → List (List ℕ) → List (List ℕ) → Result Name Fault
+named_by scope word filled ss =
+    if has_empty filled then Err Subscript
     else if nat_lt 31 (length ss) then Err Limit
     else Ok (record { global = is_global scope; word = word; subscripts = ss })
+
+-- a name, once all its subscripts have their values
+abbrev pub name_of : Scope → List ℕ → List (List ℕ) → Result Name Fault
+name_of scope word ss = named_by scope word ss ss
+
+-- all but the last
+abbrev pub before_last : List (List ℕ) → List (List ℕ)
+before_last [] = []
+before_last (s ∷ []) = []
+before_last (s ∷ t ∷ ss) = s ∷ before_last (t ∷ ss)
+
+-- the subscripts that a function of a variable wants filled: `$ORDER` and `$QUERY` may begin at an empty last one
+abbrev pub filled_for : NameFunction → List (List ℕ) → List (List ℕ)
+filled_for names.Data ss = ss
+filled_for names.Get ss = ss
+filled_for names.Name ss = ss
+filled_for names.Order ss = before_last ss
+filled_for names.Query ss = before_last ss
+
+-- the name that a function of a variable is about
+abbrev pub named_for : NameFunction → Scope → List ℕ → List (List ℕ) → Result Name Fault
+named_for f scope word ss = named_by scope word (filled_for f ss) ss
 
 -- the value of a name (7.1.2); without one it is UNDEF
 abbrev pub read : Name → (List ℕ → Timed) → Timed
 read x rest = access (accesses.Value x) (λ a. need Undefined (value_told a) rest)
+
+-- what a function gives of a name and what stands behind it: the text of the name, or what it makes of an answer
+abbrev pub about : NameFunction → Name → Option (List ℕ) → (List ℕ → Timed) → Timed
+about f x other rest =
+    if asks f then given (question f x other) (λ a. access a (λ r. given (told f other r) rest))
+    else given (spelled x) rest
 
 abbrev mutual
   -- the value of an expression, and then the rest with it (7.2): each operator is applied once its right side has its
@@ -44,13 +76,16 @@ abbrev mutual
   ev_tails v (Then op x ts) rest =
       ev_operand x (λ w. turn (given (binary_value op v w) (λ u. ev_tails u ts rest)))
 
-  -- 7.1: a literal, a variable, an operator with its operand, an expression in parentheses, a function with its arguments
+  -- 7.1: a literal, a variable, an operator with its operand, an expression in parentheses, a function with its arguments, of
+  -- which the first may be a variable. That one's name is complete before the others have their values, and the function asks once
+  -- they have (this profile).
   pub ev_operand : Operand → (List ℕ → Timed) → Timed
   ev_operand (Literal t) rest = turn (rest t)
   ev_operand (Value v) rest = ev_name v (λ x. read x rest)
   ev_operand (Unary op x) rest = ev_operand x (λ v. turn (given (unary_value op v) rest))
   ev_operand (Group e) rest = ev e rest
   ev_operand (Call f es) rest = ev_all es (λ vs. turn (given (call_value f vs) rest))
+  ev_operand (About f v es) rest = ev_named f v (λ x. ev_all es (λ vs. turn (about f x (optional 0 vs) rest)))
   ev_operand (Select choices) rest = ev_choices choices rest
 
   -- `$SELECT` (7.1.5.17): the value of the first true condition; later ones aren't looked at. Where none is true it is SELECT.
@@ -64,6 +99,10 @@ abbrev mutual
   -- the name that a variable is: its subscripts in order, and then the whole
   pub ev_name : Variable → (Name → Timed) → Timed
   ev_name (Var scope word es) rest = ev_all es (λ ss. turn (given (name_of scope word ss) rest))
+
+  -- the name that a function is about, in the same way
+  pub ev_named : NameFunction → Variable → (Name → Timed) → Timed
+  ev_named f (Var scope word es) rest = ev_all es (λ ss. turn (given (named_for f scope word ss) rest))
 
   -- the values of expressions, in order
   pub ev_all : Exprs → (List (List ℕ) → Timed) → Timed

@@ -3,6 +3,7 @@ pub mod Faults
 pub mod Outcome
 pub mod Accesses
 pub mod Functions
+pub mod Names
 pub mod Evaluation
 pub mod Lines
 pub mod Points

@@ -1,14 +1,15 @@
-use Rattle.std.proofs.Common.{◌+◌, [], ◌∷◌, ◌++◌, length, ap, sym, ◌∙◌, append_assoc, length-append}
+use Rattle.std.proofs.Common.{◌≡◌, arith, ◌+◌, [], ◌∷◌, ◌++◌, length, ap, sym, ◌∙◌, append_assoc, length-append}
 use Rattle.std.proofs.lemmas.Result.{on_ok_weaker}
 use Rattle.mj_ast.specs.Trees.{tails_of, operand_of, exprs_of}
 use Rattle.mj_ast.specs.declared.expr.Expr.{out-Expr}
-use Rattle.mj_ast.specs.Trees.{expr_of, choice_of}
+use Rattle.mj_ast.specs.Trees.{expr_of, choice_of, variable_of}
 use Rattle.mj_ast.specs.declared.expr.Choice.{out-Choice}
+use Rattle.mj_ast.specs.declared.expr.Variable.{out-Variable}
 use Rattle.mj_pcode.specs.declared.instr.Instr.TheVariants.{Unless, Jump}
 use Rattle.mj_pcode.specs.declared.instr.Instr.TheVariants as instr
-use Rattle.mj_asm.specs.Code.{expr_code, tails_code, operand_code, exprs_code, subscripts_code, others_code}
-use Rattle.mj_asm.proofs.Emitted.{chosen}
-use Rattle.mj_asm.proofs.Rows.{expr_is, variable_is, call_is, choice_is, count_is}
+use Rattle.mj_asm.specs.Code.{expr_code, tails_code, operand_code, exprs_code, subscripts_code, others_code, reference, count}
+use Rattle.mj_asm.proofs.Emitted.{chosen, about_made}
+use Rattle.mj_asm.proofs.Rows.{expr_is, variable_is, call_is, about_is, choice_is, count_is}
 use Rattle.mj_asm.proofs.expr.+emit.Goals as goal
 
 pub emit_expr-returns : goal.emit_expr-returns
@@ -53,3 +54,26 @@ emit_operand-returns-in_ok-emit_all-in-Call t c =
     ∙ append_assoc base (exprs_code (length base) es) (instr.Call f c.len.result ∷ [])
     ∙ ap (λ k. base ++ (exprs_code (length base) es ++ instr.Call f k ∷ [])) n
     ∙ ap (λ x. base ++ operand_code (length base) x) (sym (ap operand_of c.in-Call.is ∙ call_is f c.in-Call.arguments))) c.put-in-Call.ensures
+
+pub emit_operand-returns-in_ok-name-in-About-2 : goal.emit_operand-returns-in_ok-name-in-About-2
+emit_operand-returns-in_ok-name-in-About-2 t c =
+    let base = c.args.code.now.items in
+    let f = c.in-About.function in
+    let v = c.in-About.variable in
+    let x = variable_of v in
+    let es = exprs_of c.in-About.others.items in
+    let cs = subscripts_code (length base) x in
+    let ce = exprs_code (length base + length cs + 1) es in
+    let subscripts = (out-Variable v).subscripts in
+    let held : c.len-in-About.result ≡ (reference x).count =
+    c.len-in-About.ensures ∙ subscripts.ok.0 ∙ sym (count_is subscripts.items) ∙ sym (ap (λ y. (reference y).count) (variable_is v)) in
+    let more : c.len-in-About-2.result ≡ count es = c.len-in-About-2.ensures ∙ c.in-About.others.ok.0 ∙ sym (count_is c.in-About.others.items) in
+    let total : c.len-in-About.result + c.len-in-About-2.result ≡ (reference x).count + count es = omega (arith, held, more) in
+    on_ok_weaker c.put-in-About-2.result (λ h.
+    about_made base cs (λ k. exprs_code k es) c.emit_subscripts-in-About.new.code.items c.put-in-About.new.code.items c.emit_all-in-About.new.code.items _ (instr.Named f c.in_ok-name-in-About.name) _
+    c.in_ok-emit_subscripts-in-About.ensures c.in_ok-put-in-About.ensures
+    (c.in_ok-emit_all-in-About.ensures ∙ ap (λ l. c.put-in-About.new.code.items ++ exprs_code (length c.put-in-About.new.code.items) (exprs_of l)) c.deref-in-About.ensures.value) h
+    ∙ ap (λ q. base ++ (cs ++ instr.Named f q ∷ (ce ++ instr.About f c.in_ok-name-in-About-2.name (c.len-in-About.result + c.len-in-About-2.result) ∷ []))) c.in_ok-name-in-About.ensures
+    ∙ ap (λ q. base ++ (cs ++ instr.Named f (reference x) ∷ (ce ++ instr.About f q (c.len-in-About.result + c.len-in-About-2.result) ∷ []))) c.in_ok-name-in-About-2.ensures
+    ∙ ap (λ k. base ++ (cs ++ instr.Named f (reference x) ∷ (ce ++ instr.About f (reference x) k ∷ []))) total
+    ∙ ap (λ o. base ++ operand_code (length base) o) (sym (ap operand_of c.in-About.is ∙ about_is f v c.in-About.others))) c.put-in-About-2.ensures

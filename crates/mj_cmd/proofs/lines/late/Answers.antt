@@ -8,7 +8,7 @@ use Rattle.mj_cmd.proofs.lines.late.Goals as goal
 
 -- more levels than there are tokens
 abbrev free : List Lexeme → Limits
-free ls = record { depth = length ls + 1; width = 31 }
+free ls = record { depth = length ls + 2; width = 31 }
 
 pub returns-in_default : goal.returns-in_default
 returns-in_default c =

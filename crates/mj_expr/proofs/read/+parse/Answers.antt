@@ -1,18 +1,21 @@
-use Rattle.std.proofs.Common.{◌≡◌, ◌<◌, ◌≤◌, ◌∷◌, [], ℕ, Bool, subst, length, length-append, ap, sym, ◌∙◌, refl, arith, List}
+use Rattle.std.proofs.Common.{◌≡◌, ◌<◌, ◌≤◌, ◌∷◌, ◌++◌, [], ℕ, Bool, subst, length, length-append, ap, sym, ◌∙◌, refl, arith, List}
 use Rattle.mj_ast.specs.declared.sign.Sign.TheVariants.{Open, Comma}
 use Rattle.mj_ast.specs.declared.function.Callee.{Callee}
 use Rattle.mj_ast.specs.Expressions.{Symbol, Applied, Mark, symbol, count}
 use Rattle.mj_ast.specs.declared.expr.Choice as choice
+use Rattle.mj_ast.specs.declared.expr.Expr as expr
+use Rattle.mj_ast.specs.declared.expr.Variable.{out-Variable}
 use Rattle.mj_lex.specs.Seen.{token_seen}
-use Rattle.mj_ast.specs.Syntax.{Expr, Operand, Variable, Exprs, Tails, No, Select, Choices, Before, Var}
-use Rattle.mj_ast.specs.Trees.{operand_of, expr_of, choice_of, tails_of, exprs_of}
+use Rattle.mj_ast.specs.Syntax.{Expr, Operand, Variable, Exprs, Tails, No, About, Select, Choices, Before, Var}
+use Rattle.mj_ast.specs.Trees.{operand_of, expr_of, variable_of, choice_of, tails_of, exprs_of}
 use Rattle.mj_expr.specs.Lists.{behind_list}
-use Rattle.mj_expr.specs.Machine.{State, Marked, Named, Right, Subscripts, Arguments, InList, InCondition, InChoice, Held, Wanted, Calling, held, placed, filled, and_pair, before_choices, run, refused_in, most_of, least_of}
+use Rattle.mj_expr.specs.Machine.{State, Sought, Marked, Named, Right, Subscripts, Arguments, InList, InCondition, InChoice, Held, Wanted, Calling, Behind, AsNamed, held, placed, filled, and_pair, before_choices, run, refused_in, most_of, least_of}
 use Rattle.mj_expr.specs.declared.token.Head.{Head}
 use Rattle.mj_expr.specs.Reads.{limits, symbols_seen, least_in, most_in, limited_in, IsHead, BeginsNone}
-use Rattle.mj_expr.proofs.Made.{expr_made, variable_made, call_made, choice_made, tails_push, exprs_push, count_exprs}
-use Rattle.mj_expr.proofs.Steps.{named_ends, comma_goes, comma_over, close_goes, list_refuses, few_refuses, kind_least, kind_most, kind_limited, behind_pushed, reads_from, reads_err, refuses_from, binary_goes, open_goes, call_goes, choice_goes, choice_refuses, before_pair, value_read, kind_full}
+use Rattle.mj_expr.proofs.Made.{expr_made, variable_made, call_made, others_made, variable_count, choice_made, tails_push, exprs_push, count_exprs}
+use Rattle.mj_expr.proofs.Steps.{named_ends, comma_goes, comma_over, close_goes, list_refuses, few_refuses, kind_least, kind_most, kind_limited, behind_pushed, reads_from, reads_err, refuses_from, binary_goes, open_goes, call_goes, choice_goes, choice_refuses, before_pair, value_read, kind_full, about_bare, about_closes, about_goes}
 use Rattle.mj_expr.proofs.Facts.{none_refuses}
+use Rattle.mj_expr.proofs.Zipper.{levels_some}
 use Rattle.mj_expr.proofs.read.+parse.Goals as goal
 
 pub call-returns-in_ok-arguments-in-Texts-clause-reads : goal.call-returns-in_ok-arguments-in-Texts-clause-reads
@@ -165,14 +168,14 @@ named-returns-in-None-clause-reads t c = λ p d e.
     ∙ ap (λ (es : Exprs). Var c.args.scope c.in_ok-word.word es) (sym (ap exprs_of c.new.ensures.items))
     ∙ sym (variable_made c.args.scope c.in_ok-word.word c.new.result))
 
-pub operand-returns-else-room-eq0-clause-reads : goal.operand-returns-else-room-eq0-clause-reads
-operand-returns-else-room-eq0-clause-reads t c = λ c' d e f.
+pub operand-returns-else-room-levels-clause-reads : goal.operand-returns-else-room-levels-clause-reads
+operand-returns-else-room-levels-clause-reads t c = λ c' d e f.
     let P : Head → Type 0 = λ h. IsHead h (symbol (token_seen c.in-Some.token)) in
     let head : symbol (token_seen c.in-Some.token) ≡ Applied c.in-Callee.callee = subst P c.in-Callee.is c.in_ok-text.ensures in
     let went = ap (λ (ks : List Symbol). run (limits d) ks (Wanted c')) c.in-Some.ensures.0
     ∙ ap (λ (k : Symbol). run (limits d) (k ∷ symbols_seen c.in-Some.rest.now) (Wanted c')) head
-    ∙ call_goes (limits d) (symbols_seen c.in-Some.rest.now) c.in-Callee.callee c' (omega (arith, e, c.if-room-eq0.false)) in
-    reads_from _ _ c.call.result d c.args.tokens.now c.in-Some.rest.now _ _ _ went (c.call.ensures.reads c' d (omega (arith, e, c.if-room-eq0.false)))
+    ∙ call_goes (limits d) (symbols_seen c.in-Some.rest.now) c.in-Callee.callee c' (omega (arith, e, c.if-room-levels.false, c.levels.ensures)) in
+    reads_from _ _ c.call.result d c.args.tokens.now c.in-Some.rest.now _ _ _ went (c.call.ensures.reads c' d (omega (arith, e, c.if-room-levels.false, c.levels.ensures, levels_some c.in-Callee.callee)))
 
 pub operand-returns-in-Nothing-clause-reads : goal.operand-returns-in-Nothing-clause-reads
 operand-returns-in-Nothing-clause-reads t c = λ c' d e f.
@@ -183,3 +186,64 @@ operand-returns-in-Nothing-clause-reads t c = λ c' d e f.
     ∙ none_refuses (limits d) (limits 0) c' (symbol (token_seen c.in-Some.token)) (symbols_seen c.in-Some.rest.now) c.args.full refl f none
     ∙ ap (λ (ks : List Symbol). refused_in c.args.full ks) (sym c.in-Some.ensures.0))
     c.refusal-in-Nothing.ensures
+
+pub sought-returns-in-Some-clause-reads : goal.sought-returns-in-Some-clause-reads
+sought-returns-in-Some-clause-reads t c = λ p d e f.
+    reads_from _ _ c.named.result d c.args.tokens.now c.in-Some.rest.now _ _ _
+    (ap (λ (ks : List Symbol). run (limits d) ks (Sought p)) c.in-Some.ensures.0) (c.named.ensures.reads p d e)
+
+pub sought-returns-in-Some-behind_caret-clause-reads : goal.sought-returns-in-Some-behind_caret-clause-reads
+sought-returns-in-Some-behind_caret-clause-reads t c = λ p d e f.
+    reads_from _ _ c.global.result d c.args.tokens.now c.in-Some-behind_caret.rest.now _ _ _
+    (ap (λ (ks : List Symbol). run (limits d) ks (Sought p)) c.in-Some-behind_caret.ensures.0) (c.global.ensures.reads p d e f)
+
+pub call-returns-in-Names-clause-reads : goal.call-returns-in-Names-clause-reads
+call-returns-in-Names-clause-reads t c = λ c' d e.
+    reads_from _ _ c.about.result d c.args.tokens.now c.in-Some.rest.now _ _ _
+    (ap (λ (ks : List Symbol). run (limits d) ks (Calling c.args.callee c')) c.in-Some.ensures.0
+    ∙ ap (λ (f : Callee). run (limits d) (Mark Open ∷ symbols_seen c.in-Some.rest.now) (Calling f c')) c.in-Names.is)
+    (c.about.ensures.reads c' d e)
+
+pub about-returns-then-len-least_subscripts-clause-reads : goal.about-returns-then-len-least_subscripts-clause-reads
+about-returns-then-len-least_subscripts-clause-reads t c = λ c' d e.
+    let f = c.args.function in
+    let v = c.in_ok-variable.variable in
+    let n = c.len.ensures ∙ (out-Variable v).subscripts.ok.0 ∙ sym (variable_count v) in
+    refuses_from c.refusal.result _ _
+    (c.in_ok-variable.ensures.reads (AsNamed f c') d e refl
+    ∙ about_bare (limits d) (symbols_seen c.in_ok-variable.rest.now) f (variable_of v) c' (omega (arith, n, c.if-len-least_subscripts.true, c.least_subscripts.ensures)))
+    c.refusal.ensures
+
+pub about-returns-in-Some-clause-reads : goal.about-returns-in-Some-clause-reads
+about-returns-in-Some-clause-reads t c = λ c' d e.
+    let f = c.args.function in
+    let v = c.in_ok-variable.variable in
+    let n = c.len.ensures ∙ (out-Variable v).subscripts.ok.0 ∙ sym (variable_count v) in
+    c.in_ok-variable.ensures.reads (AsNamed f c') d e refl
+    ∙ ap (λ (ks : List Symbol). run (limits d) ks (Behind f (variable_of v) c')) c.in-Some.ensures.0
+    ∙ about_closes (limits d) (symbols_seen c.in-Some.rest.now) f (variable_of v) c' (omega (arith, n, c.if-len-least_subscripts.false, c.least_subscripts.ensures))
+    ∙ ap (λ (es : Exprs). run (limits d) (symbols_seen c.in-Some.rest.now) (filled (About f (variable_of v) es) c')) (sym (others_made c.new.result ∙ ap exprs_of c.new.ensures.items))
+
+pub about-returns-in_err-other-clause-reads : goal.about-returns-in_err-other-clause-reads
+about-returns-in_err-other-clause-reads t c = λ c' d e.
+    let f = c.args.function in
+    let v = c.in_ok-variable.variable in
+    let n = c.len.ensures ∙ (out-Variable v).subscripts.ok.0 ∙ sym (variable_count v) in
+    let went = c.in_ok-variable.ensures.reads (AsNamed f c') d e refl
+    ∙ ap (λ (ks : List Symbol). run (limits d) ks (Behind f (variable_of v) c')) c.in-Some-behind_comma.ensures.0
+    ∙ about_goes (limits d) (symbols_seen c.in-Some-behind_comma.behind.now) f (variable_of v) c' (omega (arith, n, c.if-len-least_subscripts.false, c.least_subscripts.ensures)) (omega (arith, c.if-most_others-eq0.false, c.most_others.ensures)) in
+    reads_from _ _ c.from_residual-in_err-other.result d c.args.tokens.now c.in-Some-behind_comma.behind.now _ _ _ went
+    (reads_err _ _ c.from_residual-in_err-other.result c.in_err-other.field-0.0 d c.in-Some-behind_comma.behind.now _ _ c.from_residual-in_err-other.ensures.1
+    (c.in_err-other.ensures.other f (variable_of v) c' d e))
+
+pub about-returns-clause-reads : goal.about-returns-clause-reads
+about-returns-clause-reads t c = λ c' d e.
+    let f = c.args.function in
+    let v = c.in_ok-variable.variable in
+    let n = c.len.ensures ∙ (out-Variable v).subscripts.ok.0 ∙ sym (variable_count v) in
+    c.in_ok-variable.ensures.reads (AsNamed f c') d e refl
+    ∙ ap (λ (ks : List Symbol). run (limits d) ks (Behind f (variable_of v) c')) c.in-Some-behind_comma.ensures.0
+    ∙ about_goes (limits d) (symbols_seen c.in-Some-behind_comma.behind.now) f (variable_of v) c' (omega (arith, n, c.if-len-least_subscripts.false, c.least_subscripts.ensures)) (omega (arith, c.if-most_others-eq0.false, c.most_others.ensures))
+    ∙ c.in_ok-other.ensures.other f (variable_of v) c' d e
+    ∙ ap (λ (es : Exprs). run (limits d) (symbols_seen c.in_ok-other.rest.now) (filled (About f (variable_of v) es) c'))
+    (sym (others_made c.push.new.self ∙ ap exprs_of (c.in_ok-push.ensures.items ∙ ap (λ (es : List expr.Expr). es ++ c.in_ok-other.other ∷ []) c.new-others.ensures.items)))

@@ -21,6 +21,12 @@ decreases-group l = 4 * length l.tokens.now + 2
 abbrev pub decreases-expr : goal.decreases-expr
 decreases-expr l = 4 * length l.tokens.now + 1
 
+abbrev pub decreases-about : goal.decreases-about
+decreases-about l = 4 * length l.tokens.now + 2
+
+abbrev pub decreases-sought : goal.decreases-sought
+decreases-sought l = 4 * length l.tokens.now + 1
+
 abbrev pub decreases-named : goal.decreases-named
 decreases-named l = 4 * length l.tokens.now
 

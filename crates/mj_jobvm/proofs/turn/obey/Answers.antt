@@ -28,6 +28,14 @@ pub returns-in-Check-clause-ok : goal.returns-in-Check-clause-ok
 returns-in-Check-clause-ok c =
     IfOk-weaker c.check.result _ _ (λ step d. obeys c.args.unit.now c.args.instr.now _ c.args.pc c.args.machine.now (replied c.args.given) step _ c.in-Check.is (d (replied c.args.given))) c.check.ensures.ok
 
+pub returns-in-Named-clause-ok : goal.returns-in-Named-clause-ok
+returns-in-Named-clause-ok c =
+    IfOk-weaker c.named.result _ _ (λ step d. obeys c.args.unit.now c.args.instr.now _ c.args.pc c.args.machine.now (replied c.args.given) step _ c.in-Named.is (d (replied c.args.given))) c.named.ensures.ok
+
+pub returns-in-About-clause-ok : goal.returns-in-About-clause-ok
+returns-in-About-clause-ok c =
+    IfOk-weaker c.about.result _ _ (λ step d. obeys c.args.unit.now c.args.instr.now _ c.args.pc c.args.machine.now (replied c.args.given) step _ c.in-About.is (d)) c.about.ensures.ok
+
 pub returns-in-Store-clause-ok : goal.returns-in-Store-clause-ok
 returns-in-Store-clause-ok c =
     IfOk-weaker c.store.result _ _ (λ step d. obeys c.args.unit.now c.args.instr.now _ c.args.pc c.args.machine.now (replied c.args.given) step _ c.in-Store.is (d)) c.store.ensures.ok

@@ -3,6 +3,7 @@ use Rattle.mj_ast.specs.Tokens.{Token, lexemes}
 use Rattle.mj_lex.specs.Seen.{placed, places_seen, token_seen}
 use Rattle.mj_lex.specs.declared.token.Lexeme as kept
 use Rattle.mj_lex.proofs.Tokenise.{placed_more, placed_all, places_seen-snoc}
+use Rattle.mj_lex.proofs.Longest.{tokenised}
 use Rattle.mj_lex.proofs.front.tokens.Goals as goal
 
 pub tokens-preserved : goal.tokens-preserved
@@ -17,5 +18,11 @@ tokens-preserved c = record {
       ∙ placed_more ts (placed 0 (lexemes line)) line c.tokens.rest.now c.in-Some.behind.now (token_seen c.in-Some.token) c.in-Some.ensures.token c.tokens.invariant.within c.tokens.invariant.found;
 }
 
-pub returns : goal.returns
-returns c = placed_all (places_seen c.tokens.lexemes.items) (placed 0 (lexemes c.args.line.now)) _ c.tokens.rest.now c.in_default.ensures.token c.tokens.invariant.found
+pub returns-clause-longest : goal.returns-clause-longest
+returns-clause-longest c = tokenised c.args.line.now
+
+pub returns-in_err-push-clause-longest : goal.returns-in_err-push-clause-longest
+returns-in_err-push-clause-longest c = tokenised c.args.line.now
+
+pub returns-clause-placed : goal.returns-clause-placed
+returns-clause-placed c = placed_all (places_seen c.tokens.lexemes.items) (placed 0 (lexemes c.args.line.now)) _ c.tokens.rest.now c.in_default.ensures.token c.tokens.invariant.found
