@@ -9,7 +9,7 @@ use Rattle.mj_text.specs.declared.fault.Fault.TheVariants.{Select as NoTrue}
 use Rattle.mj_ast.specs.Syntax.{Expr, Chain, Tails, Done, Then, Operand, Literal, Value, Unary, Group, Call, Select, Variable, Var, Exprs, No, More, Choices, Last, Before, Destination, Plain, Pieces, Targets, One, Several, Assignment, Killed, Gone, Spared, Merged, Output, Shown, Format, Command, Set, Write, Halt, Kill, Merge, Step}
 use Rattle.mj_semantics.specs.Functions.{call_value}
 use Rattle.mj_semantics.specs.State.{spare}
-use Rattle.mj_semantics.specs.Outcome.{Timed, turn, change, given, fault}
+use Rattle.mj_semantics.specs.Outcome.{Timed, turn, given, fault}
 use Rattle.mj_semantics.specs.Evaluation.{ev, ev_tails, ev_operand, ev_choices, ev_name, ev_all, name_of, read, when}
 use Rattle.mj_semantics.specs.Points.{Ways}
 use Rattle.mj_semantics.specs.Commands.{Aim, Whole, Part, ev_destination, ev_destinations, store, renew, put, put_all, assign_to, assign, assign_all, remove, named, kill, kill_list, kill_all, take_nodes, put_nodes, merge, merge_all, mark_byte, output, output_all, obey, obey_all}
