@@ -3,7 +3,7 @@ use Rattle.std.proofs.Common.{◌≡◌, ℕ, ◌+◌, ◌≤◌, ◌<◌, ◌^�
 use Rattle.mj_ast.specs.Syntax.{Expr, Chain, Operand, Literal, Value, Unary, Group, Call, About, Select, Variable, Var, Exprs, No, More, Choices, Last, Before, Destination, Plain, Pieces}
 use Rattle.mj_pcode.specs.declared.instr.Instr.{Instr}
 use Rattle.mj_pcode.specs.declared.instr.Instr.TheVariants as instr
-use Rattle.mj_asm.specs.Code.{count, reference, expr_code, tails_code, operand_code, choices_code, subscripts_code, exprs_code, size, sizes, destination_code, destinations_code}
+use Rattle.mj_asm.specs.Code.{count, reference, expr_code, tails_code, operand_code, subscripts_code, exprs_code, size, sizes, destination_code, destinations_code}
 
 -- a list with something in the middle isn't empty
 middle : (a : List Instr) (i : Instr) (b : List Instr) → 1 ≤ length (a ++ i ∷ b)

@@ -73,7 +73,7 @@ their_instructions : lines_code 0 1 commands
     ∷ instr.Store (record { scope = Global; word = codes "Y"; count = 1 }) (record { above = 3; taken = 1 })
     ∷ instr.Discard 3
     ∷ instr.Push (49 ∷ []) ∷ instr.Check (record { scope = Global; word = codes "Y"; count = 1 }) ∷ instr.Kill (record { scope = Global; word = codes "Y"; count = 1 })
-    ∷ instr.Spare (codes "X" ∷ []) ∷ instr.Spare []
+    ∷ instr.Discard 0 ∷ instr.Spare (codes "X" ∷ []) ∷ instr.Spare []
     ∷ instr.Check (record { scope = Global; word = codes "Z"; count = 0 })
     ∷ instr.Push (49 ∷ []) ∷ instr.Take (record { scope = Global; word = codes "Z"; count = 0 }) (record { scope = Global; word = codes "Y"; count = 1 })
     ∷ instr.Put (record { scope = Global; word = codes "Z"; count = 0 }) ∷ []

@@ -13,14 +13,14 @@ use Rattle.mj_semantics.specs.Outcome.{Timed, turn, change, given, fault}
 use Rattle.mj_semantics.specs.Evaluation.{ev, ev_tails, ev_operand, ev_choices, ev_name, ev_all, name_of, read, when, ev_named, named_for, about}
 use Rattle.mj_ast.specs.declared.function.NameFunction.{NameFunction}
 use Rattle.mj_semantics.specs.Points.{Ways}
-use Rattle.mj_semantics.specs.Commands.{Aim, Whole, Part, ev_destination, ev_destinations, store, renew, put, put_all, assign_to, assign, assign_all, remove, kill, kill_list, kill_all, take_nodes, put_nodes, merge, merge_all, mark_byte, output, output_all, obey, obey_all}
+use Rattle.mj_semantics.specs.Commands.{Aim, Whole, Part, ev_destination, ev_destinations, store, renew, put, put_all, assign_to, assign, assign_all, remove, named, kill, kill_list, kill_all, take_nodes, put_nodes, merge, merge_all, mark_byte, output, output_all, obey, obey_all}
 use Rattle.mj_pcode.specs.declared.instr.Reference.{Reference}
 use Rattle.mj_pcode.specs.declared.instr.Depth.{Depth}
 use Rattle.mj_pcode.specs.declared.instr.Instr.{Instr}
 use Rattle.mj_pcode.specs.declared.instr.Instr.TheVariants as instr
 use Rattle.mj_pcode.specs.declared.instr.Unit as unit
 use Rattle.mj_pcode.specs.Machine.{Stack, top, act, exec, operands}
-use Rattle.mj_asm.specs.Code.{count, reference, expr_code, tails_code, operand_code, choices_code, subscripts_code, exprs_code, size, sizes, destination_code, destinations_code, store_code, stores_code, targets_code, assignment_code, assignments_code, kill_code, kills_code, kill_all_code, merge_code, merges_code, output_code, outputs_code, command_code, code_if, step_code, steps_code}
+use Rattle.mj_asm.specs.Code.{count, reference, expr_code, tails_code, operand_code, choices_code, subscripts_code, exprs_code, size, sizes, destination_code, destinations_code, store_code, stores_code, targets_code, assignment_code, assignments_code, kill_code, kills_code, kill_all_code, merge_code, merges_code, output_code, outputs_code, command_code, code_if, step_code, steps_code, names_code}
 use Rattle.mj_asm.proofs.Agree.{Agree, if_at, given_at, change_at, read_at, store_at, renew_at, remove_at, take_nodes_at, put_nodes_at, write_at, about_at}
 
 -- the instructions stand in the code at this place
@@ -391,6 +391,12 @@ module _ (u : unit.Unit) where
         assign_follows a pc stack _ (has_front code pc ca _ has)
         (assigns_follow list (pc + length ca) stack rest (has_back code pc ca _ has) (moved _ _ stack rest (seam pc ca (assignments_code (pc + length ca) list)) k))
 
+    names_follow : (words : List (List ℕ)) (pc : ℕ) (stack : Stack) (rest : Timed) → HasAt code pc (names_code words) → Agree b (from (pc + length (names_code words)) stack) rest → Agree b (from pc stack) (named words rest)
+    names_follow [] pc stack rest has k = moved pc (pc + 0) stack rest (omega arith) k
+    names_follow (word ∷ words) pc stack rest has k =
+        let len : pc + 1 + length (names_code words) ≡ pc + length (names_code (word ∷ words)) = omega arith in
+        one pc stack (instr.Discard 0) _ has.0 (λ n lt. (names_follow words (pc + 1) stack rest has.1 (moved _ _ stack rest len k)).by n (omega arith))
+
     kill_follows : (x : Killed) (pc : ℕ) (stack : Stack) (rest : Timed) → HasAt code pc (kill_code pc x) → Agree b (from (pc + length (kill_code pc x)) stack) rest → Agree b (from pc stack) (kill x rest)
     kill_follows (Gone v) pc stack rest has k =
         let r = reference v in
@@ -407,7 +413,10 @@ module _ (u : unit.Unit) where
         ∙ remove_at n x (λ q. exec u n (behind + 1) (drop r.count (onto ss stack))) rest
         ((over (behind + 1) (drop r.count (onto ss stack)) stack rest (rest_below ss stack _ many) (moved _ _ stack rest len k)).by n (omega arith))))
     kill_follows (Spared words) pc stack rest has k =
-        one pc stack (instr.Spare words) _ has.0 (λ n lt. change_at n (spare words) (λ q. exec u n (pc + 1) stack) rest (k.by n (omega arith)))
+        let cn = names_code words in
+        names_follow words pc stack _ (has_front code pc cn _ has)
+        (one (pc + length cn) stack (instr.Spare words) _ (has_back code pc cn _ has).0 (λ n lt.
+        change_at n (spare words) (λ q. exec u n (pc + length cn + 1) stack) rest ((moved _ _ stack rest (end_of pc cn (instr.Spare words)) k).by n (omega arith))))
 
     kills_follow : (list : List Killed) (pc : ℕ) (stack : Stack) (rest : Timed) → HasAt code pc (kills_code pc list) → Agree b (from (pc + length (kills_code pc list)) stack) rest → Agree b (from pc stack) (kill_list list rest)
     kills_follow [] pc stack rest has k = moved pc (pc + 0) stack rest (omega arith) k

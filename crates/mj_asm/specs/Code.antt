@@ -112,10 +112,15 @@ abbrev pub outputs_code : ℕ → List Output → List Instr
 outputs_code pc [] = []
 outputs_code pc (o ∷ list) = output_code pc o ++ outputs_code (pc + length (output_code pc o)) list
 
+-- an instruction that does nothing for each name of a list
+abbrev pub names_code : List (List ℕ) → List Instr
+names_code [] = []
+names_code (word ∷ words) = instr.Discard 0 ∷ names_code words
+
 -- a name that goes is looked at once its subscripts have their values
 abbrev pub kill_code : ℕ → Killed → List Instr
 kill_code pc (Gone v) = subscripts_code pc v ++ instr.Check (reference v) ∷ instr.Kill (reference v) ∷ []
-kill_code pc (Spared words) = instr.Spare words ∷ []
+kill_code pc (Spared words) = names_code words ++ instr.Spare words ∷ []
 
 abbrev pub kills_code : ℕ → List Killed → List Instr
 kills_code pc [] = []

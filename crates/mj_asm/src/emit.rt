@@ -2,13 +2,14 @@
 
 ghost use Rattle.std.specs.Prelude.{◌≡◌, ◌<◌, ◌+◌, ◌^◌, [], ◌∷◌, ◌++◌, length, map, slice_set, IfOk, OnOk};
 ghost use Rattle.mj_ast.specs.Trees.{expr_of, assignment_of, killed_of, merged_of, output_of, command_of, step_of, line_of, routine_of};
-ghost use Rattle.mj_asm.specs.Code.{assignment_code, assignments_code, kill_code, kills_code, kill_all_code, merge_code, merges_code, output_code, outputs_code, command_code, step_code, steps_code, line_code};
+ghost use Rattle.mj_asm.specs.Code.{assignment_code, assignments_code, names_code, kill_code, kills_code, kill_all_code, merge_code, merges_code, output_code, outputs_code, command_code, step_code, steps_code, line_code};
 ghost use Rattle.mj_asm.specs.Correct.{labels_of, IsUnitOf};
 
 use crate::expr::{aim, emit_expr, emit_subscripts, put, reference};
 use crate::targets::{emit_name, emit_one, emit_several};
 use mj_ast::{Assignment, Command, Killed, Line, Merged, Output, Routine, Step, Targets};
 use mj_pcode::{Instr, Label, Marks, Unit, Words};
+use mj_text::Text;
 use std::alloc::{AllocError, Global};
 
 /// The p-code of a routine. Its lines are numbered from 1 on.
@@ -159,10 +160,22 @@ fn emit_kill(alloc: Global, code: &mut Vec<Instr>, killed: &Killed) -> Result<()
             put(code, Instr::Kill(gone))
         }
         Killed::Except(words) => {
+            emit_names(code, words)?;
             let words = Words::copied(alloc, words)?;
             put(code, Instr::Spare(words))
         }
     }
+}
+
+// An instruction that does nothing for each name of a list.
+fn emit_names(code: &mut Vec<Instr>, words: &[Text]) -> Result<(), AllocError>
+    ensures { OnOk result (code.new.items ≡ code.old.items ++ names_code words.now) }
+{
+    for word in words {
+        let _ = word;
+        put(code, Instr::Discard(0))?;
+    }
+    Ok(())
 }
 
 fn emit_merges(code: &mut Vec<Instr>, list: &[Merged]) -> Result<(), AllocError>

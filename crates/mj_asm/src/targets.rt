@@ -1,6 +1,6 @@
 // The instructions of destinations.
 
-ghost use Rattle.std.specs.Prelude.{◌≡◌, ◌<◌, ◌≤◌, ◌+◌, ◌^◌, [], ◌∷◌, ◌++◌, length, map, OnOk};
+ghost use Rattle.std.specs.Prelude.{◌≡◌, ◌<◌, ◌+◌, ◌^◌, [], ◌∷◌, ◌++◌, length, map, OnOk};
 ghost use Rattle.mj_ast.specs.Trees.{expr_of, variable_of, destination_of};
 ghost use Rattle.mj_ast.specs.Syntax as syntax;
 ghost use Rattle.mj_asm.specs.Code as code_spec;

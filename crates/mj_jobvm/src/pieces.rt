@@ -1,6 +1,6 @@
 // Pieces of a variable's value.
 
-ghost use Rattle.std.specs.Prelude.{◌≡◌, ◌+◌, ◌<◌, ◌^◌, [], ◌∷◌, drop, Option, true, false, option_copied, IfOk, OnErr};
+ghost use Rattle.std.specs.Prelude.{◌≡◌, ◌+◌, ◌<◌, ◌^◌, ◌∷◌, drop, Option, true, false, option_copied, IfOk, OnErr};
 ghost use Rattle.mj_text.specs.Failing.{failing, then_value};
 ghost use Rattle.mj_strfn.specs.Functions.{AnswersOrMemory, set_piece_value, assigned_pieces as assigned_by};
 ghost use Rattle.mj_semantics.specs.Functions.{needed as needed_of, optional as optional_of};

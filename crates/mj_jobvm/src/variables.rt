@@ -1,6 +1,6 @@
 // Reading variables, and their names.
 
-ghost use Rattle.std.specs.Prelude.{◌≡◌, ◌+◌, ◌<◌, ◌^◌, ◌∷◌, drop, List, ℕ, Option, true, false, Ok, Err, IfOk, IfErr, OnErr};
+ghost use Rattle.std.specs.Prelude.{◌≡◌, ◌+◌, ◌<◌, ◌^◌, ◌∷◌, drop, Option, true, false, Ok, Err, IfOk, IfErr, OnErr};
 ghost use Rattle.mj_ask.specs.declared.ask.Reply as replies;
 ghost use Rattle.mj_semantics.specs.Outcome as told;
 ghost use Rattle.mj_semantics.specs.Evaluation as evaluation;

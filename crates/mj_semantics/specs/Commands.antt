@@ -82,9 +82,14 @@ assign_all (a ∷ list) rest = assign a (assign_all list rest)
 abbrev pub remove : Name → Timed → Timed
 remove x rest = access (accesses.Kill x) (λ a. rest)
 
+-- a turn for each name of a list
+abbrev pub named : List (List ℕ) → Timed → Timed
+named [] rest = rest
+named (word ∷ words) rest = turn (named words rest)
+
 abbrev pub kill : Killed → Timed → Timed
 kill (Gone v) rest = ev_name v (λ x. turn (remove x rest))
-kill (Spared words) rest = turn (change (spare words) rest)
+kill (Spared words) rest = named words (turn (change (spare words) rest))
 
 abbrev pub kill_list : List Killed → Timed → Timed
 kill_list [] rest = rest

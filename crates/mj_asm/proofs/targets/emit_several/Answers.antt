@@ -1,4 +1,4 @@
-use Rattle.std.proofs.Common.{◌≡◌, ◌+◌, ◌<◌, ◌^◌, ◌++◌, length, map, ap, arith, length-append}
+use Rattle.std.proofs.Common.{length, map, ap, arith, length-append}
 use Rattle.mj_ast.specs.Trees.{destination_of}
 use Rattle.mj_asm.specs.Code as code
 use Rattle.mj_asm.proofs.Counted.{sizes_below}

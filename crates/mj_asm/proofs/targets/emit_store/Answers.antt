@@ -1,7 +1,6 @@
-use Rattle.std.proofs.Common.{◌≡◌, ◌+◌, ◌<◌, ◌^◌, List, [], ◌∷◌, ◌++◌, length, sym, ap, ◌∙◌, arith, append_assoc}
+use Rattle.std.proofs.Common.{◌+◌, [], ◌∷◌, ◌++◌, sym, ap, ◌∙◌, arith, append_assoc}
 use Rattle.std.proofs.lemmas.Result.{on_ok_weaker}
-use Rattle.mj_ast.specs.Trees.{variable_of, destination_of, exprs_of}
-use Rattle.mj_pcode.specs.declared.instr.Instr.{Instr}
+use Rattle.mj_ast.specs.Trees.{variable_of, destination_of}
 use Rattle.mj_pcode.specs.declared.instr.Instr.TheVariants as instr
 use Rattle.mj_asm.specs.Code as code
 use Rattle.mj_asm.proofs.Rows.{count_is}

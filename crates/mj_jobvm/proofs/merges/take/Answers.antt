@@ -2,7 +2,7 @@ use Rattle.std.proofs.Common.{◌≡◌, ◌+◌, drop, sym, ap, ◌∙◌}
 use Rattle.std.specs.Prelude.{Ok, Err, if◌then◌else◌}
 use Rattle.std.proofs.lemmas.Result.{IfOk-weaker}
 use Rattle.mj_text.specs.declared.fault.Fault.TheVariants.{Overlap}
-use Rattle.mj_subs.specs.Name.{Name, overlaps}
+use Rattle.mj_subs.specs.Name.{Name}
 use Rattle.mj_store.specs.declared.access.Access.TheVariants as accesses
 use Rattle.mj_semantics.specs.State.{hold}
 use Rattle.mj_semantics.specs.Accesses.{access, nodes_told}

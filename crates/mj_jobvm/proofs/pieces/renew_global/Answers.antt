@@ -1,5 +1,5 @@
-use Rattle.std.proofs.Common.{◌≡◌, List, ℕ, Option, ◌+◌, ◌∷◌, reverse, ap, ◌∙◌, subst}
-use Rattle.std.specs.Prelude.{Result, Err, option_map}
+use Rattle.std.proofs.Common.{◌≡◌, List, ℕ, ◌+◌, ◌∷◌, reverse, ap, ◌∙◌, subst}
+use Rattle.std.specs.Prelude.{Result, Err}
 use Rattle.mj_text.specs.declared.fault.Fault.{Fault}
 use Rattle.mj_text.specs.Failing.{then_value}
 use Rattle.mj_text.specs.declared.fault.Fault.TheVariants.{Steps}
@@ -11,7 +11,6 @@ use Rattle.mj_semantics.specs.Accesses.{answered, answer_told, value_told}
 use Rattle.mj_semantics.specs.Commands.{or_empty, renewed}
 use Rattle.mj_pcode.specs.Machine.{top}
 use Rattle.mj_semantics.specs.Job.{no_restart}
-use Rattle.mj_ask.specs.declared.ask.Reply.{Reply}
 use Rattle.mj_jobvm.specs.Answers.{value_or_empty}
 use Rattle.mj_jobvm.specs.Standing.{given_first}
 use Rattle.mj_jobvm.specs.Kept.{stack_of, state_of, replied}
