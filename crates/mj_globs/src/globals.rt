@@ -76,7 +76,8 @@ impl Globals {
         })
     }
 
-    /// Makes the changes in order, all of them or none. `Limit` where one would give a name too many subscripts.
+    /// Makes the changes in order, all of them or none. `Limit` where one would give a name too many subscripts. More than one are
+    /// made on a copy of the store.
     pub fn apply(&mut self, changes: &[Change]) -> Result<(), Failure>
         ensures ok { OnOk result (self.new ≡ after_changes self.old changes.now) }
         ensures limit { (result ≡ Err (failure.Fault fault.Limit)) ↔ IsTrue (list_any goes_too_deep changes.now) }
@@ -86,6 +87,12 @@ impl Globals {
     {
         if is_any_too_deep(changes) {
             return Err(Failure::Fault(Fault::Limit));
+        }
+        if let [change] = changes {
+            return match self.make(change) {
+                Ok(()) => Ok(()),
+                Err(_) => Err(Failure::Memory),
+            };
         }
         let mut changed = match self.try_clone() {
             Ok(changed) => changed,

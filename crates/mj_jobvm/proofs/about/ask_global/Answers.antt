@@ -36,7 +36,9 @@ returns-in-Fault-clause-ok c =
     let rest : Next → List ℕ → Timed = λ next v. next (c.args.pc + 1) (v ∷ drop c.args.count (stack_of old)) in
     let w : made_of f o (answer_told r) ≡ Err c.in-Fault.fault =
     ap (λ t. made_of f t (answer_told r)) (sym c.as_ref.ensures.value)
-    ∙ answers_fault (made_of f (option_copied c.as_ref.result) (answer_told r)) c.told_by.result c.in-Err.failure c.in-Fault.fault c.in-Err.is c.in-Fault.is c.told_by.ensures in
-    (tt, λ next n replies.
-    ap (λ g. asked f o a (rest next) n no_restart (state_of old) (given_first g replies)) (ap (option_map (λ q. q.now)) c.in-Some.is)
-    ∙ asked_told f o a (rest next) n (state_of old) r (Err c.in-Fault.fault) replies c.requires.global c.if-machine-ge-STEPS_LIMIT.false w)
+    ∙ answers_fault (made_of f (option_copied c.as_ref.result) (answer_told r)) c.told_by.result c.in-Err.failure c.in-Fault.fault c.in-Err.is c.in-Fault.is c.told_by.ensures in (
+      tt,
+      λ next n replies.
+          ap (λ g. asked f o a (rest next) n no_restart (state_of old) (given_first g replies)) (ap (option_map (λ q. q.now)) c.in-Some.is)
+          ∙ asked_told f o a (rest next) n (state_of old) r (Err c.in-Fault.fault) replies c.requires.global c.if-machine-ge-STEPS_LIMIT.false w,
+    )
