@@ -13,7 +13,7 @@ abbrev with_locals : Machine → Option Reply → Content → Standing
 with_locals m reply locals = record {
   control = m.control;
   stack = stack_of m;
-  state = record { locals = locals; frames = (state_of m).frames; column = m.column; replied = m.replied };
+  state = record { locals = locals; frames = (state_of m).frames; column = m.column; replied = m.replied; held = m.held };
   given = reply;
 }
 
