@@ -18,7 +18,7 @@ use Rattle.mj_ast.specs.Expressions.{Symbol, Name, Mark, scoped, unary_sign, tru
 use Rattle.mj_expr.specs.Machine.{Outer, Alone, InGroup, InList, InOther, InCondition, InChoice, Owner, Subscripts, Arguments, Within, Front, Right, Under, Place, AsOperand, AsNamed, AsTarget, Pairs, NoPairs, and_pair, before_choices, Wanted, Sought, Named, Behind, Held, Limits, Phrase, Whole, Target, Accept, and_then, and_more, filled, placed, closed, held, outer_depth, owner_depth, depth_of, place_depth, least_of, most_of, is_limited, run, turn, Go, Deep, Stuck, Long, unary_of, binary_of, want_sign, hold_sign}
 use Rattle.mj_expr.specs.Reads.{HasNoOpen, HasNoBinary}
 use Rattle.mj_expr.proofs.Steps.{named_ends, less_true, most_true, open_goes, call_opens, call_goes, colon_goes, choice_goes, choice_closes, before_pair, about_closes, about_goes, other_closes, joined_more, joined_last, whole_done, target_done}
-use Rattle.mj_expr.proofs.Zipper.{Kind, AnExpression, AVariable, Fits, phrase_symbols, start, count-more, joined, least_some, others_few, subscripts_few}
+use Rattle.mj_expr.proofs.Zipper.{Kind, AnExpression, AVariable, Fits, phrase_symbols, start, count-more, joined, least_some, others_few}
 
 unary_again : (op : UnaryOp) → unary_of (unary_sign op) ≡ Some op
 unary_again unary.Plus = refl

@@ -10,6 +10,9 @@ use Rattle.mj_ast.specs.declared.function.Function.TheVariants.{Length}
 use Rattle.mj_ast.specs.declared.function.NameFunction.TheVariants as names
 use Rattle.mj_ast.specs.Tokens.{Token, Word, Called, Quoted, Signed, Blank, Unclosed}
 use Rattle.mj_ast.specs.Expressions.{symbol, expr_symbols, expr_nesting}
+use Rattle.mj_expr.specs.declared.beyond.Around.TheVariants as around
+use Rattle.mj_expr.specs.declared.beyond.Stage.TheVariants as stage
+use Rattle.mj_expr.specs.Shapes.{Passes, Halts, pass}
 use Rattle.mj_expr.specs.Machine.{Wanted, Sought, Front, Alone, AsTarget, Limits, Whole, Target, Accept, StuckAt, DeepAt, TooLong, run}
 
 abbrev levels : ℕ → Limits
@@ -131,3 +134,22 @@ nesting_row = refl
 -- `-A+-B` nests one level deep
 unary_row : expr_nesting (Chain (Unary unary.Minus (Value (Var Local (65 ∷ []) No))) (Then binary.Add (Unary unary.Minus (Value (Var Local (66 ∷ []) No))) Done)) ≡ 1
 unary_row = refl
+
+-- ---- without trees
+
+-- `A+A ` goes up to the blank, and `^A=` as a variable up to the `=`
+passed_row : pass (map symbol (a ∷ Signed Plus ∷ a ∷ Blank ∷ [])) stage.Operand around.Alone [] ≡ Passes (map symbol (Blank ∷ []))
+passed_row = refl
+
+passed_target_row : pass (map symbol (Signed Caret ∷ a ∷ Signed Equals ∷ [])) stage.Variable around.Target [] ≡ Passes (map symbol (Signed Equals ∷ []))
+passed_target_row = refl
+
+-- `$S(A:A)` is whole, `(A` is stuck at its end, and `A(A:` at the colon
+passed_select_row : pass (map symbol (Called (115 ∷ []) ∷ Signed Open ∷ a ∷ Signed Colon ∷ a ∷ Signed Close ∷ [])) stage.Operand around.Alone [] ≡ Passes []
+passed_select_row = refl
+
+halted_row : pass (map symbol (Signed Open ∷ a ∷ [])) stage.Operand around.Alone [] ≡ Halts (StuckAt 0)
+halted_row = refl
+
+halted_colon_row : pass (map symbol (a ∷ Signed Open ∷ a ∷ Signed Colon ∷ [])) stage.Operand around.Alone [] ≡ Halts (StuckAt 1)
+halted_colon_row = refl

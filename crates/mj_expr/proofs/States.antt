@@ -8,10 +8,9 @@ use Rattle.mj_ast.specs.declared.expr.Scope.TheVariants.{Global}
 use Rattle.mj_oper.specs.declared.op.UnaryOp.{UnaryOp}
 use Rattle.mj_ast.specs.Syntax.{Operand, Literal, Value, Tails, Variable, Var, No}
 use Rattle.mj_ast.specs.Tokens.{Word, Digits}
-use Rattle.mj_ast.specs.declared.function.NameFunction.{NameFunction}
 use Rattle.mj_ast.specs.declared.function.Callee.{Callee}
 use Rattle.mj_ast.specs.declared.function.Callee.TheVariants as callee
-use Rattle.mj_ast.specs.Expressions.{Symbol, Constant, Name, Applied, Overlong, Mark, Other, subscript_count, least_subscripts, levels}
+use Rattle.mj_ast.specs.Expressions.{Symbol, Constant, Name, Applied, Overlong, Mark, Other}
 use Rattle.mj_ast.specs.Lines.{digits_filler, word_filler}
 use Rattle.mj_expr.specs.Machine.{InGroup, InList, Subscripts, Within, Front, Under, Place, AsOperand, AsNamed, AsTarget, State, Wanted, Sought, Marked, Named, Calling, Behind, Held, Got, Limits, Next, Go, Stuck, Deep, Long, TooLong, filled, placed, outer_of, depth_of, place_depth, run, step, behind, unary_of, want_sign, want_other, stray_comma, is_full, on, inside}
 use Rattle.mj_expr.proofs.Zipper.{Kind, HasRead, Good, good_depth, place_good_depth, placed_read, before, place_before, zero_text, least_some, least_most, least_at, levels_few}

@@ -3,3 +3,4 @@ pub mod Output
 pub mod Calls
 pub mod Alone
 pub mod Ways
+pub mod Statuses

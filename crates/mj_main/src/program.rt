@@ -1,5 +1,7 @@
 // The program.
 
+ghost use Rattle.std.specs.Prelude.{◌≤◌, IfOk};
+
 use crate::alone::one;
 use crate::ended::Alone;
 use crate::routines::loaded;
@@ -21,6 +23,7 @@ where
     I: Read,
     O: Write,
     E: Write,
+    ensures { result ≤ 4 }
 {
     let done = match read_words(rt.alloc(), words) {
         Ok(order) => obey(rt, &order, out),
@@ -41,7 +44,9 @@ fn obey<'a, R: Files + AllocGlobal, O: Write>(
     rt: &R,
     order: &Order<'a>,
     out: &mut O,
-) -> Result<u8, Stop<'a>> {
+) -> Result<u8, Stop<'a>>
+    ensures { IfOk result (λ status. status ≤ 1) }
+{
     match order {
         Order::Run { start, files } => {
             let ran = run_alone(rt, *start, files)?;
@@ -73,7 +78,9 @@ fn entry<'a>(alloc: Global, word: &'a str) -> Result<Entry, Stop<'a>> {
 }
 
 // Writes what a job wrote, and gives the exit status.
-fn show<'a, O: Write>(ran: &Alone, out: &mut O) -> Result<u8, Stop<'a>> {
+fn show<'a, O: Write>(ran: &Alone, out: &mut O) -> Result<u8, Stop<'a>>
+    ensures { IfOk result (λ status. status ≤ 1) }
+{
     match ran {
         Alone::Ended(done) => {
             print(done.output(), out)?;
@@ -87,11 +94,9 @@ fn show<'a, O: Write>(ran: &Alone, out: &mut O) -> Result<u8, Stop<'a>> {
 }
 
 // The text on words that are no order: help, which was asked for, or what is wrong.
-fn tell<'a, O: Write, E: Write>(
-    refusal: &Refusal,
-    out: &mut O,
-    err: &mut E,
-) -> Result<u8, Stop<'a>> {
+fn tell<'a, O: Write, E: Write>(refusal: &Refusal, out: &mut O, err: &mut E) -> Result<u8, Stop<'a>>
+    ensures { IfOk result (λ status. status ≤ 3) }
+{
     match refusal {
         Refusal::Help(text) => {
             print(text.as_bytes(), out)?;

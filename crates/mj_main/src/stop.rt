@@ -1,5 +1,8 @@
 // Why the program ends before its end.
 
+ghost use Rattle.std.specs.Prelude.{◌≡◌, ◌≤◌};
+ghost use Rattle.mj_main.specs.Statuses.{status_of};
+
 use mj_rou::LoadError;
 use mj_text::{Digits, Text};
 use std::alloc::AllocError;
@@ -49,7 +52,10 @@ pub const FAILED: u8 = 4;
 
 impl Stop<'_> {
     /// The exit status that goes with it.
-    pub fn status(&self) -> u8 {
+    pub fn status(&self) -> u8
+        ensures which { result ≡ status_of self.now }
+        ensures bound { result ≤ 4 }
+    {
         match self {
             Stop::Name(_) | Stop::Routine(_) | Stop::Twice(_) => REFUSED,
             Stop::Value(_) => WORDS,

@@ -1,5 +1,5 @@
 -- What some small routines ask, by computing. The text of each stands above it, a `/` between its lines.
-use Rattle.std.specs.Prelude.{◌≡◌, refl, ℕ, List, [], ◌∷◌, ◌++◌, Some, None, codes, replicate}
+use Rattle.std.specs.Prelude.{◌≡◌, refl, ℕ, true, List, [], ◌∷◌, ◌++◌, Some, None, codes, replicate}
 use Rattle.std.specs.Fmt.{digits}
 use Rattle.mj_text.specs.declared.fault.Fault.TheVariants as faults
 use Rattle.mj_store.specs.declared.access.Access.TheVariants as access
@@ -7,12 +7,15 @@ use Rattle.mj_store.specs.declared.access.Answer.TheVariants as answer
 use Rattle.mj_ask.specs.declared.ask.Ask.TheVariants as ask
 use Rattle.mj_ask.specs.declared.ask.Reply.{Reply}
 use Rattle.mj_ask.specs.declared.ask.Reply.TheVariants as reply
-use Rattle.mj_oper.specs.declared.op.Op.TheVariants.{Add, Multiply, Join, Is}
+use Rattle.mj_oper.specs.declared.op.Op.TheVariants.{Add, Multiply, Divide, Join, Is}
 use Rattle.mj_oper.specs.declared.op.TruthOp.TheVariants.{Equal}
 use Rattle.mj_oper.specs.declared.op.UnaryOp.TheVariants.{Minus}
 use Rattle.mj_ast.specs.declared.routine.Mark.TheVariants.{NewLine}
-use Rattle.mj_ast.specs.Syntax.{Chain, Done, Then, Value, Unary, No, More, Plain, Pieces, Several, One, Gone, Spared, Set, Write, Shown, Format, Halt, Kill, Merge}
+use Rattle.mj_ast.specs.Syntax.{Chain, Done, Then, Value, Unary, No, More, Plain, Pieces, Several, One, Gone, Spared, Set, Write, Shown, Format, Halt, Kill, Merge, About, Var}
 use Rattle.mj_semantics.proofs.Talk.{asks, cmd, cmd_if, line, one, lit, local, local_at, global, global_at, name, name_at, to, set, show}
+use Rattle.mj_ast.specs.declared.expr.Scope.TheVariants.{Global}
+use Rattle.mj_ast.specs.declared.function.NameFunction.TheVariants as names
+use Rattle.mj_store.specs.declared.store.Direction.TheVariants.{Backward}
 
 abbrev zero_name : List ℕ
 zero_name = codes "0"
@@ -194,3 +197,25 @@ merged_too_deep : asks (
     ∷ ask.DeviceEnd zero_name ∷ ask.Halt (Some faults.Limit) ∷ []
 unfolding digits
 merged_too_deep = refl
+
+-- WRITE $ORDER(^A(""),-1),$GET(^A,"d"),$NAME(A(1)),$DATA(A)
+functions_of_names : asks (
+    line (cmd (Write (Shown (one (About names.Order (Var Global (codes "A") (More (one (lit [])) No)) (More (one (Unary Minus (lit (codes "1")))) No)))
+    ∷ Shown (one (About names.Get (global (codes "A")) (More (one (lit (codes "d"))) No)))
+    ∷ Shown (one (About names.Name (local_at (codes "A") (one (lit (codes "1")))) No))
+    ∷ Shown (one (About names.Data (local (codes "A")) No)) ∷ [])) ∷ []) ∷ [])
+    (done 1 (reply.Answer (answer.Order (Some (codes "9"))) ∷ done 1 (reply.Answer (answer.Value None) ∷ done 5 [])))
+    ≡ ask.DeviceBegin zero_name
+    ∷ ask.Access (access.Order (record { global = true; word = codes "A"; subscripts = [] ∷ [] }) Backward) ∷ ask.DeviceWrite zero_name (codes "9")
+    ∷ ask.Access (access.Value (name (codes "A"))) ∷ ask.DeviceWrite zero_name (codes "d")
+    ∷ ask.DeviceWrite zero_name (codes "A(1)") ∷ ask.DeviceWrite zero_name (codes "0") ∷ ask.DeviceEnd zero_name ∷ ask.Halt None ∷ []
+unfolding digits
+functions_of_names = refl
+
+-- $GET(^A(""),1/0) is SUBSCRIPT, before its other argument
+empty_name : asks (
+    line (cmd (Write (Shown (one (About names.Get (Var Global (codes "A") (More (one (lit [])) No)) (More (Chain (lit (codes "1")) (Then Divide (lit (codes "0")) Done)) No))) ∷ [])) ∷ []) ∷ [])
+    (done 4 [])
+    ≡ ask.DeviceBegin zero_name ∷ ask.DeviceWrite zero_name (codes "F6 SUBSCRIPT R:1" ++ 10 ∷ []) ∷ ask.DeviceEnd zero_name ∷ ask.Halt (Some faults.Subscript) ∷ []
+unfolding digits
+empty_name = refl

@@ -1,4 +1,4 @@
-use Rattle.std.proofs.Common.{◌≡◌, ◌+◌, ◌∷◌, drop, ◌∙◌, ℕ, List, subst, ap, sym}
+use Rattle.std.proofs.Common.{◌+◌, ◌∷◌, drop, ◌∙◌, ℕ, List, subst, ap, sym}
 use Rattle.std.proofs.lemmas.Result.{IfOk-weaker, on_err_weaker}
 use Rattle.mj_strfn.specs.Functions.{AnswersOrMemory}
 use Rattle.mj_semantics.specs.Outcome.{Timed}
