@@ -5,7 +5,9 @@ use Rattle.std.proofs.lemmas.Bool.{ltb-true}
 use Rattle.std.proofs.lemmas.List.{length-map}
 use Rattle.mj_text.specs.declared.fault.Fault.{Fault}
 use Rattle.mj_text.specs.declared.fault.Fault.TheVariants as faults
-use Rattle.mj_subs.specs.Name.{Name}
+use Rattle.mj_subs.specs.Name.{Name, overlaps}
+use Rattle.mj_store.specs.Questions.{Subtree}
+use Rattle.mj_strfn.specs.Functions.{assigned_pieces, set_piece_value}
 use Rattle.mj_store.specs.Runs.{name_of as name_in, answer_of}
 use Rattle.mj_store.specs.declared.access.Access.{Access}
 use Rattle.mj_store.specs.declared.access.Access.TheVariants as accesses
@@ -15,17 +17,17 @@ use Rattle.mj_ask.specs.declared.ask.Ask.TheVariants as asks
 use Rattle.mj_ask.specs.declared.ask.Reply.{Reply}
 use Rattle.mj_ask.specs.declared.entry.Entry.{Entry}
 use Rattle.mj_oper.specs.Operators.{binary_value, unary_value, truth_value}
-use Rattle.mj_ast.specs.Syntax.{Expr, Chain, Tails, Done, Then, Operand, Literal, Value, Unary, Group, Call, About, Select, Variable, Var, Exprs, No, More as Another, Choices, Last, Before, Assignment, Output, Shown, Format, Command, Set, Write, Halt, Step, Line, Routine}
-use Rattle.mj_semantics.specs.State.{State, Locals, Place, accessed, counted, wrote, pushed, at_place}
+use Rattle.mj_ast.specs.Syntax.{Expr, Chain, Tails, Done, Then, Operand, Literal, Value, Unary, Group, Call, About, Select, Variable, Var, Exprs, No, More as Another, Choices, Last, Before, Destination, Plain, Pieces, Targets, One, Several, Assignment, Killed, Gone, Spared, Merged, Output, Shown, Format, Command, Set, Write, Halt, Kill, Merge, Step, Line, Routine}
+use Rattle.mj_semantics.specs.State.{State, Locals, Place, accessed, counted, wrote, pushed, at_place, spare, hold}
 use Rattle.mj_ast.specs.declared.function.NameFunction.{NameFunction}
-use Rattle.mj_semantics.specs.Functions.{call_value, optional}
+use Rattle.mj_semantics.specs.Functions.{call_value, needed, optional}
 use Rattle.mj_semantics.specs.Names.{spelled, asks as asks_some, question, told}
 use Rattle.mj_semantics.specs.Outcome.{Needs, Handler, Timed, turn, look, change, asking, over, principal, halt, end, fault_bytes, fault, steps_limit, ask, tell, need, given}
-use Rattle.mj_semantics.specs.Accesses.{answer_told, answered, access, value_told}
+use Rattle.mj_semantics.specs.Accesses.{answer_told, answered, access, value_told, nodes_told}
 use Rattle.mj_semantics.specs.Evaluation.{ev, ev_tails, ev_operand, ev_choices, ev_name, ev_named, ev_all, name_of, named_for, read, about, when}
 use Rattle.mj_semantics.specs.Lines.{Here, place_at, next_line, line_before, line_at, entered}
 use Rattle.mj_semantics.specs.Points.{Ways, Point, AtLine, Called, Points}
-use Rattle.mj_semantics.specs.Commands.{store, assign, assign_all, write, mark_byte, output, output_all, obey, obey_all}
+use Rattle.mj_semantics.specs.Commands.{Aim, Whole, Part, ev_destination, ev_destinations, store, or_empty, renewed, renew, put, put_all, assign_to, assign, assign_all, named, remove, kill, kill_list, kill_all, take_nodes, put_these, put_nodes, merge, merge_all, write, mark_byte, output, output_all, obey, obey_all}
 use Rattle.mj_semantics.specs.Job.{obey_line, call, points_of, opening, no_restart, start, next}
 use Rattle.mj_jobvm.specs.Run.{Log, replies_of, IsTrace, begins, goes_on}
 use Rattle.mj_jobvm.specs.Limit.{IsAllowed, AreAllowed, IsLimited}
@@ -203,9 +205,36 @@ when_keeps (Some e) done skipped k l =
 store_keeps : (x : Name) (v : List ℕ) (rest : Timed) → Keeps rest → Keeps (store x v rest)
 store_keeps x v rest k = access_keeps (accesses.Set x v) (λ a. rest) (λ a. k)
 
+destination_keeps : (d : Destination) (rest : Aim → Timed) → ((t : Aim) → Keeps (rest t)) → Keeps (ev_destination d rest)
+destination_keeps (Plain v) rest k = name_keeps v _ (λ x. k (Whole x))
+destination_keeps (Pieces v es) rest k = name_keeps v _ (λ x. all_keep es _ (λ ts. k (Part x ts)))
+
+destinations_keep : (list : List Destination) (rest : List Aim → Timed) → ((ts : List Aim) → Keeps (rest ts)) → Keeps (ev_destinations list rest)
+destinations_keep [] rest k = k []
+destinations_keep (d ∷ list) rest k = destination_keeps d _ (λ t. destinations_keep list (λ ts. rest (t ∷ ts)) (λ ts. k (t ∷ ts)))
+
+range_keeps : (range : Option (ℕ × ℕ)) (x : Name) (separator e : List ℕ) (skipped : Timed) (rest : List ℕ → Timed) → Keeps skipped → ((v : List ℕ) → Keeps (rest v)) →
+    Keeps (elim range [ None ↦ skipped | Some r ↦ renewed x separator r e rest ])
+range_keeps None x separator e skipped rest k l = k
+range_keeps (Some r) x separator e skipped rest k l = access_keeps (accesses.Value x) _ (λ a. given_keeps (set_piece_value (or_empty (value_told a)) separator r e) rest l)
+
+renew_keeps : (x : Name) (ts : List (List ℕ)) (e : List ℕ) (skipped : Timed) (rest : List ℕ → Timed) → Keeps skipped → ((v : List ℕ) → Keeps (rest v)) → Keeps (renew x ts e skipped rest)
+renew_keeps x ts e skipped rest k l = given_keeps (assigned_pieces (needed 0 ts) (optional 1 ts) (optional 2 ts)) _ (λ range. range_keeps range x (needed 0 ts) e skipped rest k l)
+
+put_keeps : (t : Aim) (v : List ℕ) (rest : Timed) → Keeps rest → Keeps (put t v rest)
+put_keeps (Whole x) v rest k = store_keeps x v rest k
+put_keeps (Part x ts) v rest k = renew_keeps x ts v rest _ k (λ w. turn_keeps (store x w rest) (store_keeps x w rest k))
+
+put_all_keeps : (ts : List Aim) (v : List ℕ) (rest : Timed) → Keeps rest → Keeps (put_all ts v rest)
+put_all_keeps [] v rest k = k
+put_all_keeps (t ∷ ts) v rest k = turn_keeps _ (put_keeps t v (put_all ts v rest) (put_all_keeps ts v rest k))
+
+targets_keep : (t : Targets) (e : Expr) (rest : Timed) → Keeps rest → Keeps (assign_to t e rest)
+targets_keep (One d) e rest k = destination_keeps d _ (λ t. ev_keeps e _ (λ v. turn_keeps (put t v rest) (put_keeps t v rest k)))
+targets_keep (Several list) e rest k = destinations_keep list _ (λ ts. ev_keeps e _ (λ v. put_all_keeps ts v (turn rest) (turn_keeps rest k)))
+
 assign_keeps : (a : Assignment) (rest : Timed) → Keeps rest → Keeps (assign a rest)
-assign_keeps a rest k =
-    name_keeps a.destination _ (λ x. ev_keeps a.value _ (λ v. turn_keeps (store x v rest) (store_keeps x v rest k)))
+assign_keeps a rest k = targets_keep a.targets a.value rest k
 
 assign_all_keeps : (list : List Assignment) (rest : Timed) → Keeps rest → Keeps (assign_all list rest)
 assign_all_keeps [] rest k = k
@@ -226,10 +255,50 @@ output_all_keeps : (list : List Output) (rest : Timed) → Keeps rest → Keeps 
 output_all_keeps [] rest k = k
 output_all_keeps (o ∷ list) rest k = output_keeps o (output_all list rest) (output_all_keeps list rest k)
 
+names_keep : (words : List (List ℕ)) (rest : Timed) → Keeps rest → Keeps (named words rest)
+names_keep [] rest k = k
+names_keep (word ∷ words) rest k = turn_keeps (named words rest) (names_keep words rest k)
+
+spare_keeps : (words : List (List ℕ)) (rest : Timed) → Keeps rest → Keeps (turn (change (spare words) rest))
+spare_keeps words rest k = turn_keeps (change (spare words) rest) (change_keeps rest k (spare words) (λ q. refl))
+
+kill_keeps : (x : Killed) (rest : Timed) → Keeps rest → Keeps (kill x rest)
+kill_keeps (Gone v) rest k = name_keeps v _ (λ x. turn_keeps (remove x rest) (access_keeps (accesses.Kill x) (λ a. rest) (λ a. k)))
+kill_keeps (Spared words) rest k = names_keep words _ (spare_keeps words rest k)
+
+kill_list_keeps : (list : List Killed) (rest : Timed) → Keeps rest → Keeps (kill_list list rest)
+kill_list_keeps [] rest k = k
+kill_list_keeps (x ∷ list) rest k = kill_keeps x (kill_list list rest) (kill_list_keeps list rest k)
+
+kill_all_keeps : (list : List Killed) (rest : Timed) → Keeps rest → Keeps (kill_all list rest)
+kill_all_keeps [] rest k = spare_keeps [] rest k
+kill_all_keeps (x ∷ list) rest k = kill_list_keeps (x ∷ list) rest k
+
+these_keep : (x : Name) (nodes : Subtree) (rest : Timed) → Keeps rest → Keeps (put_these x nodes rest)
+these_keep x [] rest k = k
+these_keep x (e ∷ nodes) rest k = access_keeps (accesses.Put x (e ∷ nodes)) _ (λ a. change_keeps rest k (hold []) (λ q. refl))
+
+nodes_keep : (x : Name) (rest : Timed) → Keeps rest → Keeps (put_nodes x rest)
+nodes_keep x rest k = look_keeps _ (λ s. these_keep x s.held rest k)
+
+take_keeps : (into from : Name) (rest : Timed) → Keeps rest → Keeps (take_nodes into from rest)
+take_keeps into from rest k =
+    if_keeps (overlaps into from) (fault faults.Overlap) (access (accesses.Subtree from) (λ a. change (hold (nodes_told a)) rest)) (fault_keeps faults.Overlap)
+    (access_keeps (accesses.Subtree from) _ (λ a. change_keeps rest k (hold (nodes_told a)) (λ q. refl)))
+
+merge_keeps : (m : Merged) (rest : Timed) → Keeps rest → Keeps (merge m rest)
+merge_keeps m rest k = name_keeps m.into _ (λ x. name_keeps m.from _ (λ y. take_keeps x y (turn (put_nodes x rest)) (turn_keeps (put_nodes x rest) (nodes_keep x rest k))))
+
+merge_all_keeps : (list : List Merged) (rest : Timed) → Keeps rest → Keeps (merge_all list rest)
+merge_all_keeps [] rest k = k
+merge_all_keeps (m ∷ list) rest k = merge_keeps m (merge_all list rest) (merge_all_keeps list rest k)
+
 obey_keeps : (c : Command) (ways : Ways) (rest : Timed) → Keeps rest → Keeps (obey c ways rest)
 obey_keeps (Set list) ways rest k = assign_all_keeps list rest k
 obey_keeps (Write list) ways rest k = output_all_keeps list rest k
 obey_keeps Halt ways rest k = turn_keeps (end None) (end_keeps None)
+obey_keeps (Kill list) ways rest k = kill_all_keeps list rest k
+obey_keeps (Merge list) ways rest k = merge_all_keeps list rest k
 
 obey_all_keeps : (steps : List Step) (ways : Ways) → Keeps ways.line_end → Keeps ways.leave → Keeps (obey_all steps ways)
 obey_all_keeps [] ways k l = k

@@ -20,7 +20,7 @@ returns-in-Err-clause-ok c =
     let rest : Next → List ℕ → Timed = λ next v. next (c.args.pc + 1) (v ∷ drop c.args.count (stack_of old)) in
     let whole : Next → Name → Timed = λ next x. about f x (optional 0 (operands k (stack_of old))) (rest next) in
     let under = c.topmost-subscripts.ensures
-    ∙ ap (operands r.count) (c.past.ensures ∙ ap (λ j. drop j (reverse c.deref.result.now)) c.saturating_sub-others.ensures ∙ ap (λ l. drop k (reverse l)) c.deref.ensures.value) in
+    ∙ ap (operands r.count) (c.under.ensures ∙ ap (λ j. drop j (reverse c.deref.result.now)) c.saturating_sub-others.ensures ∙ ap (λ l. drop k (reverse l)) c.deref.ensures.value) in
     let is : named_for f r.scope r.word (operands r.count (drop k (stack_of old))) ≡ Err c.in-Err.fault =
     sym (c.in_ok-name.ensures ∙ ap (named_for f r.scope r.word) under) ∙ c.in-Err.is in
     does_as (λ next. given (named_for f r.scope r.word (operands r.count (drop k (stack_of old)))) (whole next)) (λ next. fault c.in-Err.fault)
@@ -38,7 +38,7 @@ returns-clause-ok c =
     let rest : Next → List ℕ → Timed = λ next v. next (c.args.pc + 1) (v ∷ drop c.args.count (stack_of old)) in
     let whole : Next → Name → Timed = λ next y. about f y (optional 0 (operands k (stack_of old))) (rest next) in
     let under = c.topmost-subscripts.ensures
-    ∙ ap (operands r.count) (c.past.ensures ∙ ap (λ j. drop j (reverse c.deref.result.now)) c.saturating_sub-others.ensures ∙ ap (λ l. drop k (reverse l)) c.deref.ensures.value) in
+    ∙ ap (operands r.count) (c.under.ensures ∙ ap (λ j. drop j (reverse c.deref.result.now)) c.saturating_sub-others.ensures ∙ ap (λ l. drop k (reverse l)) c.deref.ensures.value) in
     let is : named_for f r.scope r.word (operands r.count (drop k (stack_of old))) ≡ Ok x =
     sym (c.in_ok-name.ensures ∙ ap (named_for f r.scope r.word) under) ∙ c.in-Ok.is in
     let same : c.in_ok-other.other ≡ optional 0 (operands k (stack_of old)) =
