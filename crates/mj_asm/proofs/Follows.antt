@@ -97,6 +97,7 @@ below_all (d ∷ list) (t ∷ ts) stack base l =
     let e : size d + sizes list ≡ sizes list + size d = omega arith in
     ap (λ k. drop k stack) e ∙ sym (drop-drop (size d) (sizes list) stack)
     ∙ ap (drop (size d)) (below_all list ts stack l.0 l.2) ∙ below_one d t l.0 base l.1
+
 both_below : (ss vs : List (List ℕ)) (stack : Stack) (n : ℕ) → length ss + length vs ≡ n → drop n (onto vs (onto ss stack)) ≡ stack
 both_below ss vs stack n e =
     let all : onto vs (onto ss stack) ≡ (reverse vs ++ reverse ss) ++ stack = onto_is vs (onto ss stack) ∙ ap (λ l. reverse vs ++ l) (onto_is ss stack) ∙ sym (append_assoc (reverse vs) (reverse ss) stack) in

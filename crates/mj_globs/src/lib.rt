@@ -7,9 +7,9 @@
 
 mod change;
 mod globals;
+mod keep;
 #[cfg(test)]
 mod tests;
-mod keep;
 mod words;
 
 pub use change::Change;

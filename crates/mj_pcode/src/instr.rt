@@ -2,7 +2,7 @@
 
 use crate::marks::Marks;
 use crate::words::Words;
-use mj_ast::{Function, Scope, NameFunction};
+use mj_ast::{Function, NameFunction, Scope};
 use mj_oper::{Op, UnaryOp};
 use mj_text::Text;
 

@@ -7,17 +7,41 @@ use std::test::Fail;
 #[test]
 fn trees_change(rt: HostRuntime) -> Result<(), Fail> {
     for (bytes, out, status) in [
-        (" SET X=\"a,b\",$PIECE(X,\",\",4)=\"d\" WRITE X\n", "a,b,,d", 0),
+        (
+            " SET X=\"a,b\",$PIECE(X,\",\",4)=\"d\" WRITE X\n",
+            "a,b,,d",
+            0,
+        ),
         (" SET ^X=\"a,b,c\",$P(^X,\",\",2)=\"d\" W ^X\n", "a,d,c", 0),
-        (" SET $PIECE(X,\"-\",2,3)=\"b\" W X S $P(X,\"-\",0,1)=\"a\" W X\n", "-ba-b", 0),
-        (" SET $PIECE(X,\"\",1)=1,$P(X,\",\",2,1)=2,$P(X,\",\",0)=3 W X\n", "F1 UNDEF R:1\n", 1),
+        (
+            " SET $PIECE(X,\"-\",2,3)=\"b\" W X S $P(X,\"-\",0,1)=\"a\" W X\n",
+            "-ba-b",
+            0,
+        ),
+        (
+            " SET $PIECE(X,\"\",1)=1,$P(X,\",\",2,1)=2,$P(X,\",\",0)=3 W X\n",
+            "F1 UNDEF R:1\n",
+            1,
+        ),
         (" SET I=1,(A(I),I,B(I))=I+1 W I,A(1),B(1)\n", "222", 0),
         (" SET (X,$PIECE(X,\",\",2))=\"a\" W X\n", "a,a", 0),
         (" SET (X,A(\"\"))=1/0\n", "F6 SUBSCRIPT R:1\n", 1),
-        (" SET X=1,X(1)=2,Y=3 KILL X W Y,X(1)\n", "3\nF1 UNDEF R:1\n", 1),
-        (" SET (X(1),Y)=1 KILL (X),Z W X(1),Y\n", "1\nF1 UNDEF R:1\n", 1),
+        (
+            " SET X=1,X(1)=2,Y=3 KILL X W Y,X(1)\n",
+            "3\nF1 UNDEF R:1\n",
+            1,
+        ),
+        (
+            " SET (X(1),Y)=1 KILL (X),Z W X(1),Y\n",
+            "1\nF1 UNDEF R:1\n",
+            1,
+        ),
         (" SET (X,^X)=1 KILL  W ^X,X\n", "1\nF1 UNDEF R:1\n", 1),
-        (" SET ^X(1)=1,^X(1,2)=2,^X(2)=3 KILL ^X(1) W ^X(2),^X(1,2)\n", "3\nF1 UNDEF R:1\n", 1),
+        (
+            " SET ^X(1)=1,^X(1,2)=2,^X(2)=3 KILL ^X(1) W ^X(2),^X(1,2)\n",
+            "3\nF1 UNDEF R:1\n",
+            1,
+        ),
         (
             " SET ^A(1)=1,^A(1,2)=2,^B(9)=9 MERGE ^B=^A(1) W ^B,^B(2),^B(9),^A(1),^A(1,2)\n",
             "12912",
