@@ -20,5 +20,5 @@ bytes_of (Long shared) = arc_slice_items shared
 -- what is kept is a whole number, or bytes within the limit
 abbrev pub IsWithin : Kept → Type 0
 IsWithin (Number n) = IsWhole n
-IsWithin (Short s) = s.len ≤ 22
+IsWithin (Short s) = s.len ≤ 15
 IsWithin (Long shared) = length (arc_slice_items shared) ≤ TEXT_LIMIT

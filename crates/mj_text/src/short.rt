@@ -2,15 +2,16 @@
 
 ghost use Rattle.std.specs.Prelude.{◌≡◌, ◌≤◌, ◌+◌, ◌++◌, length};
 
-/// The greatest number of bytes that take no memory: with their number and a text's kind they are three words.
-pub(crate) const SHORT_LIMIT: usize = 22;
+/// The greatest number of bytes that take no memory: with their number they are two words.
+pub(crate) const SHORT_LIMIT: usize = 15;
 
-/// At most [`SHORT_LIMIT`] bytes.
+/// At most [`SHORT_LIMIT`] bytes, from the start of a word, so that they are moved by words.
 #[derive(Clone, Copy)]
 pub(crate) struct Short {
+    _start: [u64; 0],
     len: u8,
     room: [u8; SHORT_LIMIT],
-    ghost fits: { len ≤ 22 },
+    ghost fits: { len ≤ 15 },
 }
 
 impl Short {
@@ -26,6 +27,7 @@ impl Short {
         room[..front.len()].copy_from_slice(front);
         room[front.len()..len].copy_from_slice(back);
         Short {
+            _start: [],
             len: len as u8,
             room,
         }

@@ -71,7 +71,7 @@ module _ {K V : Type 0} (R : K → K → Ordering) where
 
   -- ---- a child that is left without a node is taken out
 
-  below-remove_entry : (xs : List (K × List (List K × V))) (s : K) → lookup (is_at (R s)) xs ≡ Some [] → below (remove_entry (is_at (R s)) xs) ≡ below xs
+  pub below-remove_entry : (xs : List (K × List (List K × V))) (s : K) → lookup (is_at (R s)) xs ≡ Some [] → below (remove_entry (is_at (R s)) xs) ≡ below xs
   below-remove_entry [] s there = refl
   below-remove_entry (k ∷ ks) s there =
       elim (is_eq (R s k.0)) as (λ b. cond b (Some k.1) (lookup (is_at (R s)) ks) ≡ Some [] → below (cond b ks (k ∷ remove_entry (is_at (R s)) ks)) ≡ under k.0 k.1 ++ below ks) [

@@ -5,3 +5,4 @@ pub mod Orders
 pub mod Laters
 pub mod Copies
 pub mod Trees
+pub mod Undo

@@ -1,5 +1,5 @@
 -- A text that is put into a node is put into one of its children, or is its own.
-use Rattle.std.proofs.Common.{◌≡◌, ◌-◌, ◌<◌, ◌≤◌, take, drop, get_or, true, false, cond, List, [], ◌∷◌, ◌++◌, length, Option, Some, None, refl, sym, ap, ◌∙◌, subst, arith, Result, Ok, Err, OnOk, OnErr}
+use Rattle.std.proofs.Common.{◌≡◌, ◌<◌, true, false, cond, List, [], ◌∷◌, ◌++◌, length, Option, Some, None, refl, sym, ap, ◌∙◌, subst, arith, Result, Ok, Err, OnOk, OnErr}
 use Rattle.std.specs.Prelude.{T}
 use Rattle.std.specs.declared.cmp.Ordering.{Ordering}
 use Rattle.std.specs.declared.cmp.Ordering.TheVariants.{Less, Equal, Greater}
@@ -10,9 +10,8 @@ use Rattle.std.specs.FinMap.{IsAntisymmetric, put, is_sorted}
 use Rattle.std.specs.FinMap.Entries.{by_order, below_all}
 use Rattle.std.specs.Map.{lookup, set_value}
 use Rattle.std.specs.BTreeMap.{is_at, insert_entry}
-use Rattle.mj_tree.specs.Nest.{own, under, below, AreFilled, nodes_of, put_behind}
-use Rattle.mj_tree.specs.Maps.{first_so, second_so, both_so, is_less, lookup_before, before_less, sorted_insert, insert-set_value, set_value_same, set_value_twice, lookup_written, lookup_added, added_twice}
-use Rattle.mj_tree.proofs.Nest.{first_and_rest}
+use Rattle.mj_tree.specs.Nest.{own, under, below, AreFilled, nodes_of}
+use Rattle.mj_tree.specs.Maps.{first_so, second_so, both_so, is_less, lookup_before, before_less, sorted_insert, insert-set_value, set_value_same}
 
 module _ {K V : Type 0} (R : K → K → Ordering) where
   pub put_own : (v : V) (text : Option V) (ks : List (K × List (List K × V))) → AreFilled ks → put (slice_cmp R) [] v (own text ++ below ks) ≡ own (Some v) ++ below ks
@@ -125,63 +124,3 @@ sound_either {K} {V} R o (Ok x) ks es s n ok err filled h =
     subst (λ (xs : List (K × List (List K × V))). T (is_sorted R xs) × AreFilled xs) (sym ok) (sorted_insert R o ks s n h.0, filled_insert R ks s n h.1 filled)
 sound_either {K} {V} R o (Err e) ks es s n ok err filled h =
     subst (λ (xs : List (K × List (List K × V))). T (is_sorted R xs) × AreFilled xs) (sym err) h
-
--- ---- texts that are put behind a place
-
-module _ {K V : Type 0} (R : K → K → Ordering) where
-  pub filled_behind : (p : List K) (more nodes : List (List K × V)) → 0 < length nodes → 0 < length (put_behind R p more nodes)
-  filled_behind p [] nodes n = n
-  filled_behind p (e ∷ es) nodes n = filled_behind p es (put (slice_cmp R) (p ++ e.0) e.1 nodes) (filled_put R (p ++ e.0) e.1 nodes)
-
-  pub filled_by_some : (p : List K) (more nodes : List (List K × V)) → (more ≡ [] → ⊥) → 0 < length (put_behind R p more nodes)
-  filled_by_some p [] nodes some = absurd (some refl)
-  filled_by_some p (e ∷ es) nodes some = filled_behind p es (put (slice_cmp R) (p ++ e.0) e.1 nodes) (filled_put R (p ++ e.0) e.1 nodes)
-
-  pub filled_after_all : {A E : Type 0} (r : Result A E) (p : List K) (more c w : List (List K × V)) → OnOk r (w ≡ put_behind R p more c) → OnErr r (w ≡ c) → 0 < length c → 0 < length w
-  filled_after_all (Ok x) p more c w ok err n = subst (λ (m : List (List K × V)). 0 < length m) (sym ok) (filled_behind p more c n)
-  filled_after_all (Err e) p more c w ok err n = subst (λ (m : List (List K × V)). 0 < length m) (sym err) n
-
-  module _ (o : IsTotalOrder R) (same : IsAntisymmetric R) where
-    -- they go into the child at the first subscript
-    put_into : (s : K) (p : List K) (text : Option V) (more : List (List K × V)) (ks : List (K × List (List K × V))) (c : List (List K × V)) → T (is_sorted R ks) → AreFilled ks → lookup (is_at (R s)) ks ≡ Some c → put_behind R (s ∷ p) more (own text ++ below ks) ≡ own text ++ below (set_value (is_at (R s)) ks (put_behind R p more c))
-    put_into s p text [] ks c h f there = ap (λ (xs : List (K × List (List K × V))). own text ++ below xs) (sym (set_value_same R ks s c there))
-    put_into s p text (e ∷ es) ks c h f there =
-        let w : List (List K × V) = put (slice_cmp R) (p ++ e.0) e.1 c in
-        let one : put (slice_cmp R) (s ∷ p ++ e.0) e.1 (own text ++ below ks) ≡ own text ++ below (set_value (is_at (R s)) ks w) =
-        put_child R o same s (p ++ e.0) e.1 text ks h f
-        ∙ ap (λ (l : Option (List (List K × V))). own text ++ below (insert_entry R ks s (put (slice_cmp R) (p ++ e.0) e.1 (nodes_of l)))) there
-        ∙ ap (λ (xs : List (K × List (List K × V))). own text ++ below xs) (insert-set_value R o ks s c w h there)
-        in
-        ap (λ (ns : List (List K × V)). put_behind R (s ∷ p) es ns) one
-        ∙ put_into s p text es (set_value (is_at (R s)) ks w) w
-        (sorted_written R o ks (set_value (is_at (R s)) ks w) s c w refl there h f)
-        (filled_set_value R ks s w f (filled_put R (p ++ e.0) e.1 c))
-        (lookup_written R ks s c w there)
-        ∙ ap (λ (xs : List (K × List (List K × V))). own text ++ below xs) (set_value_twice R ks s w (put_behind R p es w))
-
-    -- or into a new one
-    put_added_all : (s : K) (p : List K) (text : Option V) (more : List (List K × V)) (ks : List (K × List (List K × V))) → (more ≡ [] → ⊥) → T (is_sorted R ks) → AreFilled ks → lookup (is_at (R s)) ks ≡ None → put_behind R (s ∷ p) more (own text ++ below ks) ≡ own text ++ below (insert_entry R ks s (put_behind R p more []))
-    put_added_all s p text [] ks some h f none = absurd (some refl)
-    put_added_all s p text (e ∷ es) ks some h f none =
-        let w : List (List K × V) = put (slice_cmp R) (p ++ e.0) e.1 [] in
-        let one : put (slice_cmp R) (s ∷ p ++ e.0) e.1 (own text ++ below ks) ≡ own text ++ below (insert_entry R ks s w) =
-        put_child R o same s (p ++ e.0) e.1 text ks h f
-        ∙ ap (λ (l : Option (List (List K × V))). own text ++ below (insert_entry R ks s (put (slice_cmp R) (p ++ e.0) e.1 (nodes_of l)))) none
-        in
-        ap (λ (ns : List (List K × V)). put_behind R (s ∷ p) es ns) one
-        ∙ put_into s p text es (insert_entry R ks s w) w (sorted_insert R o ks s w h) (filled_insert R ks s w f (filled_put R (p ++ e.0) e.1 [])) (lookup_added R o ks s w none)
-        ∙ ap (λ (xs : List (K × List (List K × V))). own text ++ below xs) (added_twice R o ks s w (put_behind R p es w) none)
-
-    -- of a path that a pattern took apart
-    module _ (path : List K) (s : K) (le : 1 ≤ length path) (is : s ≡ get_or path 0 s) (node : List (List K × V)) (text : Option V) (ks : List (K × List (List K × V))) (view : own text ++ below ks ≡ node) (h : T (is_sorted R ks)) (f : AreFilled ks) (more : List (List K × V)) where
-      pub put_all_written : (es : List (K × List (List K × V))) (c w : List (List K × V)) → lookup (is_at (R s)) ks ≡ Some c → es ≡ set_value (is_at (R s)) ks w → w ≡ put_behind R (take (length path - 1) (drop 1 path)) more c → own text ++ below es ≡ put_behind R path more node
-      put_all_written es c w there written is_put =
-          ap (λ (xs : List (K × List (List K × V))). own text ++ below xs) (written ∙ ap (set_value (is_at (R s)) ks) is_put)
-          ∙ sym (put_into s (take (length path - 1) (drop 1 path)) text more ks c h f there)
-          ∙ (λ i. put_behind R (sym (first_and_rest path s le is) i) more (view i))
-
-      pub put_all_added : (es : List (K × List (List K × V))) (n : List (List K × V)) → (more ≡ [] → ⊥) → lookup (is_at (R s)) ks ≡ None → es ≡ insert_entry R ks s n → n ≡ put_behind R (take (length path - 1) (drop 1 path)) more [] → own text ++ below es ≡ put_behind R path more node
-      put_all_added es n some none added is_put =
-          ap (λ (xs : List (K × List (List K × V))). own text ++ below xs) (added ∙ ap (insert_entry R ks s) is_put)
-          ∙ sym (put_added_all s (take (length path - 1) (drop 1 path)) text more ks some h f none)
-          ∙ (λ i. put_behind R (sym (first_and_rest path s le is) i) more (view i))

@@ -1,3 +1,4 @@
 pub mod Nest
 pub mod Falls
 pub mod Maps
+pub mod Undo

@@ -9,7 +9,8 @@ ghost use Rattle.std.specs.BTreeMap.{keys, insert_entry, is_at};
 ghost use Rattle.std.specs.Map.{lookup, remove_entry};
 ghost use Rattle.mj_store.specs.declared.store.Direction.TheVariants as way;
 ghost use Rattle.mj_store.specs.Nodes.{is_empty, subtree, data_of, first_subscripts, next_past};
-ghost use Rattle.mj_tree.specs.Nest.{AreFilled, behind, below, beyond, lead, later, nodes_of, own, put_behind, without};
+ghost use Rattle.mj_tree.specs.Nest.{AreFilled, behind, below, beyond, lead, later, nodes_of, own, without};
+ghost use Rattle.mj_tree.specs.Undo.{restored};
 
 use mj_store::{Direction, Nodes};
 use mj_subs::{Sub, Subs};
@@ -259,44 +260,26 @@ impl Node {
         }
     }
 
-    /// Gives each text to the place that its list leads to from this one. Nothing goes.
-    pub fn put(
-        &mut self,
-        alloc: Global,
-        path: &[Sub],
-        more: &[(Subs, Text)],
-    ) -> Result<(), AllocError>
-        ensures ok { OnOk result (self.new ≡ put_behind subscript_cmp path.now more.now self.old) }
-        ensures err { OnErr result (self.new ≡ self.old) }
+    /// Gives a text in place of its own to a place that has one, or takes it. Nothing changes at a place without one.
+    pub fn restore(&mut self, path: &[Sub], text: Option<Text>)
+        ensures { self.new ≡ restored (slice_cmp subscript_cmp) path.now text self.old }
     {
         match path {
             [] => {
-                *self = self.with(alloc, more)?;
-                Ok(())
-            }
-            [sub, rest @ ..] => match self.children.get_mut(sub) {
-                Some(child) => child.put(alloc, rest, more),
-                None => {
-                    if more.is_empty() {
-                        return Ok(());
-                    }
-                    let mut child = Node::new(alloc);
-                    child.put(alloc, rest, more)?;
-                    add(&mut self.children, sub, child)
+                if self.text.is_some() {
+                    self.text = text;
                 }
-            },
+            }
+            [sub, rest @ ..] => {
+                let Some(child) = self.children.get_mut(sub) else {
+                    return;
+                };
+                child.restore(rest, text);
+                if child.is_empty() {
+                    remove(&mut self.children, sub);
+                }
+            }
         }
-    }
-
-    // The node with more texts.
-    fn with(&self, alloc: Global, more: &[(Subs, Text)]) -> Result<Node, AllocError>
-        ensures { IfOk result (λ n. n ≡ put_behind subscript_cmp [] more.now self.now) }
-    {
-        let mut changed = self.try_clone(alloc)?;
-        for node in more {
-            changed.set(alloc, node.0.as_slice(), node.1.try_clone()?)?;
-        }
-        Ok(changed)
     }
 }
 
@@ -339,8 +322,8 @@ fn collect_own(text: &Option<Text>, front: &Subs, nodes: &mut Nodes) -> Result<(
     }
 }
 
-// Puts one more subscript to the end of a list in which there is room for it.
-fn append(list: &mut Subs, sub: &Sub) -> Result<(), AllocError>
+/// Puts one more subscript to the end of a list in which there is room for it.
+pub fn append(list: &mut Subs, sub: &Sub) -> Result<(), AllocError>
     ensures { OnOk result (list.new ≡ list.old ++ sub.now ∷ []) }
 {
     match list.push(sub.try_clone()?) {
@@ -349,8 +332,8 @@ fn append(list: &mut Subs, sub: &Sub) -> Result<(), AllocError>
     }
 }
 
-// Puts subscripts to the end of a list in which there is room for them.
-fn extend(list: &mut Subs, more: &[Sub]) -> Result<(), AllocError>
+/// Puts subscripts to the end of a list in which there is room for them.
+pub fn extend(list: &mut Subs, more: &[Sub]) -> Result<(), AllocError>
     ensures { OnOk result (list.new ≡ list.old ++ more.now) }
 {
     for sub in more {

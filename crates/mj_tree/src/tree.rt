@@ -1,20 +1,24 @@
 // A tree: what stands at the names of one word.
 
-ghost use Rattle.std.specs.Prelude.{◌≡◌, ◌↔◌, if◌then◌else◌, [], option_copied, IsTrue, IfOk, IfErr, OnOk, OnErr, T};
+ghost use Rattle.std.specs.Prelude.{◌≡◌, ◌↔◌, ◌++◌, if◌then◌else◌, [], option_copied, IsTrue, IfOk, IfErr, OnOk, OnErr, T};
 ghost use Rattle.std.specs.FinMap.{find, put, is_sorted};
 ghost use Rattle.std.specs.Cmp.Lexicographic.{slice_cmp};
 ghost use Rattle.mj_subs.specs.Collation.{subscript_cmp};
 ghost use Rattle.mj_store.specs.Nodes.{subtree, data_of, next_after};
 ghost use Rattle.mj_tree.specs.Nest.{order_in, without, put_behind, is_too_long};
+ghost use Rattle.mj_tree.specs.Undo.{restored, undone};
 ghost use Rattle.mj_text.specs.declared.fault.Failure.TheVariants as failure;
 ghost use Rattle.mj_text.specs.declared.fault.Fault.TheVariants as fault;
 
-use crate::node::Node;
+use crate::node::{Node, append, extend};
 use mj_store::{Direction, Nodes};
 use mj_subs::{SUBSCRIPT_LIMIT, Sub, Subs};
 use mj_text::{Failure, Fault, Text};
 use std::alloc::{AllocError, Global};
 use std::marker::Model;
+
+// Lists that were written, in order, each with its text of before.
+type Log = Vec<(Subs, Option<Text>)>;
 
 /// The part of a store that belongs to one word: a finite map from lists of subscripts to texts.
 #[derive(Drop)]
@@ -126,10 +130,76 @@ impl Tree {
         if is_too_long(path, nodes.as_slice()) {
             return Err(Failure::Fault(Fault::Limit));
         }
-        match self.root.put(self.alloc, path.as_slice(), nodes.as_slice()) {
+        let mut log = Vec::new(self.alloc);
+        match self.put_all(path, nodes.as_slice(), &mut log) {
             Ok(()) => Ok(()),
-            Err(_) => Err(Failure::Memory),
+            Err(_) => {
+                self.undo(log);
+                Err(Failure::Memory)
+            }
         }
+    }
+
+    // Gives each text to its list behind the path, and logs what was there. After want of memory some are given.
+    fn put_all(
+        &mut self,
+        path: &Subs,
+        nodes: &[(Subs, Text)],
+        log: &mut Log,
+    ) -> Result<(), AllocError>
+        ensures ok { OnOk result (self.new ≡ put_behind subscript_cmp path.now nodes.now self.old) }
+        ensures before { undone (slice_cmp subscript_cmp) log.new.items self.new ≡ undone (slice_cmp subscript_cmp) log.old.items self.old }
+    {
+        for node in nodes {
+            let place = joined(path, &node.0)?;
+            self.exchange(place, &node.1, log)?;
+        }
+        Ok(())
+    }
+
+    // Gives a text to a list, and logs what was there.
+    fn exchange(&mut self, place: Subs, text: &Text, log: &mut Log) -> Result<(), AllocError>
+        ensures ok { OnOk result (self.new ≡ put (slice_cmp subscript_cmp) place text.now self.old) }
+        ensures before { undone (slice_cmp subscript_cmp) log.new.items self.new ≡ undone (slice_cmp subscript_cmp) log.old.items self.old }
+    {
+        self.rises();
+        let before = self.text(&place)?;
+        self.set(&place, text)?;
+        match log.push((place, before)) {
+            Ok(()) => Ok(()),
+            Err(refused) => {
+                let (place, before) = refused.value;
+                self.restore(&place, before);
+                Err(AllocError)
+            }
+        }
+    }
+
+    // The text at a list of subscripts, for keeps.
+    fn text(&self, path: &Subs) -> Result<Option<Text>, AllocError>
+        ensures { IfOk result (λ text. text ≡ find (slice_cmp subscript_cmp) path.now self.now) }
+    {
+        Ok(match self.value(path) {
+            None => None,
+            Some(text) => Some(text.try_clone()?),
+        })
+    }
+
+    // Takes back what a log says.
+    fn undo(&mut self, log: Log)
+        ensures { self.new ≡ undone (slice_cmp subscript_cmp) log.items self.old }
+    {
+        let mut left = log;
+        while let Some((place, before)) = left.pop() {
+            self.restore(&place, before);
+        }
+    }
+
+    /// Gives a text in place of its own to a list that has one, or takes it. Nothing changes at a list without one.
+    pub fn restore(&mut self, path: &Subs, text: Option<Text>)
+        ensures { self.new ≡ restored (slice_cmp subscript_cmp) path.now text self.old }
+    {
+        self.root.restore(path.as_slice(), text);
     }
 
     /// The same tree once more.
@@ -149,6 +219,15 @@ impl Clone for Tree {
     fn clone(&self) -> Result<Tree, AllocError> {
         self.try_clone()
     }
+}
+
+// One list behind the other, which together are short enough.
+fn joined(front: &Subs, back: &Subs) -> Result<Subs, AllocError>
+    ensures { IfOk result (λ list. list ≡ front.now ++ back.now) }
+{
+    let mut list = front.try_clone()?;
+    extend(&mut list, back.as_slice())?;
+    Ok(list)
 }
 
 // Whether a list would follow the path with more subscripts than there can be.
