@@ -18,7 +18,7 @@ use Rattle.mj_tree.specs.Nest.{nodes_of}
 use Rattle.mj_globs.specs.Words.{Words, name, of_word, of_kind, of_both}
 use Rattle.mj_globs.proofs.Groups.{W, S, append_nil, subtree-append, subtree_kind, find_kind, kill-append}
 
-joined : {A : Type 0} (xs ys zs : List A) → (xs ++ ys) ++ zs ≡ xs ++ (ys ++ zs)
+pub joined : {A : Type 0} (xs ys zs : List A) → (xs ++ ys) ++ zs ≡ xs ++ (ys ++ zs)
 joined [] ys zs = refl
 joined (x ∷ xs) ys zs = ap (λ r. x ∷ r) (joined xs ys zs)
 

@@ -3,3 +3,5 @@ pub mod Spelled
 pub mod Changed
 pub mod Both
 pub mod Keeping
+pub mod Restores
+pub mod Parts

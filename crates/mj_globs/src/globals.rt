@@ -4,15 +4,17 @@ ghost use Rattle.std.specs.Prelude.{◌≡◌, ◌↔◌, if◌then◌else◌, [
 ghost use Rattle.std.specs.List.{list_any};
 ghost use Rattle.std.specs.FinMap.{find};
 ghost use Rattle.std.specs.Cmp.Lexicographic.{slice_cmp};
-ghost use Rattle.mj_subs.specs.Collation.{subscript_cmp};
+ghost use Rattle.mj_subs.specs.Collation.{subscript_cmp, name_cmp};
 ghost use Rattle.mj_store.specs.Changes.{is_too_deep as too_deep};
 ghost use Rattle.mj_store.specs.Nodes.{subtree};
 ghost use Rattle.mj_store.specs.Questions.{with_subscripts, value_at, subtree_at};
 ghost use Rattle.mj_tree.specs.Nest.{nodes_of};
+ghost use Rattle.mj_tree.specs.Undo.{restored};
 ghost use Rattle.mj_globs.specs.Changes.{after_change, after_changes, goes_too_deep, keeping};
 ghost use Rattle.mj_text.specs.declared.fault.Failure.TheVariants as failure;
 ghost use Rattle.mj_text.specs.declared.fault.Fault.TheVariants as fault;
 
+use crate::all::make_all;
 use crate::change::Change;
 use crate::keep::keep;
 use crate::words::{self, Words};
@@ -76,8 +78,8 @@ impl Globals {
         })
     }
 
-    /// Makes the changes in order, all of them or none. `Limit` where one would give a name too many subscripts. More than one are
-    /// made on a copy of the store.
+    /// Makes the changes in order, all of them or none. `Limit` where one would give a name too many subscripts, and otherwise nothing
+    /// but memory can be wanting.
     pub fn apply(&mut self, changes: &[Change]) -> Result<(), Failure>
         ensures ok { OnOk result (self.new ≡ after_changes self.old changes.now) }
         ensures limit { (result ≡ Err (failure.Fault fault.Limit)) ↔ IsTrue (list_any goes_too_deep changes.now) }
@@ -94,17 +96,10 @@ impl Globals {
                 Err(_) => Err(Failure::Memory),
             };
         }
-        let mut changed = match self.try_clone() {
-            Ok(changed) => changed,
-            Err(_) => return Err(Failure::Memory),
-        };
-        for change in changes {
-            if changed.make(change).is_err() {
-                return Err(Failure::Memory);
-            }
+        match make_all(self, changes) {
+            Ok(()) => Ok(()),
+            Err(_) => Err(Failure::Memory),
         }
-        *self = changed;
-        Ok(())
     }
 
     /// All names go but those whose word is one of these.
@@ -115,8 +110,19 @@ impl Globals {
         keep(&mut self.locals, list);
     }
 
+    /// Gives a text in place of its own to a name that has one, or takes it. Nothing changes at a name without one.
+    pub fn restore(&mut self, name: &Name, text: Option<Text>)
+        ensures { self.new ≡ restored name_cmp name.now text self.old }
+    {
+        if name.is_global() {
+            words::restore(&mut self.globals, name.word(), name.subscripts(), text);
+            return;
+        }
+        words::restore(&mut self.locals, name.word(), name.subscripts(), text);
+    }
+
     // Makes one change.
-    fn make(&mut self, change: &Change) -> Result<(), Failure>
+    pub(crate) fn make(&mut self, change: &Change) -> Result<(), Failure>
         ensures ok { OnOk result (self.new ≡ after_change self.old change.now) }
         ensures limit { (result ≡ Err (failure.Fault fault.Limit)) ↔ IsTrue (goes_too_deep change.now) }
         ensures err { OnErr result (self.new ≡ self.old) }
@@ -233,8 +239,8 @@ impl Store for Globals {
     }
 }
 
-// The name of the same kind and word with these subscripts.
-fn with(name: &Name, list: Subs) -> Result<Name, AllocError>
+/// The name of the same kind and word with these subscripts.
+pub(crate) fn with(name: &Name, list: Subs) -> Result<Name, AllocError>
     ensures { IfOk result (λ n. n ≡ with_subscripts name.now list) }
 {
     let word = name.word().try_clone()?;

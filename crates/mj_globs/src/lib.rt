@@ -5,6 +5,7 @@
 // comparisons than a tree does beside the logarithm of the number of words. A list of changes is made whole or not at all.
 #![tactic(auto)]
 
+mod all;
 mod change;
 mod globals;
 mod keep;

@@ -9,6 +9,7 @@ ghost use Rattle.std.specs.Cmp.Lexicographic.{slice_cmp};
 ghost use Rattle.mj_subs.specs.Collation.{subscript_cmp, name_cmp};
 ghost use Rattle.mj_store.specs.Changes.{after_set, after_kill, after_put};
 ghost use Rattle.mj_tree.specs.Nest.{nodes_of, is_too_long};
+ghost use Rattle.mj_tree.specs.Undo.{restored};
 ghost use Rattle.mj_globs.specs.Words.{spelled, name, of_kind};
 ghost use Rattle.mj_text.specs.declared.fault.Failure.TheVariants as failure;
 ghost use Rattle.mj_text.specs.declared.fault.Fault.TheVariants as fault;
@@ -100,6 +101,23 @@ pub fn put(
                 Err(_) => Err(Failure::Memory),
             }
         }
+    }
+}
+
+/// Gives a text in place of its own to a list of subscripts of a word that has one, or takes it.
+pub fn restore(words: &mut Words, word: &Text, path: &Subs, text: Option<Text>)
+    requires { T (is_sorted (slice_cmp nat_cmp) (spelled words.now.entries)) }
+    ensures rises { T (is_sorted (slice_cmp nat_cmp) (spelled words.new.entries)) }
+    ensures content { (g : Bool) → of_kind g (spelled words.new.entries) ≡ restored name_cmp (name g word.now path.now) text (of_kind g (spelled words.old.entries)) }
+{
+    let mut digits = Digits::new();
+    let key = word.bytes(&mut digits);
+    let Some(found) = words.get_mut(key) else {
+        return;
+    };
+    found.restore(path, text);
+    if found.is_empty() {
+        remove(words, key);
     }
 }
 

@@ -1,0 +1,12 @@
+use Rattle.std.proofs.Common.{◌≡◌, take}
+use Rattle.mj_subs.specs.Collation.{name_cmp}
+use Rattle.mj_tree.specs.Undo.{undone}
+use Rattle.mj_globs.specs.Parts.{all_given}
+use Rattle.mj_globs.proofs.all.give_all.Given as goal
+
+-- the store holds what the changes so far give, and the log leads back
+abbrev pub invariant-loop-change : goal.invariant-loop-change
+invariant-loop-change l = record {
+  content : l.globals ≡ all_given l.fn.globals (take l.change-index l.changes);
+  before : undone name_cmp l.log.items l.globals ≡ undone name_cmp l.fn.log.items l.fn.globals;
+}

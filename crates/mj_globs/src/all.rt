@@ -1,0 +1,197 @@
+// Lists of changes, each made whole or not at all.
+//
+// The texts that the changes give are given first, in place, and what was there is logged: where memory is wanting the log is undone. Then
+// the names that they take go, for which no memory is wanted. That is the same as making them in order, unless a text is given below a
+// name that goes before.
+
+ghost use Rattle.std.specs.Prelude.{◌≡◌, [], IfOk, OnOk, OnErr};
+ghost use Rattle.std.specs.List.{list_any};
+ghost use Rattle.mj_subs.specs.Collation.{name_cmp};
+ghost use Rattle.mj_store.specs.Questions.{value_at};
+ghost use Rattle.mj_store.specs.Changes.{after_set, after_put, followed_by};
+ghost use Rattle.mj_tree.specs.Undo.{undone};
+ghost use Rattle.mj_globs.specs.Changes.{after_changes};
+ghost use Rattle.mj_globs.specs.Parts.{given, all_given, all_taken, is_rewritten};
+
+use crate::change::Change;
+use crate::globals::{Globals, with};
+use mj_store::Store;
+use mj_subs::{Name, Subs};
+use mj_text::Text;
+use std::alloc::{AllocError, Global};
+
+// Names that were written, in order, each with its text of before.
+type Log = Vec<(Name, Option<Text>)>;
+
+/// Makes the changes in order, all of them or none.
+pub fn make_all(globals: &mut Globals, changes: &[Change]) -> Result<(), AllocError>
+    ensures ok { OnOk result (globals.new ≡ after_changes globals.old changes.now) }
+    ensures err { OnErr result (globals.new ≡ globals.old) }
+{
+    let alone = alone(globals.allocator(), changes)?;
+    if is_any_rewritten(&alone, changes) {
+        return make_on_copy(globals, changes);
+    }
+    globals.rises();
+    let mut log = Vec::new(globals.allocator());
+    match give_all(globals, changes, &mut log) {
+        Ok(()) => {
+            take_all(globals, changes);
+            Ok(())
+        }
+        Err(_) => {
+            undo(globals, log);
+            Err(AllocError)
+        }
+    }
+}
+
+// What the changes leave where there was no name.
+fn alone(alloc: Global, changes: &[Change]) -> Result<Globals, AllocError>
+    ensures { IfOk result (λ alone. alone ≡ after_changes [] changes.now) }
+{
+    let mut alone = Globals::new(alloc);
+    make_each(&mut alone, changes)?;
+    Ok(alone)
+}
+
+// Makes the changes in order on a copy of the store.
+fn make_on_copy(globals: &mut Globals, changes: &[Change]) -> Result<(), AllocError>
+    ensures ok { OnOk result (globals.new ≡ after_changes globals.old changes.now) }
+    ensures err { OnErr result (globals.new ≡ globals.old) }
+{
+    let mut changed = globals.try_clone()?;
+    make_each(&mut changed, changes)?;
+    *globals = changed;
+    Ok(())
+}
+
+// Makes the changes in order. After an error some are made.
+fn make_each(globals: &mut Globals, changes: &[Change]) -> Result<(), AllocError>
+    ensures { OnOk result (globals.new ≡ after_changes globals.old changes.now) }
+{
+    for change in changes {
+        if globals.make(change).is_err() {
+            return Err(AllocError);
+        }
+    }
+    Ok(())
+}
+
+// Whether something stands at a name that goes, or below it, where the changes have been made without what was there before.
+fn is_any_rewritten(alone: &Globals, changes: &[Change]) -> bool
+    ensures { result ≡ list_any (is_rewritten alone.now) changes.now }
+{
+    changes.iter().any(|change| is_rewritten(alone, change))
+}
+
+fn is_rewritten(alone: &Globals, change: &Change) -> bool
+    ensures { result ≡ is_rewritten alone.now change.now }
+{
+    match change {
+        Change::Kill(name) => alone.data(name) != 0,
+        Change::Set(_, _) | Change::Put(_, _) => false,
+    }
+}
+
+// Gives the texts that the changes give, and logs what was there. After want of memory some are given.
+fn give_all(globals: &mut Globals, changes: &[Change], log: &mut Log) -> Result<(), AllocError>
+    ensures ok { OnOk result (globals.new ≡ all_given globals.old changes.now) }
+    ensures before { undone name_cmp log.new.items globals.new ≡ undone name_cmp log.old.items globals.old }
+{
+    for change in changes {
+        give(globals, change, log)?;
+    }
+    Ok(())
+}
+
+// Gives the texts that a change gives, and logs what was there.
+fn give(globals: &mut Globals, change: &Change, log: &mut Log) -> Result<(), AllocError>
+    ensures ok { OnOk result (globals.new ≡ given globals.old change.now) }
+    ensures before { undone name_cmp log.new.items globals.new ≡ undone name_cmp log.old.items globals.old }
+{
+    match change {
+        Change::Set(name, text) => exchange(globals, name.try_clone()?, text, log),
+        Change::Kill(_) => Ok(()),
+        Change::Put(name, nodes) => give_nodes(globals, name, nodes.as_slice(), log),
+    }
+}
+
+// Gives texts to lists of subscripts behind a name, and logs what was there.
+fn give_nodes(
+    globals: &mut Globals,
+    name: &Name,
+    nodes: &[(Subs, Text)],
+    log: &mut Log,
+) -> Result<(), AllocError>
+    ensures ok { OnOk result (globals.new ≡ after_put globals.old name.now nodes.now) }
+    ensures before { undone name_cmp log.new.items globals.new ≡ undone name_cmp log.old.items globals.old }
+{
+    for node in nodes {
+        let place = followed_by(name, &node.0)?;
+        exchange(globals, place, &node.1, log)?;
+    }
+    Ok(())
+}
+
+// Gives a text to a name, and logs what was there.
+fn exchange(globals: &mut Globals, name: Name, text: &Text, log: &mut Log) -> Result<(), AllocError>
+    ensures ok { OnOk result (globals.new ≡ after_set globals.old name text.now) }
+    ensures before { undone name_cmp log.new.items globals.new ≡ undone name_cmp log.old.items globals.old }
+{
+    globals.rises();
+    let before = text_of(globals, &name)?;
+    globals.set(&name, text)?;
+    match log.push((name, before)) {
+        Ok(()) => Ok(()),
+        Err(refused) => {
+            let (name, before) = refused.value;
+            globals.restore(&name, before);
+            Err(AllocError)
+        }
+    }
+}
+
+// The text of a name, for keeps.
+fn text_of(globals: &Globals, name: &Name) -> Result<Option<Text>, AllocError>
+    ensures { IfOk result (λ text. text ≡ value_at globals.now name.now) }
+{
+    Ok(match globals.value(name) {
+        None => None,
+        Some(text) => Some(text.try_clone()?),
+    })
+}
+
+// Takes back what a log says.
+fn undo(globals: &mut Globals, log: Log)
+    ensures { globals.new ≡ undone name_cmp log.items globals.old }
+{
+    let mut left = log;
+    while let Some((name, before)) = left.pop() {
+        globals.restore(&name, before);
+    }
+}
+
+// Takes the names that the changes take.
+fn take_all(globals: &mut Globals, changes: &[Change])
+    ensures { globals.new ≡ all_taken globals.old changes.now }
+{
+    for change in changes {
+        if let Change::Kill(name) = change {
+            globals.kill(name);
+        }
+    }
+}
+
+// The name followed by more subscripts, for which there is room.
+fn followed_by(name: &Name, list: &Subs) -> Result<Name, AllocError>
+    ensures { IfOk result (λ n. n ≡ followed_by name.now list.now) }
+{
+    let mut subscripts = name.subscripts().try_clone()?;
+    for sub in list.as_slice() {
+        if subscripts.push(sub.try_clone()?).is_err() {
+            return Err(AllocError);
+        }
+    }
+    with(name, subscripts)
+}
