@@ -79,7 +79,7 @@ impl Globals {
     }
 
     /// Makes the changes in order, all of them or none. `Limit` where one would give a name too many subscripts, and otherwise nothing
-    /// but memory can be wanting.
+    /// but memory can be wanting. The store is copied only where a text is given at a name that goes before, or below one.
     pub fn apply(&mut self, changes: &[Change]) -> Result<(), Failure>
         ensures ok { OnOk result (self.new ≡ after_changes self.old changes.now) }
         ensures limit { (result ≡ Err (failure.Fault fault.Limit)) ↔ IsTrue (list_any goes_too_deep changes.now) }
