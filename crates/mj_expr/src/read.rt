@@ -8,6 +8,7 @@ ghost use Rattle.mj_ast.specs.Trees.{operand_of, expr_of, variable_of, exprs_of,
 ghost use Rattle.mj_expr.specs.Machine.{Outer, Owner, Within, Place, Pairs, AsNamed, Front, InGroup, InList, InOther, InCondition, Wanted, Sought, Marked, Named, Calling, before_choices, filled, placed, closed, held, outer_depth, owner_depth, depth_of, place_depth, outer_of, is_full, is_full_in};
 ghost use Rattle.mj_expr.specs.Reads.{symbols_seen, limits, Reads, HasNoBinary, kind_of};
 
+use crate::list::added;
 use crate::stop::Stop;
 use crate::token::{
     Head, ListKind, behind_binary, behind_caret, behind_close, behind_colon, behind_comma,
@@ -138,7 +139,7 @@ fn about<'a, 't>(
     };
     let (other, rest) = group(alloc, behind, room)?;
     let mut others = Vec::new(alloc);
-    others.push(other)?;
+    added(&mut others, other)?;
     Ok((Operand::About(function, variable, others), rest))
 }
 
@@ -255,7 +256,7 @@ pub(crate) fn expr<'a, 't>(
     let mut tails = Vec::new(alloc);
     'joins: while let Some((op, after)) = behind_binary(rest) {
         let (operand, behind) = operand(alloc, after, room, full)?;
-        tails.push(Tail { op, operand })?;
+        added(&mut tails, Tail { op, operand })?;
         rest = behind;
     }
     Ok((Expr { first, rest: tails }, rest))
@@ -274,14 +275,14 @@ fn list<'a, 't>(
 {
     let (first, mut rest) = expr(alloc, tokens, room, false)?;
     let mut items = Vec::new(alloc);
-    items.push(first)?;
+    added(&mut items, first)?;
     'commas: while let Some(after) = behind_comma(rest) {
         if items.len() >= most(kind) {
             return Err(refusal(rest, is_limited(kind)));
         }
         let full = fills(kind, items.len());
         let (item, behind) = expr(alloc, after, room, full)?;
-        items.push(item)?;
+        added(&mut items, item)?;
         rest = behind;
     }
     if items.len() < least(kind) {
