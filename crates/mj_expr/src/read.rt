@@ -12,8 +12,8 @@ use crate::list::added;
 use crate::stop::Stop;
 use crate::token::{
     Head, ListKind, behind_binary, behind_caret, behind_close, behind_colon, behind_comma,
-    behind_name, behind_open, fills, head_of, is_limited, least, least_subscripts, levels, most,
-    most_others, name_text, refusal, taken,
+    behind_name, behind_open, fills, front, head_of, is_limited, least, least_subscripts, levels,
+    most, most_others, name_text, refusal,
 };
 use mj_ast::{Callee, Choice, Expr, NameFunction, Operand, Scope, Tail, Variable};
 use mj_lex::Lexeme;
@@ -31,7 +31,7 @@ fn operand<'a, 't>(
     ensures shorter { IfOk result (λ x. length x.1.now < length tokens.now) }
     ensures reads { (c : Within) → (d : ℕ) → depth_of c + room ≡ d → is_full (limits 0) (outer_of c) ≡ full → Reads (λ x. operand_of x.0) (λ x. x.1.now) result d tokens.now (Wanted c) (λ x. filled x c) }
 {
-    let Some((token, rest)) = taken(tokens) else {
+    let Some((token, rest)) = front(tokens) else {
         return Err(refusal(tokens, full));
     };
     match head_of(alloc, token)? {

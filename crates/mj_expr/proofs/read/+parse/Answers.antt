@@ -170,8 +170,8 @@ named-returns-in-None-clause-reads t c = λ p d e.
 
 pub operand-returns-else-room-levels-clause-reads : goal.operand-returns-else-room-levels-clause-reads
 operand-returns-else-room-levels-clause-reads t c = λ c' d e f.
-    let P : Head → Type 0 = λ h. IsHead h (symbol (token_seen c.in-Some.token)) in
-    let head : symbol (token_seen c.in-Some.token) ≡ Applied c.in-Callee.callee = subst P c.in-Callee.is c.in_ok-text.ensures in
+    let P : Head → Type 0 = λ h. IsHead h (symbol (token_seen c.in-Some.token.now)) in
+    let head : symbol (token_seen c.in-Some.token.now) ≡ Applied c.in-Callee.callee = subst P c.in-Callee.is c.in_ok-text.ensures in
     let went = ap (λ (ks : List Symbol). run (limits d) ks (Wanted c')) c.in-Some.ensures.0
     ∙ ap (λ (k : Symbol). run (limits d) (k ∷ symbols_seen c.in-Some.rest.now) (Wanted c')) head
     ∙ call_goes (limits d) (symbols_seen c.in-Some.rest.now) c.in-Callee.callee c' (omega (arith, e, c.if-room-levels.false, c.levels.ensures)) in
@@ -179,11 +179,11 @@ operand-returns-else-room-levels-clause-reads t c = λ c' d e f.
 
 pub operand-returns-in-Nothing-clause-reads : goal.operand-returns-in-Nothing-clause-reads
 operand-returns-in-Nothing-clause-reads t c = λ c' d e f.
-    let P : Head → Type 0 = λ h. IsHead h (symbol (token_seen c.in-Some.token)) in
-    let none : BeginsNone (symbol (token_seen c.in-Some.token)) = subst P c.in-Nothing.is c.in_ok-text.ensures in
+    let P : Head → Type 0 = λ h. IsHead h (symbol (token_seen c.in-Some.token.now)) in
+    let none : BeginsNone (symbol (token_seen c.in-Some.token.now)) = subst P c.in-Nothing.is c.in_ok-text.ensures in
     refuses_from c.refusal-in-Nothing.result _ _
     (ap (λ (ks : List Symbol). run (limits d) ks (Wanted c')) c.in-Some.ensures.0
-    ∙ none_refuses (limits d) (limits 0) c' (symbol (token_seen c.in-Some.token)) (symbols_seen c.in-Some.rest.now) c.args.full refl f none
+    ∙ none_refuses (limits d) (limits 0) c' (symbol (token_seen c.in-Some.token.now)) (symbols_seen c.in-Some.rest.now) c.args.full refl f none
     ∙ ap (λ (ks : List Symbol). refused_in c.args.full ks) (sym c.in-Some.ensures.0))
     c.refusal-in-Nothing.ensures
 
