@@ -16,7 +16,7 @@ use crate::parts::{
 };
 use crate::phrase::Phrases;
 use mj_ast::{Killed, Merged};
-use mj_expr::Stop;
+use mj_expr::{Stop, added};
 use mj_lex::Lexeme;
 use mj_text::Text;
 use std::alloc::Global;
@@ -46,14 +46,14 @@ fn names<'a, 't>(
         None => Err(stuck(tokens)),
         Some((first, behind)) => {
             let first = word_text(phrases.alloc, first)?;
-            names.push(first)?;
+            added(&mut names, first)?;
             let mut rest = behind;
             'commas: while let Some(behind) = behind_comma(rest) {
                 match behind_name(behind) {
                     None => return Err(stuck(behind)),
                     Some((name, behind)) => {
                         let name = word_text(phrases.alloc, name)?;
-                        names.push(name)?;
+                        added(&mut names, name)?;
                         rest = behind;
                     }
                 }
@@ -98,10 +98,10 @@ pub fn kills<'a, 't>(
 {
     let mut arguments = Vec::new(phrases.alloc);
     let (first, mut rest) = killed(phrases, tokens)?;
-    arguments.push(first)?;
+    added(&mut arguments, first)?;
     'commas: while let Some(behind) = behind_comma(rest) {
         let (argument, behind) = killed(phrases, behind)?;
-        arguments.push(argument)?;
+        added(&mut arguments, argument)?;
         rest = behind;
     }
     let rest = parted(rest)?;
@@ -137,10 +137,10 @@ pub fn merges<'a, 't>(
 {
     let mut arguments = Vec::new(phrases.alloc);
     let (first, mut rest) = merged(phrases, tokens)?;
-    arguments.push(first)?;
+    added(&mut arguments, first)?;
     'commas: while let Some(behind) = behind_comma(rest) {
         let (argument, behind) = merged(phrases, behind)?;
-        arguments.push(argument)?;
+        added(&mut arguments, argument)?;
         rest = behind;
     }
     let rest = parted(rest)?;

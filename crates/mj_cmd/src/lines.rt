@@ -18,7 +18,7 @@ use crate::kill::word_text;
 use crate::parts::{WORD_LIMIT, behind_blank, behind_blanks, behind_word, parted, stuck};
 use crate::phrase::Phrases;
 use mj_ast::{Line, Step};
-use mj_expr::Stop;
+use mj_expr::{Stop, added};
 use mj_lex::{Lexeme, Token, next};
 use mj_text::Text;
 use std::alloc::Global;
@@ -103,7 +103,7 @@ fn steps(phrases: Phrases, tokens: &[Lexeme]) -> Result<Vec<Step>, Stop>
             None => return Err(stuck(rest)),
             Some(keyword) => {
                 let (read, behind) = step(phrases, keyword, behind)?;
-                steps.push(read)?;
+                added(&mut steps, read)?;
                 let (_, behind) = behind_blanks(behind);
                 rest = behind;
             }

@@ -17,7 +17,7 @@ use crate::parts::{
 };
 use crate::phrase::Phrases;
 use mj_ast::{Assignment, Destination, Expr, Targets};
-use mj_expr::Stop;
+use mj_expr::{Stop, added};
 use mj_lex::Lexeme;
 
 /// The most expressions behind the variable of `$PIECE`.
@@ -57,10 +57,10 @@ fn texts<'a, 't>(
         None => Err(stuck(tokens)),
         Some(behind) => {
             let (first, mut rest) = phrases.expression(1, behind)?;
-            texts.push(first)?;
+            added(&mut texts, first)?;
             'commas: while let Some(behind) = behind_comma(rest) {
                 let (text, behind) = text(phrases, texts.len(), rest, behind)?;
-                texts.push(text)?;
+                added(&mut texts, text)?;
                 rest = behind;
             }
             match behind_close(rest) {
@@ -117,10 +117,10 @@ fn listed<'a, 't>(
 {
     let mut destinations = Vec::new(phrases.alloc);
     let (first, mut rest) = destination(phrases, tokens)?;
-    destinations.push(first)?;
+    added(&mut destinations, first)?;
     'commas: while let Some(behind) = behind_comma(rest) {
         let (destination, behind) = destination(phrases, behind)?;
-        destinations.push(destination)?;
+        added(&mut destinations, destination)?;
         rest = behind;
     }
     match behind_close(rest) {
@@ -178,10 +178,10 @@ pub fn assignments<'a, 't>(
 {
     let mut arguments = Vec::new(phrases.alloc);
     let (first, mut rest) = assignment(phrases, tokens)?;
-    arguments.push(first)?;
+    added(&mut arguments, first)?;
     'commas: while let Some(behind) = behind_comma(rest) {
         let (argument, behind) = assignment(phrases, behind)?;
-        arguments.push(argument)?;
+        added(&mut arguments, argument)?;
         rest = behind;
     }
     let rest = parted(rest)?;

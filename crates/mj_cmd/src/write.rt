@@ -13,7 +13,7 @@ ghost use Rattle.mj_cmd.specs.Reads.{HasRoom, Lists};
 use crate::parts::{behind_comma, behind_mark, parted, stuck};
 use crate::phrase::Phrases;
 use mj_ast::{Mark, Output};
-use mj_expr::Stop;
+use mj_expr::{Stop, added};
 use mj_lex::Lexeme;
 
 /// How many `!` stand in front, and what follows them.
@@ -64,10 +64,10 @@ pub fn outputs<'a, 't>(
 {
     let mut arguments = Vec::new(phrases.alloc);
     let (first, mut rest) = output(phrases, tokens)?;
-    arguments.push(first)?;
+    added(&mut arguments, first)?;
     'commas: while let Some(behind) = behind_comma(rest) {
         let (argument, behind) = output(phrases, behind)?;
-        arguments.push(argument)?;
+        added(&mut arguments, argument)?;
         rest = behind;
     }
     let rest = parted(rest)?;

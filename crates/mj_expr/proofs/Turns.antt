@@ -1,18 +1,17 @@
 -- Where a phrase ends, and what is known at any state of commas, constants and names.
-use Rattle.std.proofs.Common.{◌≡◌, ℕ, ◌+◌, ◌≤◌, List, [], ◌∷◌, ◌++◌, length, refl, ap, sym, ◌∙◌, subst, Bool, true, false, nat_lt, Option, Some, None, arith, nat_le}
+use Rattle.std.proofs.Common.{◌≡◌, ℕ, ◌+◌, ◌≤◌, List, [], ◌∷◌, length, refl, ap, sym, ◌∙◌, subst, Bool, true, false, nat_lt, Option, Some, None, arith, nat_le}
 use Rattle.std.specs.Prelude.{cond, not, ◌&&◌}
 use Rattle.mj_ast.specs.declared.sign.Sign.{Sign}
 use Rattle.mj_ast.specs.declared.sign.Sign.TheVariants.{Caret, Open, Close, Comma, Colon}
 use Rattle.mj_oper.specs.declared.op.UnaryOp.{UnaryOp}
 use Rattle.mj_oper.specs.declared.op.Op.{Op}
-use Rattle.mj_ast.specs.declared.expr.Scope.{Scope}
 use Rattle.mj_ast.specs.declared.expr.Scope.TheVariants.{Local, Global}
 use Rattle.mj_ast.specs.Syntax.{Expr, Chain, Operand, Literal, Value, Tails, Variable, Var, No, More, Group, Call, About, Select, Exprs, Last}
 use Rattle.mj_ast.specs.declared.function.NameFunction.{NameFunction}
 use Rattle.mj_ast.specs.declared.function.Callee.{Callee}
 use Rattle.mj_ast.specs.declared.function.Callee.TheVariants as callee
 use Rattle.mj_ast.specs.Expressions.{Symbol, Constant, Name, Applied, Overlong, Mark, Other, count, most_others, levels}
-use Rattle.mj_expr.specs.Machine.{Outer, Alone, InGroup, InList, InOther, InCondition, InChoice, Owner, Subscripts, Arguments, before_choices, least_of, most_of, is_limited, Within, Place, AsOperand, AsNamed, AsTarget, State, Wanted, Sought, Marked, Named, Calling, Behind, Held, Got, filled, placed, closed, outer_of, Limits, Next, Go, Stuck, Deep, Long, opens, opens_call, depth_of, suffices, behind, inside, comma, is_full, is_full_in, stray_comma, close, want_other, want_sign, hold_other, hold_sign, hold, on, step, unary_of, binary_of, Phrase, Whole, Target, Outcome, Accept, StuckAt, DeepAt, TooLong, refused, ends, finish, run, turn, and_more}
+use Rattle.mj_expr.specs.Machine.{Outer, Alone, InGroup, InList, InOther, InCondition, InChoice, Owner, Subscripts, Arguments, before_choices, least_of, most_of, is_limited, Within, Place, AsOperand, AsNamed, AsTarget, State, Wanted, Sought, Marked, Named, Calling, Behind, Held, Got, filled, placed, closed, outer_of, Limits, Next, Go, Stuck, Deep, Long, opens, opens_call, depth_of, suffices, behind, inside, is_full, is_full_in, stray_comma, want_other, want_sign, hold_other, hold_sign, hold, on, step, unary_of, binary_of, Phrase, Whole, Target, Accept, DeepAt, TooLong, refused, ends, finish, run, turn, and_more}
 use Rattle.mj_expr.proofs.Facts.{filled_outer}
 use Rattle.mj_expr.proofs.Told.{accept_rest, accept_phrase}
 

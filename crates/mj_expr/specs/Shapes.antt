@@ -4,7 +4,6 @@ use Rattle.mj_ast.specs.declared.sign.Sign.{Sign}
 use Rattle.mj_ast.specs.declared.sign.Sign.TheVariants.{Caret, Open, Close, Comma, Colon}
 use Rattle.mj_oper.specs.declared.op.UnaryOp.{UnaryOp}
 use Rattle.mj_oper.specs.declared.op.Op.{Op}
-use Rattle.mj_ast.specs.declared.function.NameFunction.{NameFunction}
 use Rattle.mj_ast.specs.declared.function.Callee.{Callee}
 use Rattle.mj_ast.specs.declared.function.Callee.TheVariants as callee
 use Rattle.mj_ast.specs.Tokens.{Token}

@@ -99,7 +99,7 @@ fn other_sort(token: Token<'_>) -> Sort
 fn sort_of(alloc: Global, token: Token<'_>) -> Result<Sort, AllocError>
     ensures { IfOk result (λ s. s ≡ the_sort (symbol (token_seen token.entry))) }
 {
-    match head_of(alloc, token)? {
+    match head_of(alloc, &token)? {
         Head::Constant(_) => Ok(Sort::Constant),
         Head::Name(_) => Ok(Sort::Name),
         Head::Callee(callee) => Ok(Sort::Callee(callee)),

@@ -5,12 +5,14 @@
 #![tactic(auto)]
 
 mod beyond;
+mod list;
 mod phrase;
 mod read;
 mod stop;
 mod token;
 
 pub use beyond::{behind_expression, behind_variable};
+pub use list::added;
 pub use phrase::{DEPTH_LIMIT, expression, variable};
 pub use stop::Stop;
 pub use token::{ListKind, callee, least, most};

@@ -8,11 +8,12 @@ ghost use Rattle.mj_ast.specs.Trees.{operand_of, expr_of, variable_of, exprs_of,
 ghost use Rattle.mj_expr.specs.Machine.{Outer, Owner, Within, Place, Pairs, AsNamed, Front, InGroup, InList, InOther, InCondition, Wanted, Sought, Marked, Named, Calling, before_choices, filled, placed, closed, held, outer_depth, owner_depth, depth_of, place_depth, outer_of, is_full, is_full_in};
 ghost use Rattle.mj_expr.specs.Reads.{symbols_seen, limits, Reads, HasNoBinary, kind_of};
 
+use crate::list::added;
 use crate::stop::Stop;
 use crate::token::{
     Head, ListKind, behind_binary, behind_caret, behind_close, behind_colon, behind_comma,
-    behind_name, behind_open, fills, head_of, is_limited, least, least_subscripts, levels, most,
-    most_others, name_text, refusal, taken,
+    behind_name, behind_open, fills, front, head_of, is_limited, least, least_subscripts, levels,
+    most, most_others, name_text, refusal,
 };
 use mj_ast::{Callee, Choice, Expr, NameFunction, Operand, Scope, Tail, Variable};
 use mj_lex::Lexeme;
@@ -30,7 +31,7 @@ fn operand<'a, 't>(
     ensures shorter { IfOk result (λ x. length x.1.now < length tokens.now) }
     ensures reads { (c : Within) → (d : ℕ) → depth_of c + room ≡ d → is_full (limits 0) (outer_of c) ≡ full → Reads (λ x. operand_of x.0) (λ x. x.1.now) result d tokens.now (Wanted c) (λ x. filled x c) }
 {
-    let Some((token, rest)) = taken(tokens) else {
+    let Some((token, rest)) = front(tokens) else {
         return Err(refusal(tokens, full));
     };
     match head_of(alloc, token)? {
@@ -138,7 +139,7 @@ fn about<'a, 't>(
     };
     let (other, rest) = group(alloc, behind, room)?;
     let mut others = Vec::new(alloc);
-    others.push(other)?;
+    added(&mut others, other)?;
     Ok((Operand::About(function, variable, others), rest))
 }
 
@@ -255,7 +256,7 @@ pub(crate) fn expr<'a, 't>(
     let mut tails = Vec::new(alloc);
     'joins: while let Some((op, after)) = behind_binary(rest) {
         let (operand, behind) = operand(alloc, after, room, full)?;
-        tails.push(Tail { op, operand })?;
+        added(&mut tails, Tail { op, operand })?;
         rest = behind;
     }
     Ok((Expr { first, rest: tails }, rest))
@@ -274,14 +275,14 @@ fn list<'a, 't>(
 {
     let (first, mut rest) = expr(alloc, tokens, room, false)?;
     let mut items = Vec::new(alloc);
-    items.push(first)?;
+    added(&mut items, first)?;
     'commas: while let Some(after) = behind_comma(rest) {
         if items.len() >= most(kind) {
             return Err(refusal(rest, is_limited(kind)));
         }
         let full = fills(kind, items.len());
         let (item, behind) = expr(alloc, after, room, full)?;
-        items.push(item)?;
+        added(&mut items, item)?;
         rest = behind;
     }
     if items.len() < least(kind) {

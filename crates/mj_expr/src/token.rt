@@ -236,10 +236,10 @@ fn sign_head<'a>(sign: Sign) -> Head<'a>
     }
 }
 
-pub(crate) fn head_of<'a>(alloc: Global, token: Token<'a>) -> Result<Head<'a>, AllocError>
-    ensures { IfOk result (λ h. IsHead h (symbol (token_seen token.entry))) }
+pub(crate) fn head_of<'a>(alloc: Global, token: &Token<'a>) -> Result<Head<'a>, AllocError>
+    ensures { IfOk result (λ h. IsHead h (symbol (token_seen token.now))) }
 {
-    match token {
+    match *token {
         Token::Digits(digits) => match number_text(alloc, digits) {
             Some(text) => Ok(Head::Constant(text)),
             None => Ok(Head::Nothing),
@@ -275,6 +275,16 @@ pub(crate) fn head_of<'a>(alloc: Global, token: Token<'a>) -> Result<Head<'a>, A
         | Token::Comment(_)
         | Token::Unclosed(_)
         | Token::Stray(_) => Ok(Head::Nothing),
+    }
+}
+
+/// The token in front, where it lies, and the tokens behind it.
+pub(crate) fn front<'a, 't>(tokens: &'t [Lexeme<'a>]) -> Option<(&'t Token<'a>, &'t [Lexeme<'a>])>
+    ensures { MatchOption result (symbols_seen tokens.now ≡ []) (λ x. (symbols_seen tokens.now ≡ symbol (token_seen x.0.now) ∷ symbols_seen x.1.now) × (length x.1.now < length tokens.now)) }
+{
+    match tokens {
+        [] => None,
+        [first, rest @ ..] => Some((&first.token, rest)),
     }
 }
 

@@ -1,11 +1,12 @@
 -- A quoted text is read from the left: its content so far, and how many bytes that took.
 use Rattle.std.proofs.Common.{◌≡◌, ◌≢◌, ℕ, suc, ◌+◌, ◌-◌, ◌<◌, ◌≤◌, Bool, true, false, List, [], ◌∷◌, ◌++◌, length, take, drop, get_or, refl, ap, sym, ◌∙◌, subst, arith, append_assoc, append-nil}
-use Rattle.std.specs.Prelude.{◌==◌, cond}
+use Rattle.std.specs.Prelude.{◌==◌, ◌||◌, cond}
+use Rattle.std.specs.List.{list_any}
 use Rattle.std.proofs.Math.Seq.{take-suc, drop-cons}
-use Rattle.std.proofs.lemmas.Bool.{ne_eqb, eqb-true}
+use Rattle.std.proofs.lemmas.Bool.{ne_eqb, eqb-true, true≢false}
 use Rattle.std.proofs.lemmas.List.{take_all, length-drop}
 use Rattle.mj_ast.specs.Tokens.{Quoted, Unclosed, quoted_token, Quotation, quotation, behind_quote, with_byte, doubled}
-use Rattle.mj_lex.specs.Seen.{undoubled, undoubled_behind}
+use Rattle.mj_lex.specs.Seen.{is_quote, undoubled, undoubled_behind}
 
 -- with content in front, which takes n bytes
 abbrev pub extended : List ℕ → ℕ → Quotation → Quotation
@@ -38,6 +39,15 @@ undoubled_back b bs false h g = ap (λ (x : Bool). b ∷ undoubled_on x (doubled
 pub undoubled-doubled : (bs : List ℕ) → undoubled (doubled bs) ≡ bs
 undoubled-doubled [] = refl
 undoubled-doubled (b ∷ bs) = undoubled_back b bs (b == 34) refl (undoubled-doubled bs)
+
+plain_on : (b : ℕ) (bs : List ℕ) (e : Bool) → (b == 34) ≡ e → (e || list_any is_quote bs) ≡ false → (list_any is_quote bs ≡ false → undoubled bs ≡ bs) → undoubled (b ∷ bs) ≡ b ∷ bs
+plain_on b bs true h g k = absurd (true≢false g)
+plain_on b bs false h g k = ap (λ (x : Bool). b ∷ undoubled_on x bs) h ∙ ap (λ (xs : List ℕ). b ∷ xs) (k g)
+
+-- content without a quote stands as it is
+pub undoubled-plain : (bs : List ℕ) → list_any is_quote bs ≡ false → undoubled bs ≡ bs
+undoubled-plain [] h = refl
+undoubled-plain (b ∷ bs) h = plain_on b bs (b == 34) refl h (undoubled-plain bs)
 
 abbrev quotation_on : Bool → ℕ → List ℕ → Quotation
 quotation_on e b bs = elim e [ true ↦ behind_quote bs | false ↦ with_byte b 1 (quotation bs) ]

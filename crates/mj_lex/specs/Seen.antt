@@ -1,11 +1,14 @@
 -- The tokens that the program keeps, without where their bytes lie.
-use Rattle.std.specs.Prelude.{◌≡◌, ◌+◌, length, drop, ℕ, ◌==◌, true, false, List, [], ◌∷◌, map}
+use Rattle.std.specs.Prelude.{◌≡◌, ◌+◌, length, drop, ℕ, ◌==◌, Bool, true, false, List, [], ◌∷◌, map}
 use Rattle.mj_ast.specs.Tokens.{Lexeme, Class, AWord, ADollar, ADigit, AQuote, ABlank, AComment, ASign, Nothing, class_of, front_of, Token, Word, Called, Special, Digits, Quoted, Signed, Blank, Comment, Unclosed, Stray}
 use Rattle.mj_lex.specs.declared.front.Class as kept_class
 use Rattle.mj_lex.specs.declared.front.Class.TheVariants as class
 use Rattle.mj_lex.specs.declared.token.Token as kept
 use Rattle.mj_lex.specs.declared.token.Token.TheVariants as token
 use Rattle.mj_lex.specs.declared.token.Lexeme as lexeme
+
+abbrev pub is_quote : ℕ → Bool
+is_quote b = b == 34
 
 -- the content of a quoted text, of which the bytes between the quotes are given: of two quotes in a row one
 abbrev mutual

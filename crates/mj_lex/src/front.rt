@@ -242,7 +242,8 @@ pub fn tokens<'a>(alloc: Global, line: &'a [u8]) -> Result<Vec<Lexeme<'a>>, Allo
     ensures placed { IfOk result (λ v. places_seen v.items ≡ placed 0 (lexemes line.now)) }
     ensures longest { IsTokenisation line.now (lexemes line.now) }
 {
-    let mut lexemes = Vec::new(alloc);
+    // No line has more tokens than bytes.
+    let mut lexemes = Vec::with_capacity(alloc, line.len())?;
     let mut rest = line;
     'tokens: while let Some((token, behind)) = front(rest) {
         lexemes.push(Lexeme {

@@ -2,7 +2,8 @@
 
 ghost use Rattle.std.specs.Prelude.{IfSome, IsOkUnless, ◌≤◌, ◌+◌, ◌≡◌, ◌∷◌, [], IfOk, MatchOption};
 ghost use Rattle.std.specs.Prelude.{IfErr, ◌<◌, ◌↔◌, length};
-ghost use Rattle.mj_lex.specs.Seen.{token_seen, tokens_seen, undoubled};
+ghost use Rattle.std.specs.List.{list_any};
+ghost use Rattle.mj_lex.specs.Seen.{is_quote, token_seen, tokens_seen, undoubled};
 ghost use Rattle.mj_text.specs.declared.fault.Failure.TheVariants as failure;
 ghost use Rattle.mj_text.specs.declared.fault.Fault.TheVariants as fault;
 
@@ -53,6 +54,13 @@ pub fn next<'a, 't>(tokens: &'t [Lexeme<'a>]) -> Option<(Token<'a>, &'t [Lexeme<
     }
 }
 
+/// Whether a quote is among the bytes.
+fn has_quote(bytes: &[u8]) -> bool
+    ensures { result ≡ list_any is_quote bytes.now }
+{
+    bytes.iter().any(|byte| *byte == b'"')
+}
+
 /// The content of a quoted text, from the bytes between its quotes: of two quotes in a row one. Content above the limit of
 /// a text is `LENGTH`.
 pub fn unquoted(alloc: Global, bytes: &[u8]) -> Result<Text, Failure>
@@ -60,7 +68,10 @@ pub fn unquoted(alloc: Global, bytes: &[u8]) -> Result<Text, Failure>
     ensures long { (result ≡ Err (failure.Fault fault.Length)) → TEXT_LIMIT < length (undoubled bytes.now) }
     ensures within { length (undoubled bytes.now) ≤ TEXT_LIMIT → IsOkUnless result failure.Memory }
 {
-    let mut content = Vec::new(alloc);
+    if !has_quote(bytes) {
+        return Text::from(alloc, bytes);
+    }
+    let mut content = Vec::with_capacity(alloc, bytes.len())?;
     let mut rest = bytes;
     'content: while let [first, behind @ ..] = rest {
         content.push(*first)?;

@@ -20,9 +20,9 @@ returns-in-None-clause-reads c = λ m o condition k done. fails_here c.args.phra
 pub commas-init : goal.commas-init
 commas-init c = record {
   goes = λ m o condition k done.
-      went_as c.args.phrases.limited (name_parts c.in_ok-first-in-Some.first) _ m c.args.tokens.now NameWanted c.in-Some.behind.now NameBehind o condition k done (kept_word c.new-names.result.items c.push.new.self.items c.in_ok-first-in-Some.first c.new-names.ensures.items c.in_ok-push-in-Some.ensures.items)
+      went_as c.args.phrases.limited (name_parts c.in_ok-first-in-Some.first) _ m c.args.tokens.now NameWanted c.in-Some.behind.now NameBehind o condition k done (kept_word c.new-names.result.items c.added.new.list.items c.in_ok-first-in-Some.first c.new-names.ensures.items c.in_ok-added-in-Some.ensures)
       (went_name c.args.phrases.limited m c.args.tokens.now c.in-Some.behind.now c.in-Some.first.now c.in_ok-first-in-Some.first o condition k done c.in-Some.ensures.0 c.in-Some.ensures.1 c.in_ok-first-in-Some.ensures.ok);
-  some = kept_length c.new-names.result.items c.push.new.self.items c.in_ok-first-in-Some.first c.in_ok-push-in-Some.ensures.items;
+  some = kept_length c.new-names.result.items c.added.new.list.items c.in_ok-first-in-Some.first c.in_ok-added-in-Some.ensures;
   falls = omega (arith, c.in-Some.ensures.2);
 }
 
@@ -35,11 +35,11 @@ returns-in-None-behind_name-clause-reads c = λ m o condition k done.
 pub commas-preserved : goal.commas-preserved
 commas-preserved c = record {
   goes = λ m o condition k done.
-      went_as c.args.phrases.limited _ _ m c.args.tokens.now NameWanted c.in-Some-behind_name.behind.now NameBehind o condition k done (kept_words c.commas.names.items c.push-in-Some-behind_name.new.self.items c.in_ok-name-in-Some-behind_name.name c.in_ok-push-in-Some-behind_name.ensures.items c.commas.invariant.some)
+      went_as c.args.phrases.limited _ _ m c.args.tokens.now NameWanted c.in-Some-behind_name.behind.now NameBehind o condition k done (kept_words c.commas.names.items c.added-in-Some-behind_name.new.list.items c.in_ok-name-in-Some-behind_name.name c.in_ok-added-in-Some-behind_name.ensures c.commas.invariant.some)
       (went_then c.args.phrases.limited _ (Put Comma ∷ Named c.in_ok-name-in-Some-behind_name.name ∷ []) m c.args.tokens.now NameWanted c.commas.rest.now NameBehind c.in-Some-behind_name.behind.now NameBehind o condition k done (c.commas.invariant.goes m o condition k done)
       (λ d. went_then c.args.phrases.limited (Put Comma ∷ []) (name_parts c.in_ok-name-in-Some-behind_name.name) m c.commas.rest.now NameBehind c.in-Some-behind_comma.behind.now NameWanted c.in-Some-behind_name.behind.now NameBehind o condition k d (went_token c.args.phrases.limited (Signed Comma) (Put Comma) m c.commas.rest.now NameBehind c.in-Some-behind_comma.behind.now NameWanted o condition k d c.in-Some-behind_comma.ensures.0 refl refl)
       (λ e. went_name c.args.phrases.limited m c.in-Some-behind_comma.behind.now c.in-Some-behind_name.behind.now c.in-Some-behind_name.name.now c.in_ok-name-in-Some-behind_name.name o condition k e c.in-Some-behind_name.ensures.0 c.in-Some-behind_name.ensures.1 c.in_ok-name-in-Some-behind_name.ensures.ok)));
-  some = kept_length c.commas.names.items c.push-in-Some-behind_name.new.self.items c.in_ok-name-in-Some-behind_name.name c.in_ok-push-in-Some-behind_name.ensures.items;
+  some = kept_length c.commas.names.items c.added-in-Some-behind_name.new.list.items c.in_ok-name-in-Some-behind_name.name c.in_ok-added-in-Some-behind_name.ensures;
   falls = omega (arith, c.in-Some-behind_name.ensures.2, c.in-Some-behind_comma.ensures.1, c.commas.invariant.falls);
 }
 

@@ -39,7 +39,7 @@ steps-preserved c = record {
       let h = c.steps.invariant.goes m r o in
       let a = c.in_ok-read-in-Some-keyword_of.ensures.reads m (room_for c.args.phrases.limited m c.args.tokens.now c.in-Some.behind.now (omega (arith, c.in-Some.ensures.1, c.steps.invariant.falls)) r) (with_steps o h.0) in (
         h.0 ++ a.0 ∷ [],
-        λ l. step_pushed c.steps.steps.items c.push.new.self.items c.in_ok-read-in-Some-keyword_of.read h.0 a.0 c.in_ok-push-in-Some-keyword_of.ensures.items (h.1 l) (a.1 l),
+        λ l. step_pushed c.steps.steps.items c.added.new.list.items c.in_ok-read-in-Some-keyword_of.read h.0 a.0 c.in_ok-added-in-Some-keyword_of.ensures (h.1 l) (a.1 l),
         h.2
             ∙ known_goes m (with_steps o h.0) (tokens_seen c.steps.rest.now) (tokens_seen c.in-Some.behind.now) c.in-Some.word.now c.in-Some-keyword_of.keyword c.in-Some.ensures.0 (sym c.keyword_of.ensures ∙ c.in-Some-keyword_of.is)
             ∙ a.2

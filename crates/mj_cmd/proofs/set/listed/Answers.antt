@@ -17,8 +17,8 @@ use Rattle.mj_cmd.proofs.set.listed.Goals as goal
 pub commas-init : goal.commas-init
 commas-init c = record {
   goes = λ m r o condition k done.
-      went_as c.args.phrases.limited (destination_parts (destination_of c.in_ok-first.first)) _ m c.args.tokens.now (SetTarget true) c.in_ok-first.rest.now (SetBehind true) o condition k done (kept_first destination_of destination_parts c.new-destinations.result.items c.push.new.self.items c.in_ok-first.first c.new-destinations.ensures.items c.in_ok-push.ensures.items) (c.in_ok-first.ensures.reads m r true tt o condition k done);
-  some = kept_length c.new-destinations.result.items c.push.new.self.items c.in_ok-first.first c.in_ok-push.ensures.items;
+      went_as c.args.phrases.limited (destination_parts (destination_of c.in_ok-first.first)) _ m c.args.tokens.now (SetTarget true) c.in_ok-first.rest.now (SetBehind true) o condition k done (kept_first destination_of destination_parts c.new-destinations.result.items c.added.new.list.items c.in_ok-first.first c.new-destinations.ensures.items c.in_ok-added.ensures) (c.in_ok-first.ensures.reads m r true tt o condition k done);
+  some = kept_length c.new-destinations.result.items c.added.new.list.items c.in_ok-first.first c.in_ok-added.ensures;
   falls = c.in_ok-first.ensures.shorter;
 }
 
@@ -32,11 +32,11 @@ returns-in_err-destination-clause-reads c = λ m r o condition k done.
 pub commas-preserved : goal.commas-preserved
 commas-preserved c = record {
   goes = λ m r o condition k done.
-      went_as c.args.phrases.limited _ _ m c.args.tokens.now (SetTarget true) c.in_ok-destination.behind.now (SetBehind true) o condition k done (kept_more destination_of destination_parts c.commas.destinations.items c.push-in-Some.new.self.items c.in_ok-destination.destination c.in_ok-push-2.ensures.items c.commas.invariant.some)
+      went_as c.args.phrases.limited _ _ m c.args.tokens.now (SetTarget true) c.in_ok-destination.behind.now (SetBehind true) o condition k done (kept_more destination_of destination_parts c.commas.destinations.items c.added-in-Some.new.list.items c.in_ok-destination.destination c.in_ok-added-2.ensures c.commas.invariant.some)
       (went_then c.args.phrases.limited _ (Put Comma ∷ destination_parts (destination_of c.in_ok-destination.destination)) m c.args.tokens.now (SetTarget true) c.commas.rest.now (SetBehind true) c.in_ok-destination.behind.now (SetBehind true) o condition k done (c.commas.invariant.goes m r o condition k done)
       (λ d. went_then c.args.phrases.limited (Put Comma ∷ []) (destination_parts (destination_of c.in_ok-destination.destination)) m c.commas.rest.now (SetBehind true) c.in-Some.behind.now (SetTarget true) c.in_ok-destination.behind.now (SetBehind true) o condition k d (went_token c.args.phrases.limited (Signed Comma) (Put Comma) m c.commas.rest.now (SetBehind true) c.in-Some.behind.now (SetTarget true) o condition k d c.in-Some.ensures.0 refl refl)
       (λ e. c.in_ok-destination.ensures.reads m (room_for c.args.phrases.limited m c.args.tokens.now c.in-Some.behind.now (omega (arith, c.in-Some.ensures.1, c.commas.invariant.falls)) r) true tt o condition k e)));
-  some = kept_length c.commas.destinations.items c.push-in-Some.new.self.items c.in_ok-destination.destination c.in_ok-push-2.ensures.items;
+  some = kept_length c.commas.destinations.items c.added-in-Some.new.list.items c.in_ok-destination.destination c.in_ok-added-2.ensures;
   falls = omega (arith, c.in_ok-destination.ensures.shorter, c.in-Some.ensures.1, c.commas.invariant.falls);
 }
 

@@ -27,11 +27,11 @@ returns-in_err-first-in-Some-clause-reads c = λ m r listed o condition k done.
 pub commas-init : goal.commas-init
 commas-init c = record {
   goes = λ m r listed o condition k done.
-      went_from c.args.phrases.limited c.new-texts.result.items c.push.new.self.items c.in_ok-first-in-Some.first m c.args.tokens.now c.in_ok-first-in-Some.rest.now listed o condition k done c.new-texts.ensures.items c.in_ok-push-in-Some.ensures.items
+      went_from c.args.phrases.limited c.new-texts.result.items c.added.new.list.items c.in_ok-first-in-Some.first m c.args.tokens.now c.in_ok-first-in-Some.rest.now listed o condition k done c.new-texts.ensures.items c.in_ok-added-in-Some.ensures
       (went_then c.args.phrases.limited (Put Comma ∷ []) (Text 1 (expr_of c.in_ok-first-in-Some.first) ∷ []) m c.args.tokens.now (PieceComma listed) c.in-Some.behind.now (PieceText listed 2) c.in_ok-first-in-Some.rest.now (PieceBehind listed 2) o condition k done (went_token c.args.phrases.limited (Signed Comma) (Put Comma) m c.args.tokens.now (PieceComma listed) c.in-Some.behind.now (PieceText listed 2) o condition k done c.in-Some.ensures.0 refl refl)
       (λ d. went_text c.args.phrases.limited 1 (expr_of c.in_ok-first-in-Some.first) m c.in-Some.behind.now (PieceText listed 2) c.in_ok-first-in-Some.rest.now (PieceBehind listed 2) o condition k d refl (text_untaken listed 2 (tokens_seen c.in-Some.behind.now)) (inl refl)
       (c.in_ok-first-in-Some.ensures.reads m (room_for c.args.phrases.limited m c.args.tokens.now c.in-Some.behind.now (omega (arith, c.in-Some.ensures.1)) r) (Argument o condition k d (AnExpr 1 (PieceBehind listed 2))) refl refl)));
-  some = first_length c.new-texts.result.items c.push.new.self.items c.in_ok-first-in-Some.first c.new-texts.ensures.items c.in_ok-push-in-Some.ensures.items;
+  some = first_length c.new-texts.result.items c.added.new.list.items c.in_ok-first-in-Some.first c.new-texts.ensures.items c.in_ok-added-in-Some.ensures;
   falls = omega (arith, c.in_ok-first-in-Some.ensures.shorter, c.in-Some.ensures.1);
 }
 
@@ -44,10 +44,10 @@ returns-in_err-text-in-Some-clause-reads c = λ m r listed o condition k done.
 pub commas-preserved : goal.commas-preserved
 commas-preserved c = record {
   goes = λ m r listed o condition k done.
-      went_more c.args.phrases.limited c.commas.texts.items c.push-in-Some-behind_comma.new.self.items c.in_ok-text-in-Some.text c.len.result m c.args.tokens.now c.commas.rest.now c.in_ok-text-in-Some.behind.now listed o condition k done (omega (arith, c.len.ensures)) c.in_ok-push-in-Some-2.ensures.items c.commas.invariant.some.0
+      went_more c.args.phrases.limited c.commas.texts.items c.added-in-Some-behind_comma.new.list.items c.in_ok-text-in-Some.text c.len.result m c.args.tokens.now c.commas.rest.now c.in_ok-text-in-Some.behind.now listed o condition k done (omega (arith, c.len.ensures)) c.in_ok-added-in-Some-2.ensures c.commas.invariant.some.0
       (c.commas.invariant.goes m r listed o condition k done)
       (λ d. c.in_ok-text-in-Some.ensures.reads m (room_for c.args.phrases.limited m c.args.tokens.now c.commas.rest.now c.commas.invariant.falls r) listed o condition k d);
-  some = more_length c.commas.texts.items c.push-in-Some-behind_comma.new.self.items c.in_ok-text-in-Some.text c.len.result (omega (arith, c.len.ensures)) c.in_ok-push-in-Some-2.ensures.items c.in_ok-text-in-Some.ensures.few;
+  some = more_length c.commas.texts.items c.added-in-Some-behind_comma.new.list.items c.in_ok-text-in-Some.text c.len.result (omega (arith, c.len.ensures)) c.in_ok-added-in-Some-2.ensures c.in_ok-text-in-Some.ensures.few;
   falls = omega (arith, c.in_ok-text-in-Some.ensures.shorter, c.in-Some-behind_comma.ensures.1, c.commas.invariant.falls);
 }
 

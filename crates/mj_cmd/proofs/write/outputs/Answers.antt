@@ -19,8 +19,8 @@ pub commas-init : goal.commas-init
 commas-init c = record {
   goes = λ m r o condition k done.
       let a = c.in_ok-first.ensures.reads m r o condition k done in
-      (a.0, a.1, λ l. a.2 l ∙ kept_first output_of output_parts c.new-arguments.result.items c.push.new.self.items c.in_ok-first.first c.new-arguments.ensures.items c.in_ok-push.ensures.items, a.3, a.4);
-  some = kept_length c.new-arguments.result.items c.push.new.self.items c.in_ok-first.first c.in_ok-push.ensures.items;
+      (a.0, a.1, λ l. a.2 l ∙ kept_first output_of output_parts c.new-arguments.result.items c.added.new.list.items c.in_ok-first.first c.new-arguments.ensures.items c.in_ok-added.ensures, a.3, a.4);
+  some = kept_length c.new-arguments.result.items c.added.new.list.items c.in_ok-first.first c.in_ok-added.ensures;
   falls = c.in_ok-first.ensures.shorter;
 }
 
@@ -41,12 +41,12 @@ commas-preserved c = record {
       let a = c.in_ok-argument.ensures.reads m (room_for c.args.phrases.limited m c.args.tokens.now c.in-Some.behind.now (omega (arith, c.in-Some.ensures.1, c.commas.invariant.falls)) r) o condition k ((done ++ h.0) ++ Put Comma ∷ []) in (
         h.0 ++ (Put Comma ∷ a.0),
         a.1,
-        λ l. ap (λ (zs : List Part). zs ++ (Put Comma ∷ a.0)) (h.2 l) ∙ ap (λ (zs : List Part). with_commas output_parts (map output_of c.commas.arguments.items) ++ (Put Comma ∷ zs)) (a.2 l) ∙ kept_more output_of output_parts c.commas.arguments.items c.push-in-Some.new.self.items c.in_ok-argument.argument c.in_ok-push-2.ensures.items c.commas.invariant.some,
+        λ l. ap (λ (zs : List Part). zs ++ (Put Comma ∷ a.0)) (h.2 l) ∙ ap (λ (zs : List Part). with_commas output_parts (map output_of c.commas.arguments.items) ++ (Put Comma ∷ zs)) (a.2 l) ∙ kept_more output_of output_parts c.commas.arguments.items c.added-in-Some.new.list.items c.in_ok-argument.argument c.in_ok-added-2.ensures c.commas.invariant.some,
         a.3,
         h.4 ∙ output_comma_goes m o condition k (done ++ h.0) h.1 (tokens_seen c.commas.rest.now) (tokens_seen c.in-Some.behind.now) h.3 c.in-Some.ensures.0 ∙ a.4
             ∙ ap (λ (zs : List Part). run m (tokens_seen c.in_ok-argument.behind.now) (At (Args o condition k zs a.1))) (append_assoc (done ++ h.0) (Put Comma ∷ []) a.0 ∙ append_assoc done h.0 (Put Comma ∷ a.0)),
       );
-  some = kept_length c.commas.arguments.items c.push-in-Some.new.self.items c.in_ok-argument.argument c.in_ok-push-2.ensures.items;
+  some = kept_length c.commas.arguments.items c.added-in-Some.new.list.items c.in_ok-argument.argument c.in_ok-added-2.ensures;
   falls = omega (arith, c.in_ok-argument.ensures.shorter, c.in-Some.ensures.1, c.commas.invariant.falls);
 }
 

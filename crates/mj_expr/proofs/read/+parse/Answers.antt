@@ -66,7 +66,7 @@ expr-joins-preserved t c = record {
       c.joins.invariant.reads o d e f
       ∙ binary_goes (limits d) (symbols_seen c.joins.rest.now) (symbols_seen c.in-Some.after.now) c.in-Some.op (operand_of c.joins.first-1) (tails_of c.joins.tails.items) o c.in-Some.ensures.0
       ∙ c.in_ok-operand.ensures.reads (Right (operand_of c.joins.first-1) (tails_of c.joins.tails.items) c.in-Some.op o) d e f
-      ∙ ap (λ (ts : Tails). run (limits d) (symbols_seen c.in_ok-operand.behind.now) (Held (operand_of c.joins.first-1) ts o)) (sym (ap tails_of c.in_ok-push.ensures.items ∙ tails_push c.joins.tails.items (record { op = c.in-Some.op; operand = c.in_ok-operand.operand })));
+      ∙ ap (λ (ts : Tails). run (limits d) (symbols_seen c.in_ok-operand.behind.now) (Held (operand_of c.joins.first-1) ts o)) (sym (ap tails_of c.in_ok-added.ensures ∙ tails_push c.joins.tails.items (record { op = c.in-Some.op; operand = c.in_ok-operand.operand })));
   shorter = omega (arith, c.in_ok-operand.ensures.shorter, c.in-Some.ensures.1, c.joins.invariant.shorter);
 }
 
@@ -116,10 +116,10 @@ list-commas-preserved t c = record {
       ∙ comma_goes (limits d) (symbols_seen c.in-Some.after.now) w es (omega (arith, n, c.commas.invariant.shorter.1)) few
       ∙ c.in_ok-item.ensures.reads (InList w es) d e (kind_full w c.args.kind (count es) c.len-in-Some.result k (omega (arith, n, c.len-in-Some.ensures)) ∙ sym c.fills-full.ensures)
       ∙ ap (λ (s : State). run (limits d) (symbols_seen c.in_ok-item.behind.now) s) (sym (behind_pushed w es (expr_of c.in_ok-item.item)))
-      ∙ ap (λ (xs : Exprs). run (limits d) (symbols_seen c.in_ok-item.behind.now) (behind_list w xs)) (sym (ap exprs_of c.in_ok-push-2.ensures.items ∙ exprs_push c.commas.items.items c.in_ok-item.item));
+      ∙ ap (λ (xs : Exprs). run (limits d) (symbols_seen c.in_ok-item.behind.now) (behind_list w xs)) (sym (ap exprs_of c.in_ok-added-2.ensures ∙ exprs_push c.commas.items.items c.in_ok-item.item));
   shorter = (
     omega (arith, c.in_ok-item.ensures.shorter, c.in-Some.ensures.1, c.commas.invariant.shorter.0),
-    omega (arith, ap length c.in_ok-push-2.ensures.items, length-append c.commas.items.items (c.in_ok-item.item ∷ [])),
+    omega (arith, ap length c.in_ok-added-2.ensures, length-append c.commas.items.items (c.in_ok-item.item ∷ [])),
     c.in_ok-item.ensures.stops,
   );
 }
@@ -170,8 +170,8 @@ named-returns-in-None-clause-reads t c = λ p d e.
 
 pub operand-returns-else-room-levels-clause-reads : goal.operand-returns-else-room-levels-clause-reads
 operand-returns-else-room-levels-clause-reads t c = λ c' d e f.
-    let P : Head → Type 0 = λ h. IsHead h (symbol (token_seen c.in-Some.token)) in
-    let head : symbol (token_seen c.in-Some.token) ≡ Applied c.in-Callee.callee = subst P c.in-Callee.is c.in_ok-text.ensures in
+    let P : Head → Type 0 = λ h. IsHead h (symbol (token_seen c.in-Some.token.now)) in
+    let head : symbol (token_seen c.in-Some.token.now) ≡ Applied c.in-Callee.callee = subst P c.in-Callee.is c.in_ok-text.ensures in
     let went = ap (λ (ks : List Symbol). run (limits d) ks (Wanted c')) c.in-Some.ensures.0
     ∙ ap (λ (k : Symbol). run (limits d) (k ∷ symbols_seen c.in-Some.rest.now) (Wanted c')) head
     ∙ call_goes (limits d) (symbols_seen c.in-Some.rest.now) c.in-Callee.callee c' (omega (arith, e, c.if-room-levels.false, c.levels.ensures)) in
@@ -179,11 +179,11 @@ operand-returns-else-room-levels-clause-reads t c = λ c' d e f.
 
 pub operand-returns-in-Nothing-clause-reads : goal.operand-returns-in-Nothing-clause-reads
 operand-returns-in-Nothing-clause-reads t c = λ c' d e f.
-    let P : Head → Type 0 = λ h. IsHead h (symbol (token_seen c.in-Some.token)) in
-    let none : BeginsNone (symbol (token_seen c.in-Some.token)) = subst P c.in-Nothing.is c.in_ok-text.ensures in
+    let P : Head → Type 0 = λ h. IsHead h (symbol (token_seen c.in-Some.token.now)) in
+    let none : BeginsNone (symbol (token_seen c.in-Some.token.now)) = subst P c.in-Nothing.is c.in_ok-text.ensures in
     refuses_from c.refusal-in-Nothing.result _ _
     (ap (λ (ks : List Symbol). run (limits d) ks (Wanted c')) c.in-Some.ensures.0
-    ∙ none_refuses (limits d) (limits 0) c' (symbol (token_seen c.in-Some.token)) (symbols_seen c.in-Some.rest.now) c.args.full refl f none
+    ∙ none_refuses (limits d) (limits 0) c' (symbol (token_seen c.in-Some.token.now)) (symbols_seen c.in-Some.rest.now) c.args.full refl f none
     ∙ ap (λ (ks : List Symbol). refused_in c.args.full ks) (sym c.in-Some.ensures.0))
     c.refusal-in-Nothing.ensures
 
@@ -246,4 +246,4 @@ about-returns-clause-reads t c = λ c' d e.
     ∙ about_goes (limits d) (symbols_seen c.in-Some-behind_comma.behind.now) f (variable_of v) c' (omega (arith, n, c.if-len-least_subscripts.false, c.least_subscripts.ensures)) (omega (arith, c.if-most_others-eq0.false, c.most_others.ensures))
     ∙ c.in_ok-other.ensures.other f (variable_of v) c' d e
     ∙ ap (λ (es : Exprs). run (limits d) (symbols_seen c.in_ok-other.rest.now) (filled (About f (variable_of v) es) c'))
-    (sym (others_made c.push.new.self ∙ ap exprs_of (c.in_ok-push.ensures.items ∙ ap (λ (es : List expr.Expr). es ++ c.in_ok-other.other ∷ []) c.new-others.ensures.items)))
+    (sym (others_made c.added.new.list ∙ ap exprs_of (c.in_ok-added.ensures ∙ ap (λ (es : List expr.Expr). es ++ c.in_ok-other.other ∷ []) c.new-others.ensures.items)))

@@ -26,3 +26,6 @@ returns-in_err-push-clause-longest c = tokenised c.args.line.now
 
 pub returns-clause-placed : goal.returns-clause-placed
 returns-clause-placed c = placed_all (places_seen c.tokens.lexemes.items) (placed 0 (lexemes c.args.line.now)) _ c.tokens.rest.now c.in_default.ensures.token c.tokens.invariant.found
+
+pub returns-in_err-lexemes-clause-longest : goal.returns-in_err-lexemes-clause-longest
+returns-in_err-lexemes-clause-longest c = tokenised c.args.line.now
