@@ -1,6 +1,6 @@
 -- There is an instruction for each operand at least, so that operands can be counted where instructions can.
-use Rattle.std.proofs.Common.{◌≡◌, ℕ, ◌+◌, ◌≤◌, ◌<◌, ◌^◌, List, [], ◌∷◌, ◌++◌, length, arith, length-append}
-use Rattle.mj_ast.specs.Syntax.{Expr, Chain, Operand, Literal, Value, Unary, Group, Call, About, Select, Variable, Var, Exprs, No, More, Choices, Last, Before, Destination, Plain, Pieces}
+use Rattle.std.proofs.Common.{ℕ, ◌+◌, ◌≤◌, List, [], ◌∷◌, ◌++◌, length, arith, length-append}
+use Rattle.mj_ast.specs.Syntax.{Expr, Chain, Operand, Literal, Value, Intrinsic, Unary, Group, Call, About, Select, Variable, Var, Exprs, No, More, Last, Before, Destination, Plain, Pieces}
 use Rattle.mj_pcode.specs.declared.instr.Instr.{Instr}
 use Rattle.mj_pcode.specs.declared.instr.Instr.TheVariants as instr
 use Rattle.mj_asm.specs.Code.{count, reference, expr_code, tails_code, operand_code, subscripts_code, exprs_code, size, sizes, destination_code, destinations_code}
@@ -18,6 +18,7 @@ mutual
   operand_some : (pc : ℕ) (x : Operand) → 1 ≤ length (operand_code pc x)
   operand_some pc (Literal t) = omega arith
   operand_some pc (Value v) = middle (subscripts_code pc v) (instr.Load (reference v)) []
+  operand_some pc (Intrinsic v) = omega arith
   operand_some pc (Unary op x) = middle (operand_code pc x) (instr.Unary op) []
   operand_some pc (Group e) = expr_some pc e
   operand_some pc (Call f es) = middle (exprs_code pc es) (instr.Call f (count es)) []

@@ -1,9 +1,10 @@
 -- A jump past a command, whose place was kept until the command was there.
-use Rattle.std.proofs.Common.{◌≡◌, ℕ, ◌+◌, List, [], ◌∷◌, ◌++◌, length, ap, sym, ◌∙◌, arith, append_assoc, length-append}
+use Rattle.std.proofs.Common.{◌≡◌, ℕ, ◌+◌, List, [], ◌∷◌, Option, Some, ◌++◌, length, ap, sym, ◌∙◌, arith, append_assoc, length-append}
 use Rattle.std.specs.Prelude.{slice_set}
 use Rattle.std.proofs.Math.Seq.{set-append_seam}
 use Rattle.mj_pcode.specs.declared.instr.Instr.{Instr}
-use Rattle.mj_pcode.specs.declared.instr.Instr.TheVariants.{Unless, Jump}
+use Rattle.mj_pcode.specs.declared.instr.Instr.TheVariants.{Unless, Jump, Close, Again}
+use Rattle.mj_asm.specs.Code.{body_code}
 
 -- a jump that gets its target once there is code behind it
 pub aimed : (c1 c2 c3 behind : List Instr) (y z : Instr) (at : ℕ) → at ≡ length c1 → c2 ≡ c1 ++ y ∷ [] → c3 ≡ c2 ++ behind → slice_set c3 at z ≡ c1 ++ z ∷ behind
@@ -11,18 +12,52 @@ aimed c1 c2 c3 behind y z at m e2 e3 =
     let whole : c3 ≡ c1 ++ y ∷ behind = e3 ∙ ap (λ l. l ++ behind) e2 ∙ append_assoc c1 (y ∷ []) behind in
     ap (λ k. slice_set c3 k z) m ∙ ap (λ l. slice_set l (length c1) z) whole ∙ set-append_seam c1 y behind z
 
--- a command behind a test
-pub tested : (base test : List Instr) (body : ℕ → List Instr) (c1 c2 c3 c4 : List Instr) (y : Instr) (at : ℕ) → c1 ≡ base ++ test → at ≡ length c1 → c2 ≡ c1 ++ y ∷ [] → c3 ≡ c2 ++ body (length c2) → c4 ≡ slice_set c3 at (Unless (length c3)) →
-    c4 ≡ base ++ (test ++ Unless (length base + length test + 1 + length (body (length base + length test + 1))) ∷ body (length base + length test + 1))
-tested base test body c1 c2 c3 c4 y at e1 m e2 e3 e4 =
-    let n : length c2 ≡ length base + length test + 1 = omega (arith, ap length e2, ap length e1, length-append base test, length-append c1 (y ∷ [])) in
+-- an instruction, which gets the end of the code behind it
+pub led : (c1 : List Instr) (z : ℕ → Instr) (body : ℕ → List Instr) (c2 c3 c4 : List Instr) (y : Instr) (at : ℕ) → at ≡ length c1 → c2 ≡ c1 ++ y ∷ [] → c3 ≡ c2 ++ body (length c2) → c4 ≡ slice_set c3 at (z (length c3)) →
+    c4 ≡ c1 ++ z (length c1 + 1 + length (body (length c1 + 1))) ∷ body (length c1 + 1)
+led c1 z body c2 c3 c4 y at m e2 e3 e4 =
+    let n : length c2 ≡ length c1 + 1 = omega (arith, ap length e2, length-append c1 (y ∷ [])) in
     let len : length c3 ≡ length c2 + length (body (length c2)) = omega (arith, ap length e3, length-append c2 (body (length c2))) in
     e4
-    ∙ aimed c1 c2 c3 (body (length c2)) y (Unless (length c3)) at m e2 e3
-    ∙ ap (λ k. c1 ++ Unless k ∷ body (length c2)) len
-    ∙ ap (λ k. c1 ++ Unless (k + length (body k)) ∷ body k) n
-    ∙ ap (λ l. l ++ Unless (length base + length test + 1 + length (body (length base + length test + 1))) ∷ body (length base + length test + 1)) e1
+    ∙ aimed c1 c2 c3 (body (length c2)) y (z (length c3)) at m e2 e3
+    ∙ ap (λ k. c1 ++ z k ∷ body (length c2)) len
+    ∙ ap (λ k. c1 ++ z (k + length (body k)) ∷ body k) n
+
+-- what stands behind a test, which gets the end of the code behind it
+pub tested : (base test : List Instr) (z : ℕ → Instr) (body : ℕ → List Instr) (c1 c2 c3 c4 : List Instr) (y : Instr) (at : ℕ) → c1 ≡ base ++ test → at ≡ length c1 → c2 ≡ c1 ++ y ∷ [] → c3 ≡ c2 ++ body (length c2) → c4 ≡ slice_set c3 at (z (length c3)) →
+    c4 ≡ base ++ (test ++ z (length base + length test + 1 + length (body (length base + length test + 1))) ∷ body (length base + length test + 1))
+tested base test z body c1 c2 c3 c4 y at e1 m e2 e3 e4 =
+    let n : length c1 ≡ length base + length test = omega (arith, ap length e1, length-append base test) in
+    led c1 z body c2 c3 c4 y at m e2 e3 e4
+    ∙ ap (λ k. c1 ++ z (k + 1 + length (body (k + 1))) ∷ body (k + 1)) n
+    ∙ ap (λ l. l ++ z (length base + length test + 1 + length (body (length base + length test + 1))) ∷ body (length base + length test + 1)) e1
     ∙ append_assoc base test _
+
+-- the instruction that closes a FOR, and its passes
+pub closed : (base : List Instr) (rest : ℕ → Option ℕ → List Instr) (c2 c3 c4 c5 : List Instr) (at : ℕ) → at ≡ length base → c2 ≡ base ++ Close 0 ∷ [] → c3 ≡ c2 ++ rest (length c2) (Some at) → c4 ≡ c3 ++ Again ∷ [] → c5 ≡ slice_set c4 at (Close (length c4)) → c5 ≡ base ++ body_code (length base) rest
+closed base rest c2 c3 c4 c5 at m e2 e3 e4 e5 =
+    let k : ℕ = length base in
+    let body : ℕ → List Instr = λ p. rest p (Some k) ++ Again ∷ [] in
+    let whole : c4 ≡ c2 ++ body (length c2) = e4 ∙ ap (λ l. l ++ Again ∷ []) (e3 ∙ ap (λ j. c2 ++ rest (length c2) (Some j)) m) ∙ append_assoc c2 (rest (length c2) (Some k)) (Again ∷ []) in
+    let n : k + 1 + length (body (k + 1)) ≡ k + 1 + length (rest (k + 1) (Some k)) + 1 = omega (arith, length-append (rest (k + 1) (Some k)) (Again ∷ [])) in
+    led base (λ j. Close j) body c2 c4 c5 (Close 0) at m e2 whole e5 ∙ ap (λ j. base ++ Close j ∷ body (k + 1)) n
+
+-- the instruction that begins a FOR, its ranges, and what stands behind them
+pub opened : (base test : List Instr) (z : ℕ → Instr) (body passes : ℕ → List Instr) (c1 c2 c3 c4 c5 : List Instr) (y : Instr) (at : ℕ) → c1 ≡ base ++ test → at ≡ length c1 → c2 ≡ c1 ++ y ∷ [] → c3 ≡ c2 ++ body (length c2) → c4 ≡ slice_set c3 at (z (length c3)) → c5 ≡ c4 ++ passes (length c4) →
+    c5 ≡ base ++ (test ++ z (length base + length test + 1 + length (body (length base + length test + 1))) ∷ (body (length base + length test + 1) ++ passes (length base + length test + 1 + length (body (length base + length test + 1)))))
+opened base test z body passes c1 c2 c3 c4 c5 y at e1 m e2 e3 e4 e5 =
+    let f : ℕ = length base + length test + 1 in
+    let made : List Instr = test ++ z (f + length (body f)) ∷ body f in
+    let t : c4 ≡ base ++ made = tested base test z body c1 c2 c3 c4 y at e1 m e2 e3 e4 in
+    let n : length c4 ≡ f + length (body f) = omega (arith, ap length t, length-append base made, length-append test (z (f + length (body f)) ∷ body f)) in
+    let last : (base ++ (test ++ z (f + length (body f)) ∷ body f)) ++ passes (f + length (body f)) ≡ base ++ (test ++ z (f + length (body f)) ∷ (body f ++ passes (f + length (body f)))) = simp append_assoc in
+    e5 ∙ ap (λ k. c4 ++ passes k) n ∙ ap (λ l. l ++ passes (f + length (body f))) t ∙ last
+
+-- one piece more of several, whose code goes on where its code ends
+pub one_more : (base one : List Instr) (rest : ℕ → List Instr) (c1 : List Instr) → c1 ≡ base ++ one → c1 ++ rest (length c1) ≡ base ++ (one ++ rest (length base + length one))
+one_more base one rest c1 e =
+    let n : length c1 ≡ length base + length one = omega (arith, ap length e, length-append base one) in
+    ap (λ k. c1 ++ rest k) n ∙ ap (λ l. l ++ rest (length base + length one)) e ∙ append_assoc base one _
 
 -- a condition, its value, which begins at v, and what stands behind its jump
 abbrev pub choice_code : ℕ → List Instr → (ℕ → List Instr) → (ℕ → List Instr) → List Instr

@@ -1,22 +1,31 @@
 -- The code of a small routine, by computing. Its text stands above it, a `/` between its lines.
-use Rattle.std.specs.Prelude.{◌≡◌, refl, ℕ, List, [], ◌∷◌, Some, None, codes}
+use Rattle.std.specs.Prelude.{◌≡◌, refl, ℕ, true, false, List, [], ◌∷◌, Some, None, codes}
 use Rattle.mj_ast.specs.declared.expr.Scope.TheVariants.{Local, Global}
 use Rattle.mj_ast.specs.declared.routine.Mark.TheVariants.{NewLine}
-use Rattle.mj_ast.specs.Syntax.{Chain, Done, Then, Operand, Literal, Value, Var, No, More, One, Several, Plain, Pieces, Gone, Spared, Kill, Merge, Set, Write, Shown, Format, Halt, Line}
+use Rattle.mj_ast.specs.Syntax.{Expr, Chain, Done, Then, Operand, Literal, Value, Var, No, More, One, Several, Plain, Pieces, Gone, Spared, Kill, Merge, Set, Write, Shown, Format, Halt, If, Else, For, Forever, Single, UpTo, Do, Goto, Quit, New, Fresh, Kept, Line}
 use Rattle.mj_oper.specs.declared.op.Op.TheVariants.{Add, Is}
 use Rattle.mj_oper.specs.declared.op.TruthOp.TheVariants.{Equal}
 use Rattle.mj_pcode.specs.declared.instr.Instr.TheVariants as instr
 use Rattle.mj_asm.specs.Code.{lines_code, starts}
-use Rattle.mj_asm.specs.Correct.{labels_of, line_with}
+use Rattle.mj_semantics.specs.Lines.{Here}
+use Rattle.mj_pcode.specs.declared.instr.Span.TheVariants as span
+use Rattle.mj_pcode.specs.Found.{line_with}
+use Rattle.mj_asm.specs.Correct.{labels_of}
 
 abbrev lit : ℕ → Operand
 lit digit = Literal (digit ∷ [])
+
+-- the first line of the routine R
+abbrev here : Here
+here = record { routine = codes "R"; line = 1 }
 
 -- A SET ^X(1)=2+3 WRITE:Y=4 5,!! / B / A HALT
 abbrev text : List Line
 text =
     record {
       label = Some (codes "A");
+      formals = [];
+      level = 1;
       steps =
           record { condition = None; command = Set (record { targets = One (Plain (Var Global (codes "X") (More (Chain (lit 49) Done) No))); value = Chain (lit 50) (Then Add (lit 51) Done) } ∷ []) }
           ∷ record {
@@ -24,21 +33,21 @@ text =
             command = Write (Shown (Chain (lit 53) Done) ∷ Format (NewLine ∷ NewLine ∷ []) ∷ []);
           } ∷ [];
     }
-    ∷ record { label = Some (codes "B"); steps = [] }
-    ∷ record { label = Some (codes "A"); steps = record { condition = None; command = Halt } ∷ [] }
+    ∷ record { label = Some (codes "B"); formals = []; level = 1; steps = [] }
+    ∷ record { label = Some (codes "A"); formals = []; level = 1; steps = record { condition = None; command = Halt } ∷ [] }
     ∷ []
 
-instructions : lines_code 0 1 text
-    ≡ instr.Line 1
+instructions : lines_code 0 here text
+    ≡ instr.Line (record { line = 1; level = 1; next = 14 })
     ∷ instr.Push (49 ∷ []) ∷ instr.Check (record { scope = Global; word = codes "X"; count = 1 })
     ∷ instr.Push (50 ∷ []) ∷ instr.Push (51 ∷ []) ∷ instr.Binary Add ∷ instr.Store (record { scope = Global; word = codes "X"; count = 1 }) (record { above = 1; taken = 2 })
     ∷ instr.Load (record { scope = Local; word = codes "Y"; count = 0 }) ∷ instr.Push (52 ∷ []) ∷ instr.Binary (Is Equal) ∷ instr.Unless 14
     ∷ instr.Push (53 ∷ []) ∷ instr.Write ∷ instr.Format (NewLine ∷ NewLine ∷ [])
-    ∷ instr.Line 2
-    ∷ instr.Line 3 ∷ instr.Halt ∷ []
+    ∷ instr.Line (record { line = 2; level = 1; next = 15 })
+    ∷ instr.Line (record { line = 3; level = 1; next = 17 }) ∷ instr.Halt ∷ []
 instructions = refl
 
-begins : starts 0 1 text ≡ 0 ∷ 14 ∷ 15 ∷ []
+begins : starts 0 here text ≡ 0 ∷ 14 ∷ 15 ∷ []
 begins = refl
 
 labels : labels_of 1 text ≡ record { text = codes "A"; line = 1 } ∷ record { text = codes "B"; line = 2 } ∷ record { text = codes "A"; line = 3 } ∷ []
@@ -55,6 +64,8 @@ abbrev commands : List Line
 commands =
     record {
       label = None;
+      formals = [];
+      level = 1;
       steps =
           record { condition = None; command = Set (record { targets = Several (Plain (Var Local (codes "X") No) ∷ Pieces (Var Global (codes "Y") (More (Chain (lit 49) Done) No)) (More (Chain (lit 45) Done) No) ∷ []); value = Chain (lit 50) Done } ∷ []) }
           ∷ record { condition = None; command = Kill (Gone (Var Global (codes "Y") (More (Chain (lit 49) Done) No)) ∷ Spared (codes "X" ∷ []) ∷ []) }
@@ -63,8 +74,8 @@ commands =
     }
     ∷ []
 
-their_instructions : lines_code 0 1 commands
-    ≡ instr.Line 1
+their_instructions : lines_code 0 here commands
+    ≡ instr.Line (record { line = 1; level = 1; next = 20 })
     ∷ instr.Check (record { scope = Local; word = codes "X"; count = 0 })
     ∷ instr.Push (49 ∷ []) ∷ instr.Check (record { scope = Global; word = codes "Y"; count = 1 }) ∷ instr.Push (45 ∷ [])
     ∷ instr.Push (50 ∷ [])
@@ -78,3 +89,87 @@ their_instructions : lines_code 0 1 commands
     ∷ instr.Push (49 ∷ []) ∷ instr.Take (record { scope = Global; word = codes "Z"; count = 0 }) (record { scope = Global; word = codes "Y"; count = 1 })
     ∷ instr.Put (record { scope = Global; word = codes "Z"; count = 0 }) ∷ []
 their_instructions = refl
+
+abbrev digit : ℕ → Expr
+digit d = Chain (lit d) Done
+
+-- A(X) FOR I=1,2:3:4 IF 5 QUIT:6  DO B^S(7) / . ELSE  DO
+abbrev control : List Line
+control =
+    record {
+      label = Some (codes "A");
+      formals = codes "X" ∷ [];
+      level = 1;
+      steps =
+          record { condition = None; command = For (Var Local (codes "I") No) (Single (digit 49) ∷ UpTo (digit 50) (digit 51) (digit 52) ∷ []) }
+          ∷ record { condition = None; command = If (digit 53 ∷ []) }
+          ∷ record { condition = Some (digit 54); command = Quit }
+          ∷ record { condition = None; command = Do (record { target = record { label = Some (codes "B"); routine = Some (codes "S") }; actuals = Some (digit 55) ∷ []; condition = None } ∷ []) } ∷ [];
+    }
+    ∷ record { label = None; formals = []; level = 2; steps = record { condition = None; command = Else } ∷ record { condition = None; command = Do [] } ∷ [] }
+    ∷ []
+
+control_instructions : lines_code 0 here control
+    ≡ instr.Line (record { line = 1; level = 1; next = 17 })
+    ∷ instr.Open (codes "I") 0 9
+    ∷ instr.Push (49 ∷ []) ∷ instr.Begin span.One
+    ∷ instr.Push (50 ∷ []) ∷ instr.Push (51 ∷ []) ∷ instr.Push (52 ∷ []) ∷ instr.Begin span.UpTo
+    ∷ instr.Close 17
+    ∷ instr.Push (53 ∷ []) ∷ instr.Decide 16
+    ∷ instr.Push (54 ∷ []) ∷ instr.Unless 14 ∷ instr.Jump 8
+    ∷ instr.Push (55 ∷ []) ∷ instr.Do (record { label = Some (codes "B"); routine = codes "S" }) (true ∷ [])
+    ∷ instr.Again
+    ∷ instr.Line (record { line = 2; level = 2; next = 20 }) ∷ instr.Else 20 ∷ instr.Block 2 ∷ []
+control_instructions = refl
+
+-- A(X) IF X,1 FOR I=1:1:3 QUIT:I=2  DO B(,I),^D:X / . ELSE  NEW Z,(Y) GOTO A / IF  FOR  DO  QUIT / QUIT:X
+abbrev flow : List Line
+flow =
+    record {
+      label = Some (codes "A");
+      formals = codes "X" ∷ [];
+      level = 1;
+      steps =
+          record { condition = None; command = If (Chain (Value (Var Local (codes "X") No)) Done ∷ Chain (lit 49) Done ∷ []) }
+          ∷ record { condition = None; command = For (Var Local (codes "I") No) (UpTo (Chain (lit 49) Done) (Chain (lit 49) Done) (Chain (lit 51) Done) ∷ []) }
+          ∷ record { condition = Some (Chain (Value (Var Local (codes "I") No)) (Then (Is Equal) (lit 50) Done)); command = Quit }
+          ∷ record {
+            condition = None;
+            command =
+                Do (record { target = record { label = Some (codes "B"); routine = None }; actuals = None ∷ Some (Chain (Value (Var Local (codes "I") No)) Done) ∷ []; condition = None }
+                ∷ record { target = record { label = None; routine = Some (codes "D") }; actuals = []; condition = Some (Chain (Value (Var Local (codes "X") No)) Done) } ∷ []);
+          } ∷ [];
+    }
+    ∷ record {
+      label = None;
+      formals = [];
+      level = 2;
+      steps =
+          record { condition = None; command = Else }
+          ∷ record { condition = None; command = New (Fresh (codes "Z") ∷ Kept (codes "Y" ∷ []) ∷ []) }
+          ∷ record { condition = None; command = Goto (record { target = record { label = Some (codes "A"); routine = None }; condition = None } ∷ []) } ∷ [];
+    }
+    ∷ record {
+      label = None;
+      formals = [];
+      level = 1;
+      steps = record { condition = None; command = If [] } ∷ record { condition = None; command = Forever } ∷ record { condition = None; command = Do [] } ∷ record { condition = None; command = Quit } ∷ [];
+    }
+    ∷ record { label = None; formals = []; level = 1; steps = record { condition = Some (Chain (Value (Var Local (codes "X") No)) Done); command = Quit } ∷ [] }
+    ∷ []
+
+flow_instructions : lines_code 0 here flow
+    ≡ instr.Line (record { line = 1; level = 1; next = 22 })
+    ∷ instr.Load (record { scope = Local; word = codes "X"; count = 0 }) ∷ instr.Decide 22 ∷ instr.Push (49 ∷ []) ∷ instr.Decide 22
+    ∷ instr.Open (codes "I") 0 11 ∷ instr.Push (49 ∷ []) ∷ instr.Push (49 ∷ []) ∷ instr.Push (51 ∷ []) ∷ instr.Begin span.UpTo ∷ instr.Close 22
+    ∷ instr.Load (record { scope = Local; word = codes "I"; count = 0 }) ∷ instr.Push (50 ∷ []) ∷ instr.Binary (Is Equal) ∷ instr.Unless 16 ∷ instr.Jump 10
+    ∷ instr.Load (record { scope = Local; word = codes "I"; count = 0 }) ∷ instr.Do (record { label = Some (codes "B"); routine = codes "R" }) (false ∷ true ∷ [])
+    ∷ instr.Load (record { scope = Local; word = codes "X"; count = 0 }) ∷ instr.Unless 21 ∷ instr.Do (record { label = None; routine = codes "D" }) []
+    ∷ instr.Again
+    ∷ instr.Line (record { line = 2; level = 2; next = 28 })
+    ∷ instr.Else 28 ∷ instr.New (codes "Z" ∷ []) ∷ instr.Discard 0 ∷ instr.NewExcept (codes "Y" ∷ []) ∷ instr.Goto (record { label = Some (codes "A"); routine = codes "R" })
+    ∷ instr.Line (record { line = 3; level = 1; next = 35 })
+    ∷ instr.If 35 ∷ instr.Forever ∷ instr.Close 35 ∷ instr.Block 3 ∷ instr.Jump 31 ∷ instr.Again
+    ∷ instr.Line (record { line = 4; level = 1; next = 39 })
+    ∷ instr.Load (record { scope = Local; word = codes "X"; count = 0 }) ∷ instr.Unless 39 ∷ instr.Quit ∷ []
+flow_instructions = refl

@@ -6,22 +6,24 @@ use Rattle.std.specs.Prelude.{slice_get, Ok, ◌-◌}
 use Rattle.mj_subs.specs.Name.{Name}
 use Rattle.mj_oper.specs.Operators.{binary_value, unary_value, truth_value}
 use Rattle.mj_text.specs.declared.fault.Fault.TheVariants.{Select as NoTrue}
-use Rattle.mj_ast.specs.Syntax.{Expr, Chain, Tails, Done, Then, Operand, Literal, Value, Unary, Group, Call, Select, Variable, Var, Exprs, No, More, Choices, Last, Before, Destination, Plain, Pieces, Targets, One, Several, Assignment, Killed, Gone, Spared, Merged, Output, Shown, Format, Command, Set, Write, Halt, Kill, Merge, Step, About}
+use Rattle.mj_ast.specs.Syntax.{Expr, Chain, Tails, Done, Then, Operand, Literal, Value, Intrinsic, Unary, Group, Call, Select, Variable, Var, Exprs, No, More, Choices, Last, Before, Destination, Plain, Pieces, Targets, One, Several, Assignment, Killed, Gone, Spared, Merged, Output, Shown, Format, Renewed, Fresh, Kept, About}
 use Rattle.mj_semantics.specs.Functions.{call_value, optional}
-use Rattle.mj_semantics.specs.State.{spare}
-use Rattle.mj_semantics.specs.Outcome.{Timed, turn, change, given, fault}
-use Rattle.mj_semantics.specs.Evaluation.{ev, ev_tails, ev_operand, ev_choices, ev_name, ev_all, name_of, read, when, ev_named, named_for, about}
+use Rattle.mj_semantics.specs.State.{Only, AllBut, spare, newed, special_value}
+use Rattle.mj_semantics.specs.Outcome.{Timed, turn, given, fault}
+use Rattle.mj_semantics.specs.Evaluation.{ev, ev_tails, ev_operand, ev_choices, ev_name, ev_all, name_of, read, when, ev_named, ev_local, ev_actuals, named_for, about}
 use Rattle.mj_ast.specs.declared.function.NameFunction.{NameFunction}
-use Rattle.mj_semantics.specs.Points.{Ways}
-use Rattle.mj_semantics.specs.Commands.{Aim, Whole, Part, ev_destination, ev_destinations, store, renew, put, put_all, assign_to, assign, assign_all, remove, named, kill, kill_list, kill_all, take_nodes, put_nodes, merge, merge_all, mark_byte, output, output_all, obey, obey_all}
+use Rattle.mj_ast.specs.declared.expr.Scope.TheVariants.{Local}
+use Rattle.mj_semantics.specs.Commands.{Aim, Whole, Part, ev_destination, ev_destinations, store, renew, put, put_all, assign_to, assign, assign_all, remove, named, kill, kill_list, kill_all, take_nodes, put_nodes, merge, merge_all, mark_byte, output, output_all, renewal, new_list, new_all}
 use Rattle.mj_pcode.specs.declared.instr.Reference.{Reference}
 use Rattle.mj_pcode.specs.declared.instr.Depth.{Depth}
 use Rattle.mj_pcode.specs.declared.instr.Instr.{Instr}
 use Rattle.mj_pcode.specs.declared.instr.Instr.TheVariants as instr
 use Rattle.mj_pcode.specs.declared.instr.Unit as unit
-use Rattle.mj_pcode.specs.Machine.{Stack, top, act, exec, operands}
-use Rattle.mj_asm.specs.Code.{count, reference, expr_code, tails_code, operand_code, choices_code, subscripts_code, exprs_code, size, sizes, destination_code, destinations_code, store_code, stores_code, targets_code, assignment_code, assignments_code, kill_code, kills_code, kill_all_code, merge_code, merges_code, output_code, outputs_code, command_code, code_if, step_code, steps_code, names_code}
-use Rattle.mj_asm.proofs.Agree.{Agree, if_at, given_at, change_at, read_at, store_at, renew_at, remove_at, take_nodes_at, put_nodes_at, write_at, about_at}
+use Rattle.mj_pcode.specs.Context.{Context}
+use Rattle.mj_pcode.specs.Machine.{Stack, top, act, act_in, exec, operands, spread, given_count}
+use Rattle.mj_asm.specs.Code.{count, reference, expr_code, tails_code, operand_code, choices_code, subscripts_code, exprs_code, size, sizes, destination_code, destinations_code, store_code, stores_code, targets_code, assignment_code, assignments_code, kill_code, kills_code, kill_all_code, merge_code, merges_code, output_code, outputs_code, code_if, names_code, renewed_code, news_code, new_all_code, actuals_code, shape_of}
+use Rattle.mj_asm.specs.Correct.{Agree}
+use Rattle.mj_pcode.proofs.Agree.{if_at, look_at, change_at, given_at, read_at, store_at, renew_at, remove_at, take_nodes_at, put_nodes_at, write_at, about_at}
 
 -- the instructions stand in the code at this place
 abbrev pub HasAt : List Instr → ℕ → List Instr → Type 0
@@ -39,7 +41,7 @@ has_back code pc (i ∷ a) b h =
     subst (λ n. HasAt code n b) e (has_back code (pc + 1) a b h.1)
 
 -- values that were put on the stack in order
-abbrev onto : List (List ℕ) → Stack → Stack
+abbrev pub onto : List (List ℕ) → Stack → Stack
 onto [] stack = stack
 onto (v ∷ vs) stack = onto vs (v ∷ stack)
 
@@ -48,11 +50,11 @@ onto_is [] stack = refl
 onto_is (v ∷ vs) stack =
     onto_is vs (v ∷ stack) ∙ sym (append_assoc (reverse vs) (v ∷ []) stack) ∙ ap (λ l. l ++ stack) (sym (reverse-append (v ∷ []) vs))
 
-rest_below : (vs : List (List ℕ)) (stack : Stack) (n : ℕ) → length vs ≡ n → drop n (onto vs stack) ≡ stack
+pub rest_below : (vs : List (List ℕ)) (stack : Stack) (n : ℕ) → length vs ≡ n → drop n (onto vs stack) ≡ stack
 rest_below vs stack n e =
     ap (drop n) (onto_is vs stack) ∙ ap (λ k. drop k (reverse vs ++ stack)) (sym (length-reverse vs ∙ e)) ∙ drop-append_seam (reverse vs) stack
 
-operands_are : (vs : List (List ℕ)) (stack : Stack) (n : ℕ) → length vs ≡ n → operands n (onto vs stack) ≡ vs
+pub operands_are : (vs : List (List ℕ)) (stack : Stack) (n : ℕ) → length vs ≡ n → operands n (onto vs stack) ≡ vs
 operands_are vs stack n e =
     ap (λ l. reverse (take n l)) (onto_is vs stack) ∙ ap (λ k. reverse (take k (reverse vs ++ stack))) (sym (length-reverse vs ∙ e))
     ∙ ap reverse (take-append_seam (reverse vs) stack) ∙ reverse-reverse vs
@@ -104,34 +106,36 @@ both_below ss vs stack n e =
     let len : n ≡ length (reverse vs ++ reverse ss) = omega (arith, e, length-append (reverse vs) (reverse ss), length-reverse vs, length-reverse ss) in
     ap (drop n) all ∙ ap (λ k. drop k ((reverse vs ++ reverse ss) ++ stack)) len ∙ drop-append_seam (reverse vs ++ reverse ss) stack
 
-module _ (u : unit.Unit) where
+module _ (units : List unit.Unit) (u : unit.Unit) (ctx : Context) (there : slice_get units ctx.unit ≡ Some u) where
   abbrev code : List Instr
   code = u.instrs.items
 
   -- the machine from a place on
   abbrev pub from : ℕ → Stack → Timed
-  from pc stack n = exec u n pc stack
+  from pc stack n = exec units n ctx pc stack
 
   -- one instruction, and then the machine for n turns
   abbrev pub acts : Instr → ℕ → Stack → ℕ → Timed
-  acts i pc stack n = act u (Some i) (λ p st m. exec u n p st) pc stack
+  acts i pc stack n = act units u (Some i) (λ d p st m. exec units n d p st) ctx pc stack
 
   module _ (b : ℕ) where
     -- an instruction is a turn
     pub one : (pc : ℕ) (stack : Stack) (i : Instr) (rest : Timed) → slice_get code pc ≡ Some i → ((n : ℕ) → n < b → acts i pc stack n n ≡ rest n) → Agree b (from pc stack) (turn rest)
     one pc stack i rest h k = record { by = λ n le. at n le }
       where
-        at : (n : ℕ) → n ≤ b → exec u n pc stack ≡ turn rest n
+        at : (n : ℕ) → n ≤ b → exec units n ctx pc stack ≡ turn rest n
         at zero le = refl
-        at (suc m) le = ap (λ o. act u o (λ p st q. exec u m p st) pc stack m) h ∙ k m (omega arith)
+        at (suc m) le =
+            ap (λ o. act_in units o (λ d p st q. exec units m d p st) ctx pc stack m) there
+            ∙ ap (λ o. act units u o (λ d p st q. exec units m d p st) ctx pc stack m) h ∙ k m (omega arith)
 
     -- from another place that is the same
     pub moved : (pc pc' : ℕ) (stack : Stack) (rest : Timed) → pc ≡ pc' → Agree b (from pc' stack) rest → Agree b (from pc stack) rest
-    moved pc pc' stack rest e h = record { by = λ n le. ap (λ p. exec u n p stack) e ∙ h.by n le }
+    moved pc pc' stack rest e h = record { by = λ n le. ap (λ p. exec units n ctx p stack) e ∙ h.by n le }
 
     -- with another stack that is the same
-    over : (pc : ℕ) (stack stack' : Stack) (rest : Timed) → stack ≡ stack' → Agree b (from pc stack') rest → Agree b (from pc stack) rest
-    over pc stack stack' rest e h = record { by = λ n le. ap (λ st. exec u n pc st) e ∙ h.by n le }
+    pub over : (pc : ℕ) (stack stack' : Stack) (rest : Timed) → stack ≡ stack' → Agree b (from pc stack') rest → Agree b (from pc stack) rest
+    over pc stack stack' rest e h = record { by = λ n le. ap (λ st. exec units n ctx pc st) e ∙ h.by n le }
 
     end_of : (pc : ℕ) (is : List Instr) (i : Instr) → pc + length is + 1 ≡ pc + length (is ++ i ∷ [])
     end_of pc is i = omega (arith, length-append is (i ∷ []))
@@ -166,10 +170,13 @@ module _ (u : unit.Unit) where
           let cs = subscripts_code pc v in
           let i = instr.Load (reference v) in
           name_follows v i pc stack _ (has_front code pc cs _ has) (has_back code pc cs _ has).0 (λ ss n lt many.
-          ap (λ l. given (name_of (reference v).scope (reference v).word l) (λ x. read x (λ w m. exec u n (pc + length cs + 1) (w ∷ drop (reference v).count (onto ss stack)))) n) (operands_are ss stack _ many)
-          ∙ ap (λ st. given (name_of (reference v).scope (reference v).word ss) (λ x. read x (λ w m. exec u n (pc + length cs + 1) (w ∷ st))) n) (rest_below ss stack _ many)
+          ap (λ l. given (name_of (reference v).scope (reference v).word l) (λ x. read x (λ w m. exec units n ctx (pc + length cs + 1) (w ∷ drop (reference v).count (onto ss stack)))) n) (operands_are ss stack _ many)
+          ∙ ap (λ st. given (name_of (reference v).scope (reference v).word ss) (λ x. read x (λ w m. exec units n ctx (pc + length cs + 1) (w ∷ st))) n) (rest_below ss stack _ many)
           ∙ given_at n (name_of (reference v).scope (reference v).word ss) _ _ (λ x e.
           read_at n x _ _ (λ w. (moved _ _ (w ∷ stack) (rest w) (end_of pc cs i) (k w)).by n (omega arith))))
+      operand_follows (Intrinsic v) pc stack rest has k =
+          one pc stack (instr.Special v) _ has.0 (λ n lt.
+          look_at n (λ s. λ m. exec units n ctx (pc + 1) (special_value v s ∷ stack)) (λ s. rest (special_value v s)) (λ s. (k (special_value v s)).by n (omega arith)))
       operand_follows (Unary op x) pc stack rest has k =
           let cx = operand_code pc x in
           let i = instr.Unary op in
@@ -182,8 +189,8 @@ module _ (u : unit.Unit) where
           let i = instr.Call f (count es) in
           all_follow es pc stack _ (has_front code pc ce _ has) (λ vs many.
           one (pc + length ce) (onto vs stack) i _ (has_back code pc ce _ has).0 (λ n lt.
-          ap (λ l. given (call_value f l) (λ w m. exec u n (pc + length ce + 1) (w ∷ drop (count es) (onto vs stack))) n) (operands_are vs stack _ many)
-          ∙ ap (λ st. given (call_value f vs) (λ w m. exec u n (pc + length ce + 1) (w ∷ st)) n) (rest_below vs stack _ many)
+          ap (λ l. given (call_value f l) (λ w m. exec units n ctx (pc + length ce + 1) (w ∷ drop (count es) (onto vs stack))) n) (operands_are vs stack _ many)
+          ∙ ap (λ st. given (call_value f vs) (λ w m. exec units n ctx (pc + length ce + 1) (w ∷ st)) n) (rest_below vs stack _ many)
           ∙ given_at n (call_value f vs) _ _ (λ r e. (moved _ _ (r ∷ stack) (rest r) (end_of pc ce i) (k r)).by n (omega arith))))
       operand_follows (About f v es) pc stack rest has k =
           let r = reference v in
@@ -196,18 +203,18 @@ module _ (u : unit.Unit) where
           let len : pv + length ce + 1 ≡ pc + length (cs ++ instr.Named f r ∷ (ce ++ i ∷ [])) = omega (arith, length-append cs (instr.Named f r ∷ (ce ++ i ∷ [])), length-append ce (i ∷ [])) in
           let few : total - r.count ≡ count es = omega arith in
           named_follows f v (instr.Named f r) pc stack _ (has_front code pc cs _ has) back.0 (λ ss n lt many.
-          ap (λ l. given (named_for f r.scope r.word l) (λ x m. exec u n pv (onto ss stack)) n) (operands_are ss stack _ many)
+          ap (λ l. given (named_for f r.scope r.word l) (λ x m. exec units n ctx pv (onto ss stack)) n) (operands_are ss stack _ many)
           ∙ given_at n (named_for f r.scope r.word ss) _ _ (λ x e.
           (all_follow es pv (onto ss stack) (λ vs. turn (about f x (optional 0 vs) rest)) (has_front code pv ce _ back.1) (λ vs some.
           let st = onto vs (onto ss stack) in
           one (pv + length ce) st i _ (has_back code pv ce _ back.1).0 (λ m lt'.
-          ap (λ j. given (named_for f r.scope r.word (operands r.count (drop j st))) (λ y. about f y (optional 0 (operands j st)) (λ w q. exec u m (pv + length ce + 1) (w ∷ drop total st))) m) few
-          ∙ ap (λ l. given (named_for f r.scope r.word (operands r.count l)) (λ y. about f y (optional 0 (operands (count es) st)) (λ w q. exec u m (pv + length ce + 1) (w ∷ drop total st))) m) (rest_below vs (onto ss stack) _ some)
-          ∙ ap (λ l. given (named_for f r.scope r.word l) (λ y. about f y (optional 0 (operands (count es) st)) (λ w q. exec u m (pv + length ce + 1) (w ∷ drop total st))) m) (operands_are ss stack _ many)
-          ∙ ap (λ l. given (named_for f r.scope r.word ss) (λ y. about f y (optional 0 l) (λ w q. exec u m (pv + length ce + 1) (w ∷ drop total st))) m) (operands_are vs (onto ss stack) _ some)
-          ∙ ap (λ l. given (named_for f r.scope r.word ss) (λ y. about f y (optional 0 vs) (λ w q. exec u m (pv + length ce + 1) (w ∷ l))) m) (both_below ss vs stack total (omega (arith, many, some)))
-          ∙ ap (λ o. given o (λ y. about f y (optional 0 vs) (λ w q. exec u m (pv + length ce + 1) (w ∷ stack))) m) e
-          ∙ about_at m f x (optional 0 vs) (λ w q. exec u m (pv + length ce + 1) (w ∷ stack)) rest (λ w. (moved _ _ (w ∷ stack) (rest w) len (k w)).by m (omega arith))))).by n (omega arith)))
+          ap (λ j. given (named_for f r.scope r.word (operands r.count (drop j st))) (λ y. about f y (optional 0 (operands j st)) (λ w q. exec units m ctx (pv + length ce + 1) (w ∷ drop total st))) m) few
+          ∙ ap (λ l. given (named_for f r.scope r.word (operands r.count l)) (λ y. about f y (optional 0 (operands (count es) st)) (λ w q. exec units m ctx (pv + length ce + 1) (w ∷ drop total st))) m) (rest_below vs (onto ss stack) _ some)
+          ∙ ap (λ l. given (named_for f r.scope r.word l) (λ y. about f y (optional 0 (operands (count es) st)) (λ w q. exec units m ctx (pv + length ce + 1) (w ∷ drop total st))) m) (operands_are ss stack _ many)
+          ∙ ap (λ l. given (named_for f r.scope r.word ss) (λ y. about f y (optional 0 l) (λ w q. exec units m ctx (pv + length ce + 1) (w ∷ drop total st))) m) (operands_are vs (onto ss stack) _ some)
+          ∙ ap (λ l. given (named_for f r.scope r.word ss) (λ y. about f y (optional 0 vs) (λ w q. exec units m ctx (pv + length ce + 1) (w ∷ l))) m) (both_below ss vs stack total (omega (arith, many, some)))
+          ∙ ap (λ o. given o (λ y. about f y (optional 0 vs) (λ w q. exec units m ctx (pv + length ce + 1) (w ∷ stack))) m) e
+          ∙ about_at m f x (optional 0 vs) (λ w q. exec units m ctx (pv + length ce + 1) (w ∷ stack)) rest (λ w. (moved _ _ (w ∷ stack) (rest w) len (k w)).by m (omega arith))))).by n (omega arith)))
       operand_follows (Select choices) pc stack rest has k = choices_follow choices pc stack rest has k
 
       choices_follow : (x : Choices) (pc : ℕ) (stack : Stack) (rest : List ℕ → Timed) → HasAt code pc (choices_code pc x) → ((v : List ℕ) → Agree b (from (pc + length (choices_code pc x)) (v ∷ stack)) (rest v)) → Agree b (from pc stack) (ev_choices x rest)
@@ -224,7 +231,7 @@ module _ (u : unit.Unit) where
           expr_follows c pc stack _ (has_front code pc cc' _ has) (λ v.
           one (pc + length cc') (v ∷ stack) i _ back.0 (λ n lt.
           given_at n (truth_value v) _ _ (λ t q.
-          if_at n t (λ m. exec u n value stack) _ (λ m. exec u n others stack) _
+          if_at n t (λ m. exec units n ctx value stack) _ (λ m. exec units n ctx others stack) _
           ((expr_follows e value stack (λ w. turn (rest w)) (has_front code value ce _ back.1) (λ w.
           one (value + length ce) (w ∷ stack) j (rest w) back'.0 (λ m lt'. (moved _ _ (w ∷ stack) (rest w) end (k w)).by m (omega arith)))).by n (omega arith))
           ((one others stack instr.NoneTrue (fault NoTrue) back'.1.0 (λ m lt'. refl)).by n (omega arith)))))
@@ -242,7 +249,7 @@ module _ (u : unit.Unit) where
           expr_follows c pc stack _ (has_front code pc cc' _ has) (λ v.
           one (pc + length cc') (v ∷ stack) i _ back.0 (λ n lt.
           given_at n (truth_value v) _ _ (λ t q.
-          if_at n t (λ m. exec u n value stack) _ (λ m. exec u n others stack) _
+          if_at n t (λ m. exec units n ctx value stack) _ (λ m. exec units n ctx others stack) _
           ((expr_follows e value stack (λ w. turn (rest w)) (has_front code value ce _ back.1) (λ w.
           one (value + length ce) (w ∷ stack) j (rest w) back'.0 (λ m lt'. (moved _ _ (w ∷ stack) (rest w) end (k w)).by m (omega arith)))).by n (omega arith))
           ((choices_follow x others stack rest back'.1 (λ w. moved _ _ (w ∷ stack) (rest w) end (k w))).by n (omega arith)))))
@@ -274,8 +281,8 @@ module _ (u : unit.Unit) where
         let r = reference v in
         let behind = pc + length (subscripts_code pc v) + 1 in
         name_follows v (instr.Check r) pc stack rest has at (λ ss n lt many.
-        ap (λ l. given (name_of r.scope r.word l) (λ x m. exec u n behind (onto ss stack)) n) (operands_are ss stack _ many)
-        ∙ given_at n (name_of r.scope r.word ss) (λ x m. exec u n behind (onto ss stack)) rest (λ x e. (k x ss many e).by n (omega arith)))
+        ap (λ l. given (name_of r.scope r.word l) (λ x m. exec units n ctx behind (onto ss stack)) n) (operands_are ss stack _ many)
+        ∙ given_at n (name_of r.scope r.word ss) (λ x m. exec units n ctx behind (onto ss stack)) rest (λ x e. (k x ss many e).by n (omega arith)))
 
     destination_follows : (d : Destination) (pc : ℕ) (stack : Stack) (rest : Aim → Timed) → HasAt code pc (destination_code pc d)
         → ((t : Aim) (st : Stack) → Lies d t st stack → Agree b (from (pc + length (destination_code pc d)) st) (rest t))
@@ -312,10 +319,10 @@ module _ (u : unit.Unit) where
         → Agree b (from pc stack) (turn (store x (top stack) rest))
     stored r depth x ss pc stack base rest many e under at k =
         one pc stack (instr.Store r depth) _ at (λ n lt.
-        ap (λ l. given (name_of r.scope r.word (operands r.count l)) (λ y. store y (top stack) (λ q. exec u n (pc + 1) (drop depth.taken stack))) n) under
-        ∙ ap (λ l. given (name_of r.scope r.word l) (λ y. store y (top stack) (λ q. exec u n (pc + 1) (drop depth.taken stack))) n) (operands_are ss base r.count many)
-        ∙ ap (λ o. given o (λ y. store y (top stack) (λ q. exec u n (pc + 1) (drop depth.taken stack))) n) e
-        ∙ store_at n x (top stack) (λ q. exec u n (pc + 1) (drop depth.taken stack)) rest (k.by n (omega arith)))
+        ap (λ l. given (name_of r.scope r.word (operands r.count l)) (λ y. store y (top stack) (λ q. exec units n ctx (pc + 1) (drop depth.taken stack))) n) under
+        ∙ ap (λ l. given (name_of r.scope r.word l) (λ y. store y (top stack) (λ q. exec units n ctx (pc + 1) (drop depth.taken stack))) n) (operands_are ss base r.count many)
+        ∙ ap (λ o. given o (λ y. store y (top stack) (λ q. exec units n ctx (pc + 1) (drop depth.taken stack))) n) e
+        ∙ store_at n x (top stack) (λ q. exec units n ctx (pc + 1) (drop depth.taken stack)) rest (k.by n (omega arith)))
 
     store_follows : (d : Destination) (t : Aim) (depth : Depth) (pc : ℕ) (stack base : Stack) (rest : Timed)
         → Lies d t (drop depth.above stack) base → HasAt code pc (store_code d depth)
@@ -328,8 +335,8 @@ module _ (u : unit.Unit) where
     store_follows (Pieces v es) (Part x ts) depth pc stack base rest l has k =
         let r = reference v in
         let n = count es in
-        let behind : ℕ → List ℕ → Timed = λ m w q. exec u m (pc + 1) (w ∷ stack) in
-        let past : ℕ → Timed = λ m q. exec u m (pc + 2) (drop depth.taken stack) in
+        let behind : ℕ → List ℕ → Timed = λ m w q. exec units m ctx (pc + 1) (w ∷ stack) in
+        let past : ℕ → Timed = λ m q. exec units m ctx (pc + 2) (drop depth.taken stack) in
         let under : drop n (drop depth.above stack) ≡ onto l.0 base = ap (drop n) l.4 ∙ rest_below ts (onto l.0 base) n l.3 in
         let args : operands n (drop depth.above stack) ≡ ts = ap (operands n) l.4 ∙ operands_are ts (onto l.0 base) n l.3 in
         let deeper : (w : List ℕ) → drop (depth.above + n + 1) (w ∷ stack) ≡ onto l.0 base = λ w. drop_more (depth.above + n) w stack ∙ sym (drop-drop n depth.above stack) ∙ under in
@@ -385,7 +392,7 @@ module _ (u : unit.Unit) where
     assign_follows : (a : Assignment) (pc : ℕ) (stack : Stack) (rest : Timed) → HasAt code pc (assignment_code pc a) → Agree b (from (pc + length (assignment_code pc a)) stack) rest → Agree b (from pc stack) (assign a rest)
     assign_follows a pc stack rest has k = targets_follow a.targets a.value pc stack rest has k
 
-    assigns_follow : (list : List Assignment) (pc : ℕ) (stack : Stack) (rest : Timed) → HasAt code pc (assignments_code pc list) → Agree b (from (pc + length (assignments_code pc list)) stack) rest → Agree b (from pc stack) (assign_all list rest)
+    pub assigns_follow : (list : List Assignment) (pc : ℕ) (stack : Stack) (rest : Timed) → HasAt code pc (assignments_code pc list) → Agree b (from (pc + length (assignments_code pc list)) stack) rest → Agree b (from pc stack) (assign_all list rest)
     assigns_follow [] pc stack rest has k = moved pc (pc + 0) stack rest (omega arith) k
     assigns_follow (a ∷ list) pc stack rest has k =
         let ca = assignment_code pc a in
@@ -409,15 +416,15 @@ module _ (u : unit.Unit) where
         let len : behind + 1 ≡ pc + length (cs ++ i ∷ j ∷ []) = omega (arith, length-append cs (i ∷ j ∷ [])) in
         checked v pc stack _ (has_front code pc cs _ has) back.0 (λ x ss many e.
         one behind (onto ss stack) j _ back.1.0 (λ n lt.
-        ap (λ l. given (name_of r.scope r.word l) (λ y. remove y (λ q. exec u n (behind + 1) (drop r.count (onto ss stack)))) n) (operands_are ss stack _ many)
-        ∙ ap (λ o. given o (λ y. remove y (λ q. exec u n (behind + 1) (drop r.count (onto ss stack)))) n) e
-        ∙ remove_at n x (λ q. exec u n (behind + 1) (drop r.count (onto ss stack))) rest
+        ap (λ l. given (name_of r.scope r.word l) (λ y. remove y (λ q. exec units n ctx (behind + 1) (drop r.count (onto ss stack)))) n) (operands_are ss stack _ many)
+        ∙ ap (λ o. given o (λ y. remove y (λ q. exec units n ctx (behind + 1) (drop r.count (onto ss stack)))) n) e
+        ∙ remove_at n x (λ q. exec units n ctx (behind + 1) (drop r.count (onto ss stack))) rest
         ((over (behind + 1) (drop r.count (onto ss stack)) stack rest (rest_below ss stack _ many) (moved _ _ stack rest len k)).by n (omega arith))))
     kill_follows (Spared words) pc stack rest has k =
         let cn = names_code words in
         names_follow words pc stack _ (has_front code pc cn _ has)
         (one (pc + length cn) stack (instr.Spare words) _ (has_back code pc cn _ has).0 (λ n lt.
-        change_at n (spare words) (λ q. exec u n (pc + length cn + 1) stack) rest ((moved _ _ stack rest (end_of pc cn (instr.Spare words)) k).by n (omega arith))))
+        change_at n (spare words) (λ q. exec units n ctx (pc + length cn + 1) stack) rest ((moved _ _ stack rest (end_of pc cn (instr.Spare words)) k).by n (omega arith))))
 
     kills_follow : (list : List Killed) (pc : ℕ) (stack : Stack) (rest : Timed) → HasAt code pc (kills_code pc list) → Agree b (from (pc + length (kills_code pc list)) stack) rest → Agree b (from pc stack) (kill_list list rest)
     kills_follow [] pc stack rest has k = moved pc (pc + 0) stack rest (omega arith) k
@@ -426,9 +433,9 @@ module _ (u : unit.Unit) where
         kill_follows x pc stack _ (has_front code pc cx _ has)
         (kills_follow list (pc + length cx) stack rest (has_back code pc cx _ has) (moved _ _ stack rest (seam pc cx (kills_code (pc + length cx) list)) k))
 
-    kill_all_follows : (list : List Killed) (pc : ℕ) (stack : Stack) (rest : Timed) → HasAt code pc (kill_all_code pc list) → Agree b (from (pc + length (kill_all_code pc list)) stack) rest → Agree b (from pc stack) (kill_all list rest)
+    pub kill_all_follows : (list : List Killed) (pc : ℕ) (stack : Stack) (rest : Timed) → HasAt code pc (kill_all_code pc list) → Agree b (from (pc + length (kill_all_code pc list)) stack) rest → Agree b (from pc stack) (kill_all list rest)
     kill_all_follows [] pc stack rest has k =
-        one pc stack (instr.Spare []) _ has.0 (λ n lt. change_at n (spare []) (λ q. exec u n (pc + 1) stack) rest (k.by n (omega arith)))
+        one pc stack (instr.Spare []) _ has.0 (λ n lt. change_at n (spare []) (λ q. exec units n ctx (pc + 1) stack) rest (k.by n (omega arith)))
     kill_all_follows (x ∷ list) pc stack rest has k = kills_follow (x ∷ list) pc stack rest has k
 
     merge_follows : (m : Merged) (pc : ℕ) (stack : Stack) (rest : Timed) → HasAt code pc (merge_code pc m) → Agree b (from (pc + length (merge_code pc m)) stack) rest → Agree b (from pc stack) (merge m rest)
@@ -447,19 +454,19 @@ module _ (u : unit.Unit) where
         let len : at + 1 + 1 ≡ pc + length (ca ++ i ∷ (cf ++ j ∷ p ∷ [])) = omega (arith, length-append ca (i ∷ (cf ++ j ∷ p ∷ [])), length-append cf (j ∷ p ∷ [])) in
         checked m.into pc stack _ (has_front code pc ca _ has) back.0 (λ x ss many e.
         name_follows m.from j behind (onto ss stack) _ (has_front code behind cf _ back.1) back'.0 (λ qs n lt many'.
-        ap (λ l. given (name_of f.scope f.word l) (λ y. given (name_of a.scope a.word (operands a.count (drop f.count (onto qs (onto ss stack))))) (λ z. take_nodes z y (λ q. exec u n (at + 1) (drop f.count (onto qs (onto ss stack)))))) n) (operands_are qs (onto ss stack) _ many')
-        ∙ ap (λ st. given (name_of f.scope f.word qs) (λ y. given (name_of a.scope a.word (operands a.count st)) (λ z. take_nodes z y (λ q. exec u n (at + 1) st))) n) (rest_below qs (onto ss stack) _ many')
-        ∙ given_at n (name_of f.scope f.word qs) (λ y. given (name_of a.scope a.word (operands a.count (onto ss stack))) (λ z. take_nodes z y (λ q. exec u n (at + 1) (onto ss stack)))) (λ y. take_nodes x y (turn (put_nodes x rest))) (λ y e'.
-        ap (λ l. given (name_of a.scope a.word l) (λ z. take_nodes z y (λ q. exec u n (at + 1) (onto ss stack))) n) (operands_are ss stack _ many)
-        ∙ ap (λ o. given o (λ z. take_nodes z y (λ q. exec u n (at + 1) (onto ss stack))) n) e
-        ∙ take_nodes_at n x y (λ q. exec u n (at + 1) (onto ss stack)) (turn (put_nodes x rest))
+        ap (λ l. given (name_of f.scope f.word l) (λ y. given (name_of a.scope a.word (operands a.count (drop f.count (onto qs (onto ss stack))))) (λ z. take_nodes z y (λ q. exec units n ctx (at + 1) (drop f.count (onto qs (onto ss stack)))))) n) (operands_are qs (onto ss stack) _ many')
+        ∙ ap (λ st. given (name_of f.scope f.word qs) (λ y. given (name_of a.scope a.word (operands a.count st)) (λ z. take_nodes z y (λ q. exec units n ctx (at + 1) st))) n) (rest_below qs (onto ss stack) _ many')
+        ∙ given_at n (name_of f.scope f.word qs) (λ y. given (name_of a.scope a.word (operands a.count (onto ss stack))) (λ z. take_nodes z y (λ q. exec units n ctx (at + 1) (onto ss stack)))) (λ y. take_nodes x y (turn (put_nodes x rest))) (λ y e'.
+        ap (λ l. given (name_of a.scope a.word l) (λ z. take_nodes z y (λ q. exec units n ctx (at + 1) (onto ss stack))) n) (operands_are ss stack _ many)
+        ∙ ap (λ o. given o (λ z. take_nodes z y (λ q. exec units n ctx (at + 1) (onto ss stack))) n) e
+        ∙ take_nodes_at n x y (λ q. exec units n ctx (at + 1) (onto ss stack)) (turn (put_nodes x rest))
         ((one (at + 1) (onto ss stack) p (put_nodes x rest) back'.1.0 (λ o lt'.
-        ap (λ l. given (name_of a.scope a.word l) (λ z. put_nodes z (λ q. exec u o (at + 1 + 1) (drop a.count (onto ss stack)))) o) (operands_are ss stack _ many)
-        ∙ ap (λ r. given r (λ z. put_nodes z (λ q. exec u o (at + 1 + 1) (drop a.count (onto ss stack)))) o) e
-        ∙ put_nodes_at o x (λ q. exec u o (at + 1 + 1) (drop a.count (onto ss stack))) rest
+        ap (λ l. given (name_of a.scope a.word l) (λ z. put_nodes z (λ q. exec units o ctx (at + 1 + 1) (drop a.count (onto ss stack)))) o) (operands_are ss stack _ many)
+        ∙ ap (λ r. given r (λ z. put_nodes z (λ q. exec units o ctx (at + 1 + 1) (drop a.count (onto ss stack)))) o) e
+        ∙ put_nodes_at o x (λ q. exec units o ctx (at + 1 + 1) (drop a.count (onto ss stack))) rest
         ((over (at + 1 + 1) (drop a.count (onto ss stack)) stack rest (rest_below ss stack _ many) (moved _ _ stack rest len k)).by o (omega arith)))).by n (omega arith)))))
 
-    merges_follow : (list : List Merged) (pc : ℕ) (stack : Stack) (rest : Timed) → HasAt code pc (merges_code pc list) → Agree b (from (pc + length (merges_code pc list)) stack) rest → Agree b (from pc stack) (merge_all list rest)
+    pub merges_follow : (list : List Merged) (pc : ℕ) (stack : Stack) (rest : Timed) → HasAt code pc (merges_code pc list) → Agree b (from (pc + length (merges_code pc list)) stack) rest → Agree b (from pc stack) (merge_all list rest)
     merges_follow [] pc stack rest has k = moved pc (pc + 0) stack rest (omega arith) k
     merges_follow (m ∷ list) pc stack rest has k =
         let cm = merge_code pc m in
@@ -471,45 +478,71 @@ module _ (u : unit.Unit) where
         let ce = expr_code pc e in
         expr_follows e pc stack _ (has_front code pc ce _ has) (λ v.
         one (pc + length ce) (v ∷ stack) instr.Write _ (has_back code pc ce _ has).0 (λ n lt.
-        write_at n v (λ q. exec u n (pc + length ce + 1) stack) rest ((moved _ _ stack rest (end_of pc ce instr.Write) k).by n (omega arith))))
+        write_at n v (λ q. exec units n ctx (pc + length ce + 1) stack) rest ((moved _ _ stack rest (end_of pc ce instr.Write) k).by n (omega arith))))
     output_follows (Format marks) pc stack rest has k =
-        one pc stack (instr.Format marks) _ has.0 (λ n lt. write_at n (map mark_byte marks) (λ q. exec u n (pc + 1) stack) rest (k.by n (omega arith)))
+        one pc stack (instr.Format marks) _ has.0 (λ n lt. write_at n (map mark_byte marks) (λ q. exec units n ctx (pc + 1) stack) rest (k.by n (omega arith)))
 
-    outputs_follow : (list : List Output) (pc : ℕ) (stack : Stack) (rest : Timed) → HasAt code pc (outputs_code pc list) → Agree b (from (pc + length (outputs_code pc list)) stack) rest → Agree b (from pc stack) (output_all list rest)
+    pub outputs_follow : (list : List Output) (pc : ℕ) (stack : Stack) (rest : Timed) → HasAt code pc (outputs_code pc list) → Agree b (from (pc + length (outputs_code pc list)) stack) rest → Agree b (from pc stack) (output_all list rest)
     outputs_follow [] pc stack rest has k = moved pc (pc + 0) stack rest (omega arith) k
     outputs_follow (o ∷ list) pc stack rest has k =
         let co = output_code pc o in
         output_follows o pc stack _ (has_front code pc co _ has)
         (outputs_follow list (pc + length co) stack rest (has_back code pc co _ has) (moved _ _ stack rest (seam pc co (outputs_code (pc + length co) list)) k))
 
-    command_follows : (c : Command) (ways : Ways) (pc : ℕ) (stack : Stack) (rest : Timed) → HasAt code pc (command_code pc c) → Agree b (from (pc + length (command_code pc c)) stack) rest → Agree b (from pc stack) (obey c ways rest)
-    command_follows (Set list) ways pc stack rest has k = assigns_follow list pc stack rest has k
-    command_follows (Write list) ways pc stack rest has k = outputs_follow list pc stack rest has k
-    command_follows Halt ways pc stack rest has k = one pc stack instr.Halt _ has.0 (λ n lt. refl)
-    command_follows (Kill list) ways pc stack rest has k = kill_all_follows list pc stack rest has k
-    command_follows (Merge list) ways pc stack rest has k = merges_follow list pc stack rest has k
+    renewal_follows : (x : Renewed) (pc : ℕ) (stack : Stack) (rest : Timed) → HasAt code pc (renewed_code x) → Agree b (from (pc + length (renewed_code x)) stack) rest → Agree b (from pc stack) (renewal x rest)
+    renewal_follows (Fresh word) pc stack rest has k =
+        one pc stack (instr.New (word ∷ [])) _ has.0 (λ n lt. change_at n (newed (Only (word ∷ []))) (λ q. exec units n ctx (pc + 1) stack) rest (k.by n (omega arith)))
+    renewal_follows (Kept words) pc stack rest has k =
+        let cn = names_code words in
+        names_follow words pc stack _ (has_front code pc cn _ has)
+        (one (pc + length cn) stack (instr.NewExcept words) _ (has_back code pc cn _ has).0 (λ n lt.
+        change_at n (newed (AllBut words)) (λ q. exec units n ctx (pc + length cn + 1) stack) rest ((moved _ _ stack rest (end_of pc cn (instr.NewExcept words)) k).by n (omega arith))))
 
-    -- a command behind a postcondition, and what comes after it
-    when_follows : (o : Option Expr) (c : Command) (ways : Ways) (pc : ℕ) (stack : Stack) (rest : Timed) → HasAt code pc (code_if pc o c) → Agree b (from (pc + length (code_if pc o c)) stack) rest → Agree b (from pc stack) (when o (obey c ways rest) rest)
-    when_follows None c ways pc stack rest has k = command_follows c ways pc stack rest has k
-    when_follows (Some e) c ways pc stack rest has k =
+    news_follow : (list : List Renewed) (pc : ℕ) (stack : Stack) (rest : Timed) → HasAt code pc (news_code list) → Agree b (from (pc + length (news_code list)) stack) rest → Agree b (from pc stack) (new_list list rest)
+    news_follow [] pc stack rest has k = moved pc (pc + 0) stack rest (omega arith) k
+    news_follow (x ∷ list) pc stack rest has k =
+        let cx = renewed_code x in
+        renewal_follows x pc stack _ (has_front code pc cx _ has)
+        (news_follow list (pc + length cx) stack rest (has_back code pc cx _ has) (moved _ _ stack rest (seam pc cx (news_code list)) k))
+
+    pub new_all_follows : (list : List Renewed) (pc : ℕ) (stack : Stack) (rest : Timed) → HasAt code pc (new_all_code list) → Agree b (from (pc + length (new_all_code list)) stack) rest → Agree b (from pc stack) (new_all list rest)
+    new_all_follows [] pc stack rest has k =
+        one pc stack (instr.NewExcept []) _ has.0 (λ n lt. change_at n (newed (AllBut [])) (λ q. exec units n ctx (pc + 1) stack) rest (k.by n (omega arith)))
+    new_all_follows (x ∷ list) pc stack rest has k = news_follow (x ∷ list) pc stack rest has k
+
+    -- actuals, of which those that are given come onto the stack
+    pub actuals_follow : (es : List (Option Expr)) (pc : ℕ) (stack : Stack) (rest : List (Option (List ℕ)) → Timed) → HasAt code pc (actuals_code pc es)
+        → ((vs : List (List ℕ)) → length vs ≡ given_count (shape_of es) → Agree b (from (pc + length (actuals_code pc es)) (onto vs stack)) (rest (spread (shape_of es) vs)))
+        → Agree b (from pc stack) (ev_actuals es rest)
+    actuals_follow [] pc stack rest has k = moved pc (pc + 0) stack (rest []) (omega arith) (k [] refl)
+    actuals_follow (None ∷ es) pc stack rest has k = actuals_follow es pc stack (λ vs. rest (None ∷ vs)) has k
+    actuals_follow (Some e ∷ es) pc stack rest has k =
         let ce = expr_code pc e in
-        let cc' = command_code (pc + length ce + 1) c in
-        let past = pc + length ce + 1 + length cc' in
-        let back = has_back code pc ce (instr.Unless past ∷ cc') has in
-        let len : past ≡ pc + length (ce ++ instr.Unless past ∷ cc') = omega (arith, length-append ce (instr.Unless past ∷ cc')) in
+        let cr = actuals_code (pc + length ce) es in
+        expr_follows e pc stack _ (has_front code pc ce _ has) (λ v.
+        actuals_follow es (pc + length ce) (v ∷ stack) (λ vs. rest (Some v ∷ vs)) (has_back code pc ce _ has) (λ vs many.
+        moved _ _ (onto vs (v ∷ stack)) (rest (Some v ∷ spread (shape_of es) vs)) (seam pc ce cr) (k (v ∷ vs) (omega (arith, many)))))
+
+    -- the subscripts of a FOR's local, and the instruction that takes its name
+    pub local_follows : (v : Variable) (i : Instr) (pc : ℕ) (stack : Stack) (rest : Name → Timed) → HasAt code pc (subscripts_code pc v) → slice_get code (pc + length (subscripts_code pc v)) ≡ Some i → ((ss : List (List ℕ)) (n : ℕ) → n < b → length ss ≡ (reference v).count → acts i (pc + length (subscripts_code pc v)) (onto ss stack) n n ≡ given (name_of Local (reference v).word ss) rest n) → Agree b (from pc stack) (ev_local v rest)
+    local_follows (Var scope word es) i pc stack rest has at k =
+        all_follow es pc stack _ has (λ ss many. one _ (onto ss stack) i _ at (λ n lt. k ss n lt many))
+
+    -- code behind a postcondition, and what comes after it
+    pub when_follows : (o : Option Expr) (made : ℕ → List Instr) (done rest : Timed) (pc : ℕ) (stack : Stack) → HasAt code pc (code_if pc o made)
+        → ((p : ℕ) → HasAt code p (made p) → Agree b (from (p + length (made p)) stack) rest → Agree b (from p stack) done)
+        → Agree b (from (pc + length (code_if pc o made)) stack) rest → Agree b (from pc stack) (when o done rest)
+    when_follows None made done rest pc stack has f k = f pc has k
+    when_follows (Some e) made done rest pc stack has f k =
+        let ce = expr_code pc e in
+        let behind = pc + length ce + 1 in
+        let past = behind + length (made behind) in
+        let back = has_back code pc ce (instr.Unless past ∷ made behind) has in
+        let len : past ≡ pc + length (ce ++ instr.Unless past ∷ made behind) = omega (arith, length-append ce (instr.Unless past ∷ made behind)) in
         let after = moved past _ stack rest len k in
         expr_follows e pc stack _ (has_front code pc ce _ has) (λ v.
         one (pc + length ce) (v ∷ stack) (instr.Unless past) _ back.0 (λ n lt.
         given_at n (truth_value v) _ _ (λ t q.
-        if_at n t (λ m. exec u n (pc + length ce + 1) stack) _ (λ m. exec u n past stack) _
-        ((command_follows c ways (pc + length ce + 1) stack rest back.1 after).by n (omega arith))
+        if_at n t (λ m. exec units n ctx behind stack) done (λ m. exec units n ctx past stack) rest
+        ((f behind back.1 after).by n (omega arith))
         (after.by n (omega arith)))))
-
-    pub steps_follow : (steps : List Step) (ways : Ways) (pc : ℕ) (stack : Stack) → HasAt code pc (steps_code pc steps) → Agree b (from (pc + length (steps_code pc steps)) stack) ways.line_end → Agree b (from pc stack) (obey_all steps ways)
-    steps_follow [] ways pc stack has k = moved pc (pc + 0) stack ways.line_end (omega arith) k
-    steps_follow (step ∷ steps) ways pc stack has k =
-        let cs = step_code pc step in
-        let after = pc + length cs in
-        when_follows step.condition step.command ways pc stack _ (has_front code pc cs _ has)
-        (steps_follow steps ways after stack (has_back code pc cs _ has) (moved _ _ stack ways.line_end (seam pc cs (steps_code after steps)) k))

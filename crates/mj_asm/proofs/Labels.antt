@@ -5,7 +5,8 @@ use Rattle.std.specs.Str.{bytes_eq}
 use Rattle.mj_ast.specs.Syntax.{Line}
 use Rattle.mj_semantics.specs.Lines.{labelled}
 use Rattle.mj_pcode.specs.declared.instr.Label.{Label}
-use Rattle.mj_asm.specs.Correct.{labels_of, line_with}
+use Rattle.mj_pcode.specs.Found.{line_with}
+use Rattle.mj_asm.specs.Correct.{labels_of}
 
 -- a line by its label
 head_finds : (l : List ℕ) (k missing : ℕ) (o : Option (List ℕ)) (labels : List Label) (later : ℕ) → line_with l missing labels ≡ later → line_with l missing (elim o [ None ↦ labels | Some t ↦ record { text = t; line = k } ∷ labels ]) ≡ (if (elim o as (λ v. Bool) [ None ↦ false | Some t ↦ bytes_eq t l ]) then k else later)

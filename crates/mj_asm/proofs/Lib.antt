@@ -1,8 +1,12 @@
 pub mod Rows
-pub mod Agree
 pub mod Follows
+pub mod Flow
 pub mod Lines
 pub mod Labels
 pub mod Emitted
+pub mod Heads
+pub mod Checked
+pub mod Units
+pub mod Steps
 pub mod Counted
 pub mod Examples

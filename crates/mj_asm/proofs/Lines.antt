@@ -1,22 +1,26 @@
--- A unit with the code of a routine's lines does what the routine does.
-use Rattle.std.proofs.Common.{◌≡◌, ℕ, zero, suc, ◌+◌, ◌-◌, ◌<◌, ◌≤◌, ◌^◌, List, [], ◌∷◌, ◌++◌, length, Option, Some, None, refl, sym, ap, ◌∙◌, subst, arith, append_assoc, length-append}
+-- The lines of a routine stand in its unit, one behind the other, and do what they do.
+use Rattle.std.proofs.Common.{◌≡◌, ℕ, zero, suc, ◌+◌, ◌-◌, ◌<◌, ◌≤◌, ◌^◌, List, [], ◌∷◌, ◌++◌, length, map, Option, Some, None, refl, sym, ap, ◌∙◌, subst, arith, append_assoc, length-append}
 use Rattle.std.proofs.Math.Seq.{get_or-append_seam}
 use Rattle.std.proofs.lemmas.Option.{slice_get-get_or, slice_get_past}
-use Rattle.std.specs.Prelude.{slice_get}
+use Rattle.std.specs.Prelude.{slice_get, nat_lt, if◌then◌else◌}
 use Rattle.mj_ast.specs.Syntax.{Line, Routine}
-use Rattle.mj_semantics.specs.State.{Place, at_place}
-use Rattle.mj_semantics.specs.Outcome.{Timed, turn, change, end}
+use Rattle.mj_semantics.specs.State.{level_of, at_place}
+use Rattle.mj_semantics.specs.Outcome.{Timed, turn, change}
 use Rattle.mj_semantics.specs.Lines.{Here, place_at, next_line, lines_of}
-use Rattle.mj_semantics.specs.Points.{AtLine, Ways}
+use Rattle.mj_semantics.specs.Points.{Ways, AtLine}
 use Rattle.mj_semantics.specs.Commands.{obey_all}
-use Rattle.mj_semantics.specs.Job.{obey_line, points_of}
+use Rattle.mj_semantics.specs.Job.{points_of, obey_line, quit_before}
+use Rattle.mj_pcode.specs.declared.instr.Head.{Head}
 use Rattle.mj_pcode.specs.declared.instr.Instr.{Instr}
 use Rattle.mj_pcode.specs.declared.instr.Unit as unit
-use Rattle.mj_pcode.specs.Machine.{act, exec, start_of}
+use Rattle.mj_pcode.specs.Found.{start_of, levels_in, line_with}
+use Rattle.mj_pcode.specs.Context.{Call, Context}
+use Rattle.mj_pcode.specs.Machine.{act, act_in, exec, returns, place_in}
 use Rattle.mj_asm.specs.Code.{steps_code, line_code, lines_code, starts}
-use Rattle.mj_asm.specs.Correct.{line_of, labels_of, line_with, IsUnitOf}
-use Rattle.mj_asm.proofs.Agree.{Agree, change_at}
-use Rattle.mj_asm.proofs.Follows.{HasAt, has_front, has_back, from, moved, steps_follow}
+use Rattle.mj_asm.specs.Correct.{Agree, next_of, line_of, labels_of, DoLines, LeadAlike, IsUnitOf}
+use Rattle.mj_pcode.proofs.Agree.{if_at, look_at, change_at}
+use Rattle.mj_asm.proofs.Follows.{HasAt, has_front, has_back, from, moved}
+use Rattle.mj_asm.proofs.Flow.{steps_follow, fewer_turns, returns_same}
 use Rattle.mj_asm.proofs.Labels.{finds}
 
 has_all : (is pre : List Instr) → HasAt (pre ++ is) (length pre) is
@@ -33,113 +37,144 @@ has_all (i ∷ is) pre =
 abbrev start_in : List ℕ → ℕ → ℕ → ℕ
 start_in sts last j = elim (slice_get sts j) [ None ↦ last | Some pc ↦ pc ]
 
+-- line k of the routine with this name
+abbrev pub line_at : List ℕ → ℕ → Here
+line_at r k = record { routine = r; line = k }
+
 -- what stands where the line with number n does, which is at place j; `past` is the number after the last line's
-abbrev StandsAt : List Instr → List ℕ → ℕ → ℕ → ℕ → Option Line → Type 0
-StandsAt code sts past j n None = (start_in sts (length code) j ≡ length code) × (past ≤ n)
-StandsAt code sts past j n (Some line) =
-    HasAt code (start_in sts (length code) j) (line_code (start_in sts (length code) j) n line)
-    × (start_in sts (length code) (suc j) ≡ start_in sts (length code) j + length (line_code (start_in sts (length code) j) n line))
+abbrev StandsAt : List ℕ → List Instr → List ℕ → ℕ → ℕ → ℕ → Option Line → Type 0
+StandsAt r code sts past j n None = (start_in sts (length code) j ≡ length code) × (past ≤ n)
+StandsAt r code sts past j n (Some line) =
+    HasAt code (start_in sts (length code) j) (line_code (start_in sts (length code) j) (line_at r n) line)
+    × (start_in sts (length code) (suc j) ≡ start_in sts (length code) j + length (line_code (start_in sts (length code) j) (line_at r n) line))
     × (n < past)
 
-first : (code : List Instr) (lines : List Line) (pc k : ℕ) → pc + length (lines_code pc k lines) ≡ length code → start_in (starts pc k lines) (length code) 0 ≡ pc
-first code [] pc k e = omega (arith, e)
-first code (line ∷ lines) pc k e = refl
+first : (r : List ℕ) (code : List Instr) (lines : List Line) (pc k : ℕ) → pc + length (lines_code pc (line_at r k) lines) ≡ length code → start_in (starts pc (line_at r k) lines) (length code) 0 ≡ pc
+first r code [] pc k e = omega (arith, e)
+first r code (line ∷ lines) pc k e = refl
 
-stands : (code : List Instr) (lines : List Line) (pc k j : ℕ) → HasAt code pc (lines_code pc k lines) → pc + length (lines_code pc k lines) ≡ length code → StandsAt code (starts pc k lines) (k + length lines) j (k + j) (slice_get lines j)
-stands code [] pc k j has e = (refl, omega arith)
-stands code (line ∷ lines) pc k zero has e =
-    let cl = line_code pc k line in
+stands : (r : List ℕ) (code : List Instr) (lines : List Line) (pc k j : ℕ) → HasAt code pc (lines_code pc (line_at r k) lines) → pc + length (lines_code pc (line_at r k) lines) ≡ length code → StandsAt r code (starts pc (line_at r k) lines) (k + length lines) j (k + j) (slice_get lines j)
+stands r code [] pc k j has e = (refl, omega arith)
+stands r code (line ∷ lines) pc k zero has e =
+    let cl = line_code pc (line_at r k) line in
     let next = pc + length cl in
-    let len : next + length (lines_code next (k + 1) lines) ≡ length code = omega (arith, e, length-append cl (lines_code next (k + 1) lines)) in
+    let len : next + length (lines_code next (line_at r (k + 1)) lines) ≡ length code = omega (arith, e, length-append cl (lines_code next (line_at r (k + 1)) lines)) in
     let same : k ≡ k + 0 = omega arith in (
-      subst (λ n. HasAt code pc (line_code pc n line)) same (has_front code pc cl _ has),
-      first code lines next (k + 1) len ∙ ap (λ n. pc + length (line_code pc n line)) same,
+      subst (λ n. HasAt code pc (line_code pc (line_at r n) line)) same (has_front code pc cl _ has),
+      first r code lines next (k + 1) len ∙ ap (λ n. pc + length (line_code pc (line_at r n) line)) same,
       omega arith,
     )
-stands code (line ∷ lines) pc k (suc j) has e =
-    let cl = line_code pc k line in
+stands r code (line ∷ lines) pc k (suc j) has e =
+    let cl = line_code pc (line_at r k) line in
     let next = pc + length cl in
-    let len : next + length (lines_code next (k + 1) lines) ≡ length code = omega (arith, e, length-append cl (lines_code next (k + 1) lines)) in
+    let len : next + length (lines_code next (line_at r (k + 1)) lines) ≡ length code = omega (arith, e, length-append cl (lines_code next (line_at r (k + 1)) lines)) in
     let same : k + 1 + j ≡ k + suc j = omega arith in
     let past : k + 1 + length lines ≡ k + length (line ∷ lines) = omega arith in
-    subst (λ n. StandsAt code (pc ∷ starts next (k + 1) lines) (k + length (line ∷ lines)) (suc j) n (slice_get lines j)) same
-    (subst (λ q. StandsAt code (pc ∷ starts next (k + 1) lines) q (suc j) (k + 1 + j) (slice_get lines j)) past
-    (stands code lines next (k + 1) j (has_back code pc cl _ has) len))
+    subst (λ n. StandsAt r code (pc ∷ starts next (line_at r (k + 1)) lines) (k + length (line ∷ lines)) (suc j) n (slice_get lines j)) same
+    (subst (λ q. StandsAt r code (pc ∷ starts next (line_at r (k + 1)) lines) q (suc j) (k + 1 + j) (slice_get lines j)) past
+    (stands r code lines next (k + 1) j (has_back code pc cl _ has) len))
 
-starts_length : (pc k : ℕ) (lines : List Line) → length (starts pc k lines) ≡ length lines
-starts_length pc k [] = refl
-starts_length pc k (line ∷ lines) = omega (arith, starts_length (pc + length (line_code pc k line)) (k + 1) lines)
+start_mapped : (heads : List Head) (last j : ℕ) → elim (slice_get heads j) as (λ v. ℕ) [ None ↦ last | Some head ↦ head.start ] ≡ start_in (map (λ h. h.start) heads) last j
+start_mapped [] last j = refl
+start_mapped (h ∷ heads) last zero = refl
+start_mapped (h ∷ heads) last (suc j) = start_mapped heads last j
 
-module _ (routine : Routine) (u : unit.Unit) (name : u.name ≡ routine.name) (has_code : u.instrs.items ≡ lines_code 0 1 routine.lines) (has_starts : u.starts.items ≡ starts 0 1 routine.lines) where
-  abbrev sts : List ℕ
-  sts = u.starts.items
+mapped_length : {A B : Type 0} → (f : A → B) (l : List A) → length (map f l) ≡ length l
+mapped_length f [] = refl
+mapped_length f (x ∷ l) = ap suc (mapped_length f l)
 
-  many : length u.starts.items ≡ length routine.lines
-  many = ap length has_starts ∙ starts_length 0 1 routine.lines
+module _ (routine : Routine) (u : unit.Unit) (name : u.name ≡ routine.name) (has_code : u.instrs.items ≡ lines_code 0 (line_of routine 1) routine.lines) (has_starts : map (λ h. h.start) u.heads.items ≡ starts 0 (line_of routine 1) routine.lines) (has_levels : levels_in u ≡ map (λ line. line.level) routine.lines) where
+  pub many : length u.heads.items ≡ length routine.lines
+  many = sym (mapped_length {A = Head} {B = ℕ} (λ h. h.level) u.heads.items) ∙ ap length has_levels ∙ mapped_length {A = Line} {B = ℕ} (λ line. line.level) routine.lines
 
-  lines_stand : (k : ℕ) → 1 ≤ k → StandsAt u.instrs.items u.starts.items (1 + length routine.lines) (k - 1) k (slice_get routine.lines (k - 1))
+  start_is : (k : ℕ) → start_of u k ≡ start_in (starts 0 (line_of routine 1) routine.lines) (length u.instrs.items) (k - 1)
+  start_is k = start_mapped u.heads.items (length u.instrs.items) (k - 1) ∙ ap (λ l. start_in l (length u.instrs.items) (k - 1)) has_starts
+
+  -- what stands at the start of line k, in the words of the unit
+  abbrev pub LineStands : ℕ → Option Line → Type 0
+  LineStands k None = (start_of u k ≡ length u.instrs.items) × (1 + length routine.lines ≤ k)
+  LineStands k (Some line) =
+      HasAt u.instrs.items (start_of u k) (line_code (start_of u k) (line_at u.name k) line)
+      × (start_of u (k + 1) ≡ start_of u k + length (line_code (start_of u k) (line_at u.name k) line)) × (k < 1 + length routine.lines)
+
+  renamed : (k : ℕ) (o : Option Line) → 1 ≤ k → StandsAt routine.name u.instrs.items (starts 0 (line_of routine 1) routine.lines) (1 + length routine.lines) (k - 1) k o → LineStands k o
+  renamed k None some h = (start_is k ∙ h.0, h.1)
+  renamed k (Some line) some h =
+      let pc = start_in (starts 0 (line_of routine 1) routine.lines) (length u.instrs.items) (k - 1) in
+      let e : suc (k - 1) ≡ k + 1 - 1 = omega arith in
+      let code : HasAt u.instrs.items (start_of u k) (line_code (start_of u k) (line_at u.name k) line) =
+      subst (λ p. HasAt u.instrs.items p (line_code p (line_at u.name k) line)) (sym (start_is k)) (subst (λ r. HasAt u.instrs.items pc (line_code pc (line_at r k) line)) (sym name) h.0) in
+      let next : start_of u (k + 1) ≡ start_of u k + length (line_code (start_of u k) (line_at u.name k) line) =
+      start_is (k + 1) ∙ ap (start_in (starts 0 (line_of routine 1) routine.lines) (length u.instrs.items)) (sym e) ∙ h.1
+      ∙ ap (λ p. p + length (line_code p (line_at routine.name k) line)) (sym (start_is k))
+      ∙ ap (λ r. start_of u k + length (line_code (start_of u k) (line_at r k) line)) (sym name) in
+      (code, next, h.2)
+
+  pub lines_stand : (k : ℕ) → 1 ≤ k → LineStands k (slice_get routine.lines (k - 1))
   lines_stand k some =
       let e : 1 + (k - 1) ≡ k = omega arith in
-      let whole : HasAt u.instrs.items 0 (lines_code 0 1 routine.lines) = subst (λ is. HasAt is 0 (lines_code 0 1 routine.lines)) (sym has_code) (has_all (lines_code 0 1 routine.lines) []) in
-      let len : 0 + length (lines_code 0 1 routine.lines) ≡ length u.instrs.items = omega (arith, ap length has_code) in
-      subst (λ n. StandsAt u.instrs.items u.starts.items (1 + length routine.lines) (k - 1) n (slice_get routine.lines (k - 1))) e
-      (subst (λ l. StandsAt u.instrs.items l (1 + length routine.lines) (k - 1) (1 + (k - 1)) (slice_get routine.lines (k - 1))) (sym has_starts)
-      (stands u.instrs.items routine.lines 0 1 (k - 1) whole len))
+      let whole : HasAt u.instrs.items 0 (lines_code 0 (line_of routine 1) routine.lines) = subst (λ is. HasAt is 0 (lines_code 0 (line_of routine 1) routine.lines)) (sym has_code) (has_all (lines_code 0 (line_of routine 1) routine.lines) []) in
+      let len : 0 + length (lines_code 0 (line_of routine 1) routine.lines) ≡ length u.instrs.items = omega (arith, ap length has_code) in
+      renamed k (slice_get routine.lines (k - 1)) some
+      (subst (λ n. StandsAt routine.name u.instrs.items (starts 0 (line_of routine 1) routine.lines) (1 + length routine.lines) (k - 1) n (slice_get routine.lines (k - 1))) e
+      (stands routine.name u.instrs.items routine.lines 0 1 (k - 1) whole len))
 
-  module _ (image : List Routine) (found : lines_of image routine.name ≡ routine.lines) where
-    abbrev line_point : ℕ → ℕ → Timed
-    line_point d k = points_of image d (AtLine (line_of routine k) (end None))
+  module _ (image : List Routine) (units : List unit.Unit) (found : lines_of image routine.name ≡ routine.lines) (alike : LeadAlike image units) (j : ℕ) (at : slice_get units j ≡ Some u) (below : List Call) (leave : Timed) where
+    abbrev ctx : Context
+    ctx = record { unit = j; loops = []; calls = below }
 
-    -- a line, or the end, by what stands there, where the next line is followed for m turns
-    line_follows : (d m k : ℕ) (o : Option Line) → 1 ≤ k → k ≤ length routine.lines + 1 → StandsAt u.instrs.items u.starts.items (1 + length routine.lines) (k - 1) k o → (k ≤ length routine.lines → Agree m (from u (start_of u (k + 1)) []) (turn (line_point d (k + 1)))) → act u (slice_get u.instrs.items (start_of u k)) (λ p st q. exec u m p st) (start_of u k) [] m ≡ obey_line (points_of image d) (line_of routine k) o (end None) m
-    line_follows d m k None some last s next =
-        let at : slice_get u.instrs.items (start_of u k) ≡ None = ap (slice_get u.instrs.items) s.0 ∙ slice_get_past u.instrs.items (length u.instrs.items) (omega arith) in
-        let number : length u.starts.items ≡ k - 1 = omega (arith, many, s.1) in
-        let place : List ℕ → ℕ → Place = λ r n. record { routine = r; line = n } in
-        ap (λ i. act u i (λ p st q. exec u m p st) (start_of u k) [] m) at
-        ∙ ap (λ r. change (at_place (place r (length u.starts.items))) (end None) m) name
-        ∙ ap (λ n. change (at_place (place routine.name n)) (end None) m) number
-    line_follows d m k (Some line) some last s next =
+    -- a line, or the end, by what stands there, with n turns left
+    line_follows : (d n k : ℕ) (o : Option Line) → 1 ≤ k → k ≤ length routine.lines + 1 → n ≤ d → LineStands k o → ((m : ℕ) → m < suc n → DoLines image units m) → Agree n (returns (next_of units) below) leave
+        → act units u (slice_get u.instrs.items (start_of u k)) (λ c p st q. exec units n c p st) ctx (start_of u k) [] n ≡ obey_line (points_of image d) (line_at u.name k) o leave n
+    line_follows d n k None some last deep s lines leaves =
+        let there : slice_get u.instrs.items (start_of u k) ≡ None = ap (slice_get u.instrs.items) s.0 ∙ slice_get_past u.instrs.items (length u.instrs.items) (omega arith) in
+        let number : length u.heads.items ≡ k - 1 = omega (arith, many, s.1) in
+        ap (λ i. act units u i (λ c p st q. exec units n c p st) ctx (start_of u k) [] n) there
+        ∙ ap (λ l. change (at_place (place_in u l)) (returns (λ c p st q. exec units n c p st) below) n) number
+        ∙ change_at n (at_place (place_in u (k - 1))) (returns (λ c p st q. exec units n c p st) below) leave (returns_same units n below ∙ leaves.by n (omega arith))
+    line_follows d n k (Some line) some last deep s lines leaves =
         let pc = start_of u k in
-        let place : List ℕ → Place = λ r. record { routine = r; line = k } in
-        let here : Here = line_of routine k in
-        let ways : Ways = record { line_end = turn (points_of image d (AtLine (next_line here) (end None))); leave = end None } in
-        let e : suc (k - 1) ≡ k + 1 - 1 = omega arith in
-        let len : pc + 1 + length (steps_code (pc + 1) line.steps) ≡ start_of u (k + 1) = omega (arith, s.1, ap (start_in u.starts.items (length u.instrs.items)) e) in
-        let after = moved u m _ _ [] _ len (next (omega (arith, s.2))) in
-        ap (λ i. act u i (λ p st q. exec u m p st) pc [] m) s.0.0
-        ∙ ap (λ r. change (at_place (place r)) (λ q. exec u m (pc + 1) []) m) name
-        ∙ change_at m (at_place (place_at here)) (λ q. exec u m (pc + 1) []) (obey_all line.steps ways) ((steps_follow u m line.steps ways (pc + 1) [] s.0.1 after).by m (omega arith))
+        let here : Here = line_at u.name k in
+        let commands = steps_code here (pc + 1) None line.steps in
+        let next : Timed = turn (points_of image d (AtLine (next_line here) leave)) in
+        let ways : Ways = record { line_end = next; for_quit = None; leave = leave } in
+        let len : pc + 1 + length commands ≡ start_of u (k + 1) = omega (arith, s.1) in
+        let on : Agree n (from units u ctx at (pc + 1 + length commands) []) next =
+        moved units u ctx at n _ _ [] next len (lines n (omega arith) j u at (k + 1) (omega arith) (omega (arith, many, s.2)) below leave leaves d deep) in
+        let body : Agree n (from units u ctx at (pc + 1) []) (obey_all (points_of image d) here line.steps ways) =
+        steps_follow image units alike u j k at some (omega (arith, many, s.2)) below line.steps n d deep (λ m lt. lines m (omega arith)) [] None ways (pc + 1) s.0.1 on tt leaves in
+        let quits : Timed = change (at_place (place_in u (k - 1))) (returns (λ c p st q. exec units n c p st) below) in
+        let passes_over : Timed = λ q. exec units n ctx (pc + 1 + length commands) [] in
+        let goes_in : Timed = change (at_place (place_in u k)) (λ q. exec units n ctx (pc + 1) []) in
+        ap (λ i. act units u i (λ c p st q. exec units n c p st) ctx pc [] n) s.0.0
+        ∙ look_at n (λ s'. if nat_lt line.level (level_of s') then quits else if nat_lt (level_of s') line.level then passes_over else goes_in)
+        (λ s'. if nat_lt line.level (level_of s') then quit_before here leave else if nat_lt (level_of s') line.level then next else change (at_place (place_at here)) (obey_all (points_of image d) here line.steps ways))
+        (λ s'. if_at n (nat_lt line.level (level_of s')) quits (quit_before here leave) (if nat_lt (level_of s') line.level then passes_over else goes_in) (if nat_lt (level_of s') line.level then next else change (at_place (place_at here)) (obey_all (points_of image d) here line.steps ways))
+        (change_at n (at_place (place_in u (k - 1))) (returns (λ c p st q. exec units n c p st) below) leave (returns_same units n below ∙ leaves.by n (omega arith)))
+        (if_at n (nat_lt (level_of s') line.level) passes_over next goes_in (change (at_place (place_at here)) (obey_all (points_of image d) here line.steps ways))
+        (on.by n (omega arith))
+        (change_at n (at_place (place_in u k)) (λ q. exec units n ctx (pc + 1) []) (obey_all (points_of image d) here line.steps ways) (body.by n (omega arith)))))
 
-    follow_after : (d k : ℕ) → 1 ≤ k → k ≤ length routine.lines + 1 → (k + 1 ≤ length routine.lines + 1 → Agree d (from u (start_of u (k + 1)) []) (turn (line_point d (k + 1)))) → Agree (suc d) (from u (start_of u k) []) (turn (line_point (suc d) k))
-    follow_after d k some last next = record { by = λ n le. at n le }
-      where
-        fewer : (m : ℕ) → m ≤ d → k ≤ length routine.lines → Agree m (from u (start_of u (k + 1)) []) (turn (line_point d (k + 1)))
-        fewer m le within = record { by = λ n le'. (next (omega arith)).by n (omega arith) }
-
-        at : (n : ℕ) → n ≤ suc d → exec u n (start_of u k) [] ≡ turn (line_point (suc d) k) n
-        at zero le = refl
-        at (suc m) le =
-            line_follows d m k (slice_get routine.lines (k - 1)) some last (lines_stand k some) (fewer m (omega arith))
-            ∙ ap (λ lines. obey_line (points_of image d) (line_of routine k) (slice_get lines (k - 1)) (end None) m) (sym found)
-
-    lines_follow : (d k : ℕ) → 1 ≤ k → k ≤ length routine.lines + 1 → Agree d (from u (start_of u k) []) (turn (line_point d k))
-    lines_follow zero k some last = record { by = λ n le. at n le }
-      where
-        at : (n : ℕ) → n ≤ 0 → exec u n (start_of u k) [] ≡ turn (line_point 0 k) n
-        at zero le = refl
-        at (suc n) le = absurd (omega (arith, le))
-    lines_follow (suc d) k some last = follow_after d k some last (lines_follow d (k + 1) (omega arith))
+    does_line : (b k : ℕ) → 1 ≤ k → k ≤ length routine.lines + 1 → ((m : ℕ) → m < b → DoLines image units m) → Agree b (returns (next_of units) below) leave → (depth : ℕ) → b ≤ depth
+        → (n : ℕ) → n ≤ b → exec units n ctx (start_of u k) [] ≡ turn (points_of image depth (AtLine (line_at u.name k) leave)) n
+    does_line b k some last lines leaves depth deep zero le = refl
+    does_line b k some last lines leaves zero deep (suc n) le = absurd (omega (arith, le, deep))
+    does_line b k some last lines leaves (suc d) deep (suc n) le =
+        ap (λ o. act_in units o (λ c p st q. exec units n c p st) ctx (start_of u k) [] n) at
+        ∙ line_follows d n k (slice_get routine.lines (k - 1)) some last (omega (arith, le, deep)) (lines_stand k some) (λ m lt. lines m (omega (arith, lt, le))) (fewer_turns b n (returns (next_of units) below) leave (omega (arith, le)) leaves)
+        ∙ ap (λ l. obey_line (points_of image d) (line_at u.name k) (slice_get l (k - 1)) leave n) (sym (ap (lines_of image) name ∙ found))
 
   after_last : length routine.lines + 1 ≡ 1 + length routine.lines
   after_last = omega arith
 
-  pub is_unit : length routine.lines < 2 ^ 32 → u.labels.items ≡ labels_of 1 routine.lines → IsUnitOf routine u
-  is_unit few has_labels = record {
+  pub is_unit : length routine.lines < 2 ^ 32 → map (λ h. h.formals) u.heads.items ≡ map (λ line. line.formals) routine.lines → u.labels.items ≡ labels_of 1 routine.lines → IsUnitOf routine u
+  is_unit few has_formals has_labels = record {
     name = name;
     few = few;
-    starts = many;
+    levels = has_levels;
+    formals = has_formals;
     labels = has_labels;
     finds = λ l. ap (line_with l (length routine.lines + 1)) has_labels ∙ ap (λ m. line_with l m (labels_of 1 routine.lines)) after_last ∙ finds l 1 routine.lines;
-    does = λ k some last image found depth n le h s replies. ap (λ q. q h s replies) ((lines_follow image found depth k some last).by n le);
+    does = λ image units found alike j at b lines k some last below leave leaves depth deep.
+        record { by = λ n le. does_line image units found alike j at below leave b k some last lines leaves depth deep n le };
   }

@@ -1,8 +1,10 @@
 -- The instructions of each piece of a routine.
-use Rattle.std.specs.Prelude.{ℕ, ◌+◌, List, [], ◌∷◌, ◌++◌, Option, Some, None, length}
-use Rattle.mj_ast.specs.Syntax.{Expr, Chain, Tails, Done, Then, Operand, Literal, Value, Unary, Group, Call, Select, Variable, Var, Exprs, No, More, Choices, Last, Before, Destination, Plain, Pieces, Targets, One, Several, Assignment, Killed, Gone, Spared, Merged, Output, Shown, Format, Command, Set, Write, Halt, Kill, Merge, Step, Line, About}
+use Rattle.std.specs.Prelude.{ℕ, ◌+◌, List, [], ◌∷◌, ◌++◌, Option, Some, None, Bool, true, false, length}
+use Rattle.mj_ast.specs.Syntax.{Expr, Chain, Tails, Done, Then, Operand, Literal, Value, Intrinsic, Unary, Group, Call, Select, Variable, Var, Exprs, No, More, Choices, Last, Before, Destination, Plain, Pieces, Targets, One, Several, Assignment, Killed, Gone, Spared, Merged, Output, Shown, Format, Called, Jumped, Range, Single, Endless, UpTo, Renewed, Fresh, Kept, Command, Set, Write, Halt, Kill, Merge, If, Else, For, Forever, Do, Goto, Quit, New, Step, Line, About}
+use Rattle.mj_semantics.specs.Lines.{Here, next_line, entry_of}
 use Rattle.mj_pcode.specs.declared.instr.Reference.{Reference}
 use Rattle.mj_pcode.specs.declared.instr.Depth.{Depth}
+use Rattle.mj_pcode.specs.declared.instr.Span.TheVariants as span
 use Rattle.mj_pcode.specs.declared.instr.Instr.{Instr}
 use Rattle.mj_pcode.specs.declared.instr.Instr.TheVariants as instr
 
@@ -27,6 +29,7 @@ abbrev mutual
   pub operand_code : ℕ → Operand → List Instr
   operand_code pc (Literal t) = instr.Push t ∷ []
   operand_code pc (Value v) = subscripts_code pc v ++ instr.Load (reference v) ∷ []
+  operand_code pc (Intrinsic v) = instr.Special v ∷ []
   operand_code pc (Unary op x) = operand_code pc x ++ instr.Unary op ∷ []
   operand_code pc (Group e) = expr_code pc e
   operand_code pc (Call f es) = exprs_code pc es ++ instr.Call f (count es) ∷ []
@@ -143,37 +146,170 @@ abbrev pub merges_code : ℕ → List Merged → List Instr
 merges_code pc [] = []
 merges_code pc (m ∷ list) = merge_code pc m ++ merges_code (pc + length (merge_code pc m)) list
 
-abbrev pub command_code : ℕ → Command → List Instr
-command_code pc (Set list) = assignments_code pc list
-command_code pc (Write list) = outputs_code pc list
-command_code pc Halt = instr.Halt ∷ []
-command_code pc (Kill list) = kill_all_code pc list
-command_code pc (Merge list) = merges_code pc list
+-- NEW, an argument; a list of names takes an instruction for each
+abbrev pub renewed_code : Renewed → List Instr
+renewed_code (Fresh word) = instr.New (word ∷ []) ∷ []
+renewed_code (Kept words) = names_code words ++ instr.NewExcept words ∷ []
 
--- a command behind a postcondition, which begins at pc
-abbrev pub code_if : ℕ → Option Expr → Command → List Instr
-code_if pc None command = command_code pc command
-code_if pc (Some e) command =
+abbrev pub news_code : List Renewed → List Instr
+news_code [] = []
+news_code (r ∷ list) = renewed_code r ++ news_code list
+
+-- without arguments it is all locals
+abbrev pub new_all_code : List Renewed → List Instr
+new_all_code [] = instr.NewExcept [] ∷ []
+new_all_code (r ∷ list) = news_code (r ∷ list)
+
+-- actuals, of which those that are given have code
+abbrev pub actuals_code : ℕ → List (Option Expr) → List Instr
+actuals_code pc [] = []
+actuals_code pc (None ∷ es) = actuals_code pc es
+actuals_code pc (Some e ∷ es) = expr_code pc e ++ actuals_code (pc + length (expr_code pc e)) es
+
+-- which actuals are given
+abbrev pub shape_of : List (Option Expr) → List Bool
+shape_of [] = []
+shape_of (None ∷ es) = false ∷ shape_of es
+shape_of (Some e ∷ es) = true ∷ shape_of es
+
+-- code that begins at pc, behind a postcondition, which leads past it
+abbrev pub code_if : ℕ → Option Expr → (ℕ → List Instr) → List Instr
+code_if pc None code = code pc
+code_if pc (Some e) code =
     let behind = pc + length (expr_code pc e) + 1 in
-    expr_code pc e ++ instr.Unless (behind + length (command_code behind command)) ∷ command_code behind command
+    expr_code pc e ++ instr.Unless (behind + length (code behind)) ∷ code behind
 
-abbrev pub step_code : ℕ → Step → List Instr
-step_code pc step = code_if pc step.condition step.command
+-- an argument of DO, in a line that stands here
+abbrev pub call_code : Here → Called → ℕ → List Instr
+call_code here c pc = actuals_code pc c.actuals ++ instr.Do (entry_of here c.target) (shape_of c.actuals) ∷ []
 
-abbrev pub steps_code : ℕ → List Step → List Instr
-steps_code pc [] = []
-steps_code pc (step ∷ steps) = step_code pc step ++ steps_code (pc + length (step_code pc step)) steps
+abbrev pub calls_code : Here → ℕ → List Called → List Instr
+calls_code here pc [] = []
+calls_code here pc (c ∷ list) =
+    let one = code_if pc c.condition (call_code here c) in
+    one ++ calls_code here (pc + length one) list
 
--- line k, which begins at pc
-abbrev pub line_code : ℕ → ℕ → Line → List Instr
-line_code pc k line = instr.Line k ∷ steps_code (pc + 1) line.steps
+-- without arguments it is the block
+abbrev pub do_code : Here → ℕ → List Called → List Instr
+do_code here pc [] = instr.Block here.line ∷ []
+do_code here pc (c ∷ list) = calls_code here pc (c ∷ list)
 
--- lines, of which the first has number k and begins at pc
-abbrev pub lines_code : ℕ → ℕ → List Line → List Instr
-lines_code pc k [] = []
-lines_code pc k (line ∷ lines) = line_code pc k line ++ lines_code (pc + length (line_code pc k line)) (k + 1) lines
+abbrev pub jump_code : Here → Jumped → ℕ → List Instr
+jump_code here j pc = instr.Goto (entry_of here j.target) ∷ []
+
+abbrev pub jumps_code : Here → ℕ → List Jumped → List Instr
+jumps_code here pc [] = []
+jumps_code here pc (j ∷ list) =
+    let one = code_if pc j.condition (jump_code here j) in
+    one ++ jumps_code here (pc + length one) list
+
+-- QUIT of the frame, or of the FOR that is closed at this instruction
+abbrev pub quit_code : Option ℕ → List Instr
+quit_code None = instr.Quit ∷ []
+quit_code (Some close) = instr.Jump close ∷ []
+
+-- the conditions of an IF, behind which stands the rest of the line, each with a test that leads to the end of the whole
+abbrev pub ifs_code : ℕ → List Expr → (ℕ → List Instr) → List Instr
+ifs_code pc [] rest = rest pc
+ifs_code pc (e ∷ es) rest =
+    let behind = pc + length (expr_code pc e) + 1 in
+    expr_code pc e ++ instr.Decide (behind + length (ifs_code behind es rest)) ∷ ifs_code behind es rest
+
+-- without arguments it is by `$TEST`
+abbrev pub if_code : ℕ → List Expr → (ℕ → List Instr) → List Instr
+if_code pc [] rest = instr.If (pc + 1 + length (rest (pc + 1))) ∷ rest (pc + 1)
+if_code pc (e ∷ es) rest = ifs_code pc (e ∷ es) rest
+
+-- ELSE: a test that leads to the end of the rest of the line
+abbrev pub else_code : ℕ → (ℕ → List Instr) → List Instr
+else_code pc rest = instr.Else (pc + 1 + length (rest (pc + 1))) ∷ rest (pc + 1)
+
+-- what a FOR goes through
+abbrev pub range_code : ℕ → Range → List Instr
+range_code pc (Single a) = expr_code pc a ++ instr.Begin span.One ∷ []
+range_code pc (Endless a b) =
+    expr_code pc a ++ (expr_code (pc + length (expr_code pc a)) b ++ instr.Begin span.Endless ∷ [])
+range_code pc (UpTo a b c) =
+    let second = pc + length (expr_code pc a) in
+    let third = second + length (expr_code second b) in
+    expr_code pc a ++ (expr_code second b ++ (expr_code third c ++ instr.Begin span.UpTo ∷ []))
+
+abbrev pub ranges_code : ℕ → List Range → List Instr
+ranges_code pc [] = []
+ranges_code pc (r ∷ rs) = range_code pc r ++ ranges_code (pc + length (range_code pc r)) rs
+
+-- passes of a FOR behind its ranges: the instruction that closes it, at this place, and the rest of the line, which ends with the
+-- next pass
+abbrev pub body_code : ℕ → (ℕ → Option ℕ → List Instr) → List Instr
+body_code close rest =
+    instr.Close (close + 1 + length (rest (close + 1) (Some close)) + 1) ∷ (rest (close + 1) (Some close) ++ instr.Again ∷ [])
+
+abbrev pub subscript_exprs : Variable → Exprs
+subscript_exprs (Var scope word es) = es
+
+-- FOR: the subscripts of its local, its ranges, and its passes
+abbrev pub for_code : ℕ → Variable → List Range → (ℕ → Option ℕ → List Instr) → List Instr
+for_code pc v rs rest =
+    let first = pc + length (subscripts_code pc v) + 1 in
+    let close = first + length (ranges_code first rs) in
+    subscripts_code pc v ++ instr.Open (reference v).word (reference v).count (close + 1) ∷ (ranges_code first rs ++ body_code close rest)
+
+-- a command without its postcondition, in a FOR that is closed at an instruction, or in none. IF, ELSE and FOR have the rest of
+-- their line in their code
+abbrev pub command_code : Here → ℕ → Option ℕ → Command → List Instr
+command_code here pc out (Set list) = assignments_code pc list
+command_code here pc out (Write list) = outputs_code pc list
+command_code here pc out Halt = instr.Halt ∷ []
+command_code here pc out (Kill list) = kill_all_code pc list
+command_code here pc out (Merge list) = merges_code pc list
+command_code here pc out (If es) = []
+command_code here pc out Else = []
+command_code here pc out (For v rs) = []
+command_code here pc out Forever = []
+command_code here pc out (Do list) = do_code here pc list
+command_code here pc out (Goto list) = jumps_code here pc list
+command_code here pc out Quit = quit_code out
+command_code here pc out (New list) = new_all_code list
+
+-- a command behind its postcondition, and then the rest of its line
+abbrev pub and_then : Here → ℕ → Option ℕ → Option Expr → Command → (ℕ → Option ℕ → List Instr) → List Instr
+and_then here pc out c command rest =
+    let code = code_if pc c (λ p. command_code here p out command) in
+    code ++ rest (pc + length code) out
+
+-- a command with its postcondition, and the rest of its line behind it
+abbrev pub obey_code : Here → ℕ → Option ℕ → Command → Option Expr → (ℕ → Option ℕ → List Instr) → List Instr
+obey_code here pc out (Set list) c rest = and_then here pc out c (Set list) rest
+obey_code here pc out (Write list) c rest = and_then here pc out c (Write list) rest
+obey_code here pc out Halt c rest = and_then here pc out c Halt rest
+obey_code here pc out (Kill list) c rest = and_then here pc out c (Kill list) rest
+obey_code here pc out (Merge list) c rest = and_then here pc out c (Merge list) rest
+obey_code here pc out (If es) c rest = if_code pc es (λ p. rest p out)
+obey_code here pc out Else c rest = else_code pc (λ p. rest p out)
+obey_code here pc out (For v rs) c rest = for_code pc v rs rest
+obey_code here pc out Forever c rest = instr.Forever ∷ body_code (pc + 1) rest
+obey_code here pc out (Do list) c rest = and_then here pc out c (Do list) rest
+obey_code here pc out (Goto list) c rest = and_then here pc out c (Goto list) rest
+obey_code here pc out Quit c rest = and_then here pc out c Quit rest
+obey_code here pc out (New list) c rest = and_then here pc out c (New list) rest
+
+abbrev pub steps_code : Here → ℕ → Option ℕ → List Step → List Instr
+steps_code here pc out [] = []
+steps_code here pc out (step ∷ steps) = obey_code here pc out step.command step.condition (λ p o. steps_code here p o steps)
+
+-- a line that stands here, which begins at pc: how it is entered, and its commands
+abbrev pub line_code : ℕ → Here → Line → List Instr
+line_code pc here line =
+    let commands = steps_code here (pc + 1) None line.steps in
+    instr.Line (record { line = here.line; level = line.level; next = pc + 1 + length commands }) ∷ commands
+
+-- lines, of which the first stands here and begins at pc
+abbrev pub lines_code : ℕ → Here → List Line → List Instr
+lines_code pc here [] = []
+lines_code pc here (line ∷ lines) =
+    line_code pc here line ++ lines_code (pc + length (line_code pc here line)) (next_line here) lines
 
 -- where they begin
-abbrev pub starts : ℕ → ℕ → List Line → List ℕ
-starts pc k [] = []
-starts pc k (line ∷ lines) = pc ∷ starts (pc + length (line_code pc k line)) (k + 1) lines
+abbrev pub starts : ℕ → Here → List Line → List ℕ
+starts pc here [] = []
+starts pc here (line ∷ lines) = pc ∷ starts (pc + length (line_code pc here line)) (next_line here) lines

@@ -1,2 +1,4 @@
 pub mod Correct
+pub mod Laws
 pub mod Code
+pub mod Sites

@@ -1,89 +1,421 @@
 // The instructions of commands, lines and routines.
 
-ghost use Rattle.std.specs.Prelude.{◌≡◌, ◌<◌, ◌+◌, ◌^◌, [], ◌∷◌, ◌++◌, length, map, slice_set, IfOk, OnOk};
-ghost use Rattle.mj_ast.specs.Trees.{expr_of, assignment_of, killed_of, merged_of, output_of, command_of, step_of, line_of, routine_of};
-ghost use Rattle.mj_asm.specs.Code.{assignment_code, assignments_code, names_code, kill_code, kills_code, kill_all_code, merge_code, merges_code, output_code, outputs_code, command_code, step_code, steps_code, line_code};
+ghost use Rattle.std.specs.Prelude.{◌≡◌, ◌<◌, ◌+◌, ◌^◌, [], ◌∷◌, ◌++◌, length, map, slice_set, option_map, IfOk, OnOk};
+ghost use Rattle.mj_pcode.specs.Checked.{IsChecked};
+ghost use Rattle.mj_ast.specs.Trees.{expr_of, variable_of, assignment_of, killed_of, merged_of, output_of, target_of, called_of, jumped_of, range_of, renewed_of, command_of, step_of, line_of, routine_of};
+ghost use Rattle.mj_semantics.specs.Lines as lines;
+ghost use Rattle.mj_asm.specs.Code.{assignment_code, assignments_code, names_code, kill_code, kills_code, kill_all_code, merge_code, merges_code, output_code, outputs_code, code_if, command_code, steps_code, if_code, ifs_code, else_code, for_code, body_code, range_code, ranges_code, do_code, call_code, jumps_code, jump_code, new_all_code, renewed_code, line_code};
+ghost use Rattle.mj_asm.specs.Sites.{here_of};
 ghost use Rattle.mj_asm.specs.Correct.{labels_of, IsUnitOf};
 
-use crate::expr::{aim, emit_expr, emit_subscripts, put, reference};
+use crate::expr::{aim, change, emit_expr, emit_subscripts, put, reference};
+use crate::site::Site;
 use crate::targets::{emit_name, emit_one, emit_several};
-use mj_ast::{Assignment, Command, Killed, Line, Merged, Output, Routine, Step, Targets};
-use mj_pcode::{Instr, Label, Marks, Unit, Words};
+use mj_ask::Entry;
+use mj_ast::{
+    Assignment, Called, Command, Expr, Jumped, Killed, Line, Merged, Output, Range, Renewed,
+    Routine, Step, Target, Targets, Variable,
+};
+use mj_pcode::{Head, Instr, Label, LineStart, Marks, Shape, Span, Unit, Words};
 use mj_text::Text;
 use std::alloc::{AllocError, Global};
 
-/// The p-code of a routine. Its lines are numbered from 1 on.
+/// The p-code of a routine. Its lines are numbered from 1 on. At none of its instructions an operand or a FOR is missing, and none leads out
+/// of it.
 pub fn assemble(alloc: Global, routine: &Routine) -> Result<Unit, AllocError>
     requires { length routine.now.lines.items < 2 ^ 32 }
-    ensures { IfOk result (λ u. IsUnitOf (routine_of routine.now) u) }
+    ensures code { IfOk result (λ u. IsUnitOf (routine_of routine.now) u) }
+    ensures checked { IfOk result (λ u. IsChecked u) }
 {
     let name = routine.name.try_clone()?;
     let mut unit = Unit {
         name,
         instrs: Vec::new(alloc),
-        starts: Vec::new(alloc),
+        heads: Vec::new(alloc),
         labels: Vec::new(alloc),
     };
     let mut number = 0;
     for line in &routine.lines {
         number += 1;
-        emit_line(alloc, &mut unit, number, line)?;
+        let site = Site {
+            alloc,
+            routine: &routine.name,
+            line: number,
+        };
+        emit_line(site, &mut unit, line)?;
     }
     Ok(unit)
 }
 
 // One more line.
-fn emit_line(alloc: Global, unit: &mut Unit, number: u32, line: &Line) -> Result<(), AllocError>
+fn emit_line(site: Site, unit: &mut Unit, line: &Line) -> Result<(), AllocError>
     ensures name { unit.new.name ≡ unit.old.name }
-    ensures instrs { OnOk result (unit.new.instrs.items ≡ unit.old.instrs.items ++ line_code (length unit.old.instrs.items) number (line_of line.now)) }
-    ensures starts { OnOk result (unit.new.starts.items ≡ unit.old.starts.items ++ length unit.old.instrs.items ∷ []) }
-    ensures labels { OnOk result (unit.new.labels.items ≡ unit.old.labels.items ++ labels_of number (line_of line.now ∷ [])) }
+    ensures instrs { OnOk result (unit.new.instrs.items ≡ unit.old.instrs.items ++ line_code (length unit.old.instrs.items) (here_of site.entry) (line_of line.now)) }
+    ensures heads { OnOk result (unit.new.heads.items ≡ unit.old.heads.items ++ record { start = length unit.old.instrs.items; level = line.now.level; formals = line.now.formals.items } ∷ []) }
+    ensures labels { OnOk result (unit.new.labels.items ≡ unit.old.labels.items ++ labels_of site.entry.line (line_of line.now ∷ [])) }
+{
+    emit_label(site, &mut unit.labels, line)?;
+    let start = unit.instrs.len();
+    let formals = Words::copied(site.alloc, &line.formals)?;
+    let level = line.level;
+    unit.heads.push(Head {
+        start,
+        level,
+        formals,
+    })?;
+    let mut entered = LineStart {
+        line: site.line,
+        level,
+        next: 0,
+    };
+    put(&mut unit.instrs, Instr::Line(entered))?;
+    emit_steps(site, &mut unit.instrs, None, &line.steps)?;
+    entered.next = unit.instrs.len();
+    change(&mut unit.instrs, start, Instr::Line(entered));
+    Ok(())
+}
+
+// The line's label, if it has one.
+fn emit_label(site: Site, labels: &mut Vec<Label>, line: &Line) -> Result<(), AllocError>
+    ensures { OnOk result (labels.new.items ≡ labels.old.items ++ labels_of site.entry.line (line_of line.now ∷ [])) }
 {
     if let Some(label) = &line.label {
         let text = label.try_clone()?;
-        unit.labels.push(Label { text, line: number })?;
-    }
-    let start = unit.instrs.len();
-    unit.starts.push(start)?;
-    put(&mut unit.instrs, Instr::Line(number))?;
-    emit_steps(alloc, &mut unit.instrs, &line.steps)
-}
-
-fn emit_steps(alloc: Global, code: &mut Vec<Instr>, steps: &[Step]) -> Result<(), AllocError>
-    ensures { OnOk result (code.new.items ≡ code.old.items ++ steps_code (length code.old.items) (map step_of steps.now)) }
-{
-    for step in steps {
-        emit_step(alloc, code, step)?;
+        labels.push(Label {
+            text,
+            line: site.line,
+        })?;
     }
     Ok(())
 }
 
-// A command, behind its postcondition if it has one.
-fn emit_step(alloc: Global, code: &mut Vec<Instr>, step: &Step) -> Result<(), AllocError>
-    ensures { OnOk result (code.new.items ≡ code.old.items ++ step_code (length code.old.items) (step_of step.now)) }
+// The commands of a line, or those behind one of them; in a FOR that is closed at an instruction, or in none. Only what goes on up to
+// the line's end (IF, ELSE, FOR) calls this again.
+#[cycle(steps)]
+fn emit_steps(
+    site: Site,
+    code: &mut Vec<Instr>,
+    close: Option<usize>,
+    steps: &[Step],
+) -> Result<(), AllocError>
+    ensures { OnOk result (code.new.items ≡ code.old.items ++ steps_code (here_of site.entry) (length code.old.items) close (map step_of steps.now)) }
+{
+    let mut rest = steps;
+    while let Some((step, behind)) = rest.split_first() {
+        match &step.command {
+            Command::If(conditions) => return emit_if(site, code, close, conditions, behind),
+            Command::Else => return emit_else(site, code, close, behind),
+            Command::For(variable, ranges) => return emit_for(site, code, variable, ranges, behind),
+            Command::Forever => {
+                put(code, Instr::Forever)?;
+                return emit_body(site, code, behind);
+            }
+            _ => emit_step(site, code, close, step)?,
+        }
+        rest = behind;
+    }
+    Ok(())
+}
+
+// ELSE, and the commands behind it.
+#[cycle(steps)]
+fn emit_else(
+    site: Site,
+    code: &mut Vec<Instr>,
+    close: Option<usize>,
+    behind: &[Step],
+) -> Result<(), AllocError>
+    ensures { OnOk result (code.new.items ≡ code.old.items ++ else_code (length code.old.items) (λ p. steps_code (here_of site.entry) p close (map step_of behind.now))) }
+{
+    let test = code.len();
+    put(code, Instr::Else(0))?;
+    emit_steps(site, code, close, behind)?;
+    let target = code.len();
+    change(code, test, Instr::Else(target));
+    Ok(())
+}
+
+// IF, and the commands behind it.
+#[cycle(steps)]
+fn emit_if(
+    site: Site,
+    code: &mut Vec<Instr>,
+    close: Option<usize>,
+    conditions: &[Expr],
+    behind: &[Step],
+) -> Result<(), AllocError>
+    ensures { OnOk result (code.new.items ≡ code.old.items ++ if_code (length code.old.items) (map expr_of conditions.now) (λ p. steps_code (here_of site.entry) p close (map step_of behind.now))) }
+{
+    if conditions.is_empty() {
+        let test = code.len();
+        put(code, Instr::If(0))?;
+        emit_steps(site, code, close, behind)?;
+        let target = code.len();
+        change(code, test, Instr::If(target));
+        return Ok(());
+    }
+    emit_ifs(site, code, close, conditions, behind)
+}
+
+// The conditions of an IF, and the commands behind it.
+#[cycle(steps)]
+fn emit_ifs(
+    site: Site,
+    code: &mut Vec<Instr>,
+    close: Option<usize>,
+    conditions: &[Expr],
+    behind: &[Step],
+) -> Result<(), AllocError>
+    ensures { OnOk result (code.new.items ≡ code.old.items ++ ifs_code (length code.old.items) (map expr_of conditions.now) (λ p. steps_code (here_of site.entry) p close (map step_of behind.now))) }
+{
+    match conditions.split_first() {
+        None => emit_steps(site, code, close, behind),
+        Some((first, others)) => {
+            emit_expr(code, first)?;
+            let test = code.len();
+            put(code, Instr::Decide(0))?;
+            emit_ifs(site, code, close, others, behind)?;
+            let target = code.len();
+            change(code, test, Instr::Decide(target));
+            Ok(())
+        }
+    }
+}
+
+// FOR, and the commands behind it.
+#[cycle(steps)]
+fn emit_for(
+    site: Site,
+    code: &mut Vec<Instr>,
+    variable: &Variable,
+    ranges: &[Range],
+    behind: &[Step],
+) -> Result<(), AllocError>
+    ensures { OnOk result (code.new.items ≡ code.old.items ++ for_code (length code.old.items) (variable_of variable.now) (map range_of ranges.now) (λ p o. steps_code (here_of site.entry) p o (map step_of behind.now))) }
+{
+    emit_subscripts(code, variable)?;
+    let local = reference(variable)?;
+    let open = code.len();
+    put(code, Instr::Discard(0))?;
+    emit_ranges(code, ranges)?;
+    let body = code.len() + 1;
+    change(code, open, Instr::Open(local.word, local.count, body));
+    emit_body(site, code, behind)
+}
+
+// The instruction that closes a FOR, the commands of its passes, and the next pass.
+#[cycle(steps)]
+fn emit_body(site: Site, code: &mut Vec<Instr>, behind: &[Step]) -> Result<(), AllocError>
+    ensures { OnOk result (code.new.items ≡ code.old.items ++ body_code (length code.old.items) (λ p o. steps_code (here_of site.entry) p o (map step_of behind.now))) }
+{
+    let close = code.len();
+    put(code, Instr::Close(0))?;
+    emit_steps(site, code, Some(close), behind)?;
+    put(code, Instr::Again)?;
+    let target = code.len();
+    change(code, close, Instr::Close(target));
+    Ok(())
+}
+
+// What a FOR goes through.
+fn emit_ranges(code: &mut Vec<Instr>, ranges: &[Range]) -> Result<(), AllocError>
+    ensures { OnOk result (code.new.items ≡ code.old.items ++ ranges_code (length code.old.items) (map range_of ranges.now)) }
+{
+    for range in ranges {
+        emit_range(code, range)?;
+    }
+    Ok(())
+}
+
+fn emit_range(code: &mut Vec<Instr>, range: &Range) -> Result<(), AllocError>
+    ensures { OnOk result (code.new.items ≡ code.old.items ++ range_code (length code.old.items) (range_of range.now)) }
+{
+    match range {
+        Range::One(first) => {
+            emit_expr(code, first)?;
+            put(code, Instr::Begin(Span::One))
+        }
+        Range::Endless(first, step) => {
+            emit_expr(code, first)?;
+            emit_expr(code, step)?;
+            put(code, Instr::Begin(Span::Endless))
+        }
+        Range::UpTo(first, step, last) => {
+            emit_expr(code, first)?;
+            emit_expr(code, step)?;
+            emit_expr(code, last)?;
+            put(code, Instr::Begin(Span::UpTo))
+        }
+    }
+}
+
+// A command that has a postcondition or could have one, behind it.
+fn emit_step(
+    site: Site,
+    code: &mut Vec<Instr>,
+    close: Option<usize>,
+    step: &Step,
+) -> Result<(), AllocError>
+    ensures { OnOk result (code.new.items ≡ code.old.items ++ code_if (length code.old.items) (option_map expr_of step.now.condition) (λ p. command_code (here_of site.entry) p close (command_of step.now.command))) }
 {
     match &step.condition {
-        None => emit_command(alloc, code, &step.command),
+        None => emit_command(site, code, close, &step.command),
         Some(condition) => {
             emit_expr(code, condition)?;
             let test = code.len();
             put(code, Instr::Unless(0))?;
-            emit_command(alloc, code, &step.command)?;
+            emit_command(site, code, close, &step.command)?;
             aim(code, test);
             Ok(())
         }
     }
 }
 
-fn emit_command(alloc: Global, code: &mut Vec<Instr>, command: &Command) -> Result<(), AllocError>
-    ensures { OnOk result (code.new.items ≡ code.old.items ++ command_code (length code.old.items) (command_of command.now)) }
+fn emit_command(
+    site: Site,
+    code: &mut Vec<Instr>,
+    close: Option<usize>,
+    command: &Command,
+) -> Result<(), AllocError>
+    ensures { OnOk result (code.new.items ≡ code.old.items ++ command_code (here_of site.entry) (length code.old.items) close (command_of command.now)) }
 {
     match command {
         Command::Set(assignments) => emit_assignments(code, assignments),
-        Command::Write(outputs) => emit_outputs(alloc, code, outputs),
+        Command::Write(outputs) => emit_outputs(site.alloc, code, outputs),
         Command::Halt => put(code, Instr::Halt),
-        Command::Kill(list) => emit_kill_all(alloc, code, list),
+        Command::Kill(list) => emit_kill_all(site.alloc, code, list),
         Command::Merge(list) => emit_merges(code, list),
+        Command::Do(list) => emit_do(site, code, list),
+        Command::Goto(list) => emit_jumps(site, code, list),
+        Command::Quit => match close {
+            None => put(code, Instr::Quit),
+            Some(close) => put(code, Instr::Jump(close)),
+        },
+        Command::New(list) => emit_new_all(site.alloc, code, list),
+        Command::If(_) | Command::Else | Command::For(_, _) | Command::Forever => Ok(()),
+    }
+}
+
+// The block behind this line, or calls.
+fn emit_do(site: Site, code: &mut Vec<Instr>, list: &[Called]) -> Result<(), AllocError>
+    ensures { OnOk result (code.new.items ≡ code.old.items ++ do_code (here_of site.entry) (length code.old.items) (map called_of list.now)) }
+{
+    if list.is_empty() {
+        return put(code, Instr::Block(site.line));
+    }
+    for called in list {
+        emit_called(site, code, called)?;
+    }
+    Ok(())
+}
+
+// A call, behind its postcondition.
+fn emit_called(site: Site, code: &mut Vec<Instr>, called: &Called) -> Result<(), AllocError>
+    ensures { OnOk result (code.new.items ≡ code.old.items ++ code_if (length code.old.items) (option_map expr_of called.now.condition) (call_code (here_of site.entry) (called_of called.now))) }
+{
+    match &called.condition {
+        None => emit_call(site, code, called),
+        Some(condition) => {
+            emit_expr(code, condition)?;
+            let test = code.len();
+            put(code, Instr::Unless(0))?;
+            emit_call(site, code, called)?;
+            aim(code, test);
+            Ok(())
+        }
+    }
+}
+
+fn emit_call(site: Site, code: &mut Vec<Instr>, called: &Called) -> Result<(), AllocError>
+    ensures { OnOk result (code.new.items ≡ code.old.items ++ call_code (here_of site.entry) (called_of called.now) (length code.old.items)) }
+{
+    let mut shape = Shape::new(site.alloc);
+    for actual in &called.actuals {
+        shape.push(actual.is_some())?;
+        if let Some(value) = actual {
+            emit_expr(code, value)?;
+        }
+    }
+    let entry = entry_of(site, &called.target)?;
+    put(code, Instr::Do(entry, shape))
+}
+
+// GOTO.
+fn emit_jumps(site: Site, code: &mut Vec<Instr>, list: &[Jumped]) -> Result<(), AllocError>
+    ensures { OnOk result (code.new.items ≡ code.old.items ++ jumps_code (here_of site.entry) (length code.old.items) (map jumped_of list.now)) }
+{
+    for jumped in list {
+        emit_jumped(site, code, jumped)?;
+    }
+    Ok(())
+}
+
+// A jump, behind its postcondition.
+fn emit_jumped(site: Site, code: &mut Vec<Instr>, jumped: &Jumped) -> Result<(), AllocError>
+    ensures { OnOk result (code.new.items ≡ code.old.items ++ code_if (length code.old.items) (option_map expr_of jumped.now.condition) (jump_code (here_of site.entry) (jumped_of jumped.now))) }
+{
+    match &jumped.condition {
+        None => emit_jump(site, code, jumped),
+        Some(condition) => {
+            emit_expr(code, condition)?;
+            let test = code.len();
+            put(code, Instr::Unless(0))?;
+            emit_jump(site, code, jumped)?;
+            aim(code, test);
+            Ok(())
+        }
+    }
+}
+
+fn emit_jump(site: Site, code: &mut Vec<Instr>, jumped: &Jumped) -> Result<(), AllocError>
+    ensures { OnOk result (code.new.items ≡ code.old.items ++ jump_code (here_of site.entry) (jumped_of jumped.now) (length code.old.items)) }
+{
+    let entry = entry_of(site, &jumped.target)?;
+    put(code, Instr::Goto(entry))
+}
+
+// The entry that a target names, in this routine where it names none.
+fn entry_of(site: Site, target: &Target) -> Result<Entry, AllocError>
+    ensures { IfOk result (λ e. e ≡ lines.entry_of (here_of site.entry) (target_of target.now)) }
+{
+    let label = match &target.label {
+        None => None,
+        Some(label) => Some(label.try_clone()?),
+    };
+    let routine = match &target.routine {
+        None => site.routine.try_clone()?,
+        Some(routine) => routine.try_clone()?,
+    };
+    Ok(Entry { label, routine })
+}
+
+// NEW of some, or of all locals.
+fn emit_new_all(alloc: Global, code: &mut Vec<Instr>, list: &[Renewed]) -> Result<(), AllocError>
+    ensures { OnOk result (code.new.items ≡ code.old.items ++ new_all_code (map renewed_of list.now)) }
+{
+    if list.is_empty() {
+        let none = Words::copied(alloc, &[])?;
+        return put(code, Instr::NewExcept(none));
+    }
+    for renewed in list {
+        emit_new(alloc, code, renewed)?;
+    }
+    Ok(())
+}
+
+fn emit_new(alloc: Global, code: &mut Vec<Instr>, renewed: &Renewed) -> Result<(), AllocError>
+    ensures { OnOk result (code.new.items ≡ code.old.items ++ renewed_code (renewed_of renewed.now)) }
+{
+    match renewed {
+        Renewed::Name(word) => {
+            let words = Words::one(alloc, word)?;
+            put(code, Instr::New(words))
+        }
+        Renewed::Except(words) => {
+            emit_names(code, words)?;
+            let words = Words::copied(alloc, words)?;
+            put(code, Instr::NewExcept(words))
+        }
     }
 }
 

@@ -17,6 +17,14 @@ pub fn put(code: &mut Vec<Instr>, instr: Instr) -> Result<(), AllocError>
     Ok(())
 }
 
+/// Another instruction in the place of this one.
+pub fn change(code: &mut Vec<Instr>, at: usize, instr: Instr)
+    requires { at < length code.old.items }
+    ensures { code.new.items ≡ slice_set code.old.items at instr }
+{
+    code[at] = instr;
+}
+
 /// The test at this place leads to the end of the code where it fails.
 pub fn aim(code: &mut Vec<Instr>, at: usize)
     requires { at < length code.old.items }
@@ -70,6 +78,7 @@ fn emit_operand(code: &mut Vec<Instr>, operand: &Operand) -> Result<(), AllocErr
             let reference = reference(variable)?;
             put(code, Instr::Load(reference))
         }
+        Operand::Special(special) => put(code, Instr::Special(*special)),
         Operand::Unary(op, inner) => {
             emit_operand(code, inner)?;
             put(code, Instr::Unary(*op))

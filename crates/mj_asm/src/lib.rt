@@ -6,6 +6,7 @@
 
 mod emit;
 mod expr;
+mod site;
 mod targets;
 
 pub use emit::assemble;

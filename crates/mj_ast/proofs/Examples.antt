@@ -1,18 +1,19 @@
 -- Rows of the definitions.
-use Rattle.std.proofs.Common.{◌≡◌, [], ◌∷◌, Some, None, inl, inr, lit≤, refl, codes}
+use Rattle.std.proofs.Common.{◌≡◌, [], ◌∷◌, Some, None, false, inl, inr, lit≤, refl, codes}
 use Rattle.std.specs.Fmt.{digits}
+use Rattle.std.specs.List.{IsDistinct}
 use Rattle.mj_oper.specs.declared.op.TruthOp.TheVariants.{Equal, SortsAfter, Or}
-use Rattle.mj_ast.specs.declared.sign.Sign.TheVariants.{Star, Equals, CloseBracket, CloseBrackets, Exclamation, Apostrophe, Negated, Open, Close, Comma}
+use Rattle.mj_ast.specs.declared.sign.Sign.TheVariants.{Star, Caret, Colon, Equals, CloseBracket, CloseBrackets, Exclamation, Apostrophe, Negated, Open, Close, Comma}
 use Rattle.mj_ast.specs.Tokens.{Word, Called, Special, Digits, Quoted, Signed, Blank, Comment, Unclosed, Stray, lexemes, tokens, column}
 use Rattle.mj_ast.specs.declared.keyword.Keyword.TheVariants as keyword
 use Rattle.mj_ast.specs.declared.function.Function.TheVariants.{QLength, QSubscript, Reverse, Translate}
 use Rattle.mj_ast.specs.declared.function.NameFunction.TheVariants as names
 use Rattle.mj_ast.specs.declared.function.Callee.TheVariants.{Texts, Names}
 use Rattle.mj_ast.specs.Expressions.{callee_of}
-use Rattle.mj_ast.specs.declared.expr.Scope.TheVariants.{Local}
-use Rattle.mj_ast.specs.Syntax.{Expr, Variable, Var, No, More, Chain, Done, Literal, Value, Plain, Pieces, One, Several, Gone, Spared, Shown, Set, Write, Halt, Kill, Step}
-use Rattle.mj_ast.specs.Commands.{keyword_of, Put, Named, PieceCall, Text, Place, command_parts, step_nesting}
-use Rattle.mj_ast.specs.Lines.{SpellsLine}
+use Rattle.mj_ast.specs.declared.expr.Scope.TheVariants.{Local, Global}
+use Rattle.mj_ast.specs.Syntax.{Expr, Variable, Var, No, More, Chain, Done, Literal, Value, Plain, Pieces, One, Several, Gone, Spared, Shown, Single, UpTo, Fresh, Kept, Set, Write, Halt, Kill, If, For, Do, Goto, New, Step}
+use Rattle.mj_ast.specs.Commands.{keyword_of, Put, Named, Label, PieceCall, Text, Place, Control, command_parts, is_formed, plain, is_conditional, SpellsStep, step_nesting}
+use Rattle.mj_ast.specs.Lines.{SpellsWritten, SpellsLine}
 use Rattle.mj_ast.specs.Routines.{lines_of}
 
 -- two blanks are two tokens, and a word is a longest one
@@ -140,28 +141,172 @@ writes_seven = record { condition = None; command = Write (Shown (Chain (Literal
 abbrev halts : Step
 halts = record { condition = None; command = Halt }
 
-spelled_line : SpellsLine (tokens (codes "A w 007  H ;c")) (record { label = Some (65 ∷ []); steps = writes_seven ∷ halts ∷ [] })
+spelled_line : SpellsWritten (tokens (codes "A w 007  H ;c")) (record { label = Some (65 ∷ []); formals = []; level = 1; steps = writes_seven ∷ halts ∷ [] })
 unfolding lexemes digits
 spelled_line = (
   Word (65 ∷ []) ∷ [],
   tokens (codes " w 007  H ;c"),
+  0,
   refl,
-  inl (refl, lit≤ tt),
+  record { front = Word (65 ∷ []) ∷ []; names = []; indent = []; cut = refl; label_is = inl (refl, lit≤ tt); formals_are = inl (refl, refl); dots_are = refl },
+  refl,
   (
     1,
     tokens (codes "w 007"),
     tokens (codes "  H ;c"),
     lit≤ tt,
     refl,
-    (119 ∷ [], [], tokens (codes " 007"), refl, refl, refl, (tokens (codes "007"), refl, (tokens (codes "007"), [], refl, (refl, refl), refl)), refl),
+    (119 ∷ [], [], tokens (codes " 007"), refl, refl, refl, (tokens (codes "007"), refl, (tokens (codes "007"), [], refl, (refl, refl), refl)), refl, tt),
     (
       2,
       tokens (codes "H"),
       tokens (codes " ;c"),
       lit≤ tt,
       refl,
-      (72 ∷ [], [], [], refl, refl, refl, refl, refl),
+      (72 ∷ [], [], [], refl, refl, refl, refl, refl, tt),
       inr (1, 99 ∷ [], lit≤ tt, refl),
     ),
   ),
+)
+
+-- `5^R:X`, `(A,B),C` and `A(,X)`
+goto_parts : command_parts (Goto (record { target = record { label = Some (codes "5"); routine = Some (codes "R") }; condition = Some ex } ∷ [])) ≡ Label (codes "5") ∷ Put Caret ∷ Named (codes "R") ∷ Put Colon ∷ Text 0 ex ∷ []
+goto_parts = refl
+
+new_parts : command_parts (New (Kept (codes "A" ∷ codes "B" ∷ []) ∷ Fresh (codes "C") ∷ [])) ≡ Put Open ∷ Named (codes "A") ∷ Put Comma ∷ Named (codes "B") ∷ Put Close ∷ Put Comma ∷ Named (codes "C") ∷ []
+new_parts = refl
+
+call_parts : command_parts (Do (record { target = record { label = Some (codes "A"); routine = None }; actuals = None ∷ Some ex ∷ []; condition = None } ∷ [])) ≡ Label (codes "A") ∷ Put Open ∷ Put Comma ∷ Text 1 ex ∷ Put Close ∷ []
+call_parts = refl
+
+-- `A()` is `A`
+empty_call : plain (Do (record { target = record { label = Some (codes "A"); routine = None }; actuals = None ∷ []; condition = None } ∷ [])) ≡ Do (record { target = record { label = Some (codes "A"); routine = None }; actuals = []; condition = None } ∷ [])
+empty_call = refl
+
+no_condition : is_conditional keyword.Else ≡ false
+no_condition = refl
+
+-- IF has a condition, and behind it stands another command
+spelled_control : SpellsLine (tokens (codes " I 1 G A")) (record { label = None; formals = []; level = 1; steps = record { condition = None; command = If (Chain (Literal (49 ∷ [])) Done ∷ []) } ∷ record { condition = None; command = Goto (record { target = record { label = Some (65 ∷ []); routine = None }; condition = None } ∷ []) } ∷ [] })
+unfolding lexemes digits
+spelled_control = (
+  record { label = None; formals = []; level = 1; steps = record { condition = None; command = If (Chain (Literal (49 ∷ [])) Done ∷ []) } ∷ record { condition = None; command = Goto (record { target = record { label = Some (65 ∷ []); routine = None }; condition = None } ∷ []) } ∷ [] },
+  (
+    [],
+    tokens (codes " I 1 G A"),
+    0,
+    refl,
+    record { front = []; names = []; indent = []; cut = refl; label_is = refl; formals_are = (refl, refl); dots_are = refl },
+    refl,
+    (
+      1,
+      tokens (codes "I 1"),
+      tokens (codes " G A"),
+      lit≤ tt,
+      refl,
+      (73 ∷ [], [], tokens (codes " 1"), refl, refl, refl, (tokens (codes "1"), refl, (tokens (codes "1"), [], refl, (refl, refl), refl)), refl, tt),
+      (
+        1,
+        tokens (codes "G A"),
+        [],
+        lit≤ tt,
+        refl,
+        (71 ∷ [], [], tokens (codes " A"), refl, refl, refl, (tokens (codes "A"), refl, (tokens (codes "A"), [], refl, inl (refl, lit≤ tt), refl)), refl, tt),
+        inl (0, refl),
+      ),
+    ),
+  ),
+  refl,
+)
+
+-- the word of FOR, and `X=X:X:X,X`
+for_word : keyword_of (codes "fOr") ≡ Some keyword.For
+for_word = refl
+
+for_letter : keyword_of (codes "F") ≡ Some keyword.For
+for_letter = refl
+
+for_parts : command_parts (For x (UpTo ex ex ex ∷ Single ex ∷ [])) ≡ Control x ∷ Put Equals ∷ Text 0 ex ∷ Put Colon ∷ Text 0 ex ∷ Put Colon ∷ Text 0 ex ∷ Put Comma ∷ Text 0 ex ∷ []
+for_parts = refl
+
+-- FOR goes through something, by a local
+no_range : is_formed (For x []) ≡ false
+no_range = refl
+
+no_global : is_formed (For (Var Global (codes "X") No) (Single ex ∷ [])) ≡ false
+no_global = refl
+
+abbrev one : Expr
+one = Chain (Literal (49 ∷ [])) Done
+
+spelled_for : SpellsStep (tokens (codes "F X(1)=1,1")) (record { condition = None; command = For (Var Local (codes "X") (More one No)) (Single one ∷ Single one ∷ []) })
+unfolding lexemes digits
+spelled_for = (
+  codes "F",
+  [],
+  tokens (codes " X(1)=1,1"),
+  refl,
+  refl,
+  refl,
+  (
+    tokens (codes "X(1)=1,1"),
+    refl,
+    (
+      tokens (codes "X(1)"),
+      tokens (codes "=1,1"),
+      refl,
+      (refl, refl),
+      (
+        tokens (codes "="),
+        tokens (codes "1,1"),
+        refl,
+        refl,
+        (tokens (codes "1"), tokens (codes ",1"), refl, (refl, refl), (tokens (codes ","), tokens (codes "1"), refl, refl, (tokens (codes "1"), [], refl, (refl, refl), refl))),
+      ),
+    ),
+  ),
+  refl,
+  tt,
+)
+
+-- formals stand directly behind the label, and blanks before the first dot; behind dots a command needs none
+spelled_block : SpellsWritten (tokens (codes "A(X,Y) . .H")) (record { label = Some (65 ∷ []); formals = (88 ∷ []) ∷ (89 ∷ []) ∷ []; level = 3; steps = halts ∷ [] })
+unfolding lexemes IsDistinct
+spelled_block = (
+  tokens (codes "A(X,Y) . ."),
+  tokens (codes "H"),
+  2,
+  refl,
+  record {
+    front = Word (65 ∷ []) ∷ [];
+    names = tokens (codes "(X,Y)");
+    indent = tokens (codes " . .");
+    cut = refl;
+    label_is = inl (refl, lit≤ tt);
+    formals_are = inr (refl, record { short = lit≤ tt; distinct = ((refl, tt), (tt, tt)) });
+    dots_are = (1, tokens (codes " ."), lit≤ tt, refl, (1, [], lit≤ tt, refl, refl));
+  },
+  refl,
+  (0, tokens (codes "H"), [], lit≤ tt, refl, (72 ∷ [], [], [], refl, refl, refl, refl, refl, tt), inl (0, refl)),
+)
+
+-- parentheses with nothing in them, and dots with a comment behind them
+spelled_dots : SpellsWritten (tokens (codes "1()  ..;c")) (record { label = Some (49 ∷ []); formals = []; level = 3; steps = [] })
+unfolding lexemes digits IsDistinct
+spelled_dots = (
+  tokens (codes "1()  .."),
+  tokens (codes ";c"),
+  2,
+  refl,
+  record {
+    front = Digits (49 ∷ []) ∷ [];
+    names = tokens (codes "()");
+    indent = tokens (codes "  ..");
+    cut = refl;
+    label_is = inr refl;
+    formals_are = inr (refl, record { short = lit≤ tt; distinct = tt });
+    dots_are = (2, tokens (codes "."), lit≤ tt, refl, (0, [], lit≤ tt, refl, refl));
+  },
+  refl,
+  inr (0, 99 ∷ [], lit≤ tt, refl),
 )

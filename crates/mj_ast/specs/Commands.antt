@@ -9,18 +9,32 @@
 --   HALT        no arguments
 --   KILL        nothing, or a variable or names in parentheses with commas between them, and more behind commas
 --   MERGE       variable "=" variable, and more behind commas
-use Rattle.std.specs.Prelude.{◌≡◌, ℕ, ◌+◌, ◌-◌, ◌≤◌, nat_le, Bool, true, false, ◌&&◌, if◌then◌else◌, List, [], ◌∷◌, ◌++◌, length, map, max, Option, Some, None, bytes_eq, codes}
+--   IF          nothing, or an expression, and more behind commas
+--   ELSE, QUIT  no arguments
+--   FOR         nothing, or a local "=" range, and more ranges behind commas
+--   DO          nothing, or an entry with actuals, if there are some, and [":" expression], and more behind commas
+--   GOTO        an entry and [":" expression], and more behind commas
+--   NEW         nothing, or a name or names in parentheses with commas between them, and more behind commas
+--   entry       = label | label "^" name | "^" name
+--   label       = name | digits
+--   actuals     = "(" [[expression] {"," [expression]}] ")"
+--   local       = a variable without "^"
+--   range       = expression [":" expression [":" expression]]
+--
+-- IF, ELSE and FOR have no ":" expression behind their word.
+use Rattle.std.specs.Prelude.{◌≡◌, ◌⊎◌, ℕ, ◌+◌, ◌-◌, ◌≤◌, nat_le, Bool, true, false, ◌&&◌, if◌then◌else◌, List, [], ◌∷◌, ◌++◌, length, map, max, Option, Some, None, bytes_eq, codes}
 use Rattle.mj_ast.specs.declared.sign.Sign.{Sign}
-use Rattle.mj_ast.specs.declared.sign.Sign.TheVariants.{Equals, Comma, Colon, Exclamation, Open, Close}
+use Rattle.mj_ast.specs.declared.sign.Sign.TheVariants.{Equals, Comma, Colon, Exclamation, Caret, Open, Close}
+use Rattle.mj_ast.specs.declared.expr.Scope.TheVariants.{Local, Global}
 use Rattle.mj_ast.specs.declared.function.Function.TheVariants.{Piece}
 use Rattle.mj_ast.specs.declared.function.Callee.TheVariants.{Texts}
 use Rattle.mj_ast.specs.declared.routine.Mark.{Mark}
 use Rattle.mj_ast.specs.declared.routine.Mark.TheVariants.{NewLine}
 use Rattle.mj_ast.specs.declared.keyword.Keyword.{Keyword}
 use Rattle.mj_ast.specs.declared.keyword.Keyword.TheVariants as keyword
-use Rattle.mj_ast.specs.Syntax.{Expr, Exprs, No, More, Variable, Destination, Plain, Pieces, Targets, One, Several, Assignment, Killed, Gone, Spared, Merged, Output, Shown, Format, Command, Set, Write, Halt, Kill, Merge, Step}
-use Rattle.mj_ast.specs.Tokens.{Token, Word, Called, Signed, Blank}
-use Rattle.mj_ast.specs.Expressions.{Spells, expressions, variables, callee_of, name_limit, count, expr_nesting, variable_nesting, expr_width, variable_width}
+use Rattle.mj_ast.specs.Syntax.{Expr, Exprs, No, More, Variable, Var, Destination, Plain, Pieces, Targets, One, Several, Assignment, Killed, Gone, Spared, Merged, Output, Shown, Format, Target, Called, Jumped, Range, Single, Endless, UpTo, Renewed, Fresh, Kept, Command, Set, Write, Halt, Kill, Merge, If, Else, For, Forever, Do, Goto, Quit, New, Step}
+use Rattle.mj_ast.specs.Tokens.{Token, Word, Called as CalledWord, Digits, Signed, Blank}
+use Rattle.mj_ast.specs.Expressions.{Spells, expressions, variables, callee_of, name_limit, text_limit, count, expr_nesting, variable_nesting, expr_width, variable_width}
 
 -- ---- the words of commands
 
@@ -35,7 +49,14 @@ command_words =
     ∷ (codes "WRITE", keyword.Write) ∷ (codes "W", keyword.Write)
     ∷ (codes "HALT", keyword.Halt) ∷ (codes "H", keyword.Halt)
     ∷ (codes "KILL", keyword.Kill) ∷ (codes "K", keyword.Kill)
-    ∷ (codes "MERGE", keyword.Merge) ∷ (codes "M", keyword.Merge) ∷ []
+    ∷ (codes "MERGE", keyword.Merge) ∷ (codes "M", keyword.Merge)
+    ∷ (codes "IF", keyword.If) ∷ (codes "I", keyword.If)
+    ∷ (codes "ELSE", keyword.Else) ∷ (codes "E", keyword.Else)
+    ∷ (codes "FOR", keyword.For) ∷ (codes "F", keyword.For)
+    ∷ (codes "DO", keyword.Do) ∷ (codes "D", keyword.Do)
+    ∷ (codes "GOTO", keyword.Goto) ∷ (codes "G", keyword.Goto)
+    ∷ (codes "QUIT", keyword.Quit) ∷ (codes "Q", keyword.Quit)
+    ∷ (codes "NEW", keyword.New) ∷ (codes "N", keyword.New) ∷ []
 
 -- what stands beside the word in the table
 abbrev pub looked_up : List ℕ → List (List ℕ × Keyword) → Option Keyword
@@ -53,17 +74,27 @@ keyword_for (Write arguments) = keyword.Write
 keyword_for Halt = keyword.Halt
 keyword_for (Kill arguments) = keyword.Kill
 keyword_for (Merge arguments) = keyword.Merge
+keyword_for (If conditions) = keyword.If
+keyword_for Else = keyword.Else
+keyword_for (For v ranges) = keyword.For
+keyword_for Forever = keyword.For
+keyword_for (Do arguments) = keyword.Do
+keyword_for (Goto arguments) = keyword.Goto
+keyword_for Quit = keyword.Quit
+keyword_for (New arguments) = keyword.New
 
 -- ---- what arguments are made of
 
--- A part of the arguments of a command: a sign, a name, `$PIECE` with a `(` behind it, an expression or a variable. These two
--- stand inside so many levels that the command itself opens.
+-- A part of the arguments of a command: a sign, a name, a label, `$PIECE` with a `(` behind it, an expression, a variable or the
+-- local of FOR. An expression and a variable stand inside so many levels that the command itself opens.
 pub data Part : Type 0 where
   Put : (s : Sign) → Part
   Named : (word : List ℕ) → Part
+  Label : (label : List ℕ) → Part
   PieceCall : Part
   Text : (level : ℕ) (e : Expr) → Part
   Place : (level : ℕ) (v : Variable) → Part
+  Control : (v : Variable) → Part
 
 -- the parts of some, with commas between them
 abbrev mutual
@@ -110,18 +141,80 @@ killed_parts (Spared words) = Put Open ∷ (with_commas name_parts words ++ Put 
 abbrev pub merged_parts : Merged → List Part
 merged_parts a = Place 0 a.into ∷ Put Equals ∷ Place 0 a.from ∷ []
 
+abbrev pub condition_parts : Expr → List Part
+condition_parts e = Text 0 e ∷ []
+
+-- the routine behind a label, if one is named
+abbrev pub routine_parts : Option (List ℕ) → List Part
+routine_parts None = []
+routine_parts (Some word) = Put Caret ∷ Named word ∷ []
+
+-- a label, a routine or both; without either it is a `^` alone, which is none
+abbrev pub entry_parts : Option (List ℕ) → Option (List ℕ) → List Part
+entry_parts None None = Put Caret ∷ []
+entry_parts (Some label) routine = Label label ∷ routine_parts routine
+entry_parts None (Some word) = routine_parts (Some word)
+
+abbrev pub target_parts : Target → List Part
+target_parts t = entry_parts t.label t.routine
+
+-- the postcondition of an argument
+abbrev pub guard_parts : Option Expr → List Part
+guard_parts None = []
+guard_parts (Some e) = Put Colon ∷ Text 0 e ∷ []
+
+-- an actual, which may be left out
+abbrev pub actual_parts : Option Expr → List Part
+actual_parts None = []
+actual_parts (Some e) = Text 1 e ∷ []
+
+abbrev pub actuals_parts : List (Option Expr) → List Part
+actuals_parts [] = []
+actuals_parts (a ∷ list) = Put Open ∷ (with_commas actual_parts (a ∷ list) ++ Put Close ∷ [])
+
+abbrev pub called_parts : Called → List Part
+called_parts c = target_parts c.target ++ (actuals_parts c.actuals ++ guard_parts c.condition)
+
+-- a jump is spelled as a call without actuals
+abbrev pub as_called : Jumped → Called
+as_called j = record { target = j.target; actuals = []; condition = j.condition }
+
+abbrev pub jumped_parts : Jumped → List Part
+jumped_parts j = called_parts (as_called j)
+
+abbrev pub range_parts : Range → List Part
+range_parts (Single a) = Text 0 a ∷ []
+range_parts (Endless a b) = Text 0 a ∷ Put Colon ∷ Text 0 b ∷ []
+range_parts (UpTo a b c) = Text 0 a ∷ Put Colon ∷ Text 0 b ∷ Put Colon ∷ Text 0 c ∷ []
+
+abbrev pub renewed_parts : Renewed → List Part
+renewed_parts (Fresh word) = Named word ∷ []
+renewed_parts (Kept words) = Put Open ∷ (with_commas name_parts words ++ Put Close ∷ [])
+
 abbrev pub command_parts : Command → List Part
 command_parts (Set list) = with_commas assignment_parts list
 command_parts (Write list) = with_commas output_parts list
 command_parts Halt = []
 command_parts (Kill list) = with_commas killed_parts list
 command_parts (Merge list) = with_commas merged_parts list
+command_parts (If list) = with_commas condition_parts list
+command_parts Else = []
+command_parts (For v list) = Control v ∷ Put Equals ∷ with_commas range_parts list
+command_parts Forever = []
+command_parts (Do list) = with_commas called_parts list
+command_parts (Goto list) = with_commas jumped_parts list
+command_parts Quit = []
+command_parts (New list) = with_commas renewed_parts list
 
 -- ---- which trees commands have
 
 abbrev pub has_items : {A : Type 0} → List A → Bool
 has_items [] = false
 has_items (x ∷ xs) = true
+
+abbrev pub is_bare : {A : Type 0} → List A → Bool
+is_bare [] = true
+is_bare (x ∷ xs) = false
 
 abbrev pub every : {A : Type 0} → (A → Bool) → List A → Bool
 every p [] = true
@@ -147,22 +240,80 @@ abbrev pub is_killed : Killed → Bool
 is_killed (Gone v) = true
 is_killed (Spared words) = has_items words
 
--- no list is empty where the grammar has none
+-- a label or a routine, or both
+abbrev pub is_entry : Option (List ℕ) → Option (List ℕ) → Bool
+is_entry None None = false
+is_entry label routine = true
+
+abbrev pub is_target : Target → Bool
+is_target t = is_entry t.label t.routine
+
+abbrev pub is_called : Called → Bool
+is_called c = is_target c.target
+
+abbrev pub is_jumped : Jumped → Bool
+is_jumped j = is_target j.target
+
+abbrev pub is_renewed : Renewed → Bool
+is_renewed (Fresh word) = true
+is_renewed (Kept words) = has_items words
+
+-- the variable has no `^`
+abbrev pub is_local : Variable → Bool
+is_local (Var Local word subscripts) = true
+is_local (Var Global word subscripts) = false
+
+-- no list is empty where the grammar has none, and the variable of FOR is a local
 abbrev pub is_formed : Command → Bool
 is_formed (Set list) = has_items list && every is_assignment list
 is_formed (Write list) = has_items list && every is_output list
 is_formed Halt = true
 is_formed (Kill list) = every is_killed list
 is_formed (Merge list) = has_items list
+is_formed (If list) = true
+is_formed Else = true
+is_formed (For v list) = is_local v && has_items list
+is_formed Forever = true
+is_formed (Do list) = every is_called list
+is_formed (Goto list) = has_items list && every is_jumped list
+is_formed Quit = true
+is_formed (New list) = every is_renewed list
+
+-- behind its word a `:` and a condition may stand
+abbrev pub is_conditional : Keyword → Bool
+is_conditional keyword.If = false
+is_conditional keyword.Else = false
+is_conditional keyword.For = false
+is_conditional _ = true
+
+-- ---- commands as they are written
+
+-- Parentheses with nothing in them are written as one actual that is left out, and are no actuals.
+abbrev pub plain_actuals : List (Option Expr) → List (Option Expr)
+plain_actuals (None ∷ []) = []
+plain_actuals list = list
+
+abbrev pub plain_called : Called → Called
+plain_called c = record { target = c.target; actuals = plain_actuals c.actuals; condition = c.condition }
+
+-- the command that is meant
+abbrev pub plain : Command → Command
+plain (Do list) = Do (map plain_called list)
+plain c = c
+
+abbrev pub plain_step : Step → Step
+plain_step s = record { condition = s.condition; command = plain s.command }
 
 -- ---- spelling
 
 abbrev pub SpellsPart : List Token → Part → Type 0
 SpellsPart ks (Put s) = ks ≡ Signed s ∷ []
 SpellsPart ks (Named word) = (ks ≡ Word word ∷ []) × (length word ≤ name_limit)
-SpellsPart ks PieceCall = (word : List ℕ) × (ks ≡ Called word ∷ []) × (length word ≤ name_limit) × (callee_of word ≡ Some (Texts Piece))
+SpellsPart ks (Label label) = ((ks ≡ Word label ∷ []) × (length label ≤ name_limit)) ⊎ ((ks ≡ Digits label ∷ []) × (length label ≤ text_limit))
+SpellsPart ks PieceCall = (word : List ℕ) × (ks ≡ CalledWord word ∷ []) × (length word ≤ name_limit) × (callee_of word ≡ Some (Texts Piece))
 SpellsPart ks (Text level e) = Spells expressions ks e
 SpellsPart ks (Place level v) = Spells variables ks v
+SpellsPart ks (Control v) = Spells variables ks v
 
 -- parts, one directly behind the other
 abbrev pub SpellsParts : List Token → List Part → Type 0
@@ -174,6 +325,11 @@ abbrev pub SpellsCondition : List Token → Option Expr → Type 0
 SpellsCondition ks None = ks ≡ []
 SpellsCondition ks (Some e) = (rest : List Token) × (ks ≡ Signed Colon ∷ rest) × Spells expressions rest e
 
+-- which commands may have one
+abbrev pub IsConditional : Keyword → Option Expr → Type 0
+IsConditional k None = Unit {0}
+IsConditional k (Some e) = is_conditional k ≡ true
+
 -- arguments, if there are any, with the blank before them
 abbrev pub SpellsArguments : List Token → List Part → Type 0
 SpellsArguments ks [] = ks ≡ []
@@ -184,7 +340,7 @@ abbrev pub SpellsStep : List Token → Step → Type 0
 SpellsStep ks s =
     (word : List ℕ) × (condition : List Token) × (arguments : List Token)
     × (ks ≡ Word word ∷ (condition ++ arguments)) × (keyword_of word ≡ Some (keyword_for s.command))
-    × SpellsCondition condition s.condition × SpellsArguments arguments (command_parts s.command) × (is_formed s.command ≡ true)
+    × SpellsCondition condition s.condition × SpellsArguments arguments (command_parts s.command) × (is_formed s.command ≡ true) × IsConditional (keyword_for s.command) s.condition
 
 -- how many blanks stand behind arguments before another command, at least
 abbrev pub gap_of : List Part → ℕ
@@ -206,11 +362,13 @@ greatest f (x ∷ xs) = max (f x) (greatest f xs)
 abbrev pub part_nesting : Part → ℕ
 part_nesting (Text level e) = expr_nesting e + level
 part_nesting (Place level v) = variable_nesting v + level
+part_nesting (Control v) = variable_nesting v
 part_nesting p = 0
 
 abbrev pub part_width : Part → ℕ
 part_width (Text level e) = expr_width e
 part_width (Place level v) = variable_width v
+part_width (Control v) = variable_width v
 part_width p = 0
 
 abbrev pub condition_measure : (Expr → ℕ) → Option Expr → ℕ

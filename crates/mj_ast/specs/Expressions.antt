@@ -1,7 +1,7 @@
 -- The grammar of expressions, as the spelling of trees (ISO/IEC 11756:1999, 7.1 and 7.2; this profile):
 --
 --   expression = operand {binary operand}
---   operand    = unary operand | digits | quoted text | variable | "(" expression ")"
+--   operand    = unary operand | digits | quoted text | variable | "(" expression ")" | "$" word
 --              | "$" word "(" expression {"," expression} ")"
 --              | "$" word "(" variable ["," expression] ")"
 --              | "$SELECT" "(" expression ":" expression {"," expression ":" expression} ")"
@@ -27,9 +27,11 @@ use Rattle.mj_ast.specs.declared.function.Function.{Function}
 use Rattle.mj_ast.specs.declared.function.Function.TheVariants.{Ascii, Char, Extract, Find, Justify, Length, Piece, QLength, QSubscript, Reverse, Translate}
 use Rattle.mj_ast.specs.declared.function.NameFunction.{NameFunction}
 use Rattle.mj_ast.specs.declared.function.NameFunction.TheVariants as names
+use Rattle.mj_ast.specs.declared.function.Special as special
+use Rattle.mj_ast.specs.declared.function.Special.TheVariants as specials
 use Rattle.mj_ast.specs.declared.function.Callee.{Callee}
 use Rattle.mj_ast.specs.declared.function.Callee.TheVariants as callee
-use Rattle.mj_ast.specs.Syntax.{Expr, Chain, Tails, Done, Then, Operand, Literal, Value, Unary, Group, Call, About, Select, Variable, Var, Exprs, No, More, Choices, Last, Before}
+use Rattle.mj_ast.specs.Syntax.{Expr, Chain, Tails, Done, Then, Operand, Literal, Value, Intrinsic, Unary, Group, Call, About, Select, Variable, Var, Exprs, No, More, Choices, Last, Before}
 use Rattle.mj_ast.specs.Tokens.{Token, Word, Called, Special, Digits, Quoted, Signed}
 
 -- ---- functions
@@ -59,6 +61,10 @@ callee_of w =
     else if is_named w (codes "SELECT") (codes "S") then Some callee.Select
     else if is_named w (codes "TRANSLATE") (codes "TR") then Some (callee.Texts Translate)
     else None
+
+-- the special variable that a `$` word names, if none may stand behind it
+abbrev pub special_of : List ℕ → Option special.Special
+special_of w = if is_named w (codes "TEST") (codes "T") then Some specials.Test else None
 
 -- the least number of arguments
 abbrev pub least : Function → ℕ
@@ -112,10 +118,11 @@ levels callee.Select = 1
 
 -- ---- what a token is to an expression
 
--- A symbol of the grammar: a constant with its value, a name, a function with a `(` behind it, a word that is too long for
--- one, a sign, or what stands in no expression.
+-- A symbol of the grammar: a constant with its value, a special variable, a name, a function with a `(` behind it, a word
+-- that is too long for one, a sign, or what stands in no expression.
 pub data Symbol : Type 0 where
   Constant : (value : List ℕ) → Symbol
+  Inherent : (v : special.Special) → Symbol
   Name : (word : List ℕ) → Symbol
   Applied : (callee : Callee) → Symbol
   Overlong : Symbol
@@ -148,11 +155,16 @@ abbrev pub function_symbol : Option Callee → Symbol
 function_symbol None = Other
 function_symbol (Some callee) = Applied callee
 
+-- one without is a special variable, if there is one of that name
+abbrev pub special_symbol : Option special.Special → Symbol
+special_symbol None = Other
+special_symbol (Some v) = Inherent v
+
 -- what a token is to an expression
 abbrev pub symbol : Token → Symbol
 symbol (Word w) = if nat_le (length w) name_limit then Name w else Overlong
 symbol (Called w) = if nat_le (length w) name_limit then function_symbol (callee_of w) else Overlong
-symbol (Special w) = if nat_le (length w) name_limit then Other else Overlong
+symbol (Special w) = if nat_le (length w) name_limit then special_symbol (special_of w) else Overlong
 symbol (Digits ds) = constant_of (reading ds)
 symbol (Quoted value) = if nat_le (length value) text_limit then Constant value else Other
 symbol (Signed s) = Mark s
@@ -208,11 +220,12 @@ abbrev mutual
   tails_symbols Done = []
   tails_symbols (Then op operand rest) = Mark (binary_sign op) ∷ (operand_symbols operand ++ tails_symbols rest)
 
-  -- a constant, a variable, an operator before an operand, an expression in parentheses, or a function with its arguments, of
+  -- a constant, a variable, a special variable, an operator before an operand, an expression in parentheses, or a function with its arguments, of
   -- which the first may be a variable
   pub operand_symbols : Operand → List Symbol
   operand_symbols (Literal value) = Constant value ∷ []
   operand_symbols (Value v) = variable_symbols v
+  operand_symbols (Intrinsic v) = Inherent v ∷ []
   operand_symbols (Unary op operand) = Mark (unary_sign op) ∷ operand_symbols operand
   operand_symbols (Group e) = Mark Open ∷ (expr_symbols e ++ Mark Close ∷ [])
   operand_symbols (Call f arguments) = Applied (callee.Texts f) ∷ list_symbols arguments
@@ -262,6 +275,7 @@ abbrev mutual
   pub operand_nesting : Operand → ℕ
   operand_nesting (Literal value) = 0
   operand_nesting (Value v) = variable_nesting v
+  operand_nesting (Intrinsic v) = 0
   operand_nesting (Unary op operand) = operand_nesting operand + 1
   operand_nesting (Group e) = expr_nesting e + 1
   operand_nesting (Call f arguments) = list_nesting arguments
@@ -295,6 +309,7 @@ abbrev mutual
   pub operand_width : Operand → ℕ
   operand_width (Literal value) = 0
   operand_width (Value v) = variable_width v
+  operand_width (Intrinsic v) = 0
   operand_width (Unary op operand) = operand_width operand
   operand_width (Group e) = expr_width e
   operand_width (Call f arguments) = exprs_width arguments
@@ -325,6 +340,7 @@ abbrev mutual
   pub operand_misfits : Operand → ℕ
   operand_misfits (Literal value) = 0
   operand_misfits (Value v) = variable_misfits v
+  operand_misfits (Intrinsic v) = 0
   operand_misfits (Unary op operand) = operand_misfits operand
   operand_misfits (Group e) = expr_misfits e
   operand_misfits (Call f arguments) = (least f - count arguments) + (count arguments - most f) + exprs_misfits arguments

@@ -4,4 +4,5 @@ pub mod Tokens
 pub mod Expressions
 pub mod Commands
 pub mod Lines
+pub mod LeftOut
 pub mod Routines

@@ -1,18 +1,22 @@
 -- The grammar of lines, as the spelling of trees, and where a line that has none is refused (ISO/IEC 11756:1999, 6.2;
 -- this profile):
 --
---   line  = {blank} | ";" any
---         | [label] ( end | blank+ [commands] [";" any] )
---   label = name | digits
+--   line    = {blank} | ";" any
+--           | [label [formals]] ( end | blank+ {"." {blank}} [commands] [";" any] )
+--   label   = name | digits
+--   formals = "(" [name {"," name}] ")"
+--
+-- No two formals of a line are the same name. A line's level is 1 and the number of its dots.
 --
 -- Behind a command with arguments come one blank or more and another command, a comment or the line's end. Behind one
 -- without come two blanks or more and another command, one blank or more and a comment, or the line's end.
-use Rattle.std.specs.Prelude.{◌≡◌, ◌⊎◌, ℕ, ◌+◌, ◌≤◌, ◌<◌, List, [], ◌∷◌, ◌++◌, length, take, replicate, Contains, Option, Some, None}
-use Rattle.mj_ast.specs.declared.sign.Sign.TheVariants.{Comma}
+use Rattle.std.specs.Prelude.{◌≡◌, ◌⊎◌, ℕ, zero, suc, ◌+◌, ◌≤◌, ◌<◌, List, [], ◌∷◌, ◌++◌, length, take, map, replicate, Contains, Option, Some, None, bytes_eq}
+use Rattle.std.specs.List.{IsDistinct}
+use Rattle.mj_ast.specs.declared.sign.Sign.TheVariants.{Comma, Open, Close, Dot}
 use Rattle.mj_ast.specs.Syntax.{Step, Line}
 use Rattle.mj_ast.specs.Tokens.{Token, Word, Called, Special, Digits, Signed, Blank, Comment, tokens, column}
 use Rattle.mj_ast.specs.Expressions.{name_limit, depth_limit, width_limit}
-use Rattle.mj_ast.specs.Commands.{SpellsStep, command_parts, gap_of, comment_gap_of, greatest, step_nesting, step_width}
+use Rattle.mj_ast.specs.Commands.{SpellsStep, plain_step, command_parts, gap_of, comment_gap_of, greatest, step_nesting, step_width}
 
 -- ---- spelling
 
@@ -40,11 +44,60 @@ abbrev pub comment_gap : Option (List ℕ) → ℕ
 comment_gap None = 0
 comment_gap (Some l) = 1
 
+-- names, each behind a comma
+abbrev pub comma_names : List (List ℕ) → List Token
+comma_names [] = []
+comma_names (w ∷ ws) = Signed Comma ∷ Word w ∷ comma_names ws
+
+-- names with commas between them
+abbrev pub name_tokens : List (List ℕ) → List Token
+name_tokens [] = []
+name_tokens (w ∷ ws) = Word w ∷ comma_names ws
+
+-- each is of a length that a name may have, and no two are the same
+pub record AreFormals (names : List (List ℕ)) : Type 0 where
+  pub short : greatest length names ≤ name_limit
+  pub distinct : IsDistinct bytes_eq names
+
+-- Formals in parentheses, or none. They stand behind a label alone, and parentheses with nothing in them are none too.
+abbrev pub SpellsFormals : Option (List ℕ) → List Token → List (List ℕ) → Type 0
+SpellsFormals None ks names = (ks ≡ []) × (names ≡ [])
+SpellsFormals (Some l) ks names = ((ks ≡ []) × (names ≡ [])) ⊎ ((ks ≡ Signed Open ∷ (name_tokens names ++ Signed Close ∷ [])) × AreFormals names)
+
+-- so many dots, the first behind g blanks or more, the others behind any number of them
+abbrev pub SpellsDots : ℕ → List Token → ℕ → Type 0
+SpellsDots g ks zero = ks ≡ []
+SpellsDots g ks (suc dots) = (n : ℕ) × (rest : List Token) × (g ≤ n) × (ks ≡ replicate n Blank ++ Signed Dot ∷ rest) × SpellsDots 0 rest dots
+
+-- how many blanks stand behind the dots before a command or a comment, at least; without dots there are g
+abbrev pub gap_behind : ℕ → ℕ → ℕ
+gap_behind zero g = g
+gap_behind (suc dots) g = 0
+
+-- what stands in front of the commands: a label, formals and dots
+pub record SpellsHead (ks : List Token) (label : Option (List ℕ)) (formals : List (List ℕ)) (dots : ℕ) : Type 0 where
+  pub front : List Token
+  pub names : List Token
+  pub indent : List Token
+  pub cut : ks ≡ front ++ (names ++ indent)
+  pub label_is : SpellsLabel front label
+  pub formals_are : SpellsFormals label names formals
+  pub dots_are : SpellsDots 1 indent dots
+
+-- the tokens spell the line, as it is written
+abbrev pub SpellsWritten : List Token → Line → Type 0
+SpellsWritten ks l =
+    (front : List Token) × (rest : List Token) × (dots : ℕ)
+    × (ks ≡ front ++ rest) × SpellsHead front l.label l.formals dots × (l.level ≡ suc dots)
+    × SpellsSteps (gap_behind dots 1) (gap_behind dots (comment_gap l.label)) rest l.steps
+
+-- the line that is meant
+abbrev pub plain_line : Line → Line
+plain_line l = record { label = l.label; formals = l.formals; level = l.level; steps = map plain_step l.steps }
+
 -- the tokens spell the line
 abbrev pub SpellsLine : List Token → Line → Type 0
-SpellsLine ks l =
-    (front : List Token) × (rest : List Token)
-    × (ks ≡ front ++ rest) × SpellsLabel front l.label × SpellsSteps 1 (comment_gap l.label) rest l.steps
+SpellsLine ks l = (written : Line) × SpellsWritten ks written × (plain_line written ≡ l)
 
 -- ---- limits, and what begins a line
 

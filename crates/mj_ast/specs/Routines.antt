@@ -3,7 +3,9 @@ use Rattle.std.specs.Prelude.{◌≡◌, ℕ, zero, suc, ◌≤◌, ◌==◌, Bo
 use Rattle.mj_ast.specs.Syntax.{Line, Routine}
 use Rattle.mj_ast.specs.Tokens.{IsWord, tokens}
 use Rattle.mj_ast.specs.Expressions.{name_limit}
-use Rattle.mj_ast.specs.Lines.{SpellsLine, IsLong, IsStuckAt, IsDeepAt, HasLabelOf, label_of}
+use Rattle.mj_ast.specs.Lines.{SpellsLine, IsLong, IsDeepAt, HasLabelOf, label_of}
+use Rattle.mj_ast.specs.LeftOut.{IsStuckOn}
+use Rattle.mj_ast.specs.declared.construct.Construct.{Construct}
 
 -- ---- lines of a file
 
@@ -57,16 +59,19 @@ pub record SpellsRoutine (name bytes : List ℕ) (r : Routine) : Type 0 where
 
 -- ---- refusals
 
--- Why a line is refused. A line that is too long comes first, then a label that stands twice, then the least column.
+-- Why a line is refused. A line that is too long comes first, then a label that stands twice, then the least column. Where the
+-- line can't go on it is refused by the name of what stands there, if that is left out by a name.
 pub data Refusal : Type 0 where
   Long : Refusal
   Twice : Refusal
   StuckAt : (column : ℕ) → Refusal
+  LeftOutAt : (column : ℕ) (construct : Construct) → Refusal
   DeepAt : (column : ℕ) → Refusal
 
 -- why the line, of which the earlier labels are given, is refused
 abbrev pub IsRefused : List (List ℕ) → List ℕ → Refusal → Type 0
 IsRefused labels line Long = IsLong line
 IsRefused labels line Twice = (IsLong line → ⊥) × HasLabelOf labels (tokens line)
-IsRefused labels line (StuckAt c) = (IsLong line → ⊥) × (HasLabelOf labels (tokens line) → ⊥) × IsStuckAt line c
+IsRefused labels line (StuckAt c) = (IsLong line → ⊥) × (HasLabelOf labels (tokens line) → ⊥) × IsStuckOn line c None
+IsRefused labels line (LeftOutAt c x) = (IsLong line → ⊥) × (HasLabelOf labels (tokens line) → ⊥) × IsStuckOn line c (Some x)
 IsRefused labels line (DeepAt c) = (IsLong line → ⊥) × (HasLabelOf labels (tokens line) → ⊥) × IsDeepAt line c

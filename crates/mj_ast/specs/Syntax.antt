@@ -3,6 +3,7 @@ use Rattle.std.specs.Prelude.{ℕ, List, Option}
 use Rattle.mj_ast.specs.declared.expr.Scope.{Scope}
 use Rattle.mj_ast.specs.declared.function.Function.{Function}
 use Rattle.mj_ast.specs.declared.function.NameFunction.{NameFunction}
+use Rattle.mj_ast.specs.declared.function.Special.{Special}
 use Rattle.mj_oper.specs.declared.op.Op.{Op}
 use Rattle.mj_oper.specs.declared.op.UnaryOp.{UnaryOp}
 use Rattle.mj_ast.specs.declared.routine.Mark.{Mark}
@@ -18,11 +19,12 @@ mutual
     Then : (op : Op) (operand : Operand) (rest : Tails) → Tails
 
   -- what stands between binary operators: a quoted text, or the canonic text of the number that digits read; the
-  -- value of a variable; an operator and its operand; an expression in parentheses; a function and its arguments;
+  -- value of a variable, or of a special variable; an operator and its operand; an expression in parentheses; a function and its arguments;
   -- a function of a variable, and what stands behind that; `$SELECT` and its choices
   pub data Operand : Type 0 where
     Literal : (value : List ℕ) → Operand
     Value : (v : Variable) → Operand
+    Intrinsic : (v : Special) → Operand
     Unary : (op : UnaryOp) (operand : Operand) → Operand
     Group : (e : Expr) → Operand
     Call : (f : Function) (arguments : Exprs) → Operand
@@ -74,6 +76,33 @@ pub data Output : Type 0 where
   Shown : (e : Expr) → Output
   Format : (marks : List Mark) → Output
 
+-- where control may go: a label, in this routine where none is named, or the first line of a routine
+pub record Target : Type 0 where
+  pub label : Option (List ℕ)
+  pub routine : Option (List ℕ)
+
+-- an argument of DO: where to, the actuals, of which some may be left out, and its postcondition
+pub record Called : Type 0 where
+  pub target : Target
+  pub actuals : List (Option Expr)
+  pub condition : Option Expr
+
+-- an argument of GOTO: where to, and its postcondition
+pub record Jumped : Type 0 where
+  pub target : Target
+  pub condition : Option Expr
+
+-- what a FOR goes through: one value, or numbers by steps, without an end or up to one
+pub data Range : Type 0 where
+  Single : (v : Expr) → Range
+  Endless : (from step : Expr) → Range
+  UpTo : (from step end : Expr) → Range
+
+-- an argument of NEW: the locals of a name, or all but those of some
+pub data Renewed : Type 0 where
+  Fresh : (word : List ℕ) → Renewed
+  Kept : (words : List (List ℕ)) → Renewed
+
 -- what a command does, with its arguments
 pub data Command : Type 0 where
   Set : (arguments : List Assignment) → Command
@@ -81,15 +110,25 @@ pub data Command : Type 0 where
   Halt : Command
   Kill : (arguments : List Killed) → Command
   Merge : (arguments : List Merged) → Command
+  If : (conditions : List Expr) → Command
+  Else : Command
+  For : (v : Variable) (ranges : List Range) → Command
+  Forever : Command
+  Do : (arguments : List Called) → Command
+  Goto : (arguments : List Jumped) → Command
+  Quit : Command
+  New : (arguments : List Renewed) → Command
 
 -- a command with its postcondition, if it has one
 pub record Step : Type 0 where
   pub condition : Option Expr
   pub command : Command
 
--- a line: its label, a name or digits as they were spelled, and its commands
+-- a line: its label, a name or digits as they were spelled, its formals, its level, and its commands
 pub record Line : Type 0 where
   pub label : Option (List ℕ)
+  pub formals : List (List ℕ)
+  pub level : ℕ
   pub steps : List Step
 
 -- a routine: its name and its lines, of which the first is line 1

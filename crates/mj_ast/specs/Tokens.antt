@@ -5,7 +5,7 @@ use Rattle.std.specs.Prelude.{◌≡◌, ◌⊎◌, ℕ, zero, suc, ◌+◌, ◌
 use Rattle.mj_ast.specs.declared.sign.Sign.{Sign}
 use Rattle.mj_oper.specs.declared.op.TruthOp.{TruthOp}
 use Rattle.mj_oper.specs.declared.op.TruthOp.TheVariants as truth
-use Rattle.mj_ast.specs.declared.sign.Sign.TheVariants.{Plus, Minus, Star, Backslash, Hash, Slash, Underscore, Equals, Less, Greater, OpenBracket, CloseBracket, CloseBrackets, Ampersand, Exclamation, Apostrophe, Negated, Caret, Open, Close, Comma, Colon}
+use Rattle.mj_ast.specs.declared.sign.Sign.TheVariants.{Plus, Minus, Star, Backslash, Hash, Slash, Underscore, Equals, Less, Greater, OpenBracket, CloseBracket, CloseBrackets, Ampersand, Exclamation, Apostrophe, Negated, Caret, Open, Close, Comma, Colon, Dot}
 
 -- a letter
 abbrev pub is_letter : ℕ → Bool
@@ -95,6 +95,7 @@ sign_bytes Open = 40 ∷ []
 sign_bytes Close = 41 ∷ []
 sign_bytes Comma = 44 ∷ []
 sign_bytes Colon = 58 ∷ []
+sign_bytes Dot = 46 ∷ []
 
 -- the bytes of a text between quotes: each quote in it is doubled
 abbrev pub doubled : List ℕ → List ℕ
@@ -135,6 +136,7 @@ sign_class b =
     else if b == 41 then ASign Close
     else if b == 44 then ASign Comma
     else if b == 58 then ASign Colon
+    else if b == 46 then ASign Dot
     else Nothing
 
 -- what a byte begins

@@ -15,17 +15,25 @@ use Rattle.mj_ast.specs.declared.routine.Killed.TheVariants as killed
 use Rattle.mj_ast.specs.declared.routine.Merged as merged
 use Rattle.mj_ast.specs.declared.routine.Output as kept_output
 use Rattle.mj_ast.specs.declared.routine.Output.TheVariants as output
+use Rattle.mj_ast.specs.declared.routine.Target as target
+use Rattle.mj_ast.specs.declared.routine.Called as called
+use Rattle.mj_ast.specs.declared.routine.Jumped as jumped
+use Rattle.mj_ast.specs.declared.routine.Range as kept_range
+use Rattle.mj_ast.specs.declared.routine.Range.TheVariants as range
+use Rattle.mj_ast.specs.declared.routine.Renewed as kept_renewed
+use Rattle.mj_ast.specs.declared.routine.Renewed.TheVariants as renewed
 use Rattle.mj_ast.specs.declared.routine.Command as kept_command
 use Rattle.mj_ast.specs.declared.routine.Command.TheVariants as command
 use Rattle.mj_ast.specs.declared.routine.Step as step
 use Rattle.mj_ast.specs.declared.routine.Line as line
 use Rattle.mj_ast.specs.declared.routine.Routine as routine
-use Rattle.mj_ast.specs.Syntax.{Expr, Chain, Tails, Done, Then, Operand, Literal, Value, Unary, Group, Call, Select, Variable, Var, Exprs, No, More, Choices, Last, Before, Destination, Plain, Pieces, Targets, One, Several, Assignment, Killed, Gone, Spared, Merged, Output, Shown, Format, Command, Set, Write, Halt, Kill, Merge, Step, Line, Routine, About}
+use Rattle.mj_ast.specs.Syntax.{Expr, Chain, Tails, Done, Then, Operand, Literal, Value, Unary, Group, Call, Select, Variable, Var, Exprs, No, More, Choices, Last, Before, Destination, Plain, Pieces, Targets, One, Several, Assignment, Killed, Gone, Spared, Merged, Output, Shown, Format, Target, Called, Jumped, Range, Single, Endless, UpTo, Renewed, Fresh, Kept, Command, Set, Write, Halt, Kill, Merge, If, Else, For, Forever, Do, Goto, Quit, New, Step, Line, Routine, About, Intrinsic}
 
 abbrev mutual
   pub operand_of : operand.Operand → Operand
   operand_of (operand.Literal t) = Literal t
   operand_of (operand.Variable v) = Value (variable_of v)
+  operand_of (operand.Special v) = Intrinsic v
   operand_of (operand.Unary' op p x) = Unary op (operand_of x)
   operand_of (operand.Group' p e) = Group (expr_of e)
   operand_of (operand.Call' f shape row) = Call f (expr_row row)
@@ -82,18 +90,44 @@ abbrev pub output_of : kept_output.Output → Output
 output_of (output.Value e) = Shown (expr_of e)
 output_of (output.Format marks) = Format marks.items
 
+abbrev pub target_of : target.Target → Target
+target_of t = record { label = t.label; routine = t.routine }
+
+abbrev pub called_of : called.Called → Called
+called_of c = record { target = target_of c.target; actuals = map (option_map expr_of) c.actuals.items; condition = option_map expr_of c.condition }
+
+abbrev pub jumped_of : jumped.Jumped → Jumped
+jumped_of j = record { target = target_of j.target; condition = option_map expr_of j.condition }
+
+abbrev pub range_of : kept_range.Range → Range
+range_of (range.One a) = Single (expr_of a)
+range_of (range.Endless a b) = Endless (expr_of a) (expr_of b)
+range_of (range.UpTo a b c) = UpTo (expr_of a) (expr_of b) (expr_of c)
+
+abbrev pub renewed_of : kept_renewed.Renewed → Renewed
+renewed_of (renewed.Name word) = Fresh word
+renewed_of (renewed.Except words) = Kept words.items
+
 abbrev pub command_of : kept_command.Command → Command
 command_of (command.Set v) = Set (map assignment_of v.items)
 command_of (command.Write v) = Write (map output_of v.items)
 command_of command.Halt = Halt
 command_of (command.Kill v) = Kill (map killed_of v.items)
 command_of (command.Merge v) = Merge (map merged_of v.items)
+command_of (command.If v) = If (map expr_of v.items)
+command_of command.Else = Else
+command_of (command.For x v) = For (variable_of x) (map range_of v.items)
+command_of command.Forever = Forever
+command_of (command.Do v) = Do (map called_of v.items)
+command_of (command.Goto v) = Goto (map jumped_of v.items)
+command_of command.Quit = Quit
+command_of (command.New v) = New (map renewed_of v.items)
 
 abbrev pub step_of : step.Step → Step
 step_of s = record { condition = option_map expr_of s.condition; command = command_of s.command }
 
 abbrev pub line_of : line.Line → Line
-line_of l = record { label = l.label; steps = map step_of l.steps.items }
+line_of l = record { label = l.label; formals = l.formals.items; level = l.level; steps = map step_of l.steps.items }
 
 abbrev pub routine_of : routine.Routine → Routine
 routine_of r = record { name = r.name; lines = map line_of r.lines.items }

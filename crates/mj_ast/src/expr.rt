@@ -1,6 +1,6 @@
 // Expressions.
 
-use crate::function::{Function, NameFunction};
+use crate::function::{Function, NameFunction, Special};
 use mj_oper::{Op, UnaryOp};
 use mj_text::Text;
 
@@ -35,6 +35,8 @@ pub enum Operand {
     Literal(Text),
     /// the value of a variable
     Variable(Variable),
+    /// the value of a special variable
+    Special(Special),
     /// an operator and its operand
     Unary(UnaryOp, Box<Operand>),
     /// an expression in parentheses

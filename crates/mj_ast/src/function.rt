@@ -42,6 +42,13 @@ pub enum NameFunction {
     Query,
 }
 
+/// A special variable.
+#[derive(Clone, Copy, PartialEq, Eq, Debug)]
+pub enum Special {
+    /// `$TEST`: whether the last condition of an IF was true
+    Test,
+}
+
 /// What a `$` word with arguments behind it names.
 #[derive(Clone, Copy, PartialEq, Eq, Debug)]
 pub enum Callee {

@@ -8,4 +8,11 @@ pub enum Keyword {
     Halt,
     Kill,
     Merge,
+    If,
+    Else,
+    For,
+    Do,
+    Goto,
+    Quit,
+    New,
 }

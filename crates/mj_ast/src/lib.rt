@@ -4,16 +4,19 @@
 // routines is defined on, and `specs/Trees.antt` leads from the one to the other.
 #![tactic(auto)]
 
+mod construct;
 mod expr;
 mod function;
 mod keyword;
 mod routine;
 mod sign;
 
+pub use construct::Construct;
 pub use expr::{Choice, Expr, Operand, Scope, Tail, Variable};
-pub use function::{Callee, Function, NameFunction};
+pub use function::{Callee, Function, NameFunction, Special};
 pub use keyword::Keyword;
 pub use routine::{
-    Assignment, Command, Destination, Killed, Line, Mark, Merged, Output, Routine, Step, Targets,
+    Assignment, Called, Command, Destination, Jumped, Killed, Line, Mark, Merged, Output, Range,
+    Renewed, Routine, Step, Target, Targets,
 };
 pub use sign::Sign;

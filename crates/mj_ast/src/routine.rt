@@ -59,6 +59,49 @@ pub enum Output {
     Format(Vec<Mark>),
 }
 
+/// Where control may go: a line by its label, in this routine where none is named, or a routine's first line. At least one of
+/// the two is there.
+#[derive(Drop)]
+pub struct Target {
+    pub label: Option<Text>,
+    pub routine: Option<Text>,
+}
+
+/// An argument of DO: where to, the actuals, of which some may be left out, and its postcondition, if it has one.
+#[derive(Drop)]
+pub struct Called {
+    pub target: Target,
+    pub actuals: Vec<Option<Expr>>,
+    pub condition: Option<Expr>,
+}
+
+/// An argument of GOTO: where to, and its postcondition, if it has one.
+#[derive(Drop)]
+pub struct Jumped {
+    pub target: Target,
+    pub condition: Option<Expr>,
+}
+
+/// What a FOR goes through.
+#[derive(Drop)]
+pub enum Range {
+    /// one value
+    One(Expr),
+    /// numbers from the first on, by steps
+    Endless(Expr, Expr),
+    /// numbers from the first on, by steps, up to the last
+    UpTo(Expr, Expr, Expr),
+}
+
+/// An argument of NEW.
+#[derive(Drop)]
+pub enum Renewed {
+    /// the locals of this name
+    Name(Text),
+    /// all locals but those of these names, of which there is one at least
+    Except(Vec<Text>),
+}
+
 /// What a command does, with its arguments, of which there is one at least where nothing else is said.
 #[derive(Drop)]
 pub enum Command {
@@ -68,19 +111,35 @@ pub enum Command {
     /// without arguments it is all locals
     Kill(Vec<Killed>),
     Merge(Vec<Merged>),
+    /// without arguments it is by `$TEST`
+    If(Vec<Expr>),
+    Else,
+    /// a local, and what it goes through
+    For(Variable, Vec<Range>),
+    /// FOR without arguments
+    Forever,
+    /// without arguments it is the block behind its line
+    Do(Vec<Called>),
+    Goto(Vec<Jumped>),
+    Quit,
+    /// without arguments it is all locals
+    New(Vec<Renewed>),
 }
 
-/// A command with its postcondition, if it has one.
+/// A command with its postcondition, if it has one. IF, ELSE and FOR have none.
 #[derive(Drop)]
 pub struct Step {
     pub condition: Option<Expr>,
     pub command: Command,
 }
 
-/// A line: its label, a name or digits as they were spelled, and its commands.
+/// A line: its label, a name or digits as they were spelled, the names of its formals, its level, which is 1 more than its
+/// dots, and its commands.
 #[derive(Drop)]
 pub struct Line {
     pub label: Option<Text>,
+    pub formals: Vec<Text>,
+    pub level: usize,
     pub steps: Vec<Step>,
 }
 

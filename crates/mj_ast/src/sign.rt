@@ -49,4 +49,6 @@ pub enum Sign {
     Comma,
     /// `:`
     Colon,
+    /// `.`
+    Dot,
 }

@@ -2,26 +2,17 @@
 use Rattle.std.proofs.Common.{◌≡◌, ◌==◌, ℕ, zero, suc, ◌+◌, ◌-◌, ◌≤◌, ◌<◌, List, [], ◌∷◌, ◌++◌, length, refl, ap, sym, ◌∙◌, subst, Bool, true, false, append_assoc, append-nil, arith, Option, Some, None, map, Result, Ok, Err, nat_le, ◌⊎◌, inl, inr, length-append}
 use Rattle.std.specs.Prelude.{cond, replicate}
 use Rattle.std.specs.Result.{IfOk, IsErrAnd}
-use Rattle.std.specs.Option.{is_some}
 use Rattle.std.proofs.lemmas.List.{map-append, length-map}
 use Rattle.std.proofs.lemmas.Bool.Decides.{nat_tests}
 use Rattle.mj_ast.specs.declared.sign.Sign.{Sign}
-use Rattle.mj_ast.specs.declared.sign.Sign.TheVariants.{Equals, Comma, Colon, Exclamation, Open, Close}
-use Rattle.mj_ast.specs.declared.routine.Mark.{Mark}
-use Rattle.mj_ast.specs.declared.routine.Mark.TheVariants.{NewLine}
-use Rattle.mj_ast.specs.declared.function.Function.TheVariants.{Piece}
-use Rattle.mj_ast.specs.declared.function.Callee.{Callee}
-use Rattle.mj_ast.specs.declared.function.Callee.TheVariants as callee
+use Rattle.mj_ast.specs.declared.sign.Sign.TheVariants.{Comma, Colon}
 use Rattle.mj_ast.specs.declared.keyword.Keyword.{Keyword}
-use Rattle.mj_ast.specs.declared.keyword.Keyword.TheVariants as keyword
-use Rattle.mj_ast.specs.Syntax.{Expr, Exprs, No, More, Variable, Destination, Step, Line}
-use Rattle.mj_ast.specs.Trees.{expr_of, exprs_of, step_of}
-use Rattle.mj_ast.specs.declared.expr.Expr as kept
+use Rattle.mj_ast.specs.Syntax.{Expr, Variable, Step, Command, Do}
+use Rattle.mj_ast.specs.Trees.{step_of}
 use Rattle.mj_ast.specs.declared.routine.Step as kept_step
 use Rattle.mj_ast.specs.Tokens.{Token, Word, Called, Special, Digits, Quoted, Signed, Blank, Comment, Unclosed, Stray}
-use Rattle.mj_ast.specs.Expressions.{symbol, Symbol, Phrases, callee_of}
-use Rattle.mj_ast.specs.Commands.{Part, Put, Named, PieceCall, Text, Place, keyword_of, mark_part, with_commas, behind_commas, more_parts, destination_parts, name_parts}
-use Rattle.mj_ast.specs.Lines.{comment_gap}
+use Rattle.mj_ast.specs.Expressions.{symbol, Phrases, callee_of}
+use Rattle.mj_ast.specs.Commands.{Part, Put, Named, PieceCall, Text, Place, keyword_of, with_commas, behind_commas, is_conditional, command_parts, keyword_for, plain, plain_step}
 use Rattle.mj_expr.specs.Machine.{Limits}
 use Rattle.mj_expr.specs.Machine as phrase
 use Rattle.mj_expr.specs.Reads.{limits, symbols_seen}
@@ -33,26 +24,20 @@ use Rattle.mj_expr.specs.Shapes.{IsEndOf}
 use Rattle.mj_expr.specs.Shapes as shapes
 use Rattle.mj_lex.specs.declared.token.Lexeme.{Lexeme}
 use Rattle.mj_lex.specs.Seen.{tokens_seen}
-use Rattle.mj_line.specs.Forms.{Node, SetTarget, PieceOpens, PieceVariable, PieceComma, PieceText, PieceBehind, SetBehind, SetValue, SetEnd, OutputWanted, OutputEnd, MarksEnd, KillWanted, NameWanted, NameBehind, KillEnd, MergeInto, MergeBehind, MergeFrom, MergeEnd, Want, AnExpr, AVar, next_of, part_of, piece_part, takes, wants, ends, first_node, may_be_bare}
+use Rattle.mj_line.specs.Forms.{Node, OutputWanted, Want, AnExpr, AVar, ALocal, part_of, part_at, labels, takes, wants, ends, first_node, may_be_bare}
 use Rattle.mj_line.specs.Sentences.{Clause, Sentence, clause_of}
-use Rattle.mj_line.specs.Machine.{bare_rest, ended_at, opened, Condition, Rest, Begin, Behind, Over, Worded, Asked, Bare, Args, Goal, Argument, State, At, In, IsClosed, bare_line, with_clause, clause, args_rest, bare_rested, expression_wanted, variable_wanted, wanted, level, inside, behind, argument, entry, rested, Outcome, Accept, StuckAt, refused, run, turn, begins, first, Go, Stuck, taken, moved, own, on_rested, entering, in_step}
+use Rattle.mj_line.specs.Machine.{bare_rest, ended_at, opened, Condition, Rest, Behind, Over, Worded, Asked, Bare, Args, Goal, Argument, State, At, In, IsClosed, with_clause, clause, args_rest, bare_rested, expression_wanted, variable_wanted, wanted, level, inside, behind, argument, entry, rested, Outcome, Accept, StuckAt, refused, run, turn, begins, first, Next, Go, Stuck, taken, moved, on_rested, entering, in_step}
 use Rattle.mj_line.proofs.Tables.{part_taken, word_apart, called_apart}
 use Rattle.mj_line.proofs.Facts.{lift_accept, lift_stuck, lift_deep, lift_long}
 use Rattle.mj_line.proofs.Complete.{blanks_go, Parted, run_rests, args_rests, complete_bare, NoColon, worded_bare}
-use Rattle.mj_cmd.specs.Heads.{HasNoComma, HasNoEquals, HasNoMark, HasNoOpen, HasNoClose, HasNoPiece, HasNoName, HasNoBlank, HasNoColon, HasNoWord, HasParted, HasOther, label_gap}
-use Rattle.mj_cmd.specs.Parts.{piece_node, opened_parts, NotListed}
-use Rattle.mj_cmd.specs.Reads.{HasRoom, Refuses, Reads, Passes, Lists, Ends, EndsOutput}
+use Rattle.mj_cmd.proofs.Locals.{MayEnter, may_enter}
+use Rattle.mj_cmd.specs.Heads.{HasNoComma, HasNoBlank, HasNoColon, HasNoWord, HasParted, HasOther}
+use Rattle.mj_cmd.specs.Reads.{HasRoom, Refuses, IsWritten, IsWrittenStep, AreWritten, ReadsAs, EndsAs, Reads, Lists, Ends}
 
 -- another token
 abbrev pub IsNoComment : Token → Type 0
 IsNoComment (Comment text) = ⊥
 IsNoComment k = Unit {0}
-
--- no label stands in front
-abbrev pub IsUnlabelled : List Token → Type 0
-IsUnlabelled (Word w ∷ ks) = ⊥
-IsUnlabelled (Digits d ∷ ks) = ⊥
-IsUnlabelled ks = Unit {0}
 
 -- ---- passing on
 
@@ -64,6 +49,16 @@ pub reads_err : {X T : Type 0} (limited : Bool) (tree : X → T) (rest : X → L
     IsErrAnd r (λ x. x ≡ e) → Refuses limited e (run m (tokens_seen ls) s) → Reads limited tree rest r m ls s holding
 reads_err limited tree rest (Ok y) e m ls s holding h r = absurd h
 reads_err limited tree rest (Err y) e m ls s holding h r = let P : Stop → Type 0 = λ x. Refuses limited x (run m (tokens_seen ls) s) in subst P (sym h) r
+
+pub reads_as_err : {X T : Type 0} (limited : Bool) (is : T → X → Type 0) (rest : X → List Lexeme) (r : Result X Stop) (e : Stop) (m : Limits) (ls : List Lexeme) (s : State) (holding : T → State) →
+    IsErrAnd r (λ y. y ≡ e) → Refuses limited e (run m (tokens_seen ls) s) → ReadsAs limited is rest r m ls s holding
+reads_as_err limited is rest (Ok x) e m ls s holding h f = absurd h
+reads_as_err limited is rest (Err y) e m ls s holding h f = let P : Stop → Type 0 = λ v. Refuses limited v (run m (tokens_seen ls) s) in subst P (sym h) f
+
+pub ends_as_err : {X T : Type 0} (limited : Bool) (is : T → X → Type 0) (r : Result X Stop) (e : Stop) (m : Limits) (ls : List Lexeme) (s : State) (made : T → Sentence) →
+    IsErrAnd r (λ y. y ≡ e) → Refuses limited e (run m (tokens_seen ls) s) → EndsAs limited is r m ls s made
+ends_as_err limited is (Ok x) e m ls s made h f = absurd h
+ends_as_err limited is (Err y) e m ls s made h f = let P : Stop → Type 0 = λ v. Refuses limited v (run m (tokens_seen ls) s) in subst P (sym h) f
 
 pub ends_err : {X T : Type 0} (limited : Bool) (tree : X → T) (r : Result X Stop) (e : Stop) (m : Limits) (ls : List Lexeme) (s : State) (made : T → Sentence) →
     IsErrAnd r (λ x. x ≡ e) → Refuses limited e (run m (tokens_seen ls) s) → Ends limited tree r m ls s made
@@ -164,7 +159,7 @@ lists_err limited parts rest (Err y) x m ls e h = λ o condition k done. let P :
 -- no part of one token is taken there
 abbrev pub Untaken : Node → List Token → Type 0
 Untaken n [] = Unit {0}
-Untaken n (t ∷ ks) = part_taken n (part_of t) ≡ None
+Untaken n (t ∷ ks) = part_taken n (part_at (labels n) t) ≡ None
 
 -- the arguments don't end there
 abbrev pub Unended : Node → List Token → Type 0
@@ -201,13 +196,13 @@ here_stuck m o condition k done n [] w u e = ap (λ (q : Option Rest). ended_of 
     ended_of None = StuckAt 0
 here_stuck m o condition k done n (t ∷ ks) w u e =
     let r = args_rest o condition k done in
-    ap (λ (x : _). turn m ks t (first (first x (on_rested (bare_rested (ends n) r) t)) (entering m (argument o condition k done (wants n)) t))) (unmoved o condition k done n (part_of t) u)
+    ap (λ (x : _). turn m ks t (first (first x (on_rested (bare_rested (ends n) r) t)) (entering m (argument o condition k done (wants n)) t))) (unmoved o condition k done n (part_at (labels n) t) u)
     ∙ ap (λ (x : _). turn m ks t (first x (entering m (argument o condition k done (wants n)) t))) (unrested r (ends n) t ks refl e)
     ∙ ap (λ (q : Option Want). turn m ks t (entering m (argument o condition k done q) t)) w
 
 -- where a phrase begins
-pub enter_here : (m : Limits) (o : Sentence) (condition : Option Expr) (k : Keyword) (done : List Part) (n : Node) (x : Want) (ks : List Token) → wants n ≡ Some x → Untaken n ks → Unended n ks → run m ks (At (Args o condition k done n)) ≡ run m ks (In (Argument o condition k done x) (wanted x))
-enter_here m o condition k done n x [] w u e = ap (λ (q : Option Rest). ended_of q) (ended_none (args_rest o condition k done) (ends n) e) ∙ sym (none_read x)
+pub enter_here : (m : Limits) (o : Sentence) (condition : Option Expr) (k : Keyword) (done : List Part) (n : Node) (x : Want) (ks : List Token) → MayEnter x ks → wants n ≡ Some x → Untaken n ks → Unended n ks → run m ks (At (Args o condition k done n)) ≡ run m ks (In (Argument o condition k done x) (wanted x))
+enter_here m o condition k done n x [] y w u e = ap (λ (q : Option Rest). ended_of q) (ended_none (args_rest o condition k done) (ends n) e) ∙ sym (none_read x)
   where
     ended_of : Option Rest → Outcome
     ended_of (Some r) = Accept r.line
@@ -216,20 +211,27 @@ enter_here m o condition k done n x [] w u e = ap (λ (q : Option Rest). ended_o
     none_read : (x : Want) → run m [] (In (Argument o condition k done x) (wanted x)) ≡ StuckAt 0
     none_read (AnExpr lv next) = refl
     none_read (AVar lv next) = refl
-enter_here m o condition k done n x (t ∷ ks) w u e =
+    none_read (ALocal next) = refl
+enter_here m o condition k done n x (t ∷ ks) i w u e =
     let r = args_rest o condition k done in
-    ap (λ (y : _). turn m ks t (first (first y (on_rested (bare_rested (ends n) r) t)) (entering m (argument o condition k done (wants n)) t))) (unmoved o condition k done n (part_of t) u)
+    ap (λ (y : _). turn m ks t (first (first y (on_rested (bare_rested (ends n) r) t)) (entering m (argument o condition k done (wants n)) t))) (unmoved o condition k done n (part_at (labels n) t) u)
     ∙ ap (λ (y : _). turn m ks t (first y (entering m (argument o condition k done (wants n)) t))) (unrested r (ends n) t ks refl e)
     ∙ ap (λ (q : Option Want). turn m ks t (entering m (argument o condition k done q) t)) w
+    ∙ ap (λ (b : Bool). turn m ks t (cond b (in_step m (Argument o condition k done x) (wanted x) t) Stuck)) (may_enter x t ks i)
 
 -- a part of one token
-pub token_run : (m : Limits) (o : Sentence) (condition : Option Expr) (k : Keyword) (done : List Part) (n next : Node) (t : Token) (p : Part) (ls ks : List Token) → ls ≡ t ∷ ks → part_of t ≡ Some p → takes n p ≡ Some next →
+pub token_run : (m : Limits) (o : Sentence) (condition : Option Expr) (k : Keyword) (done : List Part) (n next : Node) (t : Token) (p : Part) (ls ks : List Token) → ls ≡ t ∷ ks → part_at (labels n) t ≡ Some p → takes n p ≡ Some next →
     run m ls (At (Args o condition k done n)) ≡ run m ks (At (Args o condition k (done ++ p ∷ []) next))
 token_run m o condition k done n next t p ls ks l e h =
     let s = Args o condition k done n in
     ap (λ (zs : List Token). run m zs (At s)) l
     ∙ ap (λ (q : Option Part). turn m ks t (first (first (taken o condition k done n q) (on_rested (rested s) t)) (entering m (entry s) t))) e
     ∙ ap (λ (q : Option Node). turn m ks t (first (first (moved o condition k (done ++ p ∷ []) q) (on_rested (rested s) t)) (entering m (entry s) t))) h
+
+-- a sign is a part wherever it stands
+pub sign_at : (b : Bool) (z : Sign) → part_at b (Signed z) ≡ Some (Put z)
+sign_at true z = refl
+sign_at false z = refl
 
 -- what was read of arguments, from a place to another
 abbrev pub Went : Bool → List Part → Limits → List Lexeme → Node → List Lexeme → Node → Sentence → Option Expr → Keyword → List Part → Type 0
@@ -249,17 +251,17 @@ went_then limited ps qs m ls n ms mid rest next o condition k done a f =
 pub went_as : (limited : Bool) (ps qs : List Part) (m : Limits) (ls : List Lexeme) (n : Node) (rest : List Lexeme) (next : Node) (o : Sentence) (condition : Option Expr) (k : Keyword) (done : List Part) → ps ≡ qs → Went limited ps m ls n rest next o condition k done → Went limited qs m ls n rest next o condition k done
 went_as limited ps qs m ls n rest next o condition k done e a = (a.0, λ l. a.1 l ∙ e, a.2)
 
-pub went_token : (limited : Bool) (t : Token) (p : Part) (m : Limits) (ls : List Lexeme) (n : Node) (rest : List Lexeme) (next : Node) (o : Sentence) (condition : Option Expr) (k : Keyword) (done : List Part) → tokens_seen ls ≡ t ∷ tokens_seen rest → part_of t ≡ Some p → takes n p ≡ Some next → Went limited (p ∷ []) m ls n rest next o condition k done
+pub went_token : (limited : Bool) (t : Token) (p : Part) (m : Limits) (ls : List Lexeme) (n : Node) (rest : List Lexeme) (next : Node) (o : Sentence) (condition : Option Expr) (k : Keyword) (done : List Part) → tokens_seen ls ≡ t ∷ tokens_seen rest → part_at (labels n) t ≡ Some p → takes n p ≡ Some next → Went limited (p ∷ []) m ls n rest next o condition k done
 went_token limited t p m ls n rest next o condition k done l e h = (p ∷ [], λ x. refl, token_run m o condition k done n next t p (tokens_seen ls) (tokens_seen rest) l e h)
 
 -- a phrase that was read
 pub went_text : (limited : Bool) (lv : ℕ) (e : Expr) (m : Limits) (ls : List Lexeme) (n : Node) (rest : List Lexeme) (next : Node) (o : Sentence) (condition : Option Expr) (k : Keyword) (done : List Part) → wants n ≡ Some (AnExpr lv next) → Untaken n (tokens_seen ls) → Unended n (tokens_seen ls) →
     (t : Expr) × (limited ≡ true → t ≡ e) × (run m (tokens_seen ls) (In (Argument o condition k done (AnExpr lv next)) expression_wanted) ≡ run m (tokens_seen rest) (At (behind (Argument o condition k done (AnExpr lv next)) (phrase.Whole t)))) → Went limited (Text lv e ∷ []) m ls n rest next o condition k done
-went_text limited lv e m ls n rest next o condition k done w u z h = (Text lv h.0 ∷ [], λ l. ap (λ (x : Expr). Text lv x ∷ []) (h.1 l), enter_here m o condition k done n (AnExpr lv next) (tokens_seen ls) w u z ∙ h.2)
+went_text limited lv e m ls n rest next o condition k done w u z h = (Text lv h.0 ∷ [], λ l. ap (λ (x : Expr). Text lv x ∷ []) (h.1 l), enter_here m o condition k done n (AnExpr lv next) (tokens_seen ls) tt w u z ∙ h.2)
 
 pub went_place : (limited : Bool) (lv : ℕ) (v : Variable) (m : Limits) (ls : List Lexeme) (n : Node) (rest : List Lexeme) (next : Node) (o : Sentence) (condition : Option Expr) (k : Keyword) (done : List Part) → wants n ≡ Some (AVar lv next) → Untaken n (tokens_seen ls) → Unended n (tokens_seen ls) →
     (t : Variable) × (limited ≡ true → t ≡ v) × (run m (tokens_seen ls) (In (Argument o condition k done (AVar lv next)) variable_wanted) ≡ run m (tokens_seen rest) (At (behind (Argument o condition k done (AVar lv next)) (phrase.Target t)))) → Went limited (Place lv v ∷ []) m ls n rest next o condition k done
-went_place limited lv v m ls n rest next o condition k done w u z h = (Place lv h.0 ∷ [], λ l. ap (λ (x : Variable). Place lv x ∷ []) (h.1 l), enter_here m o condition k done n (AVar lv next) (tokens_seen ls) w u z ∙ h.2)
+went_place limited lv v m ls n rest next o condition k done w u z h = (Place lv h.0 ∷ [], λ l. ap (λ (x : Variable). Place lv x ∷ []) (h.1 l), enter_here m o condition k done n (AVar lv next) (tokens_seen ls) tt w u z ∙ h.2)
 
 -- a refusal behind what was read
 pub fails_then : (limited : Bool) (ps : List Part) (e : Stop) (m : Limits) (ls : List Lexeme) (n : Node) (ms : List Lexeme) (mid : Node) (o : Sentence) (condition : Option Expr) (k : Keyword) (done : List Part) →
@@ -267,9 +269,9 @@ pub fails_then : (limited : Bool) (ps : List Part) (e : Stop) (m : Limits) (ls :
 fails_then limited ps e m ls n ms mid o condition k done a f = refuses_from limited e _ _ a.2 (f (done ++ a.0))
 
 -- a refusal of a phrase
-pub fails_enter : (limited : Bool) (e : Stop) (m : Limits) (ls : List Lexeme) (n : Node) (x : Want) (o : Sentence) (condition : Option Expr) (k : Keyword) (done : List Part) → wants n ≡ Some x → Untaken n (tokens_seen ls) → Unended n (tokens_seen ls) →
+pub fails_enter : (limited : Bool) (e : Stop) (m : Limits) (ls : List Lexeme) (n : Node) (x : Want) (o : Sentence) (condition : Option Expr) (k : Keyword) (done : List Part) → MayEnter x (tokens_seen ls) → wants n ≡ Some x → Untaken n (tokens_seen ls) → Unended n (tokens_seen ls) →
     Refuses limited e (run m (tokens_seen ls) (In (Argument o condition k done x) (wanted x))) → Refuses limited e (run m (tokens_seen ls) (At (Args o condition k done n)))
-fails_enter limited e m ls n x o condition k done w u z h = refuses_from limited e _ _ (enter_here m o condition k done n x (tokens_seen ls) w u z) h
+fails_enter limited e m ls n x o condition k done y w u z h = refuses_from limited e _ _ (enter_here m o condition k done n x (tokens_seen ls) y w u z) h
 
 -- a refusal where nothing goes on
 pub fails_here : (limited : Bool) (e : Stop) (m : Limits) (ls : List Lexeme) (n : Node) (o : Sentence) (condition : Option Expr) (k : Keyword) (done : List Part) → wants n ≡ None → Untaken n (tokens_seen ls) → Unended n (tokens_seen ls) → Refuses limited e (refused (tokens_seen ls)) → Refuses limited e (run m (tokens_seen ls) (At (Args o condition k done n)))
@@ -278,18 +280,21 @@ fails_here limited e m ls n o condition k done w u z h = refuses_from limited e 
 -- ---- what is not taken
 
 -- the sign in front isn't
-abbrev SignUntaken : Node → List Token → Type 0
+abbrev pub SignUntaken : Node → List Token → Type 0
 SignUntaken n (Signed s ∷ ks) = takes n (Put s) ≡ None
 SignUntaken n ks = Unit {0}
 
-untaken_by : (n : Node) (ks : List Token) → ((w : List ℕ) → takes n (Named w) ≡ None) → takes n PieceCall ≡ None → SignUntaken n ks → Untaken n ks
-untaken_by n [] h i j = tt
-untaken_by n (Signed s ∷ ks) h i j = j
-untaken_by n (Word w ∷ ks) h i j = word_apart n w (nat_le (length w) 31) (h w)
-untaken_by n (Called w ∷ ks) h i j = called_apart n (callee_of w) (nat_le (length w) 31) i
-untaken_by n (t ∷ ks) h i j = refl
+pub untaken_by : (n : Node) (ks : List Token) → labels n ≡ false → ((w : List ℕ) → takes n (Named w) ≡ None) → takes n PieceCall ≡ None → SignUntaken n ks → Untaken n ks
+untaken_by n [] z h i j = tt
+untaken_by n (t ∷ ks) z h i j = let P : Bool → Type 0 = λ b. part_taken n (part_at b t) ≡ None in subst P (sym z) (untaken_part n t ks h i j)
+  where
+    untaken_part : (n : Node) (t : Token) (ks : List Token) → ((w : List ℕ) → takes n (Named w) ≡ None) → takes n PieceCall ≡ None → SignUntaken n (t ∷ ks) → part_taken n (part_of t) ≡ None
+    untaken_part n (Signed s) ks h i j = j
+    untaken_part n (Word w) ks h i j = word_apart n w (nat_le (length w) 31) (h w)
+    untaken_part n (Called w) ks h i j = called_apart n (callee_of w) (nat_le (length w) 31) i
+    untaken_part n t ks h i j = refl
 
-no_sign : (n : Node) (ks : List Token) → ((s : Sign) → takes n (Put s) ≡ None) → SignUntaken n ks
+pub no_sign : (n : Node) (ks : List Token) → ((s : Sign) → takes n (Put s) ≡ None) → SignUntaken n ks
 no_sign n [] h = tt
 no_sign n (Signed s ∷ ks) h = h s
 no_sign n (t ∷ ks) h = tt
@@ -304,200 +309,11 @@ only_comma n (Signed s ∷ ks) h i = by s (h s) i
     by s (inr e) z = absurd (let P : Sign → Type 0 = λ x. HasNoComma (Signed x ∷ ks) in subst P e z)
 only_comma n (t ∷ ks) h i = tt
 
-comma_untaken : (n : Node) (ks : List Token) → ((w : List ℕ) → takes n (Named w) ≡ None) → takes n PieceCall ≡ None → ((s : Sign) → (takes n (Put s) ≡ None) ⊎ (s ≡ Comma)) → HasNoComma ks → Untaken n ks
-comma_untaken n ks h i j z = untaken_by n ks h i (only_comma n ks j z)
+pub comma_untaken : (n : Node) (ks : List Token) → labels n ≡ false → ((w : List ℕ) → takes n (Named w) ≡ None) → takes n PieceCall ≡ None → ((s : Sign) → (takes n (Put s) ≡ None) ⊎ (s ≡ Comma)) → HasNoComma ks → Untaken n ks
+comma_untaken n ks l h i j z = untaken_by n ks l h i (only_comma n ks j z)
 
-abbrev comma_or : Node → Type 0
+abbrev pub comma_or : Node → Type 0
 comma_or n = (s : Sign) → (takes n (Put s) ≡ None) ⊎ (s ≡ Comma)
-
-set_comma : comma_or SetEnd
-set_comma Comma = inr refl
-set_comma s = inl refl
-
-output_comma : comma_or OutputEnd
-output_comma Comma = inr refl
-output_comma s = inl refl
-
-kill_comma : comma_or KillEnd
-kill_comma Comma = inr refl
-kill_comma s = inl refl
-
-merge_comma : comma_or MergeEnd
-merge_comma Comma = inr refl
-merge_comma s = inl refl
-
-piece_comma : (listed : Bool) → comma_or (PieceComma listed)
-piece_comma listed Comma = inr refl
-piece_comma listed s = inl refl
-
-pub set_untaken : (ks : List Token) → HasNoComma ks → Untaken SetEnd ks
-set_untaken ks h = comma_untaken SetEnd ks (λ w. refl) refl set_comma h
-
-pub output_untaken : (ks : List Token) → HasNoComma ks → Untaken OutputEnd ks
-output_untaken ks h = comma_untaken OutputEnd ks (λ w. refl) refl output_comma h
-
-pub kill_untaken : (ks : List Token) → HasNoComma ks → Untaken KillEnd ks
-kill_untaken ks h = comma_untaken KillEnd ks (λ w. refl) refl kill_comma h
-
-pub merge_untaken : (ks : List Token) → HasNoComma ks → Untaken MergeEnd ks
-merge_untaken ks h = comma_untaken MergeEnd ks (λ w. refl) refl merge_comma h
-
-pub first_untaken : (listed : Bool) (ks : List Token) → HasNoComma ks → Untaken (PieceComma listed) ks
-first_untaken listed ks h = comma_untaken (PieceComma listed) ks (λ w. refl) refl (piece_comma listed) h
-
--- nothing is taken where a phrase alone is wanted
-pub variable_untaken : (listed : Bool) (ks : List Token) → Untaken (PieceVariable listed) ks
-variable_untaken listed ks = untaken_by (PieceVariable listed) ks (λ w. refl) refl (no_sign (PieceVariable listed) ks (λ s. refl))
-
-pub text_untaken : (listed : Bool) (more : ℕ) (ks : List Token) → Untaken (PieceText listed more) ks
-text_untaken listed more ks = untaken_by (PieceText listed more) ks (λ w. refl) refl (no_sign (PieceText listed more) ks (λ s. refl))
-
-pub value_untaken : (ks : List Token) → Untaken SetValue ks
-value_untaken ks = untaken_by SetValue ks (λ w. refl) refl (no_sign SetValue ks (λ s. refl))
-
-pub into_untaken : (ks : List Token) → Untaken MergeInto ks
-into_untaken ks = untaken_by MergeInto ks (λ w. refl) refl (no_sign MergeInto ks (λ s. refl))
-
-pub from_untaken : (ks : List Token) → Untaken MergeFrom ks
-from_untaken ks = untaken_by MergeFrom ks (λ w. refl) refl (no_sign MergeFrom ks (λ s. refl))
-
--- the other places, by what doesn't stand in front
-marks_sign : (ks : List Token) → HasNoComma ks → HasNoMark ks → SignUntaken MarksEnd ks
-marks_sign [] h i = tt
-marks_sign (Signed Comma ∷ ks) h i = absurd h
-marks_sign (Signed Exclamation ∷ ks) h i = absurd i
-marks_sign (Signed s ∷ ks) h i = refl
-marks_sign (t ∷ ks) h i = tt
-
-pub marks_untaken : (ks : List Token) → HasNoComma ks → HasNoMark ks → Untaken MarksEnd ks
-marks_untaken ks h i = untaken_by MarksEnd ks (λ w. refl) refl (marks_sign ks h i)
-
-wanted_sign : (ks : List Token) → HasNoMark ks → SignUntaken OutputWanted ks
-wanted_sign [] i = tt
-wanted_sign (Signed Exclamation ∷ ks) i = absurd i
-wanted_sign (Signed s ∷ ks) i = refl
-wanted_sign (t ∷ ks) i = tt
-
-pub wanted_untaken : (ks : List Token) → HasNoMark ks → Untaken OutputWanted ks
-wanted_untaken ks i = untaken_by OutputWanted ks (λ w. refl) refl (wanted_sign ks i)
-
-opens_sign : (listed : Bool) (ks : List Token) → HasNoOpen ks → SignUntaken (PieceOpens listed) ks
-opens_sign listed [] i = tt
-opens_sign listed (Signed Open ∷ ks) i = absurd i
-opens_sign listed (Signed s ∷ ks) i = refl
-opens_sign listed (t ∷ ks) i = tt
-
-pub opens_untaken : (listed : Bool) (ks : List Token) → HasNoOpen ks → Untaken (PieceOpens listed) ks
-opens_untaken listed ks i = untaken_by (PieceOpens listed) ks (λ w. refl) refl (opens_sign listed ks i)
-
-behind_sign : (ks : List Token) → HasNoEquals ks → SignUntaken (SetBehind false) ks
-behind_sign [] i = tt
-behind_sign (Signed Equals ∷ ks) i = absurd i
-behind_sign (Signed s ∷ ks) i = refl
-behind_sign (t ∷ ks) i = tt
-
-pub behind_untaken : (ks : List Token) → HasNoEquals ks → Untaken (SetBehind false) ks
-behind_untaken ks i = untaken_by (SetBehind false) ks (λ w. refl) refl (behind_sign ks i)
-
-listed_sign : (ks : List Token) → HasNoComma ks → HasNoClose ks → SignUntaken (SetBehind true) ks
-listed_sign [] h i = tt
-listed_sign (Signed Comma ∷ ks) h i = absurd h
-listed_sign (Signed Close ∷ ks) h i = absurd i
-listed_sign (Signed s ∷ ks) h i = refl
-listed_sign (t ∷ ks) h i = tt
-
-pub listed_untaken : (ks : List Token) → HasNoComma ks → HasNoClose ks → Untaken (SetBehind true) ks
-listed_untaken ks h i = untaken_by (SetBehind true) ks (λ w. refl) refl (listed_sign ks h i)
-
-into_sign : (ks : List Token) → HasNoEquals ks → SignUntaken MergeBehind ks
-into_sign [] i = tt
-into_sign (Signed Equals ∷ ks) i = absurd i
-into_sign (Signed s ∷ ks) i = refl
-into_sign (t ∷ ks) i = tt
-
-pub merged_untaken : (ks : List Token) → HasNoEquals ks → Untaken MergeBehind ks
-merged_untaken ks i = untaken_by MergeBehind ks (λ w. refl) refl (into_sign ks i)
-
-names_sign : (ks : List Token) → HasNoComma ks → HasNoClose ks → SignUntaken NameBehind ks
-names_sign [] h i = tt
-names_sign (Signed Comma ∷ ks) h i = absurd h
-names_sign (Signed Close ∷ ks) h i = absurd i
-names_sign (Signed s ∷ ks) h i = refl
-names_sign (t ∷ ks) h i = tt
-
-pub names_untaken : (ks : List Token) → HasNoComma ks → HasNoClose ks → Untaken NameBehind ks
-names_untaken ks h i = untaken_by NameBehind ks (λ w. refl) refl (names_sign ks h i)
-
--- at the last place of `$PIECE` a comma isn't taken
-last_sign : (listed : Bool) (ks : List Token) → HasNoClose ks → SignUntaken (PieceBehind listed zero) ks
-last_sign listed [] i = tt
-last_sign listed (Signed Close ∷ ks) i = absurd i
-last_sign listed (Signed s ∷ ks) i = refl
-last_sign listed (t ∷ ks) i = tt
-
-more_sign : (listed : Bool) (more : ℕ) (ks : List Token) → HasNoComma ks → HasNoClose ks → SignUntaken (PieceBehind listed (suc more)) ks
-more_sign listed more [] h i = tt
-more_sign listed more (Signed Comma ∷ ks) h i = absurd h
-more_sign listed more (Signed Close ∷ ks) h i = absurd i
-more_sign listed more (Signed s ∷ ks) h i = refl
-more_sign listed more (t ∷ ks) h i = tt
-
-pub piece_untaken : (listed : Bool) (more : ℕ) (ks : List Token) → HasNoComma ks ⊎ (more ≡ 0) → HasNoClose ks → Untaken (PieceBehind listed more) ks
-piece_untaken listed zero ks h i = untaken_by (PieceBehind listed zero) ks (λ w. refl) refl (last_sign listed ks i)
-piece_untaken listed (suc more) ks (inl h) i = untaken_by (PieceBehind listed (suc more)) ks (λ w. refl) refl (more_sign listed more ks h i)
-piece_untaken listed (suc more) ks (inr h) i = absurd (omega arith)
-
-name_untaken_word : (w : List ℕ) (b : Bool) → nat_le (length w) 31 ≡ b → (length w ≤ 31 → ⊥) → part_taken NameWanted (cond b (Some (Named w)) None) ≡ None
-name_untaken_word w true e h = absurd (h (grind (arith, nat_tests)))
-name_untaken_word w false e h = refl
-
-pub name_untaken : (ks : List Token) → HasNoName ks → Untaken NameWanted ks
-name_untaken [] h = tt
-name_untaken (Word w ∷ ks) h = name_untaken_word w (nat_le (length w) 31) refl h
-name_untaken (Called w ∷ ks) h = called_apart NameWanted (callee_of w) (nat_le (length w) 31) refl
-name_untaken (Signed s ∷ ks) h = refl
-name_untaken (t ∷ ks) h = refl
-
-kill_sign : (first : Bool) (ks : List Token) → HasNoOpen ks → SignUntaken (KillWanted first) ks
-kill_sign first [] i = tt
-kill_sign first (Signed Open ∷ ks) i = absurd i
-kill_sign first (Signed s ∷ ks) i = refl
-kill_sign first (t ∷ ks) i = tt
-
-pub killed_untaken : (first : Bool) (ks : List Token) → HasNoOpen ks → Untaken (KillWanted first) ks
-killed_untaken first ks i = untaken_by (KillWanted first) ks (λ w. refl) refl (kill_sign first ks i)
-
--- a destination that isn't `$PIECE`
-target_called : (listed : Bool) (q : Option Callee) (b : Bool) → (cond b (piece_part q) None ≡ Some PieceCall → ⊥) → part_taken (SetTarget listed) (cond b (piece_part q) None) ≡ None
-target_called listed (Some (callee.Texts Piece)) true h = absurd (h refl)
-target_called listed q false h = refl
-target_called listed q true h = refl
-
-target_rest : (listed : Bool) (ks : List Token) → HasNoPiece ks → SignUntaken (SetTarget listed) ks → Untaken (SetTarget listed) ks
-target_rest listed [] h j = tt
-target_rest listed (Signed s ∷ ks) h j = j
-target_rest false (Word w ∷ ks) h j = word_apart (SetTarget false) w (nat_le (length w) 31) refl
-target_rest true (Word w ∷ ks) h j = word_apart (SetTarget true) w (nat_le (length w) 31) refl
-target_rest listed (Called w ∷ ks) h j = target_called listed (callee_of w) (nat_le (length w) 31) h
-target_rest listed (t ∷ ks) h j = refl
-
-target_sign : (ks : List Token) → HasNoOpen ks → SignUntaken (SetTarget false) ks
-target_sign [] i = tt
-target_sign (Signed Open ∷ ks) i = absurd i
-target_sign (Signed s ∷ ks) i = refl
-target_sign (t ∷ ks) i = tt
-
-pub target_untaken : (listed : Bool) (ks : List Token) → NotListed listed ks → HasNoPiece ks → Untaken (SetTarget listed) ks
-target_untaken true ks o h = target_rest true ks h (no_sign (SetTarget true) ks (λ s. refl))
-target_untaken false ks o h = target_rest false ks h (target_sign ks o)
-
-pub piece_takes : (listed : Bool) → takes (SetTarget listed) PieceCall ≡ Some (PieceOpens listed)
-piece_takes false = refl
-piece_takes true = refl
-
-pub close_takes : (listed : Bool) (more : ℕ) → takes (PieceBehind listed more) (Put Close) ≡ Some (SetBehind listed)
-close_takes listed zero = refl
-close_takes listed (suc more) = refl
 
 -- one item more, behind a comma
 pub commas_more : {A : Type 0} (parts : A → List Part) (xs : List A) (y : A) → 1 ≤ length xs → with_commas parts (xs ++ y ∷ []) ≡ with_commas parts xs ++ (Put Comma ∷ parts y)
@@ -521,102 +337,57 @@ kept_first f parts old new x e h = sym (append-nil (parts (f x))) ∙ ap (with_c
 pub kept_length : {X : Type 0} (old new : List X) (x : X) → new ≡ old ++ x ∷ [] → 1 ≤ length new
 kept_length {X = X} old new x e = let n = ap (length {A = X}) e in let k = length-append old (x ∷ []) in omega arith
 
--- expressions inside `$PIECE`
-pub more_more : (es : List kept.Expr) (e : kept.Expr) → more_parts (exprs_of (es ++ e ∷ [])) ≡ more_parts (exprs_of es) ++ (Put Comma ∷ Text 1 (expr_of e) ∷ [])
-more_more [] e = refl
-more_more (x ∷ es) e = ap (λ (zs : List Part). Put Comma ∷ Text 1 (expr_of x) ∷ zs) (more_more es e)
+-- a name that is none
+pub kept_untaken_word : (n : Node) (w : List ℕ) (b : Bool) → nat_le (length w) 31 ≡ b → (length w ≤ 31 → ⊥) → part_taken n (cond b (Some (Named w)) None) ≡ None
+kept_untaken_word n w true e h = absurd (h (grind (arith, nat_tests)))
+kept_untaken_word n w false e h = refl
 
-pub more_pushed : (old new : List kept.Expr) (e : kept.Expr) → new ≡ old ++ e ∷ [] → more_parts (exprs_of old) ++ (Put Comma ∷ Text 1 (expr_of e) ∷ []) ≡ more_parts (exprs_of new)
-more_pushed old new e h = sym (more_more old e) ∙ ap (λ (es : List kept.Expr). more_parts (exprs_of es)) (sym h)
+-- a name where one is taken
+pub went_word : (limited : Bool) (m : Limits) (n next : Node) (ls rest : List Lexeme) (w t : List ℕ) (o : Sentence) (condition : Option Expr) (k : Keyword) (done : List Part) → labels n ≡ false → takes n (Named w) ≡ Some next → tokens_seen ls ≡ Word w ∷ tokens_seen rest → length w ≤ 31 → t ≡ w → Went limited (Named t ∷ []) m ls n rest next o condition k done
+went_word limited m n next ls rest w t o condition k done z f l h e =
+    let P : Bool → Type 0 = λ b. part_at b (Word w) ≡ Some (Named w) in
+    went_as limited (Named w ∷ []) (Named t ∷ []) m ls n rest next o condition k done (ap (λ (z : List ℕ). Named z ∷ []) (sym e))
+    (went_token limited (Word w) (Named w) m ls n rest next o condition k done l (subst P (sym z) (ap (λ (b : Bool). cond b (Some (Named w)) None) (let z : nat_le (length w) 31 ≡ true = grind (arith, nat_tests) in z))) f)
 
--- a comma behind so many expressions of `$PIECE`
-pub piece_comma_takes : (listed : Bool) (n : ℕ) → n < 3 → takes (piece_node listed n) (Put Comma) ≡ Some (PieceText listed (2 - n))
-piece_comma_takes listed zero h = refl
-piece_comma_takes listed (suc zero) h = refl
-piece_comma_takes listed (suc (suc zero)) h = refl
-piece_comma_takes listed (suc (suc (suc n))) h = absurd (omega arith)
+-- two places that the same tokens lead on from alike
+abbrev pub SameAt : Limits → Node → Node → List Token → Type 0
+SameAt m n q ks = (o : Sentence) (condition : Option Expr) (k : Keyword) (done : List Part) → run m ks (At (Args o condition k done n)) ≡ run m ks (At (Args o condition k done q))
 
-pub piece_wants : (listed : Bool) (n : ℕ) → wants (piece_node listed n) ≡ None
-piece_wants listed zero = refl
-piece_wants listed (suc n) = refl
+pub went_same : (limited : Bool) (m : Limits) (n q : Node) (ls : List Lexeme) (o : Sentence) (condition : Option Expr) (k : Keyword) (done : List Part) → SameAt m n q (tokens_seen ls) → Went limited [] m ls n ls q o condition k done
+went_same limited m n q ls o condition k done h = ([], λ l. refl, h o condition k done ∙ ap (λ (ps : List Part). run m (tokens_seen ls) (At (Args o condition k ps q))) (sym (append-nil done)))
 
-pub piece_ends : (listed : Bool) (n : ℕ) → ends (piece_node listed n) ≡ false
-piece_ends listed zero = refl
-piece_ends listed (suc n) = refl
+pub name_neither : (m : Limits) (n q : Node) (w : List ℕ) (ks : List Token) (o : Sentence) (condition : Option Expr) (k : Keyword) (done : List Part) (b : Bool) (r : Next) → takes n (Named w) ≡ None → takes q (Named w) ≡ None →
+    turn m ks (Word w) (first (first (taken o condition k done n (cond b (Some (Named w)) None)) r) Stuck) ≡ turn m ks (Word w) (first (first (taken o condition k done q (cond b (Some (Named w)) None)) r) Stuck)
+name_neither m n q w ks o condition k done true r e f =
+    ap (λ (x : Option Node). turn m ks (Word w) (first (first (moved o condition k (done ++ Named w ∷ []) x) r) Stuck)) e
+    ∙ sym (ap (λ (x : Option Node). turn m ks (Word w) (first (first (moved o condition k (done ++ Named w ∷ []) x) r) Stuck)) f)
+name_neither m n q w ks o condition k done false r e f = refl
 
--- where no comma stands, and no `)` that might
-pub pieces_untaken : (listed : Bool) (n : ℕ) (ks : List Token) → HasNoComma ks → (n ≡ 0) ⊎ HasNoClose ks → Untaken (piece_node listed n) ks
-pieces_untaken listed zero ks h i = first_untaken listed ks h
-pieces_untaken listed (suc n) ks h (inl i) = absurd (omega arith)
-pieces_untaken listed (suc n) ks h (inr i) = piece_untaken listed (2 - n) ks (inl h) i
+pub piece_neither : (m : Limits) (n q : Node) (w : List ℕ) (ks : List Token) (o : Sentence) (condition : Option Expr) (k : Keyword) (done : List Part) (x : Option Part) (r : Next) → part_taken n x ≡ None → part_taken q x ≡ None →
+    turn m ks (Called w) (first (first (taken o condition k done n x) r) Stuck) ≡ turn m ks (Called w) (first (first (taken o condition k done q x) r) Stuck)
+piece_neither m n q w ks o condition k done x r e f =
+    ap (λ (y : Next). turn m ks (Called w) (first (first y r) Stuck)) (unmoved o condition k done n x e ∙ sym (unmoved o condition k done q x f))
 
--- a comma behind the last
-pub full_untaken : (listed : Bool) (n : ℕ) (ks rest : List Token) → n ≡ 3 → ks ≡ Signed Comma ∷ rest → Untaken (piece_node listed n) ks
-full_untaken listed n ks rest e h =
-    let P : List Token → Type 0 = λ zs. Untaken (piece_node listed n) zs in
-    let Q : ℕ → Type 0 = λ i. Untaken (piece_node listed i) (Signed Comma ∷ rest) in
-    subst P (sym h) (subst Q (sym e) refl)
+-- what was read stands so to what is given
+abbrev pub WentAs : Bool → (List Part → Type 0) → Limits → List Lexeme → Node → List Lexeme → Node → Sentence → Option Expr → Keyword → List Part → Type 0
+WentAs limited is m ls n rest next o condition k done =
+    (t : List Part) × (limited ≡ true → is t) × (run m (tokens_seen ls) (At (Args o condition k done n)) ≡ run m (tokens_seen rest) (At (Args o condition k (done ++ t) next)))
 
-pub piece_closes : (listed : Bool) (n : ℕ) → 1 ≤ n → takes (piece_node listed n) (Put Close) ≡ Some (SetBehind listed)
-piece_closes listed zero h = absurd (omega arith)
-piece_closes listed (suc n) h = close_takes listed (2 - n)
+pub joined : (limited : Bool) (P Q R : List Part → Type 0) (m : Limits) (ls : List Lexeme) (n : Node) (ms : List Lexeme) (mid : Node) (rest : List Lexeme) (next : Node) (o : Sentence) (condition : Option Expr) (k : Keyword) (done : List Part) →
+    ((ps qs : List Part) → P ps → Q qs → R (ps ++ qs)) → WentAs limited P m ls n ms mid o condition k done → ((d : List Part) → WentAs limited Q m ms mid rest next o condition k d) → WentAs limited R m ls n rest next o condition k done
+joined limited P Q R m ls n ms mid rest next o condition k done j a f =
+    let b = f (done ++ a.0) in (
+      a.0 ++ b.0,
+      λ l. j a.0 b.0 (a.1 l) (b.1 l),
+      a.2 ∙ b.2 ∙ ap (λ (zs : List Part). run m (tokens_seen rest) (At (Args o condition k zs next))) (append_assoc done a.0 b.0),
+    )
 
--- the expressions of `$PIECE` so far
-pub went_from : (limited : Bool) (old new : List kept.Expr) (x : kept.Expr) (m : Limits) (ls rest : List Lexeme) (listed : Bool) (o : Sentence) (condition : Option Expr) (k : Keyword) (done : List Part) → old ≡ [] → new ≡ old ++ x ∷ [] →
-    Went limited (Put Comma ∷ Text 1 (expr_of x) ∷ []) m ls (PieceComma listed) rest (PieceBehind listed 2) o condition k done → Went limited (more_parts (exprs_of new)) m ls (PieceComma listed) rest (piece_node listed (length new)) o condition k done
-went_from limited old new x m ls rest listed o condition k done e h w =
-    let P : List kept.Expr → Type 0 = λ es. Went limited (more_parts (exprs_of es)) m ls (PieceComma listed) rest (piece_node listed (length es)) o condition k done in
-    subst P (sym (h ∙ ap (λ (zs : List kept.Expr). zs ++ x ∷ []) e)) w
+pub went_by : (limited : Bool) (P Q : List Part → Type 0) (m : Limits) (ls : List Lexeme) (n : Node) (rest : List Lexeme) (next : Node) (o : Sentence) (condition : Option Expr) (k : Keyword) (done : List Part) → ((ps : List Part) → P ps → Q ps) → WentAs limited P m ls n rest next o condition k done → WentAs limited Q m ls n rest next o condition k done
+went_by limited P Q m ls n rest next o condition k done f a = (a.0, λ l. f a.0 (a.1 l), a.2)
 
-node_more : (listed : Bool) (n : ℕ) → 1 ≤ n → piece_node listed (n + 1) ≡ PieceBehind listed (2 - n)
-node_more listed n h = ap (piece_node listed) (let e : n + 1 ≡ suc n = omega arith in e)
-
--- the place behind as many as were counted
-pub went_count : (limited : Bool) (ps : List Part) (m : Limits) (ls rest : List Lexeme) (listed : Bool) (n i : ℕ) (o : Sentence) (condition : Option Expr) (k : Keyword) (done : List Part) → n ≡ i → Went limited ps m ls (PieceComma listed) rest (piece_node listed i) o condition k done → Went limited ps m ls (PieceComma listed) rest (piece_node listed n) o condition k done
-went_count limited ps m ls rest listed n i o condition k done e w = let P : ℕ → Type 0 = λ x. Went limited ps m ls (PieceComma listed) rest (piece_node listed x) o condition k done in subst P (sym e) w
-
-pub went_more : (limited : Bool) (old new : List kept.Expr) (x : kept.Expr) (n : ℕ) (m : Limits) (ls mid rest : List Lexeme) (listed : Bool) (o : Sentence) (condition : Option Expr) (k : Keyword) (done : List Part) → n ≡ length old → new ≡ old ++ x ∷ [] → 1 ≤ length old →
-    Went limited (more_parts (exprs_of old)) m ls (PieceComma listed) mid (piece_node listed (length old)) o condition k done →
-    ((d : List Part) → Went limited (Put Comma ∷ Text 1 (expr_of x) ∷ []) m mid (piece_node listed n) rest (PieceBehind listed (2 - n)) o condition k d) →
-    Went limited (more_parts (exprs_of new)) m ls (PieceComma listed) rest (piece_node listed (length new)) o condition k done
-went_more limited old new x n m ls mid rest listed o condition k done c h i w f =
-    let y = went_then limited (more_parts (exprs_of old)) (Put Comma ∷ Text 1 (expr_of x) ∷ []) m ls (PieceComma listed) mid (piece_node listed n) rest (PieceBehind listed (2 - n)) o condition k done (went_count limited (more_parts (exprs_of old)) m ls mid listed n (length old) o condition k done c w) f in
-    let N : Node → Type 0 = λ z. Went limited (more_parts (exprs_of new)) m ls (PieceComma listed) rest z o condition k done in
-    let z = went_as limited (more_parts (exprs_of old) ++ (Put Comma ∷ Text 1 (expr_of x) ∷ [])) (more_parts (exprs_of new)) m ls (PieceComma listed) rest (PieceBehind listed (2 - n)) o condition k done (more_pushed old new x h) y in
-    subst N (sym (ap (piece_node listed) (ap (length {A = kept.Expr}) h ∙ length-append old (x ∷ []) ∙ ap (λ (j : ℕ). j + 1) (sym c)) ∙ node_more listed n (omega arith))) z
-
-pub first_length : (old new : List kept.Expr) (x : kept.Expr) → old ≡ [] → new ≡ old ++ x ∷ [] → (1 ≤ length new) × (length new ≤ 3)
-first_length old new x e h = let n = ap (length {A = kept.Expr}) h in let k = length-append old (x ∷ []) in let z = ap (length {A = kept.Expr}) e in (omega arith, omega arith)
-
-pub more_length : (old new : List kept.Expr) (x : kept.Expr) (i : ℕ) → i ≡ length old → new ≡ old ++ x ∷ [] → i < 3 → (1 ≤ length new) × (length new ≤ 3)
-more_length old new x i c h l = let n = ap (length {A = kept.Expr}) h in let k = length-append old (x ∷ []) in (omega arith, omega arith)
-
--- what stands behind the word of `$PIECE` is read with it
-pub piece_reads : {X : Type 0} (limited : Bool) (tree : X → Destination) (rest : X → List Lexeme) (r : Result X Stop) (m : Limits) (ls behind : List Lexeme) (word : List ℕ) (listed : Bool) (o : Sentence) (condition : Option Expr) (k : Keyword) (done : List Part) → tokens_seen ls ≡ Called word ∷ tokens_seen behind → part_of (Called word) ≡ Some PieceCall →
-    IfOk r (λ x. destination_parts (tree x) ≡ PieceCall ∷ opened_parts (tree x)) →
-    Reads limited (λ x. opened_parts (tree x)) rest r m behind (At (Args o condition k (done ++ PieceCall ∷ []) (PieceOpens listed))) (λ ps. At (Args o condition k ((done ++ PieceCall ∷ []) ++ ps) (SetBehind listed))) →
-    Reads limited (λ x. destination_parts (tree x)) rest r m ls (At (Args o condition k done (SetTarget listed))) (λ ps. At (Args o condition k (done ++ ps) (SetBehind listed)))
-piece_reads limited tree rest (Ok x) m ls behind word listed o condition k done l p d h = (
-  PieceCall ∷ h.0,
-  λ e. ap (λ (zs : List Part). PieceCall ∷ zs) (h.1 e) ∙ sym d,
-  token_run m o condition k done (SetTarget listed) (PieceOpens listed) (Called word) PieceCall (tokens_seen ls) (tokens_seen behind) l p (piece_takes listed)
-      ∙ h.2
-      ∙ ap (λ (zs : List Part). run m (tokens_seen (rest x)) (At (Args o condition k zs (SetBehind listed)))) (append_assoc done (PieceCall ∷ []) h.0),
-)
-piece_reads limited tree rest (Err e) m ls behind word listed o condition k done l p d h =
-    refuses_from limited e _ _ (token_run m o condition k done (SetTarget listed) (PieceOpens listed) (Called word) PieceCall (tokens_seen ls) (tokens_seen behind) l p (piece_takes listed)) h
-
--- a name
-pub went_name : (limited : Bool) (m : Limits) (ls rest : List Lexeme) (w t : List ℕ) (o : Sentence) (condition : Option Expr) (k : Keyword) (done : List Part) → tokens_seen ls ≡ Word w ∷ tokens_seen rest → length w ≤ 31 → t ≡ w → Went limited (Named t ∷ []) m ls NameWanted rest NameBehind o condition k done
-went_name limited m ls rest w t o condition k done l h e =
-    went_as limited (Named w ∷ []) (Named t ∷ []) m ls NameWanted rest NameBehind o condition k done (ap (λ (z : List ℕ). Named z ∷ []) (sym e))
-    (went_token limited (Word w) (Named w) m ls NameWanted rest NameBehind o condition k done l (ap (λ (b : Bool). cond b (Some (Named w)) None) (let z : nat_le (length w) 31 ≡ true = grind (arith, nat_tests) in z)) refl)
-
-pub kept_word : (old new : List (List ℕ)) (x : List ℕ) → old ≡ [] → new ≡ old ++ x ∷ [] → name_parts x ≡ with_commas name_parts new
-kept_word old new x e h = ap (with_commas name_parts) (sym (h ∙ ap (λ (xs : List (List ℕ)). xs ++ x ∷ []) e))
-
-pub kept_words : (old new : List (List ℕ)) (x : List ℕ) → new ≡ old ++ x ∷ [] → 1 ≤ length old → with_commas name_parts old ++ (Put Comma ∷ Named x ∷ []) ≡ with_commas name_parts new
-kept_words old new x e h = sym (commas_more name_parts old x h) ∙ ap (with_commas name_parts) (sym e)
+pub fails_behind : (limited : Bool) (P : List Part → Type 0) (e : Stop) (m : Limits) (ls : List Lexeme) (n : Node) (ms : List Lexeme) (mid : Node) (o : Sentence) (condition : Option Expr) (k : Keyword) (done : List Part) →
+    WentAs limited P m ls n ms mid o condition k done → ((d : List Part) → Refuses limited e (run m (tokens_seen ms) (At (Args o condition k d mid)))) → Refuses limited e (run m (tokens_seen ls) (At (Args o condition k done n)))
+fails_behind limited P e m ls n ms mid o condition k done a f = refuses_from limited e _ _ a.2 (f (done ++ a.0))
 
 -- where a command may end
 pub parted_same : (ks : List Token) → HasParted ks → Parted ks
@@ -663,20 +434,38 @@ bare_blank m o condition k ls ks l b h =
     ap (λ (zs : List Token). run m zs (At (Bare o condition k))) l
     ∙ complete_bare m o condition k (Blank ∷ ks) b (parted_same ks h)
 
--- HALT has none
-pub halt_other : (m : Limits) (o : Sentence) (condition : Option Expr) (ks : List Token) → HasOther ks → run m (Blank ∷ ks) (At (Bare o condition keyword.Halt)) ≡ refused ks
-halt_other m o condition [] h = absurd h
-halt_other m o condition (Blank ∷ ks) h = absurd h
-halt_other m o condition (Comment text ∷ ks) h = absurd h
-halt_other m o condition (t ∷ ks) h = refl
+-- a command that never has some
+pub lone_other : (m : Limits) (o : Sentence) (condition : Option Expr) (k : Keyword) (ls ks : List Token) → ls ≡ Blank ∷ ks → first_node k ≡ None → may_be_bare k ≡ true → HasOther ks → run m ls (At (Bare o condition k)) ≡ refused ks
+lone_other m o condition k ls ks l e b h =
+    ap (λ (zs : List Token). run m zs (At (Bare o condition k))) l
+    ∙ ap (λ (q : Option Node). turn m ks Blank (first (first (opened o condition k q) (on_rested (rested (Bare o condition k)) Blank)) Stuck)) e
+    ∙ ap (λ (x : Bool). turn m ks Blank (first (on_rested (bare_rested x (bare_rest o condition k)) Blank) Stuck)) b
+    ∙ behind_other m (with_clause o (clause condition k [])) ks h
+  where
+    behind_other : (m : Limits) (o : Sentence) (ks : List Token) → HasOther ks → run m ks (At (Behind (record { line = o; gap = 1; comment = 0 }))) ≡ refused ks
+    behind_other m o [] h = absurd h
+    behind_other m o (Blank ∷ ks) h = absurd h
+    behind_other m o (Comment text ∷ ks) h = absurd h
+    behind_other m o (t ∷ ks) h = refl
 
 -- a postcondition begins
-pub colon_opens : (m : Limits) (o : Sentence) (k : Keyword) (ls ks : List Token) → ls ≡ Signed Colon ∷ ks → run m ls (At (Worded o k)) ≡ run m ks (In (Condition o k) expression_wanted)
-colon_opens m o k ls ks l = ap (λ (zs : List Token). run m zs (At (Worded o k))) l ∙ asked o k ks
+pub colon_opens : (m : Limits) (o : Sentence) (k : Keyword) (ls ks : List Token) → ls ≡ Signed Colon ∷ ks → is_conditional k ≡ true → run m ls (At (Worded o k)) ≡ run m ks (In (Condition o k) expression_wanted)
+colon_opens m o k ls ks l c =
+    ap (λ (zs : List Token). run m zs (At (Worded o k))) l
+    ∙ ap (λ (b : Bool). turn m ks (Signed Colon) (first (first (cond b (Go (At (Asked o k))) Stuck) (on_rested (bare_rested (may_be_bare k) (bare_rest o None k)) (Signed Colon))) Stuck)) c
+    ∙ asked o k ks
   where
     asked : (o : Sentence) (k : Keyword) (ks : List Token) → run m ks (At (Asked o k)) ≡ run m ks (In (Condition o k) expression_wanted)
     asked o k [] = refl
     asked o k (t ∷ ks) = refl
+
+-- where none may stand
+pub unconditional : (m : Limits) (o : Sentence) (k : Keyword) (ks : List Token) → is_conditional k ≡ false → run m ks (At (Worded o k)) ≡ run m ks (At (Bare o None k))
+unconditional m o k [] h = refl
+unconditional m o k (Signed Colon ∷ ks) h = ap (λ (b : Bool). turn m ks (Signed Colon) (first (first (cond b (Go (At (Asked o k))) Stuck) (on_rested (bare_rested (may_be_bare k) (bare_rest o None k)) (Signed Colon))) Stuck)) h
+unconditional m o k (Signed s ∷ ks) h = worded_bare m o k (Signed s ∷ ks) tt
+unconditional m o k (Blank ∷ ks) h = refl
+unconditional m o k (t ∷ ks) h = worded_bare m o k (t ∷ ks) tt
 
 colon_same : (ks : List Token) → HasNoColon ks → NoColon ks
 colon_same [] h = tt
@@ -698,45 +487,6 @@ clause_is condition k ps = clause condition k ps
 pub clause_same : (c d : Option Expr) (k w : Keyword) (ps qs : List Part) → c ≡ d → k ≡ w → ps ≡ qs → clause_is c k ps ≡ clause_is d w qs
 clause_same c d k w ps qs e f g = ap (λ (x : Option Expr). clause_is x k ps) e ∙ ap (λ (x : Keyword). clause_is d x ps) f ∙ ap (λ (x : List Part). clause_is d w x) g
 
--- ---- format marks
-
-marks_go : (m : Limits) (o : Sentence) (condition : Option Expr) (k : Keyword) (done : List Part) (n : ℕ) (ks : List Token) → run m (replicate n (Signed Exclamation) ++ ks) (At (Args o condition k done MarksEnd)) ≡ run m ks (At (Args o condition k (done ++ map mark_part (replicate n NewLine)) MarksEnd))
-marks_go m o condition k done zero ks = ap (λ (ps : List Part). run m ks (At (Args o condition k ps MarksEnd))) (sym (append-nil done))
-marks_go m o condition k done (suc n) ks =
-    marks_go m o condition k (done ++ Put Exclamation ∷ []) n ks
-    ∙ ap (λ (ps : List Part). run m ks (At (Args o condition k ps MarksEnd))) (append_assoc done (Put Exclamation ∷ []) (map mark_part (replicate n NewLine)))
-
--- marks are one like the other
-all_marks : (xs : List Mark) → xs ≡ replicate (length xs) NewLine
-all_marks [] = refl
-all_marks (NewLine ∷ xs) = ap (λ (ys : List Mark). NewLine ∷ ys) (all_marks xs)
-
-pub marks_all : (m : Limits) (o : Sentence) (condition : Option Expr) (k : Keyword) (done : List Part) (n : ℕ) (xs : List Mark) (ks rest : List Token) → 0 < n → length xs ≡ n → ks ≡ replicate n (Signed Exclamation) ++ rest → run m ks (At (Args o condition k done OutputWanted)) ≡ run m rest (At (Args o condition k (done ++ map mark_part xs) MarksEnd))
-marks_all m o condition k done zero xs ks rest h l e = absurd (omega arith)
-marks_all m o condition k done (suc n) xs ks rest h l e =
-    ap (λ (zs : List Token). run m zs (At (Args o condition k done OutputWanted))) e
-    ∙ marks_go m o condition k (done ++ Put Exclamation ∷ []) n rest
-    ∙ ap (λ (ps : List Part). run m rest (At (Args o condition k ps MarksEnd))) (append_assoc done (Put Exclamation ∷ []) (map mark_part (replicate n NewLine)))
-    ∙ ap (λ (i : ℕ). run m rest (At (Args o condition k (done ++ map mark_part (replicate i NewLine)) MarksEnd))) (sym l)
-    ∙ ap (λ (ys : List Mark). run m rest (At (Args o condition k (done ++ map mark_part ys) MarksEnd))) (sym (all_marks xs))
-
-pub no_marks : (n : ℕ) (ks rest : List Token) → n ≤ 0 → ks ≡ replicate n (Signed Exclamation) ++ rest → HasNoMark rest → HasNoMark ks
-no_marks zero ks rest l e h = let P : List Token → Type 0 = λ zs. HasNoMark zs in subst P (sym e) h
-no_marks (suc n) ks rest l e h = absurd (omega arith)
-
--- where an argument of WRITE ends, a comma leads on, and else nothing does
-pub output_comma_goes : (m : Limits) (o : Sentence) (condition : Option Expr) (k : Keyword) (done : List Part) (n : Node) (ls ks : List Token) → EndsOutput n ls → ls ≡ Signed Comma ∷ ks → run m ls (At (Args o condition k done n)) ≡ run m ks (At (Args o condition k (done ++ Put Comma ∷ []) OutputWanted))
-output_comma_goes m o condition k done n ls ks (inl e) l = ap (λ (x : Node). run m ls (At (Args o condition k done x))) e ∙ token_run m o condition k done OutputEnd OutputWanted (Signed Comma) (Put Comma) ls ks l refl refl
-output_comma_goes m o condition k done n ls ks (inr e) l = ap (λ (x : Node). run m ls (At (Args o condition k done x))) e.0 ∙ token_run m o condition k done MarksEnd OutputWanted (Signed Comma) (Put Comma) ls ks l refl refl
-
-pub output_stuck : (m : Limits) (o : Sentence) (condition : Option Expr) (k : Keyword) (done : List Part) (n : Node) (ks : List Token) → EndsOutput n ks → HasNoComma ks → HasOther ks → run m ks (At (Args o condition k done n)) ≡ refused ks
-output_stuck m o condition k done n ks (inl e) c h = ap (λ (x : Node). run m ks (At (Args o condition k done x))) e ∙ here_stuck m o condition k done OutputEnd ks refl (output_untaken ks c) (inr h)
-output_stuck m o condition k done n ks (inr e) c h = ap (λ (x : Node). run m ks (At (Args o condition k done x))) e.0 ∙ here_stuck m o condition k done MarksEnd ks refl (marks_untaken ks c e.1) (inr h)
-
-pub output_end : (m : Limits) (o : Sentence) (condition : Option Expr) (k : Keyword) (done : List Part) (n : Node) (ks : List Token) → EndsOutput n ks → HasParted ks → run m ks (At (Args o condition k done n)) ≡ run m ks (At (Behind (args_rest o condition k done)))
-output_end m o condition k done n ks (inl e) h = args_end m o condition k done n ks (ap ends e) h
-output_end m o condition k done n ks (inr e) h = args_end m o condition k done n ks (ap ends e.0) h
-
 -- ---- lines
 
 -- behind a command stands a blank, a comment or nothing
@@ -745,14 +495,6 @@ behind_stuck m o [] h = absurd h
 behind_stuck m o (Blank ∷ ks) h = absurd h
 behind_stuck m o (Comment text ∷ ks) h = absurd h
 behind_stuck m o (k ∷ ks) h = refl
-
--- behind a label stands a blank, or nothing
-pub label_stuck : (m : Limits) (o : Sentence) (k : Token) (ks : List Token) → HasNoBlank (k ∷ ks) → run m (k ∷ ks) (At (Behind (record { line = o; gap = 1; comment = 1 }))) ≡ refused (k ∷ ks)
-label_stuck m o Blank ks h = absurd h
-label_stuck m o k ks h = refl
-
-pub label_goes : (m : Limits) (o : Sentence) (ks : List Token) → run m (Blank ∷ ks) (At (Behind (record { line = o; gap = 1; comment = 1 }))) ≡ run m (Blank ∷ ks) (At (Behind (record { line = o; gap = 1; comment = 0 })))
-label_goes m o ks = refl
 
 none_skip : (m : Limits) (o : Sentence) (ks : List Token) → HasParted ks → HasNoBlank ks → run m ks (At (Behind (record { line = o; gap = 1; comment = 0 }))) ≡ run m ks (At (Behind (record { line = o; gap = 0; comment = 0 })))
 none_skip m o [] h i = refl
@@ -763,38 +505,22 @@ none_skip m o (Digits d ∷ ks) h i = absurd h
 none_skip m o (Signed s ∷ ks) h i = absurd h
 none_skip m o (k ∷ ks) h i = absurd h
 
+-- blanks where none is wanted
+pub blanks_stay : (m : Limits) (o : Sentence) (n : ℕ) (ks rest : List Token) → ks ≡ replicate n Blank ++ rest → run m ks (At (Behind (record { line = o; gap = 0; comment = 0 }))) ≡ run m rest (At (Behind (record { line = o; gap = 0; comment = 0 })))
+blanks_stay m o n ks rest e =
+    ap (λ (zs : List Token). run m zs (At (Behind (record { line = o; gap = 0; comment = 0 })))) e
+    ∙ blanks_go m n (record { line = o; gap = 0; comment = 0 }) rest
+    ∙ ap (λ (g : ℕ). run m rest (At (Behind (record { line = o; gap = g; comment = 0 - n })))) (let z : 0 - n ≡ 0 = omega arith in z)
+    ∙ ap (λ (g : ℕ). run m rest (At (Behind (record { line = o; gap = 0; comment = g })))) (let z : 0 - n ≡ 0 = omega arith in z)
+
 -- blanks before a command, a comment or nothing
 pub blanks_skip : (m : Limits) (o : Sentence) (n : ℕ) (ks rest : List Token) → HasParted ks → HasNoBlank rest → ks ≡ replicate n Blank ++ rest → run m ks (At (Behind (record { line = o; gap = 1; comment = 0 }))) ≡ run m rest (At (Behind (record { line = o; gap = 0; comment = 0 })))
 blanks_skip m o (suc n) ks rest h i e =
     ap (λ (zs : List Token). run m zs (At (Behind (record { line = o; gap = 1; comment = 0 })))) e
-    ∙ blanks_go m n (record { line = o; gap = 0; comment = 0 }) rest
-    ∙ ap (λ (g : ℕ). run m rest (At (Behind (record { line = o; gap = g; comment = 0 - n })))) (let z : 0 - n ≡ 0 = omega arith in z)
-    ∙ ap (λ (g : ℕ). run m rest (At (Behind (record { line = o; gap = 0; comment = g })))) (let z : 0 - n ≡ 0 = omega arith in z)
+    ∙ blanks_stay m o n (replicate n Blank ++ rest) rest refl
 blanks_skip m o zero ks rest h i e =
     let P : List Token → Type 0 = λ zs. HasParted zs in
     ap (λ (zs : List Token). run m zs (At (Behind (record { line = o; gap = 1; comment = 0 })))) e ∙ none_skip m o rest (subst P e h) i
-
--- without a label
-pub unlabelled : (m : Limits) (ks : List Token) → IsUnlabelled ks → run m ks (At Begin) ≡ run m ks (At (Behind (record { line = bare_line None; gap = 1; comment = 0 })))
-unlabelled m [] h = refl
-unlabelled m (Word w ∷ ks) h = absurd h
-unlabelled m (Digits d ∷ ks) h = absurd h
-unlabelled m (k ∷ ks) h = refl
-
--- with a label
-label_at : (m : Limits) (w : List ℕ) (rest : List Token) (b : Bool) → b ≡ true → turn m rest (Word w) (first (first (cond b (Go (At (Behind (record { line = bare_line (Some w); gap = 1; comment = 1 })))) Stuck) Stuck) Stuck) ≡ run m rest (At (Behind (record { line = bare_line (Some w); gap = 1; comment = 1 })))
-label_at m w rest b e = ap (λ (x : Bool). turn m rest (Word w) (first (first (cond x (Go (At (Behind (record { line = bare_line (Some w); gap = 1; comment = 1 })))) Stuck) Stuck) Stuck)) e
-
-pub label_word : (m : Limits) (ks rest : List Token) (w t : List ℕ) → ks ≡ Word w ∷ rest → length w ≤ 31 → t ≡ w → run m ks (At Begin) ≡ run m rest (At (Behind (record { line = bare_line (Some t); gap = 1; comment = 1 })))
-label_word m ks rest w t e l f =
-    ap (λ (zs : List Token). run m zs (At Begin)) e
-    ∙ label_at m w rest (nat_le (length w) 31) (grind (arith, nat_tests))
-    ∙ ap (λ (x : List ℕ). run m rest (At (Behind (record { line = bare_line (Some x); gap = 1; comment = 1 })))) (sym f)
-
-pub label_digits : (m : Limits) (ks rest : List Token) (d t : List ℕ) → ks ≡ Digits d ∷ rest → t ≡ d → run m ks (At Begin) ≡ run m rest (At (Behind (record { line = bare_line (Some t); gap = 1; comment = 1 })))
-label_digits m ks rest d t e f =
-    ap (λ (zs : List Token). run m zs (At Begin)) e
-    ∙ ap (λ (x : List ℕ). run m rest (At (Behind (record { line = bare_line (Some x); gap = 1; comment = 1 })))) (sym f)
 
 -- ---- lists
 
@@ -819,13 +545,13 @@ known_goes m o ks rest w k e h =
 
 -- the line with these commands
 abbrev pub with_steps : Sentence → List Clause → Sentence
-with_steps o ss = record { label = o.label; clauses = o.clauses ++ ss }
+with_steps o ss = record { label = o.label; formals = o.formals; level = o.level; clauses = o.clauses ++ ss }
 
 pub no_steps : (m : Limits) (o : Sentence) (ks : List Token) → run m ks (At (Behind (record { line = o; gap = 0; comment = 0 }))) ≡ run m ks (At (Behind (record { line = with_steps o []; gap = 0; comment = 0 })))
-no_steps m o ks = ap (λ (ss : List Clause). run m ks (At (Behind (record { line = record { label = o.label; clauses = ss }; gap = 0; comment = 0 })))) (sym (append-nil o.clauses))
+no_steps m o ks = ap (λ (ss : List Clause). run m ks (At (Behind (record { line = record { label = o.label; formals = o.formals; level = o.level; clauses = ss }; gap = 0; comment = 0 })))) (sym (append-nil o.clauses))
 
 pub more_steps : (m : Limits) (o : Sentence) (ss : List Clause) (s : Clause) (ks : List Token) → run m ks (At (Behind (record { line = with_clause (with_steps o ss) s; gap = 0; comment = 0 }))) ≡ run m ks (At (Behind (record { line = with_steps o (ss ++ s ∷ []); gap = 0; comment = 0 })))
-more_steps m o ss s ks = ap (λ (xs : List Clause). run m ks (At (Behind (record { line = record { label = o.label; clauses = xs }; gap = 0; comment = 0 })))) (append_assoc o.clauses ss (s ∷ []))
+more_steps m o ss s ks = ap (λ (xs : List Clause). run m ks (At (Behind (record { line = record { label = o.label; formals = o.formals; level = o.level; clauses = xs }; gap = 0; comment = 0 })))) (append_assoc o.clauses ss (s ∷ []))
 
 -- behind commands
 pub end_none : (m : Limits) (o : Sentence) (ks : List Token) → ks ≡ [] → run m ks (At (Behind (record { line = o; gap = 0; comment = 0 }))) ≡ Accept o
@@ -843,20 +569,26 @@ end_stuck m o Blank ks h i j = absurd i
 end_stuck m o (Comment text) ks h i j = absurd j
 end_stuck m o k ks h i j = refl
 
-pub gap_is : (x : Option (List ℕ)) (b : Bool) → b ≡ is_some x → comment_gap x ≡ label_gap b
-gap_is None b e = ap label_gap (sym e)
-gap_is (Some l) b e = ap label_gap (sym e)
+-- ---- what was read, as it may be written
 
--- the gap behind a label
-pub gap_same : (m : Limits) (x y : Option (List ℕ)) (b : Bool) (ks : List Token) → x ≡ y → b ≡ is_some y → run m ks (At (Behind (record { line = bare_line x; gap = 1; comment = comment_gap x }))) ≡ run m ks (At (Behind (record { line = bare_line x; gap = 1; comment = label_gap b })))
-gap_same m x y b ks e f = ap (λ (g : ℕ). run m ks (At (Behind (record { line = bare_line x; gap = 1; comment = g })))) (gap_is x b (f ∙ ap (is_some {T = List ℕ}) (sym e)))
+plain_keyword : (w : Command) → keyword_for (plain w) ≡ keyword_for w
+plain_keyword (Do list) = refl
+plain_keyword w = refl
 
--- a line of these parts
-abbrev pub line_made : Option (List ℕ) → List Clause → Sentence
-line_made label ss = record { label = label; clauses = ss }
+pub bare_written : (x : Command) → command_parts x ≡ [] → plain x ≡ x → IsWritten [] x
+bare_written x e f = (x, sym e, f)
 
-pub line_same : (l k : Option (List ℕ)) (ss ts : List Clause) → l ≡ k → ss ≡ ts → line_made l ss ≡ line_made k ts
-line_same l k ss ts h i = ap (λ (x : Option (List ℕ)). line_made x ss) h ∙ ap (λ (x : List Clause). line_made k x) i
+pub step_written : (c d : Option Expr) (k : Keyword) (ps : List Part) (x : Command) → c ≡ d → keyword_for x ≡ k → IsWritten ps x → IsWrittenStep (clause_is c k ps) (record { condition = d; command = x })
+step_written c d k ps x e f h = (
+  record { condition = d; command = h.0 },
+  clause_same c d k (keyword_for h.0) ps (command_parts h.0) e (sym f ∙ sym (ap keyword_for h.2) ∙ plain_keyword h.0) h.1,
+  ap (λ (y : Command). let s : Step = record { condition = d; command = y } in s) h.2,
+)
 
-pub shorter_rest : (xs ys zs : List Lexeme) → xs ≡ ys → length ys ≤ length zs → length xs ≤ length zs
-shorter_rest xs ys zs e l = let n = ap (length {A = Lexeme}) e in omega arith
+pub written_pushed : (old new : List kept_step.Step) (x : kept_step.Step) (ts : List Clause) (t : Clause) → new ≡ old ++ x ∷ [] → AreWritten ts (map step_of old) → IsWrittenStep t (step_of x) → AreWritten (ts ++ t ∷ []) (map step_of new)
+written_pushed old new x ts t h i j = (
+  i.0 ++ j.0 ∷ [],
+  ap (λ (ys : List Clause). ys ++ t ∷ []) i.1 ∙ ap (λ (y : Clause). map clause_of i.0 ++ y ∷ []) j.1 ∙ sym (map-append clause_of i.0 (j.0 ∷ [])),
+  map-append plain_step i.0 (j.0 ∷ []) ∙ ap (λ (ys : List Step). ys ++ plain_step j.0 ∷ []) i.2 ∙ ap (λ (y : Step). map step_of old ++ y ∷ []) j.2
+      ∙ sym (ap (λ (xs : List kept_step.Step). map step_of xs) h ∙ map-append step_of old (x ∷ [])),
+)

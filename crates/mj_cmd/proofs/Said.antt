@@ -1,5 +1,5 @@
 -- What a run says of the tokens, in the grammar's words.
-use Rattle.std.proofs.Common.{◌≡◌, ◌≤◌, ℕ, List, length, refl, ap, sym, ◌∙◌, subst, Bool, true, false, arith}
+use Rattle.std.proofs.Common.{◌≡◌, ◌≤◌, List, refl, sym, subst, true, false, arith}
 use Rattle.mj_ast.specs.Syntax.{Line}
 use Rattle.mj_ast.specs.Tokens.{Token}
 use Rattle.mj_ast.specs.Lines.{HasOverlong}
@@ -7,15 +7,15 @@ use Rattle.mj_expr.specs.Machine.{Limits}
 use Rattle.mj_expr.specs.Reads.{limits}
 use Rattle.mj_expr.specs.declared.stop.Stop.{Stop}
 use Rattle.mj_expr.specs.declared.stop.Stop.TheVariants as stop
-use Rattle.mj_line.specs.Sentences.{Sentence, sentence_of}
-use Rattle.mj_line.specs.Machine.{At, Begin, Accept, StuckAt, DeepAt, TooLong, run}
+use Rattle.mj_line.specs.Sentences.{Sentence}
+use Rattle.mj_line.specs.Machine.{At, Begin, Accept, run}
 use Rattle.mj_line.proofs.Said as runs
-use Rattle.mj_cmd.specs.Reads.{Refuses}
-use Rattle.mj_cmd.specs.Said.{IsRead, IsStuckWith, IsDeepWith, IsRefused, IsLate}
+use Rattle.mj_cmd.specs.Reads.{Refuses, IsWrittenLine}
+use Rattle.mj_cmd.specs.Said.{IsRead, IsRefused, IsLate}
 
 -- the line of these commands was read
-pub read_as : (ks : List Token) (t : Sentence) (l : Line) → t ≡ sentence_of l → run (limits 64) ks (At Begin) ≡ Accept t → IsRead ks l
-read_as ks t l e h = let r = runs.said_read ks t l (sym e) h in record { spells = r.spells; within = r.within; only = r.only; short = r.short }
+pub read_as : (ks : List Token) (t : Sentence) (l : Line) → IsWrittenLine t l → run (limits 64) ks (At Begin) ≡ Accept t → IsRead ks l
+read_as ks t l e h = let r = runs.said_read ks t e.0 l (sym e.1) e.2 h in record { spells = r.spells; within = r.within; only = r.only; short = r.short }
 
 -- what is known beside a refusal: of a level too many, that nothing is over its limit
 abbrev pub IsKnown : List Token → Stop → Type 0

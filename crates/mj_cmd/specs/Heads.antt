@@ -1,9 +1,11 @@
 -- What stands in front of the tokens.
-use Rattle.std.specs.Prelude.{ℕ, ◌≡◌, ◌≤◌, Bool, true, false, List, [], ◌∷◌, length, Some}
+use Rattle.std.specs.Prelude.{ℕ, ◌≡◌, ◌⊎◌, ◌≤◌, List, [], ◌∷◌, length, Option, Some, None}
 use Rattle.mj_ast.specs.Expressions.{name_limit, text_limit}
 use Rattle.mj_ast.specs.Commands.{PieceCall}
 use Rattle.mj_line.specs.Forms.{part_of}
-use Rattle.mj_ast.specs.declared.sign.Sign.TheVariants.{Equals, Comma, Colon, Exclamation, Open, Close}
+use Rattle.mj_line.specs.Sentences.{Sentence}
+use Rattle.mj_line.specs.Machine.{Spot, Begin, Labelled, FormalsEnd, empty_line, headed}
+use Rattle.mj_ast.specs.declared.sign.Sign.TheVariants.{Equals, Comma, Colon, Exclamation, Caret, Open, Close, Dot}
 use Rattle.mj_ast.specs.Tokens.{Token, Word, Digits, Signed, Blank, Comment}
 
 -- such a token doesn't
@@ -32,6 +34,22 @@ abbrev pub HasNoPiece : List Token → Type 0
 HasNoPiece (k ∷ ks) = part_of k ≡ Some PieceCall → ⊥
 HasNoPiece [] = Unit {0}
 
+abbrev pub HasNoCaret : List Token → Type 0
+HasNoCaret (Signed Caret ∷ ks) = ⊥
+HasNoCaret ks = Unit {0}
+
+-- a name, or digits that are no longer than a text
+abbrev pub HasNoLabel : List Token → Type 0
+HasNoLabel (Word w ∷ ks) = length w ≤ name_limit → ⊥
+HasNoLabel (Digits d ∷ ks) = length d ≤ text_limit → ⊥
+HasNoLabel ks = Unit {0}
+
+-- such a label stands in front of the rest
+abbrev pub StartsLabel : List Token → List ℕ → List Token → Type 0
+StartsLabel (Word w ∷ ks) l rest = (l ≡ w) × (ks ≡ rest) × (length w ≤ name_limit)
+StartsLabel (Digits d ∷ ks) l rest = (l ≡ d) × (ks ≡ rest) × (length d ≤ text_limit)
+StartsLabel ks l rest = ⊥
+
 -- a word of a length that a name may have
 abbrev pub HasNoName : List Token → Type 0
 HasNoName (Word w ∷ ks) = length w ≤ name_limit → ⊥
@@ -40,6 +58,10 @@ HasNoName ks = Unit {0}
 abbrev pub HasNoMark : List Token → Type 0
 HasNoMark (Signed Exclamation ∷ ks) = ⊥
 HasNoMark ks = Unit {0}
+
+abbrev pub HasNoDot : List Token → Type 0
+HasNoDot (Signed Dot ∷ ks) = ⊥
+HasNoDot ks = Unit {0}
 
 abbrev pub HasNoWord : List Token → Type 0
 HasNoWord (Word w ∷ ks) = ⊥
@@ -68,7 +90,17 @@ abbrev pub IsLabelShort : List Token → Type 0
 IsLabelShort (Digits d ∷ ks) = length d ≤ text_limit
 IsLabelShort ks = Unit {0}
 
--- how many blanks stand behind a label before a comment, at least
-abbrev pub label_gap : Bool → ℕ
-label_gap true = 1
-label_gap false = 0
+-- no label stands in front
+abbrev pub IsUnlabelled : List Token → Type 0
+IsUnlabelled (Word w ∷ ks) = ⊥
+IsUnlabelled (Digits d ∷ ks) = ⊥
+IsUnlabelled ks = Unit {0}
+
+-- behind a label, or where nothing was read
+abbrev pub label_spot : Option (List ℕ) → Spot
+label_spot None = Begin
+label_spot (Some label) = Labelled label
+
+-- before these tokens nothing was read, and no label comes; or the label and the formals of such a line were
+abbrev pub IsHead : List Token → Spot → Sentence → Type 0
+IsHead ks p o = ((p ≡ Begin) × (o ≡ empty_line) × IsUnlabelled ks) ⊎ ((label : List ℕ) × (names : List (List ℕ)) × (p ≡ FormalsEnd label names) × (o ≡ headed label names))

@@ -1,10 +1,11 @@
 -- What a function that reads a part of a line returns.
-use Rattle.std.specs.Prelude.{◌≡◌, ◌≤◌, ◌+◌, ◌⊎◌, Bool, true, false, List, ◌++◌, length, Option, Result, Ok, Err}
+use Rattle.std.specs.Prelude.{◌≡◌, ◌≤◌, ◌+◌, ◌⊎◌, Bool, true, false, List, ◌++◌, length, Option, map, Result, Ok, Err}
 use Rattle.mj_ast.specs.Expressions.{depth_limit, width_limit}
 use Rattle.mj_ast.specs.declared.keyword.Keyword.{Keyword}
-use Rattle.mj_ast.specs.Syntax.{Expr}
+use Rattle.mj_ast.specs.Syntax.{Expr, Called, Command, Step, Line}
 use Rattle.mj_ast.specs.Tokens.{Token}
-use Rattle.mj_ast.specs.Commands.{Part}
+use Rattle.mj_ast.specs.Commands.{Part, actuals_parts, called_parts, command_parts, with_commas, plain, plain_actuals, plain_called, plain_step}
+use Rattle.mj_ast.specs.Lines.{plain_line}
 use Rattle.mj_lex.specs.declared.token.Lexeme.{Lexeme}
 use Rattle.mj_lex.specs.Seen.{tokens_seen}
 use Rattle.mj_expr.specs.Machine.{Limits}
@@ -12,7 +13,7 @@ use Rattle.mj_expr.specs.Reads.{limits}
 use Rattle.mj_expr.specs.declared.stop.Stop.{Stop}
 use Rattle.mj_expr.specs.declared.stop.Stop.TheVariants as stop
 use Rattle.mj_line.specs.Forms.{Node, OutputWanted, OutputEnd, MarksEnd}
-use Rattle.mj_line.specs.Sentences.{Sentence}
+use Rattle.mj_line.specs.Sentences.{Clause, Sentence, clause_of, sentence_of}
 use Rattle.mj_line.specs.Machine.{State, At, Args, Outcome, Accept, StuckAt, DeepAt, TooLong, run}
 use Rattle.mj_cmd.specs.Heads.{HasNoMark}
 
@@ -33,6 +34,12 @@ Refuses limited (stop.Stuck left) o = o ≡ StuckAt left
 Refuses limited (stop.Deep left) o = (limited ≡ true) × (o ≡ DeepAt left)
 Refuses limited stop.Long o = o ≡ TooLong
 
+-- The tokens are read on from the state: up to the rest with the state that holds what was read, or up to the refusal. Within the
+-- limits of the language what was read stands so to what is given.
+abbrev pub ReadsAs : {X T : Type 0} → Bool → (T → X → Type 0) → (X → List Lexeme) → Result X Stop → Limits → List Lexeme → State → (T → State) → Type 0
+ReadsAs {T = T} limited is rest (Ok x) m ls s holding = (t : T) × (limited ≡ true → is t x) × (run m (tokens_seen ls) s ≡ run m (tokens_seen (rest x)) (holding t))
+ReadsAs {T = T} limited is rest (Err e) m ls s holding = Refuses limited e (run m (tokens_seen ls) s)
+
 -- The tokens are read on from the state: up to the rest with the state that holds the tree, or up to the refusal. Within the
 -- limits of the language it is the tree that is given; else that one stands for any.
 abbrev pub Reads : {X T : Type 0} → Bool → (X → T) → (X → List Lexeme) → Result X Stop → Limits → List Lexeme → State → (T → State) → Type 0
@@ -44,11 +51,44 @@ abbrev pub Ends : {X T : Type 0} → Bool → (X → T) → Result X Stop → Li
 Ends {T = T} limited tree (Ok x) m ls s made = (t : T) × (limited ≡ true → t ≡ tree x) × (run m (tokens_seen ls) s ≡ Accept (made t))
 Ends {T = T} limited tree (Err e) m ls s made = Refuses limited e (run m (tokens_seen ls) s)
 
+-- The same of what is made of what was read.
+abbrev pub EndsAs : {X T : Type 0} → Bool → (T → X → Type 0) → Result X Stop → Limits → List Lexeme → State → (T → Sentence) → Type 0
+EndsAs {T = T} limited is (Ok x) m ls s made = (t : T) × (limited ≡ true → is t x) × (run m (tokens_seen ls) s ≡ Accept (made t))
+EndsAs {T = T} limited is (Err e) m ls s made = Refuses limited e (run m (tokens_seen ls) s)
+
+-- The parts are those of actuals as they may be written, with their parentheses, and so on.
+abbrev pub AreWrittenActuals : List Part → List (Option Expr) → Type 0
+AreWrittenActuals ps list = (ws : List (Option Expr)) × (ps ≡ actuals_parts ws) × (plain_actuals ws ≡ list)
+
+abbrev pub IsWrittenCall : List Part → Called → Type 0
+IsWrittenCall ps c = (w : Called) × (ps ≡ called_parts w) × (plain_called w ≡ c)
+
+abbrev pub AreWrittenCalls : List Part → List Called → Type 0
+AreWrittenCalls ps cs = (ws : List Called) × (ps ≡ with_commas called_parts ws) × (map plain_called ws ≡ cs)
+
+abbrev pub IsWritten : List Part → Command → Type 0
+IsWritten ps c = (w : Command) × (ps ≡ command_parts w) × (plain w ≡ c)
+
+abbrev pub IsWrittenStep : Clause → Step → Type 0
+IsWrittenStep c s = (w : Step) × (c ≡ clause_of w) × (plain_step w ≡ s)
+
+abbrev pub AreWritten : List Clause → List Step → Type 0
+AreWritten cs ss = (ws : List Step) × (cs ≡ map clause_of ws) × (map plain_step ws ≡ ss)
+
+abbrev pub IsWrittenLine : Sentence → Line → Type 0
+IsWrittenLine s l = (w : Line) × (s ≡ sentence_of w) × (plain_line w ≡ l)
+
 -- The parts of arguments are read on from a place to another.
 abbrev pub Passes : {X : Type 0} → Bool → (X → List Part) → (X → List Lexeme) → Result X Stop → Limits → List Lexeme → Node → Node → Type 0
 Passes limited parts rest r m ls n next =
     (o : Sentence) → (condition : Option Expr) → (k : Keyword) → (done : List Part) →
     Reads limited parts rest r m ls (At (Args o condition k done n)) (λ ps. At (Args o condition k (done ++ ps) next))
+
+-- The same, where what was read stands so to what is given.
+abbrev pub PassesAs : {X : Type 0} → Bool → (List Part → X → Type 0) → (X → List Lexeme) → Result X Stop → Limits → List Lexeme → Node → Node → Type 0
+PassesAs limited is rest r m ls n next =
+    (o : Sentence) → (condition : Option Expr) → (k : Keyword) → (done : List Part) →
+    ReadsAs limited is rest r m ls (At (Args o condition k done n)) (λ ps. At (Args o condition k (done ++ ps) next))
 
 -- where an argument of WRITE ends: behind an expression, or behind format marks where no other one stands
 abbrev pub EndsOutput : Node → List Token → Type 0

@@ -1,33 +1,50 @@
 // Commands, with their postconditions and their arguments.
 
-ghost use Rattle.std.specs.Prelude.{◌≡◌, ◌≤◌, Option, IfOk, Bool, [], length, option_map};
+ghost use Rattle.std.specs.Prelude.{◌≡◌, ◌∷◌, ◌≤◌, Option, IfOk, [], length, option_map, true};
+ghost use Rattle.mj_ast.specs.Tokens.{Blank};
+ghost use Rattle.mj_line.specs.Forms.{may_be_bare as the_bare};
 ghost use Rattle.mj_ast.specs.Syntax as tree;
-ghost use Rattle.mj_ast.specs.Commands.{command_parts, keyword_for};
+ghost use Rattle.mj_ast.specs.Commands.{command_parts, keyword_for, plain, is_conditional as the_conditional};
 ghost use Rattle.mj_ast.specs.Trees.{expr_of, command_of, step_of};
 ghost use Rattle.mj_expr.specs.Machine.{Limits};
 ghost use Rattle.mj_lex.specs.Seen.{tokens_seen};
-ghost use Rattle.mj_line.specs.Sentences.{Sentence, clause_of};
+ghost use Rattle.mj_line.specs.Sentences.{Sentence};
 ghost use Rattle.mj_line.specs.Machine.{At, Bare, Worded, Behind, args_rest, with_clause};
-ghost use Rattle.mj_cmd.specs.Heads.{HasParted};
-ghost use Rattle.mj_cmd.specs.Reads.{HasRoom, Reads, no_tree};
+ghost use Rattle.mj_cmd.specs.Heads.{HasOther, HasParted};
+ghost use Rattle.mj_cmd.specs.Reads.{HasRoom, IsWritten, IsWrittenStep, Reads, ReadsAs};
 
+use crate::call::calls;
+use crate::control::{jumps, renewals, truths};
 use crate::kill::{kills, merges};
 use crate::parts::{behind_blank, behind_colon, parted, stuck};
 use crate::phrase::Phrases;
+use crate::repeat::repeated;
 use crate::set::assignments;
 use crate::write::outputs;
 use mj_ast::{Command, Expr, Keyword, Step};
 use mj_expr::Stop;
 use mj_lex::Lexeme;
+use std::alloc::Global;
+
+/// Whether a postcondition may stand behind the word of the command.
+fn is_conditional(keyword: Keyword) -> bool
+    ensures { result ≡ the_conditional keyword }
+{
+    !matches!(keyword, Keyword::If | Keyword::Else | Keyword::For)
+}
 
 /// A postcondition, if there is one.
 fn condition<'a, 't>(
     phrases: Phrases,
+    keyword: Keyword,
     tokens: &'t [Lexeme<'a>],
 ) -> Result<(Option<Expr>, &'t [Lexeme<'a>]), Stop>
     ensures shorter { IfOk result (λ x. length x.1.now ≤ length tokens.now) }
-    ensures reads { (m : Limits) → HasRoom phrases.limited m tokens.now → (o : Sentence) → (k : Keyword) → Reads phrases.limited (λ x. option_map expr_of x.0) (λ x. x.1.now) result m tokens.now (At (Worded o k)) (λ c. At (Bare o c k)) }
+    ensures reads { (m : Limits) → HasRoom phrases.limited m tokens.now → (o : Sentence) → Reads phrases.limited (λ x. option_map expr_of x.0) (λ x. x.1.now) result m tokens.now (At (Worded o keyword)) (λ c. At (Bare o c keyword)) }
 {
+    if !is_conditional(keyword) {
+        return Ok((None, tokens));
+    }
     match behind_colon(tokens) {
         None => Ok((None, tokens)),
         Some(behind) => {
@@ -37,47 +54,98 @@ fn condition<'a, 't>(
     }
 }
 
-/// What follows HALT: nothing, or a blank and then a second one, a comment or nothing.
-fn halted<'a, 't>(tokens: &'t [Lexeme<'a>]) -> Result<&'t [Lexeme<'a>], Stop>
-    ensures shorter { IfOk result (λ x. length x.now ≤ length tokens.now) }
-    ensures parted { IfOk result (λ x. HasParted (tokens_seen x.now)) }
-    ensures reads { (m : Limits) → (limited : Bool) → (o : Sentence) → (condition : Option tree.Expr) → Reads limited (λ _. no_tree) (λ x. x.now) result m tokens.now (At (Bare o condition Keyword.Halt)) (λ _. At (Behind (args_rest o condition Keyword.Halt []))) }
+/// Whether the command may have no arguments.
+fn may_be_bare(keyword: Keyword) -> bool
+    ensures { result ≡ the_bare keyword }
 {
-    if tokens.is_empty() {
-        return Ok(tokens);
-    }
-    match behind_blank(tokens) {
-        None => Err(stuck(tokens)),
-        Some(behind) => parted(behind),
+    !matches!(
+        keyword,
+        Keyword::Set | Keyword::Write | Keyword::Merge | Keyword::Goto
+    )
+}
+
+/// The command without arguments.
+fn bare(alloc: Global, keyword: Keyword) -> Command
+    ensures named { keyword_for (command_of result) ≡ keyword }
+    ensures parts { command_parts (command_of result) ≡ [] }
+    ensures plain { plain (command_of result) ≡ command_of result }
+{
+    match keyword {
+        Keyword::Set => Command::Set(Vec::new(alloc)),
+        Keyword::Write => Command::Write(Vec::new(alloc)),
+        Keyword::Halt => Command::Halt,
+        Keyword::Kill => Command::Kill(Vec::new(alloc)),
+        Keyword::Merge => Command::Merge(Vec::new(alloc)),
+        Keyword::If => Command::If(Vec::new(alloc)),
+        Keyword::Else => Command::Else,
+        Keyword::For => Command::Forever,
+        Keyword::Do => Command::Do(Vec::new(alloc)),
+        Keyword::Goto => Command::Goto(Vec::new(alloc)),
+        Keyword::Quit => Command::Quit,
+        Keyword::New => Command::New(Vec::new(alloc)),
     }
 }
 
-/// KILL behind its word and its postcondition.
-fn kill<'a, 't>(
+/// The command with its arguments, which stand behind a blank: `tokens` are those from the blank on, `behind` those behind it.
+fn with_arguments<'a, 't>(
     phrases: Phrases,
+    keyword: Keyword,
     tokens: &'t [Lexeme<'a>],
+    behind: &'t [Lexeme<'a>],
 ) -> Result<(Command, &'t [Lexeme<'a>]), Stop>
-    ensures shorter { IfOk result (λ x. length x.1.now ≤ length tokens.now) }
+    requires blank { tokens_seen tokens.now ≡ Blank ∷ tokens_seen behind.now }
+    requires room { length behind.now ≤ length tokens.now }
+    requires other { the_bare keyword ≡ true → HasOther (tokens_seen behind.now) }
+    ensures shorter { IfOk result (λ x. length x.1.now ≤ length behind.now) }
     ensures parted { IfOk result (λ x. HasParted (tokens_seen x.1.now)) }
-    ensures named { IfOk result (λ x. keyword_for (command_of x.0) ≡ Keyword.Kill) }
-    ensures reads { (m : Limits) → HasRoom phrases.limited m tokens.now → (o : Sentence) → (condition : Option tree.Expr) → Reads phrases.limited (λ x. command_parts (command_of x.0)) (λ x. x.1.now) result m tokens.now (At (Bare o condition Keyword.Kill)) (λ ps. At (Behind (args_rest o condition Keyword.Kill ps))) }
+    ensures named { IfOk result (λ x. keyword_for (command_of x.0) ≡ keyword) }
+    ensures reads { (m : Limits) → HasRoom phrases.limited m tokens.now → (o : Sentence) → (condition : Option tree.Expr) → ReadsAs phrases.limited (λ ps x. IsWritten ps (command_of x.0)) (λ x. x.1.now) result m tokens.now (At (Bare o condition keyword)) (λ ps. At (Behind (args_rest o condition keyword ps))) }
 {
-    if tokens.is_empty() {
-        return Ok((Command::Kill(Vec::new(phrases.alloc)), tokens));
-    }
-    match behind_blank(tokens) {
-        None => Err(stuck(tokens)),
-        Some(behind) => match parted(behind) {
-            Ok(rest) => Ok((Command::Kill(Vec::new(phrases.alloc)), rest)),
-            Err(_) => {
-                let (arguments, rest) = kills(phrases, behind)?;
-                Ok((Command::Kill(arguments), rest))
-            }
-        },
+    match keyword {
+        Keyword::Set => {
+            let (arguments, rest) = assignments(phrases, behind)?;
+            Ok((Command::Set(arguments), rest))
+        }
+        Keyword::Write => {
+            let (arguments, rest) = outputs(phrases, behind)?;
+            Ok((Command::Write(arguments), rest))
+        }
+        Keyword::Kill => {
+            let (arguments, rest) = kills(phrases, behind)?;
+            Ok((Command::Kill(arguments), rest))
+        }
+        Keyword::Merge => {
+            let (arguments, rest) = merges(phrases, behind)?;
+            Ok((Command::Merge(arguments), rest))
+        }
+        Keyword::If => {
+            let (arguments, rest) = truths(phrases, behind)?;
+            Ok((Command::If(arguments), rest))
+        }
+        Keyword::Do => {
+            let (arguments, rest) = calls(phrases, behind)?;
+            Ok((Command::Do(arguments), rest))
+        }
+        Keyword::Goto => {
+            let (arguments, rest) = jumps(phrases, behind)?;
+            Ok((Command::Goto(arguments), rest))
+        }
+        Keyword::New => {
+            let (arguments, rest) = renewals(phrases, behind)?;
+            Ok((Command::New(arguments), rest))
+        }
+        Keyword::For => {
+            let (counter, ranges, rest) = repeated(phrases, behind)?;
+            Ok((Command::For(counter, ranges), rest))
+        }
+        Keyword::Halt => Err(stuck(behind)),
+        Keyword::Else => Err(stuck(behind)),
+        Keyword::Quit => Err(stuck(behind)),
     }
 }
 
-/// The command behind its word and its postcondition.
+/// The command behind its word and its postcondition: without arguments at the end, or at one blank and then a second one, a
+/// comment or the end; else with arguments behind a blank.
 fn command<'a, 't>(
     phrases: Phrases,
     keyword: Keyword,
@@ -86,35 +154,26 @@ fn command<'a, 't>(
     ensures shorter { IfOk result (λ x. length x.1.now ≤ length tokens.now) }
     ensures parted { IfOk result (λ x. HasParted (tokens_seen x.1.now)) }
     ensures named { IfOk result (λ x. keyword_for (command_of x.0) ≡ keyword) }
-    ensures reads { (m : Limits) → HasRoom phrases.limited m tokens.now → (o : Sentence) → (condition : Option tree.Expr) → Reads phrases.limited (λ x. command_parts (command_of x.0)) (λ x. x.1.now) result m tokens.now (At (Bare o condition keyword)) (λ ps. At (Behind (args_rest o condition keyword ps))) }
+    ensures reads { (m : Limits) → HasRoom phrases.limited m tokens.now → (o : Sentence) → (condition : Option tree.Expr) → ReadsAs phrases.limited (λ ps x. IsWritten ps (command_of x.0)) (λ x. x.1.now) result m tokens.now (At (Bare o condition keyword)) (λ ps. At (Behind (args_rest o condition keyword ps))) }
 {
-    match keyword {
-        Keyword::Set => match behind_blank(tokens) {
-            None => Err(stuck(tokens)),
-            Some(behind) => {
-                let (arguments, rest) = assignments(phrases, behind)?;
-                Ok((Command::Set(arguments), rest))
+    let may_end = may_be_bare(keyword);
+    match behind_blank(tokens) {
+        None => {
+            if may_end && tokens.is_empty() {
+                Ok((bare(phrases.alloc, keyword), tokens))
+            } else {
+                Err(stuck(tokens))
             }
-        },
-        Keyword::Write => match behind_blank(tokens) {
-            None => Err(stuck(tokens)),
-            Some(behind) => {
-                let (arguments, rest) = outputs(phrases, behind)?;
-                Ok((Command::Write(arguments), rest))
-            }
-        },
-        Keyword::Halt => {
-            let rest = halted(tokens)?;
-            Ok((Command::Halt, rest))
         }
-        Keyword::Kill => kill(phrases, tokens),
-        Keyword::Merge => match behind_blank(tokens) {
-            None => Err(stuck(tokens)),
-            Some(behind) => {
-                let (arguments, rest) = merges(phrases, behind)?;
-                Ok((Command::Merge(arguments), rest))
+        Some(behind) => {
+            if !may_end {
+                return with_arguments(phrases, keyword, tokens, behind);
             }
-        },
+            match parted(behind) {
+                Ok(rest) => Ok((bare(phrases.alloc, keyword), rest)),
+                Err(_) => with_arguments(phrases, keyword, tokens, behind),
+            }
+        }
     }
 }
 
@@ -126,9 +185,9 @@ pub fn step<'a, 't>(
 ) -> Result<(Step, &'t [Lexeme<'a>]), Stop>
     ensures shorter { IfOk result (λ x. length x.1.now ≤ length tokens.now) }
     ensures parted { IfOk result (λ x. HasParted (tokens_seen x.1.now)) }
-    ensures reads { (m : Limits) → HasRoom phrases.limited m tokens.now → (o : Sentence) → Reads phrases.limited (λ x. clause_of (step_of x.0)) (λ x. x.1.now) result m tokens.now (At (Worded o keyword)) (λ c. At (Behind (record { line = with_clause o c; gap = 1; comment = 0 }))) }
+    ensures reads { (m : Limits) → HasRoom phrases.limited m tokens.now → (o : Sentence) → ReadsAs phrases.limited (λ c x. IsWrittenStep c (step_of x.0)) (λ x. x.1.now) result m tokens.now (At (Worded o keyword)) (λ c. At (Behind (record { line = with_clause o c; gap = 1; comment = 0 }))) }
 {
-    let (condition, rest) = condition(phrases, tokens)?;
+    let (condition, rest) = condition(phrases, keyword, tokens)?;
     let (command, rest) = command(phrases, keyword, rest)?;
     Ok((Step { condition, command }, rest))
 }

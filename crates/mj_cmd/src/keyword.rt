@@ -48,5 +48,47 @@ pub fn keyword_of(word: &[u8]) -> Option<Keyword>
     if is_spelled(word, b"M") {
         return Some(Keyword::Merge);
     }
+    if is_spelled(word, b"IF") {
+        return Some(Keyword::If);
+    }
+    if is_spelled(word, b"I") {
+        return Some(Keyword::If);
+    }
+    if is_spelled(word, b"ELSE") {
+        return Some(Keyword::Else);
+    }
+    if is_spelled(word, b"E") {
+        return Some(Keyword::Else);
+    }
+    if is_spelled(word, b"FOR") {
+        return Some(Keyword::For);
+    }
+    if is_spelled(word, b"F") {
+        return Some(Keyword::For);
+    }
+    if is_spelled(word, b"DO") {
+        return Some(Keyword::Do);
+    }
+    if is_spelled(word, b"D") {
+        return Some(Keyword::Do);
+    }
+    if is_spelled(word, b"GOTO") {
+        return Some(Keyword::Goto);
+    }
+    if is_spelled(word, b"G") {
+        return Some(Keyword::Goto);
+    }
+    if is_spelled(word, b"QUIT") {
+        return Some(Keyword::Quit);
+    }
+    if is_spelled(word, b"Q") {
+        return Some(Keyword::Quit);
+    }
+    if is_spelled(word, b"NEW") {
+        return Some(Keyword::New);
+    }
+    if is_spelled(word, b"N") {
+        return Some(Keyword::New);
+    }
     None
 }

@@ -7,8 +7,9 @@ ghost use Rattle.mj_ast.specs.declared.sign.Sign.TheVariants.{Close};
 ghost use Rattle.mj_expr.specs.Machine.{Limits};
 ghost use Rattle.mj_expr.specs.declared.stop.Stop.TheVariants.{Memory};
 ghost use Rattle.mj_lex.specs.Seen.{tokens_seen};
-ghost use Rattle.mj_line.specs.Forms.{KillEnd, KillWanted, MergeEnd, MergeInto, NameWanted};
+ghost use Rattle.mj_line.specs.Forms.{KillEnd, KillWanted, MergeEnd, MergeInto};
 ghost use Rattle.mj_cmd.specs.Heads.{HasOther, HasParted};
+ghost use Rattle.mj_cmd.specs.Parts.{name_end, name_wanted};
 ghost use Rattle.mj_cmd.specs.Reads.{HasRoom, Passes};
 
 use crate::parts::{
@@ -34,12 +35,12 @@ pub fn word_text(alloc: Global, bytes: &[u8]) -> Result<Text, Stop>
 }
 
 /// The names of a list behind its `(`, and the `)` that closes it.
-fn names<'a, 't>(
+pub fn names<'a, 't>(
     phrases: Phrases,
     tokens: &'t [Lexeme<'a>],
 ) -> Result<(Vec<Text>, &'t [Lexeme<'a>]), Stop>
     ensures shorter { IfOk result (λ x. length x.1.now ≤ length tokens.now) }
-    ensures reads { (m : Limits) → Passes phrases.limited (λ x. with_commas name_parts x.0.items ++ Put Close ∷ []) (λ x. x.1.now) result m tokens.now NameWanted KillEnd }
+    ensures reads { (m : Limits) → (new : Bool) → Passes phrases.limited (λ x. with_commas name_parts x.0.items ++ Put Close ∷ []) (λ x. x.1.now) result m tokens.now (name_wanted new) (name_end new) }
 {
     let mut names = Vec::new(phrases.alloc);
     match behind_name(tokens) {

@@ -4,13 +4,18 @@
 // it is the token there that is named, by how many tokens are left from it on (none at the line's end).
 #![tactic(auto)]
 
+mod call;
 mod command;
+mod control;
+mod formals;
 mod keyword;
 mod kill;
 mod lines;
 mod parts;
 mod phrase;
+mod repeat;
 mod set;
 mod write;
 
+pub use keyword::keyword_of;
 pub use lines::line;

@@ -1,21 +1,23 @@
 // Lines.
 
-ghost use Rattle.std.specs.Prelude.{◌≡◌, ◌++◌, ◌<◌, ◌≤◌, Bool, IfErr, IfOk, MatchOption, length, map};
-ghost use Rattle.mj_ast.specs.Lines.{comment_gap};
+ghost use Rattle.std.specs.Prelude.{◌≡◌, ◌+◌, ◌++◌, ◌<◌, ◌≤◌, Bool, IfErr, IfOk, MatchOption, None, [], is_some, length, map};
 ghost use Rattle.mj_ast.specs.Trees.{line_of, step_of};
 ghost use Rattle.mj_expr.specs.Machine.{Limits};
 ghost use Rattle.mj_lex.specs.Seen.{tokens_seen};
-ghost use Rattle.mj_line.specs.Machine.{At, Begin, Behind, bare_line};
-ghost use Rattle.mj_line.specs.Sentences.{Sentence, clause_of, sentence_of};
-ghost use Rattle.mj_cmd.specs.Heads.{HasNoBlank, HasNoWord, HasParted, IsLabelShort, label_gap};
-ghost use Rattle.mj_cmd.specs.Reads.{HasRoom, Reads, Ends, no_tree};
+ghost use Rattle.mj_line.specs.Machine.{At, Begin, Behind, Indented, Spot, run};
+ghost use Rattle.mj_line.specs.Sentences.{Sentence};
+ghost use Rattle.mj_cmd.specs.Heads.{HasNoBlank, HasNoWord, IsHead, IsLabelShort, IsUnlabelled, label_spot};
+ghost use Rattle.mj_cmd.specs.Reads.{AreWritten, HasRoom, IsWrittenLine, Reads, ReadsAs, Ends, EndsAs, no_tree};
 ghost use Rattle.mj_ast.specs.Lines.{HasOverlong};
 ghost use Rattle.mj_cmd.specs.Said.{IsLate, IsRead, IsRefused};
 
 use crate::command::step;
+use crate::formals::formals;
 use crate::keyword::keyword_of;
 use crate::kill::word_text;
-use crate::parts::{WORD_LIMIT, behind_blank, behind_blanks, behind_word, parted, stuck};
+use crate::parts::{
+    WORD_LIMIT, behind_blank, behind_blanks, behind_dot, behind_word, parted, stuck,
+};
 use crate::phrase::Phrases;
 use mj_ast::{Line, Step};
 use mj_expr::{Stop, added};
@@ -30,7 +32,8 @@ fn label<'a, 't>(
 ) -> Result<(Option<Text>, &'t [Lexeme<'a>]), Stop>
     requires { IsLabelShort (tokens_seen tokens.now) }
     ensures shorter { IfOk result (λ x. length x.1.now ≤ length tokens.now) }
-    ensures reads { (m : Limits) → (limited : Bool) → Reads limited (λ x. x.0) (λ x. x.1.now) result m tokens.now (At Begin) (λ l. At (Behind (record { line = bare_line l; gap = 1; comment = comment_gap l }))) }
+    ensures none { IfOk result (λ x. x.0 ≡ None → IsUnlabelled (tokens_seen x.1.now)) }
+    ensures reads { (m : Limits) → (limited : Bool) → Reads limited (λ x. x.0) (λ x. x.1.now) result m tokens.now (At Begin) (λ l. At (label_spot l)) }
 {
     match next(tokens) {
         None => Ok((None, tokens)),
@@ -52,21 +55,58 @@ fn label<'a, 't>(
     }
 }
 
-/// What follows a label, or nothing where there is none, if a line goes on so: a blank, the end, or without a label a comment.
-fn behind_label<'a, 't>(labelled: bool, tokens: &'t [Lexeme<'a>]) -> Result<&'t [Lexeme<'a>], Stop>
-    ensures same { IfOk result (λ x. x.now ≡ tokens.now) }
-    ensures parted { IfOk result (λ x. HasParted (tokens_seen x.now)) }
-    ensures reads { (m : Limits) → (limited : Bool) → (o : Sentence) → Reads limited (λ _. no_tree) (λ x. x.now) result m tokens.now (At (Behind (record { line = o; gap = 1; comment = label_gap labelled }))) (λ _. At (Behind (record { line = o; gap = 1; comment = 0 }))) }
+/// A label with its formals, if one stands in front, and what follows them.
+fn head<'a, 't>(
+    alloc: Global,
+    tokens: &'t [Lexeme<'a>],
+) -> Result<(Option<Text>, Vec<Text>, &'t [Lexeme<'a>]), Stop>
+    requires { IsLabelShort (tokens_seen tokens.now) }
+    ensures shorter { IfOk result (λ x. length x.2.now ≤ length tokens.now) }
+    ensures reads { (m : Limits) → (limited : Bool) → ReadsAs limited (λ p x. IsHead (tokens_seen x.2.now) p (record { label = x.0; formals = x.1.items; level = 1; clauses = [] })) (λ x. x.2.now) result m tokens.now (At Begin) (λ p. At p) }
 {
-    if !labelled {
-        return parted(tokens);
+    let (label, rest) = label(alloc, tokens)?;
+    match label {
+        None => Ok((None, Vec::new(alloc), rest)),
+        Some(label) => {
+            let (formals, rest) = formals(alloc, rest)?;
+            Ok((Some(label), formals, rest))
+        }
     }
-    if tokens.is_empty() {
-        return Ok(tokens);
+}
+
+/// How many dots stand in front, behind a blank that was read, and what follows them. Blanks may stand before and behind each.
+fn dots<'a, 't>(tokens: &'t [Lexeme<'a>]) -> (usize, &'t [Lexeme<'a>])
+    ensures count { result.0 + length result.1.now ≤ length tokens.now }
+    ensures goes { (m : Limits) → (o : Sentence) → run m (tokens_seen tokens.now) (At (Indented o)) ≡ run m (tokens_seen result.1.now) (At (Behind (record { line = record { label = o.label; formals = o.formals; level = result.0 + o.level; clauses = o.clauses }; gap = 0; comment = 0 }))) }
+{
+    let (_, mut rest) = behind_blanks(tokens);
+    let mut dots = 0;
+    'dots: while let Some(behind) = behind_dot(rest) {
+        let (_, behind) = behind_blanks(behind);
+        dots += 1;
+        rest = behind;
     }
+    (dots, rest)
+}
+
+/// The dots behind a label and its formals, or where there is no label, and what follows them, if a line goes on so: a blank
+/// before them, the end, or without a label a comment.
+fn indent<'a, 't>(
+    labelled: bool,
+    tokens: &'t [Lexeme<'a>],
+) -> Result<(usize, &'t [Lexeme<'a>]), Stop>
+    ensures count { IfOk result (λ x. x.0 + length x.1.now ≤ length tokens.now) }
+    ensures reads { (m : Limits) → (limited : Bool) → (p : Spot) → (o : Sentence) → IsHead (tokens_seen tokens.now) p o → labelled ≡ is_some o.label → Reads limited (λ x. x.0) (λ x. x.1.now) result m tokens.now (At p) (λ n. At (Behind (record { line = record { label = o.label; formals = o.formals; level = n + o.level; clauses = o.clauses }; gap = 0; comment = 0 }))) }
+{
     match behind_blank(tokens) {
-        None => Err(stuck(tokens)),
-        Some(_) => Ok(tokens),
+        Some(behind) => Ok(dots(behind)),
+        None => {
+            if labelled && !tokens.is_empty() {
+                return Err(stuck(tokens));
+            }
+            let rest = parted(tokens)?;
+            Ok((0, rest))
+        }
     }
 }
 
@@ -91,10 +131,9 @@ fn ended(tokens: &[Lexeme]) -> Result<(), Stop>
     }
 }
 
-/// The commands behind the blanks in front, up to a comment or the line's end.
+/// The commands behind the blanks in front, if there are some, up to a comment or the line's end.
 fn steps(phrases: Phrases, tokens: &[Lexeme]) -> Result<Vec<Step>, Stop>
-    requires { HasParted (tokens_seen tokens.now) }
-    ensures { (m : Limits) → HasRoom phrases.limited m tokens.now → (o : Sentence) → Ends phrases.limited (λ v. map clause_of (map step_of v.items)) result m tokens.now (At (Behind (record { line = o; gap = 1; comment = 0 }))) (λ ss. record { label = o.label; clauses = o.clauses ++ ss }) }
+    ensures { (m : Limits) → HasRoom phrases.limited m tokens.now → (o : Sentence) → EndsAs phrases.limited (λ cs v. AreWritten cs (map step_of v.items)) result m tokens.now (At (Behind (record { line = o; gap = 0; comment = 0 }))) (λ ss. record { label = o.label; formals = o.formals; level = o.level; clauses = o.clauses ++ ss }) }
 {
     let mut steps = Vec::new(phrases.alloc);
     let (_, mut rest) = behind_blanks(tokens);
@@ -118,12 +157,17 @@ fn steps(phrases: Phrases, tokens: &[Lexeme]) -> Result<Vec<Step>, Stop>
 /// The line that the tokens spell, its phrases read in this way.
 fn line_by(phrases: Phrases, tokens: &[Lexeme]) -> Result<Line, Stop>
     requires { IsLabelShort (tokens_seen tokens.now) }
-    ensures { (m : Limits) → HasRoom phrases.limited m tokens.now → Ends phrases.limited (λ l. sentence_of (line_of l)) result m tokens.now (At Begin) (λ l. l) }
+    ensures { (m : Limits) → HasRoom phrases.limited m tokens.now → EndsAs phrases.limited (λ s l. IsWrittenLine s (line_of l)) result m tokens.now (At Begin) (λ l. l) }
 {
-    let (label, rest) = label(phrases.alloc, tokens)?;
-    let rest = behind_label(label.is_some(), rest)?;
+    let (label, formals, rest) = head(phrases.alloc, tokens)?;
+    let (dots, rest) = indent(label.is_some(), rest)?;
     let steps = steps(phrases, rest)?;
-    Ok(Line { label, steps })
+    Ok(Line {
+        label,
+        formals,
+        level: dots + 1,
+        steps,
+    })
 }
 
 /// What a reading without the depth limit comes to: a word or a list over its limit, or want of memory.

@@ -5,15 +5,16 @@ ghost use Rattle.mj_expr.specs.declared.stop.Stop.TheVariants.{Stuck, Long};
 ghost use Rattle.mj_ast.specs.Tokens.{Blank, Called, Signed, Word};
 ghost use Rattle.mj_ast.specs.Commands.{PieceCall};
 ghost use Rattle.mj_line.specs.Forms.{part_of};
-ghost use Rattle.mj_ast.specs.declared.sign.Sign.TheVariants.{Close, Colon, Comma, Equals, Exclamation, Open};
+ghost use Rattle.mj_ast.specs.declared.sign.Sign.TheVariants.{Caret, Close, Colon, Comma, Dot, Equals, Exclamation, Open};
 ghost use Rattle.mj_lex.specs.Seen.{tokens_seen};
 ghost use Rattle.mj_line.specs.Machine.{refused};
 ghost use Rattle.mj_cmd.specs.Reads.{Refuses};
-ghost use Rattle.mj_cmd.specs.Heads.{HasNoBlank, HasNoClose, HasNoColon, HasNoComma, HasNoEquals, HasNoMark, HasNoName, HasNoOpen, HasNoPiece, HasNoWord, HasOther, HasParted};
+ghost use Rattle.mj_cmd.specs.Heads.{HasNoBlank, HasNoCaret, HasNoClose, HasNoColon, HasNoComma, HasNoDot, HasNoEquals, HasNoLabel, HasNoMark, HasNoName, HasNoOpen, HasNoPiece, HasNoWord, HasOther, HasParted, StartsLabel};
 
 use mj_ast::{Callee, Function, Sign};
 use mj_expr::{Stop, callee};
 use mj_lex::{Lexeme, Token, next};
+use mj_text::TEXT_LIMIT;
 
 /// The most bytes of a word.
 pub const WORD_LIMIT: usize = 31;
@@ -66,6 +67,27 @@ pub fn behind_name<'a, 't>(tokens: &'t [Lexeme<'a>]) -> Option<(&'a [u8], &'t [L
     }
 }
 
+/// The label in front, a name or digits, and what follows it.
+pub fn behind_entry_label<'a, 't>(tokens: &'t [Lexeme<'a>]) -> Option<(&'a [u8], &'t [Lexeme<'a>])>
+    ensures { MatchOption result (HasNoLabel (tokens_seen tokens.now)) (λ x. StartsLabel (tokens_seen tokens.now) x.0.now (tokens_seen x.1.now) × (length x.0.now ≤ 32767) × (length x.1.now < length tokens.now)) }
+{
+    match next(tokens) {
+        Some((Token::Word(name), rest)) => {
+            if name.len() <= WORD_LIMIT {
+                return Some((name, rest));
+            }
+            None
+        }
+        Some((Token::Digits(digits), rest)) => {
+            if digits.len() <= TEXT_LIMIT {
+                return Some((digits, rest));
+            }
+            None
+        }
+        _ => None,
+    }
+}
+
 /// Whether the `$` word is that of `$PIECE`.
 fn is_piece(word: &[u8]) -> bool
     ensures yes { result ≡ true → part_of (Called word.now) ≡ Some PieceCall }
@@ -95,6 +117,16 @@ pub fn behind_piece<'a, 't>(tokens: &'t [Lexeme<'a>]) -> Option<&'t [Lexeme<'a>]
             }
             _ => None,
         },
+    }
+}
+
+/// What follows a `^`, if it stands in front.
+pub fn behind_caret<'a, 't>(tokens: &'t [Lexeme<'a>]) -> Option<&'t [Lexeme<'a>]>
+    ensures { MatchOption result (HasNoCaret (tokens_seen tokens.now)) (λ x. (tokens_seen tokens.now ≡ Signed Caret ∷ tokens_seen x.now) × (length x.now < length tokens.now)) }
+{
+    match next(tokens) {
+        Some((Token::Sign(Sign::Caret), rest)) => Some(rest),
+        _ => None,
     }
 }
 
@@ -154,6 +186,16 @@ pub fn behind_mark<'a, 't>(tokens: &'t [Lexeme<'a>]) -> Option<&'t [Lexeme<'a>]>
 {
     match next(tokens) {
         Some((Token::Sign(Sign::Exclamation), rest)) => Some(rest),
+        _ => None,
+    }
+}
+
+/// What follows a dot, if it stands in front.
+pub fn behind_dot<'a, 't>(tokens: &'t [Lexeme<'a>]) -> Option<&'t [Lexeme<'a>]>
+    ensures { MatchOption result (HasNoDot (tokens_seen tokens.now)) (λ x. (tokens_seen tokens.now ≡ Signed Dot ∷ tokens_seen x.now) × (length tokens.now ≡ length x.now + 1)) }
+{
+    match next(tokens) {
+        Some((Token::Sign(Sign::Dot), rest)) => Some(rest),
         _ => None,
     }
 }

@@ -13,7 +13,7 @@ use Rattle.mj_oper.specs.declared.op.TruthOp.TheVariants as truth
 use Rattle.mj_ast.specs.declared.function.NameFunction.{NameFunction}
 use Rattle.mj_ast.specs.declared.function.NameFunction.TheVariants as names
 use Rattle.mj_ast.specs.declared.function.Callee.TheVariants as callee
-use Rattle.mj_ast.specs.Syntax.{Expr, Chain, Tails, Done, Then, Operand, Literal, Value, Unary, Group, Call, About, Select, Variable, Var, Exprs, No, More, Choices, Last, Before}
+use Rattle.mj_ast.specs.Syntax.{Expr, Chain, Tails, Done, Then, Operand, Literal, Value, Intrinsic, Unary, Group, Call, About, Select, Variable, Var, Exprs, No, More, Choices, Last, Before}
 use Rattle.mj_ast.specs.Expressions.{Symbol, Name, Mark, scoped, unary_sign, truth_sign, binary_sign, expr_symbols, tails_symbols, operand_symbols, variable_symbols, list_symbols, more_symbols, choices_symbols, count, subscript_count, least_subscripts, most_others, expr_nesting, tails_nesting, operand_nesting, variable_nesting, list_nesting, exprs_nesting, choices_nesting, expr_width, tails_width, operand_width, variable_width, exprs_width, choices_width, expr_misfits, tails_misfits, operand_misfits, variable_misfits, exprs_misfits, choices_misfits}
 use Rattle.mj_expr.specs.Machine.{Outer, Alone, InGroup, InList, InOther, InCondition, InChoice, Owner, Subscripts, Arguments, Within, Front, Right, Under, Place, AsOperand, AsNamed, AsTarget, Pairs, NoPairs, and_pair, before_choices, Wanted, Sought, Named, Behind, Held, Limits, Phrase, Whole, Target, Accept, and_then, and_more, filled, placed, closed, held, outer_depth, owner_depth, depth_of, place_depth, least_of, most_of, is_limited, run, turn, Go, Deep, Stuck, Long, unary_of, binary_of, want_sign, hold_sign}
 use Rattle.mj_expr.specs.Reads.{HasNoOpen, HasNoBinary}
@@ -151,6 +151,7 @@ mutual
   complete_operand : (x : Operand) (m : Limits) (c : Within) (ks : List Symbol) → operand_nesting x + depth_of c ≤ m.depth → operand_width x ≤ m.width → operand_misfits x ≡ 0 → HasNoOpen ks →
       run m (operand_symbols x ++ ks) (Wanted c) ≡ run m ks (filled x c)
   complete_operand (Literal value) m c ks n w f h = refl
+  complete_operand (Intrinsic v) m c ks n w f h = refl
   complete_operand (Value v) m c ks n w f h = wanted_variable m v ks c ∙ complete_variable v m (AsOperand c) ks n w f h
   complete_operand (Unary op x) m c ks n w f h =
       unary_opens m op (operand_symbols x ++ ks) c (omega arith)

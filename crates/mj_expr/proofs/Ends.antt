@@ -1,7 +1,7 @@
 -- How a run ends.
 use Rattle.std.proofs.Common.{◌≡◌, ℕ, ◌≤◌, List, [], ◌∷◌, ◌++◌, length, refl, ap, sym, ◌∙◌, subst, append_assoc, append-nil, ◌⊎◌, inl, inr}
 use Rattle.mj_ast.specs.Syntax.{Chain, Var, No}
-use Rattle.mj_ast.specs.Expressions.{Symbol, Constant, Name, Applied, Overlong, Mark, Other}
+use Rattle.mj_ast.specs.Expressions.{Symbol, Constant, Inherent, Name, Applied, Overlong, Mark, Other}
 use Rattle.mj_expr.specs.Machine.{Alone, InGroup, InList, InOther, InCondition, InChoice, State, Wanted, Sought, Marked, Named, Calling, Behind, Held, Got, placed, Limits, Next, Go, Stuck, Deep, Long, Whole, Target, Outcome, Accept, StuckAt, DeepAt, TooLong, refused, ends, finish, step, run, turn}
 use Rattle.mj_expr.proofs.Zipper.{Kind, HasRead}
 use Rattle.mj_expr.proofs.Facts.{IsMore, deeper, Facts, LongFacts}
@@ -77,6 +77,7 @@ refused_deep : (ks : List Symbol) (n : ℕ) → refused ks ≡ DeepAt n → ⊥
 refused_deep [] n e = cc
 refused_deep (Overlong ∷ ks) n e = cc
 refused_deep (Constant v ∷ ks) n e = cc
+refused_deep (Inherent v ∷ ks) n e = cc
 refused_deep (Name w ∷ ks) n e = cc
 refused_deep (Applied f ∷ ks) n e = cc
 refused_deep (Mark s ∷ ks) n e = cc

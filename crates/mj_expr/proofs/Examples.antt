@@ -5,10 +5,11 @@ use Rattle.mj_ast.specs.declared.expr.Scope.TheVariants.{Local, Global}
 use Rattle.mj_oper.specs.declared.op.UnaryOp.TheVariants as unary
 use Rattle.mj_oper.specs.declared.op.Op.TheVariants as binary
 use Rattle.mj_oper.specs.declared.op.TruthOp.TheVariants as truth
-use Rattle.mj_ast.specs.Syntax.{Chain, Done, Then, Literal, Value, Unary, Group, Call, About, Var, No, More}
+use Rattle.mj_ast.specs.Syntax.{Chain, Done, Then, Literal, Intrinsic, Value, Unary, Group, Call, About, Var, No, More}
 use Rattle.mj_ast.specs.declared.function.Function.TheVariants.{Length}
 use Rattle.mj_ast.specs.declared.function.NameFunction.TheVariants as names
-use Rattle.mj_ast.specs.Tokens.{Token, Word, Called, Quoted, Signed, Blank, Unclosed}
+use Rattle.mj_ast.specs.declared.function.Special.TheVariants.{Test}
+use Rattle.mj_ast.specs.Tokens.{Token, Word, Called, Special, Quoted, Signed, Blank, Unclosed}
 use Rattle.mj_ast.specs.Expressions.{symbol, expr_symbols, expr_nesting}
 use Rattle.mj_expr.specs.declared.beyond.Around.TheVariants as around
 use Rattle.mj_expr.specs.declared.beyond.Stage.TheVariants as stage
@@ -153,3 +154,12 @@ halted_row = refl
 
 halted_colon_row : pass (map symbol (a ∷ Signed Open ∷ a ∷ Signed Colon ∷ [])) stage.Operand around.Alone [] ≡ Halts (StuckAt 1)
 halted_colon_row = refl
+
+-- `$t'=$TEST`: in any case, and without a `(`
+special_row : run (levels 1) (map symbol (Special (116 ∷ []) ∷ Signed (Negated truth.Equal) ∷ Special (84 ∷ 69 ∷ 83 ∷ 84 ∷ []) ∷ Blank ∷ [])) (Wanted (Front Alone))
+    ≡ Accept (Whole (Chain (Intrinsic Test) (Then (binary.IsNot truth.Equal) (Intrinsic Test) Done))) (map symbol (Blank ∷ []))
+special_row = refl
+
+-- `$L` alone is no operand
+no_special_row : run (levels 1) (map symbol (Special (76 ∷ []) ∷ [])) (Wanted (Front Alone)) ≡ StuckAt 1
+no_special_row = refl

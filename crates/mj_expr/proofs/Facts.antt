@@ -3,15 +3,16 @@ use Rattle.std.proofs.Common.{◌≡◌, ℕ, ◌+◌, ◌≤◌, ◌<◌, List,
 use Rattle.std.specs.Prelude.{cond, not}
 use Rattle.std.proofs.lemmas.Bool.Decides.{nat_tests}
 use Rattle.mj_ast.specs.declared.sign.Sign.{Sign}
-use Rattle.mj_ast.specs.declared.sign.Sign.TheVariants.{Plus, Minus, Apostrophe, Caret, Open, Close, Comma, Colon}
+use Rattle.mj_ast.specs.declared.function.Special as special
+use Rattle.mj_ast.specs.declared.sign.Sign.TheVariants.{Plus, Minus, Apostrophe, Caret, Open, Close, Comma, Colon, Dot}
 use Rattle.mj_oper.specs.declared.op.UnaryOp.{UnaryOp}
 use Rattle.mj_oper.specs.declared.op.Op.{Op}
 use Rattle.mj_ast.specs.declared.function.NameFunction.{NameFunction}
 use Rattle.mj_ast.specs.declared.function.Callee.{Callee}
 use Rattle.mj_ast.specs.declared.function.Callee.TheVariants as callee
-use Rattle.mj_ast.specs.Syntax.{Expr, Chain, Tails, Done, Operand, Literal, Unary, Group, About, Select, Variable, Exprs, No, More, Last}
+use Rattle.mj_ast.specs.Syntax.{Expr, Chain, Tails, Done, Operand, Literal, Intrinsic, Unary, Group, About, Select, Variable, Exprs, No, More, Last}
 use Rattle.mj_ast.specs.Tokens.{Token}
-use Rattle.mj_ast.specs.Expressions.{Symbol, Constant, Name, Applied, Overlong, Mark, Other, symbol, unary_sign, binary_sign, expr_symbols, variable_symbols, count, subscript_count, least_subscripts, most_others, levels, levels_of}
+use Rattle.mj_ast.specs.Expressions.{Symbol, Constant, Inherent, Name, Applied, Overlong, Mark, Other, symbol, unary_sign, binary_sign, expr_symbols, variable_symbols, count, subscript_count, least_subscripts, most_others, levels, levels_of}
 use Rattle.mj_ast.specs.Lines.{Filler, no_filler}
 use Rattle.mj_expr.specs.Machine.{Outer, Alone, InGroup, InList, InOther, InCondition, InChoice, Owner, Subscripts, Arguments, Within, Front, Right, Under, Place, AsOperand, AsNamed, AsTarget, Pairs, and_pair, before_choices, State, Wanted, Calling, Behind, Held, Limits, Next, Go, Stuck, Deep, Long, TooLong, refused_in, and_then, and_more, filled, closed, least_of, most_of, is_limited, outer_of, run, turn, step, depth_of, opens, opens_call, suffices, behind, unary_of, binary_of, hold_sign, hold_other, comma, close, is_full}
 use Rattle.mj_expr.specs.Reads.{BeginsNone}
@@ -85,6 +86,7 @@ binary_back Open op e = absurd (none_some op e)
 binary_back Close op e = absurd (none_some op e)
 binary_back Comma op e = absurd (none_some op e)
 binary_back Colon op e = absurd (none_some op e)
+binary_back Dot op e = absurd (none_some op e)
 binary_back Apostrophe op e = absurd (none_some op e)
 binary_back s op e = ap binary_sign (some_same _ op e)
 
@@ -327,6 +329,7 @@ pub held_facts : (K : Kind) (m : Limits) (x : Operand) (r : Tails) (o : Outer) (
     Facts K m (HasRead K m (Held x r o)) (HeldLong K m (HasRead K m (Held x r o)) (λ l. step l (Held x r o) k) k) (λ l. step l (Held x r o) k) k (step m (Held x r o) k)
 held_facts K m x r o (Mark s) = joined_facts K m x r o s (binary_of s) refl
 held_facts K m x r o (Constant value) = λ l i. refl
+held_facts K m x r o (Inherent value) = λ l i. refl
 held_facts K m x r o (Name word) = λ l i. refl
 held_facts K m x r o (Applied f) = λ l i. refl
 held_facts K m x r o Overlong = λ l i. refl
@@ -385,6 +388,7 @@ behind_sign K m R L f v c s g = λ l i. refl
 pub behind_facts : (K : Kind) (m : Limits) (R : List Symbol → Type 0) (L : Type 0) (f : NameFunction) (v : Variable) (c : Within) (k : Symbol) → ReadBehind K m R f v c → Facts K m R L (λ l. behind f v c k) k (behind f v c k)
 behind_facts K m R L f v c (Mark s) g = behind_sign K m R L f v c s g
 behind_facts K m R L f v c (Constant value) g = λ l i. refl
+behind_facts K m R L f v c (Inherent value) g = λ l i. refl
 behind_facts K m R L f v c (Name word) g = λ l i. refl
 behind_facts K m R L f v c (Applied h) g = λ l i. refl
 behind_facts K m R L f v c Overlong g = λ l i. refl
@@ -428,6 +432,10 @@ filled_outer x (Under op c) = filled_outer (Unary op x) c
 pub constant_read : (K : Kind) (m : Limits) (c : Within) (value : List ℕ) (ks : List Symbol) → HasRead K m (Wanted c) ks → HasRead K m (filled (Literal value) c) (ks ++ Constant value ∷ [])
 constant_read K m c value ks h =
     filled_read c K m (Literal value) _ h.good (omega (arith, good_depth K m c h.good)) (omega arith) refl (ap (λ (zs : List Symbol). zs ++ Constant value ∷ []) h.read)
+
+pub inherent_read : (K : Kind) (m : Limits) (c : Within) (v : special.Special) (ks : List Symbol) → HasRead K m (Wanted c) ks → HasRead K m (filled (Intrinsic v) c) (ks ++ Inherent v ∷ [])
+inherent_read K m c v ks h =
+    filled_read c K m (Intrinsic v) _ h.good (omega (arith, good_depth K m c h.good)) (omega arith) refl (ap (λ (zs : List Symbol). zs ++ Inherent v ∷ []) h.read)
 
 -- a full list stays full, and one with room keeps it
 pub full_same : (m l : Limits) (o : Outer) → l.width ≡ m.width → is_full l o ≡ is_full m o
@@ -483,6 +491,7 @@ full_opened K m x r (InList (Subscripts scope word p) es) e =
 -- where an operand is wanted, and none begins
 pub none_refuses : (m l : Limits) (c : Within) (k : Symbol) (ks : List Symbol) (full : Bool) → l.width ≡ m.width → is_full l (outer_of c) ≡ full → BeginsNone k → run m (k ∷ ks) (Wanted c) ≡ refused_in full (k ∷ ks)
 none_refuses m l c (Constant v) ks full w e h = absurd h
+none_refuses m l c (Inherent v) ks full w e h = absurd h
 none_refuses m l c (Name v) ks full w e h = absurd h
 none_refuses m l c (Applied v) ks full w e h = absurd h
 none_refuses m l c Overlong ks full w e h = refl

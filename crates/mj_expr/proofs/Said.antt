@@ -12,7 +12,8 @@ use Rattle.mj_ast.specs.declared.sign.Sign.TheVariants.{Comma}
 use Rattle.mj_ast.specs.Syntax.{Chain, Var, No}
 use Rattle.mj_ast.specs.Tokens.{Token, Word, Called, Special, Digits, Quoted, Signed, Blank, Comment, Unclosed, Stray}
 use Rattle.mj_ast.specs.declared.function.Callee.{Callee}
-use Rattle.mj_ast.specs.Expressions.{Symbol, Constant, Name, Applied, Overlong, Mark, Other, symbol, constant_of, function_symbol, callee_of, levels_of, text_limit, width_limit, Phrases, Spells, Begins, BeginsWithin}
+use Rattle.mj_ast.specs.declared.function.Special as special
+use Rattle.mj_ast.specs.Expressions.{Symbol, Constant, Inherent, Name, Applied, Overlong, Mark, Other, symbol, constant_of, function_symbol, callee_of, special_symbol, special_of, levels_of, text_limit, width_limit, Phrases, Spells, Begins, BeginsWithin}
 use Rattle.mj_expr.specs.Machine.{Alone, InGroup, InList, InOther, InCondition, InChoice, State, Wanted, Sought, Marked, Named, Calling, Behind, Held, Got, placed, Limits, Stuck, Phrase, Whole, Target, Outcome, Accept, StuckAt, DeepAt, TooLong, refused, ends, finish, step, run, turn}
 use Rattle.mj_expr.specs.Phrases.{IsRead, IsShort, IsStuck, IsDeep, IsOverlong, IsLong, IsRefused}
 use Rattle.mj_expr.specs.Reads.{limits, symbols_seen, Refuses}
@@ -36,6 +37,7 @@ refused_stuck : (ks : List Symbol) (n : ℕ) → refused ks ≡ StuckAt n → le
 refused_stuck [] n e = cc
 refused_stuck (Overlong ∷ ks) n e = absurd (let f : TooLong ≡ StuckAt n = e in cc)
 refused_stuck (Constant v ∷ ks) n e = cc
+refused_stuck (Inherent v ∷ ks) n e = cc
 refused_stuck (Name w ∷ ks) n e = cc
 refused_stuck (Applied f ∷ ks) n e = cc
 refused_stuck (Mark s ∷ ks) n e = cc
@@ -70,6 +72,7 @@ refused_long : (ks : List Symbol) → refused ks ≡ TooLong → (y : List Symbo
 refused_long [] e = absurd (let f : StuckAt 0 ≡ TooLong = e in cc)
 refused_long (Overlong ∷ ks) e = (ks, refl)
 refused_long (Constant v ∷ ks) e = absurd (let f : StuckAt (length (Constant v ∷ ks)) ≡ TooLong = e in cc)
+refused_long (Inherent v ∷ ks) e = absurd (let f : StuckAt (length (Inherent v ∷ ks)) ≡ TooLong = e in cc)
 refused_long (Name w ∷ ks) e = absurd (let f : StuckAt (length (Name w ∷ ks)) ≡ TooLong = e in cc)
 refused_long (Applied g ∷ ks) e = absurd (let f : StuckAt (length (Applied g ∷ ks)) ≡ TooLong = e in cc)
 refused_long (Mark s ∷ ks) e = absurd (let f : StuckAt (length (Mark s ∷ ks)) ≡ TooLong = e in cc)
@@ -136,7 +139,7 @@ short_as s word k ks n false e f = absurd (overlong_finish s ks n f)
 stuck_short : (s : State) (k : Token) (ks : List Symbol) (n : ℕ) → finish s (symbol k ∷ ks) ≡ StuckAt n → IsShort k
 stuck_short s (Word w) ks n e = short_as s w (Name w) ks n (nat_le (length w) 31) refl e
 stuck_short s (Called w) ks n e = short_as s w (function_symbol (callee_of w)) ks n (nat_le (length w) 31) refl e
-stuck_short s (Special w) ks n e = short_as s w Other ks n (nat_le (length w) 31) refl e
+stuck_short s (Special w) ks n e = short_as s w (special_symbol (special_of w)) ks n (nat_le (length w) 31) refl e
 stuck_short s (Digits ds) ks n e = tt
 stuck_short s (Quoted v) ks n e = tt
 stuck_short s (Signed t) ks n e = tt
@@ -183,6 +186,14 @@ function_mark : (f : Option Callee) (s : Sign) → function_symbol f ≡ Mark s 
 function_mark None s e = cc
 function_mark (Some f) s e = cc
 
+special_mark : (v : Option special.Special) (s : Sign) → special_symbol v ≡ Mark s → ⊥
+special_mark None s e = cc
+special_mark (Some v) s e = cc
+
+special_overlong : (v : Option special.Special) → special_symbol v ≡ Overlong → ⊥
+special_overlong None e = cc
+special_overlong (Some v) e = cc
+
 function_overlong : (f : Option Callee) → function_symbol f ≡ Overlong → ⊥
 function_overlong None e = cc
 function_overlong (Some f) e = cc
@@ -206,7 +217,7 @@ word_long w k false f g e = grind (arith, nat_tests)
 pub comma_token : (k : Token) → symbol k ≡ Mark Comma → k ≡ Signed Comma
 comma_token (Word w) e = absurd (word_mark (nat_le (length w) 31) (Name w) Comma (name_mark w Comma) e)
 comma_token (Called w) e = absurd (word_mark (nat_le (length w) 31) (function_symbol (callee_of w)) Comma (function_mark (callee_of w) Comma) e)
-comma_token (Special w) e = absurd (word_mark (nat_le (length w) 31) Other Comma (other_mark Comma) e)
+comma_token (Special w) e = absurd (word_mark (nat_le (length w) 31) (special_symbol (special_of w)) Comma (special_mark (special_of w) Comma) e)
 comma_token (Digits ds) e = absurd (constant_mark (reading ds) Comma e)
 comma_token (Quoted v) e = absurd (choice_mark (nat_le (length v) text_limit) v Comma e)
 comma_token (Signed s) e = let f : Mark s ≡ Mark Comma = e in let g : s ≡ Comma = cc in ap Signed g
@@ -231,7 +242,7 @@ Over _ = ⊥
 pub overlong_word : (k : Token) → symbol k ≡ Overlong → Over k
 overlong_word (Word w) e = word_long w (Name w) (nat_le (length w) 31) refl (name_overlong w) e
 overlong_word (Called w) e = word_long w (function_symbol (callee_of w)) (nat_le (length w) 31) refl (function_overlong (callee_of w)) e
-overlong_word (Special w) e = word_long w Other (nat_le (length w) 31) refl other_overlong e
+overlong_word (Special w) e = word_long w (special_symbol (special_of w)) (nat_le (length w) 31) refl (special_overlong (special_of w)) e
 overlong_word (Digits ds) e = absurd (constant_overlong (reading ds) e)
 overlong_word (Quoted v) e = absurd (choice_overlong (nat_le (length v) text_limit) v e)
 overlong_word (Signed s) e = absurd (let f : Mark s ≡ Overlong = e in cc)
@@ -370,7 +381,7 @@ module _ {T : Type 0} (K : Kind) (P : Phrases T) (W : Wraps K P) where
   overlong_at : (front : List Token) (k : Token) → symbol k ≡ Overlong → ((t : T) → Spells P front t → ⊥) → (Begins P (front ++ k ∷ []) → ⊥) → IsOverlong P front k
   overlong_at front (Word w) e g h = record { long = word_long w (Name w) (nat_le (length w) 31) refl (name_overlong w) e; whole = g; at = h }
   overlong_at front (Called w) e g h = record { long = word_long w (function_symbol (callee_of w)) (nat_le (length w) 31) refl (function_overlong (callee_of w)) e; whole = g; at = h }
-  overlong_at front (Special w) e g h = record { long = word_long w Other (nat_le (length w) 31) refl other_overlong e; whole = g; at = h }
+  overlong_at front (Special w) e g h = record { long = word_long w (special_symbol (special_of w)) (nat_le (length w) 31) refl (special_overlong (special_of w)) e; whole = g; at = h }
   overlong_at front (Digits ds) e g h = absurd (constant_overlong (reading ds) e)
   overlong_at front (Quoted v) e g h = absurd (choice_overlong (nat_le (length v) text_limit) v e)
   overlong_at front (Signed s) e g h = absurd (let f : Mark s ≡ Overlong = e in cc)

@@ -9,9 +9,9 @@ use Rattle.mj_oper.specs.declared.op.Op.{Op}
 use Rattle.mj_ast.specs.declared.function.NameFunction.{NameFunction}
 use Rattle.mj_ast.specs.declared.function.Callee.{Callee}
 use Rattle.mj_ast.specs.declared.function.Callee.TheVariants as callee
-use Rattle.mj_ast.specs.Syntax.{Expr, Chain, Operand, Literal, Value, Unary, Group, Call, About, Select, Tails, Variable, Var, Exprs, No, More, Last}
+use Rattle.mj_ast.specs.Syntax.{Expr, Chain, Operand, Literal, Value, Intrinsic, Unary, Group, Call, About, Select, Tails, Variable, Var, Exprs, No, More, Last}
 use Rattle.mj_ast.specs.Tokens.{Token}
-use Rattle.mj_ast.specs.Expressions.{Symbol, Constant, Name, Applied, Overlong, Mark, Other, count, subscript_count, least_subscripts, most_others, levels}
+use Rattle.mj_ast.specs.Expressions.{Symbol, Constant, Inherent, Name, Applied, Overlong, Mark, Other, count, subscript_count, least_subscripts, most_others, levels}
 use Rattle.mj_lex.specs.declared.token.Lexeme.{Lexeme}
 use Rattle.mj_expr.specs.Machine.{Outer, Alone, InGroup, InList, InOther, InCondition, InChoice, Owner, Subscripts, Arguments, Within, Front, Right, Under, Place, AsOperand, AsNamed, AsTarget, State, Wanted, Sought, Marked, Named, Calling, Behind, Held, Got, filled, placed, closed, outer_of, outer_depth, owner_depth, depth_of, place_depth, Limits, Next, Go, Stuck, Deep, Long, opens, opens_call, suffices, behind, is_full, most_of, comma, close, want_other, want_sign, hold_other, hold_sign, hold, on, step, unary_of, binary_of, and_more, before_choices, Phrase, Whole, Target, Outcome, Accept, TooLong, ends, finish, run, goes}
 use Rattle.mj_expr.specs.Reads.{symbols_seen, kind_of, least_in, most_in, limited_in}
@@ -191,6 +191,7 @@ target_sign s None = target_other s
 target_stuck : (k : Symbol) → behind_turn around.Target (sort_of k) ≡ turn.Stuck
 target_stuck (Mark s) = target_sign s (binary_of s)
 target_stuck (Constant v) = refl
+target_stuck (Inherent v) = refl
 target_stuck (Name w) = refl
 target_stuck (Applied f) = refl
 target_stuck Overlong = refl
@@ -263,6 +264,7 @@ sign_follows m x r o s None e = other_follows m x r o s e
 held_follows : (m : Limits) (x : Operand) (r : Tails) (o : Outer) (k : Symbol) → m.width ≡ 31 → Follows (outer_depth o) (outer_whole o) (hold m x r o k) (led (outer_shape o).around (outer_shape o).others (behind_turn (outer_shape o).around (sort_of k)))
 held_follows m x r o (Mark s) e = sign_follows m x r o s (binary_of s) e
 held_follows m x r o (Constant v) e = refl
+held_follows m x r o (Inherent v) e = refl
 held_follows m x r o (Name w) e = refl
 held_follows m x r o (Applied f) e = refl
 held_follows m x r o Overlong e = refl
@@ -302,6 +304,7 @@ about_follows : (f : NameFunction) (v : Variable) (c : Within) (k : Symbol) →
     Follows (depth_of c + 1) (whole_of c) (behind f v c k) (led (around.About f) ((shape_of c).around ∷ (shape_of c).others) (cond (suffices f v) (behind_turn (around.About f) (sort_of k)) turn.Stuck))
 about_follows f v c (Mark s) = about_sign f v c s
 about_follows f v c (Constant u) = about_stuck (around.About f) ((shape_of c).around ∷ (shape_of c).others) (suffices f v)
+about_follows f v c (Inherent u) = about_stuck (around.About f) ((shape_of c).around ∷ (shape_of c).others) (suffices f v)
 about_follows f v c (Name w) = about_stuck (around.About f) ((shape_of c).around ∷ (shape_of c).others) (suffices f v)
 about_follows f v c (Applied g) = about_stuck (around.About f) ((shape_of c).around ∷ (shape_of c).others) (suffices f v)
 about_follows f v c Overlong = about_stuck (around.About f) ((shape_of c).around ∷ (shape_of c).others) (suffices f v)
@@ -357,6 +360,7 @@ led_from s k = led (state_shape s).around (state_shape s).others (turn_at (stage
 
 follows : (m : Limits) (s : State) (k : Symbol) → m.width ≡ 31 → state_depth s + 1 < m.depth → IsSound s → Follows (state_depth s) (state_whole s) (step m s k) (led_from s k)
 follows m (Wanted c) (Constant v) e i g = goes_at (filled (Literal v) c) stage.Behind (shape_of c) (depth_of c) (depth_of c) (whole_of c) (filled_at (Literal v) c) (omega arith)
+follows m (Wanted c) (Inherent v) e i g = goes_at (filled (Intrinsic v) c) stage.Behind (shape_of c) (depth_of c) (depth_of c) (whole_of c) (filled_at (Intrinsic v) c) (omega arith)
 follows m (Wanted c) (Name w) e i g = (refl, omega arith, refl, tt)
 follows m (Wanted c) (Applied f) e i g = call_follows m f c (depth_of c) (whole_of c) _ (omega (arith, levels_few f)) (refl, omega arith, refl, tt)
 follows m (Wanted c) (Mark s) e i g = want_sign_follows m c s (unary_of s) e (omega arith)
@@ -366,6 +370,7 @@ follows m (Sought p) (Name w) e i g = (refl, omega arith, refl, tt)
 follows m (Sought p) (Mark Caret) e i g = (refl, omega arith, refl, tt)
 follows m (Sought p) (Mark s) e i g = refl
 follows m (Sought p) (Constant v) e i g = refl
+follows m (Sought p) (Inherent v) e i g = refl
 follows m (Sought p) (Applied f) e i g = refl
 follows m (Sought p) Overlong e i g = refl
 follows m (Sought p) Other e i g = refl
@@ -375,6 +380,7 @@ follows m (Marked (AsNamed f c)) (Mark Comma) e i g = refl
 follows m (Marked AsTarget) (Mark Comma) e i g = refl
 follows m (Marked p) (Mark s) e i g = refl
 follows m (Marked p) (Constant v) e i g = refl
+follows m (Marked p) (Inherent v) e i g = refl
 follows m (Marked p) (Applied f) e i g = refl
 follows m (Marked p) Overlong e i g = refl
 follows m (Marked p) Other e i g = refl
@@ -385,6 +391,7 @@ follows m (Calling (callee.Names f) c) (Mark Open) e i g = (refl, omega arith, r
 follows m (Calling callee.Select c) (Mark Open) e i g = (refl, omega arith, refl, tt)
 follows m (Calling f c) (Mark s) e i g = refl
 follows m (Calling f c) (Constant v) e i g = refl
+follows m (Calling f c) (Inherent v) e i g = refl
 follows m (Calling f c) (Name w) e i g = refl
 follows m (Calling f c) (Applied h) e i g = refl
 follows m (Calling f c) Overlong e i g = refl

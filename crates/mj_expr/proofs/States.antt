@@ -10,11 +10,11 @@ use Rattle.mj_ast.specs.Syntax.{Operand, Literal, Value, Tails, Variable, Var, N
 use Rattle.mj_ast.specs.Tokens.{Word, Digits}
 use Rattle.mj_ast.specs.declared.function.Callee.{Callee}
 use Rattle.mj_ast.specs.declared.function.Callee.TheVariants as callee
-use Rattle.mj_ast.specs.Expressions.{Symbol, Constant, Name, Applied, Overlong, Mark, Other}
+use Rattle.mj_ast.specs.Expressions.{Symbol, Constant, Inherent, Name, Applied, Overlong, Mark, Other}
 use Rattle.mj_ast.specs.Lines.{digits_filler, word_filler}
 use Rattle.mj_expr.specs.Machine.{InGroup, InList, Subscripts, Within, Front, Under, Place, AsOperand, AsNamed, AsTarget, State, Wanted, Sought, Marked, Named, Calling, Behind, Held, Got, Limits, Next, Go, Stuck, Deep, Long, TooLong, filled, placed, outer_of, depth_of, place_depth, run, step, behind, unary_of, want_sign, want_other, stray_comma, is_full, on, inside}
 use Rattle.mj_expr.proofs.Zipper.{Kind, HasRead, Good, good_depth, place_good_depth, placed_read, before, place_before, zero_text, least_some, least_most, least_at, levels_few}
-use Rattle.mj_expr.proofs.Facts.{IsMore, deeper, wider, more_deeper, good_more, place_good_more, unary_back, Facts, LongFacts, opens_facts, call_facts, behind_facts, from_held, filled_outer, constant_read, full_same, room_stays, full_comma, full_opened}
+use Rattle.mj_expr.proofs.Facts.{IsMore, deeper, wider, more_deeper, good_more, place_good_more, unary_back, Facts, LongFacts, opens_facts, call_facts, behind_facts, from_held, filled_outer, constant_read, inherent_read, full_same, room_stays, full_comma, full_opened}
 
 abbrev pub FactsAt : Kind → Limits → State → Symbol → Type 0
 FactsAt K m s k = Facts K m (HasRead K m s) (LongFacts K m (HasRead K m s) s k) (λ l. step l s k) k (step m s k)
@@ -67,6 +67,7 @@ want_sign_facts K m c s None e = want_other_facts K m c s
 
 want_facts : (K : Kind) (m : Limits) (c : Within) (k : Symbol) → 1 ≤ m.width → FactsAt K m (Wanted c) k
 want_facts K m c (Constant value) w = (constant_read K m c value, λ l i. refl)
+want_facts K m c (Inherent value) w = (inherent_read K m c value, λ l i. refl)
 want_facts K m c (Name word) w = (λ ks h. record { good = h.good; read = ap (λ (zs : List Symbol). zs ++ Name word ∷ []) h.read }, λ l i. refl)
 want_facts K m c (Mark s) w = want_sign_facts K m c s (unary_of s) refl
 want_facts K m c (Applied f) w =

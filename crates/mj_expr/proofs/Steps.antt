@@ -3,13 +3,13 @@ use Rattle.std.proofs.Common.{◌≡◌, ℕ, ◌+◌, ◌<◌, ◌≤◌, List,
 use Rattle.std.proofs.lemmas.Bool.Decides.{nat_tests}
 use Rattle.std.specs.Prelude.{cond, not, ◌&&◌, ℤ}
 use Rattle.std.specs.Result.{IsErrAnd}
-use Rattle.mj_ast.specs.declared.sign.Sign.TheVariants.{Apostrophe, Caret, Open, Close, Comma, Colon}
+use Rattle.mj_ast.specs.declared.sign.Sign.TheVariants.{Apostrophe, Caret, Open, Close, Comma, Colon, Dot}
 use Rattle.mj_ast.specs.declared.expr.Scope.{Scope}
 use Rattle.mj_oper.specs.declared.op.Op.{Op}
 use Rattle.mj_ast.specs.declared.function.NameFunction.{NameFunction}
 use Rattle.mj_ast.specs.declared.function.Callee.{Callee}
 use Rattle.mj_ast.specs.Syntax.{Expr, Chain, Tails, Done, Operand, Value, Unary, About, Select, Variable, Var, Exprs, No, More, Choices, Last, Before}
-use Rattle.mj_ast.specs.Expressions.{Symbol, Constant, Name, Applied, Overlong, Mark, Other, count, subscript_count, least_subscripts, most_others, levels, constant_of, function_symbol}
+use Rattle.mj_ast.specs.Expressions.{Symbol, Constant, Inherent, Name, Applied, Overlong, Mark, Other, count, subscript_count, least_subscripts, most_others, levels, constant_of, function_symbol}
 use Rattle.mj_expr.specs.Machine.{Outer, Alone, InList, InOther, InCondition, InChoice, Owner, Subscripts, Arguments, Within, Front, Right, Under, Place, AsOperand, AsNamed, AsTarget, Pairs, NoPairs, Pair, and_pair, before_choices, State, Wanted, Named, Calling, Behind, Held, Got, filled, placed, closed, held, Limits, Next, Go, Stuck, Deep, Long, Outcome, Accept, StuckAt, DeepAt, Whole, Target, run, turn, refused_in, and_more, and_then, hold_sign, depth_of, place_depth, inside, suffices, least_of, most_of, is_limited}
 use Rattle.mj_expr.specs.Reads.{limits, symbols_seen, Reads, Refuses, HasNoBinary, HasNoOpen, HasNoComma, HasNoColon, HasNoClose, StartsBinary, kind_of, least_in, most_in, limited_in}
 use Rattle.mj_expr.specs.Lists.{behind_from, behind_list}
@@ -160,6 +160,7 @@ held_refuses : (m : Limits) (ks : List Symbol) (w : Owner) (before : Exprs) (las
     run m ks (held last (InList w before)) ≡ refused_in false ks
 held_refuses m [] w before (Chain x r) b c d = refl
 held_refuses m (Constant v ∷ ks) w before (Chain x r) b c d = refl
+held_refuses m (Inherent v ∷ ks) w before (Chain x r) b c d = refl
 held_refuses m (Name v ∷ ks) w before (Chain x r) b c d = refl
 held_refuses m (Applied v ∷ ks) w before (Chain x r) b c d = refl
 held_refuses m (Overlong ∷ ks) w before (Chain x r) b c d = refl
@@ -169,6 +170,7 @@ held_refuses m (Mark Comma ∷ ks) w before (Chain x r) b c d = absurd c
 held_refuses m (Mark Caret ∷ ks) w before (Chain x r) b c d = refl
 held_refuses m (Mark Open ∷ ks) w before (Chain x r) b c d = refl
 held_refuses m (Mark Colon ∷ ks) w before (Chain x r) b c d = refl
+held_refuses m (Mark Dot ∷ ks) w before (Chain x r) b c d = refl
 held_refuses m (Mark Apostrophe ∷ ks) w before (Chain x r) b c d = refl
 held_refuses m (Mark s ∷ ks) w before (Chain x r) b c d = absurd (some_none _ b)
 
@@ -176,6 +178,7 @@ held_few : (m : Limits) (ks : List Symbol) (w : Owner) (before : Exprs) (last : 
     run m ks (held last (InList w before)) ≡ refused_in false ks
 held_few m [] w before (Chain x r) e b c = refl
 held_few m (Constant v ∷ ks) w before (Chain x r) e b c = refl
+held_few m (Inherent v ∷ ks) w before (Chain x r) e b c = refl
 held_few m (Name v ∷ ks) w before (Chain x r) e b c = refl
 held_few m (Applied v ∷ ks) w before (Chain x r) e b c = refl
 held_few m (Overlong ∷ ks) w before (Chain x r) e b c = refl
@@ -185,6 +188,7 @@ held_few m (Mark Comma ∷ ks) w before (Chain x r) e b c = absurd c
 held_few m (Mark Caret ∷ ks) w before (Chain x r) e b c = refl
 held_few m (Mark Open ∷ ks) w before (Chain x r) e b c = refl
 held_few m (Mark Colon ∷ ks) w before (Chain x r) e b c = refl
+held_few m (Mark Dot ∷ ks) w before (Chain x r) e b c = refl
 held_few m (Mark Apostrophe ∷ ks) w before (Chain x r) e b c = refl
 held_few m (Mark s ∷ ks) w before (Chain x r) e b c = absurd (some_none _ b)
 
@@ -234,6 +238,7 @@ choice_closes m ks ps a (Chain x r) c = refl
 pub condition_refuses : (m : Limits) (ks : List Symbol) (ps : Pairs) (e : Expr) (c : Within) → HasNoBinary ks → HasNoColon ks → run m ks (held e (InCondition ps c)) ≡ refused_in false ks
 condition_refuses m [] ps (Chain x r) c b d = refl
 condition_refuses m (Constant v ∷ ks) ps (Chain x r) c b d = refl
+condition_refuses m (Inherent v ∷ ks) ps (Chain x r) c b d = refl
 condition_refuses m (Name v ∷ ks) ps (Chain x r) c b d = refl
 condition_refuses m (Applied v ∷ ks) ps (Chain x r) c b d = refl
 condition_refuses m (Overlong ∷ ks) ps (Chain x r) c b d = refl
@@ -243,12 +248,14 @@ condition_refuses m (Mark Comma ∷ ks) ps (Chain x r) c b d = refl
 condition_refuses m (Mark Caret ∷ ks) ps (Chain x r) c b d = refl
 condition_refuses m (Mark Open ∷ ks) ps (Chain x r) c b d = refl
 condition_refuses m (Mark Colon ∷ ks) ps (Chain x r) c b d = absurd d
+condition_refuses m (Mark Dot ∷ ks) ps (Chain x r) c b d = refl
 condition_refuses m (Mark Apostrophe ∷ ks) ps (Chain x r) c b d = refl
 condition_refuses m (Mark s ∷ ks) ps (Chain x r) c b d = absurd (some_none _ b)
 
 pub choice_refuses : (m : Limits) (ks : List Symbol) (ps : Pairs) (a e : Expr) (c : Within) → HasNoBinary ks → HasNoComma ks → HasNoClose ks → run m ks (held e (InChoice ps a c)) ≡ refused_in false ks
 choice_refuses m [] ps a (Chain x r) c b d f = refl
 choice_refuses m (Constant v ∷ ks) ps a (Chain x r) c b d f = refl
+choice_refuses m (Inherent v ∷ ks) ps a (Chain x r) c b d f = refl
 choice_refuses m (Name v ∷ ks) ps a (Chain x r) c b d f = refl
 choice_refuses m (Applied v ∷ ks) ps a (Chain x r) c b d f = refl
 choice_refuses m (Overlong ∷ ks) ps a (Chain x r) c b d f = refl
@@ -258,6 +265,7 @@ choice_refuses m (Mark Comma ∷ ks) ps a (Chain x r) c b d f = absurd d
 choice_refuses m (Mark Caret ∷ ks) ps a (Chain x r) c b d f = refl
 choice_refuses m (Mark Open ∷ ks) ps a (Chain x r) c b d f = refl
 choice_refuses m (Mark Colon ∷ ks) ps a (Chain x r) c b d f = refl
+choice_refuses m (Mark Dot ∷ ks) ps a (Chain x r) c b d f = refl
 choice_refuses m (Mark Apostrophe ∷ ks) ps a (Chain x r) c b d f = refl
 choice_refuses m (Mark s ∷ ks) ps a (Chain x r) c b d f = absurd (some_none _ b)
 
@@ -299,6 +307,7 @@ about_goes m ks f v c h i =
 pub about_bare : (m : Limits) (ks : List Symbol) (f : NameFunction) (v : Variable) (c : Within) → subscript_count v < least_subscripts f → run m ks (Behind f v c) ≡ refused_in false ks
 about_bare m [] f v c h = refl
 about_bare m (Constant u ∷ ks) f v c h = refl
+about_bare m (Inherent u ∷ ks) f v c h = refl
 about_bare m (Name u ∷ ks) f v c h = refl
 about_bare m (Applied u ∷ ks) f v c h = refl
 about_bare m (Overlong ∷ ks) f v c h = refl
@@ -311,6 +320,7 @@ about_bare m (Mark s ∷ ks) f v c h = refl
 pub about_refuses : (m : Limits) (ks : List Symbol) (f : NameFunction) (v : Variable) (c : Within) → HasNoClose ks → HasNoComma ks → run m ks (Behind f v c) ≡ refused_in false ks
 about_refuses m [] f v c h i = refl
 about_refuses m (Constant u ∷ ks) f v c h i = refl
+about_refuses m (Inherent u ∷ ks) f v c h i = refl
 about_refuses m (Name u ∷ ks) f v c h i = refl
 about_refuses m (Applied u ∷ ks) f v c h i = refl
 about_refuses m (Overlong ∷ ks) f v c h i = refl
@@ -323,6 +333,7 @@ about_refuses m (Mark s ∷ ks) f v c h i = refl
 pub about_full : (m : Limits) (ks : List Symbol) (f : NameFunction) (v : Variable) (c : Within) → HasNoClose ks → most_others f ≡ 0 → run m ks (Behind f v c) ≡ refused_in false ks
 about_full m [] f v c h i = refl
 about_full m (Constant u ∷ ks) f v c h i = refl
+about_full m (Inherent u ∷ ks) f v c h i = refl
 about_full m (Name u ∷ ks) f v c h i = refl
 about_full m (Applied u ∷ ks) f v c h i = refl
 about_full m (Overlong ∷ ks) f v c h i = refl
@@ -343,6 +354,7 @@ other_closes m ks f v (Chain x r) c = refl
 pub other_refuses : (m : Limits) (ks : List Symbol) (f : NameFunction) (v : Variable) (e : Expr) (c : Within) → HasNoBinary ks → HasNoClose ks → run m ks (held e (InOther f v c)) ≡ refused_in false ks
 other_refuses m [] f v (Chain x r) c b d = refl
 other_refuses m (Constant u ∷ ks) f v (Chain x r) c b d = refl
+other_refuses m (Inherent u ∷ ks) f v (Chain x r) c b d = refl
 other_refuses m (Name u ∷ ks) f v (Chain x r) c b d = refl
 other_refuses m (Applied u ∷ ks) f v (Chain x r) c b d = refl
 other_refuses m (Overlong ∷ ks) f v (Chain x r) c b d = refl
@@ -352,6 +364,7 @@ other_refuses m (Mark Comma ∷ ks) f v (Chain x r) c b d = refl
 other_refuses m (Mark Caret ∷ ks) f v (Chain x r) c b d = refl
 other_refuses m (Mark Open ∷ ks) f v (Chain x r) c b d = refl
 other_refuses m (Mark Colon ∷ ks) f v (Chain x r) c b d = refl
+other_refuses m (Mark Dot ∷ ks) f v (Chain x r) c b d = refl
 other_refuses m (Mark Apostrophe ∷ ks) f v (Chain x r) c b d = refl
 other_refuses m (Mark s ∷ ks) f v (Chain x r) c b d = absurd (some_none _ b)
 
@@ -417,6 +430,7 @@ kind_full w kind n k e h = let P : ListKind → Type 0 = λ v. (is_limited w && 
 pub whole_done : (m : Limits) (e : Expr) (ks : List Symbol) → HasNoBinary ks → run m ks (held e Alone) ≡ Accept (Whole e) ks
 whole_done m (Chain x r) [] h = refl
 whole_done m (Chain x r) (Constant v ∷ ks) h = refl
+whole_done m (Chain x r) (Inherent v ∷ ks) h = refl
 whole_done m (Chain x r) (Name w ∷ ks) h = refl
 whole_done m (Chain x r) (Applied v ∷ ks) h = refl
 whole_done m (Chain x r) (Overlong ∷ ks) h = refl
@@ -426,6 +440,7 @@ whole_done m (Chain x r) (Mark Comma ∷ ks) h = refl
 whole_done m (Chain x r) (Mark Caret ∷ ks) h = refl
 whole_done m (Chain x r) (Mark Open ∷ ks) h = refl
 whole_done m (Chain x r) (Mark Colon ∷ ks) h = refl
+whole_done m (Chain x r) (Mark Dot ∷ ks) h = refl
 whole_done m (Chain x r) (Mark Apostrophe ∷ ks) h = refl
 whole_done m (Chain x r) (Mark s ∷ ks) h = absurd (some_none _ h)
 

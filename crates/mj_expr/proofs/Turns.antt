@@ -6,12 +6,12 @@ use Rattle.mj_ast.specs.declared.sign.Sign.TheVariants.{Caret, Open, Close, Comm
 use Rattle.mj_oper.specs.declared.op.UnaryOp.{UnaryOp}
 use Rattle.mj_oper.specs.declared.op.Op.{Op}
 use Rattle.mj_ast.specs.declared.expr.Scope.TheVariants.{Local, Global}
-use Rattle.mj_ast.specs.Syntax.{Expr, Chain, Operand, Literal, Value, Tails, Variable, Var, No, More, Group, Call, About, Select, Exprs, Last}
+use Rattle.mj_ast.specs.Syntax.{Expr, Chain, Operand, Literal, Value, Intrinsic, Tails, Variable, Var, No, More, Group, Call, About, Select, Exprs, Last}
 use Rattle.mj_ast.specs.declared.function.NameFunction.{NameFunction}
 use Rattle.mj_ast.specs.declared.function.Callee.{Callee}
 use Rattle.mj_ast.specs.declared.function.Callee.TheVariants as callee
-use Rattle.mj_ast.specs.Expressions.{Symbol, Constant, Name, Applied, Overlong, Mark, Other, count, most_others, levels}
-use Rattle.mj_expr.specs.Machine.{Outer, Alone, InGroup, InList, InOther, InCondition, InChoice, Owner, Subscripts, Arguments, before_choices, least_of, most_of, is_limited, Within, Place, AsOperand, AsNamed, AsTarget, State, Wanted, Sought, Marked, Named, Calling, Behind, Held, Got, filled, placed, closed, outer_of, Limits, Next, Go, Stuck, Deep, Long, opens, opens_call, depth_of, suffices, behind, inside, is_full, is_full_in, stray_comma, want_other, want_sign, hold_other, hold_sign, hold, on, step, unary_of, binary_of, Phrase, Whole, Target, Accept, DeepAt, TooLong, refused, ends, finish, run, turn, and_more}
+use Rattle.mj_ast.specs.Expressions.{Symbol, Constant, Inherent, Name, Applied, Overlong, Mark, Other, count, most_others, levels}
+use Rattle.mj_expr.specs.Machine.{Outer, Alone, InGroup, InList, InOther, InCondition, InChoice, Owner, Subscripts, Arguments, before_choices, least_of, most_of, is_limited, Within, Place, AsOperand, AsNamed, AsTarget, State, Wanted, Sought, Marked, Named, Calling, Behind, Held, Got, filled, placed, closed, outer_of, Limits, Next, Go, Stuck, Deep, Long, opens, opens_call, depth_of, suffices, behind, inside, comma, is_full, is_full_in, stray_comma, close, want_other, want_sign, hold_other, hold_sign, hold, on, step, unary_of, binary_of, Phrase, Whole, Target, Outcome, Accept, StuckAt, DeepAt, TooLong, refused, ends, finish, run, turn, and_more}
 use Rattle.mj_expr.proofs.Facts.{filled_outer}
 use Rattle.mj_expr.proofs.Told.{accept_rest, accept_phrase}
 
@@ -21,6 +21,7 @@ no_accept : (ks : List Symbol) (p : Phrase) (r : List Symbol) → refused ks ≡
 no_accept [] p r e = cc
 no_accept (Overlong ∷ ks) p r e = cc
 no_accept (Constant v ∷ ks) p r e = cc
+no_accept (Inherent v ∷ ks) p r e = cc
 no_accept (Name w ∷ ks) p r e = cc
 no_accept (Applied f ∷ ks) p r e = cc
 no_accept (Mark s ∷ ks) p r e = cc
@@ -150,6 +151,7 @@ hold_sign_reached m x r o s None = hold_other_reached m (Chain x r) o s
 hold_reached : (m : Limits) (x : Operand) (r : Tails) (o : Outer) (k : Symbol) → NextReached (hold m x r o k)
 hold_reached m x r o (Mark s) = hold_sign_reached m x r o s (binary_of s)
 hold_reached m x r o (Constant v) = tt
+hold_reached m x r o (Inherent v) = tt
 hold_reached m x r o (Name w) = tt
 hold_reached m x r o (Applied f) = tt
 hold_reached m x r o Overlong = tt
@@ -181,6 +183,7 @@ on_reached m (Got v) k = tt
 
 pub step_reached : (m : Limits) (s : State) (k : Symbol) → NextReached (step m s k)
 step_reached m (Wanted c) (Constant v) = filled_reached (Literal v) c
+step_reached m (Wanted c) (Inherent v) = filled_reached (Intrinsic v) c
 step_reached m (Wanted c) (Name w) = tt
 step_reached m (Wanted c) (Applied f) = opens_reached _ (nat_le _ m.depth) tt
 step_reached m (Wanted c) (Mark s) = want_sign_reached m c s (unary_of s)
@@ -204,6 +207,7 @@ step_reached m (Got v) k = tt
 
 abbrev pub IsPlain : Symbol → Type 0
 IsPlain (Constant v) = Unit {0}
+IsPlain (Inherent v) = Unit {0}
 IsPlain (Name w) = Unit {0}
 IsPlain k = ⊥
 
@@ -234,18 +238,25 @@ easy_as n o e h = let P : Next → Type 0 = λ x. IsEasy x in subst P (sym e) h
 
 pub plain_easy : (m : Limits) (s : State) (k : Symbol) → IsPlain k → IsEasy (step m s k)
 plain_easy m (Wanted c) (Constant v) h = tt
+plain_easy m (Wanted c) (Inherent v) h = tt
 plain_easy m (Wanted c) (Name w) h = tt
 plain_easy m (Sought p) (Constant v) h = tt
+plain_easy m (Sought p) (Inherent v) h = tt
 plain_easy m (Sought p) (Name w) h = tt
 plain_easy m (Marked p) (Constant v) h = tt
+plain_easy m (Marked p) (Inherent v) h = tt
 plain_easy m (Marked p) (Name w) h = tt
 plain_easy m (Named scope word p) (Constant v) h = easy_as (step m (Named scope word p) (Constant v)) Stuck (on_stuck m (Var scope word No) p (Constant v) (λ x r o. refl) (λ f c. refl)) tt
+plain_easy m (Named scope word p) (Inherent v) h = easy_as (step m (Named scope word p) (Inherent v)) Stuck (on_stuck m (Var scope word No) p (Inherent v) (λ x r o. refl) (λ f c. refl)) tt
 plain_easy m (Named scope word p) (Name w) h = easy_as (step m (Named scope word p) (Name w)) Stuck (on_stuck m (Var scope word No) p (Name w) (λ x r o. refl) (λ f c. refl)) tt
 plain_easy m (Held x r o) (Constant v) h = tt
+plain_easy m (Held x r o) (Inherent v) h = tt
 plain_easy m (Held x r o) (Name w) h = tt
 plain_easy m (Behind f u c) (Constant v) h = tt
+plain_easy m (Behind f u c) (Inherent v) h = tt
 plain_easy m (Behind f u c) (Name w) h = tt
 plain_easy m (Calling f c) (Constant v) h = tt
+plain_easy m (Calling f c) (Inherent v) h = tt
 plain_easy m (Calling f c) (Name w) h = tt
 plain_easy m (Got v) k h = tt
 plain_easy m s (Applied f) h = absurd h
@@ -352,23 +363,31 @@ after_as m s n e = let P : Next → Type 0 = λ x. CommaAfter m s x in subst P (
 
 pub comma_after : (m : Limits) (s : State) (k : Symbol) → IsReached s → IsPlain k → CommaAfter m s (step m s k)
 comma_after m (Wanted c) (Constant v) i h = λ e. ap (λ (b : Bool). cond b Long Stuck) (filled_full m (Literal v) c e)
+comma_after m (Wanted c) (Inherent v) i h = λ e. ap (λ (b : Bool). cond b Long Stuck) (filled_full m (Intrinsic v) c e)
 comma_after m (Wanted c) (Name w) i h = λ e. ap (λ (b : Bool). cond b Long Stuck) (on_full m (Var Local w No) c e)
 comma_after m (Sought AsTarget) (Constant v) i h = tt
+comma_after m (Sought AsTarget) (Inherent v) i h = tt
 comma_after m (Sought AsTarget) (Name w) i h = λ e. absurd (stuck_long e)
 comma_after m (Sought (AsNamed f c)) (Constant v) i h = tt
+comma_after m (Sought (AsNamed f c)) (Inherent v) i h = tt
 comma_after m (Sought (AsNamed f c)) (Name w) i h = λ e. absurd (behind_long f (Var Local w No) c e)
 comma_after m (Sought (AsOperand c)) k i h = absurd i
 comma_after m (Marked p) (Constant v) i h = tt
+comma_after m (Marked p) (Inherent v) i h = tt
 comma_after m (Marked (AsOperand c)) (Name w) i h = λ e. ap (λ (b : Bool). cond b Long Stuck) (on_full m (Var Global w No) c e)
 comma_after m (Marked (AsNamed f c)) (Name w) i h = λ e. absurd (behind_long f (Var Global w No) c e)
 comma_after m (Marked AsTarget) (Name w) i h = λ e. absurd (stuck_long e)
 comma_after m (Named scope word p) (Constant v) i h = after_as m (Named scope word p) (step m (Named scope word p) (Constant v)) (on_stuck m (Var scope word No) p (Constant v) (λ x r o. refl) (λ f c. refl))
+comma_after m (Named scope word p) (Inherent v) i h = after_as m (Named scope word p) (step m (Named scope word p) (Inherent v)) (on_stuck m (Var scope word No) p (Inherent v) (λ x r o. refl) (λ f c. refl))
 comma_after m (Named scope word p) (Name w) i h = after_as m (Named scope word p) (step m (Named scope word p) (Name w)) (on_stuck m (Var scope word No) p (Name w) (λ x r o. refl) (λ f c. refl))
 comma_after m (Held x r o) (Constant v) i h = tt
+comma_after m (Held x r o) (Inherent v) i h = tt
 comma_after m (Held x r o) (Name w) i h = tt
 comma_after m (Behind f u c) (Constant v) i h = tt
+comma_after m (Behind f u c) (Inherent v) i h = tt
 comma_after m (Behind f u c) (Name w) i h = tt
 comma_after m (Calling f c) (Constant v) i h = tt
+comma_after m (Calling f c) (Inherent v) i h = tt
 comma_after m (Calling f c) (Name w) i h = tt
 comma_after m (Got v) k i h = tt
 comma_after m s (Applied f) i h = absurd h
@@ -434,6 +453,7 @@ hold_sign_level m x r o s None = held_close_level m (Chain x r) o s
 hold_level : (m : Limits) (x : Operand) (r : Tails) (o : Outer) (k : Symbol) → IsNoLevel (hold m x r o k)
 hold_level m x r o (Mark s) = hold_sign_level m x r o s (binary_of s)
 hold_level m x r o (Constant v) = tt
+hold_level m x r o (Inherent v) = tt
 hold_level m x r o (Name w) = tt
 hold_level m x r o (Applied f) = tt
 hold_level m x r o Overlong = tt
@@ -452,6 +472,7 @@ on_any_level m (Got v) k = tt
 pub step_deep : (m : Limits) (s : State) (k : Symbol) → DeepBy (λ l. step l s k) m (step m s k)
 step_deep m (Wanted c) (Mark s) = deep_sign m c s (unary_of s)
 step_deep m (Wanted c) (Constant v) = tt
+step_deep m (Wanted c) (Inherent v) = tt
 step_deep m (Wanted c) (Name w) = tt
 step_deep m (Wanted c) (Applied f) = deep_call m f c (nat_le (depth_of c + levels f) m.depth) refl
 step_deep m (Wanted c) Overlong = tt

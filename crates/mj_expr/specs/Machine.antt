@@ -13,8 +13,8 @@ use Rattle.mj_ast.specs.declared.function.Function.{Function}
 use Rattle.mj_ast.specs.declared.function.NameFunction.{NameFunction}
 use Rattle.mj_ast.specs.declared.function.Callee.{Callee}
 use Rattle.mj_ast.specs.declared.function.Callee.TheVariants as callee
-use Rattle.mj_ast.specs.Syntax.{Expr, Chain, Tails, Done, Then, Operand, Literal, Value, Unary, Group, Call, About, Select, Variable, Var, Exprs, No, More, Choices, Last, Before}
-use Rattle.mj_ast.specs.Expressions.{Symbol, Constant, Name, Applied, Overlong, Mark, count, subscript_count, least, most, least_subscripts, most_others, levels}
+use Rattle.mj_ast.specs.Syntax.{Expr, Chain, Tails, Done, Then, Operand, Literal, Intrinsic, Value, Unary, Group, Call, About, Select, Variable, Var, Exprs, No, More, Choices, Last, Before}
+use Rattle.mj_ast.specs.Expressions.{Symbol, Constant, Inherent, Name, Applied, Overlong, Mark, count, subscript_count, least, most, least_subscripts, most_others, levels}
 
 -- the unary operator of a sign
 abbrev pub unary_of : Sign → Option UnaryOp
@@ -248,6 +248,7 @@ want_sign m c s None = want_other m c s
 
 abbrev pub want : Limits → Within → Symbol → Next
 want m c (Constant value) = Go (filled (Literal value) c)
+want m c (Inherent value) = Go (filled (Intrinsic value) c)
 want m c (Name word) = Go (Named Local word (AsOperand c))
 want m c (Applied callee) = opens_call m callee c
 want m c (Mark s) = want_sign m c s (unary_of s)

@@ -3,7 +3,7 @@ use Rattle.std.specs.Prelude.{ℕ, ◌≡◌, ◌≤◌, List, ◌∷◌, length
 use Rattle.mj_ast.specs.declared.sign.Sign.TheVariants.{Caret, Open, Comma, Colon, Close}
 use Rattle.mj_ast.specs.declared.sign.Sign.{Sign}
 use Rattle.mj_oper.specs.declared.op.Op.{Op}
-use Rattle.mj_ast.specs.Expressions.{Symbol, Constant, Name, Applied, Mark, symbol, width_limit, least, most}
+use Rattle.mj_ast.specs.Expressions.{Symbol, Constant, Inherent, Name, Applied, Mark, symbol, width_limit, least, most}
 use Rattle.mj_lex.specs.declared.token.Lexeme.{Lexeme}
 use Rattle.mj_lex.specs.Seen.{tokens_seen}
 use Rattle.mj_expr.specs.Machine.{Owner, Subscripts, Arguments, Limits, State, Phrase, Outcome, Accept, StuckAt, DeepAt, TooLong, run, unary_of, binary_of}
@@ -58,6 +58,7 @@ limited_in (kind.Arguments f) = false
 -- no operand begins with it
 abbrev pub BeginsNone : Symbol → Type 0
 BeginsNone (Constant value) = ⊥
+BeginsNone (Inherent value) = ⊥
 BeginsNone (Name word) = ⊥
 BeginsNone (Applied callee) = ⊥
 BeginsNone (Mark Caret) = ⊥
@@ -68,6 +69,7 @@ BeginsNone _ = Unit {0}
 -- what an operand begins with, by its symbol
 abbrev pub IsHead : Head → Symbol → Type 0
 IsHead (head.Constant text) k = k ≡ Constant text
+IsHead (head.Special v) k = k ≡ Inherent v
 IsHead (head.Name word) k = (k ≡ Name word.now) × (length word.now ≤ 31)
 IsHead (head.Callee callee) k = k ≡ Applied callee
 IsHead head.Caret k = k ≡ Mark Caret

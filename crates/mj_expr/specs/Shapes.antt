@@ -7,7 +7,7 @@ use Rattle.mj_oper.specs.declared.op.Op.{Op}
 use Rattle.mj_ast.specs.declared.function.Callee.{Callee}
 use Rattle.mj_ast.specs.declared.function.Callee.TheVariants as callee
 use Rattle.mj_ast.specs.Tokens.{Token}
-use Rattle.mj_ast.specs.Expressions.{Symbol, Constant, Name, Applied, Overlong, Mark, Other, count, least_subscripts, most_others}
+use Rattle.mj_ast.specs.Expressions.{Symbol, Constant, Inherent, Name, Applied, Overlong, Mark, Other, count, least_subscripts, most_others}
 use Rattle.mj_lex.specs.declared.token.Lexeme.{Lexeme}
 use Rattle.mj_expr.specs.Machine as machine
 use Rattle.mj_expr.specs.Machine.{unary_of, binary_of, Phrase, Outcome, Accept, StuckAt, TooLong, refused}
@@ -86,6 +86,7 @@ stage_of (machine.Got v) = stage.Behind
 -- what a symbol is, without what it stands for
 abbrev pub sort_of : Symbol → Sort
 sort_of (Constant value) = sort.Constant
+sort_of (Inherent value) = sort.Constant
 sort_of (Name word) = sort.Name
 sort_of (Applied f) = sort.Callee f
 sort_of (Mark s) = sort.Sign s

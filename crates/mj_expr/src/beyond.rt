@@ -101,6 +101,7 @@ fn sort_of(alloc: Global, token: Token<'_>) -> Result<Sort, AllocError>
 {
     match head_of(alloc, &token)? {
         Head::Constant(_) => Ok(Sort::Constant),
+        Head::Special(_) => Ok(Sort::Constant),
         Head::Name(_) => Ok(Sort::Name),
         Head::Callee(callee) => Ok(Sort::Callee(callee)),
         Head::Caret => Ok(Sort::Sign(Sign::Caret)),

@@ -36,6 +36,7 @@ fn operand<'a, 't>(
     };
     match head_of(alloc, token)? {
         Head::Constant(text) => Ok((Operand::Literal(text), rest)),
+        Head::Special(variable) => Ok((Operand::Special(variable), rest)),
         Head::Name(word) => {
             let (variable, rest) = named(alloc, Scope::Local, word, rest, room)?;
             Ok((Operand::Variable(variable), rest))

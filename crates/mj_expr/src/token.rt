@@ -3,7 +3,7 @@
 ghost use Rattle.std.specs.Prelude.{◌≡◌, ◌+◌, List, ◌∷◌, ◌<◌, ◌≤◌, [], length, nat_le, ◌&&◌, if◌then◌else◌, IfOk, MatchOption};
 ghost use Rattle.mj_expr.specs.declared.stop.Stop.TheVariants.{Stuck, Long};
 ghost use Rattle.std.specs.Str.{str_eq_ignore_ascii_case};
-ghost use Rattle.mj_ast.specs.Expressions.{Symbol, symbol, constant_of, Constant, Name, Mark, Other, callee_of, is_named, least as least_of_function, most as most_of_function, least_subscripts as least_subscripts_of, most_others as most_others_of, levels as levels_of_callee};
+ghost use Rattle.mj_ast.specs.Expressions.{Symbol, symbol, constant_of, Constant, Name, Mark, Other, callee_of, special_of, is_named, least as least_of_function, most as most_of_function, least_subscripts as least_subscripts_of, most_others as most_others_of, levels as levels_of_callee};
 ghost use Rattle.mj_ast.specs.declared.sign.Sign.TheVariants.{Caret, Open, Close, Comma, Colon};
 ghost use Rattle.mj_expr.specs.Machine.{unary_of, binary_of, refused_in};
 ghost use Rattle.mj_expr.specs.Reads.{symbols_seen, Refuses, IsHead, StartsBinary, HasNoBinary, HasNoOpen, HasNoComma, HasNoColon, HasNoClose, HasNoCaret, HasNoName, least_in, most_in, limited_in};
@@ -11,7 +11,7 @@ ghost use Rattle.mj_num.specs.Number.{reading};
 ghost use Rattle.mj_lex.specs.Seen.{token_seen};
 
 use crate::stop::Stop;
-use mj_ast::{Callee, Function, NameFunction, Sign};
+use mj_ast::{Callee, Function, NameFunction, Sign, Special};
 use mj_lex::{Lexeme, Token, next, unquoted};
 use mj_num::Num;
 use mj_oper::{Op, TruthOp, UnaryOp};
@@ -167,9 +167,21 @@ pub fn callee(word: &[u8]) -> Option<Callee>
     }
 }
 
+/// The special variable that a `$` word names, if no arguments stand behind it.
+pub fn special(word: &[u8]) -> Option<Special>
+    ensures { result ≡ special_of word.now }
+{
+    if is_word(word, b"TEST", b"T") {
+        Some(Special::Test)
+    } else {
+        None
+    }
+}
+
 /// What an operand may begin with.
 pub(crate) enum Head<'a> {
     Constant(Text),
+    Special(Special),
     Name(&'a [u8]),
     Callee(Callee),
     Caret,
@@ -270,11 +282,18 @@ pub(crate) fn head_of<'a>(alloc: Global, token: &Token<'a>) -> Result<Head<'a>, 
             }
         }
         Token::Sign(sign) => Ok(sign_head(sign)),
-        Token::Special(_)
-        | Token::Blank
-        | Token::Comment(_)
-        | Token::Unclosed(_)
-        | Token::Stray(_) => Ok(Head::Nothing),
+        Token::Special(word) => {
+            if word.len() > NAME_LIMIT {
+                return Ok(Head::Nothing);
+            }
+            match special(word) {
+                Some(variable) => Ok(Head::Special(variable)),
+                None => Ok(Head::Nothing),
+            }
+        }
+        Token::Blank | Token::Comment(_) | Token::Unclosed(_) | Token::Stray(_) => {
+            Ok(Head::Nothing)
+        }
     }
 }
 

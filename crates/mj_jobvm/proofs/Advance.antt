@@ -1,6 +1,5 @@
 -- A job that goes on by a turn of its machine.
-use Rattle.std.proofs.Common.{◌≡◌, ℕ, ◌+◌, ◌≤◌, List, Option, Some, None, Bool, Bor, sym, ap, ◌∙◌, subst, option_copied, option_map}
-use Rattle.std.specs.Prelude.{slice_get}
+use Rattle.std.proofs.Common.{◌≡◌, ℕ, ◌+◌, ◌≤◌, List, Option, Some, None, Bool, sym, subst}
 use Rattle.mj_ask.specs.declared.ask.Ask.{Ask}
 use Rattle.mj_ask.specs.declared.entry.Entry.{Entry}
 use Rattle.mj_ast.specs.Syntax.{Routine}
@@ -9,19 +8,14 @@ use Rattle.mj_load.specs.Image.{Loaded, routines_of}
 use Rattle.mj_jobvm.specs.declared.job.Turn.TheVariants as reports
 use Rattle.mj_jobvm.specs.declared.job.Went.{Went}
 use Rattle.mj_jobvm.specs.declared.job.Went.TheVariants as wents
-use Rattle.mj_jobvm.specs.declared.machine.Machine.{Machine}
-use Rattle.mj_jobvm.specs.declared.target.Target.{Target}
-use Rattle.mj_jobvm.specs.Standing.{Standing, Code, Steps}
-use Rattle.mj_jobvm.specs.Kept.{standing, target_of, target_at}
-use Rattle.mj_jobvm.specs.Units.{unit_at}
+use Rattle.mj_machine.specs.declared.machine.Machine.{Machine}
+use Rattle.mj_machine.specs.Standing.{Standing, Code, Steps}
+use Rattle.mj_machine.specs.Sound.{IsSound}
+use Rattle.mj_machine.specs.Kept.{standing}
 use Rattle.mj_jobvm.specs.Run.{Log, IsRun}
 use Rattle.mj_jobvm.specs.Jobs.{running, given_of, code_in, IsRunOf}
 use Rattle.mj_jobvm.specs.Told.{Told, told_of}
 use Rattle.mj_jobvm.proofs.Jobs.{run, turned, asking, fewer, told_ended}
-
-target_copied : (o : Option (Bor Target)) (t : Option Target) → option_copied o ≡ t → target_at o ≡ option_map target_of t
-target_copied None t e = ap (option_map target_of) e
-target_copied (Some b) t e = ap (option_map target_of) e
 
 -- the same of a pending ask by another name, and of fewer turns
 pub counted_as : (routines : List Routine) (entry : Entry) (code : Code) (log : Log) (pending named : Option Ask) (spent counted : ℕ) (at : Standing)
@@ -31,13 +25,13 @@ counted_as routines entry code log pending named spent counted at e le r =
     let P : Option Ask → Type 0 = λ p. IsRun routines entry code (run log p counted at) in
     subst P (sym e) (fewer routines entry code log pending counted spent at le r)
 
-module _ (image : Loaded) (entry : Entry) (unit : ℕ) (target : Option Target) (u : Option (Bor Unit)) (t : Option (Bor Target))
-    (log seen : Log) (eu : unit_at u ≡ slice_get image.units unit) (et : option_copied t ≡ target) (el : seen ≡ log)
+module _ (image : Loaded) (entry from : Entry) (units : List Unit) (log seen : Log) (eu : units ≡ image.units) (el : seen ≡ log)
     (spent : ℕ) (old new : Machine) (given left : Bool) (went : Went)
-    (steps : Steps (record { unit = unit_at u; target = target_at t }) (standing old (given_of given seen)) (told_of went) (standing new (given_of left seen)))
-    (r : IsRunOf image entry (running unit target old log given None spent)) where
+    (steps : Steps (record { units = units; entry = from }) (standing old (given_of given seen)) (told_of went) (standing new (given_of left seen)))
+    (sound : IsSound units (standing new None))
+    (r : IsRunOf image entry (running from old log given None spent)) where
   abbrev code : Code
-  code = code_in image unit (option_map target_of target)
+  code = code_in image from
 
   abbrev before : Standing
   before = standing old (given_of given log)
@@ -47,25 +41,21 @@ module _ (image : Loaded) (entry : Entry) (unit : ℕ) (target : Option Target) 
 
   steps_as : (w : Went) → went ≡ w → Steps code before (told_of w) after
   steps_as w e =
-      let P : Code → Type 0 = λ c. Steps c (standing old (given_of given seen)) (told_of went) (standing new (given_of left seen)) in
+      let P : List Unit → Type 0 = λ us. Steps (record { units = us; entry = from }) (standing old (given_of given seen)) (told_of went) (standing new (given_of left seen)) in
       let Q : Log → Type 0 = λ l. Steps code (standing old (given_of given l)) (told_of went) (standing new (given_of left l)) in
       let R : Went → Type 0 = λ x. Steps code before (told_of x) after in
-      let there : Code = record { unit = unit_at u; target = target_at t } in
-      let here : there ≡ code =
-      ap (λ x. let c : Code = record { unit = x; target = target_at t } in c) eu
-      ∙ ap (λ x. let c : Code = record { unit = slice_get image.units unit; target = x } in c) (target_copied t target et) in
-      subst R e (subst Q el (subst P here steps))
+      subst R e (subst Q el (subst P eu steps))
 
-  pub went_on : went ≡ wents.On → IsRunOf image entry (running unit target new log left None (spent + 1))
-  went_on e = turned (routines_of image) entry code log spent before after (steps_as wents.On e) r
+  pub went_on : went ≡ wents.On → IsRunOf image entry (running from new log left None (spent + 1))
+  went_on e = turned (routines_of image) entry code log spent before after (steps_as wents.On e) (let h : IsSound image.units (standing new None) = subst (λ us. IsSound us (standing new None)) eu sound in h) r
 
-  pub went_asks : (a : Ask) → went ≡ wents.Asks a → IsRunOf image entry (running unit target new log left (Some a) spent)
+  pub went_asks : (a : Ask) → went ≡ wents.Asks a → IsRunOf image entry (running from new log left (Some a) spent)
   went_asks a e =
       let s = steps_as (wents.Asks a) e in
       let P : Standing → Type 0 = λ x. IsRun (routines_of image) entry code (run log (Some a) spent x) in
       subst P (sym s.0) (asking (routines_of image) entry code log spent a before s.1 s.2 r)
 
-  pub went_over : went ≡ wents.Over → IsRunOf image entry (running unit target new log left None spent)
+  pub went_over : went ≡ wents.Over → IsRunOf image entry (running from new log left None spent)
   went_over e =
       let s = steps_as wents.Over e in
       let P : Standing → Type 0 = λ x. IsRun (routines_of image) entry code (run log None spent x) in

@@ -1,5 +1,5 @@
 -- A job that is told a reply.
-use Rattle.std.proofs.Common.{◌≡◌, ℕ, [], ◌∷◌, ◌++◌, Option, Some, None, Bool, true, sym, ap, ◌∙◌, subst, option_map}
+use Rattle.std.proofs.Common.{◌≡◌, ℕ, [], ◌∷◌, ◌++◌, Option, Some, None, Bool, true, sym, ap, ◌∙◌, subst}
 use Rattle.std.specs.Prelude.{IsTrue}
 use Rattle.std.proofs.lemmas.List.{reverse-append}
 use Rattle.mj_ask.specs.declared.ask.Ask.{Ask}
@@ -7,9 +7,8 @@ use Rattle.mj_ask.specs.declared.ask.Reply.{Reply}
 use Rattle.mj_ask.specs.declared.entry.Entry.{Entry}
 use Rattle.mj_ask.specs.Fits.{fits}
 use Rattle.mj_load.specs.Image.{Loaded, routines_of}
-use Rattle.mj_jobvm.specs.declared.machine.Machine.{Machine}
-use Rattle.mj_jobvm.specs.declared.target.Target.{Target}
-use Rattle.mj_jobvm.specs.Kept.{standing, target_of}
+use Rattle.mj_machine.specs.declared.machine.Machine.{Machine}
+use Rattle.mj_machine.specs.Kept.{standing}
 use Rattle.mj_jobvm.specs.Run.{Log, IsRun}
 use Rattle.mj_jobvm.specs.Jobs.{Fits, running, given_of, last_reply, code_in, IsRunOf}
 use Rattle.mj_jobvm.proofs.Jobs.{run, answered}
@@ -27,13 +26,13 @@ fits_it pending ask reply e f =
     let P : Ask → Type 0 = λ a. IsTrue (fits a reply) in
     subst P (same_ask f.0 ask (sym f.1 ∙ e)) f.2
 
-pub answered_by : (image : Loaded) (entry : Entry) (unit : ℕ) (target : Option Target) (machine : Machine) (log now : Log) (given : Bool) (pending left : Option Ask)
+pub answered_by : (image : Loaded) (entry : Entry) (from : Entry) (machine : Machine) (log now : Log) (given : Bool) (pending left : Option Ask)
     (spent : ℕ) (ask : Ask) (reply : Reply)
     → pending ≡ Some ask → Fits pending reply → now ≡ log ++ (ask, reply) ∷ [] → left ≡ None
-    → IsRunOf image entry (running unit target machine log given pending spent) → IsRunOf image entry (running unit target machine now true left 0)
-answered_by image entry unit target machine log now given pending left spent ask reply e f is none r =
+    → IsRunOf image entry (running from machine log given pending spent) → IsRunOf image entry (running from machine now true left 0)
+answered_by image entry from machine log now given pending left spent ask reply e f is none r =
     let routines = routines_of image in
-    let code = code_in image unit (option_map target_of target) in
+    let code = code_in image from in
     let with : Log = log ++ (ask, reply) ∷ [] in
     let P : Option Ask → Type 0 = λ p. IsRun routines entry code (run log p spent (standing machine (given_of given log))) in
     let Q : Option Reply → Type 0 = λ g. IsRun routines entry code (run with None 0 (standing machine g)) in

@@ -11,13 +11,14 @@ use Rattle.mj_semantics.specs.State.{State, Locals, Place, places}
 use Rattle.mj_semantics.specs.Outcome.{Outcome, Needs, More, Handler}
 use Rattle.mj_semantics.specs.Outcome as outcomes
 use Rattle.mj_semantics.specs.Job.{next, no_restart}
-use Rattle.mj_pcode.specs.declared.instr.Unit.{Unit}
+use Rattle.mj_pcode.specs.Context.{Context}
 use Rattle.mj_pcode.specs.Machine.{Stack}
-use Rattle.mj_jobvm.specs.declared.control.Control.{Control}
-use Rattle.mj_jobvm.specs.declared.control.Control.TheVariants as controls
+use Rattle.mj_machine.specs.declared.control.Control.{Control}
+use Rattle.mj_machine.specs.declared.control.Control.TheVariants as controls
 use Rattle.mj_jobvm.specs.declared.job.Turn.TheVariants as reports
-use Rattle.mj_jobvm.specs.Standing.{Standing, Code, from, left, given_first, onward, Steps}
-use Rattle.mj_jobvm.specs.Standing as turns
+use Rattle.mj_machine.specs.Standing.{Standing, Code, left, given_first, onward, Steps}
+use Rattle.mj_machine.specs.Standing as turns
+use Rattle.mj_machine.specs.Sound.{IsSound}
 use Rattle.mj_jobvm.specs.Run.{Log, Run, replies_of, TurnsBefore, begins, goes_on, IsRun}
 use Rattle.mj_jobvm.specs.Told.{Told}
 
@@ -25,20 +26,16 @@ abbrev pub run : Log → Option Ask → ℕ → Standing → Run
 run log pending spent at = record { log = log; pending = pending; spent = spent; at = at }
 
 -- without a turn nothing is done
-idle_from : (u : Option Unit) (pc : ℕ) (stack : Stack) (h : Handler) (s : State) (replies : List Reply) → from u pc stack 0 h s replies ≡ More
-idle_from None pc stack h s replies = refl
-idle_from (Some u) pc stack h s replies = refl
-
-idle_left : (code : Code) (control : Control) (stack : Stack) (s : State) (replies : List Reply) → left code control stack 0 no_restart s replies ≡ More
-idle_left code controls.Begin stack s replies = refl
-idle_left code (controls.At pc) stack s replies = idle_from code.unit pc stack no_restart s replies
-idle_left code (controls.Faulted f) stack s replies = refl
-idle_left code (controls.Closing f) stack s replies = refl
-idle_left code (controls.Halting f) stack s replies = refl
-idle_left code controls.Over stack s replies = refl
+idle_left : (code : Code) (control : Control) (c : Context) (stack : Stack) (s : State) (replies : List Reply) → left code control c stack 0 no_restart s replies ≡ More
+idle_left code controls.Begin c stack s replies = refl
+idle_left code (controls.At pc) c stack s replies = refl
+idle_left code (controls.Faulted f) c stack s replies = refl
+idle_left code (controls.Closing f) c stack s replies = refl
+idle_left code (controls.Halting f) c stack s replies = refl
+idle_left code controls.Over c stack s replies = refl
 
 idle : (code : Code) (at : Standing) (replies : List Reply) → onward code 0 at replies ≡ More
-idle code at replies = idle_left code at.control at.stack at.state (given_first at.given replies)
+idle code at replies = idle_left code at.control at.context at.stack at.state (given_first at.given replies)
 
 -- lists without their last elements
 last_off : (xs ys : Log) (e f : Ask × Reply) → xs ++ e ∷ [] ≡ ys ++ f ∷ [] → xs ≡ ys
@@ -102,9 +99,9 @@ module _ (routines : List Routine) (entry : Entry) (code : Code) where
       → onward code n at [] ≡ next routines entry (r.before + r.turns + n) (replies_of log)
   now log pending spent n at r = r.rest n [] ∙ ap (next routines entry (r.before + r.turns + n)) (append-nil (replies_of log))
 
-  pub started : (at : Standing) → ((n : ℕ) (replies : List Reply) → onward code n at replies ≡ next routines entry n replies)
+  pub started : (at : Standing) → IsSound code.units at → ((n : ℕ) (replies : List Reply) → onward code n at replies ≡ next routines entry n replies)
       → IsRun routines entry code (run [] None 0 at)
-  started at h = record {
+  started at sound h = record {
     before = 0;
     counted = inl (refl, refl);
     trace = begins;
@@ -112,6 +109,7 @@ module _ (routines : List Routine) (entry : Entry) (code : Code) where
     within = omega arith;
     going = λ n le replies. ap (λ k. next routines entry k replies) (let e : n ≡ 0 = omega (arith, le) in e);
     rest = λ n replies. h n replies ∙ ap (λ k. next routines entry k replies) (let e : n ≡ 0 + 0 + n = omega arith in e);
+    sound = sound;
     asks = tt;
   }
 
@@ -126,13 +124,14 @@ module _ (routines : List Routine) (entry : Entry) (code : Code) where
     within = let w = r.within in omega (arith, w, le);
     going = r.going;
     rest = r.rest;
+    sound = r.sound;
     asks = r.asks;
   }
 
   -- a turn
-  pub turned : (log : Log) (spent : ℕ) (old new : Standing) → Steps code old turns.Over new
+  pub turned : (log : Log) (spent : ℕ) (old new : Standing) → Steps code old turns.Over new → IsSound code.units new
       → IsRun routines entry code (run log None spent old) → IsRun routines entry code (run log None (spent + 1) new)
-  turned log spent old new h r = record {
+  turned log spent old new h sound r = record {
     before = r.before;
     counted = r.counted;
     trace = r.trace;
@@ -141,6 +140,7 @@ module _ (routines : List Routine) (entry : Entry) (code : Code) where
     going = λ n le. one_further (λ k. (replies : List Reply) → next routines entry k (replies_of log ++ replies) ≡ More) (r.before + r.turns) r.going
         (λ replies. sym (r.rest 1 replies) ∙ h 0 replies ∙ idle code new replies) n (let l : n ≤ r.before + r.turns + 1 = omega (arith, le) in l);
     rest = λ n replies. sym (h n replies) ∙ r.rest (suc n) replies ∙ ap (λ k. next routines entry k (replies_of log ++ replies)) (let e : r.before + r.turns + suc n ≡ r.before + (r.turns + 1) + n = omega arith in e);
+    sound = sound;
     asks = tt;
   }
 
@@ -156,6 +156,7 @@ module _ (routines : List Routine) (entry : Entry) (code : Code) where
     within = r.within;
     going = r.going;
     rest = r.rest;
+    sound = r.sound;
     asks = (g, h);
   }
 
@@ -203,8 +204,8 @@ module _ (routines : List Routine) (entry : Entry) (code : Code) where
       → IsTrue (fits a r) → IsRun routines entry code (run log (Some a) spent at)
       → IsRun routines entry code (run (log ++ (a, r) ∷ []) None 0 (record at { given = Some r }))
   answered log spent a r at fit is =
-      let after : (n : ℕ) (replies : List Reply) → left code at.control at.stack n no_restart at.state (r ∷ replies) ≡ next routines entry (is.before + is.turns + n) (replies_of (log ++ (a, r) ∷ []) ++ replies) =
-      λ n replies. ap (λ g. left code at.control at.stack n no_restart at.state (given_first g (r ∷ replies))) (sym is.asks.0)
+      let after : (n : ℕ) (replies : List Reply) → left code at.control at.context at.stack n no_restart at.state (r ∷ replies) ≡ next routines entry (is.before + is.turns + n) (replies_of (log ++ (a, r) ∷ []) ++ replies) =
+      λ n replies. ap (λ g. left code at.control at.context at.stack n no_restart at.state (given_first g (r ∷ replies))) (sym is.asks.0)
       ∙ is.rest n (r ∷ replies)
       ∙ ap (next routines entry (is.before + is.turns + n)) (replies_more log a r replies) in
       record {
@@ -226,5 +227,6 @@ module _ (routines : List Routine) (entry : Entry) (code : Code) where
             ∙ is.going n (let l : n ≤ is.before + is.turns = omega (arith, le) in l) (r ∷ replies);
         rest = λ n replies. after n replies
             ∙ ap (λ k. next routines entry k (replies_of (log ++ (a, r) ∷ []) ++ replies)) (let e : is.before + is.turns + n ≡ is.before + is.turns + 0 + n = omega arith in e);
+        sound = is.sound;
         asks = tt;
       }

@@ -1,6 +1,6 @@
 -- A job asks at most 1,000,000 times before its ending: whatever it does, it is told no more replies than it may have.
 use Rattle.std.proofs.Common.{◌≡◌, ℕ, zero, suc, ◌+◌, ◌≤◌, ◌<◌, List, [], ◌∷◌, ◌++◌, length, map, Option, Some, None, Bool, true, false, inl, inr, refl, sym, subst, arith, length-append}
-use Rattle.std.specs.Prelude.{Result, Ok, Err, nat_lt, if◌then◌else◌}
+use Rattle.std.specs.Prelude.{Result, Ok, Err, ℤ, ◌+ℤ◌, nat_lt, nat_eq, if◌then◌else◌}
 use Rattle.std.proofs.lemmas.Bool.{ltb-true}
 use Rattle.std.proofs.lemmas.List.{length-map}
 use Rattle.mj_text.specs.declared.fault.Fault.{Fault}
@@ -17,18 +17,20 @@ use Rattle.mj_ask.specs.declared.ask.Ask.TheVariants as asks
 use Rattle.mj_ask.specs.declared.ask.Reply.{Reply}
 use Rattle.mj_ask.specs.declared.entry.Entry.{Entry}
 use Rattle.mj_oper.specs.Operators.{binary_value, unary_value, truth_value}
-use Rattle.mj_ast.specs.Syntax.{Expr, Chain, Tails, Done, Then, Operand, Literal, Value, Unary, Group, Call, About, Select, Variable, Var, Exprs, No, More as Another, Choices, Last, Before, Destination, Plain, Pieces, Targets, One, Several, Assignment, Killed, Gone, Spared, Merged, Output, Shown, Format, Command, Set, Write, Halt, Kill, Merge, Step, Line, Routine}
-use Rattle.mj_semantics.specs.State.{State, Locals, Place, accessed, counted, wrote, pushed, at_place, spare, hold}
+use Rattle.mj_ast.specs.Syntax.{Expr, Chain, Tails, Done, Then, Operand, Literal, Value, Intrinsic, Unary, Group, Call, About, Select, Variable, Var, Exprs, No, More as Another, Choices, Last, Before, Destination, Plain, Pieces, Targets, One, Several, Assignment, Killed, Gone, Spared, Merged, Output, Shown, Format, Called as CalledOf, Jumped as JumpedOf, Range, Single, Endless, UpTo, Renewed, Fresh, Kept, Command, Set, Write, Halt, Kill, Merge, If, Else, For, Forever, Do, Goto, Quit, New, Step, Line, Routine}
+use Rattle.mj_ast.specs.declared.expr.Scope.TheVariants.{Local}
+use Rattle.mj_num.specs.Number.{reading, sum_of, canonic_text}
+use Rattle.mj_semantics.specs.State.{State, Locals, Place, Frame, Only, AllBut, accessed, counted, wrote, newed, set_test, special_value, level_of, may_go, pushed, popped, passed, at_place, spare, hold}
 use Rattle.mj_ast.specs.declared.function.NameFunction.{NameFunction}
 use Rattle.mj_semantics.specs.Functions.{call_value, needed, optional}
 use Rattle.mj_semantics.specs.Names.{spelled, asks as asks_some, question, told}
 use Rattle.mj_semantics.specs.Outcome.{Needs, Handler, Timed, turn, look, change, asking, over, principal, halt, end, fault_bytes, fault, steps_limit, ask, tell, need, given}
 use Rattle.mj_semantics.specs.Accesses.{answer_told, answered, access, value_told, nodes_told}
-use Rattle.mj_semantics.specs.Evaluation.{ev, ev_tails, ev_operand, ev_choices, ev_name, ev_named, ev_all, name_of, named_for, read, about, when}
-use Rattle.mj_semantics.specs.Lines.{Here, place_at, next_line, line_before, line_at, entered}
-use Rattle.mj_semantics.specs.Points.{Ways, Point, AtLine, Called, Points}
-use Rattle.mj_semantics.specs.Commands.{Aim, Whole, Part, ev_destination, ev_destinations, store, or_empty, renewed, renew, put, put_all, assign_to, assign, assign_all, named, remove, kill, kill_list, kill_all, take_nodes, put_these, put_nodes, merge, merge_all, write, mark_byte, output, output_all, obey, obey_all}
-use Rattle.mj_semantics.specs.Job.{obey_line, call, points_of, opening, no_restart, start, next}
+use Rattle.mj_semantics.specs.Evaluation.{ev, ev_tails, ev_operand, ev_choices, ev_name, ev_named, ev_all, ev_actuals, ev_local, name_of, named_for, read, about, when}
+use Rattle.mj_semantics.specs.Lines.{Here, place_at, next_line, line_before, line_at, levels_of, entry_of, entered}
+use Rattle.mj_semantics.specs.Points.{Ways, Loop, Once, Always, By, Point, AtLine, Called, Jumped, Pass, Points}
+use Rattle.mj_semantics.specs.Commands.{Aim, Whole, Part, ev_destination, ev_destinations, store, or_empty, renewed, renew, put, put_all, assign_to, assign, assign_all, named, remove, kill, kill_list, kill_all, take_nodes, put_these, put_nodes, merge, merge_all, write, mark_byte, output, output_all, renewal, new_list, new_all, deeper, frames_limit, ifs, if_test, if_all, is_within, stepped, again, first, ranges, calls, block, do_all, jumps, obey, obey_all}
+use Rattle.mj_semantics.specs.Job.{quit_before, obey_line, call, jump, in_pass, points_of, opening, no_restart, start, next}
 use Rattle.mj_jobvm.specs.Run.{Log, replies_of, IsTrace, begins, goes_on}
 use Rattle.mj_jobvm.specs.Limit.{IsAllowed, AreAllowed, IsLimited}
 
@@ -171,6 +173,7 @@ mutual
   operand_keeps : (x : Operand) (rest : List ℕ → Timed) → ((v : List ℕ) → Keeps (rest v)) → Keeps (ev_operand x rest)
   operand_keeps (Literal t) rest k = turn_keeps (rest t) (k t)
   operand_keeps (Value v) rest k = name_keeps v (λ x. read x rest) (λ x. read_keeps x rest k)
+  operand_keeps (Intrinsic v) rest k = turn_keeps _ (look_keeps _ (λ s. k (special_value v s)))
   operand_keeps (Unary op x) rest k = operand_keeps x _ (λ v. turn_keeps _ (given_keeps (unary_value op v) rest k))
   operand_keeps (Group e) rest k = ev_keeps e rest k
   operand_keeps (Call f es) rest k = all_keep es _ (λ vs. turn_keeps _ (given_keeps (call_value f vs) rest k))
@@ -293,49 +296,211 @@ merge_all_keeps : (list : List Merged) (rest : Timed) → Keeps rest → Keeps (
 merge_all_keeps [] rest k = k
 merge_all_keeps (m ∷ list) rest k = merge_keeps m (merge_all list rest) (merge_all_keeps list rest k)
 
-obey_keeps : (c : Command) (ways : Ways) (rest : Timed) → Keeps rest → Keeps (obey c ways rest)
-obey_keeps (Set list) ways rest k = assign_all_keeps list rest k
-obey_keeps (Write list) ways rest k = output_all_keeps list rest k
-obey_keeps Halt ways rest k = turn_keeps (end None) (end_keeps None)
-obey_keeps (Kill list) ways rest k = kill_all_keeps list rest k
-obey_keeps (Merge list) ways rest k = merge_all_keeps list rest k
+-- Actuals, and the local of a FOR.
 
-obey_all_keeps : (steps : List Step) (ways : Ways) → Keeps ways.line_end → Keeps ways.leave → Keeps (obey_all steps ways)
-obey_all_keeps [] ways k l = k
-obey_all_keeps (step ∷ steps) ways k l =
-    let rest = obey_all_keeps steps ways k l in
-    when_keeps step.condition _ (obey_all steps ways) (obey_keeps step.command ways (obey_all steps ways) rest) rest
+actuals_keep : (es : List (Option Expr)) (rest : List (Option (List ℕ)) → Timed) → ((vs : List (Option (List ℕ))) → Keeps (rest vs)) → Keeps (ev_actuals es rest)
+actuals_keep [] rest k = k []
+actuals_keep (None ∷ es) rest k = actuals_keep es _ (λ vs. k (None ∷ vs))
+actuals_keep (Some e ∷ es) rest k = ev_keeps e _ (λ v. actuals_keep es _ (λ vs. k (Some v ∷ vs)))
+
+local_keeps : (v : Variable) (rest : Name → Timed) → ((x : Name) → Keeps (rest x)) → Keeps (ev_local v rest)
+local_keeps (Var scope word es) rest k = all_keep es _ (λ ss. turn_keeps _ (given_keeps (name_of Local word ss) rest k))
+
+-- NEW.
+
+new_keeps : (x : Renewed) (rest : Timed) → Keeps rest → Keeps (renewal x rest)
+new_keeps (Fresh word) rest k = turn_keeps (change (newed (Only (word ∷ []))) rest) (change_keeps rest k (newed (Only (word ∷ []))) (λ q. refl))
+new_keeps (Kept words) rest k =
+    names_keep words _ (turn_keeps (change (newed (AllBut words)) rest) (change_keeps rest k (newed (AllBut words)) (λ q. refl)))
+
+new_list_keeps : (list : List Renewed) (rest : Timed) → Keeps rest → Keeps (new_list list rest)
+new_list_keeps [] rest k = k
+new_list_keeps (x ∷ list) rest k = new_keeps x (new_list list rest) (new_list_keeps list rest k)
+
+new_all_keeps : (list : List Renewed) (rest : Timed) → Keeps rest → Keeps (new_all list rest)
+new_all_keeps [] rest k = turn_keeps (change (newed (AllBut [])) rest) (change_keeps rest k (newed (AllBut [])) (λ q. refl))
+new_all_keeps (x ∷ list) rest k = new_list_keeps (x ∷ list) rest k
+
+-- IF and ELSE.
+
+ifs_keep : (es : List Expr) (line_end rest : Timed) → Keeps line_end → Keeps rest → Keeps (ifs es line_end rest)
+ifs_keep [] line_end rest l k = k
+ifs_keep (e ∷ es) line_end rest l k =
+    ev_keeps e _ (λ v. turn_keeps _ (given_keeps (truth_value v) _ (λ b.
+    change_keeps (if b then ifs es line_end rest else line_end) (if_keeps b (ifs es line_end rest) line_end (ifs_keep es line_end rest l k) l) (set_test b) (λ q. refl))))
+
+test_keeps : (b : Bool) (line_end rest : Timed) → Keeps line_end → Keeps rest → Keeps (if_test b line_end rest)
+test_keeps true line_end rest l k = look_keeps _ (λ s. if_keeps s.test rest line_end k l)
+test_keeps false line_end rest l k = look_keeps _ (λ s. if_keeps s.test line_end rest l k)
+
+-- FOR.
+
+stepped_keeps : (x : Name) (step : ℤ) (end : Option ℤ) (i : ℤ) (after pass : Timed) → Keeps after → Keeps pass → Keeps (stepped x step end i after pass)
+stepped_keeps x step None i after pass a k = given_keeps (sum_of i step) _ (λ j. store_keeps x (canonic_text j) pass k)
+stepped_keeps x step (Some end) i after pass a k =
+    if_keeps (is_within step end (i +ℤ step)) (store x (canonic_text (i +ℤ step)) pass) after (store_keeps x (canonic_text (i +ℤ step)) pass k) a
+
+again_keeps : (l : Loop) (after pass : Timed) → Keeps after → Keeps pass → Keeps (again l after pass)
+again_keeps Once after pass a k = a
+again_keeps Always after pass a k = k
+again_keeps (By x step end) after pass a k =
+    access_keeps (accesses.Value x) _ (λ r. need_keeps faults.ForIndex (value_told r) _ (λ v. given_keeps (reading v) _ (λ i. stepped_keeps x step end i after pass a k)))
+
+first_keeps : (x : Name) (i step : ℤ) (end : Option ℤ) (after pass : Timed) → Keeps after → Keeps pass → Keeps (first x i step end after pass)
+first_keeps x i step None after pass a k = store_keeps x (canonic_text i) pass k
+first_keeps x i step (Some end) after pass a k =
+    store_keeps x (canonic_text i) (if is_within step end i then pass else after) (if_keeps (is_within step end i) pass after k a)
+
+-- Frames.
+
+deeper_keeps : (rest : Timed) → Keeps rest → Keeps (deeper rest)
+deeper_keeps rest k = look_keeps _ (λ s. if_keeps (nat_lt (length s.frames) frames_limit) rest (fault faults.Depth) k (fault_keeps faults.Depth))
+
+popped_same : (s : State) → (popped s).replied ≡ s.replied
+popped_same s = by s.frames
+  where
+    by : (fs : List Frame) → (popped (record s { frames = fs })).replied ≡ s.replied
+    by [] = refl
+    by (f ∷ fs) = refl
+
+-- what each of the ways leads to asks only what it may
+pub record KeepsWays (ways : Ways) : Type 0 where
+  pub line_end : Keeps ways.line_end
+  pub for_quit : (t : Timed) → ways.for_quit ≡ Some t → Keeps t
+  pub leave : Keeps ways.leave
+
+-- what comes after a point
+abbrev pub KeepsPoint : Point → Type 0
+KeepsPoint (AtLine here leave) = Keeps leave
+KeepsPoint (Called entry vs leave) = Keeps leave
+KeepsPoint (Jumped entry leave) = Keeps leave
+KeepsPoint (Pass here loop body after ways) = Keeps after × KeepsWays ways
+
+quit_keeps : (quit : Option Timed) (leave : Timed) → ((t : Timed) → quit ≡ Some t → Keeps t) → Keeps leave → Keeps (elim quit [ None ↦ leave | Some t ↦ t ])
+quit_keeps None leave q k = k
+quit_keeps (Some t) leave q k = q t refl
+
+module _ (points : Points) (all : (p : Point) → KeepsPoint p → Keeps (points p)) (here : Here) where
+  ranges_keep : (x : Name) (rs : List Range) (body : List Step) (ways : Ways) → KeepsWays ways → Keeps (ranges points here x rs body ways)
+  ranges_keep x [] body ways k = turn_keeps ways.line_end k.line_end
+  ranges_keep x (Single a ∷ rs) body ways k =
+      let later = ranges_keep x rs body ways k in
+      ev_keeps a _ (λ v. turn_keeps _ (store_keeps x v (points (Pass here Once body (ranges points here x rs body ways) ways)) (all _ (later, k))))
+  ranges_keep x (Endless a b ∷ rs) body ways k =
+      let later = ranges_keep x rs body ways k in
+      ev_keeps a _ (λ v. ev_keeps b _ (λ w. turn_keeps _ (given_keeps (reading v) _ (λ i. given_keeps (reading w) _ (λ step.
+      first_keeps x i step None (ranges points here x rs body ways) (points (Pass here (By x step None) body (ranges points here x rs body ways) ways)) later (all _ (later, k)))))))
+  ranges_keep x (UpTo a b c ∷ rs) body ways k =
+      let later = ranges_keep x rs body ways k in
+      ev_keeps a _ (λ v. ev_keeps b _ (λ w. ev_keeps c _ (λ u. turn_keeps _ (given_keeps (reading v) _ (λ i. given_keeps (reading w) _ (λ step. given_keeps (reading u) _ (λ end.
+      first_keeps x i step (Some end) (ranges points here x rs body ways) (points (Pass here (By x step (Some end)) body (ranges points here x rs body ways) ways)) later (all _ (later, k)))))))))
+
+  calls_keep : (list : List CalledOf) (rest : Timed) → Keeps rest → Keeps (calls points here list rest)
+  calls_keep [] rest k = k
+  calls_keep (c ∷ list) rest k =
+      let later = calls_keep list rest k in
+      when_keeps c.condition _ (calls points here list rest)
+      (actuals_keep c.actuals _ (λ vs. turn_keeps _ (all (Called (entry_of here c.target) vs (change popped (calls points here list rest))) (change_keeps (calls points here list rest) later popped popped_same)))) later
+
+  block_keeps : (rest : Timed) → Keeps rest → Keeps (block points here rest)
+  block_keeps rest k =
+      deeper_keeps _ (look_keeps _ (λ s. change_keeps _ (turn_keeps _ (all (AtLine (next_line here) (change popped rest)) (change_keeps rest k popped popped_same))) (pushed (place_at here) (level_of s + 1) (Some s.test)) (λ q. refl)))
+
+  do_keeps : (list : List CalledOf) (rest : Timed) → Keeps rest → Keeps (do_all points here list rest)
+  do_keeps [] rest k = turn_keeps (block points here rest) (block_keeps rest k)
+  do_keeps (c ∷ list) rest k = calls_keep (c ∷ list) rest k
+
+  jumps_keep : (list : List JumpedOf) (leave rest : Timed) → Keeps leave → Keeps rest → Keeps (jumps points here list leave rest)
+  jumps_keep [] leave rest l k = k
+  jumps_keep (j ∷ list) leave rest l k =
+      when_keeps j.condition _ (jumps points here list leave rest) (turn_keeps _ (all (Jumped (entry_of here j.target) leave) l)) (jumps_keep list leave rest l k)
+
+  if_keeps_all : (es : List Expr) (line_end rest : Timed) → Keeps line_end → Keeps rest → Keeps (if_all points here es line_end rest)
+  if_keeps_all [] line_end rest l k = turn_keeps (if_test true line_end rest) (test_keeps true line_end rest l k)
+  if_keeps_all (e ∷ es) line_end rest l k = ifs_keep (e ∷ es) line_end rest l k
+
+  obey_keeps : (command : Command) (c : Option Expr) (steps : List Step) (ways : Ways) (rest : Timed) → KeepsWays ways → Keeps rest → Keeps (obey points here command c steps ways rest)
+  obey_keeps (Set list) c steps ways rest w k = when_keeps c _ rest (assign_all_keeps list rest k) k
+  obey_keeps (Write list) c steps ways rest w k = when_keeps c _ rest (output_all_keeps list rest k) k
+  obey_keeps Halt c steps ways rest w k = when_keeps c _ rest (turn_keeps (end None) (end_keeps None)) k
+  obey_keeps (Kill list) c steps ways rest w k = when_keeps c _ rest (kill_all_keeps list rest k) k
+  obey_keeps (Merge list) c steps ways rest w k = when_keeps c _ rest (merge_all_keeps list rest k) k
+  obey_keeps (If es) c steps ways rest w k = if_keeps_all es ways.line_end rest w.line_end k
+  obey_keeps Else c steps ways rest w k = turn_keeps (if_test false ways.line_end rest) (test_keeps false ways.line_end rest w.line_end k)
+  obey_keeps (For v rs) c steps ways rest w k = local_keeps v _ (λ x. ranges_keep x rs steps ways w)
+  obey_keeps Forever c steps ways rest w k = turn_keeps _ (all (Pass here Always steps (turn ways.line_end) ways) (turn_keeps ways.line_end w.line_end, w))
+  obey_keeps (Do list) c steps ways rest w k = when_keeps c _ rest (do_keeps list rest k) k
+  obey_keeps (Goto list) c steps ways rest w k = when_keeps c _ rest (jumps_keep list ways.leave rest w.leave k) k
+  obey_keeps Quit c steps ways rest w k = when_keeps c _ rest (turn_keeps _ (quit_keeps ways.for_quit ways.leave w.for_quit w.leave)) k
+  obey_keeps (New list) c steps ways rest w k = when_keeps c _ rest (new_all_keeps list rest k) k
+
+  obey_all_keeps : (steps : List Step) (ways : Ways) → KeepsWays ways → Keeps (obey_all points here steps ways)
+  obey_all_keeps [] ways w = w.line_end
+  obey_all_keeps (step ∷ steps) ways w = obey_keeps step.command step.condition steps ways (obey_all points here steps ways) w (obey_all_keeps steps ways w)
 
 -- Lines and frames.
 
--- what comes after a point
-abbrev leave_of : Point → Timed
-leave_of (AtLine here leave) = leave
-leave_of (Called entry leave) = leave
+no_quit : (t : Timed) → ◌≡◌ {A = Option Timed} None (Some t) → Keeps t
+no_quit t e = cc
 
 module _ (image : List Routine) where
-  line_keeps : (points : Points) → ((p : Point) → Keeps (leave_of p) → Keeps (points p)) → (here : Here) (line : Option Line) (leave : Timed)
+  quit_before_keeps : (here : Here) (leave : Timed) → Keeps leave → Keeps (quit_before here leave)
+  quit_before_keeps here leave k = change_keeps leave k (at_place (place_at (line_before here))) (λ q. refl)
+
+  line_keeps : (points : Points) → ((p : Point) → KeepsPoint p → Keeps (points p)) → (here : Here) (line : Option Line) (leave : Timed)
       → Keeps leave → Keeps (obey_line points here line leave)
-  line_keeps points all here None leave k = change_keeps leave k (at_place (place_at (line_before here))) (λ q. refl)
+  line_keeps points all here None leave k = quit_before_keeps here leave k
   line_keeps points all here (Some line) leave k =
-      change_keeps _ (obey_all_keeps line.steps _ (turn_keeps _ (all (AtLine (next_line here) leave) k)) k) (at_place (place_at here)) (λ q. refl)
+      let next : Timed = turn (points (AtLine (next_line here) leave)) in
+      let goes_on : Keeps next = turn_keeps _ (all (AtLine (next_line here) leave) k) in
+      let ways : Ways = record { line_end = next; for_quit = None; leave = leave } in
+      let within : Timed = change (at_place (place_at here)) (obey_all points here line.steps ways) in
+      let keeps : Keeps within = change_keeps _ (obey_all_keeps points all here line.steps ways (record { line_end = goes_on; for_quit = no_quit; leave = k })) (at_place (place_at here)) (λ q. refl) in
+      look_keeps _ (λ s. if_keeps (nat_lt line.level (level_of s)) (quit_before here leave) (if nat_lt (level_of s) line.level then next else within) (quit_before_keeps here leave k)
+      (if_keeps (nat_lt (level_of s) line.level) next within goes_on keeps))
 
-  call_keeps : (points : Points) → ((p : Point) → Keeps (leave_of p) → Keeps (points p)) → (to : Option Here) (leave : Timed)
-      → Keeps leave → Keeps (call points to leave)
-  call_keeps points all None leave k = fault_keeps faults.NoLine
-  call_keeps points all (Some to) leave k = change_keeps _ (turn_keeps _ (all (AtLine to leave) k)) (pushed (place_at to)) (λ q. refl)
+  call_keeps : (points : Points) → ((p : Point) → KeepsPoint p → Keeps (points p)) → (to : Option (Here × Line)) (vs : List (Option (List ℕ))) (leave : Timed)
+      → Keeps leave → Keeps (call points to vs leave)
+  call_keeps points all None vs leave k = fault_keeps faults.NoLine
+  call_keeps points all (Some to) vs leave k =
+      let enters : State → State = λ s. passed to.1.formals vs (pushed (place_at to.0) 1 None s) in
+      let in_frame : Timed = deeper (change enters (turn (points (AtLine to.0 leave)))) in
+      if_keeps (nat_eq to.1.level 1) (if nat_lt (length to.1.formals) (length vs) then fault faults.Params else in_frame) (fault faults.NoLine)
+      (if_keeps (nat_lt (length to.1.formals) (length vs)) (fault faults.Params) in_frame (fault_keeps faults.Params)
+      (deeper_keeps _ (change_keeps _ (turn_keeps _ (all (AtLine to.0 leave) k)) enters (λ q. refl))))
+      (fault_keeps faults.NoLine)
 
-  points_keep : (depth : ℕ) (p : Point) → Keeps (leave_of p) → Keeps (points_of image depth p)
+  jump_keeps : (points : Points) → ((p : Point) → KeepsPoint p → Keeps (points p)) → (to : Option (Here × Line)) (leave : Timed)
+      → Keeps leave → Keeps (jump image points to leave)
+  jump_keeps points all None leave k = fault_keeps faults.NoLine
+  jump_keeps points all (Some to) leave k =
+      look_keeps _ (λ s. if_keeps (may_go s (place_at to.0) to.1.level (levels_of image to.0.routine)) (turn (points (AtLine to.0 leave))) (fault faults.NoLine)
+      (turn_keeps _ (all (AtLine to.0 leave) k)) (fault_keeps faults.NoLine))
+
+  quits_for : (t u : Timed) → Keeps u → ◌≡◌ {A = Option Timed} (Some u) (Some t) → Keeps t
+  quits_for t u k e = let same : u ≡ t = cc in subst Keeps same k
+
+  points_keep : (depth : ℕ) (p : Point) → KeepsPoint p → Keeps (points_of image depth p)
   points_keep zero p k = record { by = λ n h s replies a locals at le e. cc }
   points_keep (suc d) (AtLine here leave) k = line_keeps (points_of image d) (points_keep d) here (line_at image here) leave k
-  points_keep (suc d) (Called entry leave) k = call_keeps (points_of image d) (points_keep d) (entered image entry) leave k
+  points_keep (suc d) (Called entry vs leave) k = call_keeps (points_of image d) (points_keep d) (entered image entry) vs leave k
+  points_keep (suc d) (Jumped entry leave) k = jump_keeps (points_of image d) (points_keep d) (entered image entry) leave k
+  points_keep (suc d) (Pass here loop body after ways) k =
+      let pass : Timed = points_of image d (Pass here loop body after ways) in
+      let keeps : Keeps pass = points_keep d (Pass here loop body after ways) k in
+      obey_all_keeps (points_of image d) (points_keep d) here body (in_pass loop after pass ways)
+      (record {
+        line_end = turn_keeps (again loop after pass) (again_keeps loop after pass k.0 keeps);
+        for_quit = λ t e. quits_for t (turn ways.line_end) (turn_keeps ways.line_end k.1.line_end) e;
+        leave = k.1.leave;
+      })
 
   -- a job from its start
   pub job_keeps : (entry : Entry) (n : ℕ) (replies : List Reply) (a : Ask) (locals : Locals) (at : List Place)
       → next image entry n replies ≡ Needs a locals at → IsAllowed (length replies) a
   job_keeps entry n replies a locals at e =
       let k : Keeps (start image entry (suc n)) =
-      turn_keeps _ (tell_keeps (asks.DeviceBegin principal) _ (points_keep (suc n) (Called entry (end None)) (end_keeps None))) in
+      turn_keeps _ (tell_keeps (asks.DeviceBegin principal) _ (points_keep (suc n) (Called entry [] (end None)) (end_keeps None))) in
       subst (λ i. IsAllowed i a) (let z : opening.replied + length replies ≡ length replies = omega arith in z) (k.by n no_restart opening replies a locals at (omega arith) e)
 
 -- Logs.

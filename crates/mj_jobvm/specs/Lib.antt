@@ -1,9 +1,3 @@
-pub mod Frames
-pub mod Units
-pub mod Standing
-pub mod Answers
-pub mod Asked
-pub mod Kept
 pub mod Run
 pub mod Limit
 pub mod Told

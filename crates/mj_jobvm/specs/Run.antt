@@ -8,7 +8,8 @@ use Rattle.mj_ast.specs.Syntax.{Routine}
 use Rattle.mj_semantics.specs.State.{Locals, Place, places}
 use Rattle.mj_semantics.specs.Outcome.{Needs, Ended, More}
 use Rattle.mj_semantics.specs.Job.{next}
-use Rattle.mj_jobvm.specs.Standing.{Standing, Code, onward}
+use Rattle.mj_machine.specs.Standing.{Standing, Code, onward}
+use Rattle.mj_machine.specs.Sound.{IsSound}
 
 -- the asks of a job and their replies, in order
 abbrev pub Log : Type 0
@@ -66,5 +67,7 @@ pub record IsRun (routines : List Routine) (entry : Entry) (code : Code) (job : 
   pub going : (n : ℕ) → n ≤ before + turns → (replies : List Reply) → next routines entry n (replies_of job.log ++ replies) ≡ More
   -- what is left of the run is what the routines mean after as many turns
   pub rest : (n : ℕ) (replies : List Reply) → onward code n job.at replies ≡ next routines entry (before + turns + n) (replies_of job.log ++ replies)
+  -- it stands where no operand and no FOR is missing
+  pub sound : IsSound code.units job.at
   -- and with an ask pending, the run needs its reply
   pub asks : IfSome job.pending (λ a. (job.at.given ≡ None) × ((n : ℕ) → onward code (suc n) job.at [] ≡ Needs a job.at.state.locals (places job.at.state)))

@@ -10,7 +10,7 @@ use Rattle.mj_jobvm.specs.declared.job.Turn.{Turn}
 use Rattle.mj_jobvm.specs.declared.job.Turn.TheVariants.{Asks, Ran, Ended}
 use Rattle.mj_jobvm.specs.declared.job.Went.{Went}
 use Rattle.mj_jobvm.specs.declared.job.Went.TheVariants as wents
-use Rattle.mj_jobvm.specs.Standing as turns
+use Rattle.mj_machine.specs.Standing as turns
 use Rattle.mj_jobvm.specs.Run.{Run, replies_of, GoesOn, HasEnded}
 
 -- it asks only what the run over its log needs, and its locals and its frames are those that stand beside it; it has ended

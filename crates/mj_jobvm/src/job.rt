@@ -1,27 +1,25 @@
 // A job.
 
-ghost use Rattle.std.specs.Prelude.{◌≡◌, ◌++◌, ◌∷◌, [], Some, None, IfOk, OnErr, option_copied, option_map, slice_get};
+ghost use Rattle.std.specs.Prelude.{◌≡◌, ◌++◌, ◌∷◌, [], Some, None, IfOk, OnErr, option_copied};
 ghost use Rattle.mj_ask.specs.declared.ask.Ask as asks;
 ghost use Rattle.mj_ask.specs.declared.entry.Entry as entries;
 ghost use Rattle.mj_semantics.specs.State.{place_of};
 ghost use Rattle.mj_load.specs.Image.{Loaded, routines_of};
-ghost use Rattle.mj_jobvm.specs.Frames.{frames_of, place_at};
-ghost use Rattle.mj_jobvm.specs.Jobs.{Fits, IsRunOf, given_of, opened};
-ghost use Rattle.mj_jobvm.specs.Standing.{Steps};
-ghost use Rattle.mj_jobvm.specs.Kept.{standing, replied, target_of, target_at};
+ghost use Rattle.mj_machine.specs.Frames.{frames_of, place_at};
+ghost use Rattle.mj_jobvm.specs.Jobs.{Fits, IsRunOf, IsIn, given_of, opened};
+ghost use Rattle.mj_pcode.specs.Sound.{AreChecked};
+ghost use Rattle.mj_machine.specs.Sound.{IsSound};
+ghost use Rattle.mj_machine.specs.Standing.{Steps};
+ghost use Rattle.mj_machine.specs.Kept.{standing, replied};
 ghost use Rattle.mj_jobvm.specs.Run.{IsTrace};
 ghost use Rattle.mj_jobvm.specs.Limit.{IsLimited};
 ghost use Rattle.mj_jobvm.specs.Told.{Told, told_of, spent_after};
-ghost use Rattle.mj_jobvm.specs.Units.{unit_at, IsFit};
+ghost use Rattle.mj_machine.specs.Units.{AreSmall};
 
-use crate::control::Control;
-use crate::frame::Place;
-use crate::machine::{Machine, Step};
-use crate::target::Target;
-use crate::turn::turn;
 use mj_ask::{Ask, Entry, Reply};
-use mj_globs::Globals;
 use mj_load::Image;
+use mj_locals::Locals;
+use mj_machine::{Control, Frame, Frames, Machine, Step, make_turn};
 use mj_pcode::Unit;
 use mj_store::Nodes;
 use mj_text::Text;
@@ -54,9 +52,7 @@ enum Went {
 #[derive(Drop)]
 pub struct Job {
     alloc: Global,
-    // the place of its unit in the image
-    unit: usize,
-    target: Option<Target>,
+    entry: Entry,
     machine: Machine,
     log: Vec<(Ask, Reply)>,
     // whether the log's last reply is still to be taken
@@ -72,7 +68,7 @@ impl Model for Job {
 
     ghost Value = { Running };
 
-    ghost view = { λ j. running j.unit j.target j.machine j.log.items j.given j.pending j.spent };
+    ghost view = { λ j. running j.entry j.machine j.log.items j.given j.pending j.spent };
 
     ghost invariant = { λ j. IsSome j.pending → j.log.len < j.log.cap };
 }
@@ -85,35 +81,25 @@ impl Job {
         ensures pending { IfOk result (λ job. job.run.pending ≡ None) }
         ensures spent { IfOk result (λ job. job.run.spent ≡ 0) }
     {
-        match image.find(&entry) {
-            None => Ok(Job::at(alloc, 0, None)),
-            Some(start) => {
-                let _ = image.units();
-                let place = Place {
-                    routine: entry.routine,
-                    line: start.line,
-                };
-                let target = Target {
-                    place,
-                    pc: start.pc,
-                };
-                Ok(Job::at(alloc, start.unit, Some(target)))
-            }
-        }
+        let _ = image.units();
+        Ok(Job::at(alloc, entry))
     }
 
-    fn at(alloc: Global, unit: usize, target: Option<Target>) -> Job
-        ensures { result ≡ opened unit (option_map target_of target) }
+    fn at(alloc: Global, entry: Entry) -> Job
+        ensures { result ≡ opened entry }
     {
         Job {
             alloc,
-            unit,
-            target,
+            entry,
             machine: Machine {
                 control: Control::Begin,
                 stack: Vec::new(alloc),
-                locals: Globals::new(alloc),
-                frames: Vec::new(alloc),
+                locals: Locals::new(alloc),
+                test: false,
+                frames: Frames::new(alloc),
+                unit: 0,
+                loops: Vec::new(alloc),
+                calls: Vec::new(alloc),
                 column: 0,
                 replied: 0,
                 held: Nodes::new(alloc),
@@ -128,6 +114,7 @@ impl Job {
     /// Goes on for at most `fuel` turns, in the image where it started. A job that waits for a reply asks again. With want of
     /// memory its log and its ask are as before, and it stands at some later or equal place of the same run.
     pub fn advance(&mut self, image: &Image, fuel: u64) -> Result<Turn, AllocError>
+        requires { IsIn image.now self.old }
         ensures run { (entry : entries.Entry) → IsRunOf image.now entry self.old → IsRunOf image.now entry self.new }
         ensures told { (entry : entries.Entry) → IsRunOf image.now entry self.old → IfOk result (λ turn. Told (routines_of image.now) entry turn self.new.run) }
         ensures log { self.new.run.log ≡ self.old.run.log }
@@ -138,12 +125,12 @@ impl Job {
             return Ok(Turn::Asks);
         }
         self.log.reserve(1)?;
-        let unit = unit_in(image, self.unit);
+        let units = image.units();
         'turns: for done in 0..fuel {
             match go_on(
                 self.alloc,
-                unit,
-                self.target.as_ref(),
+                units,
+                &self.entry,
                 &mut self.machine,
                 &self.log,
                 &mut self.given,
@@ -195,14 +182,14 @@ impl Job {
     }
 
     /// Its locals, which can be asked as every store can.
-    pub fn locals(&self) -> &Globals
-        ensures { result.now ≡ self.now.run.at.state.locals }
+    pub fn locals(&self) -> &Locals
+        ensures { result.now.now ≡ self.now.run.at.state.locals }
     {
         &self.machine.locals
     }
 
-    /// The lines where its frames stand, the outermost first.
-    pub fn frames(&self) -> &[Place]
+    /// Its frames, the outermost first.
+    pub fn frames(&self) -> &[Frame]
         ensures { frames_of result.now ≡ self.now.run.at.state.frames }
     {
         self.machine.frames.as_slice()
@@ -214,7 +201,7 @@ impl Job {
     {
         match self.machine.frames.last() {
             None => None,
-            Some(place) => Some((&place.routine, place.line)),
+            Some(frame) => Some((&frame.place.routine, frame.place.line)),
         }
     }
 
@@ -229,35 +216,29 @@ impl Job {
 // A turn, with the last reply of the log, if it is still to be taken.
 fn go_on(
     alloc: Global,
-    unit: Option<&Unit>,
-    target: Option<&Target>,
+    units: &[Unit],
+    entry: &Entry,
     machine: &mut Machine,
     log: &[(Ask, Reply)],
     given: &mut bool,
 ) -> Result<Went, AllocError>
-    requires { IsFit (unit_at unit) }
-    ensures ok { IfOk result (λ w. Steps (record { unit = unit_at unit.entry; target = target_at target.entry }) (standing machine.old (given_of given.old log.now)) (told_of w) (standing machine.new (given_of given.new log.now))) }
+    requires small { AreSmall units.now }
+    requires checked { AreChecked units.now }
+    requires sound { IsSound units.now (standing machine.old None) }
+    ensures ok { IfOk result (λ w. Steps (record { units = units.now; entry = entry.now }) (standing machine.old (given_of given.old log.now)) (told_of w) (standing machine.new (given_of given.new log.now))) }
     ensures err { OnErr result (standing machine.new (given_of given.new log.now) ≡ standing machine.old (given_of given.old log.now)) }
+    ensures sound { IsSound units.now (standing machine.new None) }
 {
-    match turn(alloc, unit, target, machine, reply_in(log, *given))? {
-        Step::Next => Ok(Went::On),
-        Step::Took => {
+    // Matched as it comes: a `?` here would move the room of an ask in each turn.
+    match make_turn(alloc, units, entry, machine, reply_in(log, *given)) {
+        Ok(Step::Next) => Ok(Went::On),
+        Ok(Step::Took) => {
             *given = false;
             Ok(Went::On)
         }
-        Step::Asks(ask) => Ok(Went::Asks(ask)),
-        Step::Ends => Ok(Went::Over),
-    }
-}
-
-// The unit at this place of an image, if there is one.
-fn unit_in(image: &Image, at: usize) -> Option<&Unit>
-    ensures which { unit_at result ≡ slice_get image.now.units at }
-    ensures fit { IsFit (unit_at result) }
-{
-    match image.units().get(at) {
-        None => None,
-        Some(unit) => Some(unit),
+        Ok(Step::Asks(ask)) => Ok(Went::Asks(ask)),
+        Ok(Step::Ends) => Ok(Went::Over),
+        Err(error) => Err(error),
     }
 }
 

@@ -7,31 +7,6 @@
 // `advance` tells (`specs/Told.antt`).
 #![tactic(auto)]
 
-mod about;
-mod asking;
-mod calls;
-mod changes;
-mod column;
-mod control;
-mod ending;
-mod fault;
-mod format;
-mod frame;
 mod job;
-mod machine;
-mod merges;
-mod moves;
-mod names;
-mod pieces;
-mod quiet;
-mod stack;
-mod target;
-mod tellings;
-mod turn;
-mod values;
-mod variables;
 
-pub use control::Control;
-pub use frame::Place;
 pub use job::{Job, SPENT_LIMIT, Turn};
-pub use target::Target;

@@ -52,6 +52,7 @@ fn begun_by(byte: u8) -> Class
         b')' => Class::Sign(Sign::Close),
         b',' => Class::Sign(Sign::Comma),
         b':' => Class::Sign(Sign::Colon),
+        b'.' => Class::Sign(Sign::Dot),
         _ => Class::Other,
     }
 }

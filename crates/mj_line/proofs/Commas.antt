@@ -2,20 +2,20 @@
 use Rattle.std.proofs.Common.{◌≡◌, ℕ, ◌-◌, ◌<◌, ◌==◌, nat_le, List, [], ◌∷◌, ◌++◌, length, refl, ap, ◌∙◌, subst, Bool, true, false, arith, Option, Some, None}
 use Rattle.std.specs.Prelude.{cond}
 use Rattle.std.proofs.lemmas.Bool.Decides.{nat_tests}
-use Rattle.mj_ast.specs.declared.sign.Sign.TheVariants.{Colon, Comma}
+use Rattle.mj_ast.specs.declared.sign.Sign.TheVariants.{Colon, Comma, Open, Close, Dot}
 use Rattle.mj_ast.specs.declared.keyword.Keyword.{Keyword}
 use Rattle.mj_ast.specs.Syntax.{Expr}
 use Rattle.mj_ast.specs.Tokens.{Token, Word, Called, Special, Digits, Quoted, Signed, Blank, Comment, Unclosed, Stray}
 use Rattle.mj_ast.specs.Expressions.{Symbol, Overlong, symbol, name_limit}
 use Rattle.mj_ast.specs.Expressions as grammar
-use Rattle.mj_ast.specs.Commands.{Part, keyword_of}
+use Rattle.mj_ast.specs.Commands.{Part, keyword_of, is_conditional}
 use Rattle.mj_expr.specs.Machine.{Limits}
 use Rattle.mj_expr.specs.Machine as phrase
 use Rattle.mj_expr.proofs.Turns.{IsReached, step_reached, NextReached, IsPlain, CommaAfter, comma_after, plain_easy, comma_level, IsNoLevel, IsEasy, overlong_stuck, step_deep, DeepBy}
 use Rattle.mj_expr.proofs.Said.{Over as OverLimit}
-use Rattle.mj_line.specs.Forms.{Node, Want, AnExpr, AVar, part_of, takes, first_node}
+use Rattle.mj_line.specs.Forms.{Node, Want, AnExpr, AVar, ALocal, part_at, labels, takes, first_node}
 use Rattle.mj_line.specs.Sentences.{Sentence}
-use Rattle.mj_line.specs.Machine.{Rest, Spot, Begin, Behind, Over, Worded, Bare, Args, Goal, Condition, Argument, State, At, In, labelled, start, wanted, level, inside, behind, entry, rested, Next, Go, Stuck, Deep, Long, opened, moved, taken, own, begins, on_rested, first, spot_step, behind_step, phrase_step, in_step, entering, step}
+use Rattle.mj_line.specs.Machine.{Rest, Spot, Begin, Over, Worded, Asked, Bare, Args, Goal, Condition, Argument, State, At, In, start, wanted, may_begin, level, inside, behind, entry, rested, Next, Go, Stuck, Deep, Long, opened, moved, taken, own, begins, on_rested, first, spot_step, behind_step, phrase_step, in_step, entering, step, Labelled, FormalsOpened, FormalWanted, FormalBehind, FormalsEnd, Indented, is_new}
 use Rattle.mj_line.proofs.Leaves.{NextLeads, spot_leads}
 use Rattle.mj_line.proofs.Facts.{spot_long, spot_called, spot_special, behind_long, start_long}
 
@@ -59,8 +59,12 @@ deep_as m l g s k phrase.Long i h e = absurd (let f : Long ≡ Deep = e in cc)
 in_deep : (m l : Limits) (g : Goal) (s : phrase.State) (k : Token) → l.depth ≡ m.depth → in_step m g s k ≡ Deep → in_step l g s k ≡ Deep
 in_deep m l g s k i e = deep_as m l g s k (phrase.step (inside m (level g)) s (symbol k)) i (step_deep (inside m (level g)) s (symbol k)) e
 
+begin_deep : (m l : Limits) (g : Goal) (k : Token) (b : Bool) → l.depth ≡ m.depth → cond b (in_step m g (start g) k) Stuck ≡ Deep → cond b (in_step l g (start g) k) Stuck ≡ Deep
+begin_deep m l g k true i e = in_deep m l g (start g) k i e
+begin_deep m l g k false i e = absurd (let f : Stuck ≡ Deep = e in cc)
+
 entering_deep : (m l : Limits) (q : Option Goal) (k : Token) → l.depth ≡ m.depth → entering m q k ≡ Deep → entering l q k ≡ Deep
-entering_deep m l (Some g) k i e = in_deep m l g (start g) k i e
+entering_deep m l (Some g) k i e = begin_deep m l g k (may_begin g (symbol k)) i e
 entering_deep m l None k i e = absurd (let f : Stuck ≡ Deep = e in cc)
 
 spot_deep : (m l : Limits) (q : Option Goal) (k : Token) (n : Next) → IsSimple n → l.depth ≡ m.depth → first n (entering m q k) ≡ Deep → first n (entering l q k) ≡ Deep
@@ -82,7 +86,7 @@ long_symbol w k h = ap (λ (b : Bool). cond b k Overlong) (let e : nat_le (lengt
 over_symbol : (k : Token) → OverLimit k → symbol k ≡ Overlong
 over_symbol (Word w) h = long_symbol w (grammar.Name w) h
 over_symbol (Called w) h = long_symbol w (grammar.function_symbol (grammar.callee_of w)) h
-over_symbol (Special w) h = long_symbol w grammar.Other h
+over_symbol (Special w) h = long_symbol w (grammar.special_symbol (grammar.special_of w)) h
 over_symbol k h = absurd h
 
 over_spot : (p : Spot) (k : Token) → OverLimit k → spot_step p k ≡ Stuck
@@ -97,8 +101,12 @@ in_over m g s k h =
     ∙ ap (phrase_step g s k) (overlong_stuck (inside m (level g)) s)
     ∙ behind_long g (phrase.finish s []) k h
 
+begin_over : (n : Next) (b : Bool) → n ≡ Stuck → cond b n Stuck ≡ Stuck
+begin_over n true e = e
+begin_over n false e = refl
+
 entering_over : (m : Limits) (q : Option Goal) (k : Token) → OverLimit k → entering m q k ≡ Stuck
-entering_over m (Some g) k h = in_over m g (start g) k h
+entering_over m (Some g) k h = begin_over (in_step m g (start g) k) (may_begin g (symbol k)) (in_over m g (start g) k h)
 entering_over m None k h = refl
 
 -- no line goes on with one
@@ -130,12 +138,23 @@ taken_spot l condition k done n (Some p) = moved_spot l condition k (done ++ p �
 taken_spot l condition k done n None = tt
 
 own_spot : (p : Spot) (k : Token) → ToSpot (own p k)
-own_spot Begin (Word w) = choice_spot (Behind (record { line = labelled w; gap = 1; comment = 1 })) (nat_le (length w) name_limit)
+own_spot Begin (Word w) = choice_spot (Labelled w) (nat_le (length w) name_limit)
 own_spot Begin (Digits d) = tt
-own_spot (Worded l k) (Signed Colon) = tt
+own_spot Begin Blank = tt
+own_spot (Labelled label) (Signed Open) = tt
+own_spot (Labelled label) Blank = tt
+own_spot (FormalsOpened label) (Word w) = choice_spot (FormalBehind label (w ∷ [])) (is_new [] w)
+own_spot (FormalsOpened label) (Signed Close) = tt
+own_spot (FormalWanted label names) (Word w) = choice_spot (FormalBehind label (names ++ w ∷ [])) (is_new names w)
+own_spot (FormalBehind label names) (Signed Comma) = tt
+own_spot (FormalBehind label names) (Signed Close) = tt
+own_spot (FormalsEnd label names) Blank = tt
+own_spot (Indented l) Blank = tt
+own_spot (Indented l) (Signed Dot) = tt
+own_spot (Worded l k) (Signed Colon) = choice_spot (Asked l k) (is_conditional k)
 own_spot (Worded l k) Blank = opened_spot l None k (first_node k)
 own_spot (Bare l condition k) Blank = opened_spot l condition k (first_node k)
-own_spot (Args l condition k done n) t = taken_spot l condition k done n (part_of t)
+own_spot (Args l condition k done n) t = taken_spot l condition k done n (part_at (labels n) t)
 own_spot p k = tt
 
 begins_spot : (o : Sentence) (q : Option Keyword) → ToSpot (begins o q)
@@ -195,8 +214,12 @@ phrase_reached g s k phrase.Long h = tt
 in_reached : (m : Limits) (g : Goal) (s : phrase.State) (k : Token) → GoReached (in_step m g s k)
 in_reached m g s k = phrase_reached g s k (phrase.step (inside m (level g)) s (symbol k)) (step_reached (inside m (level g)) s (symbol k))
 
+begin_reached : (n : Next) (b : Bool) → GoReached n → GoReached (cond b n Stuck)
+begin_reached n true h = h
+begin_reached n false h = tt
+
 entering_reached : (m : Limits) (q : Option Goal) (k : Token) → GoReached (entering m q k)
-entering_reached m (Some g) k = in_reached m g (start g) k
+entering_reached m (Some g) k = begin_reached (in_step m g (start g) k) (may_begin g (symbol k)) (in_reached m g (start g) k)
 entering_reached m None k = tt
 
 first_reached : (n o : Next) → GoReached n → GoReached o → GoReached (first n o)
@@ -236,8 +259,12 @@ long_phrase g s k phrase.Stuck e = absurd (simple_long (behind_step g (phrase.fi
 long_phrase g s k phrase.Deep e = absurd (let f : Deep ≡ Long = e in cc)
 long_phrase g s k phrase.Long e = refl
 
+begin_long : (m : Limits) (g : Goal) (k : Token) (b : Bool) → cond b (in_step m g (start g) k) Stuck ≡ Long → ⊥
+begin_long m g k true e = start_long (inside m (level g)) g (symbol k) (long_phrase g (start g) k (phrase.step (inside m (level g)) (start g) (symbol k)) e)
+begin_long m g k false e = let f : Stuck ≡ Long = e in cc
+
 entering_long : (m : Limits) (q : Option Goal) (k : Token) → entering m q k ≡ Long → ⊥
-entering_long m (Some g) k e = start_long (inside m (level g)) g (symbol k) (long_phrase g (start g) k (phrase.step (inside m (level g)) (start g) (symbol k)) e)
+entering_long m (Some g) k e = begin_long m g k (may_begin g (symbol k)) e
 entering_long m None k e = let f : Stuck ≡ Long = e in cc
 
 first_long : (n o : Next) → IsSimple n → (o ≡ Long → ⊥) → first n o ≡ Long → ⊥
@@ -274,13 +301,20 @@ in_comma m t g s k r i h = phrase_comma m t g s k (phrase.step (inside m (level 
 want_reached : (w : Want) → IsReached (wanted w)
 want_reached (AnExpr lv next) = tt
 want_reached (AVar lv next) = tt
+want_reached (ALocal next) = tt
 
 start_reached : (g : Goal) → IsReached (start g)
 start_reached (Condition l k) = tt
 start_reached (Argument l condition k done w) = want_reached w
 
+begin_comma : (m : Limits) (t : State) (n : Next) (b : Bool) → LineComma m t n → LineComma m t (cond b n Stuck)
+begin_comma m t n true h = h
+begin_comma m t n false h = tt
+
 entering_comma : (m : Limits) (t : State) (q : Option Goal) (k : Token) → IsToken k → LineComma m t (entering m q k)
-entering_comma m t (Some g) k i = in_comma m t g (start g) k (start_reached g) i (λ e. absurd (start_long (inside m (level g)) g (symbol (Signed Comma)) (long_phrase g (start g) (Signed Comma) (phrase.step (inside m (level g)) (start g) (symbol (Signed Comma))) e)))
+entering_comma m t (Some g) k i =
+    begin_comma m t (in_step m g (start g) k) (may_begin g (symbol k))
+    (in_comma m t g (start g) k (start_reached g) i (λ e. absurd (start_long (inside m (level g)) g (symbol (Signed Comma)) (long_phrase g (start g) (Signed Comma) (phrase.step (inside m (level g)) (start g) (symbol (Signed Comma))) e))))
 entering_comma m t None k i = tt
 
 first_comma : (m : Limits) (t : State) (n o : Next) → LineComma m t n → LineComma m t o → LineComma m t (first n o)
@@ -303,8 +337,12 @@ phrase_easy g s k phrase.Long h = h
 in_easy : (m : Limits) (g : Goal) (s : phrase.State) (k : Token) → IsToken k → IsSimple (in_step m g s k)
 in_easy m g s k h = phrase_easy g s k (phrase.step (inside m (level g)) s (symbol k)) (plain_easy (inside m (level g)) s (symbol k) (plain_token k h))
 
+begin_easy : (n : Next) (b : Bool) → IsSimple n → IsSimple (cond b n Stuck)
+begin_easy n true h = h
+begin_easy n false h = tt
+
 entering_easy : (m : Limits) (q : Option Goal) (k : Token) → IsToken k → IsSimple (entering m q k)
-entering_easy m (Some g) k h = in_easy m g (start g) k h
+entering_easy m (Some g) k h = begin_easy (in_step m g (start g) k) (may_begin g (symbol k)) (in_easy m g (start g) k h)
 entering_easy m None k h = tt
 
 first_simple : (n o : Next) → IsSimple n → IsSimple o → IsSimple (first n o)
@@ -327,8 +365,12 @@ level_as g s k phrase.Long h e = let f : Long ≡ Deep = e in cc
 in_level : (m : Limits) (g : Goal) (s : phrase.State) → in_step m g s (Signed Comma) ≡ Deep → ⊥
 in_level m g s e = level_as g s (Signed Comma) (phrase.step (inside m (level g)) s (grammar.Mark Comma)) (comma_level (inside m (level g)) s) e
 
+begin_level : (m : Limits) (g : Goal) (b : Bool) → cond b (in_step m g (start g) (Signed Comma)) Stuck ≡ Deep → ⊥
+begin_level m g true e = in_level m g (start g) e
+begin_level m g false e = let f : Stuck ≡ Deep = e in cc
+
 entering_level : (m : Limits) (q : Option Goal) → entering m q (Signed Comma) ≡ Deep → ⊥
-entering_level m (Some g) e = in_level m g (start g) e
+entering_level m (Some g) e = begin_level m g (may_begin g (symbol (Signed Comma))) e
 entering_level m None e = let f : Stuck ≡ Deep = e in cc
 
 first_deep : (n o : Next) → IsSimple n → (o ≡ Deep → ⊥) → first n o ≡ Deep → ⊥

@@ -1,25 +1,28 @@
 -- What the grammar has, the machine reads.
-use Rattle.std.proofs.Common.{◌≡◌, ℕ, zero, suc, ◌-◌, ◌≤◌, ◌==◌, nat_le, List, [], ◌∷◌, ◌++◌, length, refl, ap, sym, ◌∙◌, subst, Bool, true, false, append_assoc, append-nil, arith, Option, Some, None, map, ◌⊎◌, inl, inr}
+use Rattle.std.proofs.Common.{◌≡◌, ℕ, zero, suc, ◌+◌, ◌-◌, ◌≤◌, ◌==◌, nat_le, List, [], ◌∷◌, ◌++◌, length, refl, ap, sym, ◌∙◌, subst, Bool, true, false, append_assoc, append-nil, arith, Option, Some, None, map, ◌⊎◌, inl, inr}
 use Rattle.std.specs.Prelude.{cond, replicate}
 use Rattle.std.proofs.lemmas.List.{map-append}
 use Rattle.std.proofs.lemmas.Bool.Decides.{nat_tests}
-use Rattle.mj_ast.specs.declared.sign.Sign.TheVariants.{Equals, Comma, Colon, Close}
+use Rattle.mj_ast.specs.declared.sign.Sign.{Sign}
+use Rattle.mj_ast.specs.declared.sign.Sign.TheVariants.{Equals, Comma, Colon, Close, Dot}
 use Rattle.mj_ast.specs.declared.function.Function.TheVariants.{Piece}
 use Rattle.mj_ast.specs.declared.function.Callee.TheVariants.{Texts}
 use Rattle.mj_ast.specs.declared.keyword.Keyword.{Keyword}
-use Rattle.mj_ast.specs.Syntax.{Expr}
+use Rattle.mj_ast.specs.declared.expr.Scope.TheVariants.{Local, Global}
+use Rattle.mj_ast.specs.Syntax.{Expr, Variable, Var}
 use Rattle.mj_ast.specs.Tokens.{Token, Word, Digits, Signed, Blank, Comment, Called, Special, Quoted, Unclosed, Stray}
-use Rattle.mj_ast.specs.Expressions.{Symbol, Constant, Name, Applied, Overlong, Mark, Other, symbol, expr_symbols, variable_symbols, expr_nesting, expr_width, callee_of}
-use Rattle.mj_ast.specs.Commands.{Part, Put, Named, PieceCall, Text, Place, SpellsPart, SpellsParts, SpellsCondition, SpellsArguments, greatest, part_nesting, part_width, condition_measure, gap_of, comment_gap_of, keyword_of}
-use Rattle.mj_ast.specs.Lines.{SpellsEnd, SpellsLabel, comment_gap}
+use Rattle.mj_ast.specs.Expressions.{Symbol, Constant, Inherent, Name, Applied, Overlong, Mark, Other, symbol, expr_symbols, variable_symbols, expr_nesting, expr_width, callee_of}
+use Rattle.mj_ast.specs.Commands.{Part, Put, Named, Label, PieceCall, Text, Place, Control, is_local, SpellsPart, SpellsParts, SpellsCondition, SpellsArguments, IsConditional, greatest, part_nesting, part_width, condition_measure, gap_of, comment_gap_of, keyword_of}
+use Rattle.mj_ast.specs.Lines.{SpellsEnd, SpellsLabel, comment_gap, SpellsFormals, SpellsDots, comma_names, name_tokens, gap_behind}
 use Rattle.mj_expr.specs.Machine.{Limits}
 use Rattle.mj_expr.specs.Machine as phrase
 use Rattle.mj_expr.proofs.Zipper.{Kind, AnExpression, AVariable}
 use Rattle.mj_expr.proofs.Complete.{Ceases, complete_phrase}
-use Rattle.mj_line.specs.Forms.{next_of, Node, Want, AnExpr, AVar, piece_part, part_of, takes, wants, ends, first_node, may_be_bare, Fits, IsForm}
+use Rattle.mj_line.specs.Forms.{next_of, Node, Want, AnExpr, AVar, ALocal, piece_part, part_of, part_at, labels, takes, wants, ends, first_node, may_be_bare, Fits, IsForm}
 use Rattle.mj_line.specs.Sentences.{Clause, Sentence, SpellsClause, SpellsClauses, SpellsSentence, clause_nesting, clause_width, IsWithin}
-use Rattle.mj_line.specs.Machine.{Rest, Spot, Begin, Behind, Worded, Asked, Bare, Args, Goal, Condition, Argument, At, In, empty_line, labelled, clause, with_clause, bare_rest, args_rest, expression_wanted, start, wanted, level, level_of, inside, behind, bare_rested, rested, argument, entry, Next, Go, Stuck, Deep, Long, opened, moved, taken, begins, on, on_rested, first, spot_step, phrase_step, in_step, entering, step, ended_at, ended_spot, Accept, run, turn}
-use Rattle.mj_line.proofs.Tables.{shut, first_ends, followed, FollowsWant, apart, part_taken}
+use Rattle.mj_line.specs.Machine.{Rest, Spot, Begin, Behind, Worded, Asked, Bare, Args, Goal, Condition, Argument, At, In, empty_line, labelled, clause, with_clause, bare_rest, args_rest, expression_wanted, start, wanted, may_want, may_begin, level, level_of, inside, behind, bare_rested, rested, argument, entry, Next, Go, Stuck, Deep, Long, opened, moved, taken, begins, on, on_rested, first, spot_step, phrase_step, in_step, entering, step, ended_at, ended_spot, Accept, run, turn, Labelled, FormalsOpened, FormalWanted, FormalBehind, FormalsEnd, Indented, headed, dotted, is_new}
+use Rattle.mj_line.proofs.Tables.{label_wanted, name_wanted, shut, first_ends, followed, FollowsWant, apart_at, part_taken}
+use Rattle.mj_line.proofs.Formals.{AreNew, formals_new, dotted_by, dotted_is}
 use Rattle.mj_line.proofs.Leaves.{want_kind}
 use Rattle.mj_line.proofs.Facts.{lift_accept, plain_step, start_stuck}
 
@@ -80,17 +83,22 @@ gapped_parted (p ∷ ps) ks h = h
 want_other : (m : Limits) (w : Want) → phrase.step m (wanted w) Other ≡ phrase.Stuck
 want_other m (AnExpr lv next) = refl
 want_other m (AVar lv next) = refl
+want_other m (ALocal next) = refl
 
 start_other : (m : Limits) (g : Goal) → phrase.step m (start g) Other ≡ phrase.Stuck
 start_other m (Condition l k) = refl
 start_other m (Argument l condition k done w) = want_other m w
 
+cond_stuck : (b : Bool) (n : Next) → n ≡ Stuck → cond b n Stuck ≡ Stuck
+cond_stuck true n e = e
+cond_stuck false n e = refl
+
 -- no phrase begins with a blank or a comment
 enter_other : (m : Limits) (q : Option Goal) (k : Token) → symbol k ≡ Other → entering m q k ≡ Stuck
-enter_other m (Some g) k e =
+enter_other m (Some g) k e = cond_stuck (may_begin g (symbol k)) (in_step m g (start g) k) (
     ap (λ (x : Symbol). phrase_step g (start g) k (phrase.step (inside m (level g)) (start g) x)) e
     ∙ ap (phrase_step g (start g) k) (start_other (inside m (level g)) g)
-    ∙ start_stuck g k
+    ∙ start_stuck g k)
 enter_other m None k e = refl
 
 -- the spot is behind a command, where a blank, a comment or the end stands
@@ -131,15 +139,20 @@ run_rests m p r (Special w ∷ ks) h i = absurd i
 run_rests m p r (Unclosed t ∷ ks) h i = absurd i
 run_rests m p r (Stray b ∷ ks) h i = absurd i
 
-pub begin_rests : Rests Begin (record { line = empty_line; gap = 1; comment = 0 })
-begin_rests = record { blank = refl; comment = λ text. refl; ends = refl }
+blank_at : (b : Bool) → part_at b Blank ≡ None
+blank_at true = refl
+blank_at false = refl
+
+comment_at : (b : Bool) (text : List ℕ) → part_at b (Comment text) ≡ None
+comment_at true text = refl
+comment_at false text = refl
 
 pub args_rests : (o : Sentence) (condition : Option Expr) (k : Keyword) (done : List Part) (n : Node) → ends n ≡ true → Rests (Args o condition k done n) (args_rest o condition k done)
 args_rests o condition k done n e =
     let r = args_rest o condition k done in
     record {
-      blank = ap (λ (b : Bool). on_rested (bare_rested b r) Blank) e;
-      comment = λ text. ap (λ (b : Bool). on_rested (bare_rested b r) (Comment text)) e;
+      blank = ap (λ (q : Option Part). first (taken o condition k done n q) (on_rested (bare_rested (ends n) r) Blank)) (blank_at (labels n)) ∙ ap (λ (b : Bool). on_rested (bare_rested b r) Blank) e;
+      comment = λ text. ap (λ (q : Option Part). first (taken o condition k done n q) (on_rested (bare_rested (ends n) r) (Comment text))) (comment_at (labels n) text) ∙ ap (λ (b : Bool). on_rested (bare_rested b r) (Comment text)) e;
       ends = ap (λ (b : Bool). ended_at (bare_rested b r)) e;
     }
 
@@ -149,6 +162,7 @@ refused_accept : (ks : List Symbol) (p : phrase.Phrase) (r : List Symbol) → ph
 refused_accept [] p r e = cc
 refused_accept (Overlong ∷ ks) p r e = cc
 refused_accept (Constant v ∷ ks) p r e = cc
+refused_accept (Inherent v ∷ ks) p r e = cc
 refused_accept (Name w ∷ ks) p r e = cc
 refused_accept (Applied f ∷ ks) p r e = cc
 refused_accept (Mark s ∷ ks) p r e = cc
@@ -157,6 +171,7 @@ refused_accept (Other ∷ ks) p r e = cc
 want_refuses : (w : Want) (ks : List Symbol) → phrase.finish (wanted w) ks ≡ phrase.refused ks
 want_refuses (AnExpr lv next) ks = refl
 want_refuses (AVar lv next) ks = refl
+want_refuses (ALocal next) ks = refl
 
 -- where a phrase is read, it begins with its first token
 want_begins : (m : Limits) (w : Want) (x : Symbol) (xs : List Symbol) (p : phrase.Phrase) (r : List Symbol) → phrase.run m (x ∷ xs) (wanted w) ≡ phrase.Accept p r → phrase.step m (wanted w) x ≡ phrase.Stuck → ⊥
@@ -182,31 +197,42 @@ unrested r true (Special w) g (inl h) = refl
 unrested r true (Unclosed x) g (inl h) = refl
 unrested r true (Stray x) g (inl h) = refl
 
-enter_step : (m : Limits) (o : Sentence) (condition : Option Expr) (k : Keyword) (done : List Part) (n : Node) (w : Want) (t : Token) → wants n ≡ Some w → (phrase.step (inside m (level_of w)) (wanted w) (symbol t) ≡ phrase.Stuck → ⊥) → (phrase.step (inside m (level_of w)) (wanted w) (symbol t) ≡ phrase.Stuck) ⊎ (part_taken n (part_of t) ≡ None) →
+enter_step : (m : Limits) (o : Sentence) (condition : Option Expr) (k : Keyword) (done : List Part) (n : Node) (w : Want) (t : Token) → wants n ≡ Some w → may_want w (symbol t) ≡ true → (phrase.step (inside m (level_of w)) (wanted w) (symbol t) ≡ phrase.Stuck → ⊥) → (phrase.step (inside m (level_of w)) (wanted w) (symbol t) ≡ phrase.Stuck) ⊎ (part_taken n (part_at (labels n) t) ≡ None) →
     step m (At (Args o condition k done n)) t ≡ in_step m (Argument o condition k done w) (wanted w) t
-enter_step m o condition k done n w t e h (inl i) = absurd (h i)
-enter_step m o condition k done n w t e h (inr i) =
+enter_step m o condition k done n w t e y h (inl i) = absurd (h i)
+enter_step m o condition k done n w t e y h (inr i) =
     let r = args_rest o condition k done in
     let q = argument o condition k done (wants n) in
-    ap (λ (x : Next). first (first x (on_rested (bare_rested (ends n) r) t)) (entering m q t)) (untaken o condition k done n (part_of t) i)
+    ap (λ (x : Next). first (first x (on_rested (bare_rested (ends n) r) t)) (entering m q t)) (untaken o condition k done n (part_at (labels n) t) i)
     ∙ ap (λ (x : Next). first x (entering m q t)) (unrested r (ends n) t refl (inl (λ z. h (ap (phrase.step (inside m (level_of w)) (wanted w)) z ∙ want_other (inside m (level_of w)) w))))
     ∙ ap (λ (x : Option Want). entering m (argument o condition k done x) t) e
+    ∙ ap (λ (b : Bool). cond b (in_step m (Argument o condition k done w) (wanted w) t) Stuck) y
+
+-- the tokens begin with what may begin the phrase
+abbrev MayStart : Want → List Symbol → Type 0
+MayStart w [] = Unit {0}
+MayStart w (x ∷ xs) = may_want w x ≡ true
 
 -- a phrase that is read where it begins
-pub enter_run : (m : Limits) (o : Sentence) (condition : Option Expr) (k : Keyword) (done : List Part) (n : Node) (w : Want) (ks : List Token) (p : phrase.Phrase) (r : List Symbol) → wants n ≡ Some w → phrase.run (inside m (level_of w)) (map symbol ks) (wanted w) ≡ phrase.Accept p r →
+pub enter_run : (m : Limits) (o : Sentence) (condition : Option Expr) (k : Keyword) (done : List Part) (n : Node) (w : Want) (ks : List Token) (p : phrase.Phrase) (r : List Symbol) → wants n ≡ Some w → MayStart w (map symbol ks) → phrase.run (inside m (level_of w)) (map symbol ks) (wanted w) ≡ phrase.Accept p r →
     run m ks (At (Args o condition k done n)) ≡ run m ks (In (Argument o condition k done w) (wanted w))
-enter_run m o condition k done n w [] p r e h = absurd (refused_accept [] p r (sym (want_refuses w []) ∙ h))
-enter_run m o condition k done n w (t ∷ ks) p r e h =
-    ap (turn m ks t) (enter_step m o condition k done n w t e (want_begins (inside m (level_of w)) w (symbol t) (map symbol ks) p r h) (apart (inside m (level_of w)) n t w e))
+enter_run m o condition k done n w [] p r e y h = absurd (refused_accept [] p r (sym (want_refuses w []) ∙ h))
+enter_run m o condition k done n w (t ∷ ks) p r e y h =
+    ap (turn m ks t) (enter_step m o condition k done n w t e y (want_begins (inside m (level_of w)) w (symbol t) (map symbol ks) p r h) (apart_at (inside m (level_of w)) n t w e))
 
 -- what follows doesn't go on with the phrase
 follows_ceases : (w : Want) (p : Part) (front rest : List Token) → FollowsWant w p → SpellsPart front p → Ceases (want_kind w) (map symbol (front ++ rest))
 follows_ceases (AnExpr lv next) (Put Comma) front rest h s = let P : List Token → Type 0 = λ ks. Ceases AnExpression (map symbol (ks ++ rest)) in subst P (sym s) (tt, refl)
 follows_ceases (AnExpr lv next) (Put Close) front rest h s = let P : List Token → Type 0 = λ ks. Ceases AnExpression (map symbol (ks ++ rest)) in subst P (sym s) (tt, refl)
+follows_ceases (AnExpr lv next) (Put Colon) front rest h s = let P : List Token → Type 0 = λ ks. Ceases AnExpression (map symbol (ks ++ rest)) in subst P (sym s) (tt, refl)
 follows_ceases (AVar lv next) (Put Equals) front rest h s = let P : List Token → Type 0 = λ ks. Ceases AVariable (map symbol (ks ++ rest)) in subst P (sym s) tt
 follows_ceases (AVar lv next) (Put Comma) front rest h s = let P : List Token → Type 0 = λ ks. Ceases AVariable (map symbol (ks ++ rest)) in subst P (sym s) tt
 follows_ceases (AVar lv next) (Put Close) front rest h s = let P : List Token → Type 0 = λ ks. Ceases AVariable (map symbol (ks ++ rest)) in subst P (sym s) tt
+follows_ceases (ALocal next) (Put Equals) front rest h s = let P : List Token → Type 0 = λ ks. Ceases AVariable (map symbol (ks ++ rest)) in subst P (sym s) tt
+follows_ceases (ALocal next) (Put Comma) front rest h s = let P : List Token → Type 0 = λ ks. Ceases AVariable (map symbol (ks ++ rest)) in subst P (sym s) tt
+follows_ceases (ALocal next) (Put Close) front rest h s = let P : List Token → Type 0 = λ ks. Ceases AVariable (map symbol (ks ++ rest)) in subst P (sym s) tt
 follows_ceases (AnExpr lv next) p front rest h s = absurd h
+follows_ceases (ALocal next) p front rest h s = absurd h
 follows_ceases (AVar lv next) p front rest h s = absurd h
 
 parts_cease : (n : Node) (w : Want) (ps : List Part) (front rest : List Token) → wants n ≡ Some w → Fits (next_of w) ps → SpellsParts front ps → Parted rest → Ceases (want_kind w) (map symbol (front ++ rest))
@@ -215,17 +241,32 @@ parts_cease n w (p ∷ ps) front rest e f s h =
     let P : List Token → Type 0 = λ ks. Ceases (want_kind w) (map symbol ks) in
     subst P (sym (ap (λ (ks : List Token). ks ++ rest) s.2 ∙ append_assoc s.0 s.1 rest)) (follows_ceases w p s.0 (s.1 ++ rest) (followed n w e p f.0 f.1) s.3)
 
-read_phrase : (m : Limits) (o : Sentence) (condition : Option Expr) (k : Keyword) (done : List Part) (n : Node) (w : Want) (x : phrase.Phrase) (front rest : List Token) (xs : List Symbol) → wants n ≡ Some w → map symbol front ≡ xs → phrase.run (inside m (level_of w)) (xs ++ map symbol rest) (wanted w) ≡ phrase.Accept x (map symbol rest) →
+-- an expression and any variable may begin with each symbol, a local with its name
+text_starts : (lv : ℕ) (next : Node) (xs : List Symbol) → MayStart (AnExpr lv next) xs
+text_starts lv next [] = tt
+text_starts lv next (x ∷ xs) = refl
+
+place_starts : (lv : ℕ) (next : Node) (xs : List Symbol) → MayStart (AVar lv next) xs
+place_starts lv next [] = tt
+place_starts lv next (x ∷ xs) = refl
+
+local_starts : (next : Node) (v : Variable) (ys : List Symbol) → is_local v ≡ true → MayStart (ALocal next) (variable_symbols v ++ ys)
+local_starts next (Var Local word es) ys h = refl
+local_starts next (Var Global word es) ys h = absurd (let f : false ≡ true = h in cc)
+
+read_phrase : (m : Limits) (o : Sentence) (condition : Option Expr) (k : Keyword) (done : List Part) (n : Node) (w : Want) (x : phrase.Phrase) (front rest : List Token) (xs : List Symbol) → wants n ≡ Some w → map symbol front ≡ xs → MayStart w (xs ++ map symbol rest) → phrase.run (inside m (level_of w)) (xs ++ map symbol rest) (wanted w) ≡ phrase.Accept x (map symbol rest) →
     run m (front ++ rest) (At (Args o condition k done n)) ≡ run m rest (At (behind (Argument o condition k done w) x))
-read_phrase m o condition k done n w x front rest xs e s h =
+read_phrase m o condition k done n w x front rest xs e s y h =
     let g = Argument o condition k done w in
-    let z = ap (λ (ys : List Symbol). phrase.run (inside m (level_of w)) ys (wanted w)) (map-append symbol front rest ∙ ap (λ (ys : List Symbol). ys ++ map symbol rest) s) ∙ h in
-    enter_run m o condition k done n w (front ++ rest) x (map symbol rest) e z
+    let P : List Symbol → Type 0 = λ ys. MayStart w ys in
+    let c = map-append symbol front rest ∙ ap (λ (ys : List Symbol). ys ++ map symbol rest) s in
+    let z = ap (λ (ys : List Symbol). phrase.run (inside m (level_of w)) ys (wanted w)) c ∙ h in
+    enter_run m o condition k done n w (front ++ rest) x (map symbol rest) e (subst P (sym c) y) z
     ∙ lift_accept m front rest g (wanted w) x (shut n w e) z
 
 -- ---- arguments
 
-token_run : (m : Limits) (o : Sentence) (condition : Option Expr) (k : Keyword) (done : List Part) (n next : Node) (t : Token) (p : Part) (ks : List Token) → part_of t ≡ Some p → takes n p ≡ Some next →
+token_run : (m : Limits) (o : Sentence) (condition : Option Expr) (k : Keyword) (done : List Part) (n next : Node) (t : Token) (p : Part) (ks : List Token) → part_at (labels n) t ≡ Some p → takes n p ≡ Some next →
     run m (t ∷ ks) (At (Args o condition k done n)) ≡ run m ks (At (Args o condition k (done ++ p ∷ []) next))
 token_run m o condition k done n next t p ks e h =
     let s = Args o condition k done n in
@@ -235,10 +276,42 @@ token_run m o condition k done n next t p ks e h =
 word_part : (w : List ℕ) → length w ≤ 31 → part_of (Word w) ≡ Some (Named w)
 word_part w h = ap (λ (b : Bool). cond b (Some (Named w)) None) (let e : nat_le (length w) 31 ≡ true = grind (arith, nat_tests) in e)
 
+sign_at : (b : Bool) (z : Sign) → part_at b (Signed z) ≡ Some (Put z)
+sign_at true z = refl
+sign_at false z = refl
+
+name_at : (b : Bool) (w : List ℕ) → b ≡ false → length w ≤ 31 → part_at b (Word w) ≡ Some (Named w)
+name_at true w e h = absurd (let f : true ≡ false = e in cc)
+name_at false w e h = word_part w h
+
+label_word : (w : List ℕ) → length w ≤ 31 → part_at true (Word w) ≡ Some (Label w)
+label_word w h = ap (λ (b : Bool). cond b (Some (Label w)) None) (let e : nat_le (length w) 31 ≡ true = grind (arith, nat_tests) in e)
+
+word_at : (b : Bool) (w : List ℕ) → b ≡ true → length w ≤ 31 → part_at b (Word w) ≡ Some (Label w)
+word_at true w e h = label_word w h
+word_at false w e h = absurd (let f : false ≡ true = e in cc)
+
+digits_at : (b : Bool) (d : List ℕ) → b ≡ true → length d ≤ 32767 → part_at b (Digits d) ≡ Some (Label d)
+digits_at true d e h = ap (λ (b : Bool). cond b (Some (Label d)) None) (let e : nat_le (length d) 32767 ≡ true = grind (arith, nat_tests) in e)
+digits_at false d e h = absurd (let f : false ≡ true = e in cc)
+
 called_part : (w : List ℕ) → length w ≤ 31 → callee_of w ≡ Some (Texts Piece) → part_of (Called w) ≡ Some PieceCall
 called_part w h e =
     ap (λ (b : Bool). cond b (piece_part (callee_of w)) None) (let e : nat_le (length w) 31 ≡ true = grind (arith, nat_tests) in e)
     ∙ ap piece_part e
+
+called_at : (b : Bool) (w : List ℕ) → length w ≤ 31 → callee_of w ≡ Some (Texts Piece) → part_at b (Called w) ≡ Some PieceCall
+called_at true w h e = called_part w h e
+called_at false w h e = called_part w h e
+
+label_run : (m : Limits) (o : Sentence) (condition : Option Expr) (k : Keyword) (done : List Part) (n next : Node) (z : List ℕ) (front rest : List Token) {whole : List Token} → takes n (Label z) ≡ Some next → SpellsPart front (Label z) → whole ≡ front ++ rest →
+    run m whole (At (Args o condition k done n)) ≡ run m rest (At (Args o condition k (done ++ Label z ∷ []) next))
+label_run m o condition k done n next z front rest f (inl s) w =
+    ap (λ (ks : List Token). run m ks (At (Args o condition k done n))) (w ∙ ap (λ (ks : List Token). ks ++ rest) s.0)
+    ∙ token_run m o condition k done n next (Word z) (Label z) rest (word_at (labels n) z (label_wanted n next z f) s.1) f
+label_run m o condition k done n next z front rest f (inr s) w =
+    ap (λ (ks : List Token). run m ks (At (Args o condition k done n))) (w ∙ ap (λ (ks : List Token). ks ++ rest) s.0)
+    ∙ token_run m o condition k done n next (Digits z) (Label z) rest (digits_at (labels n) z (label_wanted n next z f) s.1) f
 
 pub complete_args : (ps : List Part) (m : Limits) (o : Sentence) (condition : Option Expr) (k : Keyword) (done : List Part) (n : Node) (front rest : List Token) → Fits n ps → SpellsParts front ps → greatest part_nesting ps ≤ m.depth → greatest part_width ps ≤ m.width → Parted rest →
     run m (front ++ rest) (At (Args o condition k done n)) ≡ run m rest (At (Behind (args_rest o condition k (done ++ ps))))
@@ -248,24 +321,29 @@ complete_args [] m o condition k done n front rest f s d w h =
     ∙ ap (λ (ps : List Part). run m rest (At (Behind (args_rest o condition k ps)))) (sym (append-nil done))
 complete_args (Put z ∷ ps) m o condition k done n front rest f s d w h =
     ap (λ (ks : List Token). run m (ks ++ rest) (At (Args o condition k done n))) (s.2 ∙ ap (λ (ks : List Token). ks ++ s.1) s.3)
-    ∙ token_run m o condition k done n f.0 (Signed z) (Put z) (s.1 ++ rest) refl f.1
+    ∙ token_run m o condition k done n f.0 (Signed z) (Put z) (s.1 ++ rest) (sign_at (labels n) z) f.1
     ∙ complete_args ps m o condition k (done ++ Put z ∷ []) f.0 s.1 rest f.2 s.4 (omega arith) (omega arith) h
     ∙ ap (λ (qs : List Part). run m rest (At (Behind (args_rest o condition k qs)))) (append_assoc done (Put z ∷ []) ps)
 complete_args (Named z ∷ ps) m o condition k done n front rest f s d w h =
     ap (λ (ks : List Token). run m (ks ++ rest) (At (Args o condition k done n))) (s.2 ∙ ap (λ (ks : List Token). ks ++ s.1) s.3.0)
-    ∙ token_run m o condition k done n f.0 (Word z) (Named z) (s.1 ++ rest) (word_part z s.3.1) f.1
+    ∙ token_run m o condition k done n f.0 (Word z) (Named z) (s.1 ++ rest) (name_at (labels n) z (name_wanted n f.0 z f.1) s.3.1) f.1
     ∙ complete_args ps m o condition k (done ++ Named z ∷ []) f.0 s.1 rest f.2 s.4 (omega arith) (omega arith) h
     ∙ ap (λ (qs : List Part). run m rest (At (Behind (args_rest o condition k qs)))) (append_assoc done (Named z ∷ []) ps)
+complete_args (Label z ∷ ps) m o condition k done n front rest f s d w h =
+    ap (λ (ks : List Token). run m (ks ++ rest) (At (Args o condition k done n))) s.2
+    ∙ label_run m o condition k done n f.0 z s.0 (s.1 ++ rest) f.1 s.3 (append_assoc s.0 s.1 rest)
+    ∙ complete_args ps m o condition k (done ++ Label z ∷ []) f.0 s.1 rest f.2 s.4 (omega arith) (omega arith) h
+    ∙ ap (λ (qs : List Part). run m rest (At (Behind (args_rest o condition k qs)))) (append_assoc done (Label z ∷ []) ps)
 complete_args (PieceCall ∷ ps) m o condition k done n front rest f s d w h =
     ap (λ (ks : List Token). run m (ks ++ rest) (At (Args o condition k done n))) (s.2 ∙ ap (λ (ks : List Token). ks ++ s.1) s.3.1)
-    ∙ token_run m o condition k done n f.0 (Called s.3.0) PieceCall (s.1 ++ rest) (called_part s.3.0 s.3.2 s.3.3) f.1
+    ∙ token_run m o condition k done n f.0 (Called s.3.0) PieceCall (s.1 ++ rest) (called_at (labels n) s.3.0 s.3.2 s.3.3) f.1
     ∙ complete_args ps m o condition k (done ++ PieceCall ∷ []) f.0 s.1 rest f.2 s.4 (omega arith) (omega arith) h
     ∙ ap (λ (qs : List Part). run m rest (At (Behind (args_rest o condition k qs)))) (append_assoc done (PieceCall ∷ []) ps)
 complete_args (Text lv e ∷ ps) m o condition k done n front rest f s d w h =
     let a = AnExpr lv f.0 in
     ap (λ (ks : List Token). run m (ks ++ rest) (At (Args o condition k done n))) s.2
     ∙ ap (λ (ks : List Token). run m ks (At (Args o condition k done n))) (append_assoc s.0 s.1 rest)
-    ∙ read_phrase m o condition k done n a (phrase.Whole e) s.0 (s.1 ++ rest) (expr_symbols e) f.1 s.3.0
+    ∙ read_phrase m o condition k done n a (phrase.Whole e) s.0 (s.1 ++ rest) (expr_symbols e) f.1 s.3.0 (text_starts lv f.0 (expr_symbols e ++ map symbol (s.1 ++ rest)))
     (complete_phrase AnExpression (phrase.Whole e) (inside m lv) (map symbol (s.1 ++ rest)) (record { kind = tt; nests = omega arith; lists = omega arith; formed = s.3.1 }) (parts_cease n a ps s.1 rest f.1 f.2 s.4 h))
     ∙ complete_args ps m o condition k (done ++ Text lv e ∷ []) f.0 s.1 rest f.2 s.4 (omega arith) (omega arith) h
     ∙ ap (λ (qs : List Part). run m rest (At (Behind (args_rest o condition k qs)))) (append_assoc done (Text lv e ∷ []) ps)
@@ -273,10 +351,18 @@ complete_args (Place lv v ∷ ps) m o condition k done n front rest f s d w h =
     let a = AVar lv f.0 in
     ap (λ (ks : List Token). run m (ks ++ rest) (At (Args o condition k done n))) s.2
     ∙ ap (λ (ks : List Token). run m ks (At (Args o condition k done n))) (append_assoc s.0 s.1 rest)
-    ∙ read_phrase m o condition k done n a (phrase.Target v) s.0 (s.1 ++ rest) (variable_symbols v) f.1 s.3.0
+    ∙ read_phrase m o condition k done n a (phrase.Target v) s.0 (s.1 ++ rest) (variable_symbols v) f.1 s.3.0 (place_starts lv f.0 (variable_symbols v ++ map symbol (s.1 ++ rest)))
     (complete_phrase AVariable (phrase.Target v) (inside m lv) (map symbol (s.1 ++ rest)) (record { kind = tt; nests = omega arith; lists = omega arith; formed = s.3.1 }) (parts_cease n a ps s.1 rest f.1 f.2 s.4 h))
     ∙ complete_args ps m o condition k (done ++ Place lv v ∷ []) f.0 s.1 rest f.2 s.4 (omega arith) (omega arith) h
     ∙ ap (λ (qs : List Part). run m rest (At (Behind (args_rest o condition k qs)))) (append_assoc done (Place lv v ∷ []) ps)
+complete_args (Control v ∷ ps) m o condition k done n front rest f s d w h =
+    let a = ALocal f.0 in
+    ap (λ (ks : List Token). run m (ks ++ rest) (At (Args o condition k done n))) s.2
+    ∙ ap (λ (ks : List Token). run m ks (At (Args o condition k done n))) (append_assoc s.0 s.1 rest)
+    ∙ read_phrase m o condition k done n a (phrase.Target v) s.0 (s.1 ++ rest) (variable_symbols v) f.1.0 s.3.0 (local_starts f.0 v (map symbol (s.1 ++ rest)) f.1.1)
+    (complete_phrase AVariable (phrase.Target v) (inside m 0) (map symbol (s.1 ++ rest)) (record { kind = tt; nests = omega arith; lists = omega arith; formed = s.3.1 }) (parts_cease n a ps s.1 rest f.1.0 f.2 s.4 h))
+    ∙ complete_args ps m o condition k (done ++ Control v ∷ []) f.0 s.1 rest f.2 s.4 (omega arith) (omega arith) h
+    ∙ ap (λ (qs : List Part). run m rest (At (Behind (args_rest o condition k qs)))) (append_assoc done (Control v ∷ []) ps)
 
 -- ---- commands
 
@@ -349,14 +435,15 @@ asked_run : (m : Limits) (o : Sentence) (k : Keyword) (ks : List Token) (p : phr
 asked_run m o k [] p r h = absurd (refused_accept [] p r h)
 asked_run m o k (t ∷ ks) p r h = ap (λ (n : Next). turn m ks t (first n (in_step m (Condition o k) expression_wanted t))) (asked_stuck o k t)
 
-complete_condition : (m : Limits) (o : Sentence) (k : Keyword) (condition : Option Expr) (front rest : List Token) → SpellsCondition front condition → condition_measure expr_nesting condition ≤ m.depth → condition_measure expr_width condition ≤ m.width → Parted rest →
+complete_condition : (m : Limits) (o : Sentence) (k : Keyword) (condition : Option Expr) (front rest : List Token) → SpellsCondition front condition → IsConditional k condition → condition_measure expr_nesting condition ≤ m.depth → condition_measure expr_width condition ≤ m.width → Parted rest →
     run m (front ++ rest) (At (Worded o k)) ≡ run m rest (At (Bare o condition k))
-complete_condition m o k None front rest s n w h =
+complete_condition m o k None front rest s c n w h =
     ap (λ (zs : List Token). run m (zs ++ rest) (At (Worded o k))) s
     ∙ worded_bare m o k rest (parted_colon rest h)
-complete_condition m o k (Some e) front rest s n w h =
+complete_condition m o k (Some e) front rest s c n w h =
     let z = ap (λ (ys : List Symbol). phrase.run (inside m 0) ys expression_wanted) (map-append symbol s.0 rest ∙ ap (λ (ys : List Symbol). ys ++ map symbol rest) s.2.0) ∙ complete_phrase AnExpression (phrase.Whole e) (inside m 0) (map symbol rest) (record { kind = tt; nests = omega arith; lists = omega arith; formed = s.2.1 }) (parted_ceases AnExpression rest h) in
     ap (λ (zs : List Token). run m (zs ++ rest) (At (Worded o k))) s.1
+    ∙ ap (λ (b : Bool). turn m (s.0 ++ rest) (Signed Colon) (first (first (cond b (Go (At (Asked o k))) Stuck) (on_rested (bare_rested (may_be_bare k) (bare_rest o None k)) (Signed Colon))) Stuck)) c
     ∙ asked_run m o k (s.0 ++ rest) (phrase.Whole e) (map symbol rest) z
     ∙ lift_accept m s.0 rest (Condition o k) expression_wanted (phrase.Whole e) tt z
 
@@ -370,7 +457,7 @@ complete_clause m o c x front rest h n w i =
     ap (λ (zs : List Token). run m (zs ++ rest) (At (Behind (record { line = o; gap = 0; comment = c })))) h.3
     ∙ ap (λ (q : Option Keyword). turn m ((h.1 ++ h.2) ++ rest) (Word h.0) (first (begins o q) Stuck)) h.4
     ∙ ap (λ (zs : List Token). run m zs (At (Worded o x.keyword))) (append_assoc h.1 h.2 rest)
-    ∙ complete_condition m o x.keyword x.condition h.1 (h.2 ++ rest) h.5 (omega arith) (omega arith) (arguments_parted x.parts h.2 rest h.6 i)
+    ∙ complete_condition m o x.keyword x.condition h.1 (h.2 ++ rest) h.5 h.8 (omega arith) (omega arith) (arguments_parted x.parts h.2 rest h.6 i)
     ∙ complete_arguments m o x.condition x.keyword x.parts h.2 rest h.6 h.7 (omega arith) (omega arith) i
 
 -- ---- lines
@@ -427,32 +514,176 @@ complete_end m r ks (inr h) =
     ∙ ap (λ (c : ℕ). run m (Comment h.1 ∷ []) (At (Behind (record { line = r.line; gap = r.gap - h.0; comment = c })))) (let n = h.2 in let e : r.comment - h.0 ≡ 0 = omega arith in e)
 
 pub complete_clauses : (ss : List Clause) (m : Limits) (r : Rest) (ks : List Token) → SpellsClauses r.gap r.comment ks ss → greatest clause_nesting ss ≤ m.depth → greatest clause_width ss ≤ m.width →
-    run m ks (At (Behind r)) ≡ Accept (record { label = r.line.label; clauses = r.line.clauses ++ ss })
-complete_clauses [] m r ks h n w = complete_end m r ks h ∙ ap (λ (xs : List Clause). Accept (record { label = r.line.label; clauses = xs })) (sym (append-nil r.line.clauses))
+    run m ks (At (Behind r)) ≡ Accept (record { label = r.line.label; formals = r.line.formals; level = r.line.level; clauses = r.line.clauses ++ ss })
+complete_clauses [] m r ks h n w = complete_end m r ks h ∙ ap (λ (xs : List Clause). Accept (record { label = r.line.label; formals = r.line.formals; level = r.line.level; clauses = xs })) (sym (append-nil r.line.clauses))
 complete_clauses (s ∷ ss) m r ks h n w =
     ap (λ (zs : List Token). run m zs (At (Behind r))) h.4
     ∙ blanks_go m h.0 r (h.1 ++ h.2)
     ∙ ap (λ (g : ℕ). run m (h.1 ++ h.2) (At (Behind (record { line = r.line; gap = g; comment = r.comment - h.0 })))) (let l = h.3 in let e : r.gap - h.0 ≡ 0 = omega arith in e)
     ∙ complete_clause m r.line (r.comment - h.0) s h.1 h.2 h.5 (omega arith) (omega arith) (clauses_gapped s.parts h.2 ss h.6)
     ∙ complete_clauses ss m (clause_rest r.line s.condition s.keyword s.parts) h.2 h.6 (omega arith) (omega arith)
-    ∙ ap (λ (xs : List Clause). Accept (record { label = r.line.label; clauses = xs })) (append_assoc r.line.clauses (s ∷ []) ss)
+    ∙ ap (λ (xs : List Clause). Accept (record { label = r.line.label; formals = r.line.formals; level = r.line.level; clauses = xs })) (append_assoc r.line.clauses (s ∷ []) ss)
 
-complete_label : (m : Limits) (l : Option (List ℕ)) (ss : List Clause) (front rest : List Token) → SpellsLabel front l → SpellsClauses 1 (comment_gap l) rest ss → greatest clause_nesting ss ≤ m.depth → greatest clause_width ss ≤ m.width →
-    run m (front ++ rest) (At Begin) ≡ Accept (record { label = l; clauses = ss })
-complete_label m None ss front rest s h n w =
-    ap (λ (zs : List Token). run m (zs ++ rest) (At Begin)) s
-    ∙ run_rests m Begin (record { line = empty_line; gap = 1; comment = 0 }) rest begin_rests (clauses_parted 1 0 rest ss (omega arith) h)
-    ∙ complete_clauses ss m (record { line = empty_line; gap = 1; comment = 0 }) rest h n w
-complete_label m (Some l) ss front rest (inl s) h n w =
-    ap (λ (zs : List Token). run m (zs ++ rest) (At Begin)) s.0
-    ∙ ap (λ (b : Bool). turn m rest (Word l) (first (first (cond b (Go (At (Behind (record { line = labelled l; gap = 1; comment = 1 })))) Stuck) Stuck) Stuck)) (let i = s.1 in let e : nat_le (length l) 31 ≡ true = grind (arith, nat_tests) in e)
-    ∙ complete_clauses ss m (record { line = labelled l; gap = 1; comment = 1 }) rest h n w
-complete_label m (Some l) ss front rest (inr s) h n w =
-    ap (λ (zs : List Token). run m (zs ++ rest) (At Begin)) s
-    ∙ complete_clauses ss m (record { line = labelled l; gap = 1; comment = 1 }) rest h n w
+-- ---- in front of commands
+
+-- no dot stands behind the blanks in front
+abbrev pub NoDot : List Token → Type 0
+NoDot (Blank ∷ ks) = NoDot ks
+NoDot (Signed Dot ∷ ks) = ⊥
+NoDot ks = Unit {0}
+
+replicate_undotted : (n : ℕ) (ks : List Token) → NoDot ks → NoDot (replicate n Blank ++ ks)
+replicate_undotted zero ks h = h
+replicate_undotted (suc n) ks h = replicate_undotted n ks h
+
+end_undotted : (c : ℕ) (ks : List Token) → SpellsEnd c ks → NoDot ks
+end_undotted c ks (inl h) = let P : List Token → Type 0 = λ zs. NoDot zs in subst P (append-nil (replicate h.0 Blank) ∙ sym h.1) (replicate_undotted h.0 [] tt)
+end_undotted c ks (inr h) = let P : List Token → Type 0 = λ zs. NoDot zs in subst P (sym h.3) (replicate_undotted h.0 (Comment h.1 ∷ []) tt)
+
+clause_undotted : (front rest : List Token) (x : Clause) → SpellsClause front x → NoDot (front ++ rest)
+clause_undotted front rest x h = let P : List Token → Type 0 = λ zs. NoDot (zs ++ rest) in subst P (sym h.3) tt
+
+clauses_undotted : (g c : ℕ) (ks : List Token) (ss : List Clause) → SpellsClauses g c ks ss → NoDot ks
+clauses_undotted g c ks [] h = end_undotted c ks h
+clauses_undotted g c ks (s ∷ ss) h = let P : List Token → Type 0 = λ zs. NoDot zs in subst P (sym h.4) (replicate_undotted h.0 (h.1 ++ h.2) (clause_undotted h.1 h.2 s h.5))
+
+-- where no dot follows, a command may, or a comment, or the end
+pub indented_same : (m : Limits) (o : Sentence) (ks : List Token) → NoDot ks → run m ks (At (Indented o)) ≡ run m ks (At (Behind (record { line = o; gap = 0; comment = 0 })))
+indented_same m o [] h = refl
+indented_same m o (Blank ∷ ks) h = indented_same m o ks h
+indented_same m o (Signed Dot ∷ ks) h = absurd h
+indented_same m o (k ∷ ks) h = refl
+
+pub blanks_indent : (m : Limits) (n : ℕ) (o : Sentence) (ks : List Token) → run m (replicate n Blank ++ ks) (At (Indented o)) ≡ run m ks (At (Indented o))
+blanks_indent m zero o ks = refl
+blanks_indent m (suc n) o ks = blanks_indent m n o ks
+
+-- the line with these commands too
+abbrev with_clauses : Sentence → List Clause → Sentence
+with_clauses o ss = record { label = o.label; formals = o.formals; level = o.level; clauses = o.clauses ++ ss }
+
+complete_indented : (dots : ℕ) (m : Limits) (o : Sentence) (ss : List Clause) (front rest : List Token) → SpellsDots 0 front dots → SpellsClauses 0 0 rest ss → greatest clause_nesting ss ≤ m.depth → greatest clause_width ss ≤ m.width →
+    run m (front ++ rest) (At (Indented o)) ≡ Accept (with_clauses (dotted_by dots o) ss)
+complete_indented zero m o ss front rest s h n w =
+    ap (λ (zs : List Token). run m (zs ++ rest) (At (Indented o))) s
+    ∙ indented_same m o rest (clauses_undotted 0 0 rest ss h)
+    ∙ complete_clauses ss m (record { line = o; gap = 0; comment = 0 }) rest h n w
+complete_indented (suc dots) m o ss front rest s h n w =
+    ap (λ (zs : List Token). run m (zs ++ rest) (At (Indented o))) s.3
+    ∙ ap (λ (zs : List Token). run m zs (At (Indented o))) (append_assoc (replicate s.0 Blank) (Signed Dot ∷ s.1) rest)
+    ∙ blanks_indent m s.0 o (Signed Dot ∷ (s.1 ++ rest))
+    ∙ complete_indented dots m (dotted o) ss s.1 rest s.4 h n w
+
+-- behind a label with its formals, or where nothing was read
+record IsHead (p : Spot) (o : Sentence) (c : ℕ) : Type 0 where
+  blank : (m : Limits) → step m (At p) Blank ≡ Go (At (Indented o))
+  comment : (m : Limits) (text : List ℕ) → step m (At p) (Comment text) ≡ step m (At (Behind (record { line = o; gap = 1; comment = c }))) (Comment text)
+  ends : ended_spot p ≡ Accept o
+  few : c ≤ 1
+
+begin_head : IsHead Begin empty_line 0
+begin_head = record { blank = λ m. refl; comment = λ m text. refl; ends = refl; few = omega arith }
+
+labelled_head : (label : List ℕ) → IsHead (Labelled label) (labelled label) 1
+labelled_head label = record { blank = λ m. refl; comment = λ m text. refl; ends = refl; few = omega arith }
+
+formals_head : (label : List ℕ) (names : List (List ℕ)) → IsHead (FormalsEnd label names) (headed label names) 1
+formals_head label names = record { blank = λ m. refl; comment = λ m text. refl; ends = refl; few = omega arith }
+
+head_same : (m : Limits) (p : Spot) (o : Sentence) (c : ℕ) (ks : List Token) → IsHead p o c → Parted ks → NoDot ks → run m ks (At p) ≡ run m ks (At (Behind (record { line = o; gap = 1; comment = c })))
+head_same m p o c [] h i j = h.ends
+head_same m p o c (Blank ∷ ks) h i j =
+    ap (turn m ks Blank) (h.blank m)
+    ∙ indented_same m o ks j
+    ∙ ap (λ (n : ℕ). run m ks (At (Behind (record { line = o; gap = 0; comment = n })))) (let f = h.few in let e : 0 ≡ c - 1 = omega arith in e)
+head_same m p o c (Comment text ∷ ks) h i j = ap (turn m ks (Comment text)) (h.comment m text)
+head_same m p o c (Word w ∷ ks) h i j = absurd i
+head_same m p o c (Digits d ∷ ks) h i j = absurd i
+head_same m p o c (Signed s ∷ ks) h i j = absurd i
+head_same m p o c (Quoted q ∷ ks) h i j = absurd i
+head_same m p o c (Called w ∷ ks) h i j = absurd i
+head_same m p o c (Special w ∷ ks) h i j = absurd i
+head_same m p o c (Unclosed t ∷ ks) h i j = absurd i
+head_same m p o c (Stray b ∷ ks) h i j = absurd i
+
+-- blanks and a dot
+head_dot : (m : Limits) (p : Spot) (o : Sentence) (c n : ℕ) (ks : List Token) → IsHead p o c → 1 ≤ n → run m (replicate n Blank ++ Signed Dot ∷ ks) (At p) ≡ run m ks (At (Indented (dotted o)))
+head_dot m p o c zero ks h i = absurd (omega arith)
+head_dot m p o c (suc n) ks h i = ap (turn m (replicate n Blank ++ Signed Dot ∷ ks) Blank) (h.blank m) ∙ blanks_indent m n o (Signed Dot ∷ ks)
+
+complete_head : (dots : ℕ) (m : Limits) (p : Spot) (o : Sentence) (c : ℕ) (ss : List Clause) (front rest : List Token) → IsHead p o c → SpellsDots 1 front dots → SpellsClauses (gap_behind dots 1) (gap_behind dots c) rest ss → greatest clause_nesting ss ≤ m.depth → greatest clause_width ss ≤ m.width →
+    run m (front ++ rest) (At p) ≡ Accept (with_clauses (dotted_by dots o) ss)
+complete_head zero m p o c ss front rest i s h n w =
+    ap (λ (zs : List Token). run m (zs ++ rest) (At p)) s
+    ∙ head_same m p o c rest i (clauses_parted 1 c rest ss (omega arith) h) (clauses_undotted 1 c rest ss h)
+    ∙ complete_clauses ss m (record { line = o; gap = 1; comment = c }) rest h n w
+complete_head (suc dots) m p o c ss front rest i s h n w =
+    ap (λ (zs : List Token). run m (zs ++ rest) (At p)) s.3
+    ∙ ap (λ (zs : List Token). run m zs (At p)) (append_assoc (replicate s.0 Blank) (Signed Dot ∷ s.1) rest)
+    ∙ head_dot m p o c s.0 (s.1 ++ rest) i s.2
+    ∙ complete_indented dots m (dotted o) ss s.1 rest s.4 h n w
+
+-- ---- formals
+
+first_run : (m : Limits) (label w : List ℕ) (ks : List Token) → is_new [] w ≡ true → run m (Word w ∷ ks) (At (FormalsOpened label)) ≡ run m ks (At (FormalBehind label (w ∷ [])))
+first_run m label w ks e = ap (λ (b : Bool). turn m ks (Word w) (first (first (cond b (Go (At (FormalBehind label (w ∷ [])))) Stuck) Stuck) Stuck)) e
+
+pub name_run : (m : Limits) (label : List ℕ) (names : List (List ℕ)) (w : List ℕ) (ks : List Token) → is_new names w ≡ true → run m (Word w ∷ ks) (At (FormalWanted label names)) ≡ run m ks (At (FormalBehind label (names ++ w ∷ [])))
+name_run m label names w ks e = ap (λ (b : Bool). turn m ks (Word w) (first (first (cond b (Go (At (FormalBehind label (names ++ w ∷ [])))) Stuck) Stuck) Stuck)) e
+
+complete_names : (more : List (List ℕ)) (m : Limits) (label : List ℕ) (names : List (List ℕ)) (rest : List Token) → AreNew names more → run m (comma_names more ++ Signed Close ∷ rest) (At (FormalBehind label names)) ≡ run m rest (At (FormalsEnd label (names ++ more)))
+complete_names [] m label names rest n = ap (λ (xs : List (List ℕ)). run m rest (At (FormalsEnd label xs))) (sym (append-nil names))
+complete_names (w ∷ ws) m label names rest n =
+    name_run m label names w (comma_names ws ++ Signed Close ∷ rest) n.0
+    ∙ complete_names ws m label (names ++ w ∷ []) rest n.1
+    ∙ ap (λ (xs : List (List ℕ)). run m rest (At (FormalsEnd label xs))) (append_assoc names (w ∷ []) ws)
+
+complete_opened : (m : Limits) (label : List ℕ) (names : List (List ℕ)) (rest : List Token) → AreNew [] names → run m ((name_tokens names ++ Signed Close ∷ []) ++ rest) (At (FormalsOpened label)) ≡ run m rest (At (FormalsEnd label names))
+complete_opened m label [] rest n = refl
+complete_opened m label (w ∷ ws) rest n =
+    ap (λ (zs : List Token). run m (Word w ∷ zs) (At (FormalsOpened label))) (append_assoc (comma_names ws) (Signed Close ∷ []) rest)
+    ∙ first_run m label w (comma_names ws ++ Signed Close ∷ rest) n.0
+    ∙ complete_names ws m label (w ∷ []) rest n.1
+
+-- ---- a line
+
+complete_labelled : (dots : ℕ) (m : Limits) (label : List ℕ) (formals : List (List ℕ)) (ss : List Clause) (names indent rest : List Token) → SpellsFormals (Some label) names formals → SpellsDots 1 indent dots → SpellsClauses (gap_behind dots 1) (gap_behind dots 1) rest ss → greatest clause_nesting ss ≤ m.depth → greatest clause_width ss ≤ m.width →
+    run m ((names ++ indent) ++ rest) (At (Labelled label)) ≡ Accept (with_clauses (dotted_by dots (headed label formals)) ss)
+complete_labelled dots m label formals ss names indent rest (inl f) d h n w =
+    ap (λ (zs : List Token). run m ((zs ++ indent) ++ rest) (At (Labelled label))) f.0
+    ∙ complete_head dots m (Labelled label) (labelled label) 1 ss indent rest (labelled_head label) d h n w
+    ∙ ap (λ (xs : List (List ℕ)). Accept (with_clauses (dotted_by dots (headed label xs)) ss)) (sym f.1)
+complete_labelled dots m label formals ss names indent rest (inr f) d h n w =
+    ap (λ (zs : List Token). run m zs (At (Labelled label))) (append_assoc names indent rest)
+    ∙ ap (λ (zs : List Token). run m (zs ++ (indent ++ rest)) (At (Labelled label))) f.0
+    ∙ complete_opened m label formals (indent ++ rest) (formals_new formals f.1)
+    ∙ complete_head dots m (FormalsEnd label formals) (headed label formals) 1 ss indent rest (formals_head label formals) d h n w
+
+complete_label : (dots : ℕ) (m : Limits) (label : Option (List ℕ)) (formals : List (List ℕ)) (ss : List Clause) (front names indent rest : List Token) → SpellsLabel front label → SpellsFormals label names formals → SpellsDots 1 indent dots → SpellsClauses (gap_behind dots 1) (gap_behind dots (comment_gap label)) rest ss → greatest clause_nesting ss ≤ m.depth → greatest clause_width ss ≤ m.width →
+    run m ((front ++ (names ++ indent)) ++ rest) (At Begin) ≡ Accept (with_clauses (dotted_by dots (record { label = label; formals = formals; level = 1; clauses = [] })) ss)
+complete_label dots m None formals ss front names indent rest s f d h n w =
+    ap (λ (zs : List Token). run m ((zs ++ (names ++ indent)) ++ rest) (At Begin)) s
+    ∙ ap (λ (zs : List Token). run m ((zs ++ indent) ++ rest) (At Begin)) f.0
+    ∙ complete_head dots m Begin empty_line 0 ss indent rest begin_head d h n w
+    ∙ ap (λ (xs : List (List ℕ)). Accept (with_clauses (dotted_by dots (record { label = None; formals = xs; level = 1; clauses = [] })) ss)) (sym f.1)
+complete_label dots m (Some l) formals ss front names indent rest (inl s) f d h n w =
+    ap (λ (zs : List Token). run m ((zs ++ (names ++ indent)) ++ rest) (At Begin)) s.0
+    ∙ ap (λ (b : Bool). turn m ((names ++ indent) ++ rest) (Word l) (first (first (cond b (Go (At (Labelled l))) Stuck) Stuck) Stuck)) (let i = s.1 in let e : nat_le (length l) 31 ≡ true = grind (arith, nat_tests) in e)
+    ∙ complete_labelled dots m l formals ss names indent rest f d h n w
+complete_label dots m (Some l) formals ss front names indent rest (inr s) f d h n w =
+    ap (λ (zs : List Token). run m ((zs ++ (names ++ indent)) ++ rest) (At Begin)) s
+    ∙ complete_labelled dots m l formals ss names indent rest f d h n w
+
+line_of_level : (l : Sentence) (dots : ℕ) → l.level ≡ suc dots → with_clauses (dotted_by dots (record { label = l.label; formals = l.formals; level = 1; clauses = [] })) l.clauses ≡ l
+line_of_level l dots e =
+    ap (λ (x : Sentence). with_clauses x l.clauses) (dotted_is dots (record { label = l.label; formals = l.formals; level = 1; clauses = [] }))
+    ∙ ap (λ (n : ℕ). let x : Sentence = record { label = l.label; formals = l.formals; level = n; clauses = l.clauses } in x) (let f : dots + 1 ≡ l.level = omega arith in f)
 
 -- COMPLETE
 pub complete_line : (m : Limits) (ks : List Token) (l : Sentence) → SpellsSentence ks l → IsWithin m.depth m.width l → run m ks (At Begin) ≡ Accept l
 complete_line m ks l s w =
-    ap (λ (zs : List Token). run m zs (At Begin)) s.2
-    ∙ complete_label m l.label l.clauses s.0 s.1 s.3 s.4 w.nests w.lists
+    let h = s.4 in
+    ap (λ (zs : List Token). run m zs (At Begin)) s.3
+    ∙ ap (λ (zs : List Token). run m (zs ++ s.1) (At Begin)) h.cut
+    ∙ complete_label s.2 m l.label l.formals l.clauses h.front h.names h.indent s.1 h.label_is h.formals_are h.dots_are s.6 w.nests w.lists
+    ∙ ap (λ (x : Sentence). Accept x) (line_of_level l s.2 s.5)

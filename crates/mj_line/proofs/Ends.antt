@@ -7,7 +7,7 @@ use Rattle.mj_expr.specs.Machine.{Limits}
 use Rattle.mj_expr.specs.Machine as phrase
 use Rattle.mj_ast.specs.Expressions.{symbol}
 use Rattle.mj_expr.proofs.Facts.{IsMore, deeper}
-use Rattle.mj_line.specs.Machine.{Rest, Spot, Begin, Behind, Over, Worded, Asked, Bare, Args, Goal, State, At, In, Next, Go, Stuck, Deep, Long, behind, rested, step, Outcome, Accept, StuckAt, DeepAt, TooLong, refused, ended, ended_at, ended_spot, ended_behind, run, turn}
+use Rattle.mj_line.specs.Machine.{Rest, Spot, Begin, Labelled, FormalsOpened, FormalWanted, FormalBehind, FormalsEnd, Indented, Behind, Over, Worded, Asked, Bare, Args, Goal, State, At, In, Next, Go, Stuck, Deep, Long, behind, rested, step, Outcome, Accept, StuckAt, DeepAt, TooLong, refused, ended, ended_at, ended_spot, ended_behind, run, turn}
 use Rattle.mj_line.proofs.Leaves.{Leads}
 use Rattle.mj_line.proofs.Good.{StateGood}
 use Rattle.mj_line.proofs.Facts.{Facts, LongFacts, step_known, HasRoom}
@@ -85,6 +85,12 @@ rest_as m s None e = inl (record { end = s; along = refl; gives = e })
 spot_ends : (m : Limits) (s : State) (p : Spot) → ended s ≡ ended_spot p → EndsAs m s [] (ended_spot p)
 spot_ends m s (Over l) e = record { end = s; along = refl; gives = e }
 spot_ends m s Begin e = rest_as m s (rested Begin) e
+spot_ends m s (Labelled label) e = rest_as m s (rested (Labelled label)) e
+spot_ends m s (FormalsOpened label) e = rest_as m s None e
+spot_ends m s (FormalWanted label names) e = rest_as m s None e
+spot_ends m s (FormalBehind label names) e = rest_as m s None e
+spot_ends m s (FormalsEnd label names) e = rest_as m s (rested (FormalsEnd label names)) e
+spot_ends m s (Indented l) e = rest_as m s (rested (Indented l)) e
 spot_ends m s (Behind r) e = rest_as m s (rested (Behind r)) e
 spot_ends m s (Worded l k) e = rest_as m s (rested (Worded l k)) e
 spot_ends m s (Asked l k) e = rest_as m s None e

@@ -9,8 +9,8 @@ use Rattle.mj_ast.specs.declared.sign.Sign.TheVariants.{Comma, Caret, Open}
 use Rattle.mj_ast.specs.declared.keyword.Keyword.{Keyword}
 use Rattle.mj_ast.specs.Syntax.{Expr}
 use Rattle.mj_ast.specs.Tokens.{Token, Word, Digits, Quoted, Signed, Blank, Comment, Unclosed, Stray, Called, Special}
-use Rattle.mj_ast.specs.Expressions.{levels_of, Symbol, Constant, Name, Applied, Overlong, Mark, symbol, Other, function_symbol, callee_of}
-use Rattle.mj_ast.specs.Commands.{Part, Named, keyword_of, looked_up, command_words, capital}
+use Rattle.mj_ast.specs.Expressions.{levels_of, Symbol, Constant, Inherent, Name, Applied, Overlong, Mark, symbol, Other, function_symbol, callee_of, special_symbol, special_of}
+use Rattle.mj_ast.specs.Commands.{Part, Named, Label, keyword_of, looked_up, command_words, capital}
 use Rattle.mj_ast.specs.Lines.{Filler}
 use Rattle.mj_oper.specs.declared.op.UnaryOp.{UnaryOp}
 use Rattle.mj_expr.specs.Machine.{Limits}
@@ -23,11 +23,12 @@ use Rattle.mj_expr.proofs.Told.{accepts}
 use Rattle.mj_expr.proofs.Ends.{finish_deep}
 use Rattle.mj_expr.proofs.Said.{finish_stuck, finish_long, overlong_finish, overlong_word, comma_token, Over as OverLimit}
 use Rattle.mj_expr.proofs.Turns.{finish_again, accept_length}
-use Rattle.mj_line.specs.Forms.{next_of, Want, AnExpr, AVar, piece_part, wants}
+use Rattle.mj_line.specs.Forms.{next_of, Node, Want, AnExpr, AVar, ALocal, piece_part, part_at, labels, wants}
 use Rattle.mj_line.specs.Sentences.{Sentence}
-use Rattle.mj_line.specs.Machine.{IsClosed, Rest, Spot, Begin, Behind, Args, Goal, Condition, Argument, State, At, In, labelled, start, wanted, level, inside, behind, behind_want, argument, entry, rested, Next, Go, Stuck, Deep, Long, taken, own, begins, on_rested, first, spot_step, behind_step, phrase_step, in_step, entering, step, StuckAt, DeepAt, TooLong, refused, ended_behind, run, turn}
+use Rattle.mj_line.specs.Machine.{IsClosed, Rest, Spot, Begin, Args, Goal, Condition, Argument, State, At, In, start, wanted, may_want, may_begin, level, inside, behind, behind_want, argument, entry, rested, Next, Go, Stuck, Deep, Long, taken, own, begins, on_rested, first, spot_step, behind_step, phrase_step, in_step, entering, step, StuckAt, DeepAt, TooLong, refused, ended_behind, run, turn, Labelled, FormalsOpened, FormalWanted, FormalBehind}
 use Rattle.mj_line.proofs.Tables.{none_some}
-use Rattle.mj_line.proofs.Leaves.{Leads, NextLeads, kind, spot_leads, entry_leads, EntryLeads}
+use Rattle.mj_line.proofs.Leaves.{Leads, NextLeads, Begun, begun_more, begun_suits, kind, spot_leads, entry_leads, EntryLeads}
+use Rattle.mj_line.proofs.Formals.{long_new}
 use Rattle.mj_line.proofs.Good.{StateGood, SpotGood, NextGood, spot_good, behind_good, goal_more, inside_more, level_small, entry_good, EntryGood}
 
 -- there is room for a level and for a subscript
@@ -89,9 +90,23 @@ long_keyword w h = long_as w (keyword_of w) refl h
 le_false : (n : ℕ) → 31 < n → nat_le n 31 ≡ false
 le_false n h = grind (arith, nat_tests)
 
+long_part : (b : Bool) (w : List ℕ) → 31 < length w → part_at b (Word w) ≡ None
+long_part true w h = ap (λ (b : Bool). cond b (Some (Label w)) None) (le_false (length w) h)
+long_part false w h = ap (λ (b : Bool). cond b (Some (Named w)) None) (le_false (length w) h)
+
+long_called : (b : Bool) (w : List ℕ) → 31 < length w → part_at b (Called w) ≡ None
+long_called true w h = ap (λ (b : Bool). cond b (piece_part (callee_of w)) None) (le_false (length w) h)
+long_called false w h = ap (λ (b : Bool). cond b (piece_part (callee_of w)) None) (le_false (length w) h)
+
+special_part : (b : Bool) (w : List ℕ) → part_at b (Special w) ≡ None
+special_part true w = refl
+special_part false w = refl
+
 own_long : (p : Spot) (w : List ℕ) → 31 < length w → own p (Word w) ≡ Stuck
-own_long Begin w h = ap (λ (b : Bool). cond b (Go (At (Behind (record { line = labelled w; gap = 1; comment = 1 })))) Stuck) (le_false (length w) h)
-own_long (Args l condition k done n) w h = ap (λ (b : Bool). taken l condition k done n (cond b (Some (Named w)) None)) (le_false (length w) h)
+own_long Begin w h = ap (λ (b : Bool). cond b (Go (At (Labelled w))) Stuck) (le_false (length w) h)
+own_long (FormalsOpened label) w h = ap (λ (b : Bool). cond b (Go (At (FormalBehind label (w ∷ [])))) Stuck) (long_new [] w (le_false (length w) h))
+own_long (FormalWanted label names) w h = ap (λ (b : Bool). cond b (Go (At (FormalBehind label (names ++ w ∷ [])))) Stuck) (long_new names w (le_false (length w) h))
+own_long (Args l condition k done n) w h = ap (taken l condition k done n) (long_part (labels n) w h)
 own_long p w h = refl
 
 word_long : (l : Sentence) (w : List ℕ) (b : Bool) → 31 < length w → cond b (begins l (keyword_of w)) Stuck ≡ Stuck
@@ -107,11 +122,12 @@ spot_long p w h = ap (λ (n : Next). first n (on_rested (rested p) (Word w))) (o
 
 own_called : (p : Spot) (w : List ℕ) → 31 < length w → own p (Called w) ≡ Stuck
 own_called Begin w h = refl
-own_called (Args l condition k done n) w h = ap (λ (b : Bool). taken l condition k done n (cond b (piece_part (callee_of w)) None)) (le_false (length w) h)
+own_called (Args l condition k done n) w h = ap (taken l condition k done n) (long_called (labels n) w h)
 own_called p w h = refl
 
 own_special : (p : Spot) (w : List ℕ) → own p (Special w) ≡ Stuck
 own_special Begin w = refl
+own_special (Args l condition k done n) w = ap (taken l condition k done n) (special_part (labels n) w)
 own_special p w = refl
 
 rested_called : (q : Option Rest) (w : List ℕ) → on_rested q (Called w) ≡ Stuck
@@ -159,6 +175,7 @@ phrase_leads g s t xs e = λ rest l h. record {
   front = xs ++ h.front;
   rest = h.rest;
   kind_is = h.kind_is;
+  suits = h.suits;
   cut = ap (λ (zs : List Token). xs ++ zs) h.cut ∙ sym (append_assoc xs h.front h.rest);
   spells = ap (λ (zs : List Symbol). sofar s ++ zs) (map-append symbol xs h.front) ∙ sym (append_assoc (sofar s) (map symbol xs) (map symbol h.front)) ∙ ap (λ (zs : List Symbol). zs ++ map symbol h.front) (sym e) ∙ h.spells;
   formed = h.formed;
@@ -173,7 +190,7 @@ has_read m g s h = record { good = h.1; read = refl }
 pub whole_leads : (m : Limits) (g : Goal) (s : phrase.State) (p : phrase.Phrase) → 1 ≤ m.depth → StateGood m (In g s) → phrase.finish s [] ≡ phrase.Accept p [] → Leads (In g s) [] (At (behind g p)) × SpotGood m (behind g p)
 whole_leads m g s p d h e =
     let a = accepts (kind g) (inside m (level g)) s [] p [] (sofar s) (has_read m g s h) e in (
-      λ rest l f. record { phrase = p; front = []; rest = rest; kind_is = a.fits.kind; cut = refl; spells = append-nil (sofar s) ∙ sym a.spelled; formed = a.fits.formed; follows = f },
+      λ rest l f. record { phrase = p; front = []; rest = rest; kind_is = a.fits.kind; suits = begun_suits g p (sofar s) [] h.2 (append-nil (sofar s) ∙ sym a.spelled); cut = refl; spells = append-nil (sofar s) ∙ sym a.spelled; formed = a.fits.formed; follows = f },
       behind_good m g p d h.0 a.fits,
     )
 
@@ -199,8 +216,10 @@ finished_as m g s k phrase.TooLong d e at f = λ l i. f l i ∙ ap (λ (x : phra
 want_closed : (l : Sentence) (condition : Option Expr) (k : Keyword) (done : List Part) (w : Want) (p : phrase.Phrase) → wants (next_of w) ≡ None → entry (behind_want l condition k done w p) ≡ None
 want_closed l condition k done (AnExpr lv next) (phrase.Whole e) h = ap (argument l condition k (done ++ _ ∷ [])) h
 want_closed l condition k done (AVar lv next) (phrase.Target v) h = ap (argument l condition k (done ++ _ ∷ [])) h
+want_closed l condition k done (ALocal next) (phrase.Target v) h = ap (argument l condition k (done ++ _ ∷ [])) h
 want_closed l condition k done (AnExpr lv next) (phrase.Target v) h = refl
 want_closed l condition k done (AVar lv next) (phrase.Whole e) h = refl
+want_closed l condition k done (ALocal next) (phrase.Whole e) h = refl
 
 closed_entry : (g : Goal) (p : phrase.Phrase) → IsClosed g → entry (behind g p) ≡ None
 closed_entry (Condition l k) (phrase.Whole e) h = refl
@@ -253,7 +272,7 @@ refused_word s k ks i n false e h = absurd (overlong_finish s (map symbol ks) n 
 refused_at : (s : phrase.State) (k : Token) (ks : List Token) (n : ℕ) → phrase.finish s (symbol k ∷ map symbol ks) ≡ phrase.StuckAt n → length (k ∷ ks) ≡ n → refused (k ∷ ks) ≡ StuckAt n
 refused_at s (Word w) ks n e h = refused_word s (Name w) ks (length (Word w ∷ ks)) n (nat_le (length w) 31) e h
 refused_at s (Called w) ks n e h = refused_word s (function_symbol (callee_of w)) ks (length (Called w ∷ ks)) n (nat_le (length w) 31) e h
-refused_at s (Special w) ks n e h = refused_word s Other ks (length (Special w ∷ ks)) n (nat_le (length w) 31) e h
+refused_at s (Special w) ks n e h = refused_word s (special_symbol (special_of w)) ks (length (Special w ∷ ks)) n (nat_le (length w) 31) e h
 refused_at s (Digits d) ks n e h = ap StuckAt h
 refused_at s (Quoted q) ks n e h = ap StuckAt h
 refused_at s (Signed z) ks n e h = ap StuckAt h
@@ -317,24 +336,28 @@ lift_long l (k ∷ ks) g s e = long_on l (inside l (level g)) g s k ks (phrase.s
 inside_deeper : (m : Limits) (k : Symbol) (lv : ℕ) → lv ≤ 1 → 1 ≤ m.depth → deeper k (inside m lv) ≡ inside (deeper k m) lv
 inside_deeper m k lv i d = ap (λ (n : ℕ). let l : Limits = record { depth = n; width = m.width } in l) (let e : (m.depth - lv) + levels_of k ≡ (m.depth + levels_of k) - lv = omega arith in e)
 
+-- what was read on begins as what was read
+begun_on : (g : Goal) (s t : phrase.State) (xs : List Symbol) → sofar t ≡ sofar s ++ xs → Begun g (sofar s) → Begun g (sofar t)
+begun_on g s t xs e h = let P : List Symbol → Type 0 = λ ks. Begun g ks in subst P (sym e) (begun_more g (sofar s) xs h)
+
 in_as : (m : Limits) (g : Goal) (s : phrase.State) (k : Token) (n : phrase.Next) → 1 ≤ m.depth →
     known.Facts (kind g) (inside m (level g)) (HasRead (kind g) (inside m (level g)) s) (known.LongFacts (kind g) (inside m (level g)) (HasRead (kind g) (inside m (level g)) s) s (symbol k)) (λ l. phrase.step l s (symbol k)) (symbol k) n →
     Facts m (In g s) k (λ l. in_step l g s k) (phrase_step g s k n)
 in_as m g s k (phrase.Go t) d f = (
-  λ i. let r = f.0 (sofar s) (has_read m g s i) in (phrase_leads g s t (k ∷ []) r.read, (i.0, r.good)),
+  λ i. let r = f.0 (sofar s) (has_read m g s i) in (phrase_leads g s t (k ∷ []) r.read, (i.0, r.good, begun_on g s t (symbol k ∷ []) r.read i.2)),
   λ l i. ap (phrase_step g s k) (f.1 (inside l (level g)) (inside_more m l (level g) i)),
 )
 in_as m g s k phrase.Stuck d f = finished_as m g s k (phrase.finish s []) d refl (λ l. in_step l g s k) (λ l i. ap (phrase_step g s k) (f (inside l (level g)) (inside_more m l (level g) i)))
 in_as m g s k phrase.Deep d f = λ i.
     let r = f.1 (sofar s) (has_read m g s i) in
     let P : Limits → Type 0 = λ l. IsGood (kind g) l f.0 in
-    (In g f.0, phrase_leads g s f.0 (k ∷ []) r.read, (goal_more m (deeper (symbol k) m) g (more_deeper (symbol k) m) i.0, subst P (inside_deeper m (symbol k) (level g) (level_small m g i.0) d) r.good))
+    (In g f.0, phrase_leads g s f.0 (k ∷ []) r.read, (goal_more m (deeper (symbol k) m) g (more_deeper (symbol k) m) i.0, subst P (inside_deeper m (symbol k) (level g) (level_small m g i.0) d) r.good, begun_on g s f.0 (symbol k ∷ []) r.read i.2))
 in_as m g s k phrase.Long d f = record {
   comma = comma_token k f.comma;
   filler = f.filler;
   fills = f.fills;
   opened = λ i. let r = f.opened (sofar s) (has_read m g s i) in
-      (In g f.over, phrase_leads g s f.over (f.filler ++ k ∷ []) (r.read ∙ ap (λ (zs : List Symbol). sofar s ++ zs) (sym (map-append symbol f.filler (k ∷ [])))), (goal_more m (wider m) g (more_wider m) i.0, r.good));
+      (In g f.over, phrase_leads g s f.over (f.filler ++ k ∷ []) (r.read ∙ ap (λ (zs : List Symbol). sofar s ++ zs) (sym (map-append symbol f.filler (k ∷ [])))), (goal_more m (wider m) g (more_wider m) i.0, r.good, begun_on g s f.over (map symbol f.filler ++ symbol k ∷ []) r.read i.2));
   local = λ l ks e w. lift_long l (f.filler ++ k ∷ ks) g s (ap (λ (zs : List Symbol). phrase.run (inside l (level g)) zs s) (map-append symbol f.filler (k ∷ ks)) ∙ f.local (inside l (level g)) (map symbol ks) (omega arith) w);
 }
 
@@ -365,6 +388,7 @@ unary_long m s None e = sign_long m s e
 -- no list is open there, so that none is too long
 pub wanted_long : (m : Limits) (x : Symbol) → phrase.want m (phrase.Front phrase.Alone) x ≡ phrase.Long → ⊥
 wanted_long m (Constant v) e = go_long _ e
+wanted_long m (Inherent v) e = go_long _ e
 wanted_long m (Name w) e = go_long _ e
 wanted_long m (Applied f) e = opens_long _ _ e
 wanted_long m Overlong e = stuck_long e
@@ -379,6 +403,7 @@ sought_long x e = stuck_long e
 want_long : (m : Limits) (w : Want) (x : Symbol) → phrase.step m (wanted w) x ≡ phrase.Long → ⊥
 want_long m (AnExpr lv next) x e = wanted_long m x e
 want_long m (AVar lv next) x e = sought_long x e
+want_long m (ALocal next) x e = sought_long x e
 
 pub start_long : (m : Limits) (g : Goal) (x : Symbol) → phrase.step m (start g) x ≡ phrase.Long → ⊥
 start_long m (Condition l k) x e = wanted_long m x e
@@ -387,6 +412,7 @@ start_long m (Argument l condition k done w) x e = want_long m w x e
 want_finish : (w : Want) → phrase.finish (wanted w) [] ≡ phrase.StuckAt 0
 want_finish (AnExpr lv next) = refl
 want_finish (AVar lv next) = refl
+want_finish (ALocal next) = refl
 
 -- where a phrase begins, none is whole
 pub start_finish : (g : Goal) → phrase.finish (start g) [] ≡ phrase.StuckAt 0
@@ -398,27 +424,97 @@ start_stuck g k = ap (λ (o : phrase.Outcome). behind_step g o k) (start_finish 
 
 -- ---- spots
 
+want_sofar : (w : Want) → sofar (wanted w) ≡ []
+want_sofar (AnExpr lv next) = refl
+want_sofar (AVar lv next) = refl
+want_sofar (ALocal next) = refl
+
+start_sofar : (g : Goal) → sofar (start g) ≡ []
+start_sofar (Condition l k) = refl
+start_sofar (Argument l condition k done w) = want_sofar w
+
+stuck_go : (t : phrase.State) → phrase.Stuck ≡ phrase.Go t → ⊥
+stuck_go t e = cc
+
+sought_begins : (l : Sentence) (condition : Option Expr) (k : Keyword) (done : List Part) (next : Node) (x : Symbol) (t : phrase.State) → may_want (ALocal next) x ≡ true → phrase.seek phrase.AsTarget x ≡ phrase.Go t → Begun (Argument l condition k done (ALocal next)) (x ∷ [])
+sought_begins l condition k done next (Name word) t b e = tt
+sought_begins l condition k done next (Mark Caret) t b e = absurd (let f : false ≡ true = b in cc)
+sought_begins l condition k done next x t b e = absurd (stuck_go t e)
+
+want_begins : (m : Limits) (l : Sentence) (condition : Option Expr) (k : Keyword) (done : List Part) (w : Want) (x : Symbol) (t : phrase.State) → may_want w x ≡ true → phrase.step m (wanted w) x ≡ phrase.Go t → Begun (Argument l condition k done w) (x ∷ [])
+want_begins m l condition k done (AnExpr lv next) x t b e = tt
+want_begins m l condition k done (AVar lv next) x t b e = tt
+want_begins m l condition k done (ALocal next) x t b e = sought_begins l condition k done next x t b e
+
+-- a phrase for a local begins with a name, where it may begin so
+start_begins : (m : Limits) (g : Goal) (x : Symbol) (t : phrase.State) → may_begin g x ≡ true → phrase.step m (start g) x ≡ phrase.Go t → Begun g (x ∷ [])
+start_begins m (Condition l k) x t b e = tt
+start_begins m (Argument l condition k done w) x t b e = want_begins m l condition k done w x t b e
+
+-- the first symbol of a phrase
+start_begun : (m : Limits) (g : Goal) (x : Symbol) (t : phrase.State) → may_begin g x ≡ true → phrase.step m (start g) x ≡ phrase.Go t → sofar t ≡ sofar (start g) ++ x ∷ [] → Begun g (sofar t)
+start_begun m g x t b e h = let P : List Symbol → Type 0 = λ ks. Begun g ks in subst P (sym (h ∙ ap (λ (ks : List Symbol). ks ++ x ∷ []) (start_sofar g))) (start_begins m g x t b e)
+
+stuck_deep : phrase.Stuck ≡ phrase.Deep → ⊥
+stuck_deep e = cc
+
+go_deep : (t : phrase.State) → phrase.Go t ≡ phrase.Deep → ⊥
+go_deep t e = cc
+
+sought_deep : (x : Symbol) → phrase.seek phrase.AsTarget x ≡ phrase.Deep → ⊥
+sought_deep (Name word) e = go_deep _ e
+sought_deep (Mark Caret) e = go_deep _ e
+sought_deep x e = stuck_deep e
+
+want_deep : (m : Limits) (l : Sentence) (condition : Option Expr) (k : Keyword) (done : List Part) (w : Want) (x : Symbol) (ks : List Symbol) → phrase.step m (wanted w) x ≡ phrase.Deep → Begun (Argument l condition k done w) ks
+want_deep m l condition k done (AnExpr lv next) x ks e = tt
+want_deep m l condition k done (AVar lv next) x ks e = tt
+want_deep m l condition k done (ALocal next) x ks e = absurd (sought_deep x e)
+
+-- no symbol that begins a local opens a level
+start_deep : (m : Limits) (g : Goal) (x : Symbol) (ks : List Symbol) → phrase.step m (start g) x ≡ phrase.Deep → Begun g ks
+start_deep m (Condition l k) x ks e = tt
+start_deep m (Argument l condition k done w) x ks e = want_deep m l condition k done w x ks e
+
+start_read : (m : Limits) (g : Goal) → EntryGood m (Some g) → HasRead (kind g) (inside m (level g)) (start g) (sofar (start g))
+start_read m g h = record { good = h.1; read = refl }
+
 -- the step of the beginning of a phrase is that of its spot
-begins_as : (m : Limits) (p : Spot) (g : Goal) (k : Token) (n : phrase.Next) → ((l : Limits) → IsMore m l → step l (At p) k ≡ in_step l g (start g) k) → EntryLeads p (Some g) → (SpotGood m p → EntryGood m (Some g)) → (n ≡ phrase.Long → ⊥) →
-    Facts m (In g (start g)) k (λ l. in_step l g (start g) k) (phrase_step g (start g) k n) → Facts m (At p) k (λ l. step l (At p) k) (phrase_step g (start g) k n)
-begins_as m p g k (phrase.Go t) e h i j f = (λ z. let r = f.0 (i z) in (λ rest l x. h (k ∷ rest) l (r.0 rest l x), r.1), λ l z. e l z ∙ f.1 l z)
-begins_as m p g k phrase.Stuck e h i j f = stuck_facts m p g k (behind_step g (phrase.finish (start g) []) k) (start_stuck g k) e f
-  where
-    stuck_facts : (m : Limits) (p : Spot) (g : Goal) (k : Token) (n : Next) → n ≡ Stuck → ((l : Limits) → IsMore m l → step l (At p) k ≡ in_step l g (start g) k) → Facts m (In g (start g)) k (λ l. in_step l g (start g) k) n → Facts m (At p) k (λ l. step l (At p) k) n
-    stuck_facts m p g k (Go t) z e f = absurd (let y : Go t ≡ Stuck = z in cc)
-    stuck_facts m p g k Stuck z e f = λ l i. e l i ∙ f l i
-    stuck_facts m p g k Deep z e f = absurd (let y : Deep ≡ Stuck = z in cc)
-    stuck_facts m p g k Long z e f = absurd (let y : Long ≡ Stuck = z in cc)
-begins_as m p g k phrase.Deep e h i j f = λ z. let r = f (i z) in (r.0, λ rest l x. h (k ∷ rest) l (r.1 rest l x), r.2)
-begins_as m p g k phrase.Long e h i j f = absurd (j refl)
+begins_as : (m : Limits) (p : Spot) (g : Goal) (k : Token) (n : phrase.Next) → 1 ≤ m.depth → ((l : Limits) → IsMore m l → step l (At p) k ≡ in_step l g (start g) k) → EntryLeads p (Some g) → (SpotGood m p → EntryGood m (Some g)) → may_begin g (symbol k) ≡ true → phrase.step (inside m (level g)) (start g) (symbol k) ≡ n →
+    known.Facts (kind g) (inside m (level g)) (HasRead (kind g) (inside m (level g)) (start g)) (known.LongFacts (kind g) (inside m (level g)) (HasRead (kind g) (inside m (level g)) (start g)) (start g) (symbol k)) (λ l. phrase.step l (start g) (symbol k)) (symbol k) n →
+    Facts m (At p) k (λ l. step l (At p) k) (phrase_step g (start g) k n)
+begins_as m p g k (phrase.Go t) d e h i b s f = (
+  λ z.
+      let a = i z in
+      let r = f.0 (sofar (start g)) (start_read m g a) in
+      (λ rest l x. h (k ∷ rest) l (phrase_leads g (start g) t (k ∷ []) r.read rest l x), (a.0, r.good, start_begun (inside m (level g)) g (symbol k) t b s r.read)),
+  λ l z. e l z ∙ ap (phrase_step g (start g) k) (f.1 (inside l (level g)) (inside_more m l (level g) z)),
+)
+begins_as m p g k phrase.Stuck d e h i b s f =
+    let P : Next → Type 0 = λ x. Facts m (At p) k (λ l. step l (At p) k) x in
+    subst P (sym (start_stuck g k)) (λ l z. e l z ∙ ap (phrase_step g (start g) k) (f (inside l (level g)) (inside_more m l (level g) z)) ∙ start_stuck g k)
+begins_as m p g k phrase.Deep d e h i b s f = λ z.
+    let a = i z in
+    let r = f.1 (sofar (start g)) (start_read m g a) in
+    let P : Limits → Type 0 = λ l. IsGood (kind g) l f.0 in (
+      In g f.0,
+      λ rest l x. h (k ∷ rest) l (phrase_leads g (start g) f.0 (k ∷ []) r.read rest l x),
+      (goal_more m (deeper (symbol k) m) g (more_deeper (symbol k) m) a.0, subst P (inside_deeper m (symbol k) (level g) (level_small m g a.0) d) r.good, start_deep (inside m (level g)) g (symbol k) (sofar f.0) s),
+    )
+begins_as m p g k phrase.Long d e h i b s f = absurd (start_long (inside m (level g)) g (symbol k) s)
+
+-- where a phrase may begin so, or may not
+entered_by : (m : Limits) (p : Spot) (g : Goal) (k : Token) (b : Bool) → may_begin g (symbol k) ≡ b → entry p ≡ Some g → spot_step p k ≡ Stuck → EntryLeads p (Some g) → (SpotGood m p → EntryGood m (Some g)) → HasRoom m → Facts m (At p) k (λ l. step l (At p) k) (cond b (in_step m g (start g) k) Stuck)
+entered_by m p g k true b e s h i w =
+    begins_as m p g k (phrase.step (inside m (level g)) (start g) (symbol k)) w.depth
+    (λ l j. ap (λ (n : Next). first n (entering l (entry p) k)) s ∙ ap (λ (q : Option Goal). entering l q k) e ∙ ap (λ (x : Bool). cond x (in_step l g (start g) k) Stuck) b)
+    h i b refl (step_facts (kind g) (inside m (level g)) (start g) (symbol k) w.width)
+entered_by m p g k false b e s h i w = λ l j. ap (λ (n : Next). first n (entering l (entry p) k)) s ∙ ap (λ (q : Option Goal). entering l q k) e ∙ ap (λ (x : Bool). cond x (in_step l g (start g) k) Stuck) b
 
 -- where the spot doesn't go on, a phrase begins or nothing does
 entered : (m : Limits) (p : Spot) (k : Token) (q : Option Goal) → entry p ≡ q → spot_step p k ≡ Stuck → EntryLeads p q → (SpotGood m p → EntryGood m q) → HasRoom m → Facts m (At p) k (λ l. step l (At p) k) (entering m q k)
 entered m p k None e s h i w = λ l j. plain_step l p k e ∙ s
-entered m p k (Some g) e s h i w =
-    begins_as m p g k (phrase.step (inside m (level g)) (start g) (symbol k))
-    (λ l j. ap (λ (n : Next). first n (entering l (entry p) k)) s ∙ ap (λ (q : Option Goal). entering l q k) e)
-    h i (start_long (inside m (level g)) g (symbol k)) (in_facts m g (start g) k w)
+entered m p k (Some g) e s h i w = entered_by m p g k (may_begin g (symbol k)) refl e s h i w
 
 spot_as : (m : Limits) (p : Spot) (k : Token) (n : Next) → HasRoom m → spot_step p k ≡ n → NextLeads p k n → (SpotGood m p → NextGood m n) → Facts m (At p) k (λ l. step l (At p) k) (first n (entering m (entry p) k))
 spot_as m p k (Go t) w e h g = (λ i. (h, g i), λ l i. ap (λ (n : Next). first n (entering l (entry p) k)) e)

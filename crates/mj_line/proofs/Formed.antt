@@ -1,16 +1,16 @@
 -- Trees have parts of the table, and no two have the same.
-use Rattle.std.proofs.Common.{◌≡◌, ℕ, zero, suc, ◌≤◌, nat_le, List, [], ◌∷◌, ◌++◌, refl, sym, ◌∙◌, subst, Bool, true, false, append_assoc, arith, Some, map}
+use Rattle.std.proofs.Common.{◌≡◌, ℕ, zero, suc, ◌≤◌, nat_le, List, [], ◌∷◌, ◌++◌, refl, ap, sym, ◌∙◌, subst, Bool, true, false, append_assoc, arith, Option, Some, None, map}
 use Rattle.std.specs.Prelude.{◌&&◌}
 use Rattle.std.proofs.lemmas.Bool.Decides.{nat_tests}
-use Rattle.mj_ast.specs.declared.sign.Sign.TheVariants.{Equals, Open, Close}
+use Rattle.mj_ast.specs.declared.sign.Sign.TheVariants.{Equals, Comma, Colon, Caret, Open, Close}
 use Rattle.mj_ast.specs.declared.routine.Mark.{Mark}
 use Rattle.mj_ast.specs.declared.routine.Mark.TheVariants.{NewLine}
 use Rattle.mj_ast.specs.declared.keyword.Keyword.{Keyword}
 use Rattle.mj_ast.specs.declared.keyword.Keyword.TheVariants as keyword
-use Rattle.mj_ast.specs.Syntax.{Exprs, No, More, Destination, Plain, Pieces, Targets, One, Several, Assignment, Killed, Gone, Spared, Merged, Output, Shown, Format, Command, Set, Write, Halt, Kill, Merge}
+use Rattle.mj_ast.specs.Syntax.{Expr, Exprs, No, More, Destination, Plain, Pieces, Targets, One, Several, Assignment, Killed, Gone, Spared, Merged, Output, Shown, Format, Called, Jumped, Range, Single, Endless, UpTo, Renewed, Fresh, Kept, Command, Set, Write, Halt, Kill, Merge, If, Else, For, Forever, Do, Goto, Quit, New}
 use Rattle.mj_ast.specs.Expressions.{count}
-use Rattle.mj_ast.specs.Commands.{Part, Put, Named, PieceCall, Text, Place, behind_commas, more_parts, destination_parts, targets_parts, assignment_parts, mark_part, output_parts, name_parts, killed_parts, merged_parts, command_parts, keyword_for, every, is_destination, are_targets, is_assignment, is_output, is_killed, is_formed}
-use Rattle.mj_line.specs.Forms.{Node, SetTarget, PieceOpens, PieceVariable, PieceComma, PieceText, PieceBehind, SetBehind, SetValue, SetEnd, OutputWanted, OutputEnd, MarksEnd, KillWanted, NameWanted, NameBehind, KillEnd, MergeInto, MergeBehind, MergeFrom, MergeEnd, takes, first_node, Fits, IsForm}
+use Rattle.mj_ast.specs.Commands.{Part, Put, Named, Label, PieceCall, Text, Place, behind_commas, condition_parts, entry_parts, target_parts, guard_parts, actual_parts, actuals_parts, called_parts, as_called, jumped_parts, range_parts, renewed_parts, is_local, is_bare, is_entry, is_called, is_jumped, is_renewed, more_parts, destination_parts, targets_parts, assignment_parts, mark_part, output_parts, name_parts, killed_parts, merged_parts, command_parts, keyword_for, every, is_destination, are_targets, is_assignment, is_output, is_killed, is_formed}
+use Rattle.mj_line.specs.Forms.{Node, SetTarget, PieceOpens, PieceVariable, PieceComma, PieceText, PieceBehind, SetBehind, SetValue, SetEnd, OutputWanted, OutputEnd, MarksEnd, KillWanted, NameWanted, NameBehind, KillEnd, MergeInto, MergeBehind, MergeFrom, MergeEnd, IfWanted, IfEnd, ForWanted, ForBehind, RangeWanted, RangeEnd, StepWanted, StepEnd, LimitWanted, LimitEnd, NewWanted, KeptWanted, KeptBehind, NewEnd, EntryWanted, LabelEnd, RoutineWanted, RoutineEnd, ActualWanted, ActualEnd, ActualsEnd, GuardWanted, GuardEnd, actuals_at, takes, ends, first_node, Fits, IsForm}
 
 -- ---- tests
 
@@ -20,6 +20,10 @@ false_true e = absurd (let f : false ≡ true = e in cc)
 pub first_of : (a b : Bool) → a && b ≡ true → a ≡ true
 first_of true b e = refl
 first_of false b e = e
+
+both : (a b : Bool) → a ≡ true → b ≡ true → a && b ≡ true
+both true b e f = f
+both false b e f = e
 
 second_of : (a b : Bool) → a && b ≡ true → b ≡ true
 second_of true b e = e
@@ -125,6 +129,148 @@ merges_fit : (list : List Merged) → Fits MergeEnd (behind_commas merged_parts 
 merges_fit [] = refl
 merges_fit (x ∷ list) = (MergeInto, refl, (MergeBehind, refl, (MergeFrom, refl, (MergeEnd, refl, merges_fit list))))
 
+ifs_fit : (list : List Expr) → Fits IfEnd (behind_commas condition_parts list)
+ifs_fit [] = refl
+ifs_fit (x ∷ list) = (IfWanted false, refl, (IfEnd, refl, ifs_fit list))
+
+-- ranges behind one, wherever it ends
+record Ranges (list : List Range) : Type 0 where
+  first : Fits RangeEnd (behind_commas range_parts list)
+  second : Fits StepEnd (behind_commas range_parts list)
+  third : Fits LimitEnd (behind_commas range_parts list)
+
+range_fits : (x : Range) (list : List Range) → Ranges list → Fits RangeWanted (range_parts x ++ behind_commas range_parts list)
+range_fits (Single a) list f = (RangeEnd, refl, f.first)
+range_fits (Endless a b) list f = (RangeEnd, refl, (StepWanted, refl, (StepEnd, refl, f.second)))
+range_fits (UpTo a b c) list f = (RangeEnd, refl, (StepWanted, refl, (StepEnd, refl, (LimitWanted, refl, (LimitEnd, refl, f.third)))))
+
+ranges_fit : (list : List Range) → Ranges list
+ranges_fit [] = record { first = refl; second = refl; third = refl }
+ranges_fit (x ∷ list) =
+    let f = range_fits x list (ranges_fit list) in
+    record { first = (RangeWanted, refl, f); second = (RangeWanted, refl, f); third = (RangeWanted, refl, f) }
+
+kept_fit : (ws : List (List ℕ)) (rest : List Part) → Fits NewEnd rest → Fits KeptBehind (behind_commas name_parts ws ++ Put Close ∷ rest)
+kept_fit [] rest f = (NewEnd, refl, f)
+kept_fit (w ∷ ws) rest f = (KeptWanted, refl, (KeptBehind, refl, kept_fit ws rest f))
+
+renewed_fits : (first : Bool) (x : Renewed) (rest : List Part) → is_renewed x ≡ true → Fits NewEnd rest → Fits (NewWanted first) (renewed_parts x ++ rest)
+renewed_fits first (Fresh w) rest h f = (NewEnd, refl, f)
+renewed_fits first (Kept []) rest h f = false_true h
+renewed_fits first (Kept (w ∷ ws)) rest h f =
+    let P : List Part → Type 0 = λ ps. Fits (NewWanted first) (Put Open ∷ Named w ∷ ps) in
+    subst P (sym (append_assoc (behind_commas name_parts ws) (Put Close ∷ []) rest)) (KeptWanted, refl, (KeptBehind, refl, kept_fit ws rest f))
+
+news_fit : (list : List Renewed) → every is_renewed list ≡ true → Fits NewEnd (behind_commas renewed_parts list)
+news_fit [] h = refl
+news_fit (x ∷ list) h = (NewWanted false, refl, renewed_fits false x (behind_commas renewed_parts list) (first_of (is_renewed x) (every is_renewed list) h) (news_fit list (second_of (is_renewed x) (every is_renewed list) h)))
+
+-- ---- calls and jumps
+
+-- jumps have no actuals
+abbrev pub Plainly : Bool → List Called → Type 0
+Plainly true xs = Unit {0}
+Plainly false xs = every (λ c. is_bare c.actuals) xs ≡ true
+
+abbrev pub PlainOne : Bool → List (Option Expr) → Type 0
+PlainOne true list = Unit {0}
+PlainOne false list = is_bare list ≡ true
+
+pub called_cut : (c : Called) (r : List Part) → called_parts c ++ r ≡ target_parts c.target ++ (actuals_parts c.actuals ++ (guard_parts c.condition ++ r))
+called_cut c r =
+    append_assoc (target_parts c.target) (actuals_parts c.actuals ++ guard_parts c.condition) r
+    ∙ ap (λ (ps : List Part). target_parts c.target ++ ps) (append_assoc (actuals_parts c.actuals) (guard_parts c.condition) r)
+
+-- D ++ B ++ close ++ rest
+pub three : (d b : List Part) (z : Part) (rest : List Part) → ((d ++ b) ++ z ∷ []) ++ rest ≡ d ++ (b ++ z ∷ rest)
+three d b z rest = append_assoc (d ++ b) (z ∷ []) rest ∙ append_assoc d b (z ∷ rest)
+
+-- where an argument may end
+record Parting (call : Bool) (n : Node) : Type 0 where
+  ends_here : ends n ≡ true
+  comma : takes n (Put Comma) ≡ Some (EntryWanted call false)
+
+-- what follows arguments, at each place where one may end
+abbrev Tail : Bool → List Part → Type 0
+Tail call rest = (n : Node) → Parting call n → Fits n rest
+
+guard_fits : (call : Bool) (n : Node) (c : Option Expr) (rest : List Part) → Parting call n → takes n (Put Colon) ≡ Some (GuardWanted call) → Tail call rest → Fits n (guard_parts c ++ rest)
+guard_fits call n None rest p e tail = tail n p
+guard_fits call n (Some x) rest p e tail = (GuardWanted call, e, (GuardEnd call, refl, tail (GuardEnd call) (record { ends_here = refl; comma = refl })))
+
+-- actuals behind one, and behind a comma
+record Actuals (list : List (Option Expr)) (rest : List Part) : Type 0 where
+  wanted : Fits ActualWanted (behind_commas actual_parts list ++ Put Close ∷ rest)
+  ended : Fits ActualEnd (behind_commas actual_parts list ++ Put Close ∷ rest)
+
+actual_fits : (a : Option Expr) (ps : List Part) → Fits ActualWanted ps → Fits ActualEnd ps → Fits ActualWanted (actual_parts a ++ ps)
+actual_fits None ps w e = w
+actual_fits (Some x) ps w e = (ActualEnd, refl, e)
+
+actuals_fit : (list : List (Option Expr)) (rest : List Part) → Fits ActualsEnd rest → Actuals list rest
+actuals_fit [] rest f = record { wanted = (ActualsEnd, refl, f); ended = (ActualsEnd, refl, f) }
+actuals_fit (a ∷ list) rest f =
+    let r = actuals_fit list rest f in
+    let P : List Part → Type 0 = λ ps. Fits ActualWanted ps in
+    let h = subst P (sym (append_assoc (actual_parts a) (behind_commas actual_parts list) (Put Close ∷ rest))) (actual_fits a (behind_commas actual_parts list ++ Put Close ∷ rest) r.wanted r.ended) in
+    record { wanted = (ActualWanted, refl, h); ended = (ActualWanted, refl, h) }
+
+acted_fits : (call : Bool) (n : Node) (list : List (Option Expr)) (c : Option Expr) (rest : List Part) → Parting call n → takes n (Put Colon) ≡ Some (GuardWanted call) → takes n (Put Open) ≡ actuals_at call → PlainOne call list → Tail call rest → Fits n (actuals_parts list ++ (guard_parts c ++ rest))
+acted_fits call n [] c rest p e o i tail = guard_fits call n c rest p e tail
+acted_fits false n (a ∷ list) c rest p e o i tail = false_true i
+acted_fits true n (a ∷ list) c rest p e o i tail =
+    let x = guard_parts c ++ rest in
+    let r = actuals_fit list x (guard_fits true ActualsEnd c rest (record { ends_here = refl; comma = refl }) refl tail) in
+    let P : List Part → Type 0 = λ ps. Fits n (Put Open ∷ ps) in
+    subst P (sym (three (actual_parts a) (behind_commas actual_parts list) (Put Close) x)) (ActualWanted, o, actual_fits a (behind_commas actual_parts list ++ Put Close ∷ x) r.wanted r.ended)
+
+entry_fits : (call first : Bool) (l r : Option (List ℕ)) (rest : List Part) → is_entry l r ≡ true → Fits (LabelEnd call) rest → Fits (RoutineEnd call) rest → Fits (EntryWanted call first) (entry_parts l r ++ rest)
+entry_fits call first None None rest h a b = false_true h
+entry_fits call first None (Some w) rest h a b = (RoutineWanted call, refl, (RoutineEnd call, refl, b))
+entry_fits call first (Some l) None rest h a b = (LabelEnd call, refl, a)
+entry_fits call first (Some l) (Some w) rest h a b = (LabelEnd call, refl, (RoutineWanted call, refl, (RoutineEnd call, refl, b)))
+
+called_fits : (call first : Bool) (x : Called) (rest : List Part) → is_called x ≡ true → PlainOne call x.actuals → Tail call rest → Fits (EntryWanted call first) (called_parts x ++ rest)
+called_fits call first x rest h i tail =
+    let P : List Part → Type 0 = λ ps. Fits (EntryWanted call first) ps in
+    let q : Parting call (LabelEnd call) = record { ends_here = refl; comma = refl } in
+    let p : Parting call (RoutineEnd call) = record { ends_here = refl; comma = refl } in
+    subst P (sym (called_cut x rest))
+    (entry_fits call first x.target.label x.target.routine (actuals_parts x.actuals ++ (guard_parts x.condition ++ rest)) h
+    (acted_fits call (LabelEnd call) x.actuals x.condition rest q refl refl i tail)
+    (acted_fits call (RoutineEnd call) x.actuals x.condition rest p refl refl i tail))
+
+plain_one : (call : Bool) (x : Called) (xs : List Called) → Plainly call (x ∷ xs) → PlainOne call x.actuals
+plain_one true x xs h = tt
+plain_one false x xs h = first_of (is_bare x.actuals) (every (λ c. is_bare c.actuals) xs) h
+
+plain_rest : (call : Bool) (x : Called) (xs : List Called) → Plainly call (x ∷ xs) → Plainly call xs
+plain_rest true x xs h = tt
+plain_rest false x xs h = second_of (is_bare x.actuals) (every (λ c. is_bare c.actuals) xs) h
+
+calls_fit : (call : Bool) (xs : List Called) → every is_called xs ≡ true → Plainly call xs → Tail call (behind_commas called_parts xs)
+calls_fit call [] h i = λ n p. p.ends_here
+calls_fit call (x ∷ xs) h i =
+    let tail = calls_fit call xs (second_of (is_called x) (every is_called xs) h) (plain_rest call x xs i) in
+    λ n p. (EntryWanted call false, p.comma, called_fits call false x (behind_commas called_parts xs) (first_of (is_called x) (every is_called xs) h) (plain_one call x xs i) tail)
+
+first_called : (call : Bool) (x : Called) (xs : List Called) → every is_called (x ∷ xs) ≡ true → Plainly call (x ∷ xs) → Fits (EntryWanted call true) (called_parts x ++ behind_commas called_parts xs)
+first_called call x xs h i =
+    called_fits call true x (behind_commas called_parts xs) (first_of (is_called x) (every is_called xs) h) (plain_one call x xs i) (calls_fit call xs (second_of (is_called x) (every is_called xs) h) (plain_rest call x xs i))
+
+-- jumps as calls
+pub jumps : (js : List Jumped) → behind_commas jumped_parts js ≡ behind_commas called_parts (map as_called js)
+jumps [] = refl
+jumps (j ∷ js) = ap (λ (ps : List Part). Put Comma ∷ (jumped_parts j ++ ps)) (jumps js)
+
+jumps_called : (js : List Jumped) → every is_jumped js ≡ true → every is_called (map as_called js) ≡ true
+jumps_called [] h = refl
+jumps_called (j ∷ js) h = both (is_jumped j) (every is_called (map as_called js)) (first_of (is_jumped j) (every is_jumped js) h) (jumps_called js (second_of (is_jumped j) (every is_jumped js) h))
+
+jumps_plain : (js : List Jumped) → every (λ c. is_bare c.actuals) (map as_called js) ≡ true
+jumps_plain [] = refl
+jumps_plain (j ∷ js) = jumps_plain js
+
 -- the form, from where it begins
 as_form : (k : Keyword) (n : Node) (p : Part) (ps qs : List Part) → first_node k ≡ Some n → qs ≡ p ∷ ps → Fits n qs → IsForm k qs
 as_form k n p ps qs e h f = let P : List Part → Type 0 = λ zs. IsForm k zs in let Q : List Part → Type 0 = λ zs. Fits n zs in subst P (sym h) (n, e, subst Q h f)
@@ -153,6 +299,18 @@ output_some (Shown e) rest h = (Text 0 e, rest, refl)
 output_some (Format []) rest h = false_true h
 output_some (Format (m ∷ ms)) rest h = (mark_part m, _, refl)
 
+pub entry_some : (l v : Option (List ℕ)) (rest : List Part) → IsSome (entry_parts l v ++ rest)
+entry_some None None rest = (Put Caret, rest, refl)
+entry_some None (Some v) rest = (Put Caret, _, refl)
+entry_some (Some l) v rest = (Label l, _, refl)
+
+pub called_some : (x : Called) (rest : List Part) → IsSome (called_parts x ++ rest)
+called_some x rest = let h = entry_some x.target.label x.target.routine (actuals_parts x.actuals ++ (guard_parts x.condition ++ rest)) in (h.0, h.1, called_cut x rest ∙ h.2)
+
+pub renewed_some : (x : Renewed) (rest : List Part) → IsSome (renewed_parts x ++ rest)
+renewed_some (Fresh w) rest = (Named w, _, refl)
+renewed_some (Kept ws) rest = (Put Open, _, refl)
+
 -- TREES
 pub formed_form : (c : Command) → is_formed c ≡ true → IsForm (keyword_for c) (command_parts c)
 formed_form (Set []) h = false_true h
@@ -168,5 +326,26 @@ formed_form (Kill []) h = refl
 formed_form (Kill (x ∷ list)) h =
     let s = killed_some x (behind_commas killed_parts list) in
     as_form keyword.Kill (KillWanted true) s.0 s.1 (killed_parts x ++ behind_commas killed_parts list) refl s.2 (killed_fits true x (behind_commas killed_parts list) (first_of (is_killed x) (every is_killed list) h) (kills_fit list (second_of (is_killed x) (every is_killed list) h)))
+formed_form (If []) h = refl
+formed_form (If (x ∷ list)) h = (IfWanted true, refl, (IfEnd, refl, ifs_fit list))
+formed_form Else h = refl
+formed_form (For v []) h = false_true (second_of (is_local v) false h)
+formed_form (For v (x ∷ list)) h = (ForWanted, refl, (ForBehind, (refl, first_of (is_local v) true h), (RangeWanted, refl, range_fits x list (ranges_fit list))))
+formed_form Forever h = refl
+formed_form (Do []) h = refl
+formed_form (Do (x ∷ list)) h =
+    let s = called_some x (behind_commas called_parts list) in
+    as_form keyword.Do (EntryWanted true true) s.0 s.1 (called_parts x ++ behind_commas called_parts list) refl s.2 (first_called true x list h tt)
+formed_form (Goto []) h = false_true h
+formed_form (Goto (x ∷ list)) h =
+    let P : List Part → Type 0 = λ ps. IsForm keyword.Goto (jumped_parts x ++ ps) in
+    let s = called_some (as_called x) (behind_commas called_parts (map as_called list)) in
+    subst P (sym (jumps list))
+    (as_form keyword.Goto (EntryWanted false true) s.0 s.1 (called_parts (as_called x) ++ behind_commas called_parts (map as_called list)) refl s.2 (first_called false (as_called x) (map as_called list) (jumps_called (x ∷ list) h) (jumps_plain (x ∷ list))))
+formed_form Quit h = refl
+formed_form (New []) h = refl
+formed_form (New (x ∷ list)) h =
+    let s = renewed_some x (behind_commas renewed_parts list) in
+    as_form keyword.New (NewWanted true) s.0 s.1 (renewed_parts x ++ behind_commas renewed_parts list) refl s.2 (renewed_fits true x (behind_commas renewed_parts list) (first_of (is_renewed x) (every is_renewed list) h) (news_fit list (second_of (is_renewed x) (every is_renewed list) h)))
 formed_form (Merge []) h = false_true h
 formed_form (Merge (x ∷ list)) h = (MergeInto, refl, (MergeBehind, refl, (MergeFrom, refl, (MergeEnd, refl, merges_fit list))))

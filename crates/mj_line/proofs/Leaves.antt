@@ -1,26 +1,66 @@
 -- What may still follow at a state, in the words of the grammar.
-use Rattle.std.proofs.Common.{◌≡◌, ℕ, suc, ◌-◌, ◌≤◌, ◌==◌, nat_le, List, [], ◌∷◌, ◌++◌, length, refl, ap, sym, ◌∙◌, subst, Bool, true, false, append_assoc, append-nil, arith, Option, Some, None, map, ◌⊎◌, inl, inr}
+use Rattle.std.proofs.Common.{◌≡◌, ℕ, zero, suc, ◌-◌, ◌≤◌, ◌==◌, nat_le, List, [], ◌∷◌, ◌++◌, length, refl, ap, sym, ◌∙◌, subst, Bool, true, false, append_assoc, append-nil, arith, Option, Some, None, map, ◌⊎◌, inl, inr}
 use Rattle.std.specs.Prelude.{cond}
 use Rattle.std.proofs.lemmas.Bool.Decides.{nat_tests}
-use Rattle.mj_ast.specs.declared.sign.Sign.TheVariants.{Colon}
+use Rattle.mj_ast.specs.declared.sign.Sign.TheVariants.{Comma, Colon, Open, Close, Dot}
 use Rattle.mj_ast.specs.declared.keyword.Keyword.{Keyword}
-use Rattle.mj_ast.specs.Syntax.{Expr}
+use Rattle.mj_ast.specs.declared.expr.Scope.TheVariants.{Local, Global}
+use Rattle.mj_ast.specs.Syntax.{Expr, Variable, Var}
 use Rattle.mj_ast.specs.Tokens.{Token, Word, Digits, Quoted, Signed, Blank, Comment, Unclosed, Stray, Called, Special}
-use Rattle.mj_ast.specs.Expressions.{symbol, Spells, expressions, name_limit}
-use Rattle.mj_ast.specs.Commands.{Part, Text, Place, keyword_of, SpellsParts, SpellsCondition, SpellsArguments, gap_of, comment_gap_of}
-use Rattle.mj_ast.specs.Lines.{SpellsEnd}
+use Rattle.mj_ast.specs.Expressions.{Symbol, Name, symbol, Spells, expressions, name_limit, variable_symbols}
+use Rattle.mj_ast.specs.Commands.{Part, Text, Place, Control, is_local, keyword_of, SpellsParts, SpellsCondition, SpellsArguments, IsConditional, is_conditional, gap_of, comment_gap_of}
+use Rattle.mj_ast.specs.Lines.{SpellsEnd, SpellsLabel, SpellsFormals, SpellsDots, comma_names, name_tokens, comment_gap, gap_behind}
 use Rattle.mj_expr.specs.Machine as phrase
 use Rattle.mj_expr.proofs.Zipper.{Kind, AnExpression, AVariable, IsKind, phrase_symbols, sofar, phrase_misfits}
-use Rattle.mj_line.specs.Forms.{Node, Want, AnExpr, AVar, part_of, takes, wants, ends, first_node, may_be_bare, Fits, IsForm}
+use Rattle.mj_line.specs.Forms.{Node, Want, AnExpr, AVar, ALocal, part_at, labels, takes, wants, ends, first_node, may_be_bare, Fits, IsForm}
 use Rattle.mj_line.specs.Sentences.{Clause, Sentence, SpellsClauses, SpellsSentence}
-use Rattle.mj_line.specs.Machine.{Rest, Spot, Begin, Behind, Over, Worded, Asked, Bare, Args, Goal, Condition, Argument, State, At, In, labelled, clause, with_clause, bare_rest, args_rest, start, wanted, behind, behind_want, bare_rested, rested, argument, entry, Next, Go, Stuck, Deep, Long, opened, arguments, moved, taken, own, begins, on, on_rested, first, spot_step}
-use Rattle.mj_line.proofs.Tables.{alone, token_goes, bare_first}
+use Rattle.mj_line.specs.Machine.{Rest, Spot, Begin, Labelled, FormalsOpened, FormalWanted, FormalBehind, FormalsEnd, Indented, Behind, Over, Worded, Asked, Bare, Args, Goal, Condition, Argument, State, At, In, empty_line, labelled, headed, dotted, is_new, clause, with_clause, bare_rest, args_rest, start, wanted, behind, behind_want, bare_rested, rested, argument, entry, Next, Go, Stuck, Deep, Long, opened, arguments, moved, taken, own, begins, on, on_rested, first, spot_step}
+use Rattle.mj_line.proofs.Tables.{alone_at, token_goes, bare_first}
+use Rattle.mj_line.proofs.Formals.{AreNew, new_formals, dotted_by, dotted_is}
 
 -- the rest of the commands
 pub record Follows (r : Rest) (ks : List Token) (l : Sentence) : Type 0 where
   pub clauses : List Clause
-  pub whole : l ≡ record { label = r.line.label; clauses = r.line.clauses ++ clauses }
+  pub whole : l ≡ record { label = r.line.label; formals = r.line.formals; level = r.line.level; clauses = r.line.clauses ++ clauses }
   pub spells : SpellsClauses r.gap r.comment ks clauses
+
+-- dots, and the commands behind them
+pub record DotsLeaves (g c : ℕ) (o : Sentence) (ks : List Token) (l : Sentence) : Type 0 where
+  pub dots : ℕ
+  pub front : List Token
+  pub rest : List Token
+  pub cut : ks ≡ front ++ rest
+  pub spells : SpellsDots g front dots
+  pub follows : Follows (record { line = dotted_by dots o; gap = gap_behind dots g; comment = gap_behind dots c }) rest l
+
+-- formals, or none, and what follows them
+pub record FormalsLeaves (label : List ℕ) (ks : List Token) (l : Sentence) : Type 0 where
+  pub formals : List (List ℕ)
+  pub front : List Token
+  pub rest : List Token
+  pub cut : ks ≡ front ++ rest
+  pub spells : SpellsFormals (Some label) front formals
+  pub follows : DotsLeaves 1 1 (headed label formals) rest l
+
+-- further names, each behind a comma, and a `)`
+pub record NamesLeaves (label : List ℕ) (names : List (List ℕ)) (ks : List Token) (l : Sentence) : Type 0 where
+  pub more : List (List ℕ)
+  pub rest : List Token
+  pub cut : ks ≡ comma_names more ++ Signed Close ∷ rest
+  pub new : AreNew names more
+  pub follows : DotsLeaves 1 1 (headed label (names ++ more)) rest l
+
+-- a name, and further ones
+pub record NameLeaves (label : List ℕ) (names : List (List ℕ)) (ks : List Token) (l : Sentence) : Type 0 where
+  pub word : List ℕ
+  pub rest : List Token
+  pub cut : ks ≡ Word word ∷ rest
+  pub new : is_new names word ≡ true
+  pub follows : NamesLeaves label (names ++ word ∷ []) rest l
+
+-- names, or a `)` at once
+abbrev pub OpenedLeaves : List ℕ → List Token → Sentence → Type 0
+OpenedLeaves label ks l = NameLeaves label [] ks l ⊎ ((rest : List Token) × (ks ≡ Signed Close ∷ rest) × DotsLeaves 1 1 (headed label []) rest l)
 
 -- further parts of arguments, and what follows them
 pub record ArgsLeaves (o : Sentence) (condition : Option Expr) (k : Keyword) (done : List Part) (n : Node) (ks : List Token) (l : Sentence) : Type 0 where
@@ -51,6 +91,7 @@ pub record WordLeaves (o : Sentence) (k : Keyword) (ks : List Token) (l : Senten
   pub rest : List Token
   pub cut : ks ≡ front ++ rest
   pub spells : SpellsCondition front condition
+  pub conditional : IsConditional k condition
   pub follows : BareLeaves o condition k rest l
 
 -- the expression of a condition
@@ -64,6 +105,12 @@ pub record AskedLeaves (o : Sentence) (k : Keyword) (ks : List Token) (l : Sente
 
 abbrev pub Leaves : Spot → List Token → Sentence → Type 0
 Leaves Begin ks l = SpellsSentence ks l
+Leaves (Labelled label) ks l = FormalsLeaves label ks l
+Leaves (FormalsOpened label) ks l = OpenedLeaves label ks l
+Leaves (FormalWanted label names) ks l = NameLeaves label names ks l
+Leaves (FormalBehind label names) ks l = NamesLeaves label names ks l
+Leaves (FormalsEnd label names) ks l = DotsLeaves 1 1 (headed label names) ks l
+Leaves (Indented o) ks l = DotsLeaves 0 0 o ks l
 Leaves (Behind r) ks l = Follows r ks l
 Leaves (Over o) ks l = (ks ≡ []) × (l ≡ o)
 Leaves (Worded o k) ks l = WordLeaves o k ks l
@@ -74,10 +121,20 @@ Leaves (Args o condition k done n) ks l = ArgsLeaves o condition k done n ks l
 abbrev pub want_kind : Want → Kind
 want_kind (AnExpr level next) = AnExpression
 want_kind (AVar level next) = AVariable
+want_kind (ALocal next) = AVariable
 
 abbrev pub kind : Goal → Kind
 kind (Condition l k) = AnExpression
 kind (Argument l condition k done w) = want_kind w
+
+-- where a local is wanted, the variable is one
+abbrev pub SuitsWant : Want → phrase.Phrase → Type 0
+SuitsWant (ALocal next) (phrase.Target v) = is_local v ≡ true
+SuitsWant w p = Unit {0}
+
+abbrev pub Suits : Goal → phrase.Phrase → Type 0
+Suits (Condition l k) p = Unit {0}
+Suits (Argument l condition k done w) p = SuitsWant w p
 
 -- the rest of a phrase, and what follows it
 pub record PhraseLeaves (g : Goal) (s : phrase.State) (ks : List Token) (l : Sentence) : Type 0 where
@@ -85,6 +142,7 @@ pub record PhraseLeaves (g : Goal) (s : phrase.State) (ks : List Token) (l : Sen
   pub front : List Token
   pub rest : List Token
   pub kind_is : IsKind (kind g) phrase
+  pub suits : Suits g phrase
   pub cut : ks ≡ front ++ rest
   pub spells : sofar s ++ map symbol front ≡ phrase_symbols phrase
   pub formed : phrase_misfits phrase ≡ 0
@@ -98,6 +156,45 @@ StateLeaves (In g s) ks l = PhraseLeaves g s ks l
 abbrev pub Leads : State → List Token → State → Type 0
 Leads s front t = (rest : List Token) (l : Sentence) → StateLeaves t rest l → StateLeaves s (front ++ rest) l
 
+-- ---- what begins without a `^` is a local
+
+-- what was read of a phrase for a local begins with a name
+abbrev BegunWant : Want → List Symbol → Type 0
+BegunWant (ALocal next) (Name word ∷ ks) = Unit {0}
+BegunWant (ALocal next) ks = ⊥
+BegunWant w ks = Unit {0}
+
+abbrev pub Begun : Goal → List Symbol → Type 0
+Begun (Condition l k) ks = Unit {0}
+Begun (Argument l condition k done w) ks = BegunWant w ks
+
+begun_want : (w : Want) (ks more : List Symbol) → BegunWant w ks → BegunWant w (ks ++ more)
+begun_want (ALocal next) (Name word ∷ ks) more h = tt
+begun_want (ALocal next) ks more h = absurd h
+begun_want (AnExpr level next) ks more h = tt
+begun_want (AVar level next) ks more h = tt
+
+-- and so does what is read on
+pub begun_more : (g : Goal) (ks more : List Symbol) → Begun g ks → Begun g (ks ++ more)
+begun_more (Condition l k) ks more h = tt
+begun_more (Argument l condition k done w) ks more h = begun_want w ks more h
+
+local_suits : (next : Node) (v : Variable) (ks more : List Symbol) → BegunWant (ALocal next) ks → ks ++ more ≡ variable_symbols v → is_local v ≡ true
+local_suits next (Var Local word es) ks more h e = refl
+local_suits next (Var Global word es) (Name x ∷ ks) more h e = absurd (let f : Name x ∷ (ks ++ more) ≡ variable_symbols (Var Global word es) = e in cc)
+local_suits next (Var Global word es) ks more h e = absurd h
+
+want_suits : (w : Want) (p : phrase.Phrase) (ks more : List Symbol) → BegunWant w ks → ks ++ more ≡ phrase_symbols p → SuitsWant w p
+want_suits (ALocal next) (phrase.Target v) ks more h e = local_suits next v ks more h e
+want_suits (ALocal next) (phrase.Whole x) ks more h e = tt
+want_suits (AnExpr level next) p ks more h e = tt
+want_suits (AVar level next) p ks more h e = tt
+
+-- a phrase that begins so
+pub begun_suits : (g : Goal) (p : phrase.Phrase) (ks more : List Symbol) → Begun g ks → ks ++ more ≡ phrase_symbols p → Suits g p
+begun_suits (Condition l k) p ks more h e = tt
+begun_suits (Argument l condition k done w) p ks more h e = want_suits w p ks more h e
+
 -- ---- a phrase begins
 
 condition_as : (o : Sentence) (k : Keyword) (ks : List Token) (l : Sentence) (p : phrase.Phrase) (front rest : List Token) → IsKind AnExpression p → ks ≡ front ++ rest → (map symbol front ≡ phrase_symbols p) × (phrase_misfits p ≡ 0) →
@@ -105,9 +202,9 @@ condition_as : (o : Sentence) (k : Keyword) (ks : List Token) (l : Sentence) (p 
 condition_as o k ks l (phrase.Target v) front rest i c s f = absurd i
 condition_as o k ks l (phrase.Whole e) front rest i c s f = record { value = e; front = front; rest = rest; cut = c; spells = s; follows = f }
 
-argument_as : (o : Sentence) (condition : Option Expr) (k : Keyword) (done : List Part) (n : Node) (w : Want) → wants n ≡ Some w → (ks : List Token) (l : Sentence) (p : phrase.Phrase) (front rest : List Token) → IsKind (want_kind w) p → ks ≡ front ++ rest → (map symbol front ≡ phrase_symbols p) × (phrase_misfits p ≡ 0) →
+argument_as : (o : Sentence) (condition : Option Expr) (k : Keyword) (done : List Part) (n : Node) (w : Want) → wants n ≡ Some w → (ks : List Token) (l : Sentence) (p : phrase.Phrase) (front rest : List Token) → IsKind (want_kind w) p → SuitsWant w p → ks ≡ front ++ rest → (map symbol front ≡ phrase_symbols p) × (phrase_misfits p ≡ 0) →
     Leaves (behind_want o condition k done w p) rest l → ArgsLeaves o condition k done n ks l
-argument_as o condition k done n (AnExpr level next) e ks l (phrase.Whole x) front rest i c s f =
+argument_as o condition k done n (AnExpr level next) e ks l (phrase.Whole x) front rest i z c s f =
     let F : List Part → Type 0 = λ ps. Follows (args_rest o condition k ps) f.rest l in
     record {
       more = Text level x ∷ f.more;
@@ -118,7 +215,7 @@ argument_as o condition k done n (AnExpr level next) e ks l (phrase.Whole x) fro
       spells = (front, f.front, refl, s, f.spells);
       follows = subst F (append_assoc done (Text level x ∷ []) f.more) f.follows;
     }
-argument_as o condition k done n (AVar level next) e ks l (phrase.Target v) front rest i c s f =
+argument_as o condition k done n (AVar level next) e ks l (phrase.Target v) front rest i z c s f =
     let F : List Part → Type 0 = λ ps. Follows (args_rest o condition k ps) f.rest l in
     record {
       more = Place level v ∷ f.more;
@@ -129,8 +226,20 @@ argument_as o condition k done n (AVar level next) e ks l (phrase.Target v) fron
       spells = (front, f.front, refl, s, f.spells);
       follows = subst F (append_assoc done (Place level v ∷ []) f.more) f.follows;
     }
-argument_as o condition k done n (AnExpr level next) e ks l (phrase.Target v) front rest i c s f = absurd i
-argument_as o condition k done n (AVar level next) e ks l (phrase.Whole x) front rest i c s f = absurd i
+argument_as o condition k done n (ALocal next) e ks l (phrase.Target v) front rest i z c s f =
+    let F : List Part → Type 0 = λ ps. Follows (args_rest o condition k ps) f.rest l in
+    record {
+      more = Control v ∷ f.more;
+      front = front ++ f.front;
+      rest = f.rest;
+      cut = c ∙ ap (λ (zs : List Token). front ++ zs) f.cut ∙ sym (append_assoc front f.front f.rest);
+      fits = (next, (e, z), f.fits);
+      spells = (front, f.front, refl, s, f.spells);
+      follows = subst F (append_assoc done (Control v ∷ []) f.more) f.follows;
+    }
+argument_as o condition k done n (AnExpr level next) e ks l (phrase.Target v) front rest i z c s f = absurd i
+argument_as o condition k done n (AVar level next) e ks l (phrase.Whole x) front rest i z c s f = absurd i
+argument_as o condition k done n (ALocal next) e ks l (phrase.Whole x) front rest i z c s f = absurd i
 
 -- what may follow the beginning of a phrase may follow where it begins
 abbrev pub EntryLeads : Spot → Option Goal → Type 0
@@ -140,19 +249,133 @@ EntryLeads p None = Unit {0}
 want_sofar : (w : Want) → sofar (wanted w) ≡ []
 want_sofar (AnExpr level next) = refl
 want_sofar (AVar level next) = refl
+want_sofar (ALocal next) = refl
 
 want_leads : (o : Sentence) (condition : Option Expr) (k : Keyword) (done : List Part) (n : Node) (q : Option Want) → wants n ≡ q → EntryLeads (Args o condition k done n) (argument o condition k done q)
-want_leads o condition k done n (Some w) e = λ rest l f. argument_as o condition k done n w e rest l f.phrase f.front f.rest f.kind_is f.cut (ap (λ (zs : List _). zs ++ map symbol f.front) (sym (want_sofar w)) ∙ f.spells, f.formed) f.follows
+want_leads o condition k done n (Some w) e = λ rest l f. argument_as o condition k done n w e rest l f.phrase f.front f.rest f.kind_is f.suits f.cut (ap (λ (zs : List _). zs ++ map symbol f.front) (sym (want_sofar w)) ∙ f.spells, f.formed) f.follows
 want_leads o condition k done n None e = tt
 
 pub entry_leads : (p : Spot) → EntryLeads p (entry p)
 entry_leads Begin = tt
+entry_leads (Labelled label) = tt
+entry_leads (FormalsOpened label) = tt
+entry_leads (FormalWanted label names) = tt
+entry_leads (FormalBehind label names) = tt
+entry_leads (FormalsEnd label names) = tt
+entry_leads (Indented l) = tt
 entry_leads (Behind r) = tt
 entry_leads (Over l) = tt
 entry_leads (Worded l k) = tt
 entry_leads (Asked l k) = λ rest o f. condition_as l k rest o f.phrase f.front f.rest f.kind_is f.cut (f.spells, f.formed) f.follows
 entry_leads (Bare l condition k) = tt
 entry_leads (Args l condition k done n) = want_leads l condition k done n (wants n) refl
+
+-- ---- in front of commands
+
+blank_end : (g c : ℕ) (ks : List Token) → SpellsEnd (c - 1) ks → SpellsEnd c (Blank ∷ ks)
+blank_end g c ks (inl h) = inl (suc h.0, ap (λ (zs : List Token). Blank ∷ zs) h.1)
+blank_end g c ks (inr h) = inr (suc h.0, h.1, (let n = h.2 in omega arith), ap (λ (zs : List Token). Blank ∷ zs) h.3)
+
+blank_clauses : (g c : ℕ) (ks : List Token) (ss : List Clause) → SpellsClauses (g - 1) (c - 1) ks ss → SpellsClauses g c (Blank ∷ ks) ss
+blank_clauses g c ks [] h = blank_end g c ks h
+blank_clauses g c ks (s ∷ ss) h = (suc h.0, h.1, h.2, (let n = h.3 in omega arith), ap (λ (zs : List Token). Blank ∷ zs) h.4, h.5, h.6)
+
+-- no dots
+dots_none : (g c : ℕ) (o : Sentence) (ks : List Token) (l : Sentence) → Follows (record { line = o; gap = g; comment = c }) ks l → DotsLeaves g c o ks l
+dots_none g c o ks l f = record { dots = 0; front = []; rest = ks; cut = refl; spells = refl; follows = f }
+
+-- behind a blank
+blank_as : (g c : ℕ) (o : Sentence) (ks : List Token) (l : Sentence) (dots : ℕ) (front rest : List Token) → ks ≡ front ++ rest → SpellsDots (g - 1) front dots → Follows (record { line = dotted_by dots o; gap = gap_behind dots (g - 1); comment = gap_behind dots (c - 1) }) rest l → DotsLeaves g c o (Blank ∷ ks) l
+blank_as g c o ks l zero front rest e s f = record {
+  dots = 0;
+  front = [];
+  rest = Blank ∷ rest;
+  cut = ap (λ (zs : List Token). Blank ∷ zs) (e ∙ ap (λ (zs : List Token). zs ++ rest) s);
+  spells = refl;
+  follows = record { clauses = f.clauses; whole = f.whole; spells = blank_clauses g c rest f.clauses f.spells };
+}
+blank_as g c o ks l (suc dots) front rest e s f = record {
+  dots = suc dots;
+  front = Blank ∷ front;
+  rest = rest;
+  cut = ap (λ (zs : List Token). Blank ∷ zs) e;
+  spells = (suc s.0, s.1, (let n = s.2 in omega arith), ap (λ (zs : List Token). Blank ∷ zs) s.3, s.4);
+  follows = f;
+}
+
+blank_dots : (g c : ℕ) (o : Sentence) (ks : List Token) (l : Sentence) → DotsLeaves (g - 1) (c - 1) o ks l → DotsLeaves g c o (Blank ∷ ks) l
+blank_dots g c o ks l f = blank_as g c o ks l f.dots f.front f.rest f.cut f.spells f.follows
+
+-- behind a dot
+dot_follows : (dots : ℕ) (o : Sentence) (ks : List Token) (l : Sentence) → Follows (record { line = o; gap = gap_behind dots 0; comment = gap_behind dots 0 }) ks l → Follows (record { line = o; gap = 0; comment = 0 }) ks l
+dot_follows zero o ks l f = f
+dot_follows (suc dots) o ks l f = f
+
+dot_dots : (o : Sentence) (ks : List Token) (l : Sentence) → DotsLeaves 0 0 (dotted o) ks l → DotsLeaves 0 0 o (Signed Dot ∷ ks) l
+dot_dots o ks l f = record {
+  dots = suc f.dots;
+  front = Signed Dot ∷ f.front;
+  rest = f.rest;
+  cut = ap (λ (zs : List Token). Signed Dot ∷ zs) f.cut;
+  spells = (0, f.front, omega arith, refl, f.spells);
+  follows = dot_follows f.dots (dotted_by f.dots (dotted o)) f.rest l f.follows;
+}
+
+-- a label with its formals, or nothing, and dots
+head_leaves : (label : Option (List ℕ)) (formals : List (List ℕ)) (front names ks : List Token) (l : Sentence) → SpellsLabel front label → SpellsFormals label names formals →
+    DotsLeaves 1 (comment_gap label) (record { label = label; formals = formals; level = 1; clauses = [] }) ks l → SpellsSentence (front ++ (names ++ ks)) l
+head_leaves label formals front names ks l s f d =
+    let o : Sentence = record { label = label; formals = formals; level = 1; clauses = [] } in
+    let P : Sentence → Type 0 = λ x. SpellsSentence (front ++ (names ++ ks)) x in
+    let whole = d.follows.whole ∙ ap (λ (x : Sentence). let y : Sentence = record { label = x.label; formals = x.formals; level = x.level; clauses = x.clauses ++ d.follows.clauses } in y) (dotted_is d.dots o) in
+    subst P (sym whole) (
+      front ++ (names ++ d.front),
+      d.rest,
+      d.dots,
+      ap (λ (zs : List Token). front ++ zs) (ap (λ (zs : List Token). names ++ zs) d.cut ∙ sym (append_assoc names d.front d.rest)) ∙ sym (append_assoc front (names ++ d.front) d.rest),
+      record { front = front; names = names; indent = d.front; cut = refl; label_is = s; formals_are = f; dots_are = d.spells },
+      omega arith,
+      d.follows.spells,
+    )
+
+-- formals behind their `(`
+opened_formals : (label : List ℕ) (ks : List Token) (l : Sentence) → OpenedLeaves label ks l → FormalsLeaves label (Signed Open ∷ ks) l
+opened_formals label ks l (inl f) =
+    let more = f.follows.more in
+    let rest = f.follows.rest in
+    record {
+      formals = f.word ∷ more;
+      front = Signed Open ∷ (name_tokens (f.word ∷ more) ++ Signed Close ∷ []);
+      rest = rest;
+      cut = ap (λ (zs : List Token). Signed Open ∷ zs) (f.cut ∙ ap (λ (zs : List Token). Word f.word ∷ zs) (f.follows.cut ∙ sym (append_assoc (comma_names more) (Signed Close ∷ []) rest)));
+      spells = inr (refl, new_formals (f.word ∷ more) (f.new, f.follows.new));
+      follows = f.follows.follows;
+    }
+opened_formals label ks l (inr f) = record {
+  formals = [];
+  front = Signed Open ∷ Signed Close ∷ [];
+  rest = f.0;
+  cut = ap (λ (zs : List Token). Signed Open ∷ zs) f.1;
+  spells = inr (refl, new_formals [] tt);
+  follows = f.2;
+}
+
+-- another name behind a comma
+comma_leaves : (label : List ℕ) (names : List (List ℕ)) (ks : List Token) (l : Sentence) → NameLeaves label names ks l → NamesLeaves label names (Signed Comma ∷ ks) l
+comma_leaves label names ks l f =
+    let D : List (List ℕ) → Type 0 = λ xs. DotsLeaves 1 1 (headed label xs) f.follows.rest l in
+    record {
+      more = f.word ∷ f.follows.more;
+      rest = f.follows.rest;
+      cut = ap (λ (zs : List Token). Signed Comma ∷ zs) (f.cut ∙ ap (λ (zs : List Token). Word f.word ∷ zs) f.follows.cut);
+      new = (f.new, f.follows.new);
+      follows = subst D (append_assoc names (f.word ∷ []) f.follows.more) f.follows.follows;
+    }
+
+close_leaves : (label : List ℕ) (names : List (List ℕ)) (ks : List Token) (l : Sentence) → DotsLeaves 1 1 (headed label names) ks l → NamesLeaves label names (Signed Close ∷ ks) l
+close_leaves label names ks l f =
+    let D : List (List ℕ) → Type 0 = λ xs. DotsLeaves 1 1 (headed label xs) ks l in
+    record { more = []; rest = ks; cut = refl; new = tt; follows = subst D (sym (append-nil names)) f }
 
 -- ---- steps of spots
 
@@ -163,11 +386,22 @@ NextLeads p k Stuck = Unit {0}
 NextLeads p k Deep = ⊥
 NextLeads p k Long = ⊥
 
-label_leads : (w : List ℕ) (b : Bool) → nat_le (length w) name_limit ≡ b → NextLeads Begin (Word w) (cond b (Go (At (Behind (record { line = labelled w; gap = 1; comment = 1 })))) Stuck)
-label_leads w true e = λ rest l f. let P : Sentence → Type 0 = λ o. SpellsSentence (Word w ∷ rest) o in
-    let short : length w ≤ 31 = grind (arith, nat_tests) in
-    subst P (sym f.whole) (Word w ∷ [], rest, refl, inl (refl, short), f.spells)
+label_leaves : (label : List ℕ) (front ks : List Token) (l : Sentence) → SpellsLabel front (Some label) → FormalsLeaves label ks l → SpellsSentence (front ++ ks) l
+label_leaves label front ks l s f =
+    let P : List Token → Type 0 = λ zs. SpellsSentence (front ++ zs) l in
+    subst P (sym f.cut) (head_leaves (Some label) f.formals front f.front f.rest l s f.spells f.follows)
+
+label_leads : (w : List ℕ) (b : Bool) → nat_le (length w) name_limit ≡ b → NextLeads Begin (Word w) (cond b (Go (At (Labelled w))) Stuck)
+label_leads w true e = λ rest l f. label_leaves w (Word w ∷ []) rest l (inl (refl, (let short : length w ≤ 31 = grind (arith, nat_tests) in short))) f
 label_leads w false e = tt
+
+first_formal : (label w : List ℕ) (b : Bool) → is_new [] w ≡ b → NextLeads (FormalsOpened label) (Word w) (cond b (Go (At (FormalBehind label (w ∷ [])))) Stuck)
+first_formal label w true e = λ rest l f. inl (record { word = w; rest = rest; cut = refl; new = e; follows = f })
+first_formal label w false e = tt
+
+formal_leads : (label : List ℕ) (names : List (List ℕ)) (w : List ℕ) (b : Bool) → is_new names w ≡ b → NextLeads (FormalWanted label names) (Word w) (cond b (Go (At (FormalBehind label (names ++ w ∷ [])))) Stuck)
+formal_leads label names w true e = λ rest l f. record { word = w; rest = rest; cut = refl; new = e; follows = f }
+formal_leads label names w false e = tt
 
 opened_leads : (o : Sentence) (condition : Option Expr) (k : Keyword) (q : Option Node) → first_node k ≡ q → NextLeads (Bare o condition k) Blank (opened o condition k q)
 opened_leads o condition k (Some n) e = λ rest l f. inr (record { node = n; rest = rest; node_is = e; cut = refl; follows = f })
@@ -175,7 +409,7 @@ opened_leads o condition k None e = tt
 
 -- a word without a condition
 bare_word : (o : Sentence) (k : Keyword) (ks : List Token) (l : Sentence) → BareLeaves o None k ks l → WordLeaves o k ks l
-bare_word o k ks l f = record { condition = None; front = []; rest = ks; cut = refl; spells = refl; follows = f }
+bare_word o k ks l f = record { condition = None; front = []; rest = ks; cut = refl; spells = refl; conditional = tt; follows = f }
 
 worded_leads : (o : Sentence) (k : Keyword) (n : Next) → NextLeads (Bare o None k) Blank n → NextLeads (Worded o k) Blank n
 worded_leads o k (Go s) h = λ rest l f. bare_word o k (Blank ∷ rest) l (h rest l f)
@@ -183,9 +417,13 @@ worded_leads o k Stuck h = tt
 worded_leads o k Deep h = h
 worded_leads o k Long h = h
 
-moved_leads : (o : Sentence) (condition : Option Expr) (k : Keyword) (done : List Part) (n : Node) (t : Token) (p : Part) (q : Option Node) → part_of t ≡ Some p → takes n p ≡ q → NextLeads (Args o condition k done n) t (moved o condition k (done ++ p ∷ []) q)
+asked_leads : (o : Sentence) (k : Keyword) (b : Bool) → is_conditional k ≡ b → NextLeads (Worded o k) (Signed Colon) (cond b (Go (At (Asked o k))) Stuck)
+asked_leads o k true e = λ rest l f. record { condition = Some f.value; front = Signed Colon ∷ f.front; rest = f.rest; cut = ap (λ (zs : List Token). Signed Colon ∷ zs) f.cut; spells = (f.front, refl, f.spells); conditional = e; follows = f.follows }
+asked_leads o k false e = tt
+
+moved_leads : (o : Sentence) (condition : Option Expr) (k : Keyword) (done : List Part) (n : Node) (t : Token) (p : Part) (q : Option Node) → part_at (labels n) t ≡ Some p → takes n p ≡ q → NextLeads (Args o condition k done n) t (moved o condition k (done ++ p ∷ []) q)
 moved_leads o condition k done n t p (Some next) e h = λ rest l f.
-    let a = alone t p e in
+    let a = alone_at (labels n) t p e in
     let F : List Part → Type 0 = λ ps. Follows (args_rest o condition k ps) f.rest l in
     record {
       more = p ∷ f.more;
@@ -198,17 +436,28 @@ moved_leads o condition k done n t p (Some next) e h = λ rest l f.
     }
 moved_leads o condition k done n t p None e h = tt
 
-taken_leads : (o : Sentence) (condition : Option Expr) (k : Keyword) (done : List Part) (n : Node) (t : Token) (q : Option Part) → part_of t ≡ q → NextLeads (Args o condition k done n) t (taken o condition k done n q)
+taken_leads : (o : Sentence) (condition : Option Expr) (k : Keyword) (done : List Part) (n : Node) (t : Token) (q : Option Part) → part_at (labels n) t ≡ q → NextLeads (Args o condition k done n) t (taken o condition k done n q)
 taken_leads o condition k done n t (Some p) e = moved_leads o condition k done n t p (takes n p) e refl
 taken_leads o condition k done n t None e = tt
 
 own_leads : (p : Spot) (k : Token) → NextLeads p k (own p k)
 own_leads Begin (Word w) = label_leads w (nat_le (length w) name_limit) refl
-own_leads Begin (Digits d) = λ rest l f. let P : Sentence → Type 0 = λ o. SpellsSentence (Digits d ∷ rest) o in subst P (sym f.whole) (Digits d ∷ [], rest, refl, inr refl, f.spells)
-own_leads (Worded o k) (Signed Colon) = λ rest l f. record { condition = Some f.value; front = Signed Colon ∷ f.front; rest = f.rest; cut = ap (λ (zs : List Token). Signed Colon ∷ zs) f.cut; spells = (f.front, refl, f.spells); follows = f.follows }
+own_leads Begin (Digits d) = λ rest l f. label_leaves d (Digits d ∷ []) rest l (inr refl) f
+own_leads Begin Blank = λ rest l f. head_leaves None [] [] [] (Blank ∷ rest) l refl (refl, refl) (blank_dots 1 0 empty_line rest l f)
+own_leads (Labelled label) (Signed Open) = λ rest l f. opened_formals label rest l f
+own_leads (Labelled label) Blank = λ rest l f. record { formals = []; front = []; rest = Blank ∷ rest; cut = refl; spells = inl (refl, refl); follows = blank_dots 1 1 (labelled label) rest l f }
+own_leads (FormalsOpened label) (Word w) = first_formal label w (is_new [] w) refl
+own_leads (FormalsOpened label) (Signed Close) = λ rest l f. inr (rest, refl, f)
+own_leads (FormalWanted label names) (Word w) = formal_leads label names w (is_new names w) refl
+own_leads (FormalBehind label names) (Signed Comma) = λ rest l f. comma_leaves label names rest l f
+own_leads (FormalBehind label names) (Signed Close) = λ rest l f. close_leaves label names rest l f
+own_leads (FormalsEnd label names) Blank = λ rest l f. blank_dots 1 1 (headed label names) rest l f
+own_leads (Indented o) Blank = λ rest l f. blank_dots 0 0 o rest l f
+own_leads (Indented o) (Signed Dot) = λ rest l f. dot_dots o rest l f
+own_leads (Worded o k) (Signed Colon) = asked_leads o k (is_conditional k) refl
 own_leads (Worded o k) Blank = worded_leads o k (arguments o None k) (opened_leads o None k (first_node k) refl)
 own_leads (Bare o condition k) Blank = opened_leads o condition k (first_node k) refl
-own_leads (Args o condition k done n) t = taken_leads o condition k done n t (part_of t) refl
+own_leads (Args o condition k done n) t = taken_leads o condition k done n t (part_at (labels n) t) refl
 own_leads p k = tt
 
 -- ---- behind a command
@@ -220,18 +469,10 @@ RestLeads r k Stuck = Unit {0}
 RestLeads r k Deep = ⊥
 RestLeads r k Long = ⊥
 
-blank_end : (g c : ℕ) (ks : List Token) → SpellsEnd (c - 1) ks → SpellsEnd c (Blank ∷ ks)
-blank_end g c ks (inl h) = inl (suc h.0, ap (λ (zs : List Token). Blank ∷ zs) h.1)
-blank_end g c ks (inr h) = inr (suc h.0, h.1, (let n = h.2 in omega arith), ap (λ (zs : List Token). Blank ∷ zs) h.3)
-
-blank_clauses : (g c : ℕ) (ks : List Token) (ss : List Clause) → SpellsClauses (g - 1) (c - 1) ks ss → SpellsClauses g c (Blank ∷ ks) ss
-blank_clauses g c ks [] h = blank_end g c ks h
-blank_clauses g c ks (s ∷ ss) h = (suc h.0, h.1, h.2, (let n = h.3 in omega arith), ap (λ (zs : List Token). Blank ∷ zs) h.4, h.5, h.6)
-
 comment_leads : (r : Rest) (text : List ℕ) (b : Bool) → (r.comment == 0) ≡ b → RestLeads r (Comment text) (cond b (Go (At (Over r.line))) Stuck)
 comment_leads r text true e = λ rest l f. record {
   clauses = [];
-  whole = f.1 ∙ ap (λ (ss : List Clause). record { label = r.line.label; clauses = ss }) (sym (append-nil r.line.clauses));
+  whole = f.1 ∙ ap (λ (ss : List Clause). record { label = r.line.label; formals = r.line.formals; level = r.line.level; clauses = ss }) (sym (append-nil r.line.clauses));
   spells = inr (0, text, (let z : r.comment ≡ 0 = grind (arith, nat_tests) in omega arith), ap (λ (zs : List Token). Comment text ∷ zs) f.0);
 }
 comment_leads r text false e = tt
@@ -271,14 +512,14 @@ begins_leads r w (Some k) z e = λ rest l f.
     let s = clause f.condition k b.parts in
     record {
       clauses = s ∷ b.follows.clauses;
-      whole = b.follows.whole ∙ ap (λ (ss : List Clause). record { label = r.line.label; clauses = ss }) (append_assoc r.line.clauses (s ∷ []) b.follows.clauses);
+      whole = b.follows.whole ∙ ap (λ (ss : List Clause). record { label = r.line.label; formals = r.line.formals; level = r.line.level; clauses = ss }) (append_assoc r.line.clauses (s ∷ []) b.follows.clauses);
       spells = (
         0,
         Word w ∷ (f.front ++ b.front),
         b.rest,
         omega arith,
         ap (λ (zs : List Token). Word w ∷ zs) (f.cut ∙ ap (λ (zs : List Token). f.front ++ zs) b.cut ∙ sym (append_assoc f.front b.front b.rest)),
-        (w, f.front, b.front, refl, e, f.spells, b.spells, b.form),
+        (w, f.front, b.front, refl, e, f.spells, b.spells, b.form, f.conditional),
         b.follows.spells,
       );
     }
@@ -319,7 +560,13 @@ args_leads o condition k done n true e = λ ks l f.
 args_leads o condition k done n false e = tt
 
 pub rested_leads : (p : Spot) → RestedLeads p (rested p)
-rested_leads Begin = λ ks l f. let P : Sentence → Type 0 = λ o. SpellsSentence ks o in subst P (sym f.whole) ([], ks, refl, refl, f.spells)
+rested_leads Begin = λ ks l f. head_leaves None [] [] [] ks l refl (refl, refl) (dots_none 1 0 empty_line ks l f)
+rested_leads (Labelled label) = λ ks l f. record { formals = []; front = []; rest = ks; cut = refl; spells = inl (refl, refl); follows = dots_none 1 1 (labelled label) ks l f }
+rested_leads (FormalsOpened label) = tt
+rested_leads (FormalWanted label names) = tt
+rested_leads (FormalBehind label names) = tt
+rested_leads (FormalsEnd label names) = λ ks l f. dots_none 1 1 (headed label names) ks l f
+rested_leads (Indented o) = λ ks l f. dots_none 0 0 o ks l f
 rested_leads (Behind r) = λ ks l f. f
 rested_leads (Over o) = tt
 rested_leads (Worded o k) = word_rested o k (may_be_bare k) refl

@@ -1,4 +1,5 @@
 pub mod Tables
+pub mod Formals
 pub mod Leaves
 pub mod Good
 pub mod Facts
@@ -10,3 +11,4 @@ pub mod Formed
 pub mod Once
 pub mod Spelled
 pub mod Said
+pub mod Examples

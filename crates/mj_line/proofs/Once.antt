@@ -1,13 +1,13 @@
 -- No two trees have the same parts.
-use Rattle.std.proofs.Common.{◌≡◌, ℕ, List, [], ◌∷◌, ◌++◌, refl, ap, sym, ◌∙◌, subst, true, false, append_assoc, append-nil, map}
+use Rattle.std.proofs.Common.{◌≡◌, ℕ, Option, Some, None, List, [], ◌∷◌, ◌++◌, refl, ap, sym, ◌∙◌, subst, true, false, append_assoc, append-nil, map}
 use Rattle.std.specs.Prelude.{◌&&◌}
-use Rattle.mj_ast.specs.declared.sign.Sign.TheVariants.{Equals, Comma, Exclamation, Open, Close}
+use Rattle.mj_ast.specs.declared.sign.Sign.TheVariants.{Equals, Comma, Colon, Exclamation, Caret, Open, Close}
 use Rattle.mj_ast.specs.declared.routine.Mark.{Mark}
 use Rattle.mj_ast.specs.declared.routine.Mark.TheVariants.{NewLine}
 use Rattle.mj_ast.specs.declared.keyword.Keyword.TheVariants as keyword
-use Rattle.mj_ast.specs.Syntax.{Expr, Exprs, No, More, Variable, Destination, Plain, Pieces, Targets, One, Several, Assignment, Killed, Gone, Spared, Merged, Output, Shown, Format, Command, Set, Write, Halt, Kill, Merge}
-use Rattle.mj_ast.specs.Commands.{Part, Put, Named, PieceCall, Text, Place, with_commas, behind_commas, more_parts, destination_parts, targets_parts, assignment_parts, mark_part, output_parts, name_parts, killed_parts, merged_parts, command_parts, keyword_for, has_items, every, is_output, is_formed}
-use Rattle.mj_line.proofs.Formed.{first_of, assignment_some, killed_some, output_some, IsSome}
+use Rattle.mj_ast.specs.Syntax.{Expr, Exprs, No, More, Variable, Destination, Plain, Pieces, Targets, One, Several, Assignment, Killed, Gone, Spared, Merged, Output, Shown, Format, Command, Target, Called, Jumped, Range, Single, Endless, UpTo, Renewed, Fresh, Kept, Set, Write, Halt, Kill, Merge, If, Else, For, Forever, Do, Goto, Quit, New}
+use Rattle.mj_ast.specs.Commands.{Part, Put, Named, Label, PieceCall, Text, Place, Control, with_commas, behind_commas, more_parts, destination_parts, targets_parts, assignment_parts, mark_part, output_parts, name_parts, killed_parts, merged_parts, condition_parts, entry_parts, routine_parts, guard_parts, actual_parts, actuals_parts, called_parts, as_called, jumped_parts, range_parts, renewed_parts, command_parts, keyword_for, has_items, every, is_output, is_formed}
+use Rattle.mj_line.proofs.Formed.{first_of, called_cut, called_some, renewed_some, assignment_some, killed_some, output_some, IsSome}
 
 -- ---- heads and tails
 
@@ -19,6 +19,9 @@ text_same e = cc
 
 place_same : {l k : ℕ} {a b : Variable} {ps qs : List Part} → Place l a ∷ ps ≡ Place k b ∷ qs → a ≡ b
 place_same e = cc
+
+control_same : {a b : Variable} {ps qs : List Part} → Control a ∷ ps ≡ Control b ∷ qs → a ≡ b
+control_same e = cc
 
 named_same : {a b : List ℕ} {ps qs : List Part} → Named a ∷ ps ≡ Named b ∷ qs → a ≡ b
 named_same e = cc
@@ -177,6 +180,149 @@ names_tell [] (v ∷ vs) r s e = absurd (let f : Put Close ∷ r ≡ Named v ∷
 names_tell (w ∷ ws) [] r s e = absurd (let f : Named w ∷ _ ≡ Put Close ∷ s = e in cc)
 names_tell (w ∷ ws) (v ∷ vs) r s e = let a = some_tell name_parts name_tells w v ws vs (Put Close ∷ r) (Put Close ∷ s) tt tt e in (a.0, tail_same a.1)
 
+condition_tells : Tells condition_parts
+condition_tells x y r s h i e = (text_same e, tail_same e)
+
+-- what may follow a name of a routine, or none
+abbrev IsBehind : List Part → Type 0
+IsBehind [] = Unit {0}
+IsBehind (Put Open ∷ ps) = Unit {0}
+IsBehind (Put Colon ∷ ps) = Unit {0}
+IsBehind (Put Comma ∷ ps) = Unit {0}
+IsBehind (Put Close ∷ ps) = Unit {0}
+IsBehind ps = ⊥
+
+caret_behind : {A : Type 0} (r ps : List Part) → IsBehind r → r ≡ Put Caret ∷ ps → A
+caret_behind r ps h e = absurd (subst IsBehind e h)
+
+name_behind : {A : Type 0} (r ps : List Part) (w : List ℕ) → IsBehind r → r ≡ Named w ∷ ps → A
+name_behind r ps w h e = absurd (subst IsBehind e h)
+
+label_same : {a b : List ℕ} {ps qs : List Part} → Label a ∷ ps ≡ Label b ∷ qs → a ≡ b
+label_same e = cc
+
+routine_tells : (v w : Option (List ℕ)) (r s : List Part) → IsBehind r → IsBehind s → routine_parts v ++ r ≡ routine_parts w ++ s → Same v w r s
+routine_tells None None r s h i e = (refl, e)
+routine_tells None (Some w) r s h i e = caret_behind r _ h e
+routine_tells (Some v) None r s h i e = caret_behind s _ i (sym e)
+routine_tells (Some v) (Some w) r s h i e = let f = tail_same e in (ap (λ (x : List ℕ). Some x) (named_same f), tail_same f)
+
+-- a label and a routine, and what follows them
+abbrev SameEntry : Option (List ℕ) → Option (List ℕ) → Option (List ℕ) → Option (List ℕ) → List Part → List Part → Type 0
+SameEntry k v l w r s = (k ≡ l) × (v ≡ w) × (r ≡ s)
+
+label_put : {A : Type 0} (l : List ℕ) (ps qs : List Part) → Label l ∷ ps ≡ Put Caret ∷ qs → A
+label_put l ps qs e = absurd (let f : Label l ∷ ps ≡ Put Caret ∷ qs = e in cc)
+
+entry_tells : (k v l w : Option (List ℕ)) (r s : List Part) → IsBehind r → IsBehind s → entry_parts k v ++ r ≡ entry_parts l w ++ s → SameEntry k v l w r s
+entry_tells None None None None r s h i e = (refl, refl, tail_same e)
+entry_tells None None None (Some w) r s h i e = name_behind r _ w h (tail_same e)
+entry_tells None None (Some l) w r s h i e = label_put l _ _ (sym e)
+entry_tells None (Some v) None None r s h i e = name_behind s _ v i (sym (tail_same e))
+entry_tells None (Some v) None (Some w) r s h i e = let f = tail_same e in (refl, ap (λ (x : List ℕ). Some x) (named_same f), tail_same f)
+entry_tells None (Some v) (Some l) w r s h i e = label_put l _ _ (sym e)
+entry_tells (Some k) v None None r s h i e = label_put k _ _ e
+entry_tells (Some k) v None (Some w) r s h i e = label_put k _ _ e
+entry_tells (Some k) v (Some l) w r s h i e = let a = routine_tells v w r s h i (tail_same e) in (ap (λ (x : List ℕ). Some x) (label_same e), a.0, a.1)
+
+actual_text : {A : Type 0} (r ps : List Part) (x : Expr) → IsTail r → r ≡ Text 1 x ∷ ps → A
+actual_text r ps x h e = absurd (subst IsTail e h)
+
+actual_tells : Tells actual_parts
+actual_tells None None r s h i e = (refl, e)
+actual_tells None (Some y) r s h i e = actual_text r _ y h e
+actual_tells (Some x) None r s h i e = actual_text s _ x i (sym e)
+actual_tells (Some x) (Some y) r s h i e = (ap (λ (z : Expr). Some z) (text_same e), tail_same e)
+
+-- what may follow actuals, or none
+abbrev IsGuard : List Part → Type 0
+IsGuard [] = Unit {0}
+IsGuard (Put Colon ∷ ps) = Unit {0}
+IsGuard (Put Comma ∷ ps) = Unit {0}
+IsGuard (Put Close ∷ ps) = Unit {0}
+IsGuard ps = ⊥
+
+open_guard : {A : Type 0} (r ps : List Part) → IsGuard r → r ≡ Put Open ∷ ps → A
+open_guard r ps h e = absurd (subst IsGuard e h)
+
+actuals_tell : (xs ys : List (Option Expr)) (r s : List Part) → IsGuard r → IsGuard s → actuals_parts xs ++ r ≡ actuals_parts ys ++ s → Same xs ys r s
+actuals_tell [] [] r s h i e = (refl, e)
+actuals_tell [] (y ∷ ys) r s h i e = open_guard r _ h e
+actuals_tell (x ∷ xs) [] r s h i e = open_guard s _ i (sym e)
+actuals_tell (x ∷ xs) (y ∷ ys) r s h i e =
+    let a = some_tell actual_parts actual_tells x y xs ys (Put Close ∷ r) (Put Close ∷ s) tt tt (sym (append_assoc (with_commas actual_parts (x ∷ xs)) (Put Close ∷ []) r) ∙ tail_same e ∙ append_assoc (with_commas actual_parts (y ∷ ys)) (Put Close ∷ []) s) in
+    (a.0, tail_same a.1)
+
+colon_tail : {A : Type 0} (r ps : List Part) → IsTail r → r ≡ Put Colon ∷ ps → A
+colon_tail r ps h e = absurd (subst IsTail e h)
+
+guard_tells : (c d : Option Expr) (r s : List Part) → IsTail r → IsTail s → guard_parts c ++ r ≡ guard_parts d ++ s → Same c d r s
+guard_tells None None r s h i e = (refl, e)
+guard_tells None (Some y) r s h i e = colon_tail r _ h e
+guard_tells (Some x) None r s h i e = colon_tail s _ i (sym e)
+guard_tells (Some x) (Some y) r s h i e = let f = tail_same e in (ap (λ (z : Expr). Some z) (text_same f), tail_same f)
+
+tail_guard : (r : List Part) → IsTail r → IsGuard r
+tail_guard [] h = tt
+tail_guard (Put Comma ∷ ps) h = tt
+tail_guard (Put Close ∷ ps) h = tt
+tail_guard (p ∷ ps) h = absurd h
+
+guards_guard : (c : Option Expr) (r : List Part) → IsTail r → IsGuard (guard_parts c ++ r)
+guards_guard None r h = tail_guard r h
+guards_guard (Some x) r h = tt
+
+guard_behind : (r : List Part) → IsGuard r → IsBehind r
+guard_behind [] h = tt
+guard_behind (Put Colon ∷ ps) h = tt
+guard_behind (Put Comma ∷ ps) h = tt
+guard_behind (Put Close ∷ ps) h = tt
+guard_behind (p ∷ ps) h = absurd h
+
+actuals_behind : (xs : List (Option Expr)) (r : List Part) → IsGuard r → IsBehind (actuals_parts xs ++ r)
+actuals_behind [] r h = guard_behind r h
+actuals_behind (x ∷ xs) r h = tt
+
+target_made : (a b : Target) → a.label ≡ b.label → a.routine ≡ b.routine → a ≡ b
+target_made a b e f = ap (λ (l : Option (List ℕ)). let t : Target = record { label = l; routine = a.routine } in t) e ∙ ap (λ (v : Option (List ℕ)). let t : Target = record { label = b.label; routine = v } in t) f
+
+called_made : (a b : Called) → a.target ≡ b.target → a.actuals ≡ b.actuals → a.condition ≡ b.condition → a ≡ b
+called_made a b e f g =
+    ap (λ (t : Target). let c : Called = record { target = t; actuals = a.actuals; condition = a.condition } in c) e
+    ∙ ap (λ (xs : List (Option Expr)). let c : Called = record { target = b.target; actuals = xs; condition = a.condition } in c) f
+    ∙ ap (λ (x : Option Expr). let c : Called = record { target = b.target; actuals = b.actuals; condition = x } in c) g
+
+called_tells : Tells called_parts
+called_tells x y r s h i e =
+    let g = guards_guard x.condition r h in
+    let k = guards_guard y.condition s i in
+    let a = entry_tells x.target.label x.target.routine y.target.label y.target.routine (actuals_parts x.actuals ++ (guard_parts x.condition ++ r)) (actuals_parts y.actuals ++ (guard_parts y.condition ++ s)) (actuals_behind x.actuals (guard_parts x.condition ++ r) g) (actuals_behind y.actuals (guard_parts y.condition ++ s) k) (sym (called_cut x r) ∙ e ∙ called_cut y s) in
+    let b = actuals_tell x.actuals y.actuals (guard_parts x.condition ++ r) (guard_parts y.condition ++ s) g k a.2 in
+    let c = guard_tells x.condition y.condition r s h i b.1 in
+    (called_made x y (target_made x.target y.target a.0 a.1) b.0 c.0, c.1)
+
+jumped_made : (a b : Jumped) → a.target ≡ b.target → a.condition ≡ b.condition → a ≡ b
+jumped_made a b e f = ap (λ (t : Target). let j : Jumped = record { target = t; condition = a.condition } in j) e ∙ ap (λ (x : Option Expr). let j : Jumped = record { target = b.target; condition = x } in j) f
+
+jumped_tells : Tells jumped_parts
+jumped_tells x y r s h i e =
+    let a = called_tells (as_called x) (as_called y) r s h i e in
+    (jumped_made x y (ap (λ (c : Called). c.target) a.0) (ap (λ (c : Called). c.condition) a.0), a.1)
+
+range_tells : Tells range_parts
+range_tells (Single a) (Single b) r s h i e = (ap Single (text_same e), tail_same e)
+range_tells (Single a) (Endless b d) r s h i e = colon_tail r _ h (tail_same e)
+range_tells (Single a) (UpTo b d g) r s h i e = colon_tail r _ h (tail_same e)
+range_tells (Endless a c) (Single b) r s h i e = colon_tail s _ i (sym (tail_same e))
+range_tells (Endless a c) (Endless b d) r s h i e = let f = tail_same (tail_same e) in (ap (λ (x : Expr). Endless x c) (text_same e) ∙ ap (λ (x : Expr). Endless b x) (text_same f), tail_same f)
+range_tells (Endless a c) (UpTo b d g) r s h i e = colon_tail r _ h (tail_same (tail_same (tail_same e)))
+range_tells (UpTo a c k) (Single b) r s h i e = colon_tail s _ i (sym (tail_same e))
+range_tells (UpTo a c k) (Endless b d) r s h i e = colon_tail s _ i (sym (tail_same (tail_same (tail_same e))))
+range_tells (UpTo a c k) (UpTo b d g) r s h i e =
+    let f = tail_same (tail_same e) in
+    let z = tail_same (tail_same f) in
+    (ap (λ (x : Expr). UpTo x c k) (text_same e) ∙ ap (λ (x : Expr). UpTo b x k) (text_same f) ∙ ap (λ (x : Expr). UpTo b d x) (text_same z), tail_same z)
+
 killed_tells : Tells killed_parts
 killed_tells (Gone v) (Gone w) r s h i e = (ap Gone (place_same e), tail_same e)
 killed_tells (Gone v) (Spared ws) r s h i e = absurd (let f : Place 0 v ∷ r ≡ Put Open ∷ _ = e in cc)
@@ -184,6 +330,14 @@ killed_tells (Spared ws) (Gone w) r s h i e = absurd (let f : Put Open ∷ _ ≡
 killed_tells (Spared ws) (Spared vs) r s h i e =
     let a = names_tell ws vs r s (sym (append_assoc (with_commas name_parts ws) (Put Close ∷ []) r) ∙ tail_same e ∙ append_assoc (with_commas name_parts vs) (Put Close ∷ []) s) in
     (ap Spared a.0, a.1)
+
+renewed_tells : Tells renewed_parts
+renewed_tells (Fresh v) (Fresh w) r s h i e = (ap Fresh (named_same e), tail_same e)
+renewed_tells (Fresh v) (Kept ws) r s h i e = absurd (let f : Named v ∷ r ≡ Put Open ∷ _ = e in cc)
+renewed_tells (Kept ws) (Fresh w) r s h i e = absurd (let f : Put Open ∷ _ ≡ Named w ∷ s = e in cc)
+renewed_tells (Kept ws) (Kept vs) r s h i e =
+    let a = names_tell ws vs r s (sym (append_assoc (with_commas name_parts ws) (Put Close ∷ []) r) ∙ tail_same e ∙ append_assoc (with_commas name_parts vs) (Put Close ∷ []) s) in
+    (ap Kept a.0, a.1)
 
 -- ---- commands
 
@@ -217,30 +371,97 @@ writes_tell [] ys h e = absurd (let f : false ≡ true = h in cc)
 writes_tell (x ∷ xs) [] h e = nil_some _ (output_some x (behind_commas output_parts xs) (first_of (is_output x) (every is_output xs) h)) (sym e)
 writes_tell (x ∷ xs) (y ∷ ys) h e = whole_tells output_parts output_tells x y xs ys e
 
+-- items that have parts each
+abbrev AllSome : {A : Type 0} → (A → List Part) → Type 0
+AllSome {A = A} parts = (x : A) (rest : List Part) → IsSome (parts x ++ rest)
+
+lists_tell : {A : Type 0} (parts : A → List Part) → Tells parts → AllSome parts → (xs ys : List A) → with_commas parts xs ≡ with_commas parts ys → xs ≡ ys
+lists_tell parts t n [] [] e = refl
+lists_tell parts t n [] (y ∷ ys) e = nil_some _ (n y (behind_commas parts ys)) e
+lists_tell parts t n (x ∷ xs) [] e = nil_some _ (n x (behind_commas parts xs)) (sym e)
+lists_tell parts t n (x ∷ xs) (y ∷ ys) e = whole_tells parts t x y xs ys e
+
+condition_some : AllSome condition_parts
+condition_some x rest = (Text 0 x, rest, refl)
+
+jumped_some : AllSome jumped_parts
+jumped_some x rest = called_some (as_called x) rest
+
+range_some : AllSome range_parts
+range_some (Single a) rest = (Text 0 a, _, refl)
+range_some (Endless a b) rest = (Text 0 a, _, refl)
+range_some (UpTo a b c) rest = (Text 0 a, _, refl)
+
+fors_tell : (v w : Variable) (xs ys : List Range) → command_parts (For v xs) ≡ command_parts (For w ys) → For v xs ≡ For w ys
+fors_tell v w xs ys e = ap (λ (z : Variable). For z xs) (control_same e) ∙ ap (λ (zs : List Range). For w zs) (lists_tell range_parts range_tells range_some xs ys (tail_same (tail_same e)))
+
+-- each against the others
+set_once : (xs : List Assignment) (d : Command) → keyword.Set ≡ keyword_for d → with_commas assignment_parts xs ≡ command_parts d → Set xs ≡ d
+set_once xs (Set ys) k e = ap Set (sets_tell xs ys e)
+set_once xs d k e = absurd (let z : keyword.Set ≡ keyword_for d = k in cc)
+
+write_once : (xs : List Output) (d : Command) → has_items xs && every is_output xs ≡ true → keyword.Write ≡ keyword_for d → with_commas output_parts xs ≡ command_parts d → Write xs ≡ d
+write_once xs (Write ys) f k e = ap Write (writes_tell xs ys f e)
+write_once xs d f k e = absurd (let z : keyword.Write ≡ keyword_for d = k in cc)
+
+halt_once : (d : Command) → keyword.Halt ≡ keyword_for d → Halt ≡ d
+halt_once Halt k = refl
+halt_once d k = absurd (let z : keyword.Halt ≡ keyword_for d = k in cc)
+
+kill_once : (xs : List Killed) (d : Command) → keyword.Kill ≡ keyword_for d → with_commas killed_parts xs ≡ command_parts d → Kill xs ≡ d
+kill_once xs (Kill ys) k e = ap Kill (kills_tell xs ys e)
+kill_once xs d k e = absurd (let z : keyword.Kill ≡ keyword_for d = k in cc)
+
+merge_once : (xs : List Merged) (d : Command) → keyword.Merge ≡ keyword_for d → with_commas merged_parts xs ≡ command_parts d → Merge xs ≡ d
+merge_once xs (Merge ys) k e = ap Merge (merges_tell xs ys e)
+merge_once xs d k e = absurd (let z : keyword.Merge ≡ keyword_for d = k in cc)
+
+if_once : (xs : List Expr) (d : Command) → keyword.If ≡ keyword_for d → with_commas condition_parts xs ≡ command_parts d → If xs ≡ d
+if_once xs (If ys) k e = ap If (lists_tell condition_parts condition_tells condition_some xs ys e)
+if_once xs d k e = absurd (let z : keyword.If ≡ keyword_for d = k in cc)
+
+else_once : (d : Command) → keyword.Else ≡ keyword_for d → Else ≡ d
+else_once Else k = refl
+else_once d k = absurd (let z : keyword.Else ≡ keyword_for d = k in cc)
+
+for_once : (v : Variable) (xs : List Range) (d : Command) → keyword.For ≡ keyword_for d → command_parts (For v xs) ≡ command_parts d → For v xs ≡ d
+for_once v xs (For w ys) k e = fors_tell v w xs ys e
+for_once v xs Forever k e = absurd (let z : Control v ∷ Put Equals ∷ with_commas range_parts xs ≡ [] = e in cc)
+for_once v xs d k e = absurd (let z : keyword.For ≡ keyword_for d = k in cc)
+
+forever_once : (d : Command) → keyword.For ≡ keyword_for d → [] ≡ command_parts d → Forever ≡ d
+forever_once Forever k e = refl
+forever_once (For w ys) k e = absurd (let z : [] ≡ Control w ∷ Put Equals ∷ with_commas range_parts ys = e in cc)
+forever_once d k e = absurd (let z : keyword.For ≡ keyword_for d = k in cc)
+
+do_once : (xs : List Called) (d : Command) → keyword.Do ≡ keyword_for d → with_commas called_parts xs ≡ command_parts d → Do xs ≡ d
+do_once xs (Do ys) k e = ap Do (lists_tell called_parts called_tells called_some xs ys e)
+do_once xs d k e = absurd (let z : keyword.Do ≡ keyword_for d = k in cc)
+
+goto_once : (xs : List Jumped) (d : Command) → keyword.Goto ≡ keyword_for d → with_commas jumped_parts xs ≡ command_parts d → Goto xs ≡ d
+goto_once xs (Goto ys) k e = ap Goto (lists_tell jumped_parts jumped_tells jumped_some xs ys e)
+goto_once xs d k e = absurd (let z : keyword.Goto ≡ keyword_for d = k in cc)
+
+quit_once : (d : Command) → keyword.Quit ≡ keyword_for d → Quit ≡ d
+quit_once Quit k = refl
+quit_once d k = absurd (let z : keyword.Quit ≡ keyword_for d = k in cc)
+
+new_once : (xs : List Renewed) (d : Command) → keyword.New ≡ keyword_for d → with_commas renewed_parts xs ≡ command_parts d → New xs ≡ d
+new_once xs (New ys) k e = ap New (lists_tell renewed_parts renewed_tells renewed_some xs ys e)
+new_once xs d k e = absurd (let z : keyword.New ≡ keyword_for d = k in cc)
+
 -- ONCE
 pub command_once : (c d : Command) → is_formed c ≡ true → keyword_for c ≡ keyword_for d → command_parts c ≡ command_parts d → c ≡ d
-command_once (Set xs) (Set ys) f k e = ap Set (sets_tell xs ys e)
-command_once (Write xs) (Write ys) f k e = ap Write (writes_tell xs ys f e)
-command_once Halt Halt f k e = refl
-command_once (Kill xs) (Kill ys) f k e = ap Kill (kills_tell xs ys e)
-command_once (Merge xs) (Merge ys) f k e = ap Merge (merges_tell xs ys e)
-command_once (Set xs) (Write ys) f k e = absurd (let z : keyword.Set ≡ keyword.Write = k in cc)
-command_once (Set xs) Halt f k e = absurd (let z : keyword.Set ≡ keyword.Halt = k in cc)
-command_once (Set xs) (Kill ys) f k e = absurd (let z : keyword.Set ≡ keyword.Kill = k in cc)
-command_once (Set xs) (Merge ys) f k e = absurd (let z : keyword.Set ≡ keyword.Merge = k in cc)
-command_once (Write xs) (Set ys) f k e = absurd (let z : keyword.Write ≡ keyword.Set = k in cc)
-command_once (Write xs) Halt f k e = absurd (let z : keyword.Write ≡ keyword.Halt = k in cc)
-command_once (Write xs) (Kill ys) f k e = absurd (let z : keyword.Write ≡ keyword.Kill = k in cc)
-command_once (Write xs) (Merge ys) f k e = absurd (let z : keyword.Write ≡ keyword.Merge = k in cc)
-command_once Halt (Set ys) f k e = absurd (let z : keyword.Halt ≡ keyword.Set = k in cc)
-command_once Halt (Write ys) f k e = absurd (let z : keyword.Halt ≡ keyword.Write = k in cc)
-command_once Halt (Kill ys) f k e = absurd (let z : keyword.Halt ≡ keyword.Kill = k in cc)
-command_once Halt (Merge ys) f k e = absurd (let z : keyword.Halt ≡ keyword.Merge = k in cc)
-command_once (Kill xs) (Set ys) f k e = absurd (let z : keyword.Kill ≡ keyword.Set = k in cc)
-command_once (Kill xs) (Write ys) f k e = absurd (let z : keyword.Kill ≡ keyword.Write = k in cc)
-command_once (Kill xs) Halt f k e = absurd (let z : keyword.Kill ≡ keyword.Halt = k in cc)
-command_once (Kill xs) (Merge ys) f k e = absurd (let z : keyword.Kill ≡ keyword.Merge = k in cc)
-command_once (Merge xs) (Set ys) f k e = absurd (let z : keyword.Merge ≡ keyword.Set = k in cc)
-command_once (Merge xs) (Write ys) f k e = absurd (let z : keyword.Merge ≡ keyword.Write = k in cc)
-command_once (Merge xs) Halt f k e = absurd (let z : keyword.Merge ≡ keyword.Halt = k in cc)
-command_once (Merge xs) (Kill ys) f k e = absurd (let z : keyword.Merge ≡ keyword.Kill = k in cc)
+command_once (Set xs) d f k e = set_once xs d k e
+command_once (Write xs) d f k e = write_once xs d f k e
+command_once Halt d f k e = halt_once d k
+command_once (Kill xs) d f k e = kill_once xs d k e
+command_once (Merge xs) d f k e = merge_once xs d k e
+command_once (If xs) d f k e = if_once xs d k e
+command_once Else d f k e = else_once d k
+command_once (For v xs) d f k e = for_once v xs d k e
+command_once Forever d f k e = forever_once d k e
+command_once (Do xs) d f k e = do_once xs d k e
+command_once (Goto xs) d f k e = goto_once xs d k e
+command_once Quit d f k e = quit_once d k
+command_once (New xs) d f k e = new_once xs d k e

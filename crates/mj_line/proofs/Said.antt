@@ -7,20 +7,20 @@ use Rattle.mj_ast.specs.Syntax.{Line}
 use Rattle.mj_ast.specs.Tokens.{Token, Word, Called, Special, Digits, Quoted, Signed, Blank, Comment, Unclosed, Stray}
 use Rattle.mj_ast.specs.Expressions.{symbol, width_limit}
 use Rattle.mj_ast.specs.Commands.{greatest, step_nesting, step_width}
-use Rattle.mj_ast.specs.Lines.{SpellsLine, BeginsLine, BeginsLineWithin, Filler, no_filler, digits_filler, word_filler, IsOverlong, HasOverlong}
+use Rattle.mj_ast.specs.Lines.{SpellsLine, IsLineWithin, plain_line, BeginsLine, BeginsLineWithin, Filler, no_filler, digits_filler, word_filler, IsOverlong, HasOverlong}
 use Rattle.mj_expr.specs.Machine.{Limits}
 use Rattle.mj_expr.specs.Machine as phrase
 use Rattle.mj_expr.specs.Reads.{limits}
 use Rattle.mj_expr.proofs.Facts.{IsMore, deeper, wider}
 use Rattle.mj_line.specs.Sentences.{Clause, Sentence, SpellsSentence, sentence_of, IsWithin}
 use Rattle.mj_line.specs.Said.{IsRead, IsStuckWith, IsDeepWith}
-use Rattle.mj_line.specs.Machine.{Rest, Spot, Begin, Behind, Over, Worded, Asked, Bare, Args, Goal, State, At, In, Next, Go, Stuck, Deep, Long, behind, rested, step, Outcome, Accept, StuckAt, DeepAt, TooLong, refused, ended, ended_at, ended_spot, ended_behind, run, turn}
+use Rattle.mj_line.specs.Machine.{Rest, Spot, Begin, Labelled, FormalsOpened, FormalWanted, FormalBehind, FormalsEnd, Indented, Behind, Over, Worded, Asked, Bare, Args, Goal, State, At, In, Next, Go, Stuck, Deep, Long, behind, rested, step, Outcome, Accept, StuckAt, DeepAt, TooLong, refused, ended, ended_at, ended_spot, ended_behind, run, turn}
 use Rattle.mj_line.proofs.Leaves.{StateLeaves, Leads, Leaves, rested_leads, RestedLeads}
 use Rattle.mj_line.proofs.Good.{StateGood, SpotGood, state_goes, rested_good, RestGood}
 use Rattle.mj_line.proofs.Facts.{Facts, step_known, whole_leads, accept_nil, HasRoom}
 use Rattle.mj_line.proofs.Ends.{Along, along_leads, along_runs, Whole, Halts, Deepens, Lengthens, EndsAs, run_ends}
 use Rattle.mj_line.proofs.Complete.{complete_line}
-use Rattle.mj_line.proofs.Spelled.{spelled_sentence, sentence_back, line_within, sentence_within, line_once}
+use Rattle.mj_line.proofs.Spelled.{spelled_sentence, sentence_back, line_within, sentence_within, line_once, plain_within, written_within}
 use Rattle.mj_line.proofs.Commas.{deep_stays, over_stuck, StateReached, GoReached, state_reached, line_comma, LineComma, line_easy, IsSimple, line_level}
 
 -- ---- fronts
@@ -73,7 +73,7 @@ Accepts m s l = StateLeaves s [] l × IsWithin m.depth m.width l
 rest_accepts : (m : Limits) (p : Spot) (q : Option Rest) (l : Sentence) → RestedLeads p q → RestGood m q → ended_at q ≡ Accept l → Leaves p [] l × IsWithin m.depth m.width l
 rest_accepts m p (Some r) l h g e =
     let P : Sentence → Type 0 = λ o. Leaves p [] o × IsWithin m.depth m.width o in
-    subst P (same_line r.line l e) (h [] r.line (record { clauses = []; whole = ap (λ (ss : List Clause). record { label = r.line.label; clauses = ss }) (sym (append-nil r.line.clauses)); spells = inl (0, refl) }), g)
+    subst P (same_line r.line l e) (h [] r.line (record { clauses = []; whole = ap (λ (ss : List Clause). record { label = r.line.label; formals = r.line.formals; level = r.line.level; clauses = ss }) (sym (append-nil r.line.clauses)); spells = inl (0, refl) }), g)
 rest_accepts m p None l h g e = absurd (stuck_accept 0 l e)
 
 spot_accepts : (m : Limits) (p : Spot) (l : Sentence) → SpotGood m p → ended_spot p ≡ Accept l → Leaves p [] l × IsWithin m.depth m.width l
@@ -82,6 +82,12 @@ spot_accepts m (Over o) l g e =
     let h = subst P (same_line o l e) (refl, g) in
     ((refl, h.0), h.1)
 spot_accepts m Begin l g e = rest_accepts m Begin (rested Begin) l (rested_leads Begin) (rested_good m Begin g) e
+spot_accepts m (Labelled label) l g e = rest_accepts m (Labelled label) (rested (Labelled label)) l (rested_leads (Labelled label)) (rested_good m (Labelled label) g) e
+spot_accepts m (FormalsOpened label) l g e = absurd (stuck_accept 0 l e)
+spot_accepts m (FormalWanted label names) l g e = absurd (stuck_accept 0 l e)
+spot_accepts m (FormalBehind label names) l g e = absurd (stuck_accept 0 l e)
+spot_accepts m (FormalsEnd label names) l g e = rest_accepts m (FormalsEnd label names) (rested (FormalsEnd label names)) l (rested_leads (FormalsEnd label names)) (rested_good m (FormalsEnd label names) g) e
+spot_accepts m (Indented o) l g e = rest_accepts m (Indented o) (rested (Indented o)) l (rested_leads (Indented o)) (rested_good m (Indented o) g) e
 spot_accepts m (Behind r) l g e = rest_accepts m (Behind r) (rested (Behind r)) l (rested_leads (Behind r)) (rested_good m (Behind r) g) e
 spot_accepts m (Worded o k) l g e = rest_accepts m (Worded o k) (rested (Worded o k)) l (rested_leads (Worded o k)) (rested_good m (Worded o k) g) e
 spot_accepts m (Asked o k) l g e = absurd (stuck_accept 0 l e)
@@ -110,10 +116,14 @@ bigger m l = record { depth = max m.depth (greatest step_nesting l.steps); width
 more_bigger : (m : Limits) (l : Line) → IsMore m (bigger m l)
 more_bigger m l = record { depth = omega arith; width = omega arith }
 
-accepted : (m : Limits) (ks : List Token) (l : Line) → SpellsLine ks l → run (bigger m l) ks (At Begin) ≡ Accept (sentence_of l)
+-- a line that is spelled is read
+read_line : (n : Limits) (ks : List Token) (l : Line) (s : SpellsLine ks l) → IsLineWithin n.depth n.width l → run n ks (At Begin) ≡ Accept (sentence_of s.0)
+read_line n ks l s w = complete_line n ks (sentence_of s.0) (spelled_sentence ks s.0 s.1) (sentence_within n.depth n.width s.0 (written_within n.depth n.width s.0 l s.2 w))
+
+accepted : (m : Limits) (ks : List Token) (l : Line) (s : SpellsLine ks l) → run (bigger m l) ks (At Begin) ≡ Accept (sentence_of s.0)
 accepted m ks l s =
     let n = bigger m l in
-    complete_line n ks (sentence_of l) (spelled_sentence ks l s) (sentence_within n.depth n.width l (record { nests = omega arith; lists = omega arith }))
+    read_line n ks l s (record { nests = omega arith; lists = omega arith })
 
 -- what was read begins a line
 began : (m : Limits) (front : List Token) (s : State) → HasRoom m → Leads (At Begin) front s → StateGood m s → BeginsLineWithin m.depth m.width front
@@ -121,7 +131,7 @@ began m front s d h g =
     let r = state_goes m s d.depth g in
     let b = sentence_back (front ++ r.rest) r.line (h r.rest r.line r.leaves) in
     let P : Sentence → Type 0 = λ x. IsWithin m.depth m.width x in
-    record { rest = r.rest; line = b.line; spells = b.spells; within = line_within m.depth m.width b.line (subst P (sym b.made) r.within) }
+    record { rest = r.rest; line = plain_line b.line; spells = (b.line, b.spells, refl); within = plain_within m.depth m.width b.line (line_within m.depth m.width b.line (subst P (sym b.made) r.within)) }
 
 -- along the front from the beginning
 came : (m : Limits) (front : List Token) (s : State) → Along m (At Begin) front s → Leads (At Begin) front s × StateGood m s
@@ -135,7 +145,7 @@ front_at front k rest = append_assoc front (k ∷ []) rest
 none_begins : (m : Limits) (front : List Token) (k : Token) (s : State) → Along m (At Begin) front s → ((l : Limits) → IsMore m l → step l s k ≡ Stuck) → BeginsLine (front ++ k ∷ []) → ⊥
 none_begins m front k s a h b =
     let l = bigger m b.line in
-    refused_accept (k ∷ b.rest) (sentence_of b.line)
+    refused_accept (k ∷ b.rest) (sentence_of b.spells.0)
     (sym (ap (λ (zs : List Token). run l zs (At Begin)) (front_at front k b.rest) ∙ along_runs m l front (k ∷ b.rest) (At Begin) s a (more_bigger m b.line) ∙ ap (turn l b.rest k) (h l (more_bigger m b.line)))
     ∙ accepted m ((front ++ k ∷ []) ++ b.rest) b.line b.spells)
 
@@ -227,7 +237,7 @@ second m l f s t x (Go u) d a g e h j b c =
     q.1)
 second m l f s t x Stuck d a g e h j b c =
     let z = bigger l b.line in
-    refused_accept (Signed Comma ∷ b.rest) (sentence_of b.line)
+    refused_accept (Signed Comma ∷ b.rest) (sentence_of b.spells.0)
     (sym (ap (λ (zs : List Token). run z zs (At Begin)) (two_at f x (Signed Comma) b.rest)
     ∙ along_runs l z f (x ∷ Signed Comma ∷ b.rest) (At Begin) s a (more_bigger l b.line)
     ∙ ap (turn z (Signed Comma ∷ b.rest) x) (g.1 z (more_bigger l b.line))
@@ -363,26 +373,28 @@ short_stuck m ks n d w e = no_overlong m ks (roomy m d w) w (clean_stuck m ks n 
 same_lines : (m : Limits) (ks : List Token) (l o : Line) → SpellsLine ks l → SpellsLine ks o → o ≡ l
 same_lines m ks l o s t =
     let n : Limits = record { depth = max (greatest step_nesting l.steps) (greatest step_nesting o.steps); width = max (greatest step_width l.steps) (greatest step_width o.steps) } in
-    line_once ks o l t (same_line (sentence_of o) (sentence_of l)
-    (sym (complete_line n ks (sentence_of o) (spelled_sentence ks o t) (sentence_within n.depth n.width o (record { nests = omega arith; lists = omega arith })))
-    ∙ complete_line n ks (sentence_of l) (spelled_sentence ks l s) (sentence_within n.depth n.width l (record { nests = omega arith; lists = omega arith }))))
+    sym t.2
+    ∙ ap (λ (x : Line). plain_line x) (line_once ks t.0 s.0 t.1 (same_line (sentence_of t.0) (sentence_of s.0)
+    (sym (read_line n ks o t (record { nests = omega arith; lists = omega arith }))
+    ∙ read_line n ks l s (record { nests = omega arith; lists = omega arith }))))
+    ∙ s.2
 
 limits_room : HasRoom (limits 64)
 limits_room = record { depth = omega arith; width = omega arith }
 
 -- the line of these commands
-pub said_read : (ks : List Token) (x : Sentence) (l : Line) → sentence_of l ≡ x → run (limits 64) ks (At Begin) ≡ Accept x → IsRead ks l
-said_read ks x l i e =
+pub said_read : (ks : List Token) (x : Sentence) (w l : Line) → sentence_of w ≡ x → plain_line w ≡ l → run (limits 64) ks (At Begin) ≡ Accept x → IsRead ks l
+said_read ks x v l i z e =
     let m = limits 64 in
     let h = ends_as m ks (Accept x) limits_room e in
     let r = came m ks h.end h.along in
     let a = state_accepts m h.end x limits_room.depth r.1 h.gives in
     let P : List Token → Type 0 = λ zs. SpellsSentence zs x in
     let b = sentence_back ks x (subst P (append-nil ks) (r.0 [] x a.0)) in
-    let Q : Line → Type 0 = λ o. SpellsLine ks o in
+    let Q : Line → Type 0 = λ o. IsLineWithin 64 31 o in
     let W : Sentence → Type 0 = λ o. IsWithin 64 31 o in
-    let s = subst Q (line_once ks b.line l b.spells (b.made ∙ sym i)) b.spells in
-    record { spells = s; within = line_within 64 31 l (subst W (sym i) a.1); only = λ o t. same_lines m ks l o s t; short = short_accept m ks x limits_room.depth refl e }
+    let s : SpellsLine ks l = (b.line, b.spells, ap (λ (y : Line). plain_line y) (line_once ks b.line v b.spells (b.made ∙ sym i)) ∙ z) in
+    record { spells = s; within = subst Q z (plain_within 64 31 v (line_within 64 31 v (subst W (sym i) a.1))); only = λ o t. same_lines m ks l o s t; short = short_accept m ks x limits_room.depth refl e }
 
 -- ---- STUCK
 
@@ -435,6 +447,12 @@ rest_stuck None n e = cc
 spot_stuck : (p : Spot) (n : ℕ) → ended_spot p ≡ StuckAt n → n ≡ 0
 spot_stuck (Over l) n e = absurd (stuck_accept n l (sym e))
 spot_stuck Begin n e = rest_stuck (rested Begin) n e
+spot_stuck (Labelled label) n e = rest_stuck (rested (Labelled label)) n e
+spot_stuck (FormalsOpened label) n e = rest_stuck None n e
+spot_stuck (FormalWanted label names) n e = rest_stuck None n e
+spot_stuck (FormalBehind label names) n e = rest_stuck None n e
+spot_stuck (FormalsEnd label names) n e = rest_stuck (rested (FormalsEnd label names)) n e
+spot_stuck (Indented l) n e = rest_stuck (rested (Indented l)) n e
 spot_stuck (Behind r) n e = rest_stuck (Some r) n e
 spot_stuck (Worded o k) n e = rest_stuck (rested (Worded o k)) n e
 spot_stuck (Asked o k) n e = rest_stuck None n e
@@ -455,7 +473,7 @@ ended_stuck (In g s) n e = behind_stuck g (phrase.finish s []) n e
 whole_none : (m : Limits) (ks : List Token) (n : ℕ) → Whole m (At Begin) ks (StuckAt n) → (l : Line) → SpellsLine ks l → ⊥
 whole_none m ks n h l s =
     let z = bigger m l in
-    stuck_accept n (sentence_of l) (sym (ap (λ (zs : List Token). run z zs (At Begin)) (sym (append-nil ks)) ∙ along_runs m z ks [] (At Begin) h.end h.along (more_bigger m l) ∙ h.gives) ∙ accepted m ks l s)
+    stuck_accept n (sentence_of s.0) (sym (ap (λ (zs : List Token). run z zs (At Begin)) (sym (append-nil ks)) ∙ along_runs m z ks [] (At Begin) h.end h.along (more_bigger m l) ∙ h.gives) ∙ accepted m ks l s)
 
 whole_stuck : (ks : List Token) (n : ℕ) → Whole (limits 64) (At Begin) ks (StuckAt n) → (HasOverlong ks → ⊥) → IsStuckWith ks n
 whole_stuck ks n h short =
@@ -501,11 +519,11 @@ said_deep ks n e =
     let d = began (deeper (symbol h.token) m) (h.front ++ h.token ∷ []) o.0 (record { depth = omega arith; width = omega arith }) (λ rest l z. let Q : List Token → Type 0 = λ zs. SpellsSentence zs l in subst Q (sym (front_at h.front h.token rest)) (r.0 (h.token ∷ rest) l (o.1 rest l z))) o.2 in
     let beyond : (width : ℕ) → BeginsLineWithin 64 width (h.front ++ h.token ∷ []) → ⊥ = λ width b.
     let l : Limits = record { depth = 64; width = max 31 width } in
-    deep_accept (length (h.token ∷ b.rest)) (sentence_of b.line)
+    deep_accept (length (h.token ∷ b.rest)) (sentence_of b.spells.0)
     (sym (ap (λ (zs : List Token). run l zs (At Begin)) (front_at h.front h.token b.rest)
     ∙ along_runs m l h.front (h.token ∷ b.rest) (At Begin) h.end h.along (record { depth = omega arith; width = omega arith })
     ∙ ap (turn l b.rest h.token) (deep_stays m l h.end h.token refl h.steps))
-    ∙ complete_line l ((h.front ++ h.token ∷ []) ++ b.rest) (sentence_of b.line) (spelled_sentence ((h.front ++ h.token ∷ []) ++ b.rest) b.line b.spells) (sentence_within l.depth l.width b.line (record { nests = b.within.nests; lists = let z = b.within.lists in omega arith }))) in
+    ∙ read_line l ((h.front ++ h.token ∷ []) ++ b.rest) b.line b.spells (record { nests = b.within.nests; lists = let z = b.within.lists in omega arith })) in
     record {
       place = k;
       left_is = let z = h.left in omega arith;
@@ -561,12 +579,12 @@ long_as m ks i w (inr h) =
         begins = subst B h.long.comma (as_begins (m.depth) (m.width + 1) _ d);
         too_long = λ depth b.
             let l : Limits = record { depth = max m.depth depth; width = m.width } in
-            long_accept (sentence_of b.line)
+            long_accept (sentence_of b.spells.0)
             (sym (ap (λ (zs : List Token). run l zs (At Begin)) (append_assoc h.front (f ++ Signed Comma ∷ []) b.rest ∙ ap (λ (zs : List Token). h.front ++ zs) (append_assoc f (Signed Comma ∷ []) b.rest))
             ∙ along_runs m l h.front (f ++ Signed Comma ∷ b.rest) (At Begin) h.end h.along (record { depth = omega arith; width = omega arith })
             ∙ ap (λ (k : Token). run l (f ++ k ∷ b.rest) h.end) (sym h.long.comma)
             ∙ h.long.local l b.rest (omega arith) refl)
-            ∙ complete_line l ((h.front ++ (f ++ Signed Comma ∷ [])) ++ b.rest) (sentence_of b.line) (spelled_sentence ((h.front ++ (f ++ Signed Comma ∷ [])) ++ b.rest) b.line b.spells) (sentence_within l.depth l.width b.line (record { nests = let z = b.within.nests in omega arith; lists = let z = b.within.lists in omega arith })));
+            ∙ read_line l ((h.front ++ (f ++ Signed Comma ∷ [])) ++ b.rest) b.line b.spells (record { nests = let z = b.within.nests in omega arith; lists = let z = b.within.lists in omega arith }));
       });
     }
 

@@ -1,26 +1,28 @@
 -- Lines as trees and by the parts of their commands are spelled alike.
-use Rattle.std.proofs.Common.{◌≡◌, ℕ, max, List, [], ◌∷◌, refl, ap, sym, ◌∙◌, subst, true, arith, Option, Some, map}
+use Rattle.std.proofs.Common.{◌≡◌, ℕ, max, List, [], ◌∷◌, refl, ap, sym, ◌∙◌, subst, true, arith, Option, Some, None, ◌++◌, map}
+use Rattle.mj_ast.specs.declared.sign.Sign.TheVariants.{Open, Close}
 use Rattle.mj_ast.specs.declared.keyword.Keyword.{Keyword}
-use Rattle.mj_ast.specs.Syntax.{Expr, Command, Step, Line}
+use Rattle.mj_ast.specs.Syntax.{Expr, Called, Command, Do, Step, Line}
 use Rattle.mj_ast.specs.Tokens.{Token}
-use Rattle.mj_ast.specs.Commands.{Part, SpellsStep, SpellsArguments, keyword_for, command_parts, is_formed, gap_of, comment_gap_of, greatest, step_nesting, step_width}
-use Rattle.mj_ast.specs.Lines.{SpellsSteps, SpellsLine, IsLineWithin}
+use Rattle.mj_ast.specs.Commands.{Part, Put, with_commas, behind_commas, target_parts, actuals_parts, guard_parts, called_parts, plain_actuals, plain_called, plain, plain_step, part_nesting, part_width, SpellsStep, SpellsArguments, IsConditional, keyword_for, command_parts, is_formed, gap_of, comment_gap_of, greatest, step_nesting, step_width}
+use Rattle.mj_ast.specs.Lines.{SpellsSteps, SpellsWritten, plain_line, IsLineWithin}
 use Rattle.mj_line.specs.Sentences.{Clause, Sentence, SpellsClause, SpellsClauses, SpellsSentence, clause_of, sentence_of, clause_nesting, clause_width, IsWithin}
 use Rattle.mj_line.proofs.Trees.{made}
 use Rattle.mj_line.proofs.Formed.{formed_form}
 use Rattle.mj_line.proofs.Once.{command_once}
+use Rattle.mj_line.proofs.Good.{greatest_append}
 
 -- ---- from trees
 
 spelled_clause : (ks : List Token) (s : Step) → SpellsStep ks s → SpellsClause ks (clause_of s)
-spelled_clause ks s h = (h.0, h.1, h.2, h.3, h.4, h.5, h.6, formed_form s.command h.7)
+spelled_clause ks s h = (h.0, h.1, h.2, h.3, h.4, h.5, h.6, formed_form s.command h.7, h.8)
 
 spelled_clauses : (g c : ℕ) (ks : List Token) (ss : List Step) → SpellsSteps g c ks ss → SpellsClauses g c ks (map clause_of ss)
 spelled_clauses g c ks [] h = h
 spelled_clauses g c ks (s ∷ ss) h = (h.0, h.1, h.2, h.3, h.4, spelled_clause h.1 s h.5, spelled_clauses (gap_of (command_parts s.command)) (comment_gap_of (command_parts s.command)) h.2 ss h.6)
 
-pub spelled_sentence : (ks : List Token) (l : Line) → SpellsLine ks l → SpellsSentence ks (sentence_of l)
-spelled_sentence ks l h = (h.0, h.1, h.2, h.3, spelled_clauses 1 _ h.1 l.steps h.4)
+pub spelled_sentence : (ks : List Token) (l : Line) → SpellsWritten ks l → SpellsSentence ks (sentence_of l)
+spelled_sentence ks l h = (h.0, h.1, h.2, h.3, h.4, h.5, spelled_clauses _ _ h.1 l.steps h.6)
 
 -- ---- to trees
 
@@ -39,10 +41,11 @@ clause_back : (ks : List Token) (c : Clause) → SpellsClause ks c → Back ks c
 clause_back ks c h =
     let m = made c.keyword c.parts h.7 in
     let A : List Part → Type 0 = λ ps. SpellsArguments h.2 ps in
+    let C : Keyword → Type 0 = λ k. IsConditional k c.condition in
     record {
       step = record { condition = c.condition; command = m.command };
       made = clause_made c m.command m.named m.parts;
-      spells = (h.0, h.1, h.2, h.3, h.4 ∙ ap (λ (k : Keyword). Some k) (sym m.named), h.5, subst A (sym m.parts) h.6, m.formed);
+      spells = (h.0, h.1, h.2, h.3, h.4 ∙ ap (λ (k : Keyword). Some k) (sym m.named), h.5, subst A (sym m.parts) h.6, m.formed, subst C (sym m.named) h.8);
     }
 
 clauses_back : (g c : ℕ) (ks : List Token) (cs : List Clause) → SpellsClauses g c ks cs → (ss : List Step) × (map clause_of ss ≡ cs) × SpellsSteps g c ks ss
@@ -60,15 +63,15 @@ clauses_back g c ks (x ∷ xs) h =
 pub record LineBack (ks : List Token) (l : Sentence) : Type 0 where
   pub line : Line
   pub made : sentence_of line ≡ l
-  pub spells : SpellsLine ks line
+  pub spells : SpellsWritten ks line
 
 pub sentence_back : (ks : List Token) (l : Sentence) → SpellsSentence ks l → LineBack ks l
 sentence_back ks l h =
-    let r = clauses_back 1 _ h.1 l.clauses h.4 in
+    let r = clauses_back _ _ h.1 l.clauses h.6 in
     record {
-      line = record { label = l.label; steps = r.0 };
-      made = ap (λ (cs : List Clause). let x : Sentence = record { label = l.label; clauses = cs } in x) r.1;
-      spells = (h.0, h.1, h.2, h.3, r.2);
+      line = record { label = l.label; formals = l.formals; level = l.level; steps = r.0 };
+      made = ap (λ (cs : List Clause). let x : Sentence = record { label = l.label; formals = l.formals; level = l.level; clauses = cs } in x) r.1;
+      spells = (h.0, h.1, h.2, h.3, h.4, h.5, r.2);
     }
 
 -- ---- measures
@@ -110,7 +113,71 @@ steps_once g c ks (s ∷ ss) (t ∷ ts) h e =
     ap (λ (x : Step). x ∷ ss) (step_once s t h.5.7 (head_same e))
     ∙ ap (λ (xs : List Step). t ∷ xs) (steps_once (gap_of (command_parts s.command)) (comment_gap_of (command_parts s.command)) h.2 ss ts h.6 (tail_same e))
 
-pub line_once : (ks : List Token) (o l : Line) → SpellsLine ks o → sentence_of o ≡ sentence_of l → o ≡ l
+pub line_once : (ks : List Token) (o l : Line) → SpellsWritten ks o → sentence_of o ≡ sentence_of l → o ≡ l
 line_once ks o l h e =
-    ap (λ (x : Option (List ℕ)). let z : Line = record { label = x; steps = o.steps } in z) (ap (λ (s : Sentence). s.label) e)
-    ∙ ap (λ (xs : List Step). let z : Line = record { label = l.label; steps = xs } in z) (steps_once 1 _ h.1 o.steps l.steps h.4 (ap (λ (s : Sentence). s.clauses) e))
+    ap (λ (x : Option (List ℕ)). let z : Line = record { label = x; formals = o.formals; level = o.level; steps = o.steps } in z) (ap (λ (s : Sentence). s.label) e)
+    ∙ ap (λ (x : List (List ℕ)). let z : Line = record { label = l.label; formals = x; level = o.level; steps = o.steps } in z) (ap (λ (s : Sentence). s.formals) e)
+    ∙ ap (λ (x : ℕ). let z : Line = record { label = l.label; formals = l.formals; level = x; steps = o.steps } in z) (ap (λ (s : Sentence). s.level) e)
+    ∙ ap (λ (xs : List Step). let z : Line = record { label = l.label; formals = l.formals; level = l.level; steps = xs } in z) (steps_once _ _ h.1 o.steps l.steps h.6 (ap (λ (s : Sentence). s.clauses) e))
+
+-- ---- lines as they are written, and as they are meant
+
+-- a measure by which parentheses are nothing
+record IsFlat (f : Part → ℕ) : Type 0 where
+  opens : f (Put Open) ≡ 0
+  closes : f (Put Close) ≡ 0
+
+actuals_flat : (f : Part → ℕ) (list : List (Option Expr)) → IsFlat f → greatest f (actuals_parts (plain_actuals list)) ≡ greatest f (actuals_parts list)
+actuals_flat f [] h = refl
+actuals_flat f (None ∷ []) h = let a = h.opens in let b = h.closes in omega arith
+actuals_flat f (None ∷ a ∷ list) h = refl
+actuals_flat f (Some e ∷ list) h = refl
+
+called_flat : (f : Part → ℕ) (c : Called) → IsFlat f → greatest f (called_parts (plain_called c)) ≡ greatest f (called_parts c)
+called_flat f c h =
+    let a = greatest_append f (target_parts c.target) (actuals_parts (plain_actuals c.actuals) ++ guard_parts c.condition) in
+    let b = greatest_append f (actuals_parts (plain_actuals c.actuals)) (guard_parts c.condition) in
+    let d = greatest_append f (target_parts c.target) (actuals_parts c.actuals ++ guard_parts c.condition) in
+    let e = greatest_append f (actuals_parts c.actuals) (guard_parts c.condition) in
+    let g = actuals_flat f c.actuals h in
+    omega arith
+
+calls_flat : (f : Part → ℕ) (xs : List Called) → IsFlat f → greatest f (behind_commas called_parts (map plain_called xs)) ≡ greatest f (behind_commas called_parts xs)
+calls_flat f [] h = refl
+calls_flat f (x ∷ xs) h =
+    let a = greatest_append f (called_parts (plain_called x)) (behind_commas called_parts (map plain_called xs)) in
+    let b = greatest_append f (called_parts x) (behind_commas called_parts xs) in
+    let c = called_flat f x h in
+    let d = calls_flat f xs h in
+    omega arith
+
+dos_flat : (f : Part → ℕ) (xs : List Called) → IsFlat f → greatest f (with_commas called_parts (map plain_called xs)) ≡ greatest f (with_commas called_parts xs)
+dos_flat f [] h = refl
+dos_flat f (x ∷ xs) h =
+    let a = greatest_append f (called_parts (plain_called x)) (behind_commas called_parts (map plain_called xs)) in
+    let b = greatest_append f (called_parts x) (behind_commas called_parts xs) in
+    let c = called_flat f x h in
+    let d = calls_flat f xs h in
+    omega arith
+
+command_flat : (f : Part → ℕ) (c : Command) → IsFlat f → greatest f (command_parts (plain c)) ≡ greatest f (command_parts c)
+command_flat f (Do xs) h = dos_flat f xs h
+command_flat f c h = refl
+
+steps_nest : (ss : List Step) → greatest step_nesting (map plain_step ss) ≡ greatest step_nesting ss
+steps_nest [] = refl
+steps_nest (s ∷ ss) = let a = command_flat part_nesting s.command (record { opens = refl; closes = refl }) in let b = steps_nest ss in omega arith
+
+steps_list : (ss : List Step) → greatest step_width (map plain_step ss) ≡ greatest step_width ss
+steps_list [] = refl
+steps_list (s ∷ ss) = let a = command_flat part_width s.command (record { opens = refl; closes = refl }) in let b = steps_list ss in omega arith
+
+-- they have the same measures
+pub plain_within : (d w : ℕ) (l : Line) → IsLineWithin d w l → IsLineWithin d w (plain_line l)
+plain_within d w l h = record { nests = let a = steps_nest l.steps in let n = h.nests in omega arith; lists = let a = steps_list l.steps in let n = h.lists in omega arith }
+
+pub written_within : (d w : ℕ) (l o : Line) → plain_line l ≡ o → IsLineWithin d w o → IsLineWithin d w l
+written_within d w l o e h =
+    let P : Line → Type 0 = λ x. IsLineWithin d w x in
+    let g = subst P (sym e) h in
+    record { nests = let a = steps_nest l.steps in let n = g.nests in omega arith; lists = let a = steps_list l.steps in let n = g.lists in omega arith }

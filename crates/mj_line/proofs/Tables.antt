@@ -1,10 +1,10 @@
 -- What is known of the table of arguments, each fact by a look at every row.
-use Rattle.std.proofs.Common.{◌≡◌, ℕ, zero, suc, ◌≤◌, nat_le, List, [], ◌∷◌, length, refl, subst, Bool, true, false, arith, Option, Some, None, ◌⊎◌, inl, inr, lit≤}
+use Rattle.std.proofs.Common.{◌≡◌, ℕ, zero, suc, ◌≤◌, nat_le, List, [], ◌∷◌, length, refl, sym, subst, Bool, true, false, arith, Option, Some, None, ◌⊎◌, inl, inr, lit≤}
 use Rattle.std.specs.Prelude.{cond}
 use Rattle.std.proofs.lemmas.Bool.Decides.{nat_tests}
 use Rattle.std.specs.Fmt.{digits}
 use Rattle.mj_ast.specs.declared.sign.Sign.{Sign}
-use Rattle.mj_ast.specs.declared.sign.Sign.TheVariants.{Equals, Comma, Exclamation, Open, Close}
+use Rattle.mj_ast.specs.declared.sign.Sign.TheVariants.{Equals, Comma, Colon, Exclamation, Open, Close}
 use Rattle.mj_ast.specs.declared.expr.Scope.TheVariants.{Local}
 use Rattle.mj_ast.specs.declared.function.Function.TheVariants.{Piece}
 use Rattle.mj_ast.specs.declared.function.Callee.{Callee}
@@ -14,9 +14,9 @@ use Rattle.mj_ast.specs.declared.keyword.Keyword.TheVariants as keyword
 use Rattle.mj_ast.specs.Syntax.{Expr, Chain, Done, Literal, Variable, Var, No}
 use Rattle.mj_ast.specs.Tokens.{Token, Word, Called, Digits, Signed}
 use Rattle.mj_ast.specs.Expressions.{symbol, function_symbol, callee_of, Overlong, Mark, Spells, expressions}
-use Rattle.mj_ast.specs.Commands.{Part, Put, Named, PieceCall, Text, Place, SpellsPart, SpellsParts, greatest, part_nesting, part_width}
+use Rattle.mj_ast.specs.Commands.{Part, Put, Named, Label, PieceCall, Text, Place, Control, SpellsPart, SpellsParts, greatest, part_nesting, part_width}
 use Rattle.mj_expr.specs.Machine as phrase
-use Rattle.mj_line.specs.Forms.{Node, SetTarget, PieceOpens, PieceVariable, PieceComma, PieceText, PieceBehind, SetBehind, SetValue, SetEnd, OutputWanted, OutputEnd, MarksEnd, KillWanted, NameWanted, NameBehind, KillEnd, MergeInto, MergeBehind, MergeFrom, MergeEnd, Want, AnExpr, AVar, next_of, piece_part, part_of, takes, wants, ends, first_node, may_be_bare, Goes, Fits}
+use Rattle.mj_line.specs.Forms.{Node, SetTarget, PieceOpens, PieceVariable, PieceComma, PieceText, PieceBehind, SetBehind, SetValue, SetEnd, OutputWanted, OutputEnd, MarksEnd, KillWanted, NameWanted, NameBehind, KillEnd, MergeInto, MergeBehind, MergeFrom, MergeEnd, IfWanted, IfEnd, ForWanted, ForBehind, RangeWanted, RangeEnd, StepWanted, StepEnd, LimitWanted, LimitEnd, NewWanted, KeptWanted, KeptBehind, NewEnd, EntryWanted, LabelEnd, RoutineWanted, RoutineEnd, ActualWanted, ActualEnd, ActualsEnd, GuardWanted, GuardEnd, Want, AnExpr, AVar, ALocal, next_of, piece_part, part_of, part_at, labels, takes, wants, ends, first_node, may_be_bare, Goes, Fits}
 use Rattle.mj_line.specs.Machine.{wanted, level_of}
 
 pub none_some : {A : Type 0} (x : A) → None ≡ Some x → ⊥
@@ -40,6 +40,13 @@ all_small OutputWanted = omega arith
 all_small (KillWanted first) = omega arith
 all_small MergeInto = omega arith
 all_small MergeFrom = omega arith
+all_small (IfWanted first) = omega arith
+all_small ForWanted = omega arith
+all_small RangeWanted = omega arith
+all_small StepWanted = omega arith
+all_small LimitWanted = omega arith
+all_small ActualWanted = omega arith
+all_small (GuardWanted call) = omega arith
 all_small n = tt
 
 -- a command opens one level at most
@@ -51,6 +58,7 @@ small n w e = subst IsSmall e (all_small n)
 abbrev pub IsTokenPart : Part → Type 0
 IsTokenPart (Text level e) = ⊥
 IsTokenPart (Place level v) = ⊥
+IsTokenPart (Control v) = ⊥
 IsTokenPart p = Unit {0}
 
 -- what a token that is a part alone spells
@@ -76,27 +84,50 @@ alone (Word w) p e = word_alone w p (nat_le (length w) 31) refl e
 alone (Called w) p e = called_alone w p (nat_le (length w) 31) refl e
 alone t p e = absurd (none_some p e)
 
+label_alone : (w : List ℕ) (p : Part) (b : Bool) → nat_le (length w) 31 ≡ b → cond b (Some (Label w)) None ≡ Some p → Alone (Word w) p
+label_alone w p true h e = let P : Part → Type 0 = λ q. Alone (Word w) q in subst P (some_same (Label w) p e) (record { spells = inl (refl, (let s : length w ≤ 31 = grind (arith, nat_tests) in s)); token = tt })
+label_alone w p false h e = absurd (none_some p e)
+
+digits_alone : (d : List ℕ) (p : Part) (b : Bool) → nat_le (length d) 32767 ≡ b → cond b (Some (Label d)) None ≡ Some p → Alone (Digits d) p
+digits_alone d p true h e = let P : Part → Type 0 = λ q. Alone (Digits d) q in subst P (some_same (Label d) p e) (record { spells = inr (refl, (let s : length d ≤ 32767 = grind (arith, nat_tests) in s)); token = tt })
+digits_alone d p false h e = absurd (none_some p e)
+
+-- the same where a label may be wanted
+pub alone_at : (b : Bool) (t : Token) (p : Part) → part_at b t ≡ Some p → Alone t p
+alone_at true (Word w) p e = label_alone w p (nat_le (length w) 31) refl e
+alone_at true (Digits d) p e = digits_alone d p (nat_le (length d) 32767) refl e
+alone_at true (Signed z) p e = alone (Signed z) p e
+alone_at true (Called w) p e = alone (Called w) p e
+alone_at true t p e = absurd (none_some p e)
+alone_at false t p e = alone t p e
+
 -- a part of one token leads where it is taken
 pub token_goes : (n next : Node) (p : Part) → IsTokenPart p → takes n p ≡ Some next → Goes n p next
 token_goes n next (Put s) h e = e
 token_goes n next (Named w) h e = e
+token_goes n next (Label w) h e = e
 token_goes n next PieceCall h e = e
 token_goes n next (Text level x) h e = absurd h
 token_goes n next (Place level v) h e = absurd h
+token_goes n next (Control v) h e = absurd h
 
 pub token_nesting : (p : Part) → IsTokenPart p → part_nesting p ≡ 0
 token_nesting (Put s) h = refl
 token_nesting (Named w) h = refl
+token_nesting (Label w) h = refl
 token_nesting PieceCall h = refl
 token_nesting (Text level x) h = absurd h
 token_nesting (Place level v) h = absurd h
+token_nesting (Control v) h = absurd h
 
 pub token_width : (p : Part) → IsTokenPart p → part_width p ≡ 0
 token_width (Put s) h = refl
 token_width (Named w) h = refl
+token_width (Label w) h = refl
 token_width PieceCall h = refl
 token_width (Text level x) h = absurd h
 token_width (Place level v) h = absurd h
+token_width (Control v) h = absurd h
 
 -- ---- commands without arguments
 
@@ -113,6 +144,12 @@ all_bare keyword.Write = λ e. e
 all_bare keyword.Halt = refl
 all_bare keyword.Kill = λ e. refl
 all_bare keyword.Merge = λ e. e
+all_bare keyword.If = λ e. refl
+all_bare keyword.For = λ e. refl
+all_bare keyword.Do = λ e. refl
+all_bare keyword.Goto = λ e. e
+all_bare keyword.New = λ e. refl
+all_bare k = refl
 
 -- where the arguments may end before the first, there may be none
 pub bare_first : (k : Keyword) (n : Node) → first_node k ≡ Some n → ends n ≡ true → may_be_bare k ≡ true
@@ -122,12 +159,54 @@ bare_first k n e = let P : Option Node → Type 0 = λ q. IsBareThere k q in sub
 pub bare_none : (k : Keyword) → first_node k ≡ None → may_be_bare k ≡ true
 bare_none k e = let P : Option Node → Type 0 = λ q. IsBareThere k q in subst P e (all_bare k)
 
+-- a label is taken only where one is wanted, and a name only where none is
+pub label_wanted : (n next : Node) (l : List ℕ) → takes n (Label l) ≡ Some next → labels n ≡ true
+label_wanted (EntryWanted call first) next l e = refl
+label_wanted (SetTarget false) next l e = absurd (none_some next e)
+label_wanted (SetTarget true) next l e = absurd (none_some next e)
+label_wanted (PieceBehind listed zero) next l e = absurd (none_some next e)
+label_wanted (PieceBehind listed (suc more)) next l e = absurd (none_some next e)
+label_wanted (SetBehind false) next l e = absurd (none_some next e)
+label_wanted (SetBehind true) next l e = absurd (none_some next e)
+label_wanted n next l e = absurd (none_some next e)
+
+pub name_wanted : (n next : Node) (w : List ℕ) → takes n (Named w) ≡ Some next → labels n ≡ false
+name_wanted (EntryWanted call first) next w e = absurd (none_some next e)
+name_wanted n next w e = refl
+
+-- nor where a phrase is
+abbrev IsUnlabelled : Node → Option Want → Type 0
+IsUnlabelled n None = Unit {0}
+IsUnlabelled n (Some w) = labels n ≡ false
+
+all_unlabelled : (n : Node) → IsUnlabelled n (wants n)
+all_unlabelled (SetTarget listed) = refl
+all_unlabelled (PieceVariable listed) = refl
+all_unlabelled (PieceText listed more) = refl
+all_unlabelled SetValue = refl
+all_unlabelled OutputWanted = refl
+all_unlabelled (KillWanted first) = refl
+all_unlabelled MergeInto = refl
+all_unlabelled MergeFrom = refl
+all_unlabelled (IfWanted first) = refl
+all_unlabelled ForWanted = refl
+all_unlabelled RangeWanted = refl
+all_unlabelled StepWanted = refl
+all_unlabelled LimitWanted = refl
+all_unlabelled ActualWanted = refl
+all_unlabelled (GuardWanted call) = refl
+all_unlabelled n = tt
+
+pub unlabelled : (n : Node) (w : Want) → wants n ≡ Some w → labels n ≡ false
+unlabelled n w e = let P : Option Want → Type 0 = λ q. IsUnlabelled n q in subst P e (all_unlabelled n)
+
 -- ---- what follows a phrase
 
 -- behind an expression
 abbrev pub FollowsText : Part → Type 0
 FollowsText (Put Comma) = Unit {0}
 FollowsText (Put Close) = Unit {0}
+FollowsText (Put Colon) = Unit {0}
 FollowsText p = ⊥
 
 -- behind a variable
@@ -140,43 +219,90 @@ FollowsPlace p = ⊥
 abbrev pub FollowsWant : Want → Part → Type 0
 FollowsWant (AnExpr level next) p = FollowsText p
 FollowsWant (AVar level next) p = FollowsPlace p
+FollowsWant (ALocal next) p = FollowsPlace p
 
 piece_follows : (listed : Bool) (more : ℕ) (p : Part) (m : Node) → Goes (PieceBehind listed more) p m → FollowsText p
 piece_follows listed more (Put Comma) m e = tt
 piece_follows listed more (Put Close) m e = tt
+piece_follows listed more (Control v) m e = absurd (none_some _ e.0)
 piece_follows listed zero p m e = absurd (none_some _ e)
 piece_follows listed (suc more) p m e = absurd (none_some _ e)
 
 set_follows : (p : Part) (m : Node) → Goes SetEnd p m → FollowsText p
 set_follows (Put Comma) m e = tt
+set_follows (Control v) m e = absurd (none_some _ e.0)
 set_follows p m e = absurd (none_some _ e)
 
 output_follows : (p : Part) (m : Node) → Goes OutputEnd p m → FollowsText p
 output_follows (Put Comma) m e = tt
+output_follows (Control v) m e = absurd (none_some _ e.0)
 output_follows p m e = absurd (none_some _ e)
 
 target_follows : (listed : Bool) (p : Part) (m : Node) → Goes (SetBehind listed) p m → FollowsPlace p
 target_follows listed (Put Equals) m e = tt
 target_follows listed (Put Comma) m e = tt
 target_follows listed (Put Close) m e = tt
+target_follows listed (Control v) m e = absurd (none_some _ e.0)
 target_follows false p m e = absurd (none_some _ e)
 target_follows true p m e = absurd (none_some _ e)
 
 comma_follows : (listed : Bool) (p : Part) (m : Node) → Goes (PieceComma listed) p m → FollowsPlace p
 comma_follows listed (Put Comma) m e = tt
+comma_follows listed (Control v) m e = absurd (none_some _ e.0)
 comma_follows listed p m e = absurd (none_some _ e)
 
 kill_follows : (p : Part) (m : Node) → Goes KillEnd p m → FollowsPlace p
 kill_follows (Put Comma) m e = tt
+kill_follows (Control v) m e = absurd (none_some _ e.0)
 kill_follows p m e = absurd (none_some _ e)
 
 into_follows : (p : Part) (m : Node) → Goes MergeBehind p m → FollowsPlace p
 into_follows (Put Equals) m e = tt
+into_follows (Control v) m e = absurd (none_some _ e.0)
 into_follows p m e = absurd (none_some _ e)
 
 from_follows : (p : Part) (m : Node) → Goes MergeEnd p m → FollowsPlace p
 from_follows (Put Comma) m e = tt
+from_follows (Control v) m e = absurd (none_some _ e.0)
 from_follows p m e = absurd (none_some _ e)
+
+if_follows : (p : Part) (m : Node) → Goes IfEnd p m → FollowsText p
+if_follows (Put Comma) m e = tt
+if_follows (Control v) m e = absurd (none_some _ e.0)
+if_follows p m e = absurd (none_some _ e)
+
+for_follows : (p : Part) (m : Node) → Goes ForBehind p m → FollowsPlace p
+for_follows (Put Equals) m e = tt
+for_follows (Control v) m e = absurd (none_some _ e.0)
+for_follows p m e = absurd (none_some _ e)
+
+range_follows : (p : Part) (m : Node) → Goes RangeEnd p m → FollowsText p
+range_follows (Put Comma) m e = tt
+range_follows (Put Colon) m e = tt
+range_follows (Control v) m e = absurd (none_some _ e.0)
+range_follows p m e = absurd (none_some _ e)
+
+step_follows : (p : Part) (m : Node) → Goes StepEnd p m → FollowsText p
+step_follows (Put Comma) m e = tt
+step_follows (Put Colon) m e = tt
+step_follows (Control v) m e = absurd (none_some _ e.0)
+step_follows p m e = absurd (none_some _ e)
+
+limit_follows : (p : Part) (m : Node) → Goes LimitEnd p m → FollowsText p
+limit_follows (Put Comma) m e = tt
+limit_follows (Control v) m e = absurd (none_some _ e.0)
+limit_follows p m e = absurd (none_some _ e)
+
+actual_follows : (p : Part) (m : Node) → Goes ActualEnd p m → FollowsText p
+actual_follows (Put Comma) m e = tt
+actual_follows (Put Close) m e = tt
+actual_follows (Control v) m e = absurd (none_some _ e.0)
+actual_follows p m e = absurd (none_some _ e)
+
+guard_follows : (call : Bool) (p : Part) (m : Node) → Goes (GuardEnd call) p m → FollowsText p
+guard_follows call (Put Comma) m e = tt
+guard_follows call (Control v) m e = absurd (none_some _ e.0)
+guard_follows call p m e = absurd (none_some _ e)
 
 abbrev IsFollowed : Option Want → Type 0
 IsFollowed None = Unit {0}
@@ -191,6 +317,13 @@ all_followed OutputWanted = λ p m e. output_follows p m e
 all_followed (KillWanted first) = λ p m e. kill_follows p m e
 all_followed MergeInto = λ p m e. into_follows p m e
 all_followed MergeFrom = λ p m e. from_follows p m e
+all_followed (IfWanted first) = λ p m e. if_follows p m e
+all_followed ForWanted = λ p m e. for_follows p m e
+all_followed RangeWanted = λ p m e. range_follows p m e
+all_followed StepWanted = λ p m e. step_follows p m e
+all_followed LimitWanted = λ p m e. limit_follows p m e
+all_followed ActualWanted = λ p m e. actual_follows p m e
+all_followed (GuardWanted call) = λ p m e. guard_follows call p m e
 all_followed n = tt
 
 -- behind a phrase stands a sign that no such phrase goes on with
@@ -211,6 +344,13 @@ all_shut OutputWanted = refl
 all_shut (KillWanted first) = refl
 all_shut MergeInto = refl
 all_shut MergeFrom = refl
+all_shut (IfWanted first) = refl
+all_shut ForWanted = refl
+all_shut RangeWanted = refl
+all_shut StepWanted = refl
+all_shut LimitWanted = refl
+all_shut ActualWanted = refl
+all_shut (GuardWanted call) = refl
 all_shut n = tt
 
 pub shut : (n : Node) (w : Want) → wants n ≡ Some w → wants (next_of w) ≡ None
@@ -227,6 +367,12 @@ all_ends keyword.Write = λ e. e
 all_ends keyword.Halt = tt
 all_ends keyword.Kill = λ e. refl
 all_ends keyword.Merge = λ e. e
+all_ends keyword.If = λ e. refl
+all_ends keyword.For = λ e. refl
+all_ends keyword.Do = λ e. refl
+all_ends keyword.Goto = λ e. e
+all_ends keyword.New = λ e. refl
+all_ends k = tt
 
 pub first_ends : (k : Keyword) (n : Node) → first_node k ≡ Some n → may_be_bare k ≡ true → ends n ≡ true
 first_ends k n e = let P : Option Node → Type 0 = λ q. EndsThere k q in subst P e (all_ends k)
@@ -271,6 +417,12 @@ place_apart m n l next (Called w) h i = inl (called_sought (callee_of w) (nat_le
 place_apart m n l next (Signed s) h i = i s
 place_apart m n l next t h i = inr refl
 
+local_apart : (m : phrase.Limits) (n next : Node) (t : Token) → ((w : List ℕ) → takes n (Named w) ≡ None) → ((s : Sign) → SignApart m n s) → IsApart m n t (Some (ALocal next))
+local_apart m n next (Word w) h i = inr (word_apart n w (nat_le (length w) 31) (h w))
+local_apart m n next (Called w) h i = inl (called_sought (callee_of w) (nat_le (length w) 31))
+local_apart m n next (Signed s) h i = i s
+local_apart m n next t h i = inr refl
+
 -- an expression is wanted
 abbrev WantApart : phrase.Limits → Node → Sign → Type 0
 WantApart m n s = (phrase.want m (phrase.Front phrase.Alone) (Mark s) ≡ phrase.Stuck) ⊎ (takes n (Put s) ≡ None)
@@ -294,6 +446,11 @@ output_sign : (m : phrase.Limits) (s : Sign) → WantApart m OutputWanted s
 output_sign m Exclamation = inl refl
 output_sign m s = inr refl
 
+actual_sign : (m : phrase.Limits) (s : Sign) → WantApart m ActualWanted s
+actual_sign m Comma = inl refl
+actual_sign m Close = inl refl
+actual_sign m s = inr refl
+
 all_apart : (m : phrase.Limits) (n : Node) (t : Token) → IsApart m n t (wants n)
 all_apart m (SetTarget listed) t = place_apart m (SetTarget listed) 0 (SetBehind listed) t (λ w. refl) (target_sign m listed)
 all_apart m (PieceVariable listed) t = place_apart m (PieceVariable listed) 1 (PieceComma listed) t (λ w. refl) (λ s. inr refl)
@@ -303,10 +460,22 @@ all_apart m OutputWanted t = text_apart m OutputWanted 0 OutputEnd t (λ w. refl
 all_apart m (KillWanted first) t = place_apart m (KillWanted first) 0 KillEnd t (λ w. refl) (kill_sign m first)
 all_apart m MergeInto t = place_apart m MergeInto 0 MergeBehind t (λ w. refl) (λ s. inr refl)
 all_apart m MergeFrom t = place_apart m MergeFrom 0 MergeEnd t (λ w. refl) (λ s. inr refl)
+all_apart m (IfWanted first) t = text_apart m (IfWanted first) 0 IfEnd t (λ w. refl) refl (λ s. inr refl)
+all_apart m ForWanted t = local_apart m ForWanted ForBehind t (λ w. refl) (λ s. inr refl)
+all_apart m RangeWanted t = text_apart m RangeWanted 0 RangeEnd t (λ w. refl) refl (λ s. inr refl)
+all_apart m StepWanted t = text_apart m StepWanted 0 StepEnd t (λ w. refl) refl (λ s. inr refl)
+all_apart m LimitWanted t = text_apart m LimitWanted 0 LimitEnd t (λ w. refl) refl (λ s. inr refl)
+all_apart m ActualWanted t = text_apart m ActualWanted 1 ActualEnd t (λ w. refl) refl (actual_sign m)
+all_apart m (GuardWanted call) t = text_apart m (GuardWanted call) 0 (GuardEnd call) t (λ w. refl) refl (λ s. inr refl)
 all_apart m n t = tt
 
 pub apart : (m : phrase.Limits) (n : Node) (t : Token) (w : Want) → wants n ≡ Some w → (phrase.step m (wanted w) (symbol t) ≡ phrase.Stuck) ⊎ (part_taken n (part_of t) ≡ None)
 apart m n t w e = let P : Option Want → Type 0 = λ q. IsApart m n t q in subst P e (all_apart m n t)
+
+pub apart_at : (m : phrase.Limits) (n : Node) (t : Token) (w : Want) → wants n ≡ Some w → (phrase.step m (wanted w) (symbol t) ≡ phrase.Stuck) ⊎ (part_taken n (part_at (labels n) t) ≡ None)
+apart_at m n t w e =
+    let P : Bool → Type 0 = λ b. (phrase.step m (wanted w) (symbol t) ≡ phrase.Stuck) ⊎ (part_taken n (part_at b t) ≡ None) in
+    subst P (sym (unlabelled n w e)) (apart m n t w e)
 
 -- ---- a way to the end of the arguments
 
@@ -345,6 +514,16 @@ place_before n next l i e f = record {
   parts = Place l an_a ∷ f.parts;
   tokens = Word (65 ∷ []) ∷ f.tokens;
   fits = (next, e, f.fits);
+  spells = (Word (65 ∷ []) ∷ [], f.tokens, refl, (refl, refl), f.spells);
+  nests = let j = f.nests in omega arith;
+  lists = let j = f.lists in omega arith;
+}
+
+local_before : (n next : Node) → wants n ≡ Some (ALocal next) → Finish next → Finish n
+local_before n next e f = record {
+  parts = Control an_a ∷ f.parts;
+  tokens = Word (65 ∷ []) ∷ f.tokens;
+  fits = (next, (e, refl), f.fits);
   spells = (Word (65 ∷ []) ∷ [], f.tokens, refl, (refl, refl), f.spells);
   nests = let j = f.nests in omega arith;
   lists = let j = f.lists in omega arith;
@@ -399,6 +578,9 @@ from_finish = place_before MergeFrom MergeEnd 0 (omega arith) refl (at_end Merge
 into_finish : Finish MergeBehind
 into_finish = sign_before MergeBehind MergeFrom Equals refl from_finish
 
+range_finish : Finish RangeWanted
+range_finish = text_before RangeWanted RangeEnd 0 (omega arith) refl (at_end RangeEnd refl)
+
 pub finish : (n : Node) → Finish n
 finish (SetTarget listed) = place_before (SetTarget listed) (SetBehind listed) 0 (omega arith) refl (behind_finish listed)
 finish (PieceOpens listed) = sign_before (PieceOpens listed) (PieceVariable listed) Open refl (variable_finish listed)
@@ -420,3 +602,26 @@ finish MergeInto = place_before MergeInto MergeBehind 0 (omega arith) refl into_
 finish MergeBehind = into_finish
 finish MergeFrom = from_finish
 finish MergeEnd = at_end MergeEnd refl
+finish (IfWanted first) = text_before (IfWanted first) IfEnd 0 (omega arith) refl (at_end IfEnd refl)
+finish IfEnd = at_end IfEnd refl
+finish ForWanted = local_before ForWanted ForBehind refl (sign_before ForBehind RangeWanted Equals refl range_finish)
+finish ForBehind = sign_before ForBehind RangeWanted Equals refl range_finish
+finish RangeWanted = range_finish
+finish RangeEnd = at_end RangeEnd refl
+finish StepWanted = text_before StepWanted StepEnd 0 (omega arith) refl (at_end StepEnd refl)
+finish StepEnd = at_end StepEnd refl
+finish LimitWanted = text_before LimitWanted LimitEnd 0 (omega arith) refl (at_end LimitEnd refl)
+finish LimitEnd = at_end LimitEnd refl
+finish (NewWanted first) = token_before (NewWanted first) NewEnd (Word (65 ∷ [])) (Named (65 ∷ [])) refl (record { spells = (refl, lit≤ tt); token = tt }) (at_end NewEnd refl)
+finish KeptWanted = token_before KeptWanted KeptBehind (Word (65 ∷ [])) (Named (65 ∷ [])) refl (record { spells = (refl, lit≤ tt); token = tt }) (sign_before KeptBehind NewEnd Close refl (at_end NewEnd refl))
+finish KeptBehind = sign_before KeptBehind NewEnd Close refl (at_end NewEnd refl)
+finish NewEnd = at_end NewEnd refl
+finish (EntryWanted call first) = token_before (EntryWanted call first) (LabelEnd call) (Word (65 ∷ [])) (Label (65 ∷ [])) refl (record { spells = inl (refl, lit≤ tt); token = tt }) (at_end (LabelEnd call) refl)
+finish (LabelEnd call) = at_end (LabelEnd call) refl
+finish (RoutineWanted call) = token_before (RoutineWanted call) (RoutineEnd call) (Word (65 ∷ [])) (Named (65 ∷ [])) refl (record { spells = (refl, lit≤ tt); token = tt }) (at_end (RoutineEnd call) refl)
+finish (RoutineEnd call) = at_end (RoutineEnd call) refl
+finish ActualWanted = sign_before ActualWanted ActualsEnd Close refl (at_end ActualsEnd refl)
+finish ActualEnd = sign_before ActualEnd ActualsEnd Close refl (at_end ActualsEnd refl)
+finish ActualsEnd = at_end ActualsEnd refl
+finish (GuardWanted call) = text_before (GuardWanted call) (GuardEnd call) 0 (omega arith) refl (at_end (GuardEnd call) refl)
+finish (GuardEnd call) = at_end (GuardEnd call) refl

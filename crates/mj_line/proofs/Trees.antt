@@ -1,17 +1,18 @@
 -- Commands and the parts that they are spelled by: the table has exactly the parts of trees, and each tree its own.
-use Rattle.std.proofs.Common.{◌≡◌, ℕ, zero, suc, ◌≤◌, nat_le, List, [], ◌∷◌, ◌++◌, refl, ap, sym, ◌∙◌, subst, Bool, true, false, append_assoc, arith, Some, map}
+use Rattle.std.proofs.Common.{◌≡◌, ℕ, zero, suc, ◌≤◌, nat_le, List, [], ◌∷◌, ◌++◌, refl, ap, sym, ◌∙◌, subst, Bool, true, false, append_assoc, arith, Option, Some, None, map, ◌⊎◌, inl, inr}
 use Rattle.std.specs.Prelude.{◌&&◌}
 use Rattle.std.proofs.lemmas.Bool.Decides.{nat_tests}
-use Rattle.mj_ast.specs.declared.sign.Sign.TheVariants.{Equals, Comma, Exclamation, Open, Close}
+use Rattle.mj_ast.specs.declared.sign.Sign.TheVariants.{Equals, Comma, Colon, Exclamation, Caret, Open, Close}
 use Rattle.mj_ast.specs.declared.routine.Mark.{Mark}
 use Rattle.mj_ast.specs.declared.routine.Mark.TheVariants.{NewLine}
 use Rattle.mj_ast.specs.declared.keyword.Keyword.{Keyword}
 use Rattle.mj_ast.specs.declared.keyword.Keyword.TheVariants as keyword
-use Rattle.mj_ast.specs.Syntax.{Expr, Exprs, No, More, Variable, Destination, Plain, Pieces, Targets, One, Several, Assignment, Killed, Gone, Spared, Merged, Output, Shown, Format, Command, Set, Write, Halt, Kill, Merge}
+use Rattle.mj_ast.specs.Syntax.{Expr, Exprs, No, More, Variable, Destination, Plain, Pieces, Targets, One, Several, Assignment, Killed, Gone, Spared, Merged, Output, Shown, Format, Called, Jumped, Range, Single, Endless, UpTo, Renewed, Fresh, Kept, Command, Set, Write, Halt, Kill, Merge, If, Else, For, Forever, Do, Goto, Quit, New}
 use Rattle.mj_ast.specs.Expressions.{count}
-use Rattle.mj_ast.specs.Commands.{Part, Put, Named, PieceCall, Text, Place, with_commas, behind_commas, more_parts, destination_parts, targets_parts, assignment_parts, mark_part, output_parts, name_parts, killed_parts, merged_parts, command_parts, keyword_for, has_items, every, is_destination, are_targets, is_assignment, is_output, is_killed, is_formed}
-use Rattle.mj_line.specs.Forms.{Node, SetTarget, PieceOpens, PieceVariable, PieceComma, PieceText, PieceBehind, SetBehind, SetValue, SetEnd, OutputWanted, OutputEnd, MarksEnd, KillWanted, NameWanted, NameBehind, KillEnd, MergeInto, MergeBehind, MergeFrom, MergeEnd, AnExpr, AVar, ends, first_node, may_be_bare, Goes, Fits, IsForm}
+use Rattle.mj_ast.specs.Commands.{Part, Put, Named, Label, PieceCall, Text, Place, Control, with_commas, behind_commas, condition_parts, routine_parts, entry_parts, guard_parts, actual_parts, actuals_parts, called_parts, as_called, jumped_parts, range_parts, renewed_parts, is_local, is_bare, is_entry, is_called, is_jumped, is_renewed, more_parts, destination_parts, targets_parts, assignment_parts, mark_part, output_parts, name_parts, killed_parts, merged_parts, command_parts, keyword_for, has_items, every, is_destination, are_targets, is_assignment, is_output, is_killed, is_formed}
+use Rattle.mj_line.specs.Forms.{Node, SetTarget, PieceOpens, PieceVariable, PieceComma, PieceText, PieceBehind, SetBehind, SetValue, SetEnd, OutputWanted, OutputEnd, MarksEnd, KillWanted, NameWanted, NameBehind, KillEnd, MergeInto, MergeBehind, MergeFrom, MergeEnd, IfWanted, IfEnd, ForWanted, ForBehind, RangeWanted, RangeEnd, StepWanted, StepEnd, LimitWanted, LimitEnd, NewWanted, KeptWanted, KeptBehind, NewEnd, EntryWanted, LabelEnd, RoutineWanted, RoutineEnd, ActualWanted, ActualEnd, ActualsEnd, GuardWanted, GuardEnd, actuals_at, AnExpr, AVar, ALocal, ends, first_node, may_be_bare, Goes, Fits, IsForm}
 use Rattle.mj_line.proofs.Tables.{none_some, some_same}
+use Rattle.mj_line.proofs.Formed.{Plainly, PlainOne, called_cut, three, jumps}
 
 -- ---- tests
 
@@ -44,6 +45,48 @@ abbrev Aims : Bool → List Part → Type 0
 Aims false ps = (t : Targets) × (rest : List Part) × (targets_parts t ++ rest ≡ ps) × (are_targets t ≡ true) × After false rest
 Aims true ps = (d : Destination) × (rest : List Part) × (destination_parts d ++ rest ≡ ps) × (is_destination d ≡ true) × After true rest
 
+-- further calls or jumps
+record Others (call : Bool) (ps : List Part) : Type 0 where
+  others : List Called
+  are : behind_commas called_parts others ≡ ps
+  formed : every is_called others ≡ true
+  plain : Plainly call others
+
+-- a condition, if there is one, and they
+record Guarded (call : Bool) (ps : List Part) : Type 0 where
+  condition : Option Expr
+  others : List Called
+  are : guard_parts condition ++ behind_commas called_parts others ≡ ps
+  formed : every is_called others ≡ true
+  plain : Plainly call others
+
+-- actuals, if there are some, and they
+record Acted (call : Bool) (ps : List Part) : Type 0 where
+  actuals : List (Option Expr)
+  condition : Option Expr
+  others : List Called
+  are : actuals_parts actuals ++ (guard_parts condition ++ behind_commas called_parts others) ≡ ps
+  formed : every is_called others ≡ true
+  plain : Plainly call others
+  bare : PlainOne call actuals
+
+-- calls or jumps
+record Entries (call : Bool) (ps : List Part) : Type 0 where
+  list : List Called
+  are : with_commas called_parts list ≡ ps
+  formed : every is_called list ≡ true
+  plain : Plainly call list
+
+-- what follows the step of a range: its end, if it has one, and further ranges
+abbrev limit_parts : Option Expr → List Part
+limit_parts None = []
+limit_parts (Some c) = Put Colon ∷ Text 0 c ∷ []
+
+-- a step and that
+abbrev step_parts : Option (Expr × Option Expr) → List Part
+step_parts None = []
+step_parts (Some x) = Put Colon ∷ Text 0 x.0 ∷ limit_parts x.1
+
 abbrev Shape : Node → List Part → Type 0
 Shape (SetTarget listed) ps = Aims listed ps
 Shape (PieceOpens listed) ps = (v : Variable) × (es : Exprs) × (rest : List Part) × (Put Open ∷ Place 1 v ∷ (more_parts es ++ Put Close ∷ rest) ≡ ps) × (1 ≤ count es) × (count es ≤ 3) × After listed rest
@@ -65,6 +108,29 @@ Shape MergeInto ps = (x : Merged) × (xs : List Merged) × (merged_parts x ++ be
 Shape MergeBehind ps = (v : Variable) × (xs : List Merged) × (Put Equals ∷ Place 0 v ∷ behind_commas merged_parts xs ≡ ps)
 Shape MergeFrom ps = (v : Variable) × (xs : List Merged) × (Place 0 v ∷ behind_commas merged_parts xs ≡ ps)
 Shape MergeEnd ps = (xs : List Merged) × (behind_commas merged_parts xs ≡ ps)
+Shape (IfWanted first) ps = (xs : List Expr) × (with_commas condition_parts xs ≡ ps) × (first ≡ false → has_items xs ≡ true)
+Shape IfEnd ps = (xs : List Expr) × (behind_commas condition_parts xs ≡ ps)
+Shape ForWanted ps = (ps ≡ []) ⊎ ((v : Variable) × (x : Range) × (xs : List Range) × (Control v ∷ Put Equals ∷ with_commas range_parts (x ∷ xs) ≡ ps) × (is_local v ≡ true))
+Shape ForBehind ps = (x : Range) × (xs : List Range) × (Put Equals ∷ with_commas range_parts (x ∷ xs) ≡ ps)
+Shape RangeWanted ps = (x : Range) × (xs : List Range) × (with_commas range_parts (x ∷ xs) ≡ ps)
+Shape RangeEnd ps = (s : Option (Expr × Option Expr)) × (xs : List Range) × (step_parts s ++ behind_commas range_parts xs ≡ ps)
+Shape StepWanted ps = (b : Expr) × (c : Option Expr) × (xs : List Range) × (Text 0 b ∷ (limit_parts c ++ behind_commas range_parts xs) ≡ ps)
+Shape StepEnd ps = (c : Option Expr) × (xs : List Range) × (limit_parts c ++ behind_commas range_parts xs ≡ ps)
+Shape LimitWanted ps = (c : Expr) × (xs : List Range) × (Text 0 c ∷ behind_commas range_parts xs ≡ ps)
+Shape LimitEnd ps = (xs : List Range) × (behind_commas range_parts xs ≡ ps)
+Shape (NewWanted first) ps = (xs : List Renewed) × (with_commas renewed_parts xs ≡ ps) × (every is_renewed xs ≡ true) × (first ≡ false → has_items xs ≡ true)
+Shape KeptWanted ps = (w : List ℕ) × (ws : List (List ℕ)) × (xs : List Renewed) × (Named w ∷ (behind_commas name_parts ws ++ (Put Close ∷ behind_commas renewed_parts xs)) ≡ ps) × (every is_renewed xs ≡ true)
+Shape KeptBehind ps = (ws : List (List ℕ)) × (xs : List Renewed) × (behind_commas name_parts ws ++ (Put Close ∷ behind_commas renewed_parts xs) ≡ ps) × (every is_renewed xs ≡ true)
+Shape NewEnd ps = (xs : List Renewed) × (behind_commas renewed_parts xs ≡ ps) × (every is_renewed xs ≡ true)
+Shape (EntryWanted call first) ps = (x : Entries call ps) × (call && first ≡ false → has_items x.list ≡ true)
+Shape (LabelEnd call) ps = (r : Option (List ℕ)) × (qs : List Part) × (routine_parts r ++ qs ≡ ps) × Acted call qs
+Shape (RoutineWanted call) ps = (w : List ℕ) × (qs : List Part) × (Named w ∷ qs ≡ ps) × Acted call qs
+Shape (RoutineEnd call) ps = Acted call ps
+Shape ActualWanted ps = (a : Option Expr) × (list : List (Option Expr)) × (qs : List Part) × (actual_parts a ++ (behind_commas actual_parts list ++ Put Close ∷ qs) ≡ ps) × Guarded true qs
+Shape ActualEnd ps = (list : List (Option Expr)) × (qs : List Part) × (behind_commas actual_parts list ++ Put Close ∷ qs ≡ ps) × Guarded true qs
+Shape ActualsEnd ps = Guarded true ps
+Shape (GuardWanted call) ps = (e : Expr) × (qs : List Part) × (Text 0 e ∷ qs ≡ ps) × Others call qs
+Shape (GuardEnd call) ps = Others call ps
 
 at_node : (n m : Node) (ps : List Part) → Some n ≡ Some m → Shape m ps → Shape n ps
 at_node n m ps e h = let P : Node → Type 0 = λ x. Shape x ps in subst P (sym (some_same n m e)) h
@@ -76,11 +142,27 @@ text_node l k n m ps e h = (let same : n ≡ m = cc in let P : Node → Type 0 =
 place_node : (l k : ℕ) (n m : Node) (ps : List Part) → Some (AVar l n) ≡ Some (AVar k m) → Shape m ps → Shape n ps × (l ≡ k)
 place_node l k n m ps e h = (let same : n ≡ m = cc in let P : Node → Type 0 = λ x. Shape x ps in subst P (sym same) h, let same : l ≡ k = cc in same)
 
+local_node : (n m : Node) (ps : List Part) → Some (ALocal n) ≡ Some (ALocal m) → Shape m ps → Shape n ps
+local_node n m ps e h = let same : n ≡ m = cc in let P : Node → Type 0 = λ x. Shape x ps in subst P (sym same) h
+
 text_wrong : {l k : ℕ} {n m : Node} → Some (AVar l n) ≡ Some (AnExpr k m) → ⊥
 text_wrong e = cc
 
 place_wrong : {l k : ℕ} {n m : Node} → Some (AnExpr l n) ≡ Some (AVar k m) → ⊥
 place_wrong e = cc
+
+-- a local where another phrase is wanted, and the other way round
+local_text : {l : ℕ} {n m : Node} → Some (AnExpr l n) ≡ Some (ALocal m) → ⊥
+local_text e = cc
+
+local_place : {l : ℕ} {n m : Node} → Some (AVar l n) ≡ Some (ALocal m) → ⊥
+local_place e = cc
+
+text_local : {l : ℕ} {n m : Node} → Some (ALocal n) ≡ Some (AnExpr l m) → ⊥
+text_local e = cc
+
+place_of_local : {l : ℕ} {n m : Node} → Some (ALocal n) ≡ Some (AVar l m) → ⊥
+place_of_local e = cc
 
 -- with a part before
 before : (p : Part) (ps qs : List Part) → ps ≡ qs → p ∷ ps ≡ p ∷ qs
@@ -115,10 +197,6 @@ piece_aims true ps h = (Pieces h.0 h.1, h.2, pieces_at h.0 h.1 h.2 ps h.3, piece
 plain_aims : (listed : Bool) (l : ℕ) (v : Variable) (ps : List Part) → 0 ≡ l → After listed ps → Aims listed (Place l v ∷ ps)
 plain_aims false l v ps z h = (One (Plain v), ps, place_zero l v ps ps z refl, refl, h)
 plain_aims true l v ps z h = (Plain v, ps, place_zero l v ps ps z refl, refl, h)
-
--- D ++ B ++ close ++ rest
-three : (d b : List Part) (z : Part) (rest : List Part) → ((d ++ b) ++ z ∷ []) ++ rest ≡ d ++ (b ++ z ∷ rest)
-three d b z rest = append_assoc (d ++ b) (z ∷ []) rest ∙ append_assoc d b (z ∷ rest)
 
 several_aims : (ps : List Part) → Aims true ps → Aims false (Put Open ∷ ps)
 several_aims ps h =
@@ -158,6 +236,80 @@ spared_at w ws rest ps e =
     before (Put Open) (Named w ∷ ((behind_commas name_parts ws ++ Put Close ∷ []) ++ rest)) ps
     (before (Named w) ((behind_commas name_parts ws ++ Put Close ∷ []) ++ rest) (behind_commas name_parts ws ++ Put Close ∷ rest) (append_assoc (behind_commas name_parts ws) (Put Close ∷ []) rest) ∙ e)
 
+-- with a comma before the first
+next_item : {A : Type 0} (parts : A → List Part) (ps : List Part) (xs : List A) → with_commas parts xs ≡ ps → has_items xs ≡ true → behind_commas parts xs ≡ Put Comma ∷ ps
+next_item parts ps [] e h = false_true h
+next_item parts ps (x ∷ xs) e h = before (Put Comma) (parts x ++ behind_commas parts xs) ps e
+
+kept_at : (w : List ℕ) (ws : List (List ℕ)) (rest ps : List Part) → Named w ∷ (behind_commas name_parts ws ++ (Put Close ∷ rest)) ≡ ps → renewed_parts (Kept (w ∷ ws)) ++ rest ≡ Put Open ∷ ps
+kept_at w ws rest ps e = spared_at w ws rest ps e
+
+-- ---- calls and jumps
+
+plain_none : (call : Bool) → Plainly call []
+plain_none true = tt
+plain_none false = refl
+
+bare_none : (call : Bool) → PlainOne call []
+bare_none true = tt
+bare_none false = refl
+
+plain_more : (call : Bool) (c : Called) (xs : List Called) → PlainOne call c.actuals → Plainly call xs → Plainly call (c ∷ xs)
+plain_more true c xs h i = tt
+plain_more false c xs h i = both (is_bare c.actuals) (every (λ c. is_bare c.actuals) xs) h i
+
+none_others : (call : Bool) → Others call []
+none_others call = record { others = []; are = refl; formed = refl; plain = plain_none call }
+
+others_guard : (call : Bool) (ps : List Part) → Others call ps → Guarded call ps
+others_guard call ps h = record { condition = None; others = h.others; are = h.are; formed = h.formed; plain = h.plain }
+
+guard_acted : (call : Bool) (ps : List Part) → Guarded call ps → Acted call ps
+guard_acted call ps h = record { actuals = []; condition = h.condition; others = h.others; are = h.are; formed = h.formed; plain = h.plain; bare = bare_none call }
+
+and_false : (call : Bool) → call && false ≡ false
+and_false true = refl
+and_false false = refl
+
+comma_others : (call : Bool) (ps : List Part) → Shape (EntryWanted call false) ps → Others call (Put Comma ∷ ps)
+comma_others call ps h = record { others = h.0.list; are = next_item called_parts ps h.0.list h.0.are (h.1 (and_false call)); formed = h.0.formed; plain = h.0.plain }
+
+colon_guard : (call : Bool) (ps : List Part) → Shape (GuardWanted call) ps → Guarded call (Put Colon ∷ ps)
+colon_guard call ps h = record {
+  condition = Some h.0;
+  others = h.3.others;
+  are = before (Put Colon) (Text 0 h.0 ∷ behind_commas called_parts h.3.others) ps (before (Text 0 h.0) (behind_commas called_parts h.3.others) h.1 h.3.are ∙ h.2);
+  formed = h.3.formed;
+  plain = h.3.plain;
+}
+
+open_acted : (ps : List Part) → Shape ActualWanted ps → Acted true (Put Open ∷ ps)
+open_acted ps h =
+    let g = h.4 in
+    let x = guard_parts g.condition ++ behind_commas called_parts g.others in
+    record {
+      actuals = h.0 ∷ h.1;
+      condition = g.condition;
+      others = g.others;
+      are = before (Put Open) (((actual_parts h.0 ++ behind_commas actual_parts h.1) ++ Put Close ∷ []) ++ x) ps
+          (three (actual_parts h.0) (behind_commas actual_parts h.1) (Put Close) x ∙ ap (λ (qs : List Part). actual_parts h.0 ++ (behind_commas actual_parts h.1 ++ Put Close ∷ qs)) g.are ∙ h.3);
+      formed = g.formed;
+      plain = g.plain;
+      bare = tt;
+    }
+
+entries_at : (call : Bool) (l r : Option (List ℕ)) (qs ps : List Part) → entry_parts l r ++ qs ≡ ps → is_entry l r ≡ true → Acted call qs → (x : Entries call ps) × (has_items x.list ≡ true)
+entries_at call l r qs ps e i h =
+    let c : Called = record { target = record { label = l; routine = r }; actuals = h.actuals; condition = h.condition } in (
+      record {
+        list = c ∷ h.others;
+        are = called_cut c (behind_commas called_parts h.others) ∙ ap (λ (zs : List Part). entry_parts l r ++ zs) h.are ∙ e;
+        formed = both (is_entry l r) (every is_called h.others) i h.formed;
+        plain = plain_more call c h.others h.bare h.plain;
+      },
+      refl,
+    )
+
 -- ---- what stands from each place on is of that shape
 
 shape_end : (n : Node) → ends n ≡ true → Shape n []
@@ -167,6 +319,19 @@ shape_end MarksEnd f = ([], [], refl, refl)
 shape_end (KillWanted first) f = ([], refl, refl, λ e. true_false (sym f ∙ e))
 shape_end KillEnd f = ([], refl, refl)
 shape_end MergeEnd f = ([], refl)
+shape_end (IfWanted first) f = ([], refl, λ e. true_false (sym f ∙ e))
+shape_end IfEnd f = ([], refl)
+shape_end ForWanted f = inl refl
+shape_end RangeEnd f = (None, [], refl)
+shape_end StepEnd f = (None, [], refl)
+shape_end LimitEnd f = ([], refl)
+shape_end (NewWanted first) f = ([], refl, refl, λ e. true_false (sym f ∙ e))
+shape_end NewEnd f = ([], refl, refl)
+shape_end (EntryWanted call first) f = (record { list = []; are = refl; formed = refl; plain = plain_none call }, λ e. true_false (sym f ∙ e))
+shape_end (LabelEnd call) f = (None, [], refl, guard_acted call [] (others_guard call [] (none_others call)))
+shape_end (RoutineEnd call) f = guard_acted call [] (others_guard call [] (none_others call))
+shape_end ActualsEnd f = others_guard true [] (none_others true)
+shape_end (GuardEnd call) f = none_others call
 shape_end n f = false_true f
 
 target_part : (p : Part) (ps : List Part) (next : Node) → Goes (SetTarget false) p next → Shape next ps → Shape (SetTarget false) (p ∷ ps)
@@ -174,18 +339,21 @@ target_part PieceCall ps next e h = piece_aims false ps (at_node (PieceOpens fal
 target_part (Place l v) ps next e h = let x = place_node 0 l (SetBehind false) next ps e h in plain_aims false l v ps x.1 x.0
 target_part (Put Open) ps next e h = several_aims ps (at_node (SetTarget true) next ps e h)
 target_part (Text l x) ps next e h = absurd (text_wrong e)
+target_part (Control v) ps next e h = absurd (local_place e.0)
 target_part p ps next e h = absurd (none_some _ e)
 
 listed_part : (p : Part) (ps : List Part) (next : Node) → Goes (SetTarget true) p next → Shape next ps → Shape (SetTarget true) (p ∷ ps)
 listed_part PieceCall ps next e h = piece_aims true ps (at_node (PieceOpens true) next ps e h)
 listed_part (Place l v) ps next e h = let x = place_node 0 l (SetBehind true) next ps e h in plain_aims true l v ps x.1 x.0
 listed_part (Text l x) ps next e h = absurd (text_wrong e)
+listed_part (Control v) ps next e h = absurd (local_place e.0)
 listed_part p ps next e h = absurd (none_some _ e)
 
 opens_part : (listed : Bool) (p : Part) (ps : List Part) (next : Node) → Goes (PieceOpens listed) p next → Shape next ps → Shape (PieceOpens listed) (p ∷ ps)
 opens_part listed (Put Open) ps next e h =
     let x = at_node (PieceVariable listed) next ps e h in
     (x.0, x.1, x.2, before (Put Open) (Place 1 x.0 ∷ (more_parts x.1 ++ Put Close ∷ x.2)) ps x.3, x.4, x.5, x.6)
+opens_part listed (Control v) ps next e h = absurd (none_some _ e.0)
 opens_part listed p ps next e h = absurd (none_some _ e)
 
 variable_part : (listed : Bool) (p : Part) (ps : List Part) (next : Node) → Goes (PieceVariable listed) p next → Shape next ps → Shape (PieceVariable listed) (p ∷ ps)
@@ -194,12 +362,14 @@ variable_part listed (Place l v) ps next e h =
     let c = x.0 in
     (v, c.0, c.1, place_one l v (more_parts c.0 ++ Put Close ∷ c.1) ps x.1 c.2, c.3, c.4, c.5)
 variable_part listed (Text l x) ps next e h = absurd (text_wrong e)
+variable_part listed (Control v) ps next e h = absurd (local_place e.0)
 variable_part listed p ps next e h = absurd (none_some _ e)
 
 comma_part : (listed : Bool) (p : Part) (ps : List Part) (next : Node) → Goes (PieceComma listed) p next → Shape next ps → Shape (PieceComma listed) (p ∷ ps)
 comma_part listed (Put Comma) ps next e h =
     let x = at_node (PieceText listed 2) next ps e h in
     (More x.0 x.1, x.2, before (Put Comma) (Text 1 x.0 ∷ (more_parts x.1 ++ Put Close ∷ x.2)) ps x.3, (let c = x.4 in omega arith), (let c = x.4 in omega arith), x.5)
+comma_part listed (Control v) ps next e h = absurd (none_some _ e.0)
 comma_part listed p ps next e h = absurd (none_some _ e)
 
 text_part : (listed : Bool) (more : ℕ) (p : Part) (ps : List Part) (next : Node) → Goes (PieceText listed more) p next → Shape next ps → Shape (PieceText listed more) (p ∷ ps)
@@ -208,10 +378,12 @@ text_part listed more (Text l v) ps next e h =
     let c = x.0 in
     (v, c.0, c.1, text_one l v (more_parts c.0 ++ Put Close ∷ c.1) ps x.1 c.2, c.3, c.4)
 text_part listed more (Place l x) ps next e h = absurd (place_wrong e)
+text_part listed more (Control v) ps next e h = absurd (local_text e.0)
 text_part listed more p ps next e h = absurd (none_some _ e)
 
 last_part : (listed : Bool) (p : Part) (ps : List Part) (next : Node) → Goes (PieceBehind listed zero) p next → Shape next ps → Shape (PieceBehind listed zero) (p ∷ ps)
 last_part listed (Put Close) ps next e h = (No, ps, refl, omega arith, at_node (SetBehind listed) next ps e h)
+last_part listed (Control v) ps next e h = absurd (none_some _ e.0)
 last_part listed p ps next e h = absurd (none_some _ e)
 
 piece_part : (listed : Bool) (more : ℕ) (p : Part) (ps : List Part) (next : Node) → Goes (PieceBehind listed (suc more)) p next → Shape next ps → Shape (PieceBehind listed (suc more)) (p ∷ ps)
@@ -219,12 +391,14 @@ piece_part listed more (Put Comma) ps next e h =
     let x = at_node (PieceText listed more) next ps e h in
     (More x.0 x.1, x.2, before (Put Comma) (Text 1 x.0 ∷ (more_parts x.1 ++ Put Close ∷ x.2)) ps x.3, (let c = x.4 in omega arith), x.5)
 piece_part listed more (Put Close) ps next e h = (No, ps, refl, omega arith, at_node (SetBehind listed) next ps e h)
+piece_part listed more (Control v) ps next e h = absurd (none_some _ e.0)
 piece_part listed more p ps next e h = absurd (none_some _ e)
 
 behind_part : (p : Part) (ps : List Part) (next : Node) → Goes (SetBehind false) p next → Shape next ps → Shape (SetBehind false) (p ∷ ps)
 behind_part (Put Equals) ps next e h =
     let x = at_node SetValue next ps e h in
     (x.0, x.1, before (Put Equals) (Text 0 x.0 ∷ behind_commas assignment_parts x.1) ps x.2, x.3)
+behind_part (Control v) ps next e h = absurd (none_some _ e.0)
 behind_part p ps next e h = absurd (none_some _ e)
 
 listed_behind : (p : Part) (ps : List Part) (next : Node) → Goes (SetBehind true) p next → Shape next ps → Shape (SetBehind true) (p ∷ ps)
@@ -232,6 +406,7 @@ listed_behind (Put Comma) ps next e h = more_aims ps (at_node (SetTarget true) n
 listed_behind (Put Close) ps next e h =
     let x = at_node (SetBehind false) next ps e h in
     ([], x.0, x.1, before (Put Close) (Put Equals ∷ Text 0 x.0 ∷ behind_commas assignment_parts x.1) ps x.2, refl, x.3)
+listed_behind (Control v) ps next e h = absurd (none_some _ e.0)
 listed_behind p ps next e h = absurd (none_some _ e)
 
 value_part : (p : Part) (ps : List Part) (next : Node) → Goes SetValue p next → Shape next ps → Shape SetValue (p ∷ ps)
@@ -240,6 +415,7 @@ value_part (Text l v) ps next e h =
     let c = x.0 in
     (v, c.0, text_zero l v (behind_commas assignment_parts c.0) ps x.1 c.1, c.2)
 value_part (Place l x) ps next e h = absurd (place_wrong e)
+value_part (Control v) ps next e h = absurd (local_text e.0)
 value_part p ps next e h = absurd (none_some _ e)
 
 set_part : (p : Part) (ps : List Part) (next : Node) → Goes SetEnd p next → Shape next ps → Shape SetEnd (p ∷ ps)
@@ -250,6 +426,7 @@ set_part (Put Comma) ps next e h =
       before (Put Comma) ((targets_parts x.0 ++ Put Equals ∷ Text 0 a.0 ∷ []) ++ behind_commas assignment_parts a.1) ps (assignment_at x.0 a.0 (behind_commas assignment_parts a.1) x.1 ps a.2 x.2),
       both (are_targets x.0) (every is_assignment a.1) x.3 a.3,
     )
+set_part (Control v) ps next e h = absurd (none_some _ e.0)
 set_part p ps next e h = absurd (none_some _ e)
 
 output_part : (p : Part) (ps : List Part) (next : Node) → Goes OutputWanted p next → Shape next ps → Shape OutputWanted (p ∷ ps)
@@ -261,12 +438,14 @@ output_part (Put Exclamation) ps next e h =
     let x = at_node MarksEnd next ps e h in
     (Format (NewLine ∷ x.0), x.1, before (Put Exclamation) (map mark_part x.0 ++ behind_commas output_parts x.1) ps x.2, refl, x.3)
 output_part (Place l x) ps next e h = absurd (place_wrong e)
+output_part (Control v) ps next e h = absurd (local_text e.0)
 output_part p ps next e h = absurd (none_some _ e)
 
 output_end : (p : Part) (ps : List Part) (next : Node) → Goes OutputEnd p next → Shape next ps → Shape OutputEnd (p ∷ ps)
 output_end (Put Comma) ps next e h =
     let x = at_node OutputWanted next ps e h in
     (x.0 ∷ x.1, before (Put Comma) (output_parts x.0 ++ behind_commas output_parts x.1) ps x.2, both (is_output x.0) (every is_output x.1) x.3 x.4)
+output_end (Control v) ps next e h = absurd (none_some _ e.0)
 output_end p ps next e h = absurd (none_some _ e)
 
 marks_end : (p : Part) (ps : List Part) (next : Node) → Goes MarksEnd p next → Shape next ps → Shape MarksEnd (p ∷ ps)
@@ -276,6 +455,7 @@ marks_end (Put Exclamation) ps next e h =
 marks_end (Put Comma) ps next e h =
     let x = at_node OutputWanted next ps e h in
     ([], x.0 ∷ x.1, before (Put Comma) (output_parts x.0 ++ behind_commas output_parts x.1) ps x.2, both (is_output x.0) (every is_output x.1) x.3 x.4)
+marks_end (Control v) ps next e h = absurd (none_some _ e.0)
 marks_end p ps next e h = absurd (none_some _ e)
 
 kill_part : (first : Bool) (p : Part) (ps : List Part) (next : Node) → Goes (KillWanted first) p next → Shape next ps → Shape (KillWanted first) (p ∷ ps)
@@ -287,12 +467,14 @@ kill_part first (Put Open) ps next e h =
     let x = at_node NameWanted next ps e h in
     (Spared (x.0 ∷ x.1) ∷ x.2, spared_at x.0 x.1 (behind_commas killed_parts x.2) ps x.3, x.4, λ z. refl)
 kill_part first (Text l x) ps next e h = absurd (text_wrong e)
+kill_part first (Control v) ps next e h = absurd (local_place e.0)
 kill_part first p ps next e h = absurd (none_some _ e)
 
 name_part : (p : Part) (ps : List Part) (next : Node) → Goes NameWanted p next → Shape next ps → Shape NameWanted (p ∷ ps)
 name_part (Named w) ps next e h =
     let x = at_node NameBehind next ps e h in
     (w, x.0, x.1, before (Named w) (behind_commas name_parts x.0 ++ (Put Close ∷ behind_commas killed_parts x.1)) ps x.2, x.3)
+name_part (Control v) ps next e h = absurd (none_some _ e.0)
 name_part p ps next e h = absurd (none_some _ e)
 
 name_behind : (p : Part) (ps : List Part) (next : Node) → Goes NameBehind p next → Shape next ps → Shape NameBehind (p ∷ ps)
@@ -302,12 +484,14 @@ name_behind (Put Comma) ps next e h =
 name_behind (Put Close) ps next e h =
     let x = at_node KillEnd next ps e h in
     ([], x.0, before (Put Close) (behind_commas killed_parts x.0) ps x.1, x.2)
+name_behind (Control v) ps next e h = absurd (none_some _ e.0)
 name_behind p ps next e h = absurd (none_some _ e)
 
 kill_end : (p : Part) (ps : List Part) (next : Node) → Goes KillEnd p next → Shape next ps → Shape KillEnd (p ∷ ps)
 kill_end (Put Comma) ps next e h =
     let x = at_node (KillWanted false) next ps e h in
     (x.0, next_kill ps x.0 x.1 x.3, x.2)
+kill_end (Control v) ps next e h = absurd (none_some _ e.0)
 kill_end p ps next e h = absurd (none_some _ e)
 
 into_part : (p : Part) (ps : List Part) (next : Node) → Goes MergeInto p next → Shape next ps → Shape MergeInto (p ∷ ps)
@@ -316,12 +500,14 @@ into_part (Place l v) ps next e h =
     let c = x.0 in
     (record { into = v; from = c.0 }, c.1, place_zero l v (Put Equals ∷ Place 0 c.0 ∷ behind_commas merged_parts c.1) ps x.1 c.2)
 into_part (Text l x) ps next e h = absurd (text_wrong e)
+into_part (Control v) ps next e h = absurd (local_place e.0)
 into_part p ps next e h = absurd (none_some _ e)
 
 into_behind : (p : Part) (ps : List Part) (next : Node) → Goes MergeBehind p next → Shape next ps → Shape MergeBehind (p ∷ ps)
 into_behind (Put Equals) ps next e h =
     let x = at_node MergeFrom next ps e h in
     (x.0, x.1, before (Put Equals) (Place 0 x.0 ∷ behind_commas merged_parts x.1) ps x.2)
+into_behind (Control v) ps next e h = absurd (none_some _ e.0)
 into_behind p ps next e h = absurd (none_some _ e)
 
 from_part : (p : Part) (ps : List Part) (next : Node) → Goes MergeFrom p next → Shape next ps → Shape MergeFrom (p ∷ ps)
@@ -330,13 +516,219 @@ from_part (Place l v) ps next e h =
     let c = x.0 in
     (v, c.0, place_zero l v (behind_commas merged_parts c.0) ps x.1 c.1)
 from_part (Text l x) ps next e h = absurd (text_wrong e)
+from_part (Control v) ps next e h = absurd (local_place e.0)
 from_part p ps next e h = absurd (none_some _ e)
 
 merge_end : (p : Part) (ps : List Part) (next : Node) → Goes MergeEnd p next → Shape next ps → Shape MergeEnd (p ∷ ps)
 merge_end (Put Comma) ps next e h =
     let x = at_node MergeInto next ps e h in
     (x.0 ∷ x.1, before (Put Comma) (merged_parts x.0 ++ behind_commas merged_parts x.1) ps x.2)
+merge_end (Control v) ps next e h = absurd (none_some _ e.0)
 merge_end p ps next e h = absurd (none_some _ e)
+
+if_part : (first : Bool) (p : Part) (ps : List Part) (next : Node) → Goes (IfWanted first) p next → Shape next ps → Shape (IfWanted first) (p ∷ ps)
+if_part first (Text l v) ps next e h =
+    let x = text_node 0 l IfEnd next ps e h in
+    let c = x.0 in
+    (v ∷ c.0, text_zero l v (behind_commas condition_parts c.0) ps x.1 c.1, λ z. refl)
+if_part first (Place l x) ps next e h = absurd (place_wrong e)
+if_part first (Control v) ps next e h = absurd (local_text e.0)
+if_part first p ps next e h = absurd (none_some _ e)
+
+if_end : (p : Part) (ps : List Part) (next : Node) → Goes IfEnd p next → Shape next ps → Shape IfEnd (p ∷ ps)
+if_end (Put Comma) ps next e h =
+    let x = at_node (IfWanted false) next ps e h in
+    (x.0, next_item condition_parts ps x.0 x.1 (x.2 refl))
+if_end (Control v) ps next e h = absurd (none_some _ e.0)
+if_end p ps next e h = absurd (none_some _ e)
+
+for_part : (p : Part) (ps : List Part) (next : Node) → Goes ForWanted p next → Shape next ps → Shape ForWanted (p ∷ ps)
+for_part (Control v) ps next e h =
+    let x = local_node ForBehind next ps e.0 h in
+    inr (v, x.0, x.1, before (Control v) (Put Equals ∷ with_commas range_parts (x.0 ∷ x.1)) ps x.2, e.1)
+for_part (Text l x) ps next e h = absurd (text_local e)
+for_part (Place l x) ps next e h = absurd (place_of_local e)
+for_part p ps next e h = absurd (none_some _ e)
+
+for_behind : (p : Part) (ps : List Part) (next : Node) → Goes ForBehind p next → Shape next ps → Shape ForBehind (p ∷ ps)
+for_behind (Put Equals) ps next e h =
+    let x = at_node RangeWanted next ps e h in
+    (x.0, x.1, before (Put Equals) (with_commas range_parts (x.0 ∷ x.1)) ps x.2)
+for_behind (Control v) ps next e h = absurd (none_some _ e.0)
+for_behind p ps next e h = absurd (none_some _ e)
+
+-- a range of these parts
+abbrev range_with : Expr → Option (Expr × Option Expr) → Range
+range_with a None = Single a
+range_with a (Some (b, None)) = Endless a b
+range_with a (Some (b, Some c)) = UpTo a b c
+
+range_is : (a : Expr) (s : Option (Expr × Option Expr)) (rest : List Part) → range_parts (range_with a s) ++ rest ≡ Text 0 a ∷ (step_parts s ++ rest)
+range_is a None rest = refl
+range_is a (Some (b, None)) rest = refl
+range_is a (Some (b, Some c)) rest = refl
+
+range_part : (p : Part) (ps : List Part) (next : Node) → Goes RangeWanted p next → Shape next ps → Shape RangeWanted (p ∷ ps)
+range_part (Text l v) ps next e h =
+    let x = text_node 0 l RangeEnd next ps e h in
+    let c = x.0 in
+    (range_with v c.0, c.1, range_is v c.0 (behind_commas range_parts c.1) ∙ text_zero l v (step_parts c.0 ++ behind_commas range_parts c.1) ps x.1 c.2)
+range_part (Place l x) ps next e h = absurd (place_wrong e)
+range_part (Control v) ps next e h = absurd (local_text e.0)
+range_part p ps next e h = absurd (none_some _ e)
+
+-- a comma and further ranges
+more_ranges : (ps : List Part) → Shape RangeWanted ps → Shape LimitEnd (Put Comma ∷ ps)
+more_ranges ps h = (h.0 ∷ h.1, before (Put Comma) (with_commas range_parts (h.0 ∷ h.1)) ps h.2)
+
+range_end : (p : Part) (ps : List Part) (next : Node) → Goes RangeEnd p next → Shape next ps → Shape RangeEnd (p ∷ ps)
+range_end (Put Colon) ps next e h =
+    let x = at_node StepWanted next ps e h in
+    (Some (x.0, x.1), x.2, before (Put Colon) (Text 0 x.0 ∷ (limit_parts x.1 ++ behind_commas range_parts x.2)) ps x.3)
+range_end (Put Comma) ps next e h = let x = more_ranges ps (at_node RangeWanted next ps e h) in (None, x.0, x.1)
+range_end (Control v) ps next e h = absurd (none_some _ e.0)
+range_end p ps next e h = absurd (none_some _ e)
+
+step_part : (p : Part) (ps : List Part) (next : Node) → Goes StepWanted p next → Shape next ps → Shape StepWanted (p ∷ ps)
+step_part (Text l v) ps next e h =
+    let x = text_node 0 l StepEnd next ps e h in
+    let c = x.0 in
+    (v, c.0, c.1, text_zero l v (limit_parts c.0 ++ behind_commas range_parts c.1) ps x.1 c.2)
+step_part (Place l x) ps next e h = absurd (place_wrong e)
+step_part (Control v) ps next e h = absurd (local_text e.0)
+step_part p ps next e h = absurd (none_some _ e)
+
+step_end : (p : Part) (ps : List Part) (next : Node) → Goes StepEnd p next → Shape next ps → Shape StepEnd (p ∷ ps)
+step_end (Put Colon) ps next e h =
+    let x = at_node LimitWanted next ps e h in
+    (Some x.0, x.1, before (Put Colon) (Text 0 x.0 ∷ behind_commas range_parts x.1) ps x.2)
+step_end (Put Comma) ps next e h = let x = more_ranges ps (at_node RangeWanted next ps e h) in (None, x.0, x.1)
+step_end (Control v) ps next e h = absurd (none_some _ e.0)
+step_end p ps next e h = absurd (none_some _ e)
+
+limit_part : (p : Part) (ps : List Part) (next : Node) → Goes LimitWanted p next → Shape next ps → Shape LimitWanted (p ∷ ps)
+limit_part (Text l v) ps next e h =
+    let x = text_node 0 l LimitEnd next ps e h in
+    let c = x.0 in
+    (v, c.0, text_zero l v (behind_commas range_parts c.0) ps x.1 c.1)
+limit_part (Place l x) ps next e h = absurd (place_wrong e)
+limit_part (Control v) ps next e h = absurd (local_text e.0)
+limit_part p ps next e h = absurd (none_some _ e)
+
+limit_end : (p : Part) (ps : List Part) (next : Node) → Goes LimitEnd p next → Shape next ps → Shape LimitEnd (p ∷ ps)
+limit_end (Put Comma) ps next e h = more_ranges ps (at_node RangeWanted next ps e h)
+limit_end (Control v) ps next e h = absurd (none_some _ e.0)
+limit_end p ps next e h = absurd (none_some _ e)
+
+new_part : (first : Bool) (p : Part) (ps : List Part) (next : Node) → Goes (NewWanted first) p next → Shape next ps → Shape (NewWanted first) (p ∷ ps)
+new_part first (Named w) ps next e h =
+    let x = at_node NewEnd next ps e h in
+    (Fresh w ∷ x.0, before (Named w) (behind_commas renewed_parts x.0) ps x.1, x.2, λ z. refl)
+new_part first (Put Open) ps next e h =
+    let x = at_node KeptWanted next ps e h in
+    (Kept (x.0 ∷ x.1) ∷ x.2, kept_at x.0 x.1 (behind_commas renewed_parts x.2) ps x.3, x.4, λ z. refl)
+new_part first (Control v) ps next e h = absurd (none_some _ e.0)
+new_part first p ps next e h = absurd (none_some _ e)
+
+kept_part : (p : Part) (ps : List Part) (next : Node) → Goes KeptWanted p next → Shape next ps → Shape KeptWanted (p ∷ ps)
+kept_part (Named w) ps next e h =
+    let x = at_node KeptBehind next ps e h in
+    (w, x.0, x.1, before (Named w) (behind_commas name_parts x.0 ++ (Put Close ∷ behind_commas renewed_parts x.1)) ps x.2, x.3)
+kept_part (Control v) ps next e h = absurd (none_some _ e.0)
+kept_part p ps next e h = absurd (none_some _ e)
+
+kept_behind : (p : Part) (ps : List Part) (next : Node) → Goes KeptBehind p next → Shape next ps → Shape KeptBehind (p ∷ ps)
+kept_behind (Put Comma) ps next e h =
+    let x = at_node KeptWanted next ps e h in
+    (x.0 ∷ x.1, x.2, before (Put Comma) (Named x.0 ∷ (behind_commas name_parts x.1 ++ (Put Close ∷ behind_commas renewed_parts x.2))) ps x.3, x.4)
+kept_behind (Put Close) ps next e h =
+    let x = at_node NewEnd next ps e h in
+    ([], x.0, before (Put Close) (behind_commas renewed_parts x.0) ps x.1, x.2)
+kept_behind (Control v) ps next e h = absurd (none_some _ e.0)
+kept_behind p ps next e h = absurd (none_some _ e)
+
+new_end : (p : Part) (ps : List Part) (next : Node) → Goes NewEnd p next → Shape next ps → Shape NewEnd (p ∷ ps)
+new_end (Put Comma) ps next e h =
+    let x = at_node (NewWanted false) next ps e h in
+    (x.0, next_item renewed_parts ps x.0 x.1 (x.3 refl), x.2)
+new_end (Control v) ps next e h = absurd (none_some _ e.0)
+new_end p ps next e h = absurd (none_some _ e)
+
+entry_part : (call first : Bool) (p : Part) (ps : List Part) (next : Node) → Goes (EntryWanted call first) p next → Shape next ps → Shape (EntryWanted call first) (p ∷ ps)
+entry_part call first (Label l) ps next e h =
+    let x = at_node (LabelEnd call) next ps e h in
+    let y = entries_at call (Some l) x.0 x.1 (Label l ∷ ps) (before (Label l) (routine_parts x.0 ++ x.1) ps x.2) refl x.3 in
+    (y.0, λ z. y.1)
+entry_part call first (Put Caret) ps next e h =
+    let x = at_node (RoutineWanted call) next ps e h in
+    let y = entries_at call None (Some x.0) x.1 (Put Caret ∷ ps) (before (Put Caret) (Named x.0 ∷ x.1) ps x.2) refl x.3 in
+    (y.0, λ z. y.1)
+entry_part call first (Control v) ps next e h = absurd (none_some _ e.0)
+entry_part call first p ps next e h = absurd (none_some _ e)
+
+actuals_open : (call : Bool) (ps : List Part) (next : Node) → actuals_at call ≡ Some next → Shape next ps → Acted call (Put Open ∷ ps)
+actuals_open true ps next e h = open_acted ps (at_node ActualWanted next ps e h)
+actuals_open false ps next e h = absurd (none_some _ e)
+
+routine_end : (call : Bool) (p : Part) (ps : List Part) (next : Node) → Goes (RoutineEnd call) p next → Shape next ps → Shape (RoutineEnd call) (p ∷ ps)
+routine_end call (Put Open) ps next e h = actuals_open call ps next e h
+routine_end call (Put Colon) ps next e h = guard_acted call (Put Colon ∷ ps) (colon_guard call ps (at_node (GuardWanted call) next ps e h))
+routine_end call (Put Comma) ps next e h = guard_acted call (Put Comma ∷ ps) (others_guard call (Put Comma ∷ ps) (comma_others call ps (at_node (EntryWanted call false) next ps e h)))
+routine_end call (Control v) ps next e h = absurd (none_some _ e.0)
+routine_end call p ps next e h = absurd (none_some _ e)
+
+label_end : (call : Bool) (p : Part) (ps : List Part) (next : Node) → Goes (LabelEnd call) p next → Shape next ps → Shape (LabelEnd call) (p ∷ ps)
+label_end call (Put Caret) ps next e h =
+    let x = at_node (RoutineWanted call) next ps e h in
+    (Some x.0, x.1, before (Put Caret) (Named x.0 ∷ x.1) ps x.2, x.3)
+label_end call (Put Open) ps next e h = (None, Put Open ∷ ps, refl, actuals_open call ps next e h)
+label_end call (Put Colon) ps next e h = (None, Put Colon ∷ ps, refl, guard_acted call (Put Colon ∷ ps) (colon_guard call ps (at_node (GuardWanted call) next ps e h)))
+label_end call (Put Comma) ps next e h = (None, Put Comma ∷ ps, refl, guard_acted call (Put Comma ∷ ps) (others_guard call (Put Comma ∷ ps) (comma_others call ps (at_node (EntryWanted call false) next ps e h))))
+label_end call (Control v) ps next e h = absurd (none_some _ e.0)
+label_end call p ps next e h = absurd (none_some _ e)
+
+routine_part : (call : Bool) (p : Part) (ps : List Part) (next : Node) → Goes (RoutineWanted call) p next → Shape next ps → Shape (RoutineWanted call) (p ∷ ps)
+routine_part call (Named w) ps next e h = (w, ps, refl, at_node (RoutineEnd call) next ps e h)
+routine_part call (Control v) ps next e h = absurd (none_some _ e.0)
+routine_part call p ps next e h = absurd (none_some _ e)
+
+actual_part : (p : Part) (ps : List Part) (next : Node) → Goes ActualWanted p next → Shape next ps → Shape ActualWanted (p ∷ ps)
+actual_part (Text l v) ps next e h =
+    let x = text_node 1 l ActualEnd next ps e h in
+    let c = x.0 in
+    (Some v, c.0, c.1, text_one l v (behind_commas actual_parts c.0 ++ Put Close ∷ c.1) ps x.1 c.2, c.3)
+actual_part (Put Comma) ps next e h =
+    let x = at_node ActualWanted next ps e h in
+    (None, x.0 ∷ x.1, x.2, before (Put Comma) ((actual_parts x.0 ++ behind_commas actual_parts x.1) ++ Put Close ∷ x.2) ps (append_assoc (actual_parts x.0) (behind_commas actual_parts x.1) (Put Close ∷ x.2) ∙ x.3), x.4)
+actual_part (Put Close) ps next e h = (None, [], ps, refl, at_node ActualsEnd next ps e h)
+actual_part (Place l x) ps next e h = absurd (place_wrong e)
+actual_part (Control v) ps next e h = absurd (local_text e.0)
+actual_part p ps next e h = absurd (none_some _ e)
+
+actual_end : (p : Part) (ps : List Part) (next : Node) → Goes ActualEnd p next → Shape next ps → Shape ActualEnd (p ∷ ps)
+actual_end (Put Comma) ps next e h =
+    let x = at_node ActualWanted next ps e h in
+    (x.0 ∷ x.1, x.2, before (Put Comma) ((actual_parts x.0 ++ behind_commas actual_parts x.1) ++ Put Close ∷ x.2) ps (append_assoc (actual_parts x.0) (behind_commas actual_parts x.1) (Put Close ∷ x.2) ∙ x.3), x.4)
+actual_end (Put Close) ps next e h = ([], ps, refl, at_node ActualsEnd next ps e h)
+actual_end (Control v) ps next e h = absurd (none_some _ e.0)
+actual_end p ps next e h = absurd (none_some _ e)
+
+actuals_end : (p : Part) (ps : List Part) (next : Node) → Goes ActualsEnd p next → Shape next ps → Shape ActualsEnd (p ∷ ps)
+actuals_end (Put Colon) ps next e h = colon_guard true ps (at_node (GuardWanted true) next ps e h)
+actuals_end (Put Comma) ps next e h = others_guard true (Put Comma ∷ ps) (comma_others true ps (at_node (EntryWanted true false) next ps e h))
+actuals_end (Control v) ps next e h = absurd (none_some _ e.0)
+actuals_end p ps next e h = absurd (none_some _ e)
+
+guard_part : (call : Bool) (p : Part) (ps : List Part) (next : Node) → Goes (GuardWanted call) p next → Shape next ps → Shape (GuardWanted call) (p ∷ ps)
+guard_part call (Text l v) ps next e h = let x = text_node 0 l (GuardEnd call) next ps e h in (v, ps, text_zero l v ps ps x.1 refl, x.0)
+guard_part call (Place l x) ps next e h = absurd (place_wrong e)
+guard_part call (Control v) ps next e h = absurd (local_text e.0)
+guard_part call p ps next e h = absurd (none_some _ e)
+
+guard_end : (call : Bool) (p : Part) (ps : List Part) (next : Node) → Goes (GuardEnd call) p next → Shape next ps → Shape (GuardEnd call) (p ∷ ps)
+guard_end call (Put Comma) ps next e h = comma_others call ps (at_node (EntryWanted call false) next ps e h)
+guard_end call (Control v) ps next e h = absurd (none_some _ e.0)
+guard_end call p ps next e h = absurd (none_some _ e)
 
 shape_part : (n : Node) (p : Part) (ps : List Part) (next : Node) → Goes n p next → Shape next ps → Shape n (p ∷ ps)
 shape_part (SetTarget false) p ps next e h = target_part p ps next e h
@@ -362,6 +754,29 @@ shape_part MergeInto p ps next e h = into_part p ps next e h
 shape_part MergeBehind p ps next e h = into_behind p ps next e h
 shape_part MergeFrom p ps next e h = from_part p ps next e h
 shape_part MergeEnd p ps next e h = merge_end p ps next e h
+shape_part (IfWanted first) p ps next e h = if_part first p ps next e h
+shape_part IfEnd p ps next e h = if_end p ps next e h
+shape_part ForWanted p ps next e h = for_part p ps next e h
+shape_part ForBehind p ps next e h = for_behind p ps next e h
+shape_part RangeWanted p ps next e h = range_part p ps next e h
+shape_part RangeEnd p ps next e h = range_end p ps next e h
+shape_part StepWanted p ps next e h = step_part p ps next e h
+shape_part StepEnd p ps next e h = step_end p ps next e h
+shape_part LimitWanted p ps next e h = limit_part p ps next e h
+shape_part LimitEnd p ps next e h = limit_end p ps next e h
+shape_part (NewWanted first) p ps next e h = new_part first p ps next e h
+shape_part KeptWanted p ps next e h = kept_part p ps next e h
+shape_part KeptBehind p ps next e h = kept_behind p ps next e h
+shape_part NewEnd p ps next e h = new_end p ps next e h
+shape_part (EntryWanted call first) p ps next e h = entry_part call first p ps next e h
+shape_part (LabelEnd call) p ps next e h = label_end call p ps next e h
+shape_part (RoutineWanted call) p ps next e h = routine_part call p ps next e h
+shape_part (RoutineEnd call) p ps next e h = routine_end call p ps next e h
+shape_part ActualWanted p ps next e h = actual_part p ps next e h
+shape_part ActualEnd p ps next e h = actual_end p ps next e h
+shape_part ActualsEnd p ps next e h = actuals_end p ps next e h
+shape_part (GuardWanted call) p ps next e h = guard_part call p ps next e h
+shape_part (GuardEnd call) p ps next e h = guard_end call p ps next e h
 
 shape : (ps : List Part) (n : Node) → Fits n ps → Shape n ps
 shape [] n f = shape_end n f
@@ -374,12 +789,49 @@ pub record Made (k : Keyword) (ps : List Part) : Type 0 where
   pub named : keyword_for command ≡ k
   pub parts : command_parts command ≡ ps
 
+-- calls without actuals as jumps
+abbrev as_jumped : Called → Jumped
+as_jumped c = record { target = c.target; condition = c.condition }
+
+jumped_items : (xs : List Called) → has_items (map as_jumped xs) ≡ has_items xs
+jumped_items [] = refl
+jumped_items (x ∷ xs) = refl
+
+jumped_formed : (xs : List Called) → every is_called xs ≡ true → every is_jumped (map as_jumped xs) ≡ true
+jumped_formed [] h = refl
+jumped_formed (x ∷ xs) h = both (is_called x) (every is_jumped (map as_jumped xs)) (first_of (is_called x) (every is_called xs) h) (jumped_formed xs (second_of (is_called x) (every is_called xs) h))
+
+bare_nil : (list : List (Option Expr)) → is_bare list ≡ true → [] ≡ list
+bare_nil [] h = refl
+bare_nil (a ∷ list) h = false_true h
+
+jumped_back : (xs : List Called) → Plainly false xs → map as_called (map as_jumped xs) ≡ xs
+jumped_back [] h = refl
+jumped_back (x ∷ xs) h =
+    ap (λ (list : List (Option Expr)). let c : Called = record { target = x.target; actuals = list; condition = x.condition } in c ∷ map as_called (map as_jumped xs)) (bare_nil x.actuals (first_of (is_bare x.actuals) (every (λ c. is_bare c.actuals) xs) h))
+    ∙ ap (λ (cs : List Called). x ∷ cs) (jumped_back xs (second_of (is_bare x.actuals) (every (λ c. is_bare c.actuals) xs) h))
+
+jumped_with : (js : List Jumped) → with_commas jumped_parts js ≡ with_commas called_parts (map as_called js)
+jumped_with [] = refl
+jumped_with (j ∷ js) = ap (λ (ps : List Part). jumped_parts j ++ ps) (jumps js)
+
 some_bare : (k : Keyword) → may_be_bare k ≡ true → Made k []
 some_bare keyword.Set e = false_true e
 some_bare keyword.Write e = false_true e
 some_bare keyword.Halt e = record { command = Halt; formed = refl; named = refl; parts = refl }
 some_bare keyword.Kill e = record { command = Kill []; formed = refl; named = refl; parts = refl }
 some_bare keyword.Merge e = false_true e
+some_bare keyword.If e = record { command = If []; formed = refl; named = refl; parts = refl }
+some_bare keyword.Else e = record { command = Else; formed = refl; named = refl; parts = refl }
+some_bare keyword.For e = record { command = Forever; formed = refl; named = refl; parts = refl }
+some_bare keyword.Do e = record { command = Do []; formed = refl; named = refl; parts = refl }
+some_bare keyword.Goto e = false_true e
+some_bare keyword.Quit e = record { command = Quit; formed = refl; named = refl; parts = refl }
+some_bare keyword.New e = record { command = New []; formed = refl; named = refl; parts = refl }
+
+for_made : (ps : List Part) → Shape ForWanted ps → Made keyword.For ps
+for_made ps (inl e) = record { command = Forever; formed = refl; named = refl; parts = sym e }
+for_made ps (inr x) = record { command = For x.0 (x.1 ∷ x.2); formed = both (is_local x.0) true x.4 refl; named = refl; parts = x.3 }
 
 some_made : (k : Keyword) (ps : List Part) (n : Node) → first_node k ≡ Some n → Shape n ps → Made k ps
 some_made keyword.Set ps n e h =
@@ -395,6 +847,27 @@ some_made keyword.Write ps n e h =
     let x = at_node OutputWanted n ps e h in
     record { command = Write (x.0 ∷ x.1); formed = both (is_output x.0) (every is_output x.1) x.3 x.4; named = refl; parts = x.2 }
 some_made keyword.Halt ps n e h = absurd (none_some n e)
+some_made keyword.If ps n e h =
+    let x = at_node (IfWanted true) n ps e h in
+    record { command = If x.0; formed = refl; named = refl; parts = x.1 }
+some_made keyword.Else ps n e h = absurd (none_some n e)
+some_made keyword.For ps n e h = for_made ps (at_node ForWanted n ps e h)
+some_made keyword.Do ps n e h =
+    let x = at_node (EntryWanted true true) n ps e h in
+    record { command = Do x.0.list; formed = x.0.formed; named = refl; parts = x.0.are }
+some_made keyword.Goto ps n e h =
+    let x = at_node (EntryWanted false true) n ps e h in
+    let js = map as_jumped x.0.list in
+    record {
+      command = Goto js;
+      formed = both (has_items js) (every is_jumped js) (jumped_items x.0.list ∙ x.1 refl) (jumped_formed x.0.list x.0.formed);
+      named = refl;
+      parts = jumped_with js ∙ ap (λ (cs : List Called). with_commas called_parts cs) (jumped_back x.0.list x.0.plain) ∙ x.0.are;
+    }
+some_made keyword.Quit ps n e h = absurd (none_some n e)
+some_made keyword.New ps n e h =
+    let x = at_node (NewWanted true) n ps e h in
+    record { command = New x.0; formed = x.2; named = refl; parts = x.1 }
 some_made keyword.Kill ps n e h =
     let x = at_node (KillWanted true) n ps e h in
     record { command = Kill x.0; formed = x.2; named = refl; parts = x.1 }

@@ -1,14 +1,14 @@
 -- The arguments of commands as a table: the places in them, and what goes on at each.
-use Rattle.std.specs.Prelude.{◌≡◌, ℕ, suc, nat_le, if◌then◌else◌, Bool, true, false, List, [], ◌∷◌, length, Option, Some, None}
-use Rattle.mj_ast.specs.declared.sign.Sign.TheVariants.{Equals, Comma, Exclamation, Open, Close}
+use Rattle.std.specs.Prelude.{◌≡◌, ℕ, suc, nat_le, if◌then◌else◌, Bool, true, false, ◌&&◌, List, [], ◌∷◌, length, Option, Some, None}
+use Rattle.mj_ast.specs.declared.sign.Sign.TheVariants.{Equals, Comma, Colon, Exclamation, Caret, Open, Close}
 use Rattle.mj_ast.specs.declared.function.Function.TheVariants.{Piece}
 use Rattle.mj_ast.specs.declared.function.Callee.{Callee}
 use Rattle.mj_ast.specs.declared.function.Callee.TheVariants.{Texts}
 use Rattle.mj_ast.specs.declared.keyword.Keyword.{Keyword}
 use Rattle.mj_ast.specs.declared.keyword.Keyword.TheVariants as keyword
-use Rattle.mj_ast.specs.Tokens.{Token, Word, Called, Signed}
-use Rattle.mj_ast.specs.Expressions.{callee_of, name_limit}
-use Rattle.mj_ast.specs.Commands.{Part, Put, Named, PieceCall, Text, Place}
+use Rattle.mj_ast.specs.Tokens.{Token, Word, Called, Digits, Signed}
+use Rattle.mj_ast.specs.Expressions.{callee_of, name_limit, text_limit}
+use Rattle.mj_ast.specs.Commands.{Part, Put, Named, Label, PieceCall, Text, Place, Control, is_local}
 
 -- ---- places
 
@@ -40,6 +40,36 @@ pub data Node : Type 0 where
   MergeBehind : Node
   MergeFrom : Node
   MergeEnd : Node
+  -- IF: an expression is wanted, the first or another; it was read
+  IfWanted : (first : Bool) → Node
+  IfEnd : Node
+  -- FOR: its local is wanted; it was read; the first expression of a range is wanted, and was read; its step; its end
+  ForWanted : Node
+  ForBehind : Node
+  RangeWanted : Node
+  RangeEnd : Node
+  StepWanted : Node
+  StepEnd : Node
+  LimitWanted : Node
+  LimitEnd : Node
+  -- NEW: an argument is wanted, the first or another; a name of a list; such a name was read; an argument was read
+  NewWanted : (first : Bool) → Node
+  KeptWanted : Node
+  KeptBehind : Node
+  NewEnd : Node
+  -- DO, which calls, and GOTO: an entry is wanted, the first or another; its label was read; the name of its routine is wanted;
+  -- the entry was read
+  EntryWanted : (call first : Bool) → Node
+  LabelEnd : (call : Bool) → Node
+  RoutineWanted : (call : Bool) → Node
+  RoutineEnd : (call : Bool) → Node
+  -- DO: an actual may stand there; it was read; the actuals were read
+  ActualWanted : Node
+  ActualEnd : Node
+  ActualsEnd : Node
+  -- the condition of an argument is wanted; it was read
+  GuardWanted : (call : Bool) → Node
+  GuardEnd : (call : Bool) → Node
 
 -- ---- what goes on
 
@@ -53,6 +83,22 @@ part_of (Signed s) = Some (Put s)
 part_of (Word w) = if nat_le (length w) name_limit then Some (Named w) else None
 part_of (Called w) = if nat_le (length w) name_limit then piece_part (callee_of w) else None
 part_of _ = None
+
+-- a label is wanted here, a name or digits
+abbrev pub labels : Node → Bool
+labels (EntryWanted call first) = true
+labels n = false
+
+-- the part that a token alone is where a label is wanted, or isn't
+abbrev pub part_at : Bool → Token → Option Part
+part_at true (Word w) = if nat_le (length w) name_limit then Some (Label w) else None
+part_at true (Digits d) = if nat_le (length d) text_limit then Some (Label d) else None
+part_at label t = part_of t
+
+-- where actuals may stand
+abbrev pub actuals_at : Bool → Option Node
+actuals_at true = Some ActualWanted
+actuals_at false = None
 
 -- the place behind a part of one token, if it may stand here
 abbrev pub takes : Node → Part → Option Node
@@ -77,16 +123,48 @@ takes NameBehind (Put Close) = Some KillEnd
 takes KillEnd (Put Comma) = Some (KillWanted false)
 takes MergeBehind (Put Equals) = Some MergeFrom
 takes MergeEnd (Put Comma) = Some MergeInto
+takes IfEnd (Put Comma) = Some (IfWanted false)
+takes ForBehind (Put Equals) = Some RangeWanted
+takes RangeEnd (Put Colon) = Some StepWanted
+takes RangeEnd (Put Comma) = Some RangeWanted
+takes StepEnd (Put Colon) = Some LimitWanted
+takes StepEnd (Put Comma) = Some RangeWanted
+takes LimitEnd (Put Comma) = Some RangeWanted
+takes (NewWanted first) (Named w) = Some NewEnd
+takes (NewWanted first) (Put Open) = Some KeptWanted
+takes KeptWanted (Named w) = Some KeptBehind
+takes KeptBehind (Put Comma) = Some KeptWanted
+takes KeptBehind (Put Close) = Some NewEnd
+takes NewEnd (Put Comma) = Some (NewWanted false)
+takes (EntryWanted call first) (Label l) = Some (LabelEnd call)
+takes (EntryWanted call first) (Put Caret) = Some (RoutineWanted call)
+takes (LabelEnd call) (Put Caret) = Some (RoutineWanted call)
+takes (LabelEnd call) (Put Open) = actuals_at call
+takes (LabelEnd call) (Put Colon) = Some (GuardWanted call)
+takes (LabelEnd call) (Put Comma) = Some (EntryWanted call false)
+takes (RoutineWanted call) (Named w) = Some (RoutineEnd call)
+takes (RoutineEnd call) (Put Open) = actuals_at call
+takes (RoutineEnd call) (Put Colon) = Some (GuardWanted call)
+takes (RoutineEnd call) (Put Comma) = Some (EntryWanted call false)
+takes ActualWanted (Put Comma) = Some ActualWanted
+takes ActualWanted (Put Close) = Some ActualsEnd
+takes ActualEnd (Put Comma) = Some ActualWanted
+takes ActualEnd (Put Close) = Some ActualsEnd
+takes ActualsEnd (Put Colon) = Some (GuardWanted true)
+takes ActualsEnd (Put Comma) = Some (EntryWanted true false)
+takes (GuardEnd call) (Put Comma) = Some (EntryWanted call false)
 takes _ _ = None
 
--- an expression or a variable, inside so many levels that the command opens, and the place behind it
+-- an expression or a variable, inside so many levels that the command opens, or a variable that is a local, and the place behind it
 pub data Want : Type 0 where
   AnExpr : (level : ℕ) (next : Node) → Want
   AVar : (level : ℕ) (next : Node) → Want
+  ALocal : (next : Node) → Want
 
 abbrev pub next_of : Want → Node
 next_of (AnExpr level next) = next
 next_of (AVar level next) = next
+next_of (ALocal next) = next
 
 -- what may stand here
 abbrev pub wants : Node → Option Want
@@ -98,6 +176,13 @@ wants OutputWanted = Some (AnExpr 0 OutputEnd)
 wants (KillWanted first) = Some (AVar 0 KillEnd)
 wants MergeInto = Some (AVar 0 MergeBehind)
 wants MergeFrom = Some (AVar 0 MergeEnd)
+wants (IfWanted first) = Some (AnExpr 0 IfEnd)
+wants ForWanted = Some (ALocal ForBehind)
+wants RangeWanted = Some (AnExpr 0 RangeEnd)
+wants StepWanted = Some (AnExpr 0 StepEnd)
+wants LimitWanted = Some (AnExpr 0 LimitEnd)
+wants ActualWanted = Some (AnExpr 1 ActualEnd)
+wants (GuardWanted call) = Some (AnExpr 0 (GuardEnd call))
 wants _ = None
 
 -- the arguments may end here
@@ -108,6 +193,19 @@ ends MarksEnd = true
 ends (KillWanted first) = first
 ends KillEnd = true
 ends MergeEnd = true
+ends (IfWanted first) = first
+ends IfEnd = true
+ends ForWanted = true
+ends RangeEnd = true
+ends StepEnd = true
+ends LimitEnd = true
+ends (NewWanted first) = first
+ends NewEnd = true
+ends (EntryWanted call first) = call && first
+ends (LabelEnd call) = true
+ends (RoutineEnd call) = true
+ends ActualsEnd = true
+ends (GuardEnd call) = true
 ends _ = false
 
 -- ---- commands
@@ -119,12 +217,21 @@ first_node keyword.Write = Some OutputWanted
 first_node keyword.Halt = None
 first_node keyword.Kill = Some (KillWanted true)
 first_node keyword.Merge = Some MergeInto
+first_node keyword.If = Some (IfWanted true)
+first_node keyword.Else = None
+first_node keyword.For = Some ForWanted
+first_node keyword.Do = Some (EntryWanted true true)
+first_node keyword.Goto = Some (EntryWanted false true)
+first_node keyword.Quit = None
+first_node keyword.New = Some (NewWanted true)
 
 -- the command may have none
 abbrev pub may_be_bare : Keyword → Bool
-may_be_bare keyword.Halt = true
-may_be_bare keyword.Kill = true
-may_be_bare _ = false
+may_be_bare keyword.Set = false
+may_be_bare keyword.Write = false
+may_be_bare keyword.Merge = false
+may_be_bare keyword.Goto = false
+may_be_bare _ = true
 
 -- ---- lists of parts
 
@@ -132,6 +239,7 @@ may_be_bare _ = false
 abbrev pub Goes : Node → Part → Node → Type 0
 Goes n (Text level e) next = wants n ≡ Some (AnExpr level next)
 Goes n (Place level v) next = wants n ≡ Some (AVar level next)
+Goes n (Control v) next = (wants n ≡ Some (ALocal next)) × (is_local v ≡ true)
 Goes n p next = takes n p ≡ Some next
 
 -- the parts may stand from here on up to the end

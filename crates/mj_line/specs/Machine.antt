@@ -1,13 +1,14 @@
 -- Reads the tokens of a line from the left, one at a time: what was read, and what may come next.
-use Rattle.std.specs.Prelude.{ℕ, ◌≡◌, ◌-◌, ◌==◌, nat_le, Bool, if◌then◌else◌, List, [], ◌∷◌, ◌++◌, length, Option, Some, None}
-use Rattle.mj_ast.specs.declared.sign.Sign.TheVariants.{Colon}
+use Rattle.std.specs.Prelude.{ℕ, ◌≡◌, ◌-◌, ◌==◌, nat_le, Bool, true, false, if◌then◌else◌, List, [], ◌∷◌, ◌++◌, length, Option, Some, None, suc, bytes_eq}
+use Rattle.mj_ast.specs.declared.sign.Sign.TheVariants.{Caret, Colon, Comma, Open, Close, Dot}
+use Rattle.std.specs.List.{list_any}
 use Rattle.mj_ast.specs.declared.keyword.Keyword.{Keyword}
 use Rattle.mj_ast.specs.Syntax.{Expr}
 use Rattle.mj_ast.specs.Tokens.{Token, Word, Called, Special, Digits, Signed, Blank, Comment}
-use Rattle.mj_ast.specs.Expressions.{symbol, name_limit}
-use Rattle.mj_ast.specs.Commands.{Part, Text, Place, keyword_of}
+use Rattle.mj_ast.specs.Expressions.{Symbol, Mark, symbol, name_limit}
+use Rattle.mj_ast.specs.Commands.{Part, Text, Place, Control, keyword_of, is_conditional}
 use Rattle.mj_expr.specs.Machine as phrase
-use Rattle.mj_line.specs.Forms.{Node, Want, AnExpr, AVar, next_of, part_of, takes, wants, ends, first_node, may_be_bare}
+use Rattle.mj_line.specs.Forms.{Node, Want, AnExpr, AVar, ALocal, next_of, part_at, labels, takes, wants, ends, first_node, may_be_bare}
 use Rattle.mj_line.specs.Sentences.{Clause, Sentence}
 
 -- ---- spots between phrases
@@ -21,7 +22,17 @@ pub record Rest : Type 0 where
 pub data Spot : Type 0 where
   -- nothing was read
   Begin : Spot
-  -- a label was read, or a command and what ends it, and blanks
+  -- a label was read
+  Labelled : (label : List ℕ) → Spot
+  -- and a `(`, behind which a name or `)` may stand
+  FormalsOpened : (label : List ℕ) → Spot
+  -- and these names, and a comma, behind which another name is wanted; no comma yet; a `)`
+  FormalWanted : (label : List ℕ) (names : List (List ℕ)) → Spot
+  FormalBehind : (label : List ℕ) (names : List (List ℕ)) → Spot
+  FormalsEnd : (label : List ℕ) (names : List (List ℕ)) → Spot
+  -- a label with its formals, or nothing; then a blank, and dots and blanks
+  Indented : (l : Sentence) → Spot
+  -- a command was read and what ends it, and blanks
   Behind : (r : Rest) → Spot
   -- a comment was read
   Over : (l : Sentence) → Spot
@@ -46,21 +57,26 @@ pub data State : Type 0 where
 
 -- no line was read
 abbrev pub empty_line : Sentence
-empty_line = record { label = None; clauses = [] }
+empty_line = record { label = None; formals = []; level = 1; clauses = [] }
 
--- a line of a label alone, or of nothing
-abbrev pub bare_line : Option (List ℕ) → Sentence
-bare_line label = record { label = label; clauses = [] }
-
+-- a line of a label alone
 abbrev pub labelled : List ℕ → Sentence
-labelled label = record { label = Some label; clauses = [] }
+labelled label = record { label = Some label; formals = []; level = 1; clauses = [] }
+
+-- with formals
+abbrev pub headed : List ℕ → List (List ℕ) → Sentence
+headed label names = record { label = Some label; formals = names; level = 1; clauses = [] }
+
+-- with another dot
+abbrev pub dotted : Sentence → Sentence
+dotted l = record { label = l.label; formals = l.formals; level = suc l.level; clauses = l.clauses }
 
 abbrev pub clause : Option Expr → Keyword → List Part → Clause
 clause condition keyword parts = record { condition = condition; keyword = keyword; parts = parts }
 
 -- with another command
 abbrev pub with_clause : Sentence → Clause → Sentence
-with_clause l c = record { label = l.label; clauses = l.clauses ++ c ∷ [] }
+with_clause l c = record { label = l.label; formals = l.formals; level = l.level; clauses = l.clauses ++ c ∷ [] }
 
 -- behind a command without arguments
 abbrev pub bare_rest : Sentence → Option Expr → Keyword → Rest
@@ -80,6 +96,7 @@ variable_wanted = phrase.Sought phrase.AsTarget
 abbrev pub wanted : Want → phrase.State
 wanted (AnExpr level next) = expression_wanted
 wanted (AVar level next) = variable_wanted
+wanted (ALocal next) = variable_wanted
 
 -- the beginning of a phrase that is read for this
 abbrev pub start : Goal → phrase.State
@@ -95,6 +112,7 @@ IsClosed (Argument l condition k done w) = wants (next_of w) ≡ None
 abbrev pub level_of : Want → ℕ
 level_of (AnExpr level next) = level
 level_of (AVar level next) = level
+level_of (ALocal next) = 0
 
 abbrev pub level : Goal → ℕ
 level (Condition l k) = 0
@@ -108,6 +126,7 @@ inside m n = record { depth = m.depth - n; width = m.width }
 abbrev pub behind_want : Sentence → Option Expr → Keyword → List Part → Want → phrase.Phrase → Spot
 behind_want l condition k done (AnExpr level next) (phrase.Whole e) = Args l condition k (done ++ Text level e ∷ []) next
 behind_want l condition k done (AVar level next) (phrase.Target v) = Args l condition k (done ++ Place level v ∷ []) next
+behind_want l condition k done (ALocal next) (phrase.Target v) = Args l condition k (done ++ Control v ∷ []) next
 behind_want l condition k done w p = Begin
 
 abbrev pub behind : Goal → phrase.Phrase → Spot
@@ -121,6 +140,12 @@ bare_rested b r = if b then Some r else None
 -- what the spot is where a command may end there, or none was begun
 abbrev pub rested : Spot → Option Rest
 rested Begin = Some (record { line = empty_line; gap = 1; comment = 0 })
+rested (Labelled label) = Some (record { line = labelled label; gap = 1; comment = 1 })
+rested (FormalsOpened label) = None
+rested (FormalWanted label names) = None
+rested (FormalBehind label names) = None
+rested (FormalsEnd label names) = Some (record { line = headed label names; gap = 1; comment = 1 })
+rested (Indented l) = Some (record { line = l; gap = 0; comment = 0 })
 rested (Behind r) = Some r
 rested (Over l) = None
 rested (Worded l k) = bare_rested (may_be_bare k) (bare_rest l None k)
@@ -163,14 +188,33 @@ abbrev pub taken : Sentence → Option Expr → Keyword → List Part → Node �
 taken l condition k done n (Some p) = moved l condition k (done ++ p ∷ []) (takes n p)
 taken l condition k done n None = Stuck
 
+-- a name of a length that a name may have, which is none of these
+abbrev pub is_new : List (List ℕ) → List ℕ → Bool
+is_new names w = if list_any (bytes_eq w) names then false else nat_le (length w) name_limit
+
+-- another formal
+abbrev pub formal : List ℕ → List (List ℕ) → List ℕ → Next
+formal label names w = if is_new names w then Go (At (FormalBehind label (names ++ w ∷ []))) else Stuck
+
 -- the tokens that only this spot goes on with
 abbrev pub own : Spot → Token → Next
-own Begin (Word w) = if nat_le (length w) name_limit then Go (At (Behind (record { line = labelled w; gap = 1; comment = 1 }))) else Stuck
-own Begin (Digits d) = Go (At (Behind (record { line = labelled d; gap = 1; comment = 1 })))
-own (Worded l k) (Signed Colon) = Go (At (Asked l k))
+own Begin (Word w) = if nat_le (length w) name_limit then Go (At (Labelled w)) else Stuck
+own Begin (Digits d) = Go (At (Labelled d))
+own Begin Blank = Go (At (Indented empty_line))
+own (Labelled label) (Signed Open) = Go (At (FormalsOpened label))
+own (Labelled label) Blank = Go (At (Indented (labelled label)))
+own (FormalsOpened label) (Word w) = formal label [] w
+own (FormalsOpened label) (Signed Close) = Go (At (FormalsEnd label []))
+own (FormalWanted label names) (Word w) = formal label names w
+own (FormalBehind label names) (Signed Comma) = Go (At (FormalWanted label names))
+own (FormalBehind label names) (Signed Close) = Go (At (FormalsEnd label names))
+own (FormalsEnd label names) Blank = Go (At (Indented (headed label names)))
+own (Indented l) Blank = Go (At (Indented l))
+own (Indented l) (Signed Dot) = Go (At (Indented (dotted l)))
+own (Worded l k) (Signed Colon) = if is_conditional k then Go (At (Asked l k)) else Stuck
 own (Worded l k) Blank = arguments l None k
 own (Bare l condition k) Blank = arguments l condition k
-own (Args l condition k done n) t = taken l condition k done n (part_of t)
+own (Args l condition k done n) t = taken l condition k done n (part_at (labels n) t)
 own p k = Stuck
 
 -- a command begins
@@ -213,9 +257,19 @@ phrase_step g s k phrase.Long = Long
 abbrev pub in_step : phrase.Limits → Goal → phrase.State → Token → Next
 in_step m g s k = phrase_step g s k (phrase.step (inside m (level g)) s (symbol k))
 
+-- a local begins without a `^`
+abbrev pub may_want : Want → Symbol → Bool
+may_want (ALocal next) (Mark Caret) = false
+may_want w x = true
+
+-- what a phrase that is read for this may begin with
+abbrev pub may_begin : Goal → Symbol → Bool
+may_begin (Condition l k) x = true
+may_begin (Argument l condition k done w) x = may_want w x
+
 -- a phrase begins, if one may
 abbrev pub entering : phrase.Limits → Option Goal → Token → Next
-entering m (Some g) k = in_step m g (start g) k
+entering m (Some g) k = if may_begin g (symbol k) then in_step m g (start g) k else Stuck
 entering m None k = Stuck
 
 abbrev pub step : phrase.Limits → State → Token → Next

@@ -1,11 +1,11 @@
 -- Lines by the parts of their commands, and how they are spelled.
-use Rattle.std.specs.Prelude.{◌≡◌, ℕ, ◌≤◌, max, List, [], ◌∷◌, ◌++◌, Option, Some, replicate, map}
+use Rattle.std.specs.Prelude.{◌≡◌, ℕ, suc, ◌≤◌, max, List, [], ◌∷◌, ◌++◌, Option, Some, replicate, map}
 use Rattle.mj_ast.specs.declared.keyword.Keyword.{Keyword}
 use Rattle.mj_ast.specs.Syntax.{Expr, Step, Line}
 use Rattle.mj_ast.specs.Tokens.{Token, Word, Blank}
 use Rattle.mj_ast.specs.Expressions.{expr_nesting, expr_width}
-use Rattle.mj_ast.specs.Commands.{Part, keyword_of, keyword_for, command_parts, SpellsCondition, SpellsArguments, gap_of, comment_gap_of, greatest, part_nesting, part_width, condition_measure}
-use Rattle.mj_ast.specs.Lines.{SpellsEnd, SpellsLabel, comment_gap}
+use Rattle.mj_ast.specs.Commands.{Part, keyword_of, keyword_for, command_parts, SpellsCondition, SpellsArguments, IsConditional, gap_of, comment_gap_of, greatest, part_nesting, part_width, condition_measure}
+use Rattle.mj_ast.specs.Lines.{SpellsEnd, SpellsHead, comment_gap, gap_behind}
 use Rattle.mj_line.specs.Forms.{IsForm}
 
 -- a command: its postcondition, its word and the parts of its arguments
@@ -17,13 +17,15 @@ pub record Clause : Type 0 where
 -- a line of them
 pub record Sentence : Type 0 where
   pub label : Option (List ℕ)
+  pub formals : List (List ℕ)
+  pub level : ℕ
   pub clauses : List Clause
 
 abbrev pub SpellsClause : List Token → Clause → Type 0
 SpellsClause ks c =
     (word : List ℕ) × (condition : List Token) × (arguments : List Token)
     × (ks ≡ Word word ∷ (condition ++ arguments)) × (keyword_of word ≡ Some c.keyword)
-    × SpellsCondition condition c.condition × SpellsArguments arguments c.parts × IsForm c.keyword c.parts
+    × SpellsCondition condition c.condition × SpellsArguments arguments c.parts × IsForm c.keyword c.parts × IsConditional c.keyword c.condition
 
 abbrev pub SpellsClauses : ℕ → ℕ → List Token → List Clause → Type 0
 SpellsClauses g c ks [] = SpellsEnd c ks
@@ -34,8 +36,9 @@ SpellsClauses g c ks (x ∷ xs) =
 
 abbrev pub SpellsSentence : List Token → Sentence → Type 0
 SpellsSentence ks l =
-    (front : List Token) × (rest : List Token)
-    × (ks ≡ front ++ rest) × SpellsLabel front l.label × SpellsClauses 1 (comment_gap l.label) rest l.clauses
+    (front : List Token) × (rest : List Token) × (dots : ℕ)
+    × (ks ≡ front ++ rest) × SpellsHead front l.label l.formals dots × (l.level ≡ suc dots)
+    × SpellsClauses (gap_behind dots 1) (gap_behind dots (comment_gap l.label)) rest l.clauses
 
 -- ---- lines as trees
 
@@ -44,7 +47,7 @@ abbrev pub clause_of : Step → Clause
 clause_of s = record { condition = s.condition; keyword = keyword_for s.command; parts = command_parts s.command }
 
 abbrev pub sentence_of : Line → Sentence
-sentence_of l = record { label = l.label; clauses = map clause_of l.steps }
+sentence_of l = record { label = l.label; formals = l.formals; level = l.level; clauses = map clause_of l.steps }
 
 -- ---- limits
 

@@ -1,4 +1,4 @@
 pub mod Names
 pub mod Units
-pub mod Starts
+pub mod Entries
 pub mod Examples

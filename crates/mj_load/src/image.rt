@@ -1,10 +1,10 @@
 // An image.
 
 ghost use Rattle.std.specs.Prelude.{◌≡◌};
-ghost use Rattle.mj_load.specs.Image.{IsImage, IsStart};
+ghost use Rattle.std.specs.Prelude.{All, None, []};
+ghost use Rattle.mj_pcode.specs.Checked.{IsChecked};
+ghost use Rattle.mj_load.specs.Image.{AreUnits, IsImage, IsWithinLimits, names_of, repeated};
 
-use crate::find::{Start, line_in, unit_of};
-use mj_ask::Entry;
 use mj_ast::Routine;
 use mj_pcode::Unit;
 use std::marker::Model;
@@ -46,30 +46,14 @@ impl Image {
     {
         self.units.as_slice()
     }
-
-    /// Where a job starts that is started at this entry, if there is such a line.
-    pub fn find(&self, entry: &Entry) -> Option<Start>
-        ensures { IsStart self.now entry.now result }
-    {
-        let Some(place) = unit_of(&self.units, &entry.routine) else {
-            return None;
-        };
-        let unit = &self.units[place];
-        let line = line_in(unit, &entry.label);
-        match unit.starts.get(line.saturating_sub(1)) {
-            None => None,
-            Some(pc) => Some(Start {
-                unit: place,
-                line: line as u32,
-                pc: *pc,
-            }),
-        }
-    }
 }
 
 /// An image of these routines and their units.
 pub fn make_image(routines: Vec<Routine>, units: Vec<Unit>) -> Image
-    requires { IsImage (record { routines = routines.items; units = units.items }) }
+    requires within { All IsWithinLimits routines.items }
+    requires apart { repeated [] (names_of routines.items) ≡ None }
+    requires code { AreUnits routines.items units.items }
+    requires checked { All IsChecked units.items }
     ensures { result ≡ record { routines = routines.items; units = units.items } }
 {
     Image { routines, units }

@@ -4,6 +4,7 @@ ghost use Rattle.std.specs.Prelude.{◌≡◌, ◌<◌, ◌↔◌, ℕ, [], List
 ghost use Rattle.std.specs.List.{list_any};
 ghost use Rattle.std.specs.Str.{bytes_eq};
 ghost use Rattle.mj_ast.specs.declared.routine.Routine.{Routine};
+ghost use Rattle.mj_pcode.specs.Checked.{IsChecked};
 ghost use Rattle.mj_load.specs.Image.{IsWithinLimits, AreUnits, repeated, names_of};
 
 use crate::image::{Image, make_image};
@@ -68,7 +69,8 @@ fn has_name(routines: &[Routine], name: &Text) -> bool
 // The code of each of these routines.
 fn units_of(alloc: Global, routines: &[Routine]) -> Result<Vec<Unit>, AllocError>
     requires { All IsWithinLimits routines.now }
-    ensures { IfOk result (λ units. AreUnits routines.now units.items) }
+    ensures code { IfOk result (λ units. AreUnits routines.now units.items) }
+    ensures checked { IfOk result (λ units. All IsChecked units.items) }
 {
     let mut units = Vec::with_capacity(alloc, routines.len())?;
     for routine in routines {

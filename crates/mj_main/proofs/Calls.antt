@@ -36,7 +36,7 @@ module _ {E : Type 0} (result : Result Turn E) (turn : Turn) (old new : ℕ) (e 
 module _ (image : Loaded) (entry : Entry) (job : Running) where
   -- a job is still going after the turns that it counted
   goes_on : IsRunOf image entry job → GoesOn (routines_of image) entry job.run.log job.run.spent
-  goes_on r = told_ran (routines_of image) entry (code_in image job.unit job.target) job.run.log job.run.pending job.run.spent job.run.at r
+  goes_on r = told_ran (routines_of image) entry (code_in image job.entry) job.run.log job.run.pending job.run.spent job.run.at r
 
   going_as : (ran : ℕ) → job.run.spent ≡ turns_of ran → IsRunOf image entry job → GoesOn (routines_of image) entry job.run.log (turns_of ran)
   going_as ran e r = subst (GoesOn (routines_of image) entry job.run.log) e (goes_on r)

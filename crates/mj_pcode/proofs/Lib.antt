@@ -1,0 +1,4 @@
+pub mod Agree
+pub mod Keeps
+pub mod Probe
+pub mod Examples

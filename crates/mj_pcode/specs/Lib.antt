@@ -1,1 +1,5 @@
+pub mod Found
+pub mod Context
 pub mod Machine
+pub mod Checked
+pub mod Sound

@@ -1,8 +1,10 @@
 // Instructions, and the unit that a routine becomes.
 
 use crate::marks::Marks;
+use crate::shape::Shape;
 use crate::words::Words;
-use mj_ast::{Function, NameFunction, Scope};
+use mj_ask::Entry;
+use mj_ast::{Function, NameFunction, Scope, Special};
 use mj_oper::{Op, UnaryOp};
 use mj_text::Text;
 
@@ -22,13 +24,31 @@ pub struct Depth {
     pub taken: usize,
 }
 
+/// A line as it is entered: its number, its level, and where the next one begins.
+#[derive(Clone, Copy, PartialEq, Eq, Debug)]
+pub struct LineStart {
+    pub line: u32,
+    pub level: usize,
+    pub next: usize,
+}
+
+/// What a range of a FOR gives: one value, numbers by steps without an end, or up to one. Its operands are one, two or three.
+#[derive(Clone, Copy, PartialEq, Eq, Debug)]
+pub enum Span {
+    One,
+    Endless,
+    UpTo,
+}
+
 /// An instruction. Operands lie on a stack of texts.
 #[derive(Drop)]
 pub enum Instr {
-    /// line `k` of the routine is entered
-    Line(u32),
+    /// a line of the routine is entered, or passed over where it is deeper than its frame; where it is less deep the frame is over
+    Line(LineStart),
     /// puts a text on the stack
     Push(Text),
+    /// puts the value of a special variable on the stack
+    Special(Special),
     /// takes the subscripts of a variable off, and puts its value on
     Load(Reference),
     /// takes one operand off, and puts what the operator gives on
@@ -73,6 +93,35 @@ pub enum Instr {
     NoneTrue,
     /// ends the job
     Halt,
+    /// takes a truth value off, which `$TEST` becomes, and goes on at the instruction with this number where it is false
+    Decide(usize),
+    /// goes on at the instruction with this number where `$TEST` is false
+    If(usize),
+    /// goes on at the instruction with this number where `$TEST` is true
+    Else(usize),
+    /// takes the subscripts of a local off, so many, and begins a FOR with it, whose passes begin at the instruction with this
+    /// number
+    Open(Text, usize, usize),
+    /// begins a FOR without arguments, whose passes begin behind the next instruction
+    Forever,
+    /// takes the operands of a range off, and goes on with the first pass of the FOR in it, or behind this instruction where it has none
+    Begin(Span),
+    /// a pass of the innermost FOR is over: goes on with the next one, or behind the range
+    Again,
+    /// the innermost FOR is over: goes on at the instruction with this number
+    Close(usize),
+    /// takes the actuals that are given off, and goes on in a new frame at the line that the entry names
+    Do(Entry, Shape),
+    /// goes on in a new frame behind the line with this number, one level deeper
+    Block(u32),
+    /// goes on at the line that the entry names
+    Goto(Entry),
+    /// the frame is over
+    Quit,
+    /// the locals of these names are saved, and have no value any more
+    New(Words),
+    /// all locals but those of these names are saved, and have no value any more
+    NewExcept(Words),
 }
 
 /// A label of a unit, with the number of its line.
@@ -82,12 +131,20 @@ pub struct Label {
     pub line: u32,
 }
 
-/// The p-code of a routine: its instructions, at which of them each line begins (of line k at place k - 1 of the
-/// list), and its labels, in the order of their lines.
+/// A line as it is found: where its instructions begin, its level, and its formals.
+#[derive(Drop)]
+pub struct Head {
+    pub start: usize,
+    pub level: usize,
+    pub formals: Words,
+}
+
+/// The p-code of a routine: its instructions, its lines (line k at place k - 1 of the list), and its labels, in the order of
+/// their lines.
 #[derive(Drop)]
 pub struct Unit {
     pub name: Text,
     pub instrs: Vec<Instr>,
-    pub starts: Vec<usize>,
+    pub heads: Vec<Head>,
     pub labels: Vec<Label>,
 }

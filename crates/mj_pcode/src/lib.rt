@@ -3,10 +3,14 @@
 // `specs/Machine.antt` says what each instruction does: each is one turn.
 #![tactic(auto)]
 
+mod find;
 mod instr;
 mod marks;
+mod shape;
 mod words;
 
-pub use instr::{Depth, Instr, Label, Reference, Unit};
+pub use find::{Target, find_line};
+pub use instr::{Depth, Head, Instr, Label, LineStart, Reference, Span, Unit};
 pub use marks::Marks;
+pub use shape::Shape;
 pub use words::Words;

@@ -1,6 +1,6 @@
 // Names of locals.
 
-ghost use Rattle.std.specs.Prelude.{◌≡◌, IfOk};
+ghost use Rattle.std.specs.Prelude.{◌≡◌, IfOk, [], ◌∷◌};
 
 use mj_text::Text;
 use std::alloc::{AllocError, Global};
@@ -30,6 +30,15 @@ impl Words {
             copy.push(word.try_clone()?)?;
         }
         Ok(Words { words: copy })
+    }
+
+    /// This name alone.
+    pub fn one(alloc: Global, word: &Text) -> Result<Words, AllocError>
+        ensures { IfOk result (λ w. w ≡ word.now ∷ []) }
+    {
+        let mut words = Vec::new(alloc);
+        words.push(word.try_clone()?)?;
+        Ok(Words { words })
     }
 
     /// The names, in order.

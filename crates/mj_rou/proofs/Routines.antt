@@ -12,7 +12,9 @@ use Rattle.mj_rou.specs.declared.error.Refusal.TheVariants as refusal
 use Rattle.mj_rou.proofs.Labels.{labels_more, apart_more}
 use Rattle.std.specs.BTreeSet.{BTreeSet}
 use Rattle.std.specs.Prelude.{IfOk}
-use Rattle.mj_ast.specs.Lines.{IsStuckAt, IsDeepAt, HasLabelOf, label_of}
+use Rattle.mj_ast.specs.Lines.{IsDeepAt, HasLabelOf, label_of}
+use Rattle.mj_ast.specs.LeftOut.{IsNamedAt, IsStuckOn}
+use Rattle.mj_ast.specs.declared.construct.Construct.{Construct}
 use Rattle.mj_ast.specs.declared.routine.Line as kept
 use Rattle.mj_ast.specs.Trees.{line_of}
 use Rattle.std.proofs.Common.{Result, Ok, Err, Bool, true, false}
@@ -33,10 +35,12 @@ line_read line ks l e h r =
       only = λ o s. r.only o (let Q : List Token → Type 0 = λ x. SpellsLine x o in subst Q (sym e) s);
     }
 
-pub line_stuck : (line : List ℕ) (ks : List Token) (n c : ℕ) → ks ≡ tokens line → length line ≤ 8192 → IsStuckWith ks n → ((place : ℕ) → place + n ≡ length ks → c ≡ column line place) → (IsLong line → ⊥) × IsStuckAt line c
-line_stuck line ks n c e h s f =
-    let P : List Token → Type 0 = λ x. IsStuck x s.place in
-    (not_long line ks e h s.short, record { place = s.place; stuck = subst P e s.stuck; column_is = f s.place s.left_is })
+pub line_stuck : (line : List ℕ) (ks : List Token) (n c : ℕ) (x : Option Construct) → ks ≡ tokens line → length line ≤ 8192 → IsStuckWith ks n → ((place : ℕ) → place + n ≡ length ks → c ≡ column line place) →
+    ((place : ℕ) → place + n ≡ length ks → IsNamedAt ks place x) → (IsLong line → ⊥) × IsStuckOn line c x
+line_stuck line ks n c x e h s f g =
+    let P : List Token → Type 0 = λ xs. IsStuck xs s.place in
+    let Q : List Token → Type 0 = λ xs. IsNamedAt xs s.place x in
+    (not_long line ks e h s.short, (record { place = s.place; stuck = subst P e s.stuck; column_is = f s.place s.left_is }, subst Q e (g s.place s.left_is)))
 
 pub line_deep : (line : List ℕ) (ks : List Token) (n c : ℕ) → ks ≡ tokens line → length line ≤ 8192 → IsDeepWith ks n → ((place : ℕ) → place + n ≡ length ks → c ≡ column line place) → (IsLong line → ⊥) × IsDeepAt line c
 line_deep line ks n c e h s f =
@@ -123,6 +127,7 @@ first_at bytes rest behind line front old number e f h a n = record {
 
 pub refused_at : (bytes : List ℕ) (number : ℕ) (before : List (List ℕ)) (line : List ℕ) (r : Refusal) → IsFirstAt bytes number before line → number ≤ 10000 → IsLineRefused (labels_of before) line r → IsRefusedAt bytes number r
 refused_at bytes number before line (refusal.Stuck c) f w h = record { before = before; line = line; first = f; within = w; refused = h }
+refused_at bytes number before line (refusal.LeftOut c x) f w h = record { before = before; line = line; first = f; within = w; refused = h }
 refused_at bytes number before line (refusal.Deep c) f w h = record { before = before; line = line; first = f; within = w; refused = h }
 refused_at bytes number before line refusal.Twice f w h = record { before = before; line = line; first = f; within = w; refused = h }
 refused_at bytes number before line refusal.Long f w h = inl (record { before = before; line = line; first = f; within = w; refused = h })

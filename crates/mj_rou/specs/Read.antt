@@ -8,7 +8,8 @@ use denote.Ref.{Bor}
 use Rattle.mj_ast.specs.Syntax.{Line, Routine}
 use Rattle.mj_ast.specs.Tokens.{Token, tokens, begins_word, continues_word}
 use Rattle.mj_ast.specs.Expressions.{depth_limit, width_limit, name_limit}
-use Rattle.mj_ast.specs.Lines.{SpellsLine, IsLineWithin, IsLong, IsStuckAt, IsDeepAt, HasLabelOf}
+use Rattle.mj_ast.specs.Lines.{SpellsLine, IsLineWithin, IsLong, IsDeepAt, HasLabelOf}
+use Rattle.mj_ast.specs.LeftOut.{IsStuckOn}
 use Rattle.mj_ast.specs.Routines.{lines_of, labels_before, SpellsRoutine, IsName, IsRefused, routine_limit}
 use Rattle.mj_ast.specs.Routines as grammar
 use Rattle.mj_rou.specs.declared.error.Refusal.{Refusal}
@@ -27,7 +28,8 @@ pub record IsLineRead (bytes : List ℕ) (l : Line) : Type 0 where
 
 -- Why the line would be refused, whatever its label. Want of memory says nothing.
 abbrev pub IsRefusedAlone : List ℕ → Refusal → Type 0
-IsRefusedAlone bytes (refusal.Stuck column) = (IsLong bytes → ⊥) × IsStuckAt bytes column
+IsRefusedAlone bytes (refusal.Stuck column) = (IsLong bytes → ⊥) × IsStuckOn bytes column None
+IsRefusedAlone bytes (refusal.LeftOut column construct) = (IsLong bytes → ⊥) × IsStuckOn bytes column (Some construct)
 IsRefusedAlone bytes (refusal.Deep column) = (IsLong bytes → ⊥) × IsDeepAt bytes column
 IsRefusedAlone bytes refusal.Twice = ⊥
 IsRefusedAlone bytes refusal.Long = IsLong bytes
@@ -36,6 +38,7 @@ IsRefusedAlone bytes refusal.Memory = Unit {0}
 -- why it is, behind lines with these labels
 abbrev pub IsLineRefused : List (List ℕ) → List ℕ → Refusal → Type 0
 IsLineRefused labels bytes (refusal.Stuck column) = IsRefused labels bytes (grammar.StuckAt column)
+IsLineRefused labels bytes (refusal.LeftOut column construct) = IsRefused labels bytes (grammar.LeftOutAt column construct)
 IsLineRefused labels bytes (refusal.Deep column) = IsRefused labels bytes (grammar.DeepAt column)
 IsLineRefused labels bytes refusal.Twice = IsRefused labels bytes grammar.Twice
 IsLineRefused labels bytes refusal.Long = IsRefused labels bytes grammar.Long
@@ -114,6 +117,7 @@ pub record IsTooMany (bytes : List ℕ) (number : ℕ) : Type 0 where
 -- a line is refused, or is one too many; want of memory says nothing
 abbrev pub IsRefusedAt : List ℕ → ℕ → Refusal → Type 0
 IsRefusedAt bytes number (refusal.Stuck column) = IsFirst bytes number (grammar.StuckAt column)
+IsRefusedAt bytes number (refusal.LeftOut column construct) = IsFirst bytes number (grammar.LeftOutAt column construct)
 IsRefusedAt bytes number (refusal.Deep column) = IsFirst bytes number (grammar.DeepAt column)
 IsRefusedAt bytes number refusal.Twice = IsFirst bytes number grammar.Twice
 IsRefusedAt bytes number refusal.Long = IsFirst bytes number grammar.Long ⊎ IsTooMany bytes number
@@ -123,6 +127,7 @@ IsRefusedAt bytes number refusal.Memory = Unit {0}
 abbrev pub IsRoutineRefused : List ℕ → List ℕ → LoadError → Type 0
 IsRoutineRefused name bytes load.Name = IsName name → ⊥
 IsRoutineRefused name bytes (load.Stuck routine number column) = IsName name × (routine.bytes ≡ name) × IsFirst bytes number (grammar.StuckAt column)
+IsRoutineRefused name bytes (load.LeftOut routine number column construct) = IsName name × (routine.bytes ≡ name) × IsFirst bytes number (grammar.LeftOutAt column construct)
 IsRoutineRefused name bytes (load.Twice routine number) = IsName name × (routine.bytes ≡ name) × IsFirst bytes number grammar.Twice
 IsRoutineRefused name bytes (load.Long routine number) = IsName name × (routine.bytes ≡ name) × (IsFirst bytes number grammar.Long ⊎ IsTooMany bytes number)
 IsRoutineRefused name bytes (load.Deep routine number column) = IsName name × (routine.bytes ≡ name) × IsFirst bytes number (grammar.DeepAt column)

@@ -5,6 +5,7 @@ ghost use Rattle.mj_ast.specs.Routines.{IsName};
 ghost use Rattle.mj_rou.specs.Read.{IsRefusedAt, IsRoutineRefused};
 
 use arrayvec::ArrayString;
+use mj_ast::Construct;
 use thiserror::Error;
 
 /// The name of a routine, for a message.
@@ -43,6 +44,14 @@ pub enum LoadError {
         line: usize,
         column: usize,
     },
+    /// the grammar can't go on, at what the language leaves out by name
+    #[error("L7 {routine}:{line}:{column} {construct}")]
+    LeftOut {
+        routine: RoutineName,
+        line: usize,
+        column: usize,
+        construct: Construct,
+    },
     /// an allocation was refused
     #[error("memory")]
     Memory,
@@ -52,6 +61,7 @@ pub enum LoadError {
 #[derive(Clone, Copy, PartialEq, Eq, Debug)]
 pub enum Refusal {
     Stuck(usize),
+    LeftOut(usize, Construct),
     Twice,
     Long,
     Deep(usize),
@@ -67,6 +77,12 @@ pub fn at_line(refusal: Refusal, routine: RoutineName, line: usize) -> LoadError
             routine,
             line,
             column,
+        },
+        Refusal::LeftOut(column, construct) => LoadError::LeftOut {
+            routine,
+            line,
+            column,
+            construct,
         },
         Refusal::Twice => LoadError::Twice { routine, line },
         Refusal::Long => LoadError::Long { routine, line },

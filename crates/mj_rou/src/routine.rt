@@ -8,6 +8,7 @@ ghost use Rattle.mj_ast.specs.Lines.{HasLabelOf, label_of};
 ghost use Rattle.mj_ast.specs.Routines.{IsName};
 ghost use Rattle.mj_ast.specs.Trees.{line_of, routine_of};
 ghost use Rattle.mj_lex.specs.Seen.{placed, places_seen, tokens_seen};
+ghost use Rattle.mj_cmd.specs.Said.{IsStuckWith};
 ghost use Rattle.mj_rou.specs.Read.{IsLineRead, IsRefusedAlone, IsLineRefused, IsKept, IsTwice, IsRoutineRead, IsRoutineRefused, label_seen, and_label, is_word as the_word, is_name as the_name};
 ghost use Rattle.mj_rou.specs.declared.error.LoadError.TheVariants.{Name};
 
@@ -15,6 +16,7 @@ use crate::error::{LoadError, Refusal, RoutineName, at_line};
 use crate::file::first_line;
 use mj_ast::{Line, Routine};
 use mj_expr::Stop;
+use mj_left::left_out;
 use mj_lex::{Lexeme, Token, next, tokens};
 use mj_text::Text;
 use std::alloc::{AllocError, Global};
@@ -133,6 +135,22 @@ fn keep<'a>(labels: &mut BTreeSet<&'a [u8]>, label: Option<&'a [u8]>) -> Result<
     }
 }
 
+/// The refusal of a line that is stuck where so many of its tokens are left: by the name of what stands there, if that is left out by
+/// one.
+fn stuck(alloc: Global, line: &[u8], lexemes: &[Lexeme], left: usize) -> Refusal
+    requires short { length line.now ≤ 8192 }
+    requires placed { places_seen lexemes.now ≡ placed 0 (the_lexemes line.now) }
+    requires stuck { IsStuckWith (tokens_seen lexemes.now) left }
+    ensures { IsRefusedAlone line.now result }
+{
+    let column = column(line, lexemes, left);
+    match left_out(alloc, lexemes, left) {
+        Err(_) => Refusal::Memory,
+        Ok(None) => Refusal::Stuck(column),
+        Ok(Some(construct)) => Refusal::LeftOut(column, construct),
+    }
+}
+
 /// The tree of a line of these tokens.
 fn tree_of(alloc: Global, line: &[u8], lexemes: &[Lexeme]) -> Result<Line, Refusal>
     requires short { length line.now ≤ 8192 }
@@ -143,7 +161,7 @@ fn tree_of(alloc: Global, line: &[u8], lexemes: &[Lexeme]) -> Result<Line, Refus
     match mj_cmd::line(alloc, lexemes) {
         Ok(tree) => Ok(tree),
         Err(stop) => match stop {
-            Stop::Stuck(left) => Err(Refusal::Stuck(column(line, lexemes, left))),
+            Stop::Stuck(left) => Err(stuck(alloc, line, lexemes, left)),
             Stop::Deep(left) => Err(Refusal::Deep(column(line, lexemes, left))),
             Stop::Long => Err(Refusal::Long),
             Stop::Memory => Err(Refusal::Memory),
@@ -164,6 +182,12 @@ fn ranked(refusal: Refusal, twice: bool) -> Refusal
                 return Refusal::Twice;
             }
             Refusal::Stuck(column)
+        }
+        Refusal::LeftOut(column, construct) => {
+            if twice {
+                return Refusal::Twice;
+            }
+            Refusal::LeftOut(column, construct)
         }
         Refusal::Deep(column) => {
             if twice {

@@ -13,6 +13,12 @@ fn functions_give_values(rt: HostRuntime) -> Result<(), Fail> {
             0,
         ),
         (
+            " SET X=$JUSTIFY(\"\",32767) WRITE $LENGTH(X) SET X=X_\"a\"\n",
+            "32767\nF5 LENGTH R:1\n",
+            1,
+        ),
+        (" SET X=\"a,b\",$PIECE(X,\",\",0)=\"z\" WRITE X\n", "a,b", 0),
+        (
             " WRITE $TRANSLATE(\"banana\",\"an\",\"o\"),$SELECT(0:9,1:2)+1*2\n",
             "booo6",
             0,
@@ -69,7 +75,7 @@ fn functions_are_refused(rt: HostRuntime) -> Result<(), Fail> {
     for (bytes, err) in [
         (" W $5", "L2 R:1:4\n"),
         (" W $", "L2 R:1:4\n"),
-        (" W $L", "L2 R:1:4\n"),
+        (" W $L", "L7 R:1:4 variable\n"),
         (" W $L()", "L2 R:1:7\n"),
         (" W $L(1,2,3)", "L2 R:1:10\n"),
         (" W $F(1)", "L2 R:1:8\n"),

@@ -85,14 +85,14 @@ fn names_fault(rt: HostRuntime) -> Result<(), Fail> {
 #[test]
 fn names_are_refused(rt: HostRuntime) -> Result<(), Fail> {
     for (bytes, err) in [
-        (" WRITE $ORDER(^A)\n", "L2 R:1:17\n"),
-        (" WRITE $O(A,1)\n", "L2 R:1:12\n"),
-        (" WRITE $Q(A,1)\n", "L2 R:1:12\n"),
-        (" WRITE $NA(A,1)\n", "L2 R:1:13\n"),
+        (" WRITE $ORDER(^A)\n", "L7 R:1:17 order names\n"),
+        (" WRITE $O(A,1)\n", "L7 R:1:12 order names\n"),
+        (" WRITE $Q(A,1)\n", "L7 R:1:12 query backward\n"),
+        (" WRITE $NA(A,1)\n", "L7 R:1:13 name depth\n"),
         (" WRITE $D(\"A\")\n", "L2 R:1:11\n"),
         (" WRITE $G(A,1,2)\n", "L2 R:1:14\n"),
         (" WRITE $D(A+1)\n", "L2 R:1:12\n"),
-        (" WRITE $D A\n", "L2 R:1:8\n"),
+        (" WRITE $D A\n", "L7 R:1:8 variable\n"),
     ] {
         let ran = row(&rt, "names_refused", bytes)?;
         assert_eq!(rt; str::from_utf8(&ran.err)?, err);

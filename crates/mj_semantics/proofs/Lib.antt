@@ -1,2 +1,3 @@
 pub mod Talk
 pub mod Examples
+pub mod Controls

@@ -1,20 +1,23 @@
 -- What the commands of a line do (ISO/IEC 11756:1999, 8.2).
-use Rattle.std.specs.Prelude.{ℕ, List, [], ◌∷◌, Option, Some, None, length, map, nat_lt, if◌then◌else◌}
-use Rattle.mj_text.specs.declared.fault.Fault.TheVariants.{Length, Overlap}
+use Rattle.std.specs.Prelude.{ℕ, ◌+◌, ℤ, int_le, ◌+ℤ◌, pos, negsuc, List, [], ◌∷◌, Option, Some, None, Bool, true, false, length, map, nat_lt, if◌then◌else◌}
+use Rattle.mj_text.specs.declared.fault.Fault.TheVariants.{Length, Overlap, ForIndex, Depth}
+use Rattle.mj_num.specs.Number.{reading, sum_of, canonic_text}
+use Rattle.mj_oper.specs.Operators.{truth_value}
 use Rattle.mj_subs.specs.Name.{Name, overlaps}
 use Rattle.mj_store.specs.Questions.{Subtree}
 use Rattle.mj_store.specs.declared.access.Access.TheVariants as accesses
 use Rattle.mj_ask.specs.declared.ask.Ask.TheVariants as asks
 use Rattle.mj_ast.specs.declared.routine.Mark.{Mark}
 use Rattle.mj_ast.specs.declared.routine.Mark.TheVariants.{NewLine}
-use Rattle.mj_ast.specs.Syntax.{Expr, Destination, Plain, Pieces, Targets, One, Several, Assignment, Killed, Gone, Spared, Merged, Output, Shown, Format, Command, Set, Write, Halt, Kill, Merge, Step}
+use Rattle.mj_ast.specs.Syntax.{Expr, Destination, Plain, Pieces, Targets, One, Several, Assignment, Killed, Gone, Spared, Merged, Output, Shown, Format, Called, Jumped, Range, Single, Endless, UpTo, Renewed, Fresh, Kept, Command, Set, Write, Halt, Kill, Merge, If, Else, For, Forever, Do, Goto, Quit, New, Step}
 use Rattle.mj_strfn.specs.Functions.{assigned_pieces, set_piece_value}
-use Rattle.mj_semantics.specs.State.{wrote, spare, hold}
-use Rattle.mj_semantics.specs.Outcome.{Timed, turn, look, change, tell, given, end, fault, principal}
-use Rattle.mj_semantics.specs.Points.{Ways}
+use Rattle.mj_semantics.specs.State.{Only, AllBut, wrote, spare, hold, level_of, set_test, newed, pushed, popped}
+use Rattle.mj_semantics.specs.Outcome.{Timed, turn, look, change, tell, need, given, end, fault, principal}
+use Rattle.mj_semantics.specs.Lines.{Here, place_at, next_line, entry_of}
+use Rattle.mj_semantics.specs.Points.{Ways, Loop, Once, Always, By, Points, AtLine, Called as CalledAt, Jumped as JumpedAt, Pass}
 use Rattle.mj_semantics.specs.Accesses.{access, value_told, nodes_told}
 use Rattle.mj_semantics.specs.Functions.{needed, optional}
-use Rattle.mj_semantics.specs.Evaluation.{ev, ev_all, ev_name, when}
+use Rattle.mj_semantics.specs.Evaluation.{ev, ev_all, ev_name, ev_local, ev_actuals, when}
 
 -- SET (8.2.18).
 
@@ -124,6 +127,32 @@ abbrev pub merge_all : List Merged → Timed → Timed
 merge_all [] rest = rest
 merge_all (m ∷ list) rest = merge m (merge_all list rest)
 
+-- NEW (8.2.14).
+
+-- an argument, and then the rest; a list of names takes a turn for each
+abbrev pub renewal : Renewed → Timed → Timed
+renewal (Fresh word) rest = turn (change (newed (Only (word ∷ []))) rest)
+renewal (Kept words) rest = named words (turn (change (newed (AllBut words)) rest))
+
+abbrev pub new_list : List Renewed → Timed → Timed
+new_list [] rest = rest
+new_list (r ∷ list) rest = renewal r (new_list list rest)
+
+-- without arguments it is all locals
+abbrev pub new_all : List Renewed → Timed → Timed
+new_all [] rest = turn (change (newed (AllBut [])) rest)
+new_all (r ∷ list) rest = new_list (r ∷ list) rest
+
+-- Frames.
+
+-- how many frames a job may have (this profile)
+abbrev pub frames_limit : ℕ
+frames_limit = 512
+
+-- the rest with a new frame, if there may be one more; else DEPTH
+abbrev pub deeper : Timed → Timed
+deeper rest = look (λ s. if nat_lt (length s.frames) frames_limit then rest else fault Depth)
+
 -- WRITE (8.2.25).
 
 -- bytes go to the principal device by one ask, and none where there are none; more than a text holds are LENGTH
@@ -145,15 +174,109 @@ abbrev pub output_all : List Output → Timed → Timed
 output_all [] rest = rest
 output_all (o ∷ list) rest = output o (output_all list rest)
 
--- a command, and then the rest; HALT (8.2.7) has none
-abbrev pub obey : Command → Ways → Timed → Timed
-obey (Set list) ways rest = assign_all list rest
-obey (Write list) ways rest = output_all list rest
-obey Halt ways rest = turn (end None)
-obey (Kill list) ways rest = kill_all list rest
-obey (Merge list) ways rest = merge_all list rest
+-- IF (8.2.9) and ELSE (8.2.4).
 
--- commands in order, up to the end of their line
-abbrev pub obey_all : List Step → Ways → Timed
-obey_all [] ways = ways.line_end
-obey_all (step ∷ steps) ways = when step.condition (obey step.command ways (obey_all steps ways)) (obey_all steps ways)
+-- the conditions in order, of which each sets `$TEST`; a false one leads to the line's end
+abbrev pub ifs : List Expr → Timed → Timed → Timed
+ifs [] line_end rest = rest
+ifs (e ∷ es) line_end rest =
+    ev e (λ v. turn (given (truth_value v) (λ b. change (set_test b) (if b then ifs es line_end rest else line_end))))
+
+-- the rest where `$TEST` is so, else the line's end
+abbrev pub if_test : Bool → Timed → Timed → Timed
+if_test true line_end rest = look (λ s. if s.test then rest else line_end)
+if_test false line_end rest = look (λ s. if s.test then line_end else rest)
+
+-- FOR (8.2.5).
+
+-- a number by steps, up to an end, is still in the range
+abbrev pub is_within : ℤ → ℤ → ℤ → Bool
+is_within (pos step) end i = int_le i end
+is_within (negsuc step) end i = int_le end i
+
+-- behind a pass with this number: the next pass with the next number, or what comes after
+abbrev pub stepped : Name → ℤ → Option ℤ → ℤ → Timed → Timed → Timed
+stepped x step None i after pass = given (sum_of i step) (λ j. store x (canonic_text j) pass)
+stepped x step (Some end) i after pass = if is_within step end (i +ℤ step) then store x (canonic_text (i +ℤ step)) pass else after
+
+-- behind a pass: the local is read anew, and without a value it is FORINDEX
+abbrev pub again : Loop → Timed → Timed → Timed
+again Once after pass = after
+again Always after pass = pass
+again (By x step end) after pass =
+    access (accesses.Value x) (λ a. need ForIndex (value_told a) (λ v. given (reading v) (λ i. stepped x step end i after pass)))
+
+-- the first number of a range, and its first pass, if there is one
+abbrev pub first : Name → ℤ → ℤ → Option ℤ → Timed → Timed → Timed
+first x i step None after pass = store x (canonic_text i) pass
+first x i step (Some end) after pass = store x (canonic_text i) (if is_within step end i then pass else after)
+
+-- the readings of values, in order
+abbrev pub reading_two : List ℕ → List ℕ → (ℤ → ℤ → Timed) → Timed
+reading_two v w rest = given (reading v) (λ i. given (reading w) (λ j. rest i j))
+
+module _ (points : Points) (here : Here) where
+  -- what a FOR goes through, in order, each evaluated when it is reached; behind the last one the line's end, in a turn of its own
+  abbrev pub ranges : Name → List Range → List Step → Ways → Timed
+  ranges x [] body ways = turn ways.line_end
+  ranges x (Single a ∷ rs) body ways =
+      ev a (λ v. turn (store x v (points (Pass here Once body (ranges x rs body ways) ways))))
+  ranges x (Endless a b ∷ rs) body ways =
+      ev a (λ v. ev b (λ w. turn (reading_two v w (λ i step.
+      first x i step None (ranges x rs body ways) (points (Pass here (By x step None) body (ranges x rs body ways) ways))))))
+  ranges x (UpTo a b c ∷ rs) body ways =
+      ev a (λ v. ev b (λ w. ev c (λ u. turn (reading_two v w (λ i step. given (reading u) (λ end.
+      first x i step (Some end) (ranges x rs body ways) (points (Pass here (By x step (Some end)) body (ranges x rs body ways) ways))))))))
+
+  -- DO (8.2.3).
+
+  -- entries, one after the other
+  abbrev pub calls : List Called → Timed → Timed
+  calls [] rest = rest
+  calls (c ∷ list) rest =
+      when c.condition
+      (ev_actuals c.actuals (λ vs. turn (points (CalledAt (entry_of here c.target) vs (change popped (calls list rest))))))
+      (calls list rest)
+
+  -- the block behind this line, in a frame of its own, which restores `$TEST`
+  abbrev pub block : Timed → Timed
+  block rest =
+      deeper (look (λ s. change (pushed (place_at here) (level_of s + 1) (Some s.test))
+      (turn (points (AtLine (next_line here) (change popped rest))))))
+
+  -- GOTO (8.2.6): the first argument whose condition is true
+  abbrev pub jumps : List Jumped → Timed → Timed → Timed
+  jumps [] leave rest = rest
+  jumps (j ∷ list) leave rest = when j.condition (turn (points (JumpedAt (entry_of here j.target) leave))) (jumps list leave rest)
+
+  -- DO without arguments is that of the block
+  abbrev pub do_all : List Called → Timed → Timed
+  do_all [] rest = turn (block rest)
+  do_all (c ∷ list) rest = calls (c ∷ list) rest
+
+  -- IF without arguments is by `$TEST`
+  abbrev pub if_all : List Expr → Timed → Timed → Timed
+  if_all [] line_end rest = turn (if_test true line_end rest)
+  if_all (e ∷ es) line_end rest = ifs (e ∷ es) line_end rest
+
+  -- a command with its postcondition, where these are the commands behind it in its line, and then the rest. HALT (8.2.7) has none.
+  -- IF, ELSE and FOR have no postcondition
+  abbrev pub obey : Command → Option Expr → List Step → Ways → Timed → Timed
+  obey (Set list) c steps ways rest = when c (assign_all list rest) rest
+  obey (Write list) c steps ways rest = when c (output_all list rest) rest
+  obey Halt c steps ways rest = when c (turn (end None)) rest
+  obey (Kill list) c steps ways rest = when c (kill_all list rest) rest
+  obey (Merge list) c steps ways rest = when c (merge_all list rest) rest
+  obey (If es) c steps ways rest = if_all es ways.line_end rest
+  obey Else c steps ways rest = turn (if_test false ways.line_end rest)
+  obey (For v rs) c steps ways rest = ev_local v (λ x. ranges x rs steps ways)
+  obey Forever c steps ways rest = turn (points (Pass here Always steps (turn ways.line_end) ways))
+  obey (Do list) c steps ways rest = when c (do_all list rest) rest
+  obey (Goto list) c steps ways rest = when c (jumps list ways.leave rest) rest
+  obey Quit c steps ways rest = when c (turn (elim ways.for_quit [ None ↦ ways.leave | Some out ↦ out ])) rest
+  obey (New list) c steps ways rest = when c (new_all list rest) rest
+
+  -- commands in order, up to the end of their line
+  abbrev pub obey_all : List Step → Ways → Timed
+  obey_all [] ways = ways.line_end
+  obey_all (step ∷ steps) ways = obey step.command step.condition steps ways (obey_all steps ways)

@@ -9,10 +9,11 @@ use Rattle.mj_ast.specs.declared.expr.Scope.{Scope}
 use Rattle.mj_ast.specs.declared.expr.Scope.TheVariants as scopes
 use Rattle.mj_ast.specs.declared.function.NameFunction.{NameFunction}
 use Rattle.mj_ast.specs.declared.function.NameFunction.TheVariants as names
-use Rattle.mj_ast.specs.Syntax.{Expr, Chain, Tails, Done, Then, Operand, Literal, Value, Unary, Group, Call, About, Select, Variable, Var, Exprs, No, More, Choices, Last, Before}
+use Rattle.mj_ast.specs.Syntax.{Expr, Chain, Tails, Done, Then, Operand, Literal, Value, Intrinsic, Unary, Group, Call, About, Select, Variable, Var, Exprs, No, More, Choices, Last, Before}
 use Rattle.mj_semantics.specs.Functions.{call_value, optional}
 use Rattle.mj_semantics.specs.Names.{spelled, asks, question, told}
-use Rattle.mj_semantics.specs.Outcome.{Timed, turn, need, given, fault}
+use Rattle.mj_semantics.specs.State.{special_value}
+use Rattle.mj_semantics.specs.Outcome.{Timed, turn, look, need, given, fault}
 use Rattle.mj_semantics.specs.Accesses.{access, value_told}
 
 -- whether a list of subscripts has an empty one
@@ -76,12 +77,13 @@ abbrev mutual
   ev_tails v (Then op x ts) rest =
       ev_operand x (λ w. turn (given (binary_value op v w) (λ u. ev_tails u ts rest)))
 
-  -- 7.1: a literal, a variable, an operator with its operand, an expression in parentheses, a function with its arguments, of
+  -- 7.1: a literal, a variable, a special variable, an operator with its operand, an expression in parentheses, a function with its arguments, of
   -- which the first may be a variable. That one's name is complete before the others have their values, and the function asks once
   -- they have (this profile).
   pub ev_operand : Operand → (List ℕ → Timed) → Timed
   ev_operand (Literal t) rest = turn (rest t)
   ev_operand (Value v) rest = ev_name v (λ x. read x rest)
+  ev_operand (Intrinsic v) rest = turn (look (λ s. rest (special_value v s)))
   ev_operand (Unary op x) rest = ev_operand x (λ v. turn (given (unary_value op v) rest))
   ev_operand (Group e) rest = ev e rest
   ev_operand (Call f es) rest = ev_all es (λ vs. turn (given (call_value f vs) rest))
@@ -108,6 +110,16 @@ abbrev mutual
   pub ev_all : Exprs → (List (List ℕ) → Timed) → Timed
   ev_all No rest = rest []
   ev_all (More e es) rest = ev e (λ v. ev_all es (λ vs. rest (v ∷ vs)))
+
+-- the values of actuals, in order; one that is left out has none, and takes no turn (this profile)
+abbrev pub ev_actuals : List (Option Expr) → (List (Option (List ℕ)) → Timed) → Timed
+ev_actuals [] rest = rest []
+ev_actuals (None ∷ es) rest = ev_actuals es (λ vs. rest (None ∷ vs))
+ev_actuals (Some e ∷ es) rest = ev e (λ v. ev_actuals es (λ vs. rest (Some v ∷ vs)))
+
+-- the name of the local of a FOR
+abbrev pub ev_local : Variable → (Name → Timed) → Timed
+ev_local (Var scope word es) rest = ev_all es (λ ss. turn (given (name_of scopes.Local word ss) rest))
 
 -- one of two rests, by a postcondition (8.1.4), which is tested in a turn of its own
 abbrev pub when : Option Expr → Timed → Timed → Timed

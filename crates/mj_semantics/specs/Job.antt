@@ -1,31 +1,55 @@
 -- Lines and frames, and what a job does from its start.
-use Rattle.std.specs.Prelude.{ℕ, zero, suc, List, [], Option, Some, None}
-use Rattle.mj_text.specs.declared.fault.Fault.TheVariants.{NoLine}
+use Rattle.std.specs.Prelude.{ℕ, zero, suc, List, [], Option, Some, None, false, length, nat_lt, nat_eq, if◌then◌else◌}
+use Rattle.mj_text.specs.declared.fault.Fault.TheVariants.{NoLine, Params}
 use Rattle.mj_ask.specs.declared.ask.Ask.TheVariants.{DeviceBegin}
 use Rattle.mj_ask.specs.declared.ask.Reply.{Reply}
 use Rattle.mj_ask.specs.declared.entry.Entry.{Entry}
 use Rattle.mj_ast.specs.Syntax.{Line, Routine}
-use Rattle.mj_semantics.specs.State.{State, pushed, at_place}
-use Rattle.mj_semantics.specs.Outcome.{Outcome, More, Handler, Timed, turn, change, tell, end, fault, principal}
-use Rattle.mj_semantics.specs.Lines.{Here, place_at, next_line, line_before, line_at, entered}
-use Rattle.mj_semantics.specs.Points.{AtLine, Called, Points}
-use Rattle.mj_semantics.specs.Commands.{obey_all}
+use Rattle.mj_semantics.specs.State.{State, level_of, may_go, pushed, passed, at_place}
+use Rattle.mj_semantics.specs.Outcome.{Outcome, More, Handler, Timed, turn, look, change, tell, end, fault, principal}
+use Rattle.mj_semantics.specs.Lines.{Here, place_at, next_line, line_before, line_at, levels_of, entered}
+use Rattle.mj_semantics.specs.Points.{Ways, Loop, AtLine, Called, Jumped, Pass, Points}
+use Rattle.mj_semantics.specs.Commands.{again, deeper, obey_all}
 
--- a line's commands, and then the next line; the end of the routine is a QUIT of the frame, at its last line
+-- the end of a routine or of a block is a QUIT of its frame, at the line before it
+abbrev pub quit_before : Here → Timed → Timed
+quit_before here leave = change (at_place (place_at (line_before here))) leave
+
+-- a line: one that is deeper than its frame is passed over, and one that is less deep stands behind the block
 abbrev pub obey_line : Points → Here → Option Line → Timed → Timed
-obey_line points here None leave = change (at_place (place_at (line_before here))) leave
-obey_line points here (Some line) leave =
-    change (at_place (place_at here))
-    (obey_all line.steps (record { line_end = turn (points (AtLine (next_line here) leave)); leave = leave }))
+obey_line points here None leave = quit_before here leave
+obey_line points here (Some line) leave = look (λ s.
+    let next : Timed = turn (points (AtLine (next_line here) leave)) in
+    if nat_lt line.level (level_of s) then quit_before here leave
+    else if nat_lt (level_of s) line.level then next
+    else change (at_place (place_at here)) (obey_all points here line.steps (record { line_end = next; for_quit = None; leave = leave })))
 
--- a new frame at the line that an entry names
-abbrev pub call : Points → Option Here → Timed → Timed
-call points None leave = fault NoLine
-call points (Some to) leave = change (pushed (place_at to)) (turn (points (AtLine to leave)))
+-- a new frame at the line that an entry names, which is of level 1, with no more values than the line has formals
+abbrev pub call : Points → Option (Here × Line) → List (Option (List ℕ)) → Timed → Timed
+call points None vs leave = fault NoLine
+call points (Some to) vs leave =
+    if nat_eq to.1.level 1
+    then if nat_lt (length to.1.formals) (length vs) then fault Params
+    else deeper (change (λ s. passed to.1.formals vs (pushed (place_at to.0) 1 None s)) (turn (points (AtLine to.0 leave))))
+    else fault NoLine
+
+-- a GOTO of the line that an entry names
+abbrev pub jump : List Routine → Points → Option (Here × Line) → Timed → Timed
+jump image points None leave = fault NoLine
+jump image points (Some to) leave = look (λ s.
+    if may_go s (place_at to.0) to.1.level (levels_of image to.0.routine) then turn (points (AtLine to.0 leave)) else fault NoLine)
+
+-- in a pass of a FOR: the line's end leads to the next pass, and a QUIT to where the line without this FOR would end, in a turn
+-- of its own (this profile)
+abbrev pub in_pass : Loop → Timed → Timed → Ways → Ways
+in_pass loop after pass ways = record { line_end = turn (again loop after pass); for_quit = Some (turn ways.line_end); leave = ways.leave }
 
 abbrev pub at_point : List Routine → Points → Points
 at_point image points (AtLine here leave) = obey_line points here (line_at image here) leave
-at_point image points (Called entry leave) = call points (entered image entry) leave
+at_point image points (Called entry vs leave) = call points (entered image entry) vs leave
+at_point image points (Jumped entry leave) = jump image points (entered image entry) leave
+at_point image points (Pass here loop body after ways) =
+    obey_all points here body (in_pass loop after (points (Pass here loop body after ways)) ways)
 
 -- where one point leads to another, at most so deep: each takes a turn, so that a depth above the number of turns is
 -- deep enough
@@ -35,12 +59,12 @@ points_of image (suc d) point = λ n h s replies. at_point image (points_of imag
 
 -- a job before its first ask
 abbrev pub opening : State
-opening = record { locals = []; frames = []; column = 0; replied = 0; held = [] }
+opening = record { locals = []; saved = []; test = false; frames = []; column = 0; replied = 0; held = [] }
 
 -- what a job does from its start, where points lead to points at most so deep: its principal session begins, in a
 -- turn, and then the line that its entry names; the QUIT of its first frame ends it
 abbrev pub start : List Routine → Entry → ℕ → Timed
-start image entry depth = turn (tell (DeviceBegin principal) (points_of image depth (Called entry (end None))))
+start image entry depth = turn (tell (DeviceBegin principal) (points_of image depth (Called entry [] (end None))))
 
 -- outside a transaction nothing goes back
 abbrev pub no_restart : Handler

@@ -1,8 +1,8 @@
 -- Where lines stand, and what an entry names.
-use Rattle.std.specs.Prelude.{ℕ, ◌+◌, ◌-◌, List, [], ◌∷◌, Option, Some, None, Bool, false, slice_get, if◌then◌else◌}
+use Rattle.std.specs.Prelude.{ℕ, ◌+◌, ◌-◌, List, [], ◌∷◌, map, Option, Some, None, Bool, false, slice_get, if◌then◌else◌}
 use Rattle.std.specs.Str.{bytes_eq}
 use Rattle.mj_ask.specs.declared.entry.Entry.{Entry}
-use Rattle.mj_ast.specs.Syntax.{Line, Routine}
+use Rattle.mj_ast.specs.Syntax.{Target, Line, Routine}
 use Rattle.mj_semantics.specs.State.{Place}
 
 -- a place in the text of the routines
@@ -40,8 +40,16 @@ labelled l k (line ∷ lines) = if has_label l line then k else labelled l (k + 
 abbrev pub line_number : List Routine → Entry → ℕ
 line_number image entry = elim entry.label [ None ↦ 1 | Some l ↦ labelled l 1 (lines_of image entry.routine) ]
 
--- the place that an entry names, if there is such a line (8.1.6, entry reference)
-abbrev pub entered : List Routine → Entry → Option Here
+-- the line that an entry names, with its place, if there is such a line (8.1.6, entry reference)
+abbrev pub entered : List Routine → Entry → Option (Here × Line)
 entered image entry =
     let here : Here = record { routine = entry.routine; line = line_number image entry } in
-    elim (line_at image here) [ None ↦ None | Some line ↦ Some here ]
+    elim (line_at image here) [ None ↦ None | Some line ↦ Some (here, line) ]
+
+-- the entry that an argument of DO or GOTO names, in this routine where it names none
+abbrev pub entry_of : Here → Target → Entry
+entry_of here t = record { label = t.label; routine = elim t.routine [ None ↦ here.routine | Some r ↦ r ] }
+
+-- the levels of a routine's lines
+abbrev pub levels_of : List Routine → List ℕ → List ℕ
+levels_of image r = map (λ line. line.level) (lines_of image r)

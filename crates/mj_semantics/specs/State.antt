@@ -1,8 +1,14 @@
 -- What a job holds for itself, and what changes it.
-use Rattle.std.specs.Prelude.{ℕ, ◌+◌, ◌==◌, List, [], ◌∷◌, Option, Some, None, map, if◌then◌else◌}
-use Rattle.std.specs.List.{filter, list_any}
+use Rattle.std.specs.Prelude.{ℕ, ◌+◌, ◌-◌, ◌==◌, List, [], ◌∷◌, length, take, drop, Option, Some, None, Bool, false, not, ◌&&◌, ◌||◌, nat_lt, max, min, map, if◌then◌else◌}
+use Rattle.std.specs.List.{filter, fold, list_any}
+use Rattle.std.specs.Option.{unwrap_or}
 use Rattle.std.specs.Str.{bytes_eq}
+use Rattle.mj_subs.specs.Name.{Name}
+use Rattle.mj_oper.specs.Operators.{truth_text}
+use Rattle.mj_ast.specs.declared.function.Special.{Special}
+use Rattle.mj_ast.specs.declared.function.Special.TheVariants.{Test}
 use Rattle.mj_store.specs.Questions.{Content, Subtree}
+use Rattle.mj_store.specs.Changes.{after_set}
 use Rattle.mj_store.specs.Runs.{after_access}
 use Rattle.mj_store.specs.declared.access.Access.{Access}
 
@@ -15,14 +21,29 @@ pub record Place : Type 0 where
   pub routine : List ℕ
   pub line : ℕ
 
--- a frame: the line where it stands
+-- the locals of some words, or all but those of some
+pub data Words : Type 0 where
+  Only AllBut : (words : List (List ℕ)) → Words
+
+-- what a NEW saved (8.2.14): which locals, and those that had a value, with it
+pub record Saved : Type 0 where
+  pub words : Words
+  pub locals : Locals
+
+-- a frame: the line where it stands, the level of its lines, the `$TEST` that its QUIT restores, if it restores one, and how many
+-- NEWs had saved locals before it began
 pub record Frame : Type 0 where
   pub place : Place
+  pub level : ℕ
+  pub test : Option Bool
+  pub height : ℕ
 
--- the locals; the frames, the innermost first; the column of the principal device, `$X` (8.2.25, WRITE); how many asks
--- were replied to; and what a MERGE has read and not put yet
+-- the locals; what NEWs saved, the newest first; `$TEST`; the frames, the innermost first; the column of the principal device,
+-- `$X` (8.2.25, WRITE); how many asks were replied to; and what a MERGE has read and not put yet
 pub record State : Type 0 where
   pub locals : Locals
+  pub saved : List Saved
+  pub test : Bool
   pub frames : List Frame
   pub column : ℕ
   pub replied : ℕ
@@ -36,6 +57,30 @@ places s = map (λ f. f.place) s.frames
 -- the place of the innermost frame, if there is a frame
 abbrev pub place_of : State → Option Place
 place_of s = elim s.frames [ [] ↦ None | f ∷ fs ↦ Some f.place ]
+
+-- the level of the innermost frame's lines
+abbrev pub level_of : State → ℕ
+level_of s = elim s.frames [ [] ↦ 1 | f ∷ fs ↦ f.level ]
+
+-- the value of a special variable
+abbrev pub special_value : Special → State → List ℕ
+special_value Test s = truth_text s.test
+
+-- whether the words of locals are among these
+abbrev pub covers : Words → List ℕ → Bool
+covers (Only words) w = list_any (bytes_eq w) words
+covers (AllBut words) w = not (list_any (bytes_eq w) words)
+
+-- Whether a GOTO may lead from where the job stands to a line of this routine, number and level, if the lines of that routine have
+-- these levels: at level 1 to any line of level 1; deeper to a line of the same level in the same block, which is where no line
+-- between the two is less deep (8.2.6; this profile).
+abbrev pub stays : ℕ → ℕ → ℕ → List ℕ → Bool
+stays from to level levels = not (list_any (λ l. nat_lt l level) (drop (min from to - 1) (take (max from to) levels)))
+
+abbrev pub may_go : State → Place → ℕ → List ℕ → Bool
+may_go s to level levels =
+    level == level_of s
+    && (level == 1 || elim (place_of s) [ None ↦ false | Some from ↦ bytes_eq from.routine to.routine && stays from.line to.line level levels ])
 
 -- Changes.
 
@@ -55,11 +100,59 @@ spare words s = record s { locals = spared words s.locals }
 abbrev pub hold : Subtree → State → State
 hold nodes s = record s { held = nodes }
 
-abbrev pub pushed : Place → State → State
-pushed p s = record s { frames = record { place = p } ∷ s.frames }
+-- a frame begins, at a place and a level, whose QUIT restores `$TEST` or not
+abbrev pub pushed : Place → ℕ → Option Bool → State → State
+pushed place level test s = record s { frames = record { place = place; level = level; test = test; height = length s.saved } ∷ s.frames }
 
 abbrev pub at_place : Place → State → State
 at_place p s = record s { frames = elim s.frames [ [] ↦ [] | f ∷ fs ↦ record f { place = p } ∷ fs ] }
+
+abbrev pub set_test : Bool → State → State
+set_test b s = record s { test = b }
+
+-- these locals are saved, and have no value any more
+abbrev pub newed : Words → State → State
+newed words s = record s {
+  saved = record { words = words; locals = filter (λ e. covers words e.0.word) s.locals } ∷ s.saved;
+  locals = filter (λ e. not (covers words e.0.word)) s.locals;
+}
+
+-- the locals of some words as they were, and all others as they are now
+abbrev pub put_back : Saved → Locals → Locals
+put_back v now =
+    fold (λ c e. after_set c e.0 e.1) (filter (λ e. not (covers v.words e.0.word)) now) (filter (λ e. covers v.words e.0.word) v.locals)
+
+-- all that was saved is put back, the newest first
+abbrev pub undone : List Saved → Locals → Locals
+undone [] now = now
+undone (v ∷ saved) now = undone saved (put_back v now)
+
+-- the innermost frame is over: what NEWs saved in it is put back, and `$TEST`, if it restores it (8.2.16, QUIT)
+abbrev pub popped : State → State
+popped s = elim s.frames [
+  | [] ↦ s
+  | f ∷ fs ↦ record s {
+    locals = undone (take (length s.saved - f.height) s.saved) s.locals;
+    saved = drop (length s.saved - f.height) s.saved;
+    test = unwrap_or f.test s.test;
+    frames = fs;
+  }
+]
+
+-- a local without subscripts
+abbrev pub plain_name : List ℕ → Name
+plain_name w = record { global = false; word = w; subscripts = [] }
+
+-- formals get the values of their actuals (8.1.7); one without an actual, or whose actual is left out, has none
+abbrev pub bound : List (List ℕ) → List (Option (List ℕ)) → Locals → Locals
+bound [] vs locals = locals
+bound (x ∷ xs) [] locals = locals
+bound (x ∷ xs) (None ∷ vs) locals = bound xs vs locals
+bound (x ∷ xs) (Some v ∷ vs) locals = bound xs vs (after_set locals (plain_name x) v)
+
+-- formals are NEWed, and get values
+abbrev pub passed : List (List ℕ) → List (Option (List ℕ)) → State → State
+passed formals vs s = let t : State = newed (Only formals) s in record t { locals = bound formals vs t.locals }
 
 -- one more ask was replied to
 abbrev pub counted : State → State

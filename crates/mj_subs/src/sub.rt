@@ -179,6 +179,10 @@ impl MadeWith<Global> for Sub {
     ghost is_made_with = { λ s. s ≡ [] };
 
     fn made_with(alloc: Global) -> Sub {
-        Sub::from_text(Text::new(alloc))
+        // The empty text is no number.
+        Sub {
+            text: Text::new(alloc),
+            number: None,
+        }
     }
 }

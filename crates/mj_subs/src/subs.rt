@@ -19,10 +19,10 @@ use std::slice;
 /// The greatest number of subscripts of a name.
 pub const SUBSCRIPT_LIMIT: usize = 31;
 
-/// A list of at most [`SUBSCRIPT_LIMIT`] subscripts. Four take no memory beside their own.
+/// A list of at most [`SUBSCRIPT_LIMIT`] subscripts. One takes no memory beside its own.
 #[derive(Debug, Drop)]
 pub struct Subs {
-    kept: SmallVec<Sub, 4>,
+    kept: SmallVec<Sub, 1>,
 }
 
 impl Model for Subs {

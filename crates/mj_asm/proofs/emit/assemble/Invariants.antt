@@ -1,7 +1,8 @@
 use Rattle.std.proofs.Common.{◌≡◌, ◌+◌, ◌++◌, drop, length, map}
-use Rattle.mj_ast.specs.Trees.{line_of}
-use Rattle.mj_asm.specs.Code.{lines_code, starts}
-use Rattle.mj_asm.specs.Correct.{labels_of}
+use Rattle.mj_ast.specs.Trees.{line_of, routine_of}
+use Rattle.mj_asm.specs.Code.{lines_code}
+use Rattle.mj_asm.specs.Correct as correct
+use Rattle.mj_asm.proofs.Heads.{heads_of}
 use Rattle.mj_asm.proofs.emit.assemble.Given as goal
 
 -- what was made so far, and what is left to make
@@ -10,10 +11,12 @@ invariant-loop-line l = record {
   name : l.unit.name ≡ l.fn.routine.name;
   number : l.number ≡ l.line-index;
   instrs :
-      l.unit.instrs.items ++ lines_code (length l.unit.instrs.items) (l.number + 1) (map line_of (drop l.line-index l.line-items))
-      ≡ lines_code 0 1 (map line_of l.line-items);
-  starts :
-      l.unit.starts.items ++ starts (length l.unit.instrs.items) (l.number + 1) (map line_of (drop l.line-index l.line-items))
-      ≡ starts 0 1 (map line_of l.line-items);
-  labels : l.unit.labels.items ++ labels_of (l.number + 1) (map line_of (drop l.line-index l.line-items)) ≡ labels_of 1 (map line_of l.line-items);
+      l.unit.instrs.items ++ lines_code (length l.unit.instrs.items) (correct.line_of (routine_of l.fn.routine) (l.number + 1)) (map line_of (drop l.line-index l.line-items))
+      ≡ lines_code 0 (correct.line_of (routine_of l.fn.routine) 1) (map line_of l.line-items);
+  heads :
+      l.unit.heads.items ++ heads_of (length l.unit.instrs.items) (correct.line_of (routine_of l.fn.routine) (l.number + 1)) (map line_of (drop l.line-index l.line-items))
+      ≡ heads_of 0 (correct.line_of (routine_of l.fn.routine) 1) (map line_of l.line-items);
+  labels :
+      l.unit.labels.items ++ correct.labels_of (l.number + 1) (map line_of (drop l.line-index l.line-items))
+      ≡ correct.labels_of 1 (map line_of l.line-items);
 }

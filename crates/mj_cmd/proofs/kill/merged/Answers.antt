@@ -1,30 +1,26 @@
-use Rattle.std.proofs.Common.{◌≡◌, ◌∙◌, ◌⊎◌, ◌<◌, ◌≤◌, ◌-◌, ◌+◌, ℕ, suc, Some, None, List, [], ◌∷◌, ◌++◌, refl, ap, sym, subst, map, length, length-append, inl, inr, arith, true, false, append_assoc, append-nil, Option, Bool}
-use Rattle.mj_ast.specs.declared.sign.Sign.TheVariants.{Comma, Equals, Open, Close}
-use Rattle.mj_ast.specs.declared.keyword.Keyword.{Keyword}
-use Rattle.mj_ast.specs.declared.keyword.Keyword.TheVariants as keyword
-use Rattle.mj_ast.specs.Syntax.{Expr, Destination, Plain, Pieces, One, Several, Gone, Spared, Shown, Format}
-use Rattle.mj_ast.specs.Tokens.{Token, Word, Called, Signed}
-use Rattle.mj_ast.specs.Commands.{Part, Put, Named, PieceCall, Text, Place, with_commas, behind_commas, more_parts, destination_parts, targets_parts, assignment_parts, output_parts, name_parts, killed_parts, merged_parts, mark_part}
-use Rattle.mj_ast.specs.Trees.{expr_of, variable_of, exprs_of, destination_of, targets_of, assignment_of, output_of, killed_of, merged_of}
-use Rattle.mj_lex.specs.declared.token.Lexeme.{Lexeme}
+use Rattle.std.proofs.Common.{[], ◌∷◌, refl, inl, arith}
+use Rattle.mj_ast.specs.declared.sign.Sign.TheVariants.{Equals}
+use Rattle.mj_ast.specs.Tokens.{Signed}
+use Rattle.mj_ast.specs.Commands.{Put, Place}
+use Rattle.mj_ast.specs.Trees.{variable_of}
 use Rattle.mj_lex.specs.Seen.{tokens_seen}
-use Rattle.mj_line.specs.Forms.{Node, SetTarget, PieceOpens, PieceVariable, PieceComma, PieceText, PieceBehind, SetBehind, SetValue, SetEnd, OutputWanted, OutputEnd, MarksEnd, KillWanted, NameWanted, NameBehind, KillEnd, MergeInto, MergeBehind, MergeFrom, MergeEnd, AnExpr, AVar, part_of}
-use Rattle.mj_line.specs.Machine.{Args, Argument, At, run}
-use Rattle.mj_cmd.specs.Parts.{piece_node, opened_parts}
-use Rattle.mj_cmd.proofs.Follow.{reads_err, memory_err, lists_err, refuses_from, room_for, Went, went_then, went_as, went_token, went_text, went_place, fails_then, fails_enter, fails_here, kept_more, kept_first, kept_length, more_pushed, commas_more, target_untaken, variable_untaken, text_untaken, value_untaken, into_untaken, from_untaken, set_untaken, kill_untaken, merge_untaken, first_untaken, opens_untaken, behind_untaken, listed_untaken, merged_untaken, names_untaken, pieces_untaken, piece_untaken, full_untaken, killed_untaken, name_untaken, wanted_untaken, piece_takes, close_takes, piece_comma_takes, piece_closes, piece_wants, piece_ends, marks_all, no_marks, output_comma_goes, output_stuck}
+use Rattle.mj_line.specs.Forms.{MergeInto, MergeBehind, MergeFrom, MergeEnd, AVar}
+use Rattle.mj_line.specs.Machine.{Argument}
+use Rattle.mj_cmd.proofs.Follow.{reads_err, room_for, went_then, went_token, went_place, fails_then, fails_enter, fails_here}
+use Rattle.mj_cmd.proofs.Places.{into_untaken, from_untaken, merged_untaken}
 use Rattle.mj_cmd.proofs.kill.merged.Goals as goal
 
 pub returns-in_err-into-clause-reads : goal.returns-in_err-into-clause-reads
 returns-in_err-into-clause-reads c = λ m r o condition k done.
     reads_err c.args.phrases.limited _ _ c.from_residual.result c.in_err-into.field-0.0 m c.args.tokens.now _ _ c.from_residual.ensures.1
-    (fails_enter c.args.phrases.limited c.in_err-into.field-0.0 m c.args.tokens.now MergeInto (AVar 0 MergeBehind) o condition k done refl (into_untaken (tokens_seen c.args.tokens.now)) (inl refl) (c.in_err-into.ensures.reads m r (Argument o condition k done (AVar 0 MergeBehind)) refl refl))
+    (fails_enter c.args.phrases.limited c.in_err-into.field-0.0 m c.args.tokens.now MergeInto (AVar 0 MergeBehind) o condition k done tt refl (into_untaken (tokens_seen c.args.tokens.now)) (inl refl) (c.in_err-into.ensures.reads m r (Argument o condition k done (AVar 0 MergeBehind)) refl refl))
 
 pub returns-in_err-from-in-Some-clause-reads : goal.returns-in_err-from-in-Some-clause-reads
 returns-in_err-from-in-Some-clause-reads c = λ m r o condition k done.
     reads_err c.args.phrases.limited _ _ c.from_residual-in_err-from-in-Some.result c.in_err-from-in-Some.field-0.0 m c.args.tokens.now _ _ c.from_residual-in_err-from-in-Some.ensures.1
     (fails_then c.args.phrases.limited _ c.in_err-from-in-Some.field-0.0 m c.args.tokens.now MergeInto c.in_ok-into.rest.now MergeBehind o condition k done (went_place c.args.phrases.limited 0 (variable_of c.in_ok-into.into) m c.args.tokens.now MergeInto c.in_ok-into.rest.now MergeBehind o condition k done refl (into_untaken (tokens_seen c.args.tokens.now)) (inl refl) (c.in_ok-into.ensures.reads m r (Argument o condition k done (AVar 0 MergeBehind)) refl refl))
     (λ d. fails_then c.args.phrases.limited (Put Equals ∷ []) c.in_err-from-in-Some.field-0.0 m c.in_ok-into.rest.now MergeBehind c.in-Some.behind.now MergeFrom o condition k d (went_token c.args.phrases.limited (Signed Equals) (Put Equals) m c.in_ok-into.rest.now MergeBehind c.in-Some.behind.now MergeFrom o condition k d c.in-Some.ensures.0 refl refl)
-    (λ e. fails_enter c.args.phrases.limited c.in_err-from-in-Some.field-0.0 m c.in-Some.behind.now MergeFrom (AVar 0 MergeEnd) o condition k e refl (from_untaken (tokens_seen c.in-Some.behind.now)) (inl refl) (c.in_err-from-in-Some.ensures.reads m (room_for c.args.phrases.limited m c.args.tokens.now c.in-Some.behind.now (omega (arith, c.in-Some.ensures.1, c.in_ok-into.ensures.shorter)) r) (Argument o condition k e (AVar 0 MergeEnd)) refl refl))))
+    (λ e. fails_enter c.args.phrases.limited c.in_err-from-in-Some.field-0.0 m c.in-Some.behind.now MergeFrom (AVar 0 MergeEnd) o condition k e tt refl (from_untaken (tokens_seen c.in-Some.behind.now)) (inl refl) (c.in_err-from-in-Some.ensures.reads m (room_for c.args.phrases.limited m c.args.tokens.now c.in-Some.behind.now (omega (arith, c.in-Some.ensures.1, c.in_ok-into.ensures.shorter)) r) (Argument o condition k e (AVar 0 MergeEnd)) refl refl))))
 
 pub returns-in-None-clause-reads : goal.returns-in-None-clause-reads
 returns-in-None-clause-reads c = λ m r o condition k done.

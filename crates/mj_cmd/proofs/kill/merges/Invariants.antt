@@ -1,9 +1,8 @@
-use Rattle.std.proofs.Common.{◌≡◌, ◌⊎◌, ◌≤◌, List, [], ◌∷◌, ◌++◌, length, map, Bool, true, false, Option}
+use Rattle.std.proofs.Common.{◌≤◌, List, length, map, Option}
 use Rattle.mj_ast.specs.declared.keyword.Keyword.{Keyword}
 use Rattle.mj_ast.specs.Syntax.{Expr}
 use Rattle.mj_ast.specs.Commands.{Part, merged_parts, with_commas}
 use Rattle.mj_expr.specs.Machine.{Limits}
-use Rattle.mj_lex.specs.Seen.{tokens_seen}
 use Rattle.mj_line.specs.Forms.{MergeInto, MergeEnd}
 use Rattle.mj_line.specs.Sentences.{Sentence}
 use Rattle.mj_cmd.specs.Reads.{HasRoom}

@@ -1,7 +1,7 @@
 use Rattle.std.proofs.Common.{◌∙◌, ◌∷◌, Some, refl, ap, arith}
 use Rattle.mj_lex.specs.declared.token.Token as kept
 use Rattle.mj_lex.specs.Seen.{token_seen, tokens_seen}
-use Rattle.mj_cmd.proofs.Follow.{label_word, label_digits}
+use Rattle.mj_cmd.proofs.Front.{label_word, label_digits}
 use Rattle.mj_cmd.proofs.lines.label.Goals as goal
 
 pub returns-in_ok-text-in-Word-clause-reads : goal.returns-in_ok-text-in-Word-clause-reads

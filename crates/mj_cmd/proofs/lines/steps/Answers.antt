@@ -1,17 +1,16 @@
-use Rattle.std.proofs.Common.{◌∙◌, [], ◌∷◌, ◌++◌, sym, ap, map, List, arith}
+use Rattle.std.proofs.Common.{◌∙◌, refl, [], ◌∷◌, ◌++◌, sym, ap, map, List, arith}
 use Rattle.mj_ast.specs.Trees.{step_of}
 use Rattle.mj_lex.specs.Seen.{tokens_seen}
 use Rattle.mj_line.specs.Machine.{with_clause}
-use Rattle.mj_line.specs.Sentences.{clause_of}
-use Rattle.mj_cmd.proofs.Follow.{ends_err, refuses_from, room_for, step_pushed, blanks_skip, no_steps, more_steps, unknown_stuck, known_goes, with_steps}
+use Rattle.mj_cmd.proofs.Follow.{ends_as_err, refuses_from, room_for, written_pushed, blanks_skip, blanks_stay, no_steps, more_steps, unknown_stuck, known_goes, with_steps}
 use Rattle.mj_cmd.proofs.lines.steps.Goals as goal
 
 pub steps-init : goal.steps-init
 steps-init c = record {
   goes = λ m r o. (
     [],
-    λ l. sym (ap (λ (xs : List _). map clause_of (map step_of xs)) c.new-steps.ensures.items),
-    blanks_skip m o c.behind_blanks.result.0 (tokens_seen c.args.tokens.now) (tokens_seen c.behind_blanks.result.1.now) c.requires c.behind_blanks.ensures.none c.behind_blanks.ensures.blanks
+    λ l. ([], refl, sym (ap (λ (xs : List _). map step_of xs) c.new-steps.ensures.items)),
+    blanks_stay m o c.behind_blanks.result.0 (tokens_seen c.args.tokens.now) (tokens_seen c.behind_blanks.result.1.now) c.behind_blanks.ensures.blanks
         ∙ no_steps m o (tokens_seen c.behind_blanks.result.1.now),
   );
   bare = c.behind_blanks.ensures.none;
@@ -28,7 +27,7 @@ returns-in-None c = λ m r o.
 pub returns-in_err-read-in-Some-keyword_of : goal.returns-in_err-read-in-Some-keyword_of
 returns-in_err-read-in-Some-keyword_of c = λ m r o.
     let h = c.steps.invariant.goes m r o in
-    ends_err c.args.phrases.limited _ c.from_residual.result c.in_err-read-in-Some-keyword_of.field-0.0 m c.args.tokens.now _ _ c.from_residual.ensures.1
+    ends_as_err c.args.phrases.limited _ c.from_residual.result c.in_err-read-in-Some-keyword_of.field-0.0 m c.args.tokens.now _ _ c.from_residual.ensures.1
     (refuses_from c.args.phrases.limited c.in_err-read-in-Some-keyword_of.field-0.0 _ _
     (h.2 ∙ known_goes m (with_steps o h.0) (tokens_seen c.steps.rest.now) (tokens_seen c.in-Some.behind.now) c.in-Some.word.now c.in-Some-keyword_of.keyword c.in-Some.ensures.0 (sym c.keyword_of.ensures ∙ c.in-Some-keyword_of.is))
     (c.in_err-read-in-Some-keyword_of.ensures.reads m (room_for c.args.phrases.limited m c.args.tokens.now c.in-Some.behind.now (omega (arith, c.in-Some.ensures.1, c.steps.invariant.falls)) r) (with_steps o h.0)))
@@ -39,7 +38,7 @@ steps-preserved c = record {
       let h = c.steps.invariant.goes m r o in
       let a = c.in_ok-read-in-Some-keyword_of.ensures.reads m (room_for c.args.phrases.limited m c.args.tokens.now c.in-Some.behind.now (omega (arith, c.in-Some.ensures.1, c.steps.invariant.falls)) r) (with_steps o h.0) in (
         h.0 ++ a.0 ∷ [],
-        λ l. step_pushed c.steps.steps.items c.added.new.list.items c.in_ok-read-in-Some-keyword_of.read h.0 a.0 c.in_ok-added-in-Some-keyword_of.ensures (h.1 l) (a.1 l),
+        λ l. written_pushed c.steps.steps.items c.added.new.list.items c.in_ok-read-in-Some-keyword_of.read h.0 a.0 c.in_ok-added-in-Some-keyword_of.ensures (h.1 l) (a.1 l),
         h.2
             ∙ known_goes m (with_steps o h.0) (tokens_seen c.steps.rest.now) (tokens_seen c.in-Some.behind.now) c.in-Some.word.now c.in-Some-keyword_of.keyword c.in-Some.ensures.0 (sym c.keyword_of.ensures ∙ c.in-Some-keyword_of.is)
             ∙ a.2

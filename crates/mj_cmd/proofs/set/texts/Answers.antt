@@ -1,17 +1,14 @@
-use Rattle.std.proofs.Common.{◌≡◌, ◌∙◌, ◌⊎◌, ◌<◌, ◌≤◌, ◌-◌, ◌+◌, ℕ, suc, Some, None, List, [], ◌∷◌, ◌++◌, refl, ap, sym, subst, map, length, length-append, inl, inr, arith, true, false, append_assoc, append-nil, Option, Bool}
-use Rattle.mj_ast.specs.declared.sign.Sign.TheVariants.{Comma, Equals, Open, Close}
-use Rattle.mj_ast.specs.declared.keyword.Keyword.{Keyword}
-use Rattle.mj_ast.specs.declared.keyword.Keyword.TheVariants as keyword
-use Rattle.mj_ast.specs.Syntax.{Expr, Destination, Plain, Pieces, One, Several, Gone, Spared, Shown, Format}
-use Rattle.mj_ast.specs.Tokens.{Token, Word, Called, Signed}
-use Rattle.mj_ast.specs.Commands.{Part, Put, Named, PieceCall, Text, Place, with_commas, behind_commas, more_parts, destination_parts, targets_parts, assignment_parts, output_parts, name_parts, killed_parts, merged_parts, mark_part}
-use Rattle.mj_ast.specs.Trees.{expr_of, variable_of, exprs_of, destination_of, targets_of, assignment_of, output_of, killed_of, merged_of}
-use Rattle.mj_lex.specs.declared.token.Lexeme.{Lexeme}
+use Rattle.std.proofs.Common.{[], ◌∷◌, refl, length, inl, inr, arith}
+use Rattle.mj_ast.specs.declared.sign.Sign.TheVariants.{Comma, Close}
+use Rattle.mj_ast.specs.Tokens.{Signed}
+use Rattle.mj_ast.specs.Commands.{Put, Text, more_parts}
+use Rattle.mj_ast.specs.Trees.{expr_of, exprs_of}
 use Rattle.mj_lex.specs.Seen.{tokens_seen}
-use Rattle.mj_line.specs.Forms.{Node, SetTarget, PieceOpens, PieceVariable, PieceComma, PieceText, PieceBehind, SetBehind, SetValue, SetEnd, OutputWanted, OutputEnd, MarksEnd, KillWanted, NameWanted, NameBehind, KillEnd, MergeInto, MergeBehind, MergeFrom, MergeEnd, AnExpr, AVar, part_of}
-use Rattle.mj_line.specs.Machine.{Args, Argument, At, run}
-use Rattle.mj_cmd.specs.Parts.{piece_node, opened_parts}
-use Rattle.mj_cmd.proofs.Follow.{reads_err, memory_err, lists_err, refuses_from, room_for, Went, went_then, went_as, went_token, went_text, went_place, fails_then, fails_enter, fails_here, kept_more, kept_first, kept_length, more_pushed, commas_more, target_untaken, variable_untaken, text_untaken, value_untaken, into_untaken, from_untaken, set_untaken, kill_untaken, merge_untaken, first_untaken, opens_untaken, behind_untaken, listed_untaken, merged_untaken, names_untaken, pieces_untaken, piece_untaken, full_untaken, killed_untaken, name_untaken, wanted_untaken, piece_takes, close_takes, piece_comma_takes, piece_closes, piece_wants, piece_ends, marks_all, no_marks, output_comma_goes, output_stuck, went_from, went_count, went_more, first_length, more_length}
+use Rattle.mj_line.specs.Forms.{PieceComma, PieceText, PieceBehind, SetBehind, AnExpr, labels}
+use Rattle.mj_line.specs.Machine.{Argument}
+use Rattle.mj_cmd.specs.Parts.{piece_node}
+use Rattle.mj_cmd.proofs.Follow.{sign_at, reads_err, room_for, went_then, went_token, went_text, fails_then, fails_enter, fails_here}
+use Rattle.mj_cmd.proofs.Places.{text_untaken, first_untaken, pieces_untaken, piece_closes, piece_wants, piece_ends, went_from, went_count, went_more, first_length, more_length}
 use Rattle.mj_cmd.proofs.set.texts.Goals as goal
 
 pub returns-in-None-clause-reads : goal.returns-in-None-clause-reads
@@ -21,7 +18,7 @@ pub returns-in_err-first-in-Some-clause-reads : goal.returns-in_err-first-in-Som
 returns-in_err-first-in-Some-clause-reads c = λ m r listed o condition k done.
     reads_err c.args.phrases.limited _ _ c.from_residual.result c.in_err-first-in-Some.field-0.0 m c.args.tokens.now _ _ c.from_residual.ensures.1
     (fails_then c.args.phrases.limited (Put Comma ∷ []) c.in_err-first-in-Some.field-0.0 m c.args.tokens.now (PieceComma listed) c.in-Some.behind.now (PieceText listed 2) o condition k done (went_token c.args.phrases.limited (Signed Comma) (Put Comma) m c.args.tokens.now (PieceComma listed) c.in-Some.behind.now (PieceText listed 2) o condition k done c.in-Some.ensures.0 refl refl)
-    (λ d. fails_enter c.args.phrases.limited c.in_err-first-in-Some.field-0.0 m c.in-Some.behind.now (PieceText listed 2) (AnExpr 1 (PieceBehind listed 2)) o condition k d refl (text_untaken listed 2 (tokens_seen c.in-Some.behind.now)) (inl refl)
+    (λ d. fails_enter c.args.phrases.limited c.in_err-first-in-Some.field-0.0 m c.in-Some.behind.now (PieceText listed 2) (AnExpr 1 (PieceBehind listed 2)) o condition k d tt refl (text_untaken listed 2 (tokens_seen c.in-Some.behind.now)) (inl refl)
     (c.in_err-first-in-Some.ensures.reads m (room_for c.args.phrases.limited m c.args.tokens.now c.in-Some.behind.now (omega (arith, c.in-Some.ensures.1)) r) (Argument o condition k d (AnExpr 1 (PieceBehind listed 2))) refl refl)))
 
 pub commas-init : goal.commas-init
@@ -59,4 +56,4 @@ returns-in-None-behind_close-clause-reads c = λ m r listed o condition k done.
 pub returns-clause-reads : goal.returns-clause-reads
 returns-clause-reads c = λ m r listed o condition k done.
     went_then c.args.phrases.limited (more_parts (exprs_of c.commas.texts.items)) (Put Close ∷ []) m c.args.tokens.now (PieceComma listed) c.commas.rest.now (piece_node listed (length c.commas.texts.items)) c.in-Some-behind_close.behind.now (SetBehind listed) o condition k done (c.commas.invariant.goes m r listed o condition k done)
-    (λ d. went_token c.args.phrases.limited (Signed Close) (Put Close) m c.commas.rest.now (piece_node listed (length c.commas.texts.items)) c.in-Some-behind_close.behind.now (SetBehind listed) o condition k d c.in-Some-behind_close.ensures.0 refl (piece_closes listed (length c.commas.texts.items) c.commas.invariant.some.0))
+    (λ d. went_token c.args.phrases.limited (Signed Close) (Put Close) m c.commas.rest.now (piece_node listed (length c.commas.texts.items)) c.in-Some-behind_close.behind.now (SetBehind listed) o condition k d c.in-Some-behind_close.ensures.0 (sign_at (labels (piece_node listed (length c.commas.texts.items))) Close) (piece_closes listed (length c.commas.texts.items) c.commas.invariant.some.0))

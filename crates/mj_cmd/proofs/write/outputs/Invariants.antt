@@ -1,4 +1,4 @@
-use Rattle.std.proofs.Common.{◌≡◌, ◌⊎◌, ◌≤◌, List, [], ◌∷◌, ◌++◌, length, map, Bool, true, false, Option}
+use Rattle.std.proofs.Common.{◌≡◌, ◌≤◌, List, ◌++◌, length, map, true, Option}
 use Rattle.mj_ast.specs.declared.keyword.Keyword.{Keyword}
 use Rattle.mj_ast.specs.Syntax.{Expr}
 use Rattle.mj_ast.specs.Commands.{Part, output_parts, with_commas}
@@ -7,7 +7,6 @@ use Rattle.mj_lex.specs.Seen.{tokens_seen}
 use Rattle.mj_line.specs.Forms.{Node, OutputWanted}
 use Rattle.mj_line.specs.Sentences.{Sentence}
 use Rattle.mj_cmd.specs.Reads.{HasRoom}
-use Rattle.mj_cmd.proofs.Follow.{Went}
 use Rattle.mj_ast.specs.Trees.{output_of}
 use Rattle.mj_line.specs.Machine.{At, Args, run}
 use Rattle.mj_cmd.specs.Reads.{EndsOutput}

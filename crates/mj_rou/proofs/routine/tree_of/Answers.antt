@@ -7,7 +7,7 @@ use Rattle.mj_lex.specs.Seen.{token_seen, tokens_seen}
 use Rattle.mj_cmd.specs.Heads.{IsLabelShort}
 use Rattle.mj_cmd.specs.Said.{IsRefused}
 use Rattle.mj_rou.proofs.Columns.{seen_tokens, label_short}
-use Rattle.mj_rou.proofs.Routines.{line_read, line_stuck, line_deep, line_long}
+use Rattle.mj_rou.proofs.Routines.{line_read, line_deep, line_long}
 use Rattle.mj_rou.proofs.routine.tree_of.Goals as goal
 
 pub line-requires : goal.line-requires
@@ -19,19 +19,12 @@ pub returns-in-Ok-clause-read : goal.returns-in-Ok-clause-read
 returns-in-Ok-clause-read c =
     line_read c.args.line.now (tokens_seen c.args.lexemes.now) (line_of c.in-Ok.tree) (seen_tokens c.args.lexemes.now c.args.line.now c.requires.placed) c.requires.short c.in-Ok.ensures.read
 
-pub returns-in-Stuck-clause-refused : goal.returns-in-Stuck-clause-refused
-returns-in-Stuck-clause-refused c =
-    let P : Stop → Type 0 = λ e. IsRefused (tokens_seen c.args.lexemes.now) e in
-    line_stuck c.args.line.now (tokens_seen c.args.lexemes.now) c.in-Stuck.left c.column.result (seen_tokens c.args.lexemes.now c.args.line.now c.requires.placed) c.requires.short
-    (subst P c.in-Stuck.is c.in-Err.ensures.refused)
-    (λ place e. c.column.ensures place (omega (arith, e, length-map c.args.lexemes.now (λ l. token_seen l.token))))
-
 pub returns-in-Deep-clause-refused : goal.returns-in-Deep-clause-refused
 returns-in-Deep-clause-refused c =
     let P : Stop → Type 0 = λ e. IsRefused (tokens_seen c.args.lexemes.now) e in
-    line_deep c.args.line.now (tokens_seen c.args.lexemes.now) c.in-Deep.left c.column-in-Deep.result (seen_tokens c.args.lexemes.now c.args.line.now c.requires.placed) c.requires.short
+    line_deep c.args.line.now (tokens_seen c.args.lexemes.now) c.in-Deep.left c.column.result (seen_tokens c.args.lexemes.now c.args.line.now c.requires.placed) c.requires.short
     (subst P c.in-Deep.is c.in-Err.ensures.refused)
-    (λ place e. c.column-in-Deep.ensures place (omega (arith, e, length-map c.args.lexemes.now (λ l. token_seen l.token))))
+    (λ place e. c.column.ensures place (omega (arith, e, length-map c.args.lexemes.now (λ l. token_seen l.token))))
 
 pub returns-in-Long-clause-refused : goal.returns-in-Long-clause-refused
 returns-in-Long-clause-refused c =

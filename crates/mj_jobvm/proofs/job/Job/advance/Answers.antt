@@ -1,8 +1,8 @@
-use Rattle.std.proofs.Common.{◌≡◌, ◌+◌, ℕ, Option, Some, None, sym, ap, ◌∙◌, subst, arith, option_map}
+use Rattle.std.proofs.Common.{◌≡◌, ◌+◌, ℕ, Option, Some, None, sym, ap, ◌∙◌, subst, arith}
 use Rattle.mj_ask.specs.declared.ask.Ask.{Ask}
 use Rattle.mj_load.specs.Image.{routines_of}
-use Rattle.mj_jobvm.specs.Standing.{Standing}
-use Rattle.mj_jobvm.specs.Kept.{standing, target_of}
+use Rattle.mj_machine.specs.Standing.{Standing}
+use Rattle.mj_machine.specs.Kept.{standing}
 use Rattle.mj_jobvm.specs.Run.{IsRun}
 use Rattle.mj_jobvm.specs.Jobs.{IsRunOf, running, given_of, code_in}
 use Rattle.mj_jobvm.proofs.Advance.{counted_as, went_on, went_asks, went_over, told_over}
@@ -12,7 +12,7 @@ use Rattle.mj_jobvm.proofs.job.Job.advance.Goals as goal
 pub returns-in-Some-clause-told : goal.returns-in-Some-clause-told
 returns-in-Some-clause-told c = λ entry is.
     let j = c.args.self.now in
-    told_again (routines_of c.args.image.now) entry (code_in c.args.image.now j.unit j.target) j.run c.in-Some.field-0
+    told_again (routines_of c.args.image.now) entry (code_in c.args.image.now j.entry) j.run c.in-Some.field-0
     (ap (λ job. job.run.pending) (sym c.self.view_is) ∙ c.in-Some.is) is
 
 pub turns-preserved : goal.turns-preserved
@@ -21,11 +21,14 @@ turns-preserved c =
     let s = c.turns.self-inside in
     record {
       run = λ entry is.
-          let P : ℕ → Type 0 = λ n. IsRunOf c.args.image.now entry (running s.unit s.target c.go_on.new.machine s.log.items c.go_on.new.given None n) in
+          let P : ℕ → Type 0 = λ n. IsRunOf c.args.image.now entry (running s.entry c.go_on.new.machine s.log.items c.go_on.new.given None n) in
           subst P (let e : c.args.self.now.run.spent + c.turns.done + 1 ≡ c.args.self.now.run.spent + (c.turns.done + 1) = omega arith in e)
-          (went_on c.args.image.now entry s.unit s.target c.unit_in-unit.result c.as_ref.result s.log.items c.deref.result.now i.code c.as_ref.ensures.value c.deref.ensures.value
-          (c.args.self.now.run.spent + c.turns.done) s.machine c.go_on.new.machine s.given c.go_on.new.given c.in_ok-go_on.field-0 c.in_ok-go_on.ensures.ok (i.run entry is) c.in-On.is);
+          (went_on c.args.image.now entry s.entry c.units-units.result.now s.log.items c.deref.result.now i.code c.deref.ensures.value
+          (c.args.self.now.run.spent + c.turns.done) s.machine c.go_on.new.machine s.given c.go_on.new.given c.in_ok-go_on.field-0 c.in_ok-go_on.ensures.ok c.go_on.ensures.sound (i.run entry is) c.in-On.is);
       code = i.code;
+      small = i.small;
+      checked = i.checked;
+      sound = c.go_on.ensures.sound;
       log = i.log;
       room = i.room;
       pending = i.pending;
@@ -38,7 +41,7 @@ returns-in_err-go_on-clause-run c = λ entry is.
     let i = c.turns.invariant in
     let s = c.turns.self-inside in
     let routines = routines_of c.args.image.now in
-    let code = code_in c.args.image.now s.unit (option_map target_of s.target) in
+    let code = code_in c.args.image.now s.entry in
     let same : standing c.go_on.new.machine (given_of c.go_on.new.given s.log.items) ≡ standing s.machine (given_of s.given s.log.items) =
     subst (λ l. standing c.go_on.new.machine (given_of c.go_on.new.given l) ≡ standing s.machine (given_of s.given l)) c.deref.ensures.value c.in_err-go_on.ensures.err in
     let P : Standing → Type 0 = λ x. IsRun routines entry code (run s.log.items s.pending s.spent x) in
@@ -51,43 +54,43 @@ returns-in-Asks-clause-run c = λ entry is.
     let i = c.turns.invariant in
     let s = c.turns.self-inside in
     let routines = routines_of c.args.image.now in
-    let code = code_in c.args.image.now s.unit (option_map target_of s.target) in
+    let code = code_in c.args.image.now s.entry in
     let some : Option Ask = Some c.in-Asks.ask in
     counted_as routines entry code s.log.items some some (c.args.self.now.run.spent + c.turns.done) s.spent (standing c.go_on.new.machine (given_of c.go_on.new.given s.log.items)) (λ j. some)
     (let e = i.spent in omega (arith, e))
-    (went_asks c.args.image.now entry s.unit s.target c.unit_in-unit.result c.as_ref.result s.log.items c.deref.result.now i.code c.as_ref.ensures.value c.deref.ensures.value
-    (c.args.self.now.run.spent + c.turns.done) s.machine c.go_on.new.machine s.given c.go_on.new.given c.in_ok-go_on.field-0 c.in_ok-go_on.ensures.ok (i.run entry is) c.in-Asks.ask c.in-Asks.is)
+    (went_asks c.args.image.now entry s.entry c.units-units.result.now s.log.items c.deref.result.now i.code c.deref.ensures.value
+    (c.args.self.now.run.spent + c.turns.done) s.machine c.go_on.new.machine s.given c.go_on.new.given c.in_ok-go_on.field-0 c.in_ok-go_on.ensures.ok c.go_on.ensures.sound (i.run entry is) c.in-Asks.ask c.in-Asks.is)
 
 pub returns-in-Asks-clause-told : goal.returns-in-Asks-clause-told
 returns-in-Asks-clause-told c = λ entry is.
     let i = c.turns.invariant in
     let s = c.turns.self-inside in
-    told_asks (routines_of c.args.image.now) entry (code_in c.args.image.now s.unit (option_map target_of s.target)) s.log.items (c.args.self.now.run.spent + c.turns.done) c.in-Asks.ask
+    told_asks (routines_of c.args.image.now) entry (code_in c.args.image.now s.entry) s.log.items (c.args.self.now.run.spent + c.turns.done) c.in-Asks.ask
     (standing c.go_on.new.machine (given_of c.go_on.new.given s.log.items))
-    (went_asks c.args.image.now entry s.unit s.target c.unit_in-unit.result c.as_ref.result s.log.items c.deref.result.now i.code c.as_ref.ensures.value c.deref.ensures.value
-    (c.args.self.now.run.spent + c.turns.done) s.machine c.go_on.new.machine s.given c.go_on.new.given c.in_ok-go_on.field-0 c.in_ok-go_on.ensures.ok (i.run entry is) c.in-Asks.ask c.in-Asks.is)
+    (went_asks c.args.image.now entry s.entry c.units-units.result.now s.log.items c.deref.result.now i.code c.deref.ensures.value
+    (c.args.self.now.run.spent + c.turns.done) s.machine c.go_on.new.machine s.given c.go_on.new.given c.in_ok-go_on.field-0 c.in_ok-go_on.ensures.ok c.go_on.ensures.sound (i.run entry is) c.in-Asks.ask c.in-Asks.is)
 
 pub returns-in-Over-clause-run : goal.returns-in-Over-clause-run
 returns-in-Over-clause-run c = λ entry is.
     let i = c.turns.invariant in
     let s = c.turns.self-inside in
-    counted_as (routines_of c.args.image.now) entry (code_in c.args.image.now s.unit (option_map target_of s.target)) s.log.items None s.pending (c.args.self.now.run.spent + c.turns.done) s.spent
+    counted_as (routines_of c.args.image.now) entry (code_in c.args.image.now s.entry) s.log.items None s.pending (c.args.self.now.run.spent + c.turns.done) s.spent
     (standing c.go_on.new.machine (given_of c.go_on.new.given s.log.items)) i.pending (let e = i.spent in omega (arith, e))
-    (went_over c.args.image.now entry s.unit s.target c.unit_in-unit.result c.as_ref.result s.log.items c.deref.result.now i.code c.as_ref.ensures.value c.deref.ensures.value
-    (c.args.self.now.run.spent + c.turns.done) s.machine c.go_on.new.machine s.given c.go_on.new.given c.in_ok-go_on.field-0 c.in_ok-go_on.ensures.ok (i.run entry is) c.in-Over.is)
+    (went_over c.args.image.now entry s.entry c.units-units.result.now s.log.items c.deref.result.now i.code c.deref.ensures.value
+    (c.args.self.now.run.spent + c.turns.done) s.machine c.go_on.new.machine s.given c.go_on.new.given c.in_ok-go_on.field-0 c.in_ok-go_on.ensures.ok c.go_on.ensures.sound (i.run entry is) c.in-Over.is)
 
 pub returns-in-Over-clause-told : goal.returns-in-Over-clause-told
 returns-in-Over-clause-told c = λ entry is.
     let i = c.turns.invariant in
     let s = c.turns.self-inside in
-    told_over c.args.image.now entry s.unit s.target c.unit_in-unit.result c.as_ref.result s.log.items c.deref.result.now i.code c.as_ref.ensures.value c.deref.ensures.value
-    (c.args.self.now.run.spent + c.turns.done) s.machine c.go_on.new.machine s.given c.go_on.new.given c.in_ok-go_on.field-0 c.in_ok-go_on.ensures.ok (i.run entry is) c.in-Over.is s.pending s.spent
+    told_over c.args.image.now entry s.entry c.units-units.result.now s.log.items c.deref.result.now i.code c.deref.ensures.value
+    (c.args.self.now.run.spent + c.turns.done) s.machine c.go_on.new.machine s.given c.go_on.new.given c.in_ok-go_on.field-0 c.in_ok-go_on.ensures.ok c.go_on.ensures.sound (i.run entry is) c.in-Over.is s.pending s.spent
 
 pub returns-clause-run : goal.returns-clause-run
 returns-clause-run c = λ entry is.
     let i = c.turns.invariant in
     let s = c.turns.self-inside in
-    counted_as (routines_of c.args.image.now) entry (code_in c.args.image.now s.unit (option_map target_of s.target)) s.log.items None s.pending (c.args.self.now.run.spent + c.turns.done) c.min-self-inside.result
+    counted_as (routines_of c.args.image.now) entry (code_in c.args.image.now s.entry) s.log.items None s.pending (c.args.self.now.run.spent + c.turns.done) c.min-self-inside.result
     (standing s.machine (given_of s.given s.log.items)) i.pending
     (let a = c.min-self-inside.ensures in let b = c.saturating_add.ensures in let d = c.turns-test.false in let e = i.spent in omega (arith, a, b, d, e)) (i.run entry is)
 
@@ -96,7 +99,7 @@ returns-clause-told c = λ entry is.
     let i = c.turns.invariant in
     let s = c.turns.self-inside in
     let routines = routines_of c.args.image.now in
-    let code = code_in c.args.image.now s.unit (option_map target_of s.target) in
+    let code = code_in c.args.image.now s.entry in
     let at = standing s.machine (given_of s.given s.log.items) in
     told_ran routines entry code s.log.items s.pending c.min-self-inside.result at
     (counted_as routines entry code s.log.items None s.pending (c.args.self.now.run.spent + c.turns.done) c.min-self-inside.result at i.pending

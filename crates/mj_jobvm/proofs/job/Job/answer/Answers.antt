@@ -8,5 +8,5 @@ returns-in_default-push-clause-run c = λ image entry is.
     let s = c.self.inside in
     let P : Running → Type 0 = λ j. IsRunOf image entry j in
     let Q : Running → Type 0 = λ j. Fits j.run.pending c.args.reply in
-    answered_by image entry s.unit s.target s.machine s.log.items c.push.new.self.items s.given s.pending c.take.new.self s.spent c.in-Some.ask c.args.reply
+    answered_by image entry s.entry s.machine s.log.items c.push.new.self.items s.given s.pending c.take.new.self s.spent c.in-Some.ask c.args.reply
     (sym c.take.ensures.value ∙ c.in-Some.is) (subst Q (sym c.self.view_is) c.requires) c.in_default-push.ensures.items c.take.ensures.after (subst P (sym c.self.view_is) is)

@@ -1,0 +1,26 @@
+-- What falls from call to call while commands are emitted.
+use Rattle.std.proofs.Common.{ℕ, ◌+◌, List, [], ◌∷◌, length}
+use Rattle.mj_ast.specs.declared.routine.Command as kept_command
+use Rattle.mj_ast.specs.declared.routine.Command.TheVariants as command
+use Rattle.mj_ast.specs.declared.routine.Step as step
+
+-- how many conditions an IF has
+abbrev pub conditions_in : kept_command.Command → ℕ
+conditions_in (command.Set v) = 0
+conditions_in (command.Write v) = 0
+conditions_in command.Halt = 0
+conditions_in (command.Kill v) = 0
+conditions_in (command.Merge v) = 0
+conditions_in (command.If v) = length v.items
+conditions_in command.Else = 0
+conditions_in (command.For x v) = 0
+conditions_in command.Forever = 0
+conditions_in (command.Do v) = 0
+conditions_in (command.Goto v) = 0
+conditions_in command.Quit = 0
+conditions_in (command.New v) = 0
+
+-- commands, each for 3, and the conditions of each IF
+abbrev pub weight : List step.Step → ℕ
+weight [] = 0
+weight (s ∷ steps) = weight steps + conditions_in s.command + 3

@@ -1,0 +1,25 @@
+use Rattle.std.proofs.Common.{◌≤◌, List, length, map, true, Option}
+use Rattle.mj_ast.specs.declared.keyword.Keyword.{Keyword}
+use Rattle.mj_ast.specs.Syntax.{Expr}
+use Rattle.mj_ast.specs.Commands.{Part}
+use Rattle.mj_expr.specs.Machine.{Limits}
+use Rattle.mj_line.specs.Forms.{EntryWanted, GuardEnd}
+use Rattle.mj_line.specs.Sentences.{Sentence}
+use Rattle.mj_cmd.specs.Reads.{HasRoom, AreWrittenCalls}
+use Rattle.mj_cmd.proofs.Follow.{WentAs}
+use Rattle.mj_ast.specs.Trees.{called_of}
+use Rattle.mj_cmd.proofs.call.calls.Given as goal
+
+pub record SoFar (Goes : Type 0) (Some : Type 0) (Falls : Type 0) : Type 0 where
+  pub goes : Goes
+  pub some : Some
+  pub falls : Falls
+
+abbrev pub invariant-commas : goal.invariant-commas
+invariant-commas l = SoFar
+    ((m : Limits) → HasRoom l.phrases.limited m l.tokens → (o : Sentence) → (condition : Option Expr) → (k : Keyword) → (done : List Part) → WentAs l.phrases.limited (λ ps. AreWrittenCalls ps (map called_of l.arguments.items)) m l.tokens (EntryWanted true true) l.rest (GuardEnd true) o condition k done)
+    (1 ≤ length l.arguments.items)
+    (length l.rest ≤ length l.tokens)
+
+abbrev pub decreases-commas : goal.decreases-commas
+decreases-commas l = length l.rest

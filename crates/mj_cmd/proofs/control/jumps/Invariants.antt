@@ -1,0 +1,25 @@
+use Rattle.std.proofs.Common.{◌≤◌, List, length, map, true, false, Option}
+use Rattle.mj_ast.specs.declared.keyword.Keyword.{Keyword}
+use Rattle.mj_ast.specs.Syntax.{Expr}
+use Rattle.mj_ast.specs.Commands.{Part, with_commas, jumped_parts}
+use Rattle.mj_expr.specs.Machine.{Limits}
+use Rattle.mj_line.specs.Forms.{EntryWanted, GuardEnd}
+use Rattle.mj_line.specs.Sentences.{Sentence}
+use Rattle.mj_cmd.specs.Reads.{HasRoom}
+use Rattle.mj_cmd.proofs.Follow.{Went}
+use Rattle.mj_ast.specs.Trees.{jumped_of}
+use Rattle.mj_cmd.proofs.control.jumps.Given as goal
+
+pub record SoFar (Goes : Type 0) (Some : Type 0) (Falls : Type 0) : Type 0 where
+  pub goes : Goes
+  pub some : Some
+  pub falls : Falls
+
+abbrev pub invariant-commas : goal.invariant-commas
+invariant-commas l = SoFar
+    ((m : Limits) → HasRoom l.phrases.limited m l.tokens → (o : Sentence) → (condition : Option Expr) → (k : Keyword) → (done : List Part) → Went l.phrases.limited (with_commas jumped_parts (map jumped_of l.arguments.items)) m l.tokens (EntryWanted false true) l.rest (GuardEnd false) o condition k done)
+    (1 ≤ length l.arguments.items)
+    (length l.rest ≤ length l.tokens)
+
+abbrev pub decreases-commas : goal.decreases-commas
+decreases-commas l = length l.rest

@@ -1,0 +1,212 @@
+// The arguments of IF, NEW and GOTO.
+
+ghost use Rattle.std.specs.Prelude.{◌≡◌, ◌⊎◌, ◌∷◌, ◌++◌, ◌≤◌, Bool, IfOk, [], false, length, map, option_map, true};
+ghost use Rattle.mj_ast.specs.Commands.{Named, condition_parts, guard_parts, jumped_parts, renewed_parts, target_parts, with_commas};
+ghost use Rattle.mj_ast.specs.Trees.{expr_of, jumped_of, renewed_of, target_of};
+ghost use Rattle.mj_expr.specs.Machine.{Limits};
+ghost use Rattle.mj_lex.specs.Seen.{tokens_seen};
+ghost use Rattle.mj_line.specs.Forms.{EntryWanted, GuardEnd, IfEnd, IfWanted, NewEnd, NewWanted, Node, RoutineEnd, RoutineWanted, ends};
+ghost use Rattle.mj_cmd.specs.Heads.{HasOther, HasParted};
+ghost use Rattle.mj_cmd.specs.Parts.{MayBeGuarded};
+ghost use Rattle.mj_cmd.specs.Reads.{HasRoom, Passes};
+
+use crate::kill::{names, word_text};
+use crate::parts::{
+    behind_caret, behind_colon, behind_comma, behind_entry_label, behind_name, behind_open, parted,
+    stuck,
+};
+use crate::phrase::Phrases;
+use mj_ast::{Expr, Jumped, Renewed, Target};
+use mj_expr::Stop;
+use mj_lex::Lexeme;
+use mj_text::Text;
+
+/// A condition of IF.
+fn truth<'a, 't>(
+    phrases: Phrases,
+    tokens: &'t [Lexeme<'a>],
+) -> Result<(Expr, &'t [Lexeme<'a>]), Stop>
+    ensures shorter { IfOk result (λ x. length x.1.now ≤ length tokens.now) }
+    ensures reads { (m : Limits) → HasRoom phrases.limited m tokens.now → (first : Bool) → (first ≡ false) ⊎ HasOther (tokens_seen tokens.now) → Passes phrases.limited (λ x. condition_parts (expr_of x.0)) (λ x. x.1.now) result m tokens.now (IfWanted first) IfEnd }
+{
+    let (truth, rest) = phrases.expression(0, tokens)?;
+    Ok((truth, rest))
+}
+
+/// The arguments of IF, of which there is one at least, up to where the command ends.
+pub fn truths<'a, 't>(
+    phrases: Phrases,
+    tokens: &'t [Lexeme<'a>],
+) -> Result<(Vec<Expr>, &'t [Lexeme<'a>]), Stop>
+    requires { HasOther (tokens_seen tokens.now) }
+    ensures shorter { IfOk result (λ x. length x.1.now ≤ length tokens.now) }
+    ensures parted { IfOk result (λ x. HasParted (tokens_seen x.1.now)) }
+    ensures reads { (m : Limits) → HasRoom phrases.limited m tokens.now → Passes phrases.limited (λ x. with_commas condition_parts (map expr_of x.0.items)) (λ x. x.1.now) result m tokens.now (IfWanted true) IfEnd }
+{
+    let mut arguments = Vec::new(phrases.alloc);
+    let (first, mut rest) = truth(phrases, tokens)?;
+    arguments.push(first)?;
+    'commas: while let Some(behind) = behind_comma(rest) {
+        let (argument, behind) = truth(phrases, behind)?;
+        arguments.push(argument)?;
+        rest = behind;
+    }
+    let rest = parted(rest)?;
+    Ok((arguments, rest))
+}
+
+/// A name, or names in parentheses.
+fn renewed<'a, 't>(
+    phrases: Phrases,
+    tokens: &'t [Lexeme<'a>],
+) -> Result<(Renewed, &'t [Lexeme<'a>]), Stop>
+    ensures shorter { IfOk result (λ x. length x.1.now ≤ length tokens.now) }
+    ensures reads { (m : Limits) → HasRoom phrases.limited m tokens.now → (first : Bool) → (first ≡ false) ⊎ HasOther (tokens_seen tokens.now) → Passes phrases.limited (λ x. renewed_parts (renewed_of x.0)) (λ x. x.1.now) result m tokens.now (NewWanted first) NewEnd }
+{
+    match behind_open(tokens) {
+        None => match behind_name(tokens) {
+            None => Err(stuck(tokens)),
+            Some((word, rest)) => {
+                let name = word_text(phrases.alloc, word)?;
+                Ok((Renewed::Name(name), rest))
+            }
+        },
+        Some(behind) => {
+            let (names, rest) = names(phrases, behind)?;
+            Ok((Renewed::Except(names), rest))
+        }
+    }
+}
+
+/// The arguments of NEW, of which there is one at least, up to where the command ends.
+pub fn renewals<'a, 't>(
+    phrases: Phrases,
+    tokens: &'t [Lexeme<'a>],
+) -> Result<(Vec<Renewed>, &'t [Lexeme<'a>]), Stop>
+    requires { HasOther (tokens_seen tokens.now) }
+    ensures shorter { IfOk result (λ x. length x.1.now ≤ length tokens.now) }
+    ensures parted { IfOk result (λ x. HasParted (tokens_seen x.1.now)) }
+    ensures reads { (m : Limits) → HasRoom phrases.limited m tokens.now → Passes phrases.limited (λ x. with_commas renewed_parts (map renewed_of x.0.items)) (λ x. x.1.now) result m tokens.now (NewWanted true) NewEnd }
+{
+    let mut arguments = Vec::new(phrases.alloc);
+    let (first, mut rest) = renewed(phrases, tokens)?;
+    arguments.push(first)?;
+    'commas: while let Some(behind) = behind_comma(rest) {
+        let (argument, behind) = renewed(phrases, behind)?;
+        arguments.push(argument)?;
+        rest = behind;
+    }
+    let rest = parted(rest)?;
+    Ok((arguments, rest))
+}
+
+/// The name of a routine, behind a `^`.
+fn routine<'a, 't>(
+    phrases: Phrases,
+    tokens: &'t [Lexeme<'a>],
+) -> Result<(Text, &'t [Lexeme<'a>]), Stop>
+    ensures shorter { IfOk result (λ x. length x.1.now ≤ length tokens.now) }
+    ensures reads { (m : Limits) → (call : Bool) → Passes phrases.limited (λ x. Named x.0 ∷ []) (λ x. x.1.now) result m tokens.now (RoutineWanted call) (RoutineEnd call) }
+{
+    match behind_name(tokens) {
+        None => Err(stuck(tokens)),
+        Some((word, rest)) => {
+            let name = word_text(phrases.alloc, word)?;
+            Ok((name, rest))
+        }
+    }
+}
+
+/// A label, a routine behind a `^`, or both.
+pub fn entry<'a, 't>(
+    phrases: Phrases,
+    tokens: &'t [Lexeme<'a>],
+) -> Result<(Target, &'t [Lexeme<'a>]), Stop>
+    ensures shorter { IfOk result (λ x. length x.1.now ≤ length tokens.now) }
+    ensures reads { (m : Limits) → (call : Bool) → (first : Bool) → (ends (EntryWanted call first) ≡ false) ⊎ HasOther (tokens_seen tokens.now) → Passes phrases.limited (λ x. target_parts (target_of x.0)) (λ x. x.1.now) result m tokens.now (EntryWanted call first) (RoutineEnd call) }
+{
+    match behind_entry_label(tokens) {
+        None => match behind_caret(tokens) {
+            None => Err(stuck(tokens)),
+            Some(behind) => {
+                let (name, rest) = routine(phrases, behind)?;
+                let target = Target {
+                    label: None,
+                    routine: Some(name),
+                };
+                Ok((target, rest))
+            }
+        },
+        Some((label, behind)) => {
+            let label = word_text(phrases.alloc, label)?;
+            match behind_caret(behind) {
+                None => {
+                    let target = Target {
+                        label: Some(label),
+                        routine: None,
+                    };
+                    Ok((target, behind))
+                }
+                Some(behind) => {
+                    let (name, rest) = routine(phrases, behind)?;
+                    let target = Target {
+                        label: Some(label),
+                        routine: Some(name),
+                    };
+                    Ok((target, rest))
+                }
+            }
+        }
+    }
+}
+
+/// The condition of an argument, if there is one.
+pub fn guard<'a, 't>(
+    phrases: Phrases,
+    tokens: &'t [Lexeme<'a>],
+) -> Result<(Option<Expr>, &'t [Lexeme<'a>]), Stop>
+    ensures shorter { IfOk result (λ x. length x.1.now ≤ length tokens.now) }
+    ensures reads { (m : Limits) → HasRoom phrases.limited m tokens.now → (call : Bool) → (n : Node) → MayBeGuarded call n (tokens_seen tokens.now) → Passes phrases.limited (λ x. guard_parts (option_map expr_of x.0)) (λ x. x.1.now) result m tokens.now n (GuardEnd call) }
+{
+    match behind_colon(tokens) {
+        None => Ok((None, tokens)),
+        Some(behind) => {
+            let (condition, rest) = phrases.expression(0, behind)?;
+            Ok((Some(condition), rest))
+        }
+    }
+}
+
+/// An entry, and its condition.
+fn jump<'a, 't>(
+    phrases: Phrases,
+    tokens: &'t [Lexeme<'a>],
+) -> Result<(Jumped, &'t [Lexeme<'a>]), Stop>
+    ensures shorter { IfOk result (λ x. length x.1.now ≤ length tokens.now) }
+    ensures reads { (m : Limits) → HasRoom phrases.limited m tokens.now → (first : Bool) → Passes phrases.limited (λ x. jumped_parts (jumped_of x.0)) (λ x. x.1.now) result m tokens.now (EntryWanted false first) (GuardEnd false) }
+{
+    let (target, rest) = entry(phrases, tokens)?;
+    let (condition, rest) = guard(phrases, rest)?;
+    Ok((Jumped { target, condition }, rest))
+}
+
+/// The arguments of GOTO, up to where the command ends.
+pub fn jumps<'a, 't>(
+    phrases: Phrases,
+    tokens: &'t [Lexeme<'a>],
+) -> Result<(Vec<Jumped>, &'t [Lexeme<'a>]), Stop>
+    ensures shorter { IfOk result (λ x. length x.1.now ≤ length tokens.now) }
+    ensures parted { IfOk result (λ x. HasParted (tokens_seen x.1.now)) }
+    ensures reads { (m : Limits) → HasRoom phrases.limited m tokens.now → Passes phrases.limited (λ x. with_commas jumped_parts (map jumped_of x.0.items)) (λ x. x.1.now) result m tokens.now (EntryWanted false true) (GuardEnd false) }
+{
+    let mut arguments = Vec::new(phrases.alloc);
+    let (first, mut rest) = jump(phrases, tokens)?;
+    arguments.push(first)?;
+    'commas: while let Some(behind) = behind_comma(rest) {
+        let (argument, behind) = jump(phrases, behind)?;
+        arguments.push(argument)?;
+        rest = behind;
+    }
+    let rest = parted(rest)?;
+    Ok((arguments, rest))
+}

@@ -1,0 +1,99 @@
+// The argument of FOR.
+
+ghost use Rattle.std.specs.Prelude.{◌≡◌, ◌∷◌, ◌++◌, ◌≤◌, IfOk, [], length, map};
+ghost use Rattle.mj_ast.specs.Commands.{Control, Put, command_parts, range_parts, with_commas};
+ghost use Rattle.mj_ast.specs.Syntax.{For};
+ghost use Rattle.mj_ast.specs.Trees.{range_of, variable_of};
+ghost use Rattle.mj_ast.specs.declared.sign.Sign.TheVariants.{Equals};
+ghost use Rattle.mj_expr.specs.Machine.{Limits};
+ghost use Rattle.mj_lex.specs.Seen.{tokens_seen};
+ghost use Rattle.mj_line.specs.Forms.{ForWanted, LimitEnd, RangeWanted};
+ghost use Rattle.mj_cmd.specs.Heads.{HasOther, HasParted};
+ghost use Rattle.mj_cmd.specs.Reads.{HasRoom, Passes};
+
+use crate::parts::{behind_caret, behind_colon, behind_comma, behind_equals, parted, stuck};
+use crate::phrase::Phrases;
+use mj_ast::{Range, Variable};
+use mj_expr::{Stop, added};
+use mj_lex::Lexeme;
+
+/// A value; or numbers, by the first, the step and perhaps the last, with colons between them.
+fn range<'a, 't>(
+    phrases: Phrases,
+    tokens: &'t [Lexeme<'a>],
+) -> Result<(Range, &'t [Lexeme<'a>]), Stop>
+    ensures shorter { IfOk result (λ x. length x.1.now ≤ length tokens.now) }
+    ensures reads { (m : Limits) → HasRoom phrases.limited m tokens.now → Passes phrases.limited (λ x. range_parts (range_of x.0)) (λ x. x.1.now) result m tokens.now RangeWanted LimitEnd }
+{
+    let (first, rest) = phrases.expression(0, tokens)?;
+    match behind_colon(rest) {
+        None => Ok((Range::One(first), rest)),
+        Some(behind) => {
+            let (step, rest) = phrases.expression(0, behind)?;
+            match behind_colon(rest) {
+                None => Ok((Range::Endless(first, step), rest)),
+                Some(behind) => {
+                    let (last, rest) = phrases.expression(0, behind)?;
+                    Ok((Range::UpTo(first, step, last), rest))
+                }
+            }
+        }
+    }
+}
+
+/// The ranges behind the `=`, of which there is one at least, up to where the command ends.
+fn ranges<'a, 't>(
+    phrases: Phrases,
+    tokens: &'t [Lexeme<'a>],
+) -> Result<(Vec<Range>, &'t [Lexeme<'a>]), Stop>
+    ensures shorter { IfOk result (λ x. length x.1.now ≤ length tokens.now) }
+    ensures parted { IfOk result (λ x. HasParted (tokens_seen x.1.now)) }
+    ensures reads { (m : Limits) → HasRoom phrases.limited m tokens.now → Passes phrases.limited (λ x. with_commas range_parts (map range_of x.0.items)) (λ x. x.1.now) result m tokens.now RangeWanted LimitEnd }
+{
+    let mut ranges = Vec::new(phrases.alloc);
+    let (first, mut rest) = range(phrases, tokens)?;
+    added(&mut ranges, first)?;
+    'commas: while let Some(behind) = behind_comma(rest) {
+        let (range, behind) = range(phrases, behind)?;
+        added(&mut ranges, range)?;
+        rest = behind;
+    }
+    let rest = parted(rest)?;
+    Ok((ranges, rest))
+}
+
+/// The local that is set at each pass, and the `=` behind it.
+fn counter<'a, 't>(
+    phrases: Phrases,
+    tokens: &'t [Lexeme<'a>],
+) -> Result<(Variable, &'t [Lexeme<'a>]), Stop>
+    requires { HasOther (tokens_seen tokens.now) }
+    ensures shorter { IfOk result (λ x. length x.1.now ≤ length tokens.now) }
+    ensures reads { (m : Limits) → HasRoom phrases.limited m tokens.now → Passes phrases.limited (λ x. Control (variable_of x.0) ∷ Put Equals ∷ []) (λ x. x.1.now) result m tokens.now ForWanted RangeWanted }
+{
+    match behind_caret(tokens) {
+        Some(_) => Err(stuck(tokens)),
+        None => {
+            let (counter, rest) = phrases.variable(0, tokens)?;
+            match behind_equals(rest) {
+                None => Err(stuck(rest)),
+                Some(behind) => Ok((counter, behind)),
+            }
+        }
+    }
+}
+
+/// The argument of FOR, up to where the command ends: a local, and what it goes through.
+pub fn repeated<'a, 't>(
+    phrases: Phrases,
+    tokens: &'t [Lexeme<'a>],
+) -> Result<(Variable, Vec<Range>, &'t [Lexeme<'a>]), Stop>
+    requires { HasOther (tokens_seen tokens.now) }
+    ensures shorter { IfOk result (λ x. length x.2.now ≤ length tokens.now) }
+    ensures parted { IfOk result (λ x. HasParted (tokens_seen x.2.now)) }
+    ensures reads { (m : Limits) → HasRoom phrases.limited m tokens.now → Passes phrases.limited (λ x. command_parts (For (variable_of x.0) (map range_of x.1.items))) (λ x. x.2.now) result m tokens.now ForWanted LimitEnd }
+{
+    let (counter, rest) = counter(phrases, tokens)?;
+    let (ranges, rest) = ranges(phrases, rest)?;
+    Ok((counter, ranges, rest))
+}

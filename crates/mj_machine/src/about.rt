@@ -1,0 +1,196 @@
+// Functions of variables.
+
+ghost use Rattle.std.specs.Prelude.{◌≡◌, ◌+◌, ◌-◌, ◌<◌, ◌^◌, ◌∷◌, drop, List, ℕ, Option, true, false, option_copied, IfOk, OnErr, ◌≤◌, length};
+ghost use Rattle.mj_ask.specs.declared.ask.Reply as replies;
+ghost use Rattle.mj_store.specs.Runs as runs;
+ghost use Rattle.mj_store.specs.Questions.{Content};
+ghost use Rattle.mj_semantics.specs.Functions.{optional};
+ghost use Rattle.mj_semantics.specs.Outcome as told;
+ghost use Rattle.mj_semantics.specs.Evaluation as evaluation;
+ghost use Rattle.mj_semantics.specs.Names as names;
+ghost use Rattle.mj_pcode.specs.Machine.{operands};
+ghost use Rattle.mj_machine.specs.Asked as asked;
+ghost use Rattle.mj_machine.specs.Kept.{standing, stack_of, context_of, Does, replied};
+
+use crate::control::Control;
+use crate::local::perform;
+use crate::machine::{Machine, STEPS_LIMIT, Step};
+use crate::names::name_for;
+use crate::quiet::fail;
+use crate::stack;
+use crate::tellings::{asks, question, spelled, told_by, told_of};
+use crate::values::put_value;
+use mj_ask::{Ask, Reply};
+use mj_ast::NameFunction;
+use mj_pcode::Reference;
+use mj_store::{Access, Answer};
+use mj_subs::Name;
+use mj_text::{Failure, Fault, Text};
+use std::alloc::{AllocError, Global};
+
+/// The subscripts on the stack make a name that the function may be about, or fail.
+#[inline(never)]
+pub fn named(
+    alloc: Global,
+    pc: usize,
+    function: NameFunction,
+    reference: &Reference,
+    machine: &mut Machine,
+) -> Result<Step, AllocError>
+    requires next { pc + 1 < 2 ^ 64 }
+    requires enough { reference.now.count ≤ length machine.old.stack.items }
+    ensures ok { IfOk result (λ step. (reply : Option replies.Reply) → Does (λ next. told.given (evaluation.named_for function reference.now.scope reference.now.word (operands reference.now.count (stack_of machine.old))) (λ x. next (context_of machine.old) (pc + 1) (stack_of machine.old))) machine.old reply step machine.new) }
+    ensures err { OnErr result ((reply : Option replies.Reply) → standing machine.new reply ≡ standing machine.old reply) }
+{
+    if let Err(fault) = name_for(
+        alloc,
+        function,
+        reference,
+        stack::topmost(&machine.stack, reference.count),
+    )? {
+        return Ok(fail(fault, machine));
+    }
+    machine.control = Control::At(pc + 1);
+    Ok(Step::Next)
+}
+
+/// What a function gives is put in the place of the `count` operands that it takes.
+#[inline(never)]
+pub fn about(
+    alloc: Global,
+    pc: usize,
+    function: NameFunction,
+    reference: &Reference,
+    count: usize,
+    machine: &mut Machine,
+    given: Option<&Reply>,
+) -> Result<Step, AllocError>
+    requires next { pc + 1 < 2 ^ 64 }
+    requires whole { reference.now.count ≤ count }
+    requires enough { count ≤ length machine.old.stack.items }
+    ensures ok { IfOk result (λ step. Does (λ next. told.given (evaluation.named_for function reference.now.scope reference.now.word (operands reference.now.count (drop (count - reference.now.count) (stack_of machine.old)))) (λ x. evaluation.about function x (optional 0 (operands (count - reference.now.count) (stack_of machine.old))) (λ v. next (context_of machine.old) (pc + 1) (v ∷ drop count (stack_of machine.old))))) machine.old (replied given.entry) step machine.new) }
+    ensures err { OnErr result ((reply : Option replies.Reply) → standing machine.new reply ≡ standing machine.old reply) }
+{
+    let others = count - reference.count;
+    let subscripts = stack::topmost(stack::under(&machine.stack, others), reference.count);
+    let name = match name_for(alloc, function, reference, subscripts)? {
+        Ok(name) => name,
+        Err(fault) => return Ok(fail(fault, machine)),
+    };
+    let other = first(stack::topmost(&machine.stack, others))?;
+    inquire(alloc, pc, function, count, name, other, machine, given)
+}
+
+/// The first text, if there is one.
+fn first(texts: &[Text]) -> Result<Option<Text>, AllocError>
+    ensures { IfOk result (λ text. text ≡ optional 0 texts.now) }
+{
+    match texts.get(0) {
+        Some(text) => Ok(Some(text.try_clone()?)),
+        None => Ok(None),
+    }
+}
+
+/// The same for the name and what stands behind it.
+fn inquire(
+    alloc: Global,
+    pc: usize,
+    function: NameFunction,
+    count: usize,
+    name: Name,
+    other: Option<Text>,
+    machine: &mut Machine,
+    given: Option<&Reply>,
+) -> Result<Step, AllocError>
+    requires next { pc + 1 < 2 ^ 64 }
+    requires enough { count ≤ length machine.old.stack.items }
+    ensures ok { IfOk result (λ step. Does (λ next. evaluation.about function name other (λ v. next (context_of machine.old) (pc + 1) (v ∷ drop count (stack_of machine.old)))) machine.old (replied given.entry) step machine.new) }
+    ensures err { OnErr result ((reply : Option replies.Reply) → standing machine.new reply ≡ standing machine.old reply) }
+{
+    if !asks(function) {
+        let text = spelled(alloc, &name);
+        return put_value(pc, count, text, machine);
+    }
+    let access = match question(function, name, other.as_ref()) {
+        Ok(access) => access,
+        Err(fault) => return Ok(fail(fault, machine)),
+    };
+    if access.name().is_global() {
+        return ask_global(alloc, pc, function, count, access, other, machine, given);
+    }
+    ask_local(alloc, pc, function, count, access, other, machine)
+}
+
+/// What the job's own variables answer to a question, which changes nothing.
+fn look_up(access: &Access, machine: &mut Machine) -> Result<Answer, AllocError>
+    requires local { (runs.name_of access.now).global ≡ false }
+    requires question { (content : Content) → runs.after_access access.now content ≡ content }
+    ensures answer { IfOk result (λ answer. answer ≡ runs.answer_of access.now machine.old.locals.now) }
+    ensures same { (reply : Option replies.Reply) → standing machine.new reply ≡ standing machine.old reply }
+{
+    perform(&mut machine.locals, access)
+}
+
+/// A question to the job's own variables.
+fn ask_local(
+    alloc: Global,
+    pc: usize,
+    function: NameFunction,
+    count: usize,
+    access: Access,
+    other: Option<Text>,
+    machine: &mut Machine,
+) -> Result<Step, AllocError>
+    requires next { pc + 1 < 2 ^ 64 }
+    requires local { (runs.name_of access).global ≡ false }
+    requires question { (content : Content) → runs.after_access access content ≡ content }
+    requires enough { count ≤ length machine.old.stack.items }
+    ensures ok { IfOk result (λ step. (reply : Option replies.Reply) → Does (λ next. asked.asked function other access (λ v. next (context_of machine.old) (pc + 1) (v ∷ drop count (stack_of machine.old)))) machine.old reply step machine.new) }
+    ensures err { OnErr result ((reply : Option replies.Reply) → standing machine.new reply ≡ standing machine.old reply) }
+{
+    let answer = look_up(&access, machine)?;
+    let value = told_of(alloc, function, other.as_ref(), &answer);
+    put_value(pc, count, value, machine)
+}
+
+/// A question to the globals.
+#[inline(never)]
+fn ask_global(
+    alloc: Global,
+    pc: usize,
+    function: NameFunction,
+    count: usize,
+    access: Access,
+    other: Option<Text>,
+    machine: &mut Machine,
+    given: Option<&Reply>,
+) -> Result<Step, AllocError>
+    requires next { pc + 1 < 2 ^ 64 }
+    requires global { (runs.name_of access).global ≡ true }
+    requires enough { count ≤ length machine.old.stack.items }
+    ensures ok { IfOk result (λ step. Does (λ next. asked.asked function other access (λ v. next (context_of machine.old) (pc + 1) (v ∷ drop count (stack_of machine.old)))) machine.old (replied given.entry) step machine.new) }
+    ensures err { OnErr result ((reply : Option replies.Reply) → standing machine.new reply ≡ standing machine.old reply) }
+{
+    if machine.replied >= STEPS_LIMIT {
+        return Ok(fail(Fault::Steps, machine));
+    }
+    let Some(reply) = given else {
+        return Ok(Step::Asks(Ask::Access(access)));
+    };
+    match told_by(alloc, function, other.as_ref(), reply) {
+        Ok(value) => {
+            stack::replace(&mut machine.stack, count, value)?;
+            machine.replied += 1;
+            machine.control = Control::At(pc + 1);
+            Ok(Step::Took)
+        }
+        Err(failure) => match failure {
+            Failure::Fault(fault) => {
+                machine.replied += 1;
+                machine.control = Control::Faulted(fault);
+                Ok(Step::Took)
+            }
+            Failure::Memory => Err(AllocError),
+        },
+    }
+}

@@ -1,0 +1,52 @@
+// A job's machine: where it stands, and how a turn of it goes.
+
+ghost use Rattle.std.specs.Prelude.{◌*◌, ◌≤◌};
+
+use crate::control::Control;
+use crate::frames::Frames;
+use crate::loops::{Call, Loop};
+use mj_ask::Ask;
+use mj_locals::Locals;
+use mj_store::Nodes;
+use mj_text::Text;
+
+/// How many asks a job may make before its ending.
+pub const STEPS_LIMIT: u64 = 1_000_000;
+
+/// Where a job stands.
+#[derive(Drop)]
+pub struct Machine {
+    pub control: Control,
+    // the topmost last
+    pub stack: Vec<Text>,
+    pub locals: Locals,
+    // `$TEST`
+    pub test: bool,
+    pub frames: Frames,
+    // the place of the unit that it is in
+    pub unit: usize,
+    // the FORs of the innermost frame, the innermost last
+    pub loops: Vec<Loop>,
+    // where the frames below go on, the topmost last
+    pub calls: Vec<Call>,
+    // of the principal device
+    pub column: u64,
+    // asks that were replied to
+    pub replied: u64,
+    // what a MERGE has read and not put yet
+    pub held: Nodes,
+    ghost bounded: { (column ≤ 32767 * replied) × (replied ≤ 1000000) },
+}
+
+/// How a turn goes.
+#[derive(Drop)]
+pub enum Step {
+    /// it is over
+    Next,
+    /// it is over, and took the reply that was given
+    Took,
+    /// it needs the reply to an ask
+    Asks(Ask),
+    /// the job is over
+    Ends,
+}

@@ -1,0 +1,202 @@
+// Pieces of a variable's value.
+
+ghost use Rattle.std.specs.Prelude.{◌≡◌, ◌+◌, ◌<◌, ◌^◌, ◌∷◌, drop, Option, true, false, option_copied, IfOk, OnErr, ◌≤◌, length};
+ghost use Rattle.mj_text.specs.Failing.{failing, then_value};
+ghost use Rattle.mj_strfn.specs.Functions.{AnswersOrMemory, set_piece_value, assigned_pieces as assigned_by};
+ghost use Rattle.mj_semantics.specs.Functions.{needed as needed_of, optional as optional_of};
+ghost use Rattle.mj_ask.specs.declared.ask.Reply as replies;
+ghost use Rattle.mj_semantics.specs.Outcome as told;
+ghost use Rattle.mj_semantics.specs.Commands as commands;
+ghost use Rattle.mj_semantics.specs.Evaluation as evaluation;
+ghost use Rattle.mj_semantics.specs.Accesses.{answer_told};
+ghost use Rattle.mj_machine.specs.Answers as answers;
+ghost use Rattle.mj_pcode.specs.Machine.{top, operands};
+ghost use Rattle.mj_machine.specs.Kept.{standing, stack_of, context_of, Does, replied};
+
+use crate::calls::{needed, optional};
+use crate::control::Control;
+use crate::machine::{Machine, STEPS_LIMIT, Step};
+use crate::names::name_below;
+use crate::quiet::fail;
+use crate::stack;
+use crate::values::put_value;
+use mj_ask::{Ask, Reply};
+use mj_pcode::{Depth, Reference};
+use mj_store::{Access, Answer};
+use mj_strfn::{PieceRange, assigned_pieces, set_piece};
+use mj_subs::Name;
+use mj_text::{Failure, Fault, Text};
+use std::alloc::{AllocError, Global};
+
+/// Puts a variable's value on, in which some pieces are the topmost operand. The arguments that say which lie at a depth, and the
+/// variable's subscripts below them. Where they are none, the next instruction is passed over.
+#[inline(never)]
+pub fn renew(
+    alloc: Global,
+    pc: usize,
+    reference: &Reference,
+    count: usize,
+    depth: Depth,
+    machine: &mut Machine,
+    given: Option<&Reply>,
+) -> Result<Step, AllocError>
+    requires next { pc + 2 < 2 ^ 64 }
+    requires value { 1 ≤ length machine.old.stack.items }
+    requires enough { depth.above + count + reference.now.count ≤ length machine.old.stack.items }
+    requires taken { depth.taken ≤ length machine.old.stack.items }
+    ensures ok { IfOk result (λ step. Does (λ next. told.given (evaluation.name_of reference.now.scope reference.now.word (operands reference.now.count (drop count (drop depth.above (stack_of machine.old))))) (λ x. commands.renew x (operands count (drop depth.above (stack_of machine.old))) (top (stack_of machine.old)) (next (context_of machine.old) (pc + 2) (drop depth.taken (stack_of machine.old))) (λ v. next (context_of machine.old) (pc + 1) (v ∷ stack_of machine.old)))) machine.old (replied given.entry) step machine.new) }
+    ensures err { OnErr result ((reply : Option replies.Reply) → standing machine.new reply ≡ standing machine.old reply) }
+{
+    let name = match name_below(alloc, reference, machine, depth.above, count)? {
+        Ok(name) => name,
+        Err(fault) => return Ok(fail(fault, machine)),
+    };
+    let arguments = stack::below_both(&machine.stack, depth.above, 0, count);
+    match range_of(alloc, arguments) {
+        Err(failure) => match failure {
+            Failure::Fault(fault) => {
+                machine.control = Control::Faulted(fault);
+                Ok(Step::Next)
+            }
+            Failure::Memory => Err(AllocError),
+        },
+        Ok(None) => {
+            stack::take_off(&mut machine.stack, depth.taken);
+            machine.control = Control::At(pc + 2);
+            Ok(Step::Next)
+        }
+        Ok(Some(range)) => {
+            let none = Text::new(alloc);
+            let separator = needed(arguments, 0, &none).try_clone()?;
+            renew_range(alloc, pc, name, &separator, range, machine, given)
+        }
+    }
+}
+
+// Which pieces the arguments mean, if any.
+fn range_of(alloc: Global, arguments: &[Text]) -> Result<Option<PieceRange>, Failure>
+    ensures { result ≡ failing (assigned_by (needed_of 0 arguments.now) (optional_of 1 arguments.now) (optional_of 2 arguments.now)) }
+{
+    let none = Text::new(alloc);
+    let separator = needed(arguments, 0, &none);
+    assigned_pieces(separator, optional(arguments, 1), optional(arguments, 2))
+}
+
+// The pieces of a range are the topmost operand.
+fn renew_range(
+    alloc: Global,
+    pc: usize,
+    name: Name,
+    separator: &Text,
+    range: PieceRange,
+    machine: &mut Machine,
+    given: Option<&Reply>,
+) -> Result<Step, AllocError>
+    requires next { pc + 1 < 2 ^ 64 }
+    requires enough { 1 ≤ length machine.old.stack.items }
+    ensures ok { IfOk result (λ step. Does (λ next. commands.renewed name separator.now range (top (stack_of machine.old)) (λ v. next (context_of machine.old) (pc + 1) (v ∷ stack_of machine.old))) machine.old (replied given.entry) step machine.new) }
+    ensures err { OnErr result ((reply : Option replies.Reply) → standing machine.new reply ≡ standing machine.old reply) }
+{
+    if name.is_global() {
+        return renew_global(alloc, pc, name, separator, range, machine, given);
+    }
+    renew_local(alloc, pc, &name, separator, range, machine)
+}
+
+fn renew_local(
+    alloc: Global,
+    pc: usize,
+    name: &Name,
+    separator: &Text,
+    range: PieceRange,
+    machine: &mut Machine,
+) -> Result<Step, AllocError>
+    requires next { pc + 1 < 2 ^ 64 }
+    requires local { name.now.global ≡ false }
+    requires enough { 1 ≤ length machine.old.stack.items }
+    ensures ok { IfOk result (λ step. (reply : Option replies.Reply) → Does (λ next. commands.renewed name.now separator.now range (top (stack_of machine.old)) (λ v. next (context_of machine.old) (pc + 1) (v ∷ stack_of machine.old))) machine.old reply step machine.new) }
+    ensures err { OnErr result ((reply : Option replies.Reply) → standing machine.new reply ≡ standing machine.old reply) }
+{
+    let value = stack::top(&machine.stack);
+    let old = machine.locals.value(name);
+    let renewed = with_pieces(alloc, old, separator, range, value);
+    put_value(pc, 0, renewed, machine)
+}
+
+fn renew_global(
+    alloc: Global,
+    pc: usize,
+    name: Name,
+    separator: &Text,
+    range: PieceRange,
+    machine: &mut Machine,
+    given: Option<&Reply>,
+) -> Result<Step, AllocError>
+    requires next { pc + 1 < 2 ^ 64 }
+    requires global { name.global ≡ true }
+    requires enough { 1 ≤ length machine.old.stack.items }
+    ensures ok { IfOk result (λ step. Does (λ next. commands.renewed name separator.now range (top (stack_of machine.old)) (λ v. next (context_of machine.old) (pc + 1) (v ∷ stack_of machine.old))) machine.old (replied given.entry) step machine.new) }
+    ensures err { OnErr result ((reply : Option replies.Reply) → standing machine.new reply ≡ standing machine.old reply) }
+{
+    if machine.replied >= STEPS_LIMIT {
+        return Ok(fail(Fault::Steps, machine));
+    }
+    let Some(reply) = given else {
+        return Ok(Step::Asks(Ask::Access(Access::Value(name))));
+    };
+    let value = stack::top(&machine.stack);
+    match renewed(alloc, reply, separator, range, value) {
+        Ok(renewed) => {
+            stack::replace(&mut machine.stack, 0, renewed)?;
+            machine.replied += 1;
+            machine.control = Control::At(pc + 1);
+            Ok(Step::Took)
+        }
+        Err(failure) => match failure {
+            Failure::Fault(fault) => {
+                machine.replied += 1;
+                machine.control = Control::Faulted(fault);
+                Ok(Step::Took)
+            }
+            Failure::Memory => Err(AllocError),
+        },
+    }
+}
+
+// The new value. The old one is empty where there is none.
+fn with_pieces(
+    alloc: Global,
+    old: Option<&Text>,
+    separator: &Text,
+    range: PieceRange,
+    value: &Text,
+) -> Result<Text, Failure>
+    ensures { AnswersOrMemory (set_piece_value (commands.or_empty (option_copied old.entry)) separator.now range value.now) result }
+{
+    match old {
+        Some(old) => set_piece(alloc, old, separator, range, value),
+        None => {
+            let none = Text::new(alloc);
+            set_piece(alloc, &none, separator, range, value)
+        }
+    }
+}
+
+// The new value, by a reply that brings the old one.
+fn renewed(
+    alloc: Global,
+    reply: &Reply,
+    separator: &Text,
+    range: PieceRange,
+    value: &Text,
+) -> Result<Text, Failure>
+    ensures { AnswersOrMemory (then_value (answers.value_or_empty (answer_told reply.now)) (λ old. set_piece_value old separator.now range value.now)) result }
+{
+    match reply {
+        Reply::Answer(Answer::Value(Some(old))) => {
+            with_pieces(alloc, Some(old), separator, range, value)
+        }
+        Reply::Answer(Answer::Limit) => Err(Failure::Fault(Fault::Limit)),
+        _ => with_pieces(alloc, None, separator, range, value),
+    }
+}

@@ -1,0 +1,111 @@
+// What the instructions do that ask nothing.
+
+ghost use Rattle.std.specs.Prelude.{◌≡◌, ◌+◌, ◌<◌, ◌^◌, ◌∷◌, drop, Option, None, IfOk, OnErr, ◌≤◌, length};
+ghost use Rattle.mj_ask.specs.declared.ask.Reply.{Reply};
+ghost use Rattle.mj_oper.specs.Operators.{truth_text as text_of_truth};
+ghost use Rattle.mj_semantics.specs.State as states;
+ghost use Rattle.mj_semantics.specs.Outcome as told;
+ghost use Rattle.mj_machine.specs.Kept.{standing, stack_of, state_of, context_of, Does};
+
+use crate::control::Control;
+use crate::machine::{Machine, Step};
+use crate::stack;
+use mj_ast::Special;
+use mj_num::Num;
+use mj_pcode::Words;
+use mj_text::{Fault, Text};
+use std::alloc::{AllocError, Global};
+
+/// A fault, which is told of in the next turn.
+pub fn fail(fault: Fault, machine: &mut Machine) -> Step
+    ensures { (reply : Option Reply) → Does (λ next. told.fault fault) machine.old reply result machine.new }
+{
+    machine.control = Control::Faulted(fault);
+    Step::Next
+}
+
+/// A text is put on the stack.
+#[inline(never)]
+pub fn push(pc: usize, text: &Text, machine: &mut Machine) -> Result<Step, AllocError>
+    requires { pc + 1 < 2 ^ 64 }
+    ensures ok { IfOk result (λ step. (reply : Option Reply) → Does (λ next. next (context_of machine.old) (pc + 1) (text.now ∷ stack_of machine.old)) machine.old reply step machine.new) }
+    ensures err { OnErr result ((reply : Option Reply) → standing machine.new reply ≡ standing machine.old reply) }
+{
+    let text = text.try_clone()?;
+    stack::replace(&mut machine.stack, 0, text)?;
+    machine.control = Control::At(pc + 1);
+    Ok(Step::Next)
+}
+
+/// The value of a special variable is put on the stack.
+#[inline(never)]
+pub fn special(
+    alloc: Global,
+    pc: usize,
+    special: Special,
+    machine: &mut Machine,
+) -> Result<Step, AllocError>
+    requires { pc + 1 < 2 ^ 64 }
+    ensures ok { IfOk result (λ step. (reply : Option Reply) → Does (λ next. next (context_of machine.old) (pc + 1) (states.special_value special (state_of machine.old) ∷ stack_of machine.old)) machine.old reply step machine.new) }
+    ensures err { OnErr result ((reply : Option Reply) → standing machine.new reply ≡ standing machine.old reply) }
+{
+    let value = special_value(alloc, special, machine);
+    stack::replace(&mut machine.stack, 0, value)?;
+    machine.control = Control::At(pc + 1);
+    Ok(Step::Next)
+}
+
+// The value of a special variable.
+fn special_value(alloc: Global, special: Special, machine: &Machine) -> Text
+    ensures { result ≡ states.special_value special (state_of machine.now) }
+{
+    match special {
+        Special::Test => truth_text(alloc, machine.test),
+    }
+}
+
+// A truth value as a text.
+fn truth_text(alloc: Global, truth: bool) -> Text
+    ensures { result ≡ text_of_truth truth }
+{
+    Num::from_truth(truth).to_text(alloc)
+}
+
+/// So many operands are taken off.
+#[inline(never)]
+pub fn discard(pc: usize, count: usize, machine: &mut Machine) -> Step
+    requires next { pc + 1 < 2 ^ 64 }
+    requires enough { count ≤ length machine.old.stack.items }
+    ensures { (reply : Option Reply) → Does (λ next. next (context_of machine.old) (pc + 1) (drop count (stack_of machine.old))) machine.old reply result machine.new }
+{
+    stack::take_off(&mut machine.stack, count);
+    machine.control = Control::At(pc + 1);
+    Step::Next
+}
+
+/// All locals go but those of these names.
+#[inline(never)]
+pub fn spare(pc: usize, words: &Words, machine: &mut Machine) -> Step
+    requires { pc + 1 < 2 ^ 64 }
+    ensures { (reply : Option Reply) → Does (λ next. told.change (states.spare words.now) (next (context_of machine.old) (pc + 1) (stack_of machine.old))) machine.old reply result machine.new }
+{
+    machine.locals.keep_words(words.as_slice());
+    machine.control = Control::At(pc + 1);
+    Step::Next
+}
+
+/// The job goes on at another instruction.
+pub fn jump(target: usize, machine: &mut Machine) -> Step
+    ensures { (reply : Option Reply) → Does (λ next. next (context_of machine.old) target (stack_of machine.old)) machine.old reply result machine.new }
+{
+    machine.control = Control::At(target);
+    Step::Next
+}
+
+/// The job ends.
+pub fn halt(machine: &mut Machine) -> Step
+    ensures { (reply : Option Reply) → Does (λ next. told.end None) machine.old reply result machine.new }
+{
+    machine.control = Control::Closing(None);
+    Step::Next
+}

@@ -1,0 +1,87 @@
+// Operands, in a vector of which the last one is the topmost.
+
+ghost use Rattle.std.specs.Prelude.{◌≡◌, ◌+◌, ◌≤◌, ◌∷◌, length, drop, reverse, OnOk, OnErr};
+ghost use Rattle.mj_pcode.specs.Machine.{top, below, operands};
+
+use mj_text::Text;
+use std::alloc::AllocError;
+
+/// The topmost operand.
+pub fn top(stack: &[Text]) -> &Text
+    requires { 1 ≤ length stack.now }
+    ensures { result.now ≡ top (reverse stack.now) }
+{
+    match stack.last() {
+        Some(t) => t,
+        None => unreachable!(),
+    }
+}
+
+/// The operand below it.
+pub fn second(stack: &[Text]) -> &Text
+    requires { 2 ≤ length stack.now }
+    ensures { result.now ≡ top (below (reverse stack.now)) }
+{
+    let n = stack.len();
+    &stack[n - 2]
+}
+
+/// The `count` topmost operands, the topmost last.
+pub fn topmost(stack: &[Text], count: usize) -> &[Text]
+    requires { count ≤ length stack.now }
+    ensures { result.now ≡ operands count (reverse stack.now) }
+{
+    let kept = stack.len() - count;
+    &stack[kept..]
+}
+
+/// Takes the `count` topmost operands off.
+pub fn take_off(stack: &mut Vec<Text>, count: usize)
+    requires { count ≤ length stack.old.items }
+    ensures { reverse stack.new.items ≡ drop count (reverse stack.old.items) }
+{
+    let kept = stack.len() - count;
+    stack.truncate(kept);
+}
+
+/// Puts a value in the place of the `count` topmost operands.
+pub fn replace(stack: &mut Vec<Text>, count: usize, value: Text) -> Result<(), AllocError>
+    requires { count ≤ length stack.old.items }
+    ensures ok { OnOk result (reverse stack.new.items ≡ value ∷ drop count (reverse stack.old.items)) }
+    ensures err { OnErr result (stack.new.items ≡ stack.old.items) }
+{
+    let n = stack.len();
+    let kept = n - count;
+    if kept < n {
+        stack.truncate(kept + 1);
+        stack[kept] = value;
+    } else {
+        stack.push(value)?;
+    }
+    Ok(())
+}
+
+/// The operands below the `count` topmost ones.
+pub fn under(stack: &[Text], count: usize) -> &[Text]
+    requires { count ≤ length stack.now }
+    ensures { reverse result.now ≡ drop count (reverse stack.now) }
+{
+    let kept = stack.len() - count;
+    &stack[..kept]
+}
+
+/// The `count` topmost operands of those below `above` and then `more` others.
+pub fn below_both(stack: &[Text], above: usize, more: usize, count: usize) -> &[Text]
+    requires { above + more + count ≤ length stack.now }
+    ensures { result.now ≡ operands count (drop more (drop above (reverse stack.now))) }
+{
+    topmost(under(under(stack, above), more), count)
+}
+
+/// The operand that lies below so many others.
+pub fn at(stack: &[Text], above: usize) -> &Text
+    requires { above + 1 ≤ length stack.now }
+    ensures { result.now ≡ top (drop above (reverse stack.now)) }
+{
+    top(under(stack, above))
+}

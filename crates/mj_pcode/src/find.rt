@@ -1,0 +1,72 @@
+// What an entry names among units.
+
+ghost use Rattle.std.specs.Prelude.{◌≡◌, ◌≤◌, length, option_map, slice_get, Some, IfSome};
+ghost use Rattle.mj_pcode.specs.Found as finding;
+
+use crate::instr::{Head, Label, Unit};
+use mj_ask::Entry;
+use mj_text::Text;
+
+/// A line that was found: the place of its unit among all, the unit, its number, and what is known of it.
+#[derive(Drop)]
+pub struct Target<'a> {
+    pub at: usize,
+    pub unit: &'a Unit,
+    pub line: usize,
+    pub head: &'a Head,
+}
+
+/// The line that an entry names: in the first unit with its routine's name, the line of the first label with its text, or the first
+/// line where it has no label.
+pub fn find_line<'a>(units: &'a [Unit], entry: &Entry) -> Option<Target<'a>>
+    ensures which { option_map (λ t. record { at = t.at; unit = t.unit.now; line = t.line; head = t.head.now }) result ≡ finding.found units.now entry.now }
+    ensures there { IfSome result (λ t. slice_get units.now t.at ≡ Some t.unit.now) }
+    ensures within { IfSome result (λ t. t.line ≤ length t.unit.now.heads.items) }
+{
+    for (at, unit) in units.iter().enumerate() {
+        if unit.name == entry.routine {
+            return line_at(at, unit, line_in(unit, &entry.label));
+        }
+    }
+    None
+}
+
+// The line with this number of a unit that stands at a place, if it has one.
+fn line_at<'a>(at: usize, unit: &'a Unit, line: usize) -> Option<Target<'a>>
+    ensures which { option_map (λ t. record { at = t.at; unit = t.unit.now; line = t.line; head = t.head.now }) result ≡ finding.found_in at unit.now line }
+    ensures same { IfSome result (λ t. (t.at ≡ at) × (t.unit.now ≡ unit.now)) }
+    ensures within { IfSome result (λ t. t.line ≤ length t.unit.now.heads.items) }
+{
+    match unit.heads.get(line.saturating_sub(1)) {
+        None => None,
+        Some(head) => Some(Target {
+            at,
+            unit,
+            line,
+            head,
+        }),
+    }
+}
+
+// The number of the line that a label leads to, or of the first without one; the number after the last line where there is no such
+// label.
+fn line_in(unit: &Unit, label: &Option<Text>) -> usize
+    ensures { result ≡ finding.line_in unit.now label.now }
+{
+    match label {
+        None => 1,
+        Some(label) => labelled(&unit.labels, label, unit.heads.len() + 1),
+    }
+}
+
+// The line of the first of these labels with this text; `missing` where there is none.
+fn labelled(labels: &[Label], text: &Text, missing: usize) -> usize
+    ensures { result ≡ finding.line_with text.now missing labels.now }
+{
+    for label in labels {
+        if label.text == *text {
+            return label.line as usize;
+        }
+    }
+    missing
+}
