@@ -32,5 +32,5 @@ spent_after (Err e) fuel spent = spent
 -- how a turn went, by the name that a run gives it
 abbrev pub told_of : Went → turns.Told
 told_of wents.On = turns.Over
-told_of (wents.Asks a) = turns.Asks a
+told_of (wents.Asks a) = turns.Asks a.value
 told_of wents.Over = turns.Ends

@@ -44,7 +44,7 @@ pub enum Turn {
 #[derive(Drop)]
 enum Went {
     On,
-    Asks(Ask),
+    Asks(Box<Ask>),
     Over,
 }
 
@@ -137,7 +137,7 @@ impl Job {
             )? {
                 Went::On => {}
                 Went::Asks(ask) => {
-                    self.pending = Some(ask);
+                    self.pending = Some(Box::into_inner(ask));
                     return Ok(Turn::Asks);
                 }
                 Went::Over => return Ok(Turn::Ended),

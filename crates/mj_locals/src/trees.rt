@@ -62,6 +62,21 @@ pub fn set(trees: &mut Trees, word: &Text, path: &Subs, text: &Text) -> Result<(
     }
 }
 
+/// Gives a text to a word itself, if it stands here, and says whether it does. It takes no memory.
+pub fn assign(trees: &mut Trees, word: &Text, text: Text) -> bool
+    ensures found { result ≡ has_room (spelled trees.old.entries) word.now }
+    ensures value { spelled trees.new.entries ≡ placed (spelled trees.old.entries) word.now (put (slice_cmp subscript_cmp) [] text (at (spelled trees.old.entries) word.now)) }
+{
+    let mut digits = Digits::new();
+    match trees.get_mut(word.bytes(&mut digits)) {
+        Some(tree) => {
+            tree.assign(text);
+            true
+        }
+        None => false,
+    }
+}
+
 /// Gives texts to lists of subscripts of a word that follow one. `Limit` where one would be too long.
 pub fn put(trees: &mut Trees, word: &Text, path: &Subs, nodes: &Nodes) -> Result<(), Failure>
     requires { IsTrue (has_room (spelled trees.now.entries) word.now) }

@@ -175,7 +175,7 @@ fn ask_global(
         return Ok(fail(Fault::Steps, machine));
     }
     let Some(reply) = given else {
-        return Ok(Step::Asks(Ask::Access(access)));
+        return Ok(Step::Asks(Box::new(alloc, Ask::Access(access))?));
     };
     match told_by(alloc, function, other.as_ref(), reply) {
         Ok(value) => {

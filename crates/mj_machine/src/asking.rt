@@ -46,7 +46,7 @@ pub fn put_out(
         return Ok(fail(Fault::Steps, machine));
     }
     match given {
-        None => Ok(Step::Asks(Ask::DeviceWrite(principal(alloc), text))),
+        None => Ok(Step::Asks(Box::new(alloc, Ask::DeviceWrite(principal(alloc), text))?)),
         Some(_) => {
             let mut digits = Digits::new();
             let column = column_after(machine.column, text.bytes(&mut digits));

@@ -90,7 +90,14 @@ fn store_named(
         Err(fault) => return Ok(fail(fault, machine)),
     };
     let value = stack::top(&machine.stack).try_clone()?;
-    change(pc, depth.taken, Access::Set(name, value), machine, given)
+    change(
+        alloc,
+        pc,
+        depth.taken,
+        Access::Set(name, value),
+        machine,
+        given,
+    )
 }
 
 /// The variable whose subscripts lie on top goes, with all that is below it.
@@ -111,11 +118,19 @@ pub fn kill(
         Ok(name) => name,
         Err(fault) => return Ok(fail(fault, machine)),
     };
-    change(pc, reference.count, Access::Kill(name), machine, given)
+    change(
+        alloc,
+        pc,
+        reference.count,
+        Access::Kill(name),
+        machine,
+        given,
+    )
 }
 
 /// A variable is changed, and then `taken` operands are taken off.
 pub fn change(
+    alloc: Global,
     pc: usize,
     taken: usize,
     access: Access,
@@ -128,7 +143,7 @@ pub fn change(
     ensures err { OnErr result ((reply : Option replies.Reply) → standing machine.new reply ≡ standing machine.old reply) }
 {
     if access.name().is_global() {
-        return Ok(change_global(pc, taken, access, machine, given));
+        return change_global(alloc, pc, taken, access, machine, given);
     }
     change_local(pc, taken, &access, machine)
 }
@@ -161,22 +176,24 @@ fn change_local(
 
 #[inline(never)]
 fn change_global(
+    alloc: Global,
     pc: usize,
     taken: usize,
     access: Access,
     machine: &mut Machine,
     given: Option<&Reply>,
-) -> Step
+) -> Result<Step, AllocError>
     requires next { pc + 1 < 2 ^ 64 }
     requires global { (name_in access).global ≡ true }
     requires enough { taken ≤ length machine.old.stack.items }
-    ensures { Does (λ next. accesses.access access (λ a. next (context_of machine.old) (pc + 1) (drop taken (stack_of machine.old)))) machine.old (replied given.entry) result machine.new }
+    ensures ok { IfOk result (λ step. Does (λ next. accesses.access access (λ a. next (context_of machine.old) (pc + 1) (drop taken (stack_of machine.old)))) machine.old (replied given.entry) step machine.new) }
+    ensures err { OnErr result ((reply : Option replies.Reply) → standing machine.new reply ≡ standing machine.old reply) }
 {
     if machine.replied >= STEPS_LIMIT {
-        return fail(Fault::Steps, machine);
+        return Ok(fail(Fault::Steps, machine));
     }
     let Some(reply) = given else {
-        return Step::Asks(Ask::Access(access));
+        return Ok(Step::Asks(Box::new(alloc, Ask::Access(access))?));
     };
     machine.replied += 1;
     match reply_done(reply) {
@@ -186,7 +203,7 @@ fn change_global(
         }
         Err(fault) => machine.control = Control::Faulted(fault),
     }
-    Step::Took
+    Ok(Step::Took)
 }
 
 /// Whether a reply says that a change is done.

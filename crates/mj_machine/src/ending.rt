@@ -30,7 +30,7 @@ pub fn tell_fault(
         return Ok(Step::Took);
     }
     let line = fault_text(alloc, fault, machine)?;
-    Ok(Step::Asks(Ask::DeviceWrite(principal(alloc), line)))
+    Ok(Step::Asks(Box::new(alloc, Ask::DeviceWrite(principal(alloc), line))?))
 }
 
 /// The principal session ends.
@@ -40,24 +40,31 @@ pub fn close(
     fault: Option<Fault>,
     machine: &mut Machine,
     given: Option<&Reply>,
-) -> Step
-    ensures { Does (λ next. told.asking (asks.DeviceEnd told.principal) (λ r. told.halt fault)) machine.old (replied given.entry) result machine.new }
+) -> Result<Step, AllocError>
+    ensures ok { IfOk result (λ step. Does (λ next. told.asking (asks.DeviceEnd told.principal) (λ r. told.halt fault)) machine.old (replied given.entry) step machine.new) }
+    ensures err { OnErr result ((reply : Option Reply) → standing machine.new reply ≡ standing machine.old reply) }
 {
     if let Some(_) = given {
         machine.control = Control::Halting(fault);
-        return Step::Took;
+        return Ok(Step::Took);
     }
-    Step::Asks(Ask::DeviceEnd(principal(alloc)))
+    Ok(Step::Asks(Box::new(alloc, Ask::DeviceEnd(principal(alloc)))?))
 }
 
 /// The job ends.
 #[inline(never)]
-pub fn finish(fault: Option<Fault>, machine: &mut Machine, given: Option<&Reply>) -> Step
-    ensures { Does (λ next. told.asking (asks.Halt fault) (λ r. told.over)) machine.old (replied given.entry) result machine.new }
+pub fn finish(
+    alloc: Global,
+    fault: Option<Fault>,
+    machine: &mut Machine,
+    given: Option<&Reply>,
+) -> Result<Step, AllocError>
+    ensures ok { IfOk result (λ step. Does (λ next. told.asking (asks.Halt fault) (λ r. told.over)) machine.old (replied given.entry) step machine.new) }
+    ensures err { OnErr result ((reply : Option Reply) → standing machine.new reply ≡ standing machine.old reply) }
 {
     if let Some(_) = given {
         machine.control = Control::Over;
-        return Step::Took;
+        return Ok(Step::Took);
     }
-    Step::Asks(Ask::Halt(fault))
+    Ok(Step::Asks(Box::new(alloc, Ask::Halt(fault))?))
 }

@@ -38,7 +38,7 @@ pub struct Machine {
     ghost bounded: { (column ≤ 32767 * replied) × (replied ≤ 1000000) },
 }
 
-/// How a turn goes.
+/// How a turn goes. It is small, so that a turn that asks nothing moves little.
 #[derive(Drop)]
 pub enum Step {
     /// it is over
@@ -46,7 +46,7 @@ pub enum Step {
     /// it is over, and took the reply that was given
     Took,
     /// it needs the reply to an ask
-    Asks(Ask),
+    Asks(Box<Ask>),
     /// the job is over
     Ends,
 }

@@ -94,7 +94,7 @@ fn take_global(
         return Ok(fail(Fault::Steps, machine));
     }
     let Some(reply) = given else {
-        return Ok(Step::Asks(Ask::Access(Access::Subtree(name))));
+        return Ok(Step::Asks(Box::new(alloc, Ask::Access(Access::Subtree(name)))?));
     };
     match nodes_of(alloc, reply)? {
         Ok(nodes) => {
@@ -212,7 +212,7 @@ fn put_global(
     }
     let Some(reply) = given else {
         let nodes = copied(alloc, &machine.held)?;
-        return Ok(Step::Asks(Ask::Access(Access::Put(name, nodes))));
+        return Ok(Step::Asks(Box::new(alloc, Ask::Access(Access::Put(name, nodes)))?));
     };
     match reply_done(reply) {
         Ok(()) => {

@@ -142,7 +142,7 @@ fn renew_global(
         return Ok(fail(Fault::Steps, machine));
     }
     let Some(reply) = given else {
-        return Ok(Step::Asks(Ask::Access(Access::Value(name))));
+        return Ok(Step::Asks(Box::new(alloc, Ask::Access(Access::Value(name)))?));
     };
     let value = stack::top(&machine.stack);
     match renewed(alloc, reply, separator, range, value) {

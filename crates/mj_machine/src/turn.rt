@@ -123,8 +123,8 @@ pub fn make_turn(
             },
         },
         Control::Faulted(fault) => tell_fault(alloc, fault, machine, given),
-        Control::Closing(fault) => Ok(close(alloc, fault, machine, given)),
-        Control::Halting(fault) => Ok(finish(fault, machine, given)),
+        Control::Closing(fault) => close(alloc, fault, machine, given),
+        Control::Halting(fault) => finish(alloc, fault, machine, given),
         Control::Over => Ok(Step::Ends),
     }
 }

@@ -95,7 +95,7 @@ fn load_named(
         Err(fault) => return Ok(fail(fault, machine)),
     };
     if name.is_global() {
-        return read_global(pc, reference.count, name, machine, given);
+        return read_global(alloc, pc, reference.count, name, machine, given);
     }
     read_local(pc, reference.count, &name, machine)
 }
@@ -125,6 +125,7 @@ fn read_local(
 
 #[inline(never)]
 fn read_global(
+    alloc: Global,
     pc: usize,
     count: usize,
     name: Name,
@@ -141,7 +142,7 @@ fn read_global(
         return Ok(fail(Fault::Steps, machine));
     }
     let Some(reply) = given else {
-        return Ok(Step::Asks(Ask::Access(Access::Value(name))));
+        return Ok(Step::Asks(Box::new(alloc, Ask::Access(Access::Value(name)))?));
     };
     match value_read(reply) {
         Ok(value) => {

@@ -113,7 +113,12 @@ impl Text {
     pub fn is_empty(&self) -> bool
         ensures { IsTrue result ↔ (self.now ≡ []) }
     {
-        self.len() == 0
+        match &self.kept {
+            // it has a digit at least
+            Kept::Number(_) => false,
+            Kept::Short(short) => short.bytes().is_empty(),
+            Kept::Long(bytes) => bytes.as_slice().is_empty(),
+        }
     }
 
     /// Its bytes, in order. Those of a number are spelled into `digits`.
@@ -262,6 +267,7 @@ impl PartialEq for Text {
     {
         match (&self.kept, &other.kept) {
             (Kept::Number(number), Kept::Number(other)) => *number == *other,
+            (Kept::Short(short), Kept::Short(other)) => short.bytes() == other.bytes(),
             _ => self.bytes(&mut Digits::new()) == other.bytes(&mut Digits::new()),
         }
     }

@@ -240,6 +240,13 @@ impl Node {
         }
     }
 
+    /// Gives a text to the node itself.
+    pub fn assign(&mut self, text: Text)
+        ensures { self.new ≡ put (slice_cmp subscript_cmp) [] text self.old }
+    {
+        self.text = Some(text);
+    }
+
     /// Gives a text to the place.
     pub fn set(&mut self, alloc: Global, path: &[Sub], text: Text) -> Result<(), AllocError>
         ensures ok { OnOk result (self.new ≡ put (slice_cmp subscript_cmp) path.now text self.old) }

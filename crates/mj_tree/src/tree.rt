@@ -112,6 +112,13 @@ impl Tree {
         self.root.set(self.alloc, path.as_slice(), text)
     }
 
+    /// The list without a subscript has this text from now on. It takes no memory.
+    pub fn assign(&mut self, text: Text)
+        ensures { self.new ≡ put (slice_cmp subscript_cmp) [] text self.old }
+    {
+        self.root.assign(text);
+    }
+
     /// The list and every list below it go.
     pub fn kill(&mut self, path: &Subs)
         ensures { self.new ≡ without subscript_cmp path.now self.old }
