@@ -73,8 +73,8 @@ module _ (u : Unit) (is_line : slice_get u.instrs.items 0 ≡ Some (line 2)) (is
   abbrev from : ℕ → Stack → ℕ → Outcome
   from pc stack n = exec (u ∷ []) n c pc stack no_restart begun []
 
-  marked : (v : List ℕ) (stack : Stack) (n : ℕ) → from 0 (v ∷ stack) (suc n) ≡ from 0 stack n
-  marked v stack n = ap (λ i. act (u ∷ []) u i (next n) c 0 (v ∷ stack) n no_restart begun []) is_line
+  counted : (v : List ℕ) (stack : Stack) (n : ℕ) → from 0 (v ∷ stack) (suc n) ≡ from 0 stack n
+  counted v stack n = ap (λ i. act (u ∷ []) u i (next n) c 0 (v ∷ stack) n no_restart begun []) is_line
 
   entered : (n : ℕ) → from 0 [] (suc n) ≡ from 1 [] n
   entered n = ap (λ i. act (u ∷ []) u i (next n) c 0 [] n no_restart begun []) is_line
@@ -84,7 +84,7 @@ module _ (u : Unit) (is_line : slice_get u.instrs.items 0 ≡ Some (line 2)) (is
 
   -- the two formals, the line and the QUIT
   four_turns : run 4 ≡ More
-  four_turns = marked [] ([] ∷ []) 3 ∙ marked [] [] 2 ∙ entered 1 ∙ over 0
+  four_turns = counted [] ([] ∷ []) 3 ∙ counted [] [] 2 ∙ entered 1 ∙ over 0
 
   five_turns : run 5 ≡ Needs (DeviceEnd principal) begun.locals (places begun)
-  five_turns = marked [] ([] ∷ []) 4 ∙ marked [] [] 3 ∙ entered 2 ∙ over 1
+  five_turns = counted [] ([] ∷ []) 4 ∙ counted [] [] 3 ∙ entered 2 ∙ over 1
