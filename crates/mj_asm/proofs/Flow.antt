@@ -52,7 +52,7 @@ module _ (image : List Routine) (units : List unit.Unit) (alike : LeadAlike imag
       let whole : Place → ℕ → List ℕ → Timed → Timed = λ p l ls rest. look (λ s. if may_go s p l ls then rest else fault NoLine) in
       look_at n (λ s. if may_go s (place_in f.unit f.line) f.head.level (levels_in f.unit) then there else fault NoLine)
       (λ s. if may_go s (place_in f.unit f.line) f.head.level (levels_in f.unit) then line else fault NoLine)
-      (λ s. if_at n (may_go s (place_in f.unit f.line) f.head.level (levels_in f.unit)) there line (fault NoLine) (fault NoLine) (at_found image units d n to f below leave le is lines k) refl)
+      (λ s. if_at n (may_go s (place_in f.unit f.line) f.head.level (levels_in f.unit)) there line (fault NoLine) (fault NoLine) (at_found image units 0 d n n to f below leave (omega arith) le is lines k) refl)
       ∙ ap (λ p. whole p f.head.level (levels_in f.unit) line n) (sym place)
       ∙ ap (λ l. whole (place_at to.0) l (levels_in f.unit) line n) (sym level)
       ∙ ap (λ ls. whole (place_at to.0) to.1.level ls line n) (sym levels)

@@ -7,6 +7,8 @@ use Rattle.mj_semantics.specs.Lines.{Here, lines_of, labelled, entered, levels_o
 use Rattle.mj_semantics.specs.Points.{AtLine}
 use Rattle.mj_semantics.specs.Job.{points_of}
 use Rattle.mj_pcode.specs.declared.instr.Label.{Label}
+use Rattle.mj_pcode.specs.declared.instr.LineStart.{LineStart}
+use Rattle.mj_pcode.specs.declared.instr.Instr.TheVariants as instr
 use Rattle.mj_pcode.specs.declared.instr.Unit as unit
 use Rattle.mj_pcode.specs.Found.{Found, found, line_with, start_of, levels_in}
 use Rattle.mj_pcode.specs.Context.{Call, Context, at_unit}
@@ -47,7 +49,12 @@ abbrev pub DoLines : List Routine → List unit.Unit → ℕ → Type 0
 DoLines image units b =
     (j : ℕ) (u : unit.Unit) → slice_get units j ≡ Some u → (k : ℕ) → 1 ≤ k → k ≤ length u.heads.items + 1 → DoesLine image units b j u k
 
--- a line that is found by its entry is the line that was found among units
+-- the instruction that enters a line stands there
+pub record BeginsLine (u : unit.Unit) (pc : ℕ) : Type 0 where
+  pub line : LineStart
+  pub is : slice_get u.instrs.items pc ≡ Some (instr.Line line)
+
+-- a line that is found by its entry is the line that was found among units, and begins with its instruction
 abbrev pub IsFound : List Routine → List unit.Unit → Option (Here × Line) → Option Found → Type 0
 IsFound image units None None = ⊤
 IsFound image units None (Some f) = ⊥
@@ -55,7 +62,7 @@ IsFound image units (Some to) None = ⊥
 IsFound image units (Some to) (Some f) =
     (slice_get units f.at ≡ Some f.unit) × (to.0.routine ≡ f.unit.name) × (to.0.line ≡ f.line) × (1 ≤ f.line) × (f.line ≤ length f.unit.heads.items + 1)
     × (f.head.start ≡ start_of f.unit f.line) × (to.1.level ≡ f.head.level) × (to.1.formals ≡ f.head.formals)
-    × (levels_of image f.unit.name ≡ levels_in f.unit)
+    × (levels_of image f.unit.name ≡ levels_in f.unit) × BeginsLine f.unit f.head.start
 
 -- entries lead to the same lines among routines as among units
 abbrev pub LeadAlike : List Routine → List unit.Unit → Type 0

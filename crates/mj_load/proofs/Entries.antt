@@ -1,6 +1,7 @@
 -- Entries lead to the same lines among routines as among their units, and from there on the units do what the routines do.
 use Rattle.std.proofs.Common.{◌≡◌, ℕ, zero, suc, ◌+◌, ◌-◌, ◌<◌, ◌≤◌, List, [], ◌∷◌, ◌++◌, Bool, true, false, Option, Some, None, length, map, option_map, refl, sym, ap, ◌∙◌, subst, arith}
 use Rattle.std.proofs.lemmas.List.{length-map}
+use Rattle.std.proofs.lemmas.Option.{slice_get_within, get_or_from_slice_get}
 use Rattle.std.proofs.lemmas.Slice.Eq.{bytes_eq-Decides}
 use Rattle.std.specs.Prelude.{slice_get, All, ◌||◌, nat_lt, nat_eq, if◌then◌else◌}
 use Rattle.std.specs.List.{list_any}
@@ -14,7 +15,9 @@ use Rattle.mj_semantics.specs.Lines.{Here, has_label, labelled, lines_of, entere
 use Rattle.mj_pcode.specs.declared.instr.Head.{Head}
 use Rattle.mj_pcode.specs.declared.instr.Unit as unit
 use Rattle.mj_pcode.specs.Found.{Found, found, found_in, found_from, line_in, line_with, start_of, levels_in}
-use Rattle.mj_pcode.specs.Machine.{calls, returns, place_in}
+use Rattle.mj_pcode.specs.Machine.{calls, tallies, returns, place_in}
+use Rattle.mj_pcode.specs.Checked.{IsChecked}
+use Rattle.mj_pcode.specs.Sound.{AreChecked}
 use Rattle.mj_asm.specs.Correct.{Agree, next_of, DoLines, IsFound, LeadAlike, IsUnitOf}
 use Rattle.mj_pcode.proofs.Agree.{if_at, change_at, deeper_at}
 use Rattle.mj_asm.specs.Laws.{call_follows, after_one}
@@ -124,18 +127,18 @@ looked_up (r ∷ rs) (u ∷ us) i entry h = go (bytes_eq u.name entry.routine) r
 module _ (image : List syntax.Routine) (units : List unit.Unit) where
   -- a line and its head at the same place
   alike_at : (r : syntax.Routine) (u : unit.Unit) (name : List ℕ) (at k : ℕ) (o : Option syntax.Line) (h : Option Head) → IsUnitOf r u → u.name ≡ name → lines_of image name ≡ r.lines → slice_get units at ≡ Some u → 1 ≤ k
-      → slice_get u.heads.items (k - 1) ≡ h → option_map (λ x. x.level) h ≡ option_map (λ x. x.level) o → option_map (λ x. x.formals) h ≡ option_map (λ x. x.formals) o
+      → slice_get u.heads.items (k - 1) ≡ h → option_map (λ x. x.level) h ≡ option_map (λ x. x.level) o → option_map (λ x. x.formals) h ≡ option_map (λ x. x.formals) o → IsChecked u
       → IsFound image units (elim o [ None ↦ None | Some line ↦ Some (record { routine = name; line = k }, line) ]) (elim h [ None ↦ None | Some head ↦ Some (record { at = at; unit = u; line = k; head = head }) ])
-  alike_at r u name at k None None code same lines there some e l f = tt
-  alike_at r u name at k None (Some head) code same lines there some e l f = let p : ◌≡◌ {A = Option ℕ} (Some head.level) None = l in cc
-  alike_at r u name at k (Some line) None code same lines there some e l f = let p : ◌≡◌ {A = Option ℕ} None (Some line.level) = l in cc
-  alike_at r u name at k (Some line) (Some head) code same lines there some e l f =
+  alike_at r u name at k None None code same lines there some e l f checked = tt
+  alike_at r u name at k None (Some head) code same lines there some e l f checked = let p : ◌≡◌ {A = Option ℕ} (Some head.level) None = l in cc
+  alike_at r u name at k (Some line) None code same lines there some e l f checked = let p : ◌≡◌ {A = Option ℕ} None (Some line.level) = l in cc
+  alike_at r u name at k (Some line) (Some head) code same lines there some e l f checked =
       let within : k - 1 < length u.heads.items = within_list u.heads.items (k - 1) head e in
       let level : line.level ≡ head.level = some_is head.level line.level l in
       let formals : line.formals ≡ head.formals = somes_are head.formals line.formals f in
       let start : head.start ≡ start_of u k = sym (ap (λ v. elim v as (λ w. ℕ) [ None ↦ length u.instrs.items | Some x ↦ x.start ]) e) in
       let levels : levels_of image u.name ≡ levels_in u = ap (λ n. map (λ x. x.level) (lines_of image n)) same ∙ ap (map (λ x. x.level)) lines ∙ sym code.levels in
-      (there, sym same, refl, some, omega (arith, within), start, level, formals, levels)
+      (there, sym same, refl, some, omega (arith, within), start, level, formals, levels, record { line = _; is = checked.lines (k - 1) head e })
     where
       some_is : (a c : ℕ) → ◌≡◌ {A = Option ℕ} (Some a) (Some c) → c ≡ a
       some_is a c p = cc
@@ -149,10 +152,10 @@ entered_in entry lines = elim (slice_get lines (number_in entry.label lines - 1)
 entered_is : (image : List syntax.Routine) (entry : Entry) → entered image entry ≡ entered_in entry (lines_of image entry.routine)
 entered_is image entry = refl
 
-alike_if : (rs : List Routine) (us : List unit.Unit) (entry : Entry) → Lookup rs us 0 entry → IsFound (map routine_of rs) us (entered (map routine_of rs) entry) (found us entry)
-alike_if rs us entry (is_absent a) =
+alike_if : (rs : List Routine) (us : List unit.Unit) (entry : Entry) → AreChecked us → Lookup rs us 0 entry → IsFound (map routine_of rs) us (entered (map routine_of rs) entry) (found us entry)
+alike_if rs us entry checked (is_absent a) =
     subst (λ o. IsFound (map routine_of rs) us o (found us entry)) (sym (ap (entered_in entry) a.lines)) (subst (IsFound (map routine_of rs) us None) (sym a.there) tt)
-alike_if rs us entry (is_there p) =
+alike_if rs us entry checked (is_there p) =
     let image = map routine_of rs in
     let r = routine_of p.routine in
     let u = p.u in
@@ -166,10 +169,10 @@ alike_if rs us entry (is_there p) =
     let there : found us entry ≡ found_in p.j u k = p.there ∙ ap (λ m. found_in m u (line_in u entry.label)) at ∙ ap (found_in p.j u) n in
     subst (λ o. IsFound image us o (found us entry)) (sym (ap (entered_in entry) p.lines))
     (subst (IsFound image us (entered_in entry r.lines)) (sym there)
-    (alike_at image us r u entry.routine p.j k (slice_get r.lines (k - 1)) (slice_get u.heads.items (k - 1)) p.code p.same p.lines p.at (from_one entry.label r.lines) refl levels formals))
+    (alike_at image us r u entry.routine p.j k (slice_get r.lines (k - 1)) (slice_get u.heads.items (k - 1)) p.code p.same p.lines p.at (from_one entry.label r.lines) refl levels formals (checked p.j u p.at)))
 
-pub lead_alike : (rs : List Routine) (us : List unit.Unit) → AreUnits rs us → LeadAlike (map routine_of rs) us
-lead_alike rs us h entry = alike_if rs us entry (looked_up rs us 0 entry h)
+pub lead_alike : (rs : List Routine) (us : List unit.Unit) → AreUnits rs us → AreChecked us → LeadAlike (map routine_of rs) us
+lead_alike rs us h checked entry = alike_if rs us entry checked (looked_up rs us 0 entry h)
 
 -- ---- each unit does what its routine does
 
@@ -242,11 +245,11 @@ owner (q ∷ rs) (v ∷ us) earlier h a (suc j) u there =
       lines = front_lines q rs later.routine.name false (none_of (λ e. bytes_eq e later.routine.name) earlier q.name (unlike rs (earlier ++ q.name ∷ []) next j later.routine later.at)).1 ∙ later.lines;
     }
 
-module _ (rs : List Routine) (us : List unit.Unit) (h : AreUnits rs us) (apart : repeated [] (names_of rs) ≡ None) where
+module _ (rs : List Routine) (us : List unit.Unit) (h : AreUnits rs us) (apart : repeated [] (names_of rs) ≡ None) (checked : AreChecked us) where
   do_lines : (b : ℕ) → ((m : ℕ) → m < b → DoLines (map routine_of rs) us m) → DoLines (map routine_of rs) us b
   do_lines b fewer j u there k some last =
       let o = owner rs us [] h apart j u there in
-      o.code.does (map routine_of rs) us o.lines (lead_alike rs us h) j there b fewer k some (omega (arith, last, many (routine_of o.routine) u o.code))
+      o.code.does (map routine_of rs) us o.lines (lead_alike rs us h checked) j there b fewer k some (omega (arith, last, many (routine_of o.routine) u o.code))
 
   all_below : (b m : ℕ) → m < b → DoLines (map routine_of rs) us m
   all_below zero m lt = absurd (omega (arith, lt))
@@ -259,8 +262,8 @@ module _ (rs : List Routine) (us : List unit.Unit) (h : AreUnits rs us) (apart :
   calls_same n None vs = refl
   calls_same n (Some to) vs =
       let enters : State → State = λ s. passed to.head.formals vs (pushed (place_in to.unit to.line) 1 None s) in
-      let f : Timed = next_of us (at_unit to.at []) to.head.start [] in
-      let g : Timed = after_one us n (at_unit to.at []) to.head.start [] in
+      let f : Timed = next_of us (at_unit to.at []) to.head.start (tallies (length to.head.formals)) in
+      let g : Timed = after_one us n (at_unit to.at []) to.head.start (tallies (length to.head.formals)) in
       if_at n (nat_eq to.head.level 1)
       (if nat_lt (length to.head.formals) (length vs) then fault Params else deeper (change enters f))
       (if nat_lt (length to.head.formals) (length vs) then fault Params else deeper (change enters g))
@@ -272,8 +275,11 @@ module _ (rs : List Routine) (us : List unit.Unit) (h : AreUnits rs us) (apart :
   pub does_entries : DoesEntries (record { routines = rs; units = us })
   does_entries entry vs depth n le =
       calls_same n (found us entry) vs ∙
-      call_follows (map routine_of rs) us depth n (entered (map routine_of rs) entry) (found us entry) vs [] (end None) le (lead_alike rs us h entry)
+      call_follows (map routine_of rs) us depth n (entered (map routine_of rs) entry) (found us entry) vs [] (end None) le (lead_alike rs us h checked entry)
       (all_below (suc n) n (omega arith)) (same_leave n)
+
+pub are_checked : (us : List unit.Unit) → All IsChecked us → AreChecked us
+are_checked us all j u there = subst IsChecked (get_or_from_slice_get us j u u there) (all j u (slice_get_within us j u there))
 
 both_small : (u : unit.Unit) (us : List unit.Unit) → IsSmall u → All IsSmall us → All IsSmall (u ∷ us)
 both_small u us one others zero d lt = one

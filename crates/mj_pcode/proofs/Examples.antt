@@ -1,11 +1,19 @@
--- Rows of what code holds, and of what is not checked.
-use Rattle.std.proofs.Common.{arith}
+-- Rows of what code holds, of what is not checked, and of the turns of a call.
+use Rattle.std.proofs.Common.{arith, ap, ◌∙◌}
 use Rattle.std.proofs.lemmas.Option.{none-some}
-use Rattle.std.specs.Prelude.{◌≡◌, refl, ℕ, List, [], ◌∷◌, codes}
+use Rattle.std.specs.Prelude.{◌≡◌, refl, ℕ, suc, List, [], ◌∷◌, Some, None, codes, slice_get}
+use Rattle.mj_ask.specs.declared.ask.Ask.TheVariants.{DeviceEnd}
 use Rattle.mj_oper.specs.declared.op.Op.TheVariants.{Add}
+use Rattle.mj_semantics.specs.State.{State, passed, pushed, places}
+use Rattle.mj_semantics.specs.Outcome.{Outcome, Needs, More, principal, end}
+use Rattle.mj_semantics.specs.Job.{no_restart, opening}
 use Rattle.mj_pcode.specs.declared.instr.Span.TheVariants as span
 use Rattle.mj_pcode.specs.declared.instr.Instr.{Instr}
-use Rattle.mj_pcode.specs.declared.instr.Instr.TheVariants.{Line, Push, Binary, Write, Unless, Jump, NoneTrue, Open, Begin, Close, Again}
+use Rattle.mj_pcode.specs.declared.instr.Instr.TheVariants.{Line, Push, Binary, Write, Unless, Jump, NoneTrue, Open, Begin, Close, Again, Quit}
+use Rattle.mj_pcode.specs.declared.instr.Unit.{Unit}
+use Rattle.mj_pcode.specs.Found.{Found}
+use Rattle.mj_pcode.specs.Context.{Context, at_unit}
+use Rattle.mj_pcode.specs.Machine.{Stack, Next, act, calls, exec, place_in}
 use Rattle.mj_pcode.specs.Checked.{footing, bare, footings, IsEnough, Leads}
 
 abbrev text : List ℕ
@@ -43,3 +51,40 @@ beyond h = none-some bare h
 
 to_the_end : Leads (footings bare (Jump 1 ∷ [])) 0 (Jump 1) bare
 to_the_end = refl
+
+-- A unit that begins with a line of level 1, A(X,Y) QUIT, is called.
+module _ (u : Unit) (is_line : slice_get u.instrs.items 0 ≡ Some (line 2)) (is_quit : slice_get u.instrs.items 1 ≡ Some Quit) where
+  abbrev first_line : Found
+  first_line = record { at = 0; unit = u; line = 1; head = record { start = 0; level = 1; formals = codes "X" ∷ codes "Y" ∷ [] } }
+
+  abbrev c : Context
+  c = at_unit 0 []
+
+  abbrev next : ℕ → Next
+  next n d pc stack m = exec (u ∷ []) n d pc stack
+
+  -- with n turns
+  abbrev run : ℕ → Outcome
+  run n = calls (Some first_line) [] [] (next n) n no_restart opening []
+
+  abbrev begun : State
+  begun = passed (codes "X" ∷ codes "Y" ∷ []) [] (pushed (place_in u 1) 1 None opening)
+
+  abbrev from : ℕ → Stack → ℕ → Outcome
+  from pc stack n = exec (u ∷ []) n c pc stack no_restart begun []
+
+  counted : (v : List ℕ) (stack : Stack) (n : ℕ) → from 0 (v ∷ stack) (suc n) ≡ from 0 stack n
+  counted v stack n = ap (λ i. act (u ∷ []) u i (next n) c 0 (v ∷ stack) n no_restart begun []) is_line
+
+  entered : (n : ℕ) → from 0 [] (suc n) ≡ from 1 [] n
+  entered n = ap (λ i. act (u ∷ []) u i (next n) c 0 [] n no_restart begun []) is_line
+
+  over : (n : ℕ) → from 1 [] (suc n) ≡ end None n no_restart begun []
+  over n = ap (λ i. act (u ∷ []) u i (next n) c 1 [] n no_restart begun []) is_quit
+
+  -- the two formals, the line and the QUIT
+  four_turns : run 4 ≡ More
+  four_turns = counted [] ([] ∷ []) 3 ∙ counted [] [] 2 ∙ entered 1 ∙ over 0
+
+  five_turns : run 5 ≡ Needs (DeviceEnd principal) begun.locals (places begun)
+  five_turns = counted [] ([] ∷ []) 4 ∙ counted [] [] 3 ∙ entered 2 ∙ over 1

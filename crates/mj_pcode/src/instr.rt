@@ -43,7 +43,9 @@ pub enum Span {
 /// An instruction. Operands lie on a stack of texts.
 #[derive(Drop)]
 pub enum Instr {
-    /// a line of the routine is entered, or passed over where it is deeper than its frame; where it is less deep the frame is over
+    /// a line of the routine is entered, or passed over where it is deeper than its frame; where it is less deep the frame is over.
+    /// A call puts a tally, an empty text, on the stack for each formal of the line that it leads to: as long as there is one, the line
+    /// takes one off and does nothing else, so that each formal has a turn
     Line(LineStart),
     /// puts a text on the stack
     Push(Text),

@@ -898,3 +898,24 @@ turns_of_a_for : turns (line (cmd (For (local (codes "I")) (UpTo (text "1") (tex
     ≡ (More, Needs (ask.DeviceEnd (codes "0")) ((plain_name (codes "I"), codes "2") ∷ []) (spot 1 ∷ []))
 unfolding digits
 turns_of_a_for = refl
+
+--  DO A(5) QUIT / A(X,Y) QUIT
+-- the literal; the call; a formal with a value, and one without; two QUITs
+turns_of_a_call : turns (line (cmd (Do (do_it (here "A") (Some (text "5") ∷ []) ∷ [])) ∷ cmd Quit ∷ []) ∷ with "A" (codes "X" ∷ codes "Y" ∷ []) (cmd Quit ∷ []) ∷ []) 10
+    ≡ (More, Needs (ask.DeviceEnd (codes "0")) [] (spot 1 ∷ []))
+unfolding digits
+turns_of_a_call = refl
+
+-- A(X,Y) QUIT
+-- the formals of the line where the job starts; the QUIT
+turns_of_the_first_call : turns (with "A" (codes "X" ∷ codes "Y" ∷ []) (cmd Quit ∷ []) ∷ []) 6
+    ≡ (More, Needs (ask.DeviceEnd (codes "0")) [] (spot 1 ∷ []))
+unfolding digits
+turns_of_the_first_call = refl
+
+--  / A(X,Y) QUIT
+-- a line that is come to takes none for its formals; the QUIT
+turns_of_a_line_with_formals : turns (line [] ∷ with "A" (codes "X" ∷ codes "Y" ∷ []) (cmd Quit ∷ []) ∷ []) 5
+    ≡ (More, Needs (ask.DeviceEnd (codes "0")) [] (spot 2 ∷ []))
+unfolding digits
+turns_of_a_line_with_formals = refl

@@ -6,7 +6,7 @@ use Rattle.mj_ask.specs.declared.ask.Reply.{Reply}
 use Rattle.mj_ask.specs.declared.entry.Entry.{Entry}
 use Rattle.mj_ast.specs.Syntax.{Line, Routine}
 use Rattle.mj_semantics.specs.State.{State, level_of, may_go, pushed, passed, at_place}
-use Rattle.mj_semantics.specs.Outcome.{Outcome, More, Handler, Timed, turn, look, change, tell, end, fault, principal}
+use Rattle.mj_semantics.specs.Outcome.{Outcome, More, Handler, Timed, turn, turns, look, change, tell, end, fault, principal}
 use Rattle.mj_semantics.specs.Lines.{Here, place_at, next_line, line_before, line_at, levels_of, entered}
 use Rattle.mj_semantics.specs.Points.{Ways, Loop, AtLine, Called, Jumped, Pass, Points}
 use Rattle.mj_semantics.specs.Commands.{again, deeper, obey_all}
@@ -24,13 +24,16 @@ obey_line points here (Some line) leave = look (λ s.
     else if nat_lt (level_of s) line.level then next
     else change (at_place (place_at here)) (obey_all points here line.steps (record { line_end = next; for_quit = None; leave = leave })))
 
--- a new frame at the line that an entry names, which is of level 1, with no more values than the line has formals
+-- a new frame at the line that an entry names, which is of level 1, with no more values than the line has formals. Each formal takes a
+-- turn, before that of the line
 abbrev pub call : Points → Option (Here × Line) → List (Option (List ℕ)) → Timed → Timed
 call points None vs leave = fault NoLine
 call points (Some to) vs leave =
     if nat_eq to.1.level 1
     then if nat_lt (length to.1.formals) (length vs) then fault Params
-    else deeper (change (λ s. passed to.1.formals vs (pushed (place_at to.0) 1 None s)) (turn (points (AtLine to.0 leave))))
+    else deeper
+    (change (λ s. passed to.1.formals vs (pushed (place_at to.0) 1 None s))
+    (turns (length to.1.formals) (turn (points (AtLine to.0 leave)))))
     else fault NoLine
 
 -- a GOTO of the line that an entry names

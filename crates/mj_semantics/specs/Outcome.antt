@@ -28,6 +28,11 @@ abbrev pub turn : Timed → Timed
 turn rest zero = λ h s replies. More
 turn rest (suc n) = rest n
 
+-- so many turns, and then the rest
+abbrev pub turns : ℕ → Timed → Timed
+turns zero rest = rest
+turns (suc k) rest = turn (turns k rest)
+
 -- the rest, by the state
 abbrev pub look : (State → Timed) → Timed
 look rest = λ n h s. rest s n h s

@@ -1,4 +1,4 @@
-use Rattle.mj_load.proofs.Entries.{are_small, does_entries}
+use Rattle.mj_load.proofs.Entries.{are_small, are_checked, does_entries}
 use Rattle.mj_load.proofs.image.make_image.Goals as goal
 
 pub invariant_of-result : goal.invariant_of-result
@@ -8,5 +8,5 @@ invariant_of-result c = record {
   units = c.requires.code;
   small = are_small c.args.routines.items c.args.units.items c.requires.within c.requires.code;
   checked = c.requires.checked;
-  does = does_entries c.args.routines.items c.args.units.items c.requires.code c.requires.apart;
+  does = does_entries c.args.routines.items c.args.units.items c.requires.code c.requires.apart (are_checked c.args.units.items c.requires.checked);
 }
