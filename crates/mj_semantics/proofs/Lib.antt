@@ -1,3 +1,4 @@
 pub mod Talk
 pub mod Examples
 pub mod Controls
+pub mod Loops
