@@ -3,7 +3,7 @@ use Rattle.std.proofs.Common.{◌≡◌, [], ◌∷◌, Some, None, false, inl, 
 use Rattle.std.specs.Fmt.{digits}
 use Rattle.std.specs.List.{IsDistinct}
 use Rattle.mj_oper.specs.declared.op.TruthOp.TheVariants.{Equal, SortsAfter, Or}
-use Rattle.mj_ast.specs.declared.sign.Sign.TheVariants.{Star, Caret, Colon, Equals, CloseBracket, CloseBrackets, Exclamation, Apostrophe, Negated, Open, Close, Comma}
+use Rattle.mj_ast.specs.declared.sign.Sign.TheVariants.{Star, Caret, Colon, Equals, CloseBracket, CloseBrackets, Exclamation, Apostrophe, Negated, NegatedQuestion, Open, Close, Comma}
 use Rattle.mj_ast.specs.Tokens.{Word, Called, Special, Digits, Quoted, Signed, Blank, Comment, Unclosed, Stray, lexemes, tokens, column}
 use Rattle.mj_ast.specs.declared.keyword.Keyword.TheVariants as keyword
 use Rattle.mj_ast.specs.declared.function.Function.TheVariants.{QLength, QSubscript, Reverse, Translate}
@@ -66,6 +66,14 @@ brackets = refl
 negated : tokens (codes "']]'='!!'X'") ≡ Signed (Negated SortsAfter) ∷ Signed (Negated Equal) ∷ Signed (Negated Or) ∷ Signed Exclamation ∷ Signed Apostrophe ∷ Word (codes "X") ∷ Signed Apostrophe ∷ []
 unfolding lexemes
 negated = refl
+
+questions : tokens (codes "'?''?'") ≡ Signed NegatedQuestion ∷ Signed Apostrophe ∷ Signed NegatedQuestion ∷ Signed Apostrophe ∷ []
+unfolding lexemes
+questions = refl
+
+lone_question : tokens (codes "?'=?") ≡ Stray 63 ∷ Signed (Negated Equal) ∷ Stray 63 ∷ []
+unfolding lexemes
+lone_question = refl
 
 -- the line's end is a column past it
 end_column : column (codes " H ") 9 ≡ 4

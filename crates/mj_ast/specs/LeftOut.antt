@@ -31,7 +31,7 @@
 use Rattle.std.specs.Prelude.{◌≡◌, ◌⊎◌, ℕ, ◌+◌, ◌-◌, ◌==◌, Bool, true, false, not, ◌&&◌, ◌||◌, List, [], ◌∷◌, ◌++◌, reverse, take, drop, Option, Some, None, codes}
 use Rattle.mj_ast.specs.declared.construct.Construct.{Construct}
 use Rattle.mj_ast.specs.declared.construct.Construct.TheVariants as construct
-use Rattle.mj_ast.specs.declared.sign.Sign.TheVariants.{Plus, Minus, Star, Underscore, OpenBracket, Apostrophe, Caret, Open, Close, Comma, Dot}
+use Rattle.mj_ast.specs.declared.sign.Sign.TheVariants.{Plus, Minus, Star, Underscore, OpenBracket, Apostrophe, NegatedQuestion, Caret, Open, Close, Comma, Dot}
 use Rattle.mj_ast.specs.declared.function.Function.TheVariants.{Extract, Justify}
 use Rattle.mj_ast.specs.declared.function.NameFunction.TheVariants as names
 use Rattle.mj_ast.specs.declared.function.Callee.{Callee}
@@ -136,9 +136,9 @@ abbrev pub is_bracket : Token → Bool
 is_bracket (Signed OpenBracket) = true
 is_bracket t = false
 
-abbrev pub is_apostrophe : Token → Bool
-is_apostrophe (Signed Apostrophe) = true
-is_apostrophe t = false
+abbrev pub is_negated_question : Token → Bool
+is_negated_question (Signed NegatedQuestion) = true
+is_negated_question t = false
 
 -- ---- the tokens around
 
@@ -330,8 +330,8 @@ abbrev pub is_two_dollars : Token → List Token → Bool
 is_two_dollars t behind = is_dollar t && starts has_dollar behind
 
 -- `?` or `'?`
-abbrev pub is_match : Token → List Token → Bool
-is_match t behind = is_question t || (is_apostrophe t && starts is_question behind)
+abbrev pub is_match : Token → Bool
+is_match t = is_question t || is_negated_question t
 
 -- ---- an argument of QUIT
 
@@ -385,7 +385,7 @@ Fits construct.Fraction front t behind =
     (is_dot t ≡ true) × ((ends_in is_digits front ≡ true) ⊎ ((starts is_digits behind ≡ true) × MayBeginOperand front))
 Fits construct.Exponent front t behind = (is_exponent t && ends_in is_digits front) ≡ true
 Fits construct.Power front t behind = (is_star t && ends_in is_star front) ≡ true
-Fits construct.Pattern front t behind = (is_match t behind ≡ true) × MayBeOperator front
+Fits construct.Pattern front t behind = (is_match t ≡ true) × MayBeOperator front
 Fits construct.Naked front t behind = (is_open t && ends_in is_caret front) ≡ true
 Fits construct.Environment front t behind = ((is_bracket t || is_bar t) && ends_in is_caret front) ≡ true
 Fits construct.Structured front t behind = (has_dollar t && ends_in is_caret front) ≡ true

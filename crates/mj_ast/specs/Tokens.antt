@@ -5,7 +5,7 @@ use Rattle.std.specs.Prelude.{◌≡◌, ◌⊎◌, ℕ, zero, suc, ◌+◌, ◌
 use Rattle.mj_ast.specs.declared.sign.Sign.{Sign}
 use Rattle.mj_oper.specs.declared.op.TruthOp.{TruthOp}
 use Rattle.mj_oper.specs.declared.op.TruthOp.TheVariants as truth
-use Rattle.mj_ast.specs.declared.sign.Sign.TheVariants.{Plus, Minus, Star, Backslash, Hash, Slash, Underscore, Equals, Less, Greater, OpenBracket, CloseBracket, CloseBrackets, Ampersand, Exclamation, Apostrophe, Negated, Caret, Open, Close, Comma, Colon, Dot}
+use Rattle.mj_ast.specs.declared.sign.Sign.TheVariants.{Plus, Minus, Star, Backslash, Hash, Slash, Underscore, Equals, Less, Greater, OpenBracket, CloseBracket, CloseBrackets, Ampersand, Exclamation, Apostrophe, Negated, NegatedQuestion, Caret, Open, Close, Comma, Colon, Dot}
 
 -- a letter
 abbrev pub is_letter : ℕ → Bool
@@ -71,7 +71,7 @@ truth_bytes truth.SortsAfter = 93 ∷ 93 ∷ []
 truth_bytes truth.And = 38 ∷ []
 truth_bytes truth.Or = 33 ∷ []
 
--- the bytes of a sign: a truth operator may have a `'` in front, which makes both one sign
+-- the bytes of a sign: a truth operator, or a `?`, may have a `'` in front, which makes both one sign
 abbrev pub sign_bytes : Sign → List ℕ
 sign_bytes Plus = 43 ∷ []
 sign_bytes Minus = 45 ∷ []
@@ -90,6 +90,7 @@ sign_bytes Ampersand = truth_bytes truth.And
 sign_bytes Exclamation = truth_bytes truth.Or
 sign_bytes Apostrophe = 39 ∷ []
 sign_bytes (Negated op) = 39 ∷ truth_bytes op
+sign_bytes NegatedQuestion = 39 ∷ 63 ∷ []
 sign_bytes Caret = 94 ∷ []
 sign_bytes Open = 40 ∷ []
 sign_bytes Close = 41 ∷ []
@@ -240,10 +241,15 @@ abbrev pub bracket_sign : TruthOp → Sign × ℕ
 bracket_sign truth.SortsAfter = (CloseBrackets, 1)
 bracket_sign _ = (CloseBracket, 0)
 
+-- the sign of a `'` with no truth operator behind it, and how many of the bytes there it takes
+abbrev pub apostrophe_sign : List ℕ → Sign × ℕ
+apostrophe_sign [] = (Apostrophe, 0)
+apostrophe_sign (b ∷ bs) = if b == 63 then (NegatedQuestion, 1) else (Apostrophe, 0)
+
 -- the longest sign that begins with the byte of a sign, by the bytes behind it, and how many of them it takes
 abbrev pub longest_sign : Sign → List ℕ → Sign × ℕ
 longest_sign CloseBracket bs = bracket_sign (bracket_front bs)
-longest_sign Apostrophe bs = elim (truth_front bs) [ None ↦ (Apostrophe, 0) | Some op ↦ (Negated op, length (truth_bytes op)) ]
+longest_sign Apostrophe bs = elim (truth_front bs) [ None ↦ apostrophe_sign bs | Some op ↦ (Negated op, length (truth_bytes op)) ]
 longest_sign s bs = (s, 0)
 
 -- the token of `$` and a word, by what stands behind it

@@ -10,9 +10,9 @@ use crate::stand::{
     may_begin_name, may_begin_operand,
 };
 use crate::tokens::{
-    ends_in_caret, ends_in_digits, ends_in_star, has_dollar, is_apostrophe, is_at, is_bar,
-    is_bracket, is_close, is_comma, is_dollar, is_dot, is_open, is_plus, is_question, is_star,
-    starts_digits, starts_dollar, starts_question, starts_word,
+    ends_in_caret, ends_in_digits, ends_in_star, has_dollar, is_at, is_bar, is_bracket, is_close,
+    is_comma, is_dollar, is_dot, is_negated_question, is_open, is_plus, is_question, is_star,
+    starts_digits, starts_dollar, starts_word,
 };
 use crate::words::{
     called, innermost, is_e, is_extract, is_justify, is_later, is_name, is_order_name, is_query,
@@ -75,23 +75,18 @@ fn power(front: &[Lexeme], token: Token) -> bool
 }
 
 /// Whether the token is `?` or `'?`.
-fn is_match(token: Token, behind: &[Lexeme]) -> bool
-    ensures { result ≡ the_match (token_seen token.entry) (tokens_seen behind.now) }
+fn is_match(token: Token) -> bool
+    ensures { result ≡ the_match (token_seen token.entry) }
 {
-    is_question(token) || (is_apostrophe(token) && starts_question(behind))
+    is_question(token) || is_negated_question(token)
 }
 
 /// `?` or `'?` where a binary operator may stand.
-fn pattern(
-    alloc: Global,
-    front: &[Lexeme],
-    token: Token,
-    behind: &[Lexeme],
-) -> Result<bool, AllocError>
+fn pattern(alloc: Global, front: &[Lexeme], token: Token) -> Result<bool, AllocError>
     requires { IsFront (tokens_seen front.now) }
-    ensures { IfOk result (λ b. Says b ((the_match (token_seen token.entry) (tokens_seen behind.now) ≡ true) × MayBeOperator (tokens_seen front.now))) }
+    ensures { IfOk result (λ b. Says b ((the_match (token_seen token.entry) ≡ true) × MayBeOperator (tokens_seen front.now))) }
 {
-    if !is_match(token, behind) {
+    if !is_match(token) {
         return Ok(false);
     }
     may_be_operator(alloc, front)
@@ -252,7 +247,7 @@ pub fn fits(
         Construct::Fraction => fraction(alloc, front, token, behind),
         Construct::Exponent => Ok(exponent(front, token)),
         Construct::Power => Ok(power(front, token)),
-        Construct::Pattern => pattern(alloc, front, token, behind),
+        Construct::Pattern => pattern(alloc, front, token),
         Construct::Naked => Ok(naked(front, token)),
         Construct::Environment => Ok(environment(front, token)),
         Construct::Structured => Ok(structured(front, token)),

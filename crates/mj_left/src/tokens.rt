@@ -1,7 +1,7 @@
 // Single tokens, and those at the ends of a list.
 
 ghost use Rattle.std.specs.Prelude.{◌≡◌, ◌∷◌, ◌++◌, ◌+◌, [], IfSome, MatchOption, length, reverse};
-ghost use Rattle.mj_ast.specs.LeftOut.{has_no_blank as has_none, has_dollar as the_dollar, is_at as the_at, is_apostrophe as the_apostrophe, is_bar as the_bar, is_blank_or_dot as the_blank_or_dot, is_blank_token, is_bracket as the_bracket, is_caret as the_caret, is_close as the_close, is_comma as the_comma, is_digits as the_digits, is_dollar as the_stray_dollar, is_dot as the_dot, is_label as the_label, is_open as the_open, is_open_or_comma as the_open_or_comma, is_plus as the_plus, is_question as the_question, is_star as the_star, is_word as the_word, starts, ends_in};
+ghost use Rattle.mj_ast.specs.LeftOut.{has_no_blank as has_none, has_dollar as the_dollar, is_at as the_at, is_bar as the_bar, is_blank_or_dot as the_blank_or_dot, is_blank_token, is_bracket as the_bracket, is_caret as the_caret, is_close as the_close, is_comma as the_comma, is_digits as the_digits, is_dollar as the_stray_dollar, is_dot as the_dot, is_label as the_label, is_negated_question as the_negated_question, is_open as the_open, is_open_or_comma as the_open_or_comma, is_plus as the_plus, is_question as the_question, is_star as the_star, is_word as the_word, starts, ends_in};
 ghost use Rattle.mj_lex.specs.Seen.{token_seen, tokens_seen};
 
 use mj_ast::Sign;
@@ -105,10 +105,10 @@ pub fn is_bracket(token: Token) -> bool
     matches!(token, Token::Sign(Sign::OpenBracket))
 }
 
-pub fn is_apostrophe(token: Token) -> bool
-    ensures { result ≡ the_apostrophe (token_seen token.entry) }
+pub fn is_negated_question(token: Token) -> bool
+    ensures { result ≡ the_negated_question (token_seen token.entry) }
 {
-    matches!(token, Token::Sign(Sign::Apostrophe))
+    matches!(token, Token::Sign(Sign::NegatedQuestion))
 }
 
 /// The last token, and those before it.
@@ -210,16 +210,6 @@ pub fn starts_word(tokens: &[Lexeme]) -> bool
 {
     match next(tokens) {
         Some((token, _)) => is_word(token),
-        None => false,
-    }
-}
-
-/// Whether a `?` is.
-pub fn starts_question(tokens: &[Lexeme]) -> bool
-    ensures { result ≡ starts the_question (tokens_seen tokens.now) }
-{
-    match next(tokens) {
-        Some((token, _)) => is_question(token),
         None => false,
     }
 }

@@ -9,8 +9,8 @@ use Rattle.std.proofs.lemmas.List.Sums.{take_while-cons, AllPass-from_list_all, 
 use Rattle.mj_oper.specs.declared.op.TruthOp.{TruthOp}
 use Rattle.mj_oper.specs.declared.op.TruthOp.TheVariants as truth
 use Rattle.mj_ast.specs.declared.sign.Sign.{Sign}
-use Rattle.mj_ast.specs.declared.sign.Sign.TheVariants.{Plus, Minus, Star, Backslash, Hash, Slash, Underscore, Equals, Less, Greater, OpenBracket, CloseBracket, CloseBrackets, Ampersand, Exclamation, Apostrophe, Negated, Caret, Open, Close, Comma, Colon, Dot}
-use Rattle.mj_ast.specs.Tokens.{Token, Word, Called, Special, Digits, Quoted, Signed, Blank, Comment, Unclosed, Stray, Class, AWord, ADollar, ADigit, AQuote, ABlank, AComment, ASign, Nothing, begins_word, continues_word, is_digit, is_blank, truth_bytes, sign_bytes, doubled, class_of, IsSpelledBy, opens, IsBefore, IsLongest, IsTokenisation, Quotation, quotation, behind_quote, with_byte, bracket_front, truth_front, bracket_sign, longest_sign, dollar_word, dollar_front, front_of, first_lexemes, lexemes}
+use Rattle.mj_ast.specs.declared.sign.Sign.TheVariants.{Plus, Minus, Star, Backslash, Hash, Slash, Underscore, Equals, Less, Greater, OpenBracket, CloseBracket, CloseBrackets, Ampersand, Exclamation, Apostrophe, Negated, NegatedQuestion, Caret, Open, Close, Comma, Colon, Dot}
+use Rattle.mj_ast.specs.Tokens.{Token, Word, Called, Special, Digits, Quoted, Signed, Blank, Comment, Unclosed, Stray, Class, AWord, ADollar, ADigit, AQuote, ABlank, AComment, ASign, Nothing, begins_word, continues_word, is_digit, is_blank, truth_bytes, sign_bytes, doubled, class_of, IsSpelledBy, opens, IsBefore, IsLongest, IsTokenisation, Quotation, quotation, behind_quote, with_byte, bracket_front, truth_front, bracket_sign, apostrophe_sign, longest_sign, dollar_word, dollar_front, front_of, first_lexemes, lexemes}
 use Rattle.mj_lex.proofs.Fronts.{front_taken}
 
 -- ---- what a byte begins, and what it is
@@ -160,8 +160,16 @@ first_same x y xs ys e = cc
 rest_same : (x y : ℕ) (xs ys : List ℕ) → x ∷ xs ≡ y ∷ ys → xs ≡ ys
 rest_same x y xs ys e = cc
 
-apostrophe : (b : ℕ) (bs : List ℕ) (q : Option TruthOp) → b ≡ 39 → TruthTaken bs q → let l : Sign × ℕ = elim q [ None ↦ (Apostrophe, 0) | Some op ↦ (Negated op, length (truth_bytes op)) ] in b ∷ take l.1 bs ≡ sign_bytes l.0
-apostrophe b bs None e h = ap (λ (x : ℕ). x ∷ []) e
+question : (b : ℕ) (bs : List ℕ) → b ≡ 39 → b ∷ take (apostrophe_sign bs).1 bs ≡ sign_bytes (apostrophe_sign bs).0
+question b [] e = ap (λ (x : ℕ). x ∷ []) e
+question b (c ∷ cs) e = by (c == 63) refl
+  where
+    by : (f : Bool) → (c == 63) ≡ f → let l : Sign × ℕ = cond f (NegatedQuestion, 1) (Apostrophe, 0) in b ∷ take l.1 (c ∷ cs) ≡ sign_bytes l.0
+    by true f = ap (λ (x : ℕ). x ∷ c ∷ []) e ∙ ap (λ (x : ℕ). 39 ∷ x ∷ []) (eqb-true c 63 f)
+    by false f = ap (λ (x : ℕ). x ∷ []) e
+
+apostrophe : (b : ℕ) (bs : List ℕ) (q : Option TruthOp) → b ≡ 39 → TruthTaken bs q → let l : Sign × ℕ = elim q [ None ↦ apostrophe_sign bs | Some op ↦ (Negated op, length (truth_bytes op)) ] in b ∷ take l.1 bs ≡ sign_bytes l.0
+apostrophe b bs None e h = question b bs e
 apostrophe b bs (Some op) e h = ap (λ (x : ℕ). x ∷ take (length (truth_bytes op)) bs) e ∙ ap (λ (xs : List ℕ). 39 ∷ xs) h
 
 sign_spelled : (s : Sign) (b : ℕ) (bs : List ℕ) → b ∷ [] ≡ sign_bytes s → b ∷ take (longest_sign s bs).1 bs ≡ sign_bytes (longest_sign s bs).0
@@ -275,6 +283,7 @@ negated_reach truth.Or rest = omega arith
 sign_reach : (s : Sign) (rest : List ℕ) → length (sign_bytes s) ≤ reach (sign_bytes s ++ rest)
 sign_reach CloseBrackets rest = omega arith
 sign_reach (Negated op) rest = negated_reach op rest
+sign_reach NegatedQuestion rest = omega arith
 sign_reach Plus rest = omega arith
 sign_reach Minus rest = omega arith
 sign_reach Star rest = omega arith

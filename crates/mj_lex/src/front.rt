@@ -1,7 +1,7 @@
 // The token at the front of the bytes of a line.
 
 ghost use Rattle.std.specs.Prelude.{◌∷◌, ◌≡◌, ◌<◌, ◌≤◌, ◌+◌, [], length, take_while, IfSome, IfOk, MatchOption, drop};
-ghost use Rattle.mj_ast.specs.Tokens.{front_of, lexemes, IsTokenisation, quotation, quoted_token, class_of, is_digit, continues_word, bracket_front, truth_front, longest_sign, begins_word, dollar_word, dollar_front};
+ghost use Rattle.mj_ast.specs.Tokens.{front_of, lexemes, IsTokenisation, quotation, quoted_token, class_of, is_digit, continues_word, bracket_front, truth_front, apostrophe_sign, longest_sign, begins_word, dollar_word, dollar_front};
 ghost use Rattle.mj_lex.specs.Seen.{BeginsWith, placed, places_seen, class_seen, token_seen};
 
 use crate::token::{Lexeme, Token};
@@ -142,6 +142,18 @@ fn truth(bytes: &[u8]) -> Option<TruthOp>
     }
 }
 
+/// The sign of a `'` with no truth operator behind it, by the bytes there, and what follows it.
+fn apostrophe(rest: &[u8]) -> (Sign, &[u8])
+    ensures sign { result.0 ≡ (apostrophe_sign rest.now).0 }
+    ensures rest { result.1.now ≡ drop (apostrophe_sign rest.now).1 rest.now }
+    ensures within { length result.1.now ≤ length rest.now }
+{
+    match rest {
+        [b'?', ..] => (Sign::NegatedQuestion, &rest[1..]),
+        _ => (Sign::Apostrophe, rest),
+    }
+}
+
 /// The longest sign that begins as this one, by the bytes behind that, and what follows it.
 fn longest(sign: Sign, rest: &[u8]) -> (Sign, &[u8])
     ensures sign { result.0 ≡ (longest_sign sign rest.now).0 }
@@ -156,7 +168,7 @@ fn longest(sign: Sign, rest: &[u8]) -> (Sign, &[u8])
         Sign::Apostrophe => match truth(rest) {
             Some(TruthOp::SortsAfter) => (Sign::Negated(TruthOp::SortsAfter), &rest[2..]),
             Some(op) => (Sign::Negated(op), &rest[1..]),
-            None => (sign, rest),
+            None => apostrophe(rest),
         },
         _ => (sign, rest),
     }

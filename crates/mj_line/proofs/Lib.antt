@@ -6,6 +6,7 @@ pub mod Facts
 pub mod Ends
 pub mod Complete
 pub mod Commas
+mod Shapes
 pub mod Trees
 pub mod Formed
 pub mod Once

@@ -64,7 +64,7 @@ fn control_is_read_or_refused(rt: HostRuntime) {
 
 #[test]
 fn values_that_are_left_out_are_named(rt: HostRuntime) {
-    let rows: [(&[u8], &str); 41] = [
+    let rows: [(&[u8], &str); 54] = [
         (b" SET @X=1", "L7 R:1:6 indirection"),
         (b" W @X", "L7 R:1:4 indirection"),
         (b"@A W 1", "L7 R:1:1 indirection"),
@@ -95,6 +95,19 @@ fn values_that_are_left_out_are_named(rt: HostRuntime) {
         (b" W **3", "L2 R:1:4"),
         (b" I X?1N", "L7 R:1:5 pattern"),
         (b" W X'?1N", "L7 R:1:5 pattern"),
+        (b" W X'?", "L7 R:1:5 pattern"),
+        (b" W X=1'?1N", "L7 R:1:7 pattern"),
+        (b" W $L(X'?1N)", "L7 R:1:8 pattern"),
+        (b" S X=Y'?1N", "L7 R:1:7 pattern"),
+        (b" W 1?1N", "L7 R:1:5 pattern"),
+        (b" W ?1N", "L2 R:1:4"),
+        (b" W '?1N", "L2 R:1:4"),
+        (b" W ''?1N", "L2 R:1:5"),
+        (b" W X''?1N", "L2 R:1:5"),
+        (b" W X'=?1N", "L2 R:1:7"),
+        (b" S X'?1N=1", "L2 R:1:5"),
+        (b" Q '?1N", "L2 R:1:4"),
+        (b" Q 'X", "L7 R:1:4 extrinsic"),
         (b" I X]?1", "L2 R:1:6"),
         (b" W X'Y", "L2 R:1:5"),
         (b" W ^(1)", "L7 R:1:5 naked"),

@@ -71,6 +71,8 @@ fn routines_are_refused(rt: HostRuntime) -> Result<(), Fail> {
         (" SET  X=1", "L2 R:1:6\n"),
         (" SET @X=1", "L7 R:1:6 indirection\n"),
         (" WRITE 1\n DO A(.X)", "L7 R:2:7 by reference\n"),
+        (" WRITE X'?1N", "L7 R:1:9 pattern\n"),
+        (" WRITE '?1N", "L2 R:1:8\n"),
         (" WRITE 1\n WRITE 1000000000000000000", "L2 R:2:8\n"),
         ("A WRITE 1\nB\nA WRITE )", "L3 R:3\n"),
         (" SET A234567890123456789012345678901X=)", "L5 R:1\n"),
