@@ -20,8 +20,8 @@ returns-then-machine-ge-STEPS_LIMIT-clause-ok c =
     ∙ no_more (DeviceWrite principal c.args.text) (λ r. change (wrote c.args.text) (next (context_of old) (c.args.pc + 1) (drop c.args.count (stack_of old)))) n (state_of old) replies c.if-machine-ge-STEPS_LIMIT.true)
     (c.fail.ensures (replied c.args.given))
 
-pub returns-in-None-clause-ok : goal.returns-in-None-clause-ok
-returns-in-None-clause-ok c =
+pub returns-in_ok-new-in-None-clause-ok : goal.returns-in_ok-new-in-None-clause-ok
+returns-in_ok-new-in-None-clause-ok c =
     let some : c.args.text ≡ [] → ⊥ = λ e. absurd (omega (arith, ap length e, c.len-size.ensures.value, c.if-size-eq0.false)) in
     let short : length c.args.text ≤ 32767 = omega (arith, c.len-size.ensures.value, c.len-size.ensures.limit) in
     let old = c.args.machine.now in (
@@ -30,5 +30,6 @@ returns-in-None-clause-ok c =
       λ next n.
           written_by c.args.text (next (context_of old) (c.args.pc + 1) (drop c.args.count (stack_of old))) n (state_of old) [] some short
           ∙ one_more (DeviceWrite principal c.args.text) (λ r. change (wrote c.args.text) (next (context_of old) (c.args.pc + 1) (drop c.args.count (stack_of old)))) n (state_of old) [] c.if-machine-ge-STEPS_LIMIT.false
-          ∙ ap (λ p. Needs (DeviceWrite p c.args.text) (state_of old).locals (places (state_of old))) (sym c.principal.ensures),
+          ∙ ap (λ p. Needs (DeviceWrite p c.args.text) (state_of old).locals (places (state_of old))) (sym c.principal.ensures)
+          ∙ ap (λ q. Needs q (state_of old).locals (places (state_of old))) (sym c.in_ok-new-in-None.ensures.value),
     )

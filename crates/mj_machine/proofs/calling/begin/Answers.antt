@@ -64,7 +64,7 @@ returns-in_ok-open_frame-in-Ok-clause-ok c = (
       begun entry units next n (state_of old) (replied c.args.given) replies (not_none c.args.given c.if-is_none.ensures) (omega (arith, c.if-machine-ge-STEPS_LIMIT.false))
       ∙ called [] [] next (found units entry) n (counted (state_of old)) replies
       ∙ ap (λ r. given r (opens [] [] next) n no_restart (counted (state_of old)) replies) e
-      ∙ ap (λ l. goes (opened l)) (sym c.new.ensures.items)
+      ∙ ap (λ l. goes (opened l)) (sym c.new-in-Ok.ensures.items)
       ∙ ap (λ (st : Standing). goes st.state) (sym (c.in_ok-open_frame-in-Ok.ensures.ok None))
       ∙ ap (λ ls. there ls [] tallied) (sym c.clear.ensures.items)
       ∙ ap (λ ks. there c.clear.new.self.items ks tallied) (sym c.clear-in-Ok.ensures.items)

@@ -7,8 +7,8 @@ use Rattle.mj_machine.specs.Kept.{context_of, stack_of, state_of, replied}
 use Rattle.mj_machine.proofs.Asks.{does_as, no_more, access_asks}
 use Rattle.mj_machine.proofs.changes.change_global.Goals as goal
 
-pub returns-then-machine-ge-STEPS_LIMIT : goal.returns-then-machine-ge-STEPS_LIMIT
-returns-then-machine-ge-STEPS_LIMIT c =
+pub returns-then-machine-ge-STEPS_LIMIT-clause-ok : goal.returns-then-machine-ge-STEPS_LIMIT-clause-ok
+returns-then-machine-ge-STEPS_LIMIT-clause-ok c =
     let old = c.args.machine.now in
     does_as (λ next. access c.args.access (λ a. next (context_of old) (c.args.pc + 1) (drop c.args.taken (stack_of old)))) (λ next. fault Steps)
     old (replied c.args.given) c.fail.result c.fail.new.machine

@@ -85,18 +85,22 @@ returns-in-Closing-clause-ok c =
     let old = c.args.machine.now in
     let code : Code = record { units = c.args.units.now; entry = c.args.entry.now } in
     let f = c.in-Closing.fault in
-    steps_of code (λ next. asking (DeviceEnd principal) (λ r. halt f)) (λ n. from code.units) old (replied c.args.given) c.close.result _
+    IfOk-weaker c.close.result _ _
+    (λ step d. steps_of code (λ next. asking (DeviceEnd principal) (λ r. halt f)) (λ n. from code.units) old (replied c.args.given) step _
     (λ n replies. ap (λ k. left code k (context_of old) (stack_of old) (suc n) no_restart (state_of old) replies) c.in-Closing.is)
-    (λ n d pc stack s replies. refl) c.close.ensures
+    (λ n d pc stack s replies. refl) d)
+    c.close.ensures.ok
 
 pub returns-in-Halting-clause-ok : goal.returns-in-Halting-clause-ok
 returns-in-Halting-clause-ok c =
     let old = c.args.machine.now in
     let code : Code = record { units = c.args.units.now; entry = c.args.entry.now } in
     let f = c.in-Halting.fault in
-    steps_of code (λ next. asking (Halt f) (λ r. over)) (λ n. from code.units) old (replied c.args.given) c.finish.result _
+    IfOk-weaker c.finish.result _ _
+    (λ step d. steps_of code (λ next. asking (Halt f) (λ r. over)) (λ n. from code.units) old (replied c.args.given) step _
     (λ n replies. ap (λ k. left code k (context_of old) (stack_of old) (suc n) no_restart (state_of old) replies) c.in-Halting.is)
-    (λ n d pc stack s replies. refl) c.finish.ensures
+    (λ n d pc stack s replies. refl) d)
+    c.finish.ensures.ok
 
 pub returns-in-Begin-clause-sound : goal.returns-in-Begin-clause-sound
 returns-in-Begin-clause-sound c =
@@ -144,14 +148,14 @@ returns-in-Faulted-clause-sound c =
 pub returns-in-Closing-clause-sound : goal.returns-in-Closing-clause-sound
 returns-in-Closing-clause-sound c =
     let f = c.in-Closing.fault in
-    step_sound c.args.units.now (λ next. asking (DeviceEnd principal) (λ r. halt f)) c.args.machine.now (replied c.args.given) c.close.new.machine c.close.result
-    (λ n. refl) c.requires.sound c.close.ensures
+    turn_sound c.args.units.now (λ next. asking (DeviceEnd principal) (λ r. halt f)) c.args.machine.now (replied c.args.given) c.close.new.machine c.close.result
+    (λ n. refl) c.requires.sound c.close.ensures.ok c.close.ensures.err
 
 pub returns-in-Halting-clause-sound : goal.returns-in-Halting-clause-sound
 returns-in-Halting-clause-sound c =
     let f = c.in-Halting.fault in
-    step_sound c.args.units.now (λ next. asking (Halt f) (λ r. over)) c.args.machine.now (replied c.args.given) c.finish.new.machine c.finish.result
-    (λ n. refl) c.requires.sound c.finish.ensures
+    turn_sound c.args.units.now (λ next. asking (Halt f) (λ r. over)) c.args.machine.now (replied c.args.given) c.finish.new.machine c.finish.result
+    (λ n. refl) c.requires.sound c.finish.ensures.ok c.finish.ensures.err
 
 pub obey-requires-clause-enough : goal.obey-requires-clause-enough
 obey-requires-clause-enough c =
