@@ -12,7 +12,7 @@ use Rattle.mj_machine.specs.Kept.{stack_of, state_of, context_of, replied}
 use Rattle.mj_pcode.specs.Checked.{footing, Holds, footings_in}
 use Rattle.mj_pcode.specs.Sound.{IsPlaceIn, instr_at, operands_at, IsPlace}
 use Rattle.mj_machine.specs.Sound.{MayStand}
-use Rattle.mj_machine.proofs.Sound.{turn_sound, step_sound, begin_keeps, act_keeps}
+use Rattle.mj_machine.proofs.Sound.{turn_sound, is_ready, begin_keeps, act_keeps}
 use Rattle.mj_machine.proofs.Asks.{steps_of}
 use Rattle.mj_machine.proofs.turn.make_turn.Goals as goal
 
@@ -173,4 +173,4 @@ obey-requires-clause-enough c =
     let d = length (stack_of old) in
     let here = subst (λ o. IsPlaceIn o pc (operands_at (instr_at o pc) d) (context_of old).loops) found place.0 in
     let holds = subst (λ o. Holds (footings_in u) pc (footing (operands_at o d) (length (context_of old).loops))) at here.0 in
-    ((c.requires.checked old.unit u found).fits pc i (footing (operands_at (Some i) d) (length (context_of old).loops)) at holds).0
+    is_ready i d (length (context_of old).loops) ((c.requires.checked old.unit u found).fits pc i (footing (operands_at (Some i) d) (length (context_of old).loops)) at holds).0
