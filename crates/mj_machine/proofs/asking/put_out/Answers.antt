@@ -31,5 +31,5 @@ returns-in_ok-new-in-None-clause-ok c =
           written_by c.args.text (next (context_of old) (c.args.pc + 1) (drop c.args.count (stack_of old))) n (state_of old) [] some short
           ∙ one_more (DeviceWrite principal c.args.text) (λ r. change (wrote c.args.text) (next (context_of old) (c.args.pc + 1) (drop c.args.count (stack_of old)))) n (state_of old) [] c.if-machine-ge-STEPS_LIMIT.false
           ∙ ap (λ p. Needs (DeviceWrite p c.args.text) (state_of old).locals (places (state_of old))) (sym c.principal.ensures)
-          ∙ ap (λ q. Needs q (state_of old).locals (places (state_of old))) (sym c.in_ok-new-in-None.ensures.value),
+          ∙ ap (λ q. Needs q (state_of old).locals (places (state_of old))) (sym c.in_ok-new-in-None.ensures.ok),
     )
