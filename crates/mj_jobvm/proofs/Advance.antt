@@ -1,5 +1,5 @@
 -- A job that goes on by a turn of its machine.
-use Rattle.std.proofs.Common.{◌≡◌, ℕ, ◌+◌, ◌≤◌, List, Option, Some, None, Bool, sym, subst}
+use Rattle.std.proofs.Common.{◌≡◌, ℕ, ◌+◌, ◌≤◌, List, Option, Some, None, Bool, Box, Global, sym, subst}
 use Rattle.mj_ask.specs.declared.ask.Ask.{Ask}
 use Rattle.mj_ask.specs.declared.entry.Entry.{Entry}
 use Rattle.mj_ast.specs.Syntax.{Routine}
@@ -49,11 +49,11 @@ module _ (image : Loaded) (entry from : Entry) (units : List Unit) (log seen : L
   pub went_on : went ≡ wents.On → IsRunOf image entry (running from new log left None (spent + 1))
   went_on e = turned (routines_of image) entry code log spent before after (steps_as wents.On e) (let h : IsSound image.units (standing new None) = subst (λ us. IsSound us (standing new None)) eu sound in h) r
 
-  pub went_asks : (a : Ask) → went ≡ wents.Asks a → IsRunOf image entry (running from new log left (Some a) spent)
+  pub went_asks : (a : Box Ask Global) → went ≡ wents.Asks a → IsRunOf image entry (running from new log left (Some a.value) spent)
   went_asks a e =
       let s = steps_as (wents.Asks a) e in
-      let P : Standing → Type 0 = λ x. IsRun (routines_of image) entry code (run log (Some a) spent x) in
-      subst P (sym s.0) (asking (routines_of image) entry code log spent a before s.1 s.2 r)
+      let P : Standing → Type 0 = λ x. IsRun (routines_of image) entry code (run log (Some a.value) spent x) in
+      subst P (sym s.0) (asking (routines_of image) entry code log spent a.value before s.1 s.2 r)
 
   pub went_over : went ≡ wents.Over → IsRunOf image entry (running from new log left None spent)
   went_over e =

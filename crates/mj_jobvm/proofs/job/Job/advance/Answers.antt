@@ -55,8 +55,7 @@ returns-in-Asks-clause-run c = λ entry is.
     let s = c.turns.self-inside in
     let routines = routines_of c.args.image.now in
     let code = code_in c.args.image.now s.entry in
-    let some : Option Ask = Some c.in-Asks.ask in
-    counted_as routines entry code s.log.items some some (c.args.self.now.run.spent + c.turns.done) s.spent (standing c.go_on.new.machine (given_of c.go_on.new.given s.log.items)) (λ j. some)
+    counted_as routines entry code s.log.items (Some c.in-Asks.ask.value) (Some c.into_inner.result) (c.args.self.now.run.spent + c.turns.done) s.spent (standing c.go_on.new.machine (given_of c.go_on.new.given s.log.items)) (ap Some c.into_inner.ensures)
     (let e = i.spent in omega (arith, e))
     (went_asks c.args.image.now entry s.entry c.units-units.result.now s.log.items c.deref.result.now i.code c.deref.ensures.value
     (c.args.self.now.run.spent + c.turns.done) s.machine c.go_on.new.machine s.given c.go_on.new.given c.in_ok-go_on.field-0 c.in_ok-go_on.ensures.ok c.go_on.ensures.sound (i.run entry is) c.in-Asks.ask c.in-Asks.is)
@@ -65,10 +64,12 @@ pub returns-in-Asks-clause-told : goal.returns-in-Asks-clause-told
 returns-in-Asks-clause-told c = λ entry is.
     let i = c.turns.invariant in
     let s = c.turns.self-inside in
-    told_asks (routines_of c.args.image.now) entry (code_in c.args.image.now s.entry) s.log.items (c.args.self.now.run.spent + c.turns.done) c.in-Asks.ask
-    (standing c.go_on.new.machine (given_of c.go_on.new.given s.log.items))
+    let spent = c.args.self.now.run.spent + c.turns.done in
+    let at : Standing = standing c.go_on.new.machine (given_of c.go_on.new.given s.log.items) in
+    told_asks (routines_of c.args.image.now) entry (code_in c.args.image.now s.entry) s.log.items spent c.into_inner.result at
+    (counted_as (routines_of c.args.image.now) entry (code_in c.args.image.now s.entry) s.log.items (Some c.in-Asks.ask.value) (Some c.into_inner.result) spent spent at (ap Some c.into_inner.ensures) (omega arith)
     (went_asks c.args.image.now entry s.entry c.units-units.result.now s.log.items c.deref.result.now i.code c.deref.ensures.value
-    (c.args.self.now.run.spent + c.turns.done) s.machine c.go_on.new.machine s.given c.go_on.new.given c.in_ok-go_on.field-0 c.in_ok-go_on.ensures.ok c.go_on.ensures.sound (i.run entry is) c.in-Asks.ask c.in-Asks.is)
+    (c.args.self.now.run.spent + c.turns.done) s.machine c.go_on.new.machine s.given c.go_on.new.given c.in_ok-go_on.field-0 c.in_ok-go_on.ensures.ok c.go_on.ensures.sound (i.run entry is) c.in-Asks.ask c.in-Asks.is))
 
 pub returns-in-Over-clause-run : goal.returns-in-Over-clause-run
 returns-in-Over-clause-run c = λ entry is.
