@@ -10,6 +10,7 @@ ghost use Rattle.mj_pcode.specs.Machine as machines;
 ghost use Rattle.mj_machine.specs.Kept.{standing, stack_of, context_of, Does};
 ghost use Rattle.mj_machine.specs.Units.{IsSmall};
 
+use crate::calling::take_tally;
 use crate::control::Control;
 use crate::leaving::leave;
 use crate::machine::{Machine, Step};
@@ -53,7 +54,8 @@ pub fn branch(pc: usize, wanted: bool, target: usize, machine: &mut Machine) -> 
     Step::Next
 }
 
-/// A line is entered where it is at the frame's level, and passed over where it is deeper. Where it is less deep, the frame is over.
+/// A line is entered where it is at the frame's level, and passed over where it is deeper. Where it is less deep, the frame is over. At a
+/// line that a call leads to, a turn takes the tally of a formal off first, as long as there is one.
 #[inline(never)]
 pub fn enter_line(
     unit: &Unit,
@@ -63,9 +65,12 @@ pub fn enter_line(
 ) -> Result<Step, AllocError>
     requires next { pc + 1 < 2 ^ 64 }
     requires small { IsSmall unit.now }
-    ensures ok { IfOk result (λ step. (reply : Option Reply) → Does (λ next. machines.enter unit.now line next (context_of machine.old) pc (stack_of machine.old)) machine.old reply step machine.new) }
+    ensures ok { IfOk result (λ step. (reply : Option Reply) → Does (λ next. machines.comes_to unit.now line next (context_of machine.old) pc (stack_of machine.old)) machine.old reply step machine.new) }
     ensures err { OnErr result ((reply : Option Reply) → standing machine.new reply ≡ standing machine.old reply) }
 {
+    if !machine.stack.is_empty() {
+        return Ok(take_tally(pc, machine));
+    }
     let level = machine.frames.level();
     if line.level < level {
         return leave(unit, line.line.saturating_sub(1), machine);

@@ -5,9 +5,9 @@ ghost use Rattle.mj_ask.specs.declared.ask.Reply as replies;
 ghost use Rattle.mj_pcode.specs.Machine.{act};
 ghost use Rattle.mj_machine.specs.Standing as standings;
 ghost use Rattle.mj_machine.specs.Kept.{standing, stack_of, context_of, Does, replied, told, left_of};
-ghost use Rattle.mj_pcode.specs.Checked.{IsEnough, footing};
+ghost use Rattle.mj_pcode.specs.Checked.{footing};
 ghost use Rattle.mj_pcode.specs.Sound.{AreChecked};
-ghost use Rattle.mj_machine.specs.Sound.{IsSound};
+ghost use Rattle.mj_machine.specs.Sound.{IsReady, IsSound};
 ghost use Rattle.mj_machine.specs.Units.{AreSmall, IsSmall};
 
 use crate::about::{about, named};
@@ -45,7 +45,7 @@ pub fn obey(
     requires next { pc + 2 < 2 ^ 64 }
     requires small { IsSmall unit.now }
     requires all { AreSmall units.now }
-    requires enough { IsEnough instr.now (footing (length (stack_of machine.old)) (length (context_of machine.old).loops)) }
+    requires enough { IsReady instr.now (footing (length (stack_of machine.old)) (length (context_of machine.old).loops)) }
     ensures ok { IfOk result (λ step. Does (λ next. act units.now unit.now (Some instr.now) next (context_of machine.old) pc (stack_of machine.old)) machine.old (replied given.entry) step machine.new) }
     ensures err { OnErr result ((reply : Option replies.Reply) → standing machine.new reply ≡ standing machine.old reply) }
 {

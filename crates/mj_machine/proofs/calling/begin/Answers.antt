@@ -6,7 +6,7 @@ use Rattle.mj_semantics.specs.Outcome.{Outcome, given, fault, principal}
 use Rattle.mj_semantics.specs.Job.{no_restart}
 use Rattle.mj_pcode.specs.Found.{Found, found}
 use Rattle.mj_pcode.specs.Context.{at_unit}
-use Rattle.mj_pcode.specs.Machine.{calls, place_in}
+use Rattle.mj_pcode.specs.Machine.{Stack, calls, tallies, place_in}
 use Rattle.mj_machine.specs.declared.loops.Call as kept
 use Rattle.mj_machine.specs.declared.loops.Loop as kept_loop
 use Rattle.mj_machine.specs.Contexts.{loops_of, calls_of}
@@ -57,15 +57,16 @@ returns-in_ok-open_frame-in-Ok-clause-ok c = (
       let e : entered (found units entry) 0 (length (state_of old).frames) ≡ Ok f =
       ap (λ o. entered o 0 (length (state_of old).frames)) (sym c.find_line.ensures.which) ∙ ap (entered (found_at c.find_line.result) 0) (sym c.len.ensures) ∙ c.in-Ok.ensures.ok.0 in
       let opened : List (Option (List ℕ)) → State = λ l. passed f.head.formals l (pushed (place_in f.unit f.line) 1 None (state_of old)) in
-      let goes : State → Outcome = λ s. next (at_unit f.at []) f.head.start [] n no_restart (counted s) replies in
-      let there : List kept_loop.Loop → List kept.Call → List (List ℕ) → Outcome = λ ls ks st.
-      next (record { unit = f.at; loops = loops_of ls; calls = calls_of ks }) f.head.start (reverse st) n no_restart (counted (state_of c.open_frame.new.machine)) replies in
+      let tallied : Stack = tallies (length f.head.formals) in
+      let goes : State → Outcome = λ s. next (at_unit f.at []) f.head.start tallied n no_restart (counted s) replies in
+      let there : List kept_loop.Loop → List kept.Call → Stack → Outcome = λ ls ks st.
+      next (record { unit = f.at; loops = loops_of ls; calls = calls_of ks }) f.head.start st n no_restart (counted (state_of c.open_frame.new.machine)) replies in
       begun entry units next n (state_of old) (replied c.args.given) replies (not_none c.args.given c.if-is_none.ensures) (omega (arith, c.if-machine-ge-STEPS_LIMIT.false))
       ∙ called [] [] next (found units entry) n (counted (state_of old)) replies
       ∙ ap (λ r. given r (opens [] [] next) n no_restart (counted (state_of old)) replies) e
       ∙ ap (λ l. goes (opened l)) (sym c.new.ensures.items)
       ∙ ap (λ (st : Standing). goes st.state) (sym (c.in_ok-open_frame-in-Ok.ensures.ok None))
-      ∙ ap (λ ls. there ls [] []) (sym c.clear.ensures.items)
-      ∙ ap (λ ks. there c.clear.new.self.items ks []) (sym c.clear-in-Ok.ensures.items)
-      ∙ ap (λ st. there c.clear.new.self.items c.clear-in-Ok.new.self.items st) (sym c.clear-in-Ok-2.ensures.items),
+      ∙ ap (λ ls. there ls [] tallied) (sym c.clear.ensures.items)
+      ∙ ap (λ ks. there c.clear.new.self.items ks tallied) (sym c.clear-in-Ok.ensures.items)
+      ∙ ap (λ st. there c.clear.new.self.items c.clear-in-Ok.new.self.items st) (sym c.put_tallies.ensures),
 )

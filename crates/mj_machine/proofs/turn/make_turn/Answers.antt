@@ -9,10 +9,10 @@ use Rattle.mj_semantics.specs.Job.{no_restart}
 use Rattle.mj_pcode.specs.Machine.{act, act_in, exec}
 use Rattle.mj_machine.specs.Standing.{Code, left, from, begin}
 use Rattle.mj_machine.specs.Kept.{stack_of, state_of, context_of, replied}
-use Rattle.mj_pcode.specs.Checked.{footing}
-use Rattle.mj_pcode.specs.Sound.{IsPlaceIn, IsPlace}
+use Rattle.mj_pcode.specs.Checked.{footing, Holds, footings_in}
+use Rattle.mj_pcode.specs.Sound.{IsPlaceIn, instr_at, operands_at, IsPlace}
 use Rattle.mj_machine.specs.Sound.{MayStand}
-use Rattle.mj_machine.proofs.Sound.{turn_sound, step_sound, begin_keeps, act_keeps}
+use Rattle.mj_machine.proofs.Sound.{turn_sound, step_sound, is_ready, begin_keeps, act_keeps}
 use Rattle.mj_machine.proofs.Asks.{steps_of}
 use Rattle.mj_machine.proofs.turn.make_turn.Goals as goal
 
@@ -166,5 +166,7 @@ obey-requires-clause-enough c =
     let at : slice_get u.instrs.items pc ≡ Some i =
     ap (λ l. slice_get l pc) (sym c.deref.ensures.value) ∙ slice_get-get_or c.deref.result.now pc i g.3.0 ∙ ap Some (sym g.1) in
     let place : IsPlace units (context_of old) pc (stack_of old) = subst (λ k. MayStand units k (context_of old) (stack_of old)) c.in-At.is c.requires.sound in
-    let here = subst (λ o. IsPlaceIn o pc (length (stack_of old)) (context_of old).loops) found place.0 in
-    ((c.requires.checked old.unit u found).fits pc i (footing (length (stack_of old)) (length (context_of old).loops)) at here.0).0
+    let d = length (stack_of old) in
+    let here = subst (λ o. IsPlaceIn o pc (operands_at (instr_at o pc) d) (context_of old).loops) found place.0 in
+    let holds = subst (λ o. Holds (footings_in u) pc (footing (operands_at o d) (length (context_of old).loops))) at here.0 in
+    is_ready i d (length (context_of old).loops) ((c.requires.checked old.unit u found).fits pc i (footing (operands_at (Some i) d) (length (context_of old).loops)) at holds).0
