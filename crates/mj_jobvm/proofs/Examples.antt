@@ -1,12 +1,17 @@
--- Which asks a log may hold behind the others, on rows.
-use Rattle.std.proofs.Common.{[], None, Some, true, inl, inr, refl, arith, codes}
+-- Rows: which asks a log may hold behind the others, and how far a job goes on that starts at a line with formals.
+use Rattle.std.proofs.Common.{◌≡◌, List, [], ◌∷◌, None, Some, true, inl, inr, refl, arith, codes}
 use Rattle.mj_text.specs.declared.fault.Fault.TheVariants.{Steps}
 use Rattle.mj_subs.specs.Name.{Name}
 use Rattle.mj_store.specs.declared.access.Access.TheVariants.{Value}
 use Rattle.mj_ask.specs.declared.ask.Ask.TheVariants as asks
+use Rattle.mj_ask.specs.declared.ask.Reply.TheVariants.{Done}
+use Rattle.mj_ask.specs.declared.entry.Entry.{Entry}
+use Rattle.mj_ast.specs.Syntax.{Routine, Quit}
 use Rattle.mj_semantics.specs.State.{State}
-use Rattle.mj_semantics.specs.Outcome.{principal, fault_bytes}
+use Rattle.mj_semantics.specs.Outcome.{Needs, More, principal, fault_bytes}
+use Rattle.mj_semantics.specs.Job.{next}
 use Rattle.mj_jobvm.specs.Limit.{IsAllowed}
+use Rattle.mj_jobvm.specs.Run.{Log, replies_of}
 
 abbrev name : Name
 name = record { global = true; word = codes "A"; subscripts = [] }
@@ -34,3 +39,22 @@ job_end = inr (omega arith)
 nothing_after : IsAllowed 1000003 (asks.Halt None) → ⊥
 nothing_after (inl lt) = absurd (omega (arith, lt))
 nothing_after (inr le) = absurd (omega (arith, le))
+
+-- A(X,Y) QUIT, from this line on: the begin of its session, two formals, the line and the QUIT; then the end of its session is asked for
+abbrev routines : List Routine
+routines = record {
+  name = codes "R";
+  lines = record { label = Some (codes "A"); formals = codes "X" ∷ codes "Y" ∷ []; level = 1; steps = record { condition = None; command = Quit } ∷ [] } ∷ [];
+} ∷ []
+
+abbrev entry : Entry
+entry = record { label = Some (codes "A"); routine = codes "R" }
+
+abbrev log : Log
+log = (asks.DeviceBegin principal, Done) ∷ []
+
+goes_on_for_five : next routines entry 5 (replies_of log) ≡ More
+goes_on_for_five = refl
+
+asks_in_the_sixth : next routines entry 6 (replies_of log) ≡ Needs (asks.DeviceEnd principal) [] (record { routine = codes "R"; line = 1 } ∷ [])
+asks_in_the_sixth = refl

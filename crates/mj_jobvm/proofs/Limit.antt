@@ -24,7 +24,7 @@ use Rattle.mj_semantics.specs.State.{State, Locals, Place, Frame, Only, AllBut, 
 use Rattle.mj_ast.specs.declared.function.NameFunction.{NameFunction}
 use Rattle.mj_semantics.specs.Functions.{call_value, needed, optional}
 use Rattle.mj_semantics.specs.Names.{spelled, asks as asks_some, question, told}
-use Rattle.mj_semantics.specs.Outcome.{Needs, Handler, Timed, turn, look, change, asking, over, principal, halt, end, fault_bytes, fault, steps_limit, ask, tell, need, given}
+use Rattle.mj_semantics.specs.Outcome.{Needs, Handler, Timed, turn, turns, look, change, asking, over, principal, halt, end, fault_bytes, fault, steps_limit, ask, tell, need, given}
 use Rattle.mj_semantics.specs.Accesses.{answer_told, answered, access, value_told, nodes_told}
 use Rattle.mj_semantics.specs.Evaluation.{ev, ev_tails, ev_operand, ev_choices, ev_name, ev_named, ev_all, ev_actuals, ev_local, name_of, named_for, read, about, when}
 use Rattle.mj_semantics.specs.Lines.{Here, place_at, next_line, line_before, line_at, levels_of, entry_of, entered}
@@ -61,6 +61,10 @@ module _ (rest : Timed) (k : Keeps rest) where
         subst (λ r. IsAllowed (r + length replies) a) (same s)
         (k.by n h (f s) replies a locals at (subst (λ r. r ≤ steps_limit) (sym (same s)) le) e);
   }
+
+turns_keep : (many : ℕ) (rest : Timed) → Keeps rest → Keeps (turns many rest)
+turns_keep zero rest k = k
+turns_keep (suc many) rest k = turn_keeps (turns many rest) (turns_keep many rest k)
 
 pub look_keeps : (rest : State → Timed) → ((s : State) → Keeps (rest s)) → Keeps (look rest)
 look_keeps rest k = record { by = λ n h s replies a locals at le e. (k s).by n h s replies a locals at le e }
@@ -464,10 +468,10 @@ module _ (image : List Routine) where
   call_keeps points all None vs leave k = fault_keeps faults.NoLine
   call_keeps points all (Some to) vs leave k =
       let enters : State → State = λ s. passed to.1.formals vs (pushed (place_at to.0) 1 None s) in
-      let in_frame : Timed = deeper (change enters (turn (points (AtLine to.0 leave)))) in
+      let in_frame : Timed = deeper (change enters (turns (length to.1.formals) (turn (points (AtLine to.0 leave))))) in
       if_keeps (nat_eq to.1.level 1) (if nat_lt (length to.1.formals) (length vs) then fault faults.Params else in_frame) (fault faults.NoLine)
       (if_keeps (nat_lt (length to.1.formals) (length vs)) (fault faults.Params) in_frame (fault_keeps faults.Params)
-      (deeper_keeps _ (change_keeps _ (turn_keeps _ (all (AtLine to.0 leave) k)) enters (λ q. refl))))
+      (deeper_keeps _ (change_keeps _ (turns_keep (length to.1.formals) _ (turn_keeps _ (all (AtLine to.0 leave) k))) enters (λ q. refl))))
       (fault_keeps faults.NoLine)
 
   jump_keeps : (points : Points) → ((p : Point) → KeepsPoint p → Keeps (points p)) → (to : Option (Here × Line)) (leave : Timed)
