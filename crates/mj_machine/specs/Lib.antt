@@ -1,11 +1,5 @@
-pub mod Frames
-pub mod Places
 pub mod Contexts
-pub mod Enters
-pub mod Ranges
-pub mod Units
 pub mod Standing
 pub mod Answers
 pub mod Asked
 pub mod Kept
-pub mod Sound

@@ -23,7 +23,7 @@ pub fn principal(alloc: Global) -> Text
 }
 
 /// Writes a text by one ask, or by none where it has no bytes, and then takes `count` operands off and goes on.
-pub fn put_out(
+pub(crate) fn put_out(
     alloc: Global,
     pc: usize,
     count: usize,

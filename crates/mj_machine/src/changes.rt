@@ -129,7 +129,7 @@ pub fn kill(
 }
 
 /// A variable is changed, and then `taken` operands are taken off.
-pub fn change(
+pub(crate) fn change(
     alloc: Global,
     pc: usize,
     taken: usize,
@@ -207,7 +207,7 @@ fn change_global(
 }
 
 /// Whether a reply says that a change is done.
-pub fn reply_done(reply: &Reply) -> Result<(), Fault>
+pub(crate) fn reply_done(reply: &Reply) -> Result<(), Fault>
     ensures { result ≡ answers.change_done (answer_told reply.now) }
 {
     match reply {

@@ -1,43 +1,30 @@
-// A job's machine: where a job stands, and how a turn of it goes.
+// A job's machine: where a job stands, and what the instructions on data do to it.
 //
-// A turn (`make_turn`) is said by `Steps` (`specs/Standing.antt`): what is left of the run behind it, for every number of turns to come and
-// every list of replies, is what was left before it after one turn less, by the p-code's definition (`mj_pcode`). With want of memory
-// a turn changes nothing.
+// What a turn of an instruction does is said by `Does` (`specs/Kept.antt`): what the p-code's definition (`mj_pcode`) has the instruction do leads from
+// where the machine stood to where it stands, whatever comes next, for every number of turns to come and every list of replies. With want of memory the
+// machine stands where it stood.
+//
+// Each module has the instructions on one kind of data: the stack and constants (`quiet`), operators and functions (`values`), variables
+// (`variables`, `about`, `changes`, `merges`, `pieces`), and what is written (`asking`, `format`).
 #![tactic(auto)]
 
-mod about;
-mod asking;
-mod calling;
+pub mod about;
+pub mod asking;
 mod calls;
-mod changes;
+pub mod changes;
 mod column;
 mod control;
-mod ending;
-mod entering;
-mod fault;
-mod flow;
-mod format;
-mod frame;
-mod frames;
-mod leaving;
+pub mod format;
 mod local;
-mod loops;
 mod machine;
-mod merges;
-mod names;
-mod news;
-mod pieces;
-mod quiet;
-mod repeat;
-mod stack;
+pub mod merges;
+pub mod names;
+pub mod pieces;
+pub mod quiet;
+pub mod stack;
 mod tellings;
-mod turn;
-mod values;
-mod variables;
+pub mod values;
+pub mod variables;
 
 pub use control::Control;
-pub use frame::{Frame, Place};
-pub use frames::Frames;
-pub use loops::{Call, Loop, Passes};
 pub use machine::{Machine, STEPS_LIMIT, Step};
-pub use turn::make_turn;

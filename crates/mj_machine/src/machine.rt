@@ -3,9 +3,8 @@
 ghost use Rattle.std.specs.Prelude.{◌*◌, ◌≤◌};
 
 use crate::control::Control;
-use crate::frames::Frames;
-use crate::loops::{Call, Loop};
 use mj_ask::Ask;
+use mj_frames::{Call, Frames, Loop};
 use mj_locals::Locals;
 use mj_store::Nodes;
 use mj_text::Text;

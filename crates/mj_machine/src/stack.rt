@@ -18,7 +18,7 @@ pub fn top(stack: &[Text]) -> &Text
 }
 
 /// The operand below it.
-pub fn second(stack: &[Text]) -> &Text
+pub(crate) fn second(stack: &[Text]) -> &Text
     requires { 2 ≤ length stack.now }
     ensures { result.now ≡ top (below (reverse stack.now)) }
 {
@@ -45,7 +45,7 @@ pub fn take_off(stack: &mut Vec<Text>, count: usize)
 }
 
 /// Puts a value in the place of the `count` topmost operands.
-pub fn replace(stack: &mut Vec<Text>, count: usize, value: Text) -> Result<(), AllocError>
+pub(crate) fn replace(stack: &mut Vec<Text>, count: usize, value: Text) -> Result<(), AllocError>
     requires { count ≤ length stack.old.items }
     ensures ok { OnOk result (reverse stack.new.items ≡ value ∷ drop count (reverse stack.old.items)) }
     ensures err { OnErr result (stack.new.items ≡ stack.old.items) }
@@ -62,7 +62,7 @@ pub fn replace(stack: &mut Vec<Text>, count: usize, value: Text) -> Result<(), A
 }
 
 /// The operands below the `count` topmost ones.
-pub fn under(stack: &[Text], count: usize) -> &[Text]
+pub(crate) fn under(stack: &[Text], count: usize) -> &[Text]
     requires { count ≤ length stack.now }
     ensures { reverse result.now ≡ drop count (reverse stack.now) }
 {
@@ -71,7 +71,7 @@ pub fn under(stack: &[Text], count: usize) -> &[Text]
 }
 
 /// The `count` topmost operands of those below `above` and then `more` others.
-pub fn below_both(stack: &[Text], above: usize, more: usize, count: usize) -> &[Text]
+pub(crate) fn below_both(stack: &[Text], above: usize, more: usize, count: usize) -> &[Text]
     requires { above + more + count ≤ length stack.now }
     ensures { result.now ≡ operands count (drop more (drop above (reverse stack.now))) }
 {

@@ -25,7 +25,7 @@ use mj_text::{Failure, Text};
 use std::alloc::{AllocError, Global};
 
 /// Puts what an operator or a function gave in the place of its `count` operands, or fails.
-pub fn put_value(
+pub(crate) fn put_value(
     pc: usize,
     count: usize,
     value: Result<Text, Failure>,

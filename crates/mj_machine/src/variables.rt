@@ -45,7 +45,7 @@ pub fn load(
 }
 
 /// Whether a variable is a local without subscripts, whose name needn't be made.
-pub fn is_plain_local(reference: &Reference) -> bool
+pub(crate) fn is_plain_local(reference: &Reference) -> bool
     ensures plain { IsTrue result → (reference.now.scope ≡ scopes.Local) × (reference.now.count ≡ 0) }
     ensures only { reference.now.scope ≡ scopes.Local → reference.now.count ≡ 0 → IsTrue result }
 {

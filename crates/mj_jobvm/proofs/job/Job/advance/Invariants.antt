@@ -3,8 +3,8 @@ use Rattle.mj_ask.specs.declared.entry.Entry.{Entry}
 use Rattle.mj_jobvm.specs.Jobs.{IsRunOf, running}
 use Rattle.mj_pcode.specs.Sound.{AreChecked}
 use Rattle.mj_machine.specs.Kept.{standing}
-use Rattle.mj_machine.specs.Sound.{IsSound}
-use Rattle.mj_machine.specs.Units.{AreSmall}
+use Rattle.mj_turn.specs.Sound.{IsSound}
+use Rattle.mj_turn.specs.Units.{AreSmall}
 use Rattle.mj_jobvm.proofs.job.Job.advance.Given as goal
 
 abbrev pub invariant-turns : goal.invariant-turns

@@ -1,0 +1,126 @@
+// The frames of a job.
+
+ghost use Rattle.std.specs.Prelude.{◌≡◌, ◌+◌, ◌≤◌, [], ◌∷◌, length, option_map, OnOk, OnErr};
+ghost use Rattle.mj_frames.specs.Places.{place_in, line_at};
+ghost use Rattle.mj_frames.specs.Frames.{frame_of, frame_at, frames_of, with_place, innermost, level_in, popped_from};
+
+use crate::frame::{Frame, Place};
+use mj_text::Text;
+use std::alloc::{AllocError, Global};
+use std::marker::Model;
+
+/// Frames, which contracts see with the innermost first.
+#[derive(Drop)]
+pub struct Frames {
+    // the innermost last
+    frames: Vec<Frame>,
+}
+
+impl Model for Frames {
+    ghost use Rattle.std.specs.Prelude.{List};
+    ghost use Rattle.mj_semantics.specs.State as states;
+    ghost use Rattle.mj_frames.specs.Frames.{frames_of, AreShallow};
+
+    ghost Value = { List states.Frame };
+
+    ghost view = { λ f. frames_of f.frames.items };
+
+    ghost invariant = { λ f. AreShallow (frames_of f.frames.items) };
+}
+
+impl Frames {
+    /// No frame.
+    pub fn new(alloc: Global) -> Frames
+        ensures { result ≡ [] }
+    {
+        Frames {
+            frames: Vec::new(alloc),
+        }
+    }
+
+    /// How many there are.
+    pub fn len(&self) -> usize
+        ensures { result ≡ length self.now }
+    {
+        self.frames.len()
+    }
+
+    /// The level of the lines of the innermost one, or 1 where there is none. It is at most one more than there are frames.
+    pub fn level(&self) -> usize
+        ensures value { result ≡ level_in self.now }
+        ensures bound { result ≤ length self.now + 1 }
+    {
+        match self.frames.last() {
+            None => 1,
+            Some(frame) => frame.level,
+        }
+    }
+
+    /// The innermost one.
+    pub fn last(&self) -> Option<&Frame>
+        ensures { frame_at result ≡ innermost self.now }
+    {
+        self.frames.last()
+    }
+
+    /// Where the innermost one stands.
+    pub fn place(&self) -> Option<&Place>
+        ensures { line_at result ≡ place_in self.now }
+    {
+        match self.frames.last() {
+            None => None,
+            Some(frame) => Some(&frame.place),
+        }
+    }
+
+    /// All, the innermost last.
+    pub fn as_slice(&self) -> &[Frame]
+        ensures { frames_of result.now ≡ self.now }
+    {
+        self.frames.as_slice()
+    }
+
+    /// The innermost one, if there is one, stands at a line of this routine. It takes memory only where the routine is another.
+    pub fn enter(&mut self, routine: &Text, line: u32) -> Result<(), AllocError>
+        requires { length routine.now ≤ 31 }
+        ensures ok { OnOk result (self.new ≡ with_place (record { routine = routine.now; line = line }) self.old) }
+        ensures err { OnErr result (self.new ≡ self.old) }
+    {
+        move_to(&mut self.frames, routine, line)
+    }
+
+    /// One more, which is the innermost now.
+    pub fn push(&mut self, frame: Frame) -> Result<(), AllocError>
+        requires { frame.level ≤ length self.old + 2 }
+        ensures ok { OnOk result (self.new ≡ frame_of frame ∷ self.old) }
+        ensures err { OnErr result (self.new ≡ self.old) }
+    {
+        self.frames.push(frame)?;
+        Ok(())
+    }
+
+    /// Takes the innermost one away, if there is one.
+    pub fn pop(&mut self) -> Option<Frame>
+        ensures { popped_from self.old ≡ (option_map frame_of result, self.new) }
+    {
+        self.frames.pop()
+    }
+}
+
+// Moves the innermost frame, which lies last, to a line, if there is a frame.
+fn move_to(frames: &mut [Frame], routine: &Text, line: u32) -> Result<(), AllocError>
+    requires { length routine.now ≤ 31 }
+    ensures ok { OnOk result (frames_of frames.new ≡ with_place (record { routine = routine.now; line = line }) (frames_of frames.old)) }
+    ensures err { OnErr result (frames.new ≡ frames.old) }
+{
+    let Some(frame) = frames.last_mut() else {
+        return Ok(());
+    };
+    if frame.place.routine == *routine {
+        frame.place.line = line;
+        return Ok(());
+    }
+    let routine = routine.try_clone()?;
+    frame.place = Place { routine, line };
+    Ok(())
+}

@@ -1,7 +1,0 @@
-use Rattle.std.proofs.Common.{ap, ◌∙◌}
-use Rattle.std.proofs.lemmas.Result.{IfOk-weaker}
-use Rattle.mj_machine.specs.Places.{told_bytes}
-use Rattle.mj_machine.proofs.fault.fault_text.Goals as goal
-
-pub returns : goal.returns
-returns c = IfOk-weaker c.told_text.result _ _ (λ t h. h ∙ ap (told_bytes c.args.fault c.args.machine.now.column) c.place.ensures) c.told_text.ensures

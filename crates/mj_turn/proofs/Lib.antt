@@ -1,0 +1,5 @@
+pub mod Turns
+pub mod Going
+pub mod Ranges
+pub mod Opened
+pub mod Sound

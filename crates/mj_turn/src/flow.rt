@@ -1,0 +1,93 @@
+// IF, ELSE, and the lines of a frame.
+
+ghost use Rattle.std.specs.Prelude.{◌≡◌, ◌+◌, ◌<◌, ◌^◌, drop, length, Option, IfOk, OnErr, if◌then◌else◌, ◌≤◌};
+ghost use Rattle.mj_ask.specs.declared.ask.Reply.{Reply};
+ghost use Rattle.mj_oper.specs.Operators.{truth_value};
+ghost use Rattle.mj_semantics.specs.State as states;
+ghost use Rattle.mj_semantics.specs.Outcome as told;
+ghost use Rattle.mj_semantics.specs.Commands as commands;
+ghost use Rattle.mj_pcode.specs.Machine as machines;
+ghost use Rattle.mj_machine.specs.Kept.{standing, stack_of, context_of, Does};
+ghost use Rattle.mj_turn.specs.Units.{IsSmall};
+
+use crate::calling::take_tally;
+use crate::leaving::leave;
+use mj_machine::quiet::fail;
+use mj_machine::{Control, Machine, Step, stack};
+use mj_oper::truth;
+use mj_pcode::{LineStart, Unit};
+use mj_text::Failure;
+use std::alloc::AllocError;
+
+/// `$TEST` becomes the truth of the topmost operand.
+#[inline(never)]
+pub fn decide(pc: usize, target: usize, machine: &mut Machine) -> Result<Step, AllocError>
+    requires next { pc + 1 < 2 ^ 64 }
+    requires enough { 1 ≤ length machine.old.stack.items }
+    ensures ok { IfOk result (λ step. (reply : Option Reply) → Does (λ next. told.given (truth_value (machines.top (stack_of machine.old))) (λ b. told.change (states.set_test b) (if b then next (context_of machine.old) (pc + 1) (drop 1 (stack_of machine.old)) else next (context_of machine.old) target (drop 1 (stack_of machine.old))))) machine.old reply step machine.new) }
+    ensures err { OnErr result ((reply : Option Reply) → standing machine.new reply ≡ standing machine.old reply) }
+{
+    match truth(stack::top(&machine.stack)) {
+        Ok(holds) => {
+            stack::take_off(&mut machine.stack, 1);
+            machine.test = holds;
+            machine.control = Control::At(if holds { pc + 1 } else { target });
+            Ok(Step::Next)
+        }
+        Err(Failure::Fault(fault)) => Ok(fail(fault, machine)),
+        Err(Failure::Memory) => Err(AllocError),
+    }
+}
+
+/// The job goes on behind this instruction where `$TEST` is so, and else at another.
+pub fn branch(pc: usize, wanted: bool, target: usize, machine: &mut Machine) -> Step
+    requires { pc + 1 < 2 ^ 64 }
+    ensures { (reply : Option Reply) → Does (λ next. commands.if_test wanted (next (context_of machine.old) target (stack_of machine.old)) (next (context_of machine.old) (pc + 1) (stack_of machine.old))) machine.old reply result machine.new }
+{
+    machine.control = Control::At(if machine.test == wanted {
+        pc + 1
+    } else {
+        target
+    });
+    Step::Next
+}
+
+/// A line is entered where it is at the frame's level, and passed over where it is deeper. Where it is less deep, the frame is over. At a
+/// line that a call leads to, a turn takes the tally of a formal off first, as long as there is one.
+#[inline(never)]
+pub fn enter_line(
+    unit: &Unit,
+    pc: usize,
+    line: LineStart,
+    machine: &mut Machine,
+) -> Result<Step, AllocError>
+    requires next { pc + 1 < 2 ^ 64 }
+    requires small { IsSmall unit.now }
+    ensures ok { IfOk result (λ step. (reply : Option Reply) → Does (λ next. machines.comes_to unit.now line next (context_of machine.old) pc (stack_of machine.old)) machine.old reply step machine.new) }
+    ensures err { OnErr result ((reply : Option Reply) → standing machine.new reply ≡ standing machine.old reply) }
+{
+    if !machine.stack.is_empty() {
+        return Ok(take_tally(pc, machine));
+    }
+    let level = machine.frames.level();
+    if line.level < level {
+        return leave(unit, line.line.saturating_sub(1), machine);
+    }
+    if level < line.level {
+        machine.control = Control::At(line.next);
+        return Ok(Step::Next);
+    }
+    machine.frames.enter(&unit.name, line.line)?;
+    machine.control = Control::At(pc + 1);
+    Ok(Step::Next)
+}
+
+/// The end of the unit.
+#[inline(never)]
+pub fn end_unit(unit: &Unit, machine: &mut Machine) -> Result<Step, AllocError>
+    requires { IsSmall unit.now }
+    ensures ok { IfOk result (λ step. (reply : Option Reply) → Does (λ next. told.change (states.at_place (machines.place_in unit.now (length unit.now.heads.items))) (machines.returns next (context_of machine.old).calls)) machine.old reply step machine.new) }
+    ensures err { OnErr result ((reply : Option Reply) → standing machine.new reply ≡ standing machine.old reply) }
+{
+    leave(unit, unit.heads.len() as u32, machine)
+}

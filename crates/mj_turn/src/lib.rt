@@ -1,0 +1,21 @@
+// A turn of a job, wherever its machine stands.
+//
+// A turn (`make_turn`) is said by `Steps` (`specs/Standing.antt` of `mj_machine`): what is left of the run behind it, for every number of turns to come
+// and every list of replies, is what was left before it after one turn less, by the p-code's definition (`mj_pcode`). With want of memory a turn
+// changes nothing. Among units that are checked it leads only to where no operand and no FOR is missing (`specs/Sound.antt`).
+//
+// Here is what control does: lines, calls, blocks, jumps, FORs, NEW, the ends of frames, and the turns before a job's first instruction and after its
+// last. What the instructions on data do is in `mj_machine`.
+#![tactic(auto)]
+
+mod calling;
+mod ending;
+mod entering;
+mod fault;
+mod flow;
+mod leaving;
+mod news;
+mod repeat;
+mod turn;
+
+pub use turn::make_turn;

@@ -1,0 +1,129 @@
+// A turn, wherever a job stands.
+
+ghost use Rattle.std.specs.Prelude.{◌≡◌, ◌+◌, ◌<◌, ◌^◌, Option, Some, None, IfOk, OnErr, length};
+ghost use Rattle.mj_ask.specs.declared.ask.Reply as replies;
+ghost use Rattle.mj_pcode.specs.Machine.{act};
+ghost use Rattle.mj_machine.specs.Standing as standings;
+ghost use Rattle.mj_machine.specs.Kept.{standing, stack_of, context_of, Does, replied, told, left_of};
+ghost use Rattle.mj_pcode.specs.Checked.{footing};
+ghost use Rattle.mj_pcode.specs.Sound.{AreChecked};
+ghost use Rattle.mj_turn.specs.Sound.{IsReady, IsSound};
+ghost use Rattle.mj_turn.specs.Units.{AreSmall, IsSmall};
+
+use crate::calling::{begin, call_line};
+use crate::ending::{close, finish, tell_fault};
+use crate::entering::{block, go_to};
+use crate::flow::{branch, decide, end_unit, enter_line};
+use crate::leaving::quit;
+use crate::news::{new_except, new_words};
+use crate::repeat;
+use mj_ask::{Entry, Reply};
+use mj_machine::about::{about, named};
+use mj_machine::changes::{kill, store};
+use mj_machine::format::write_marks;
+use mj_machine::merges::{put, take};
+use mj_machine::pieces::renew;
+use mj_machine::quiet::{discard, fail, halt, jump, push, spare, special};
+use mj_machine::values::{apply_binary, apply_unary, call, test, write};
+use mj_machine::variables::{check, load};
+use mj_machine::{Control, Machine, Step};
+use mj_pcode::{Instr, Unit};
+use mj_text::Fault;
+use std::alloc::{AllocError, Global};
+
+/// An instruction of a unit.
+pub fn obey(
+    alloc: Global,
+    units: &[Unit],
+    unit: &Unit,
+    pc: usize,
+    instr: &Instr,
+    machine: &mut Machine,
+    given: Option<&Reply>,
+) -> Result<Step, AllocError>
+    requires next { pc + 2 < 2 ^ 64 }
+    requires small { IsSmall unit.now }
+    requires all { AreSmall units.now }
+    requires enough { IsReady instr.now (footing (length (stack_of machine.old)) (length (context_of machine.old).loops)) }
+    ensures ok { IfOk result (λ step. Does (λ next. act units.now unit.now (Some instr.now) next (context_of machine.old) pc (stack_of machine.old)) machine.old (replied given.entry) step machine.new) }
+    ensures err { OnErr result ((reply : Option replies.Reply) → standing machine.new reply ≡ standing machine.old reply) }
+{
+    match instr {
+        Instr::Line(line) => enter_line(unit, pc, *line, machine),
+        Instr::Push(text) => push(pc, text, machine),
+        Instr::Special(variable) => special(alloc, pc, *variable, machine),
+        Instr::Load(reference) => load(alloc, pc, reference, machine, given),
+        Instr::Unary(op) => apply_unary(alloc, pc, *op, machine),
+        Instr::Binary(op) => apply_binary(alloc, pc, *op, machine),
+        Instr::Call(function, count) => call(alloc, pc, *function, *count, machine),
+        Instr::Named(function, reference) => named(alloc, pc, *function, reference, machine),
+        Instr::About(function, reference, count) => about(
+            alloc, pc, *function, reference, *count, machine, given,
+        ),
+        Instr::Check(reference) => check(alloc, pc, reference, machine),
+        Instr::Store(reference, depth) => store(alloc, pc, reference, *depth, machine, given),
+        Instr::Renew(reference, count, depth) => {
+            renew(alloc, pc, reference, *count, *depth, machine, given)
+        }
+        Instr::Discard(count) => Ok(discard(pc, *count, machine)),
+        Instr::Kill(reference) => kill(alloc, pc, reference, machine, given),
+        Instr::Spare(words) => Ok(spare(pc, words, machine)),
+        Instr::Take(into, from) => take(alloc, pc, into, from, machine, given),
+        Instr::Put(reference) => put(alloc, pc, reference, machine, given),
+        Instr::Write => write(alloc, pc, machine, given),
+        Instr::Format(marks) => write_marks(alloc, pc, marks, machine, given),
+        Instr::Unless(target) => test(pc, *target, machine),
+        Instr::Jump(target) => Ok(jump(*target, machine)),
+        Instr::NoneTrue => Ok(fail(Fault::Select, machine)),
+        Instr::Halt => Ok(halt(machine)),
+        Instr::Decide(target) => decide(pc, *target, machine),
+        Instr::If(target) => Ok(branch(pc, true, *target, machine)),
+        Instr::Else(target) => Ok(branch(pc, false, *target, machine)),
+        Instr::Open(word, count, body) => repeat::open(alloc, pc, word, *count, *body, machine),
+        Instr::Forever => repeat::forever(alloc, pc, machine),
+        Instr::Begin(span) => repeat::begin(alloc, pc, *span, machine),
+        Instr::Again => repeat::again(alloc, pc, machine),
+        Instr::Close(target) => Ok(repeat::close(*target, machine)),
+        Instr::Do(entry, shape) => call_line(alloc, units, pc, entry, shape, machine),
+        Instr::Block(line) => block(alloc, unit, pc, *line, machine),
+        Instr::Goto(entry) => Ok(go_to(units, entry, machine)),
+        Instr::Quit => {
+            quit(machine);
+            Ok(Step::Next)
+        }
+        Instr::New(words) => new_words(pc, words, machine),
+        Instr::NewExcept(words) => new_except(pc, words, machine),
+    }
+}
+
+/// A turn of a job that runs these units and starts at this entry. With want of memory the machine stands where it stood. It leads only to
+/// where no operand and no FOR is missing.
+pub fn make_turn(
+    alloc: Global,
+    units: &[Unit],
+    entry: &Entry,
+    machine: &mut Machine,
+    given: Option<&Reply>,
+) -> Result<Step, AllocError>
+    requires small { AreSmall units.now }
+    requires checked { AreChecked units.now }
+    requires sound { IsSound units.now (standing machine.old None) }
+    ensures ok { IfOk result (λ step. standings.Steps (record { units = units.now; entry = entry.now }) (standing machine.old (replied given.entry)) (told step) (standing machine.new (left_of step (replied given.entry)))) }
+    ensures err { OnErr result ((reply : Option replies.Reply) → standing machine.new reply ≡ standing machine.old reply) }
+    ensures sound { IsSound units.now (standing machine.new None) }
+{
+    match machine.control {
+        Control::Begin => begin(alloc, units, entry, machine, given),
+        Control::At(pc) => match units.get(machine.unit) {
+            None => unreachable!(),
+            Some(unit) => match unit.instrs.get(pc) {
+                None => end_unit(unit, machine),
+                Some(instr) => obey(alloc, units, unit, pc, instr, machine, given),
+            },
+        },
+        Control::Faulted(fault) => tell_fault(alloc, fault, machine, given),
+        Control::Closing(fault) => close(alloc, fault, machine, given),
+        Control::Halting(fault) => finish(alloc, fault, machine, given),
+        Control::Over => Ok(Step::Ends),
+    }
+}
