@@ -73,8 +73,16 @@ impl Num {
     {
         match text.number() {
             Some(value) => Ok(Num { value }),
-            None => Num::read_bytes(text.bytes(&mut Digits::new())),
+            None => Num::read_spelled(text),
         }
+    }
+
+    // The same of a text that isn't kept as a number. It lies apart, so that the room of a spelling isn't cleared where none is needed.
+    #[inline(never)]
+    fn read_spelled(text: &Text) -> Result<Num, Fault>
+        ensures { result ≡ reading text.now }
+    {
+        Num::read_bytes(text.bytes(&mut Digits::new()))
     }
 
     /// What a text that is kept as a number counts as. `None` says nothing: such a text counts as what [`Num::read`] says.
