@@ -50,7 +50,9 @@ pub fn push(stack: &mut Vec<Text>, value: Text) -> Result<(), AllocError>
     ensures ok { OnOk result (reverse stack.new.items ≡ value ∷ reverse stack.old.items) }
     ensures err { OnErr result (stack.new.items ≡ stack.old.items) }
 {
-    stack.push(value)?;
+    // `push` would give the value back where memory is wanting, and so move it twice
+    stack.reserve(1)?;
+    stack.push_reserved(value);
     Ok(())
 }
 
