@@ -32,7 +32,7 @@ pub fn push(pc: usize, text: &Text, machine: &mut Machine) -> Result<Step, Alloc
     ensures err { OnErr result ((reply : Option Reply) → standing machine.new reply ≡ standing machine.old reply) }
 {
     let text = text.try_clone()?;
-    stack::replace(&mut machine.stack, 0, text)?;
+    stack::push(&mut machine.stack, text)?;
     machine.control = Control::At(pc + 1);
     Ok(Step::Next)
 }
@@ -50,7 +50,7 @@ pub fn special(
     ensures err { OnErr result ((reply : Option Reply) → standing machine.new reply ≡ standing machine.old reply) }
 {
     let value = special_value(alloc, special, machine);
-    stack::replace(&mut machine.stack, 0, value)?;
+    stack::push(&mut machine.stack, value)?;
     machine.control = Control::At(pc + 1);
     Ok(Step::Next)
 }

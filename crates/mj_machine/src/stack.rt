@@ -44,6 +44,29 @@ pub fn take_off(stack: &mut Vec<Text>, count: usize)
     stack.truncate(kept);
 }
 
+/// Puts a value on.
+#[inline(always)]
+pub fn push(stack: &mut Vec<Text>, value: Text) -> Result<(), AllocError>
+    ensures ok { OnOk result (reverse stack.new.items ≡ value ∷ reverse stack.old.items) }
+    ensures err { OnErr result (stack.new.items ≡ stack.old.items) }
+{
+    // `push` would give the value back where memory is wanting, and so move it twice
+    stack.reserve(1)?;
+    stack.push_reserved(value);
+    Ok(())
+}
+
+/// Puts a value in the place of the two topmost operands. It takes no memory.
+#[inline(always)]
+pub fn fold(stack: &mut Vec<Text>, value: Text)
+    requires { 2 ≤ length stack.old.items }
+    ensures { reverse stack.new.items ≡ value ∷ drop 2 (reverse stack.old.items) }
+{
+    let kept = stack.len() - 2;
+    stack.truncate(kept + 1);
+    stack[kept] = value;
+}
+
 /// Puts a value in the place of the `count` topmost operands.
 pub(crate) fn replace(stack: &mut Vec<Text>, count: usize, value: Text) -> Result<(), AllocError>
     requires { count ≤ length stack.old.items }

@@ -19,7 +19,7 @@ use crate::quiet::fail;
 use crate::stack;
 use mj_ask::Reply;
 use mj_ast::{Function, Mark};
-use mj_oper::{Op, UnaryOp, binary, truth, unary};
+use mj_oper::{Op, UnaryOp, binary, of_numbers, truth, unary};
 use mj_pcode::Marks;
 use mj_text::{Failure, Text};
 use std::alloc::{AllocError, Global};
@@ -69,6 +69,34 @@ pub fn apply_unary(
 /// An operator between its operands.
 #[inline(never)]
 pub fn apply_binary(
+    alloc: Global,
+    pc: usize,
+    op: Op,
+    machine: &mut Machine,
+) -> Result<Step, AllocError>
+    requires next { pc + 1 < 2 ^ 64 }
+    requires enough { 2 ≤ length machine.old.stack.items }
+    ensures ok { IfOk result (λ step. (reply : Option replies.Reply) → Does (λ next. told.given (binary_value op (top (below (stack_of machine.old))) (top (stack_of machine.old))) (λ v. next (context_of machine.old) (pc + 1) (v ∷ drop 2 (stack_of machine.old)))) machine.old reply step machine.new) }
+    ensures err { OnErr result ((reply : Option replies.Reply) → standing machine.new reply ≡ standing machine.old reply) }
+{
+    let number = of_numbers(
+        op,
+        stack::second(&machine.stack),
+        stack::top(&machine.stack),
+    );
+    match number {
+        Some(number) => {
+            stack::fold(&mut machine.stack, number.to_text(alloc));
+            machine.control = Control::At(pc + 1);
+            Ok(Step::Next)
+        }
+        None => apply_texts(alloc, pc, op, machine),
+    }
+}
+
+// An operator between operands that may be any texts. It lies apart, so that numbers don't clear its room.
+#[inline(never)]
+fn apply_texts(
     alloc: Global,
     pc: usize,
     op: Op,

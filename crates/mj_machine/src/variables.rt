@@ -64,7 +64,7 @@ fn read_word(pc: usize, word: &Text, machine: &mut Machine) -> Result<Step, Allo
     match machine.locals.value_of_word(word) {
         Some(value) => {
             let value = value.try_clone()?;
-            stack::replace(&mut machine.stack, 0, value)?;
+            stack::push(&mut machine.stack, value)?;
             machine.control = Control::At(pc + 1);
             Ok(Step::Next)
         }

@@ -65,6 +65,14 @@ pub fn is_canonic(text: &Text) -> bool
 {
     match text.number() {
         Some(_) => true,
-        None => is_canonic_bytes(text.bytes(&mut Digits::new())),
+        None => is_canonic_spelled(text),
     }
+}
+
+/// The same of a text that isn't kept as a number. It lies apart, so that the room of a spelling isn't cleared where none is needed.
+#[inline(never)]
+fn is_canonic_spelled(text: &Text) -> bool
+    ensures { result ≡ canonic_test text.now }
+{
+    is_canonic_bytes(text.bytes(&mut Digits::new()))
 }

@@ -1,6 +1,6 @@
 // A number, and the arithmetic.
 
-ghost use Rattle.std.specs.Prelude.{◌≡◌, neg_ℤ, int_lt, IfOk};
+ghost use Rattle.std.specs.Prelude.{◌≡◌, neg_ℤ, int_lt, IfOk, IfSome, Ok};
 ghost use Rattle.mj_num.specs.Number.{ranged, reading, canonic_text, is_zero, number_of_truth, IsInRange, IsUpTo, sum_of, difference_of, product_of, quotient_of, remainder_of, exact_quotient_of};
 
 use crate::digits::magnitude;
@@ -73,7 +73,25 @@ impl Num {
     {
         match text.number() {
             Some(value) => Ok(Num { value }),
-            None => Num::read_bytes(text.bytes(&mut Digits::new())),
+            None => Num::read_spelled(text),
+        }
+    }
+
+    // The same of a text that isn't kept as a number. It lies apart, so that the room of a spelling isn't cleared where none is needed.
+    #[inline(never)]
+    fn read_spelled(text: &Text) -> Result<Num, Fault>
+        ensures { result ≡ reading text.now }
+    {
+        Num::read_bytes(text.bytes(&mut Digits::new()))
+    }
+
+    /// What a text that is kept as a number counts as. `None` says nothing: such a text counts as what [`Num::read`] says.
+    pub fn at_hand(text: &Text) -> Option<Num>
+        ensures { IfSome result (λ n. reading text.now ≡ Ok n) }
+    {
+        match text.number() {
+            Some(value) => Some(Num { value }),
+            None => None,
         }
     }
 

@@ -1,6 +1,6 @@
 -- What each operator gives: a text, seen as the list of its bytes, or the fault that stands in its place.
 -- ISO/IEC 11756:1999, 7.2 (binary operators) and 7.1.4 (unary operators); the faults are this profile's.
-use Rattle.std.specs.Prelude.{◌≡◌, ℕ, nat_le, length, Bool, true, false, not, ◌&&◌, ◌||◌, List, [], ◌∷◌, ◌++◌, ℤ, neg_ℤ, int_lt, Result, Ok, Err, if◌then◌else◌}
+use Rattle.std.specs.Prelude.{ℕ, nat_le, length, Bool, true, false, not, ◌&&◌, ◌||◌, List, [], ◌∷◌, ◌++◌, ℤ, neg_ℤ, int_lt, Result, Ok, Err, if◌then◌else◌}
 use Rattle.std.specs.Str.{bytes_eq}
 use Rattle.std.specs.Ordering.{is_gt, nat_cmp}
 use Rattle.std.specs.Cmp.Lexicographic.{slice_cmp}

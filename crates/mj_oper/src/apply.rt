@@ -1,7 +1,7 @@
 // What the operators give.
 
-ghost use Rattle.std.specs.Prelude.{◌≡◌, true, SomeIff};
-ghost use Rattle.mj_num.specs.Number.{reading, number_of, is_canonic as is_canonic_of};
+ghost use Rattle.std.specs.Prelude.{◌≡◌, true, SomeIff, IfSome, Ok};
+ghost use Rattle.mj_num.specs.Number.{reading, number_of, canonic_text, is_canonic as is_canonic_of};
 ghost use Rattle.mj_subs.specs.Collation.{subscript_cmp};
 ghost use Rattle.mj_text.specs.Failing.{failing, Answers};
 ghost use Rattle.mj_oper.specs.Operators.{binary_value, unary_value, holds as holds_of, truth_value, truth_text as text_of_truth};
@@ -30,6 +30,42 @@ pub fn binary(alloc: Global, op: Op, left: &Text, right: &Text) -> Result<Text, 
     match number {
         Ok(number) => Ok(number.to_text(alloc)),
         Err(fault) => Err(Failure::Fault(fault)),
+    }
+}
+
+/// What a binary operator gives, as a number, of two values that are kept as numbers. `None` says nothing: then [`binary`] says what it gives.
+/// It takes no memory, and few instructions.
+pub fn of_numbers(op: Op, left: &Text, right: &Text) -> Option<Num>
+    ensures { IfSome result (λ n. binary_value op left.now right.now ≡ Ok (canonic_text n)) }
+{
+    let a = Num::at_hand(left)?;
+    let b = Num::at_hand(right)?;
+    match op {
+        Op::Add => a.add(b).ok(),
+        Op::Subtract => a.sub(b).ok(),
+        Op::Multiply => a.mul(b).ok(),
+        Op::Quotient => a.quot(b).ok(),
+        Op::Remainder => a.rem(b).ok(),
+        Op::Divide => a.exact(b).ok(),
+        Op::Join => None,
+        Op::Is(test) => Some(Num::from_truth(holds_of_numbers(test, left, right, a, b)?)),
+        Op::IsNot(test) => Some(Num::from_truth(!holds_of_numbers(test, left, right, a, b)?)),
+    }
+}
+
+/// Whether what a truth operator says holds of two values that count as these numbers, where they are enough to say so.
+fn holds_of_numbers(op: TruthOp, left: &Text, right: &Text, a: Num, b: Num) -> Option<bool>
+    requires left { reading left.now ≡ Ok a }
+    requires right { reading right.now ≡ Ok b }
+    ensures { IfSome result (λ h. holds_of op left.now right.now ≡ Ok h) }
+{
+    match op {
+        TruthOp::Equal => Some(left == right),
+        TruthOp::Less => Some(a.is_less(b)),
+        TruthOp::Greater => Some(b.is_less(a)),
+        TruthOp::And => Some(!a.is_zero() & !b.is_zero()),
+        TruthOp::Or => Some(!a.is_zero() | !b.is_zero()),
+        TruthOp::Contains | TruthOp::Follows | TruthOp::SortsAfter => None,
     }
 }
 

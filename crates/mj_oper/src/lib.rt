@@ -6,5 +6,5 @@
 mod apply;
 mod op;
 
-pub use apply::{binary, truth, unary};
+pub use apply::{binary, of_numbers, truth, unary};
 pub use op::{Op, TruthOp, UnaryOp};

@@ -2,6 +2,7 @@
 
 ghost use Rattle.std.specs.Prelude.{◌≡◌, ◌≤◌, ◌<◌, ◌+◌, ◌-◌, ◌↔◌, ◌++◌, [], length, take, drop, IsTrue, IfOk, IfSome, IsOkUnless};
 ghost use Rattle.std.specs.Fmt.{signed_decimal};
+ghost use Rattle.std.specs.Str.{bytes_eq};
 ghost use Rattle.std.specs.Ordering.{nat_cmp};
 ghost use Rattle.std.specs.Cmp.Lexicographic.{slice_cmp};
 ghost use Rattle.memchr.specs.Find.{FindsNeedle};
@@ -103,6 +104,20 @@ impl Text {
 
     /// How many bytes it has.
     pub fn len(&self) -> usize
+        ensures value { result ≡ length self.now }
+        ensures limit { result ≤ TEXT_LIMIT }
+    {
+        match &self.kept {
+            Kept::Number(_) => self.spelled_len(),
+            Kept::Short(short) => short.bytes().len(),
+            Kept::Long(bytes) => bytes.as_slice().len(),
+        }
+    }
+
+    // How many bytes it has, where it may have to be spelled. The room of a spelling is cleared where a function begins that has it, so
+    // this lies apart.
+    #[inline(never)]
+    fn spelled_len(&self) -> usize
         ensures value { result ≡ length self.now }
         ensures limit { result ≤ TEXT_LIMIT }
     {
@@ -216,9 +231,29 @@ impl Text {
     pub fn cmp_bytes(&self, other: &Text) -> Ordering
         ensures { result ≡ slice_cmp nat_cmp self.now other.now }
     {
+        match (&self.kept, &other.kept) {
+            (Kept::Short(short), Kept::Short(other)) => short.bytes().cmp(other.bytes()),
+            _ => self.cmp_spelled(other),
+        }
+    }
+
+    // The same of two texts of which one may have to be spelled.
+    #[inline(never)]
+    fn cmp_spelled(&self, other: &Text) -> Ordering
+        ensures { result ≡ slice_cmp nat_cmp self.now other.now }
+    {
         let mut digits = Digits::new();
         let mut other_digits = Digits::new();
         self.bytes(&mut digits).cmp(other.bytes(&mut other_digits))
+    }
+
+    // Whether two texts have the same bytes, of which one may have to be spelled.
+    #[inline(never)]
+    fn is_spelled_alike(&self, other: &Text) -> bool
+        ensures same { IsTrue result ↔ (self.now ≡ other.now) }
+        ensures value { result ≡ bytes_eq self.now other.now }
+    {
+        self.bytes(&mut Digits::new()) == other.bytes(&mut Digits::new())
     }
 
     // A text of two lists of bytes, which together are within the limit.
@@ -268,7 +303,7 @@ impl PartialEq for Text {
         match (&self.kept, &other.kept) {
             (Kept::Number(number), Kept::Number(other)) => *number == *other,
             (Kept::Short(short), Kept::Short(other)) => short.bytes() == other.bytes(),
-            _ => self.bytes(&mut Digits::new()) == other.bytes(&mut Digits::new()),
+            _ => self.is_spelled_alike(other),
         }
     }
 }

@@ -82,6 +82,13 @@ impl Node {
         }
     }
 
+    /// The text of the node itself.
+    pub fn own_text(&self) -> Option<&Text>
+        ensures { option_copied result ≡ find (slice_cmp subscript_cmp) [] self.now }
+    {
+        self.text.as_ref()
+    }
+
     /// Whether a text stands there, and whether one stands below.
     pub fn data(&self, path: &[Sub]) -> u8
         ensures { result ≡ data_of (subtree subscript_cmp path.now self.now) }

@@ -73,6 +73,13 @@ impl Tree {
         self.root.value(path.as_slice())
     }
 
+    /// The text at the list without a subscript.
+    pub fn own_text(&self) -> Option<&Text>
+        ensures { option_copied result ≡ find (slice_cmp subscript_cmp) [] self.now }
+    {
+        self.root.own_text()
+    }
+
     /// 0, 1, 10 or 11: the ones digit for a text there, the tens digit for one below it.
     pub fn data(&self, path: &Subs) -> u8
         ensures { result ≡ data_of (subtree subscript_cmp path.now self.now) }

@@ -4,7 +4,7 @@ use Rattle.mj_oper.specs.Operators.{binary_value}
 use Rattle.mj_pcode.specs.Machine.{top, below}
 use Rattle.mj_machine.specs.Kept.{stack_of}
 use Rattle.mj_machine.proofs.Asks.{or_memory}
-use Rattle.mj_machine.proofs.values.apply_binary.Goals as goal
+use Rattle.mj_machine.proofs.values.apply_texts.Goals as goal
 
 pub returns-clause-ok : goal.returns-clause-ok
 returns-clause-ok c =

@@ -1,0 +1,10 @@
+use Rattle.std.proofs.Common.{◌≡◌, ◌-◌, ◌<◌, length, arith}
+use Rattle.mj_machine.proofs.Operands.{replaced}
+use Rattle.mj_machine.proofs.stack.fold.Goals as goal
+
+pub returns : goal.returns
+returns c =
+    let n : c.len-kept.result ≡ length c.args.stack.now.items = omega (arith, c.len-kept.ensures, c.args.stack.now.ok.0) in
+    let e : c.len-kept.result - 2 ≡ length c.args.stack.now.items - 2 = omega (arith, n) in
+    let some : c.len-kept.result - 2 < length c.args.stack.now.items = omega (arith, c.requires, n) in
+    replaced c.args.stack.now.items c.truncate.new.self.items 2 (c.len-kept.result - 2) c.args.value e some c.truncate.ensures.items
