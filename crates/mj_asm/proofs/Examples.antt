@@ -9,8 +9,8 @@ use Rattle.mj_pcode.specs.declared.instr.Instr.TheVariants as instr
 use Rattle.mj_asm.specs.Code.{lines_code, starts}
 use Rattle.mj_semantics.specs.Lines.{Here}
 use Rattle.mj_pcode.specs.declared.instr.Span.TheVariants as span
-use Rattle.mj_pcode.specs.Found.{line_with}
-use Rattle.mj_asm.specs.Correct.{labels_of}
+use Rattle.mj_pcode.specs.Labels.{line_with}
+use Rattle.mj_asm.specs.Correct.{with_labels}
 
 abbrev lit : ℕ → Operand
 lit digit = Literal (digit ∷ [])
@@ -50,13 +50,14 @@ instructions = refl
 begins : starts 0 here text ≡ 0 ∷ 14 ∷ 15 ∷ []
 begins = refl
 
-labels : labels_of 1 text ≡ record { text = codes "A"; line = 1 } ∷ record { text = codes "B"; line = 2 } ∷ record { text = codes "A"; line = 3 } ∷ []
+-- A, B, A: the first line with a label counts
+labels : with_labels [] 1 text ≡ (codes "A", 1) ∷ (codes "B", 2) ∷ []
 labels = refl
 
-first_of_two : line_with (codes "A") 4 (labels_of 1 text) ≡ 1
+first_of_two : line_with (codes "A") (with_labels [] 1 text) ≡ Some 1
 first_of_two = refl
 
-no_such_label : line_with (codes "C") 4 (labels_of 1 text) ≡ 4
+no_such_label : line_with (codes "C") (with_labels [] 1 text) ≡ None
 no_such_label = refl
 
 -- SET (X,$PIECE(^Y(1),"-"))=2 KILL ^Y(1),(X) KILL  MERGE ^Z=^Y(1)

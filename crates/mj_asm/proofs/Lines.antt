@@ -3,6 +3,7 @@ use Rattle.std.proofs.Common.{◌≡◌, ℕ, zero, suc, ◌+◌, ◌-◌, ◌<�
 use Rattle.std.proofs.Math.Seq.{get_or-append_seam}
 use Rattle.std.proofs.lemmas.Option.{slice_get-get_or, slice_get_past}
 use Rattle.std.specs.Prelude.{slice_get, nat_lt, if◌then◌else◌}
+use Rattle.std.specs.Option.{unwrap_or}
 use Rattle.mj_ast.specs.Syntax.{Line, Routine}
 use Rattle.mj_semantics.specs.State.{level_of, at_place}
 use Rattle.mj_semantics.specs.Outcome.{Timed, turn, change}
@@ -13,11 +14,12 @@ use Rattle.mj_semantics.specs.Job.{points_of, obey_line, quit_before}
 use Rattle.mj_pcode.specs.declared.instr.Head.{Head}
 use Rattle.mj_pcode.specs.declared.instr.Instr.{Instr}
 use Rattle.mj_pcode.specs.declared.instr.Unit as unit
-use Rattle.mj_pcode.specs.Found.{start_of, levels_in, line_with}
+use Rattle.mj_pcode.specs.Labels.{Labels, line_with}
+use Rattle.mj_pcode.specs.Found.{start_of, levels_in}
 use Rattle.mj_pcode.specs.Context.{Call, Context}
 use Rattle.mj_pcode.specs.Machine.{act, act_in, exec, returns, place_in}
 use Rattle.mj_asm.specs.Code.{steps_code, line_code, lines_code, starts}
-use Rattle.mj_asm.specs.Correct.{Agree, next_of, line_of, labels_of, DoLines, LeadAlike, IsUnitOf}
+use Rattle.mj_asm.specs.Correct.{Agree, next_of, line_of, with_labels, DoLines, LeadAlike, IsUnitOf}
 use Rattle.mj_pcode.proofs.Agree.{if_at, look_at, change_at}
 use Rattle.mj_asm.proofs.Follows.{HasAt, has_front, has_back, from, moved}
 use Rattle.mj_asm.proofs.Flow.{steps_follow, fewer_turns, returns_same}
@@ -164,17 +166,20 @@ module _ (routine : Routine) (u : unit.Unit) (name : u.name ≡ routine.name) (h
         ∙ line_follows d n k (slice_get routine.lines (k - 1)) some last (omega (arith, le, deep)) (lines_stand k some) (λ m lt. lines m (omega (arith, lt, le))) (fewer_turns b n (returns (next_of units) below) leave (omega (arith, le)) leaves)
         ∙ ap (λ l. obey_line (points_of image d) (line_at u.name k) (slice_get l (k - 1)) leave n) (sym (ap (lines_of image) name ∙ found))
 
-  after_last : length routine.lines + 1 ≡ 1 + length routine.lines
-  after_last = omega arith
+  after_last : length u.heads.items + 1 ≡ 1 + length routine.lines
+  after_last = omega (arith, many)
 
-  pub is_unit : length routine.lines < 2 ^ 32 → map (λ h. h.formals) u.heads.items ≡ map (λ line. line.formals) routine.lines → u.labels.items ≡ labels_of 1 routine.lines → IsUnitOf routine u
+  pub is_unit : length routine.lines < 2 ^ 32 → map (λ h. h.formals) u.heads.items ≡ map (λ line. line.formals) routine.lines → u.labels ≡ with_labels [] 1 routine.lines → IsUnitOf routine u
   is_unit few has_formals has_labels = record {
     name = name;
     few = few;
     levels = has_levels;
     formals = has_formals;
     labels = has_labels;
-    finds = λ l. ap (line_with l (length routine.lines + 1)) has_labels ∙ ap (λ m. line_with l m (labels_of 1 routine.lines)) after_last ∙ finds l 1 routine.lines;
+    finds = λ l.
+        ap (λ (ls : Labels). unwrap_or (line_with l ls) (length u.heads.items + 1)) has_labels
+        ∙ ap (λ n. unwrap_or (line_with l (with_labels [] 1 routine.lines)) n) after_last
+        ∙ finds l 1 routine.lines;
     does = λ image units found alike j at b lines k some last below leave leaves depth deep.
         record { by = λ n le. does_line image units found alike j at below leave b k some last lines leaves depth deep n le };
   }

@@ -6,11 +6,11 @@ use Rattle.mj_semantics.specs.Outcome.{Timed, turn}
 use Rattle.mj_semantics.specs.Lines.{Here, lines_of, labelled, entered, levels_of}
 use Rattle.mj_semantics.specs.Points.{AtLine}
 use Rattle.mj_semantics.specs.Job.{points_of}
-use Rattle.mj_pcode.specs.declared.instr.Label.{Label}
 use Rattle.mj_pcode.specs.declared.instr.LineStart.{LineStart}
 use Rattle.mj_pcode.specs.declared.instr.Instr.TheVariants as instr
 use Rattle.mj_pcode.specs.declared.instr.Unit as unit
-use Rattle.mj_pcode.specs.Found.{Found, found, line_with, start_of, levels_in}
+use Rattle.mj_pcode.specs.Labels.{Labels, with_label}
+use Rattle.mj_pcode.specs.Found.{Found, found, line_in, start_of, levels_in}
 use Rattle.mj_pcode.specs.Context.{Call, Context, at_unit}
 use Rattle.mj_pcode.specs.Machine.{Next, returns, exec}
 
@@ -18,11 +18,10 @@ use Rattle.mj_pcode.specs.Machine.{Next, returns, exec}
 abbrev pub line_of : Routine → ℕ → Here
 line_of routine k = record { routine = routine.name; line = k }
 
--- the labels of lines, of which the first has number k, in their order
-abbrev pub labels_of : ℕ → List Line → List Label
-labels_of k [] = []
-labels_of k (line ∷ lines) =
-    elim line.label [ None ↦ labels_of (k + 1) lines | Some l ↦ record { text = l; line = k } ∷ labels_of (k + 1) lines ]
+-- these labels, and those of lines, of which the first has number k: where lines have one label, the first of them counts
+abbrev pub with_labels : Labels → ℕ → List Line → Labels
+with_labels labels k [] = labels
+with_labels labels k (line ∷ lines) = with_labels (elim line.label [ None ↦ labels | Some l ↦ with_label labels l k ]) (k + 1) lines
 
 -- two rests are the same for at most b turns
 pub record Agree (b : ℕ) (f g : Timed) : Type 0 where
@@ -68,8 +67,8 @@ IsFound image units (Some to) (Some f) =
 abbrev pub LeadAlike : List Routine → List unit.Unit → Type 0
 LeadAlike image units = (entry : Entry) → IsFound image units (entered image entry) (found units entry)
 
--- The unit is the routine's code: it has its name, and the levels, formals and labels of its lines, so that a label's line is that
--- of the first line with it. And it does what the routine does: in each list of routines where the routine's name leads to its
+-- The unit is the routine's code: it has its name, and the levels, formals and labels of its lines, so that a label leads to the
+-- first line with it. And it does what the routine does: in each list of routines where the routine's name leads to its
 -- lines, among units to which entries lead alike, where it stands at some place, from each line on, as long as those units do for
 -- fewer turns what the routines do.
 pub record IsUnitOf (routine : Routine) (u : unit.Unit) : Type 0 where
@@ -77,8 +76,8 @@ pub record IsUnitOf (routine : Routine) (u : unit.Unit) : Type 0 where
   pub few : length routine.lines < 2 ^ 32
   pub levels : levels_in u ≡ map (λ line. line.level) routine.lines
   pub formals : map (λ h. h.formals) u.heads.items ≡ map (λ line. line.formals) routine.lines
-  pub labels : u.labels.items ≡ labels_of 1 routine.lines
-  pub finds : (l : List ℕ) → line_with l (length routine.lines + 1) u.labels.items ≡ labelled l 1 routine.lines
+  pub labels : u.labels ≡ with_labels [] 1 routine.lines
+  pub finds : (l : List ℕ) → line_in u (Some l) ≡ labelled l 1 routine.lines
   pub does :
       (image : List Routine) (units : List unit.Unit) → lines_of image routine.name ≡ routine.lines → LeadAlike image units
       → (j : ℕ) → slice_get units j ≡ Some u → (b : ℕ) → ((m : ℕ) → m < b → DoLines image units m)

@@ -6,7 +6,7 @@ ghost use Rattle.mj_ast.specs.Trees.{expr_of, variable_of, assignment_of, killed
 ghost use Rattle.mj_semantics.specs.Lines as lines;
 ghost use Rattle.mj_asm.specs.Code.{assignment_code, assignments_code, names_code, kill_code, kills_code, kill_all_code, merge_code, merges_code, output_code, outputs_code, code_if, command_code, steps_code, if_code, ifs_code, else_code, for_code, body_code, range_code, ranges_code, do_code, call_code, jumps_code, jump_code, new_all_code, renewed_code, line_code};
 ghost use Rattle.mj_asm.specs.Sites.{here_of};
-ghost use Rattle.mj_asm.specs.Correct.{labels_of, IsUnitOf};
+ghost use Rattle.mj_asm.specs.Correct.{with_labels, IsUnitOf};
 
 use crate::expr::{aim, change, emit_expr, emit_subscripts, put, reference};
 use crate::site::Site;
@@ -16,7 +16,7 @@ use mj_ast::{
     Assignment, Called, Command, Expr, Jumped, Killed, Line, Merged, Output, Range, Renewed,
     Routine, Step, Target, Targets, Variable,
 };
-use mj_pcode::{Head, Instr, Label, LineStart, Marks, Shape, Span, Unit, Words};
+use mj_pcode::{Head, Instr, Labels, LineStart, Marks, Shape, Span, Unit, Words};
 use mj_text::Text;
 use std::alloc::{AllocError, Global};
 
@@ -32,7 +32,7 @@ pub fn assemble(alloc: Global, routine: &Routine) -> Result<Unit, AllocError>
         name,
         instrs: Vec::new(alloc),
         heads: Vec::new(alloc),
-        labels: Vec::new(alloc),
+        labels: Labels::new(alloc),
     };
     let mut number = 0;
     for line in &routine.lines {
@@ -52,7 +52,7 @@ fn emit_line(site: Site, unit: &mut Unit, line: &Line) -> Result<(), AllocError>
     ensures name { unit.new.name ≡ unit.old.name }
     ensures instrs { OnOk result (unit.new.instrs.items ≡ unit.old.instrs.items ++ line_code (length unit.old.instrs.items) (here_of site.entry) (line_of line.now)) }
     ensures heads { OnOk result (unit.new.heads.items ≡ unit.old.heads.items ++ record { start = length unit.old.instrs.items; level = line.now.level; formals = line.now.formals.items } ∷ []) }
-    ensures labels { OnOk result (unit.new.labels.items ≡ unit.old.labels.items ++ labels_of site.entry.line (line_of line.now ∷ [])) }
+    ensures labels { OnOk result (unit.new.labels ≡ with_labels unit.old.labels site.entry.line (line_of line.now ∷ [])) }
 {
     emit_label(site, &mut unit.labels, line)?;
     let start = unit.instrs.len();
@@ -75,18 +75,14 @@ fn emit_line(site: Site, unit: &mut Unit, line: &Line) -> Result<(), AllocError>
     Ok(())
 }
 
-// The line's label, if it has one.
-fn emit_label(site: Site, labels: &mut Vec<Label>, line: &Line) -> Result<(), AllocError>
-    ensures { OnOk result (labels.new.items ≡ labels.old.items ++ labels_of site.entry.line (line_of line.now ∷ [])) }
+// The line's label, if it has one that no earlier line has.
+fn emit_label(site: Site, labels: &mut Labels, line: &Line) -> Result<(), AllocError>
+    ensures { OnOk result (labels.new ≡ with_labels labels.old site.entry.line (line_of line.now ∷ [])) }
 {
-    if let Some(label) = &line.label {
-        let text = label.try_clone()?;
-        labels.push(Label {
-            text,
-            line: site.line,
-        })?;
+    match &line.label {
+        None => Ok(()),
+        Some(label) => labels.add(site.alloc, label, site.line),
     }
-    Ok(())
 }
 
 // The commands of a line, or those behind one of them; in a FOR that is closed at an instruction, or in none. Only what goes on up to

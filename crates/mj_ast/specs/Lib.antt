@@ -1,5 +1,6 @@
 pub mod Syntax
 pub mod Trees
+pub mod Breaks
 pub mod Tokens
 pub mod Expressions
 pub mod Commands

@@ -4,6 +4,7 @@
 // routines is defined on, and `specs/Trees.antt` leads from the one to the other.
 #![tactic(auto)]
 
+mod breaks;
 mod construct;
 mod expr;
 mod function;

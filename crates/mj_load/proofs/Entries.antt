@@ -14,7 +14,7 @@ use Rattle.mj_semantics.specs.Outcome.{Timed, change, fault, end}
 use Rattle.mj_semantics.specs.Lines.{Here, has_label, labelled, lines_of, entered, levels_of}
 use Rattle.mj_pcode.specs.declared.instr.Head.{Head}
 use Rattle.mj_pcode.specs.declared.instr.Unit as unit
-use Rattle.mj_pcode.specs.Found.{Found, found, found_in, found_from, line_in, line_with, start_of, levels_in}
+use Rattle.mj_pcode.specs.Found.{Found, found, found_in, found_from, line_in, start_of, levels_in}
 use Rattle.mj_pcode.specs.Machine.{calls, tallies, returns, place_in}
 use Rattle.mj_pcode.specs.Checked.{IsChecked}
 use Rattle.mj_pcode.specs.Sound.{AreChecked}
@@ -36,7 +36,7 @@ many r u code = sym (length-map u.heads.items (λ h. h.level)) ∙ ap length cod
 
 same_number : (r : syntax.Routine) (u : unit.Unit) → IsUnitOf r u → (label : Option (List ℕ)) → line_in u label ≡ number_in label r.lines
 same_number r u code None = refl
-same_number r u code (Some l) = ap (λ n. line_with l (n + 1) u.labels.items) (many r u code) ∙ code.finds l
+same_number r u code (Some l) = code.finds l
 
 -- numbers of lines are from 1 on
 labelled_from : (l : List ℕ) (k : ℕ) (lines : List syntax.Line) → k ≤ labelled l k lines

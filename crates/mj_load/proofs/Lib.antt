@@ -2,3 +2,4 @@ pub mod Names
 pub mod Units
 pub mod Entries
 pub mod Examples
+pub mod Held

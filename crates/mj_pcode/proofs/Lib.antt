@@ -1,3 +1,4 @@
+pub mod Spelled
 pub mod Agree
 pub mod Keeps
 pub mod Probe

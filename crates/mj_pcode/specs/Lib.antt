@@ -1,3 +1,4 @@
+pub mod Labels
 pub mod Found
 pub mod Context
 pub mod Machine

@@ -3,7 +3,7 @@
 ghost use Rattle.std.specs.Prelude.{◌≡◌, ◌≤◌, length, option_map, slice_get, Some, IfSome};
 ghost use Rattle.mj_pcode.specs.Found as finding;
 
-use crate::instr::{Head, Label, Unit};
+use crate::instr::{Head, Unit};
 use mj_ask::Entry;
 use mj_text::Text;
 
@@ -16,8 +16,8 @@ pub struct Target<'a> {
     pub head: &'a Head,
 }
 
-/// The line that an entry names: in the first unit with its routine's name, the line of the first label with its text, or the first
-/// line where it has no label.
+/// The line that an entry names: in the first unit with its routine's name, the line with its label, or the first line where it
+/// has none.
 pub fn find_line<'a>(units: &'a [Unit], entry: &Entry) -> Option<Target<'a>>
     ensures which { option_map (λ t. record { at = t.at; unit = t.unit.now; line = t.line; head = t.head.now }) result ≡ finding.found units.now entry.now }
     ensures there { IfSome result (λ t. slice_get units.now t.at ≡ Some t.unit.now) }
@@ -55,18 +55,9 @@ fn line_in(unit: &Unit, label: &Option<Text>) -> usize
 {
     match label {
         None => 1,
-        Some(label) => labelled(&unit.labels, label, unit.heads.len() + 1),
+        Some(label) => match unit.labels.line(label) {
+            None => unit.heads.len() + 1,
+            Some(line) => line as usize,
+        },
     }
-}
-
-// The line of the first of these labels with this text; `missing` where there is none.
-fn labelled(labels: &[Label], text: &Text, missing: usize) -> usize
-    ensures { result ≡ finding.line_with text.now missing labels.now }
-{
-    for label in labels {
-        if label.text == *text {
-            return label.line as usize;
-        }
-    }
-    missing
 }

@@ -1,5 +1,6 @@
 // Instructions, and the unit that a routine becomes.
 
+use crate::labels::Labels;
 use crate::marks::Marks;
 use crate::shape::Shape;
 use crate::words::Words;
@@ -126,13 +127,6 @@ pub enum Instr {
     NewExcept(Words),
 }
 
-/// A label of a unit, with the number of its line.
-#[derive(Drop)]
-pub struct Label {
-    pub text: Text,
-    pub line: u32,
-}
-
 /// A line as it is found: where its instructions begin, its level, and its formals.
 #[derive(Drop)]
 pub struct Head {
@@ -141,12 +135,11 @@ pub struct Head {
     pub formals: Words,
 }
 
-/// The p-code of a routine: its instructions, its lines (line k at place k - 1 of the list), and its labels, in the order of
-/// their lines.
+/// The p-code of a routine: its instructions, its lines (line k at place k - 1 of the list), and its labels.
 #[derive(Drop)]
 pub struct Unit {
     pub name: Text,
     pub instrs: Vec<Instr>,
     pub heads: Vec<Head>,
-    pub labels: Vec<Label>,
+    pub labels: Labels,
 }

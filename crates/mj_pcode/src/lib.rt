@@ -5,12 +5,14 @@
 
 mod find;
 mod instr;
+mod labels;
 mod marks;
 mod shape;
 mod words;
 
 pub use find::{Target, find_line};
-pub use instr::{Depth, Head, Instr, Label, LineStart, Reference, Span, Unit};
+pub use instr::{Depth, Head, Instr, LineStart, Reference, Span, Unit};
+pub use labels::Labels;
 pub use marks::Marks;
 pub use shape::Shape;
 pub use words::Words;

@@ -24,9 +24,9 @@ returns-clause-code c =
     let has_heads : u.heads.items ≡ heads_of 0 first (map line_of kept) =
     sym (append-nil u.heads.items) ∙ ap (λ ls. u.heads.items ++ heads_of (length u.instrs.items) here (map line_of ls)) (sym done)
     ∙ inv.heads ∙ ap (λ ls. heads_of 0 first (map line_of ls)) all in
-    let has_labels : u.labels.items ≡ correct.labels_of 1 (map line_of kept) =
-    sym (append-nil u.labels.items) ∙ ap (λ ls. u.labels.items ++ correct.labels_of (c.loop-line.number + 1) (map line_of ls)) (sym done)
-    ∙ inv.labels ∙ ap (λ ls. correct.labels_of 1 (map line_of ls)) all in
+    let has_labels : u.labels ≡ correct.with_labels [] 1 (map line_of kept) =
+    ap (λ ls. correct.with_labels u.labels (c.loop-line.number + 1) (map line_of ls)) (sym done)
+    ∙ inv.labels ∙ ap (λ ls. correct.with_labels [] 1 (map line_of ls)) all in
     let has_starts : map (λ h. h.start) u.heads.items ≡ starts 0 first (map line_of kept) = ap (map (λ h. h.start)) has_heads ∙ starts_are 0 first (map line_of kept) in
     let has_levels : map (λ h. h.level) u.heads.items ≡ map (λ l. l.level) (map line_of kept) = ap (map (λ h. h.level)) has_heads ∙ levels_are 0 first (map line_of kept) in
     let has_formals : map (λ h. h.formals) u.heads.items ≡ map (λ l. l.formals) (map line_of kept) = ap (map (λ h. h.formals)) has_heads ∙ formals_are 0 first (map line_of kept) in

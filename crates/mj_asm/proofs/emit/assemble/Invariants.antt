@@ -1,4 +1,4 @@
-use Rattle.std.proofs.Common.{◌≡◌, ◌+◌, ◌++◌, drop, length, map}
+use Rattle.std.proofs.Common.{◌≡◌, ◌+◌, [], ◌++◌, drop, length, map}
 use Rattle.mj_ast.specs.Trees.{line_of, routine_of}
 use Rattle.mj_asm.specs.Code.{lines_code}
 use Rattle.mj_asm.specs.Correct as correct
@@ -17,6 +17,6 @@ invariant-loop-line l = record {
       l.unit.heads.items ++ heads_of (length l.unit.instrs.items) (correct.line_of (routine_of l.fn.routine) (l.number + 1)) (map line_of (drop l.line-index l.line-items))
       ≡ heads_of 0 (correct.line_of (routine_of l.fn.routine) 1) (map line_of l.line-items);
   labels :
-      l.unit.labels.items ++ correct.labels_of (l.number + 1) (map line_of (drop l.line-index l.line-items))
-      ≡ correct.labels_of 1 (map line_of l.line-items);
+      correct.with_labels l.unit.labels (l.number + 1) (map line_of (drop l.line-index l.line-items))
+      ≡ correct.with_labels [] 1 (map line_of l.line-items);
 }

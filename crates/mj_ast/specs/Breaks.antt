@@ -1,0 +1,24 @@
+-- Which commands are BREAK, at which a debugger stops. None is yet.
+use Rattle.std.specs.Prelude.{Bool, false}
+use Rattle.std.specs.List.{list_any}
+use Rattle.mj_ast.specs.Syntax.{Command, Set, Write, Halt, Kill, Merge, If, Else, For, Forever, Do, Goto, Quit, New, Line}
+
+-- whether a command is BREAK
+abbrev pub is_break : Command → Bool
+is_break (Set arguments) = false
+is_break (Write arguments) = false
+is_break Halt = false
+is_break (Kill arguments) = false
+is_break (Merge arguments) = false
+is_break (If conditions) = false
+is_break Else = false
+is_break (For v ranges) = false
+is_break Forever = false
+is_break (Do arguments) = false
+is_break (Goto arguments) = false
+is_break Quit = false
+is_break (New arguments) = false
+
+-- whether one of a line's commands is BREAK
+abbrev pub holds_break : Line → Bool
+holds_break line = list_any (λ step. is_break step.command) line.steps

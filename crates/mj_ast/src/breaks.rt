@@ -1,0 +1,48 @@
+// BREAK, at which a debugger stops.
+
+ghost use Rattle.std.specs.Prelude.{◌≡◌};
+ghost use Rattle.std.specs.List.{list_any};
+ghost use Rattle.mj_ast.specs.Trees.{command_of, line_of};
+ghost use Rattle.mj_ast.specs.Breaks as breaks;
+
+use crate::routine::{Command, Line, Step};
+
+impl Command {
+    /// Whether it is BREAK, which no command is yet.
+    pub fn is_break(&self) -> bool
+        ensures { result ≡ breaks.is_break (command_of self.now) }
+    {
+        match self {
+            Command::Set(_)
+            | Command::Write(_)
+            | Command::Halt
+            | Command::Kill(_)
+            | Command::Merge(_)
+            | Command::If(_)
+            | Command::Else
+            | Command::For(_, _)
+            | Command::Forever
+            | Command::Do(_)
+            | Command::Goto(_)
+            | Command::Quit
+            | Command::New(_) => false,
+        }
+    }
+}
+
+impl Line {
+    /// Whether one of its commands is BREAK.
+    #[tactic(auto, using(crate::proofs::Held::kept_alike))]
+    pub fn holds_break(&self) -> bool
+        ensures { result ≡ breaks.holds_break (line_of self.now) }
+    {
+        is_among(&self.steps)
+    }
+}
+
+// Whether one of these commands is BREAK.
+fn is_among(steps: &[Step]) -> bool
+    ensures { result ≡ list_any (λ s. breaks.is_break (command_of s.command)) steps.now }
+{
+    steps.iter().any(|step| step.command.is_break())
+}
