@@ -13,7 +13,6 @@ ghost use Rattle.mj_machine.specs.Asked as asked;
 ghost use Rattle.mj_machine.specs.Kept.{standing, stack_of, context_of, Does, replied};
 
 use crate::control::Control;
-use crate::local::perform;
 use crate::machine::{Machine, STEPS_LIMIT, Step};
 use crate::names::name_for;
 use crate::quiet::fail;
@@ -22,6 +21,7 @@ use crate::tellings::{asks, question, spelled, told_by, told_of};
 use crate::values::put_value;
 use mj_ask::{Ask, Reply};
 use mj_ast::NameFunction;
+use mj_locals::perform;
 use mj_pcode::Reference;
 use mj_store::{Access, Answer};
 use mj_subs::Name;

@@ -14,13 +14,13 @@ ghost use Rattle.mj_pcode.specs.Machine.{top, operands};
 ghost use Rattle.mj_machine.specs.Kept.{standing, stack_of, context_of, Does, replied};
 
 use crate::control::Control;
-use crate::local::perform;
 use crate::machine::{Machine, STEPS_LIMIT, Step};
 use crate::names::name_below;
 use crate::quiet::fail;
 use crate::stack;
 use crate::variables::is_plain_local;
 use mj_ask::{Ask, Reply};
+use mj_locals::perform;
 use mj_pcode::{Depth, Reference};
 use mj_store::{Access, Answer};
 use mj_text::{Fault, Text};

@@ -15,7 +15,6 @@ pub mod changes;
 mod column;
 mod control;
 pub mod format;
-mod local;
 mod machine;
 pub mod merges;
 pub mod names;

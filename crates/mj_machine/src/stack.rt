@@ -46,7 +46,7 @@ pub fn take_off(stack: &mut Vec<Text>, count: usize)
 
 /// Puts a value on.
 #[inline(always)]
-pub fn push(stack: &mut Vec<Text>, value: Text) -> Result<(), AllocError>
+pub(crate) fn push(stack: &mut Vec<Text>, value: Text) -> Result<(), AllocError>
     ensures ok { OnOk result (reverse stack.new.items ≡ value ∷ reverse stack.old.items) }
     ensures err { OnErr result (stack.new.items ≡ stack.old.items) }
 {
@@ -58,7 +58,7 @@ pub fn push(stack: &mut Vec<Text>, value: Text) -> Result<(), AllocError>
 
 /// Puts a value in the place of the two topmost operands. It takes no memory.
 #[inline(always)]
-pub fn fold(stack: &mut Vec<Text>, value: Text)
+pub(crate) fn fold(stack: &mut Vec<Text>, value: Text)
     requires { 2 ≤ length stack.old.items }
     ensures { reverse stack.new.items ≡ value ∷ drop 2 (reverse stack.old.items) }
 {

@@ -96,12 +96,7 @@ pub fn apply_binary(
 
 // An operator between operands that may be any texts. It lies apart, so that numbers don't clear its room.
 #[inline(never)]
-fn apply_texts(
-    alloc: Global,
-    pc: usize,
-    op: Op,
-    machine: &mut Machine,
-) -> Result<Step, AllocError>
+fn apply_texts(alloc: Global, pc: usize, op: Op, machine: &mut Machine) -> Result<Step, AllocError>
     requires next { pc + 1 < 2 ^ 64 }
     requires enough { 2 ≤ length machine.old.stack.items }
     ensures ok { IfOk result (λ step. (reply : Option replies.Reply) → Does (λ next. told.given (binary_value op (top (below (stack_of machine.old))) (top (stack_of machine.old))) (λ v. next (context_of machine.old) (pc + 1) (v ∷ drop 2 (stack_of machine.old)))) machine.old reply step machine.new) }
