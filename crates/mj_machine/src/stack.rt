@@ -35,6 +35,15 @@ pub fn topmost(stack: &[Text], count: usize) -> &[Text]
     &stack[kept..]
 }
 
+/// Takes the topmost operand off.
+#[inline(always)]
+pub fn take_one(stack: &mut Vec<Text>)
+    requires { 1 ≤ length stack.old.items }
+    ensures { reverse stack.new.items ≡ drop 1 (reverse stack.old.items) }
+{
+    let _top = stack.pop();
+}
+
 /// Takes the `count` topmost operands off.
 pub fn take_off(stack: &mut Vec<Text>, count: usize)
     requires { count ≤ length stack.old.items }
@@ -63,7 +72,7 @@ pub(crate) fn fold(stack: &mut Vec<Text>, value: Text)
     ensures { reverse stack.new.items ≡ value ∷ drop 2 (reverse stack.old.items) }
 {
     let kept = stack.len() - 2;
-    stack.truncate(kept + 1);
+    let _right = stack.pop();
     stack[kept] = value;
 }
 

@@ -139,7 +139,7 @@ pub fn test(pc: usize, target: usize, machine: &mut Machine) -> Result<Step, All
 {
     match truth(stack::top(&machine.stack)) {
         Ok(holds) => {
-            stack::take_off(&mut machine.stack, 1);
+            stack::take_one(&mut machine.stack);
             machine.control = Control::At(if holds { pc + 1 } else { target });
             Ok(Step::Next)
         }

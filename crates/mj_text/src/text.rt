@@ -148,6 +148,17 @@ impl Text {
         }
     }
 
+    /// Its bytes, where they lie there spelled. `None` says nothing of them: [`Text::bytes`] spells them.
+    pub fn spelled(&self) -> Option<&[u8]>
+        ensures { IfSome result (λ bytes. bytes.now ≡ self.now) }
+    {
+        match &self.kept {
+            Kept::Number(_) => None,
+            Kept::Short(short) => Some(short.bytes()),
+            Kept::Long(bytes) => Some(bytes.as_slice()),
+        }
+    }
+
     /// The number that it spells, where that is at hand. `None` says nothing: the text may spell a number or not.
     pub fn number(&self) -> Option<i64>
         ensures { IfSome result (λ n. IsWhole n × (self.now ≡ signed_decimal n)) }

@@ -29,7 +29,7 @@ pub fn decide(pc: usize, target: usize, machine: &mut Machine) -> Result<Step, A
 {
     match truth(stack::top(&machine.stack)) {
         Ok(holds) => {
-            stack::take_off(&mut machine.stack, 1);
+            stack::take_one(&mut machine.stack);
             machine.test = holds;
             machine.control = Control::At(if holds { pc + 1 } else { target });
             Ok(Step::Next)

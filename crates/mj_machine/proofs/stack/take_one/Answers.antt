@@ -1,0 +1,9 @@
+use Rattle.std.proofs.Common.{◌≡◌, ◌-◌, ◌∙◌, ap, take, length, reverse, arith}
+use Rattle.mj_machine.proofs.Operands.{reverse_take}
+use Rattle.mj_machine.proofs.stack.take_one.Goals as goal
+
+pub returns : goal.returns
+returns c =
+    ap reverse c.pop.ensures.rest
+    ∙ ap (λ m. reverse (take (m - 1) c.args.stack.now.items)) c.args.stack.now.ok.0
+    ∙ reverse_take c.args.stack.now.items 1
