@@ -1,6 +1,9 @@
-pub mod Placed
+pub mod Places
 pub mod Spared
+pub mod Marks
+pub mod At
 pub mod Names
-pub mod Moved
-pub mod News
-pub mod Changed
+pub mod Content
+pub mod HiddenWords
+pub mod Formals
+pub mod Saved

@@ -19,7 +19,11 @@ use Rattle.mj_tree.specs.Maps.{first_so, second_so, both_so, is_less}
 use Rattle.mj_globs.specs.Words.{name, of_word, of_kind}
 use Rattle.mj_semantics.specs.State.{Words, covers, put_back}
 use Rattle.mj_globs.proofs.Groups.{W, S, name_apart, find_kind}
-use Rattle.mj_locals.specs.Trees.{Trees, at, AreTrees, AreRising, seen}
+use Rattle.mj_locals.specs.Trees.{Trees, at, AreTrees}
+
+-- words rise, and the subscripts in each
+abbrev pub AreRising : Trees → Type 0
+AreRising ts = T (is_sorted W ts) × AreTrees ts
 
 -- ---- what stands at a name
 
@@ -129,12 +133,12 @@ picked p ts us h g is =
     by n false false e = ap (find S n.subscripts) e
 
 -- what is put back
-pub restored : (v : Words) (ts now us : Trees) → AreRising ts → AreRising now → AreRising us → ((w : List ℕ) → at us w ≡ cond (covers v w) (at ts w) (at now w)) → of_kind false us ≡ put_back (seen (v, ts)) (of_kind false now)
+pub restored : (v : Words) (ts now us : Trees) → AreRising ts → AreRising now → AreRising us → ((w : List ℕ) → at us w ≡ cond (covers v w) (at ts w) (at now w)) → of_kind false us ≡ put_back (record { words = v; locals = of_kind false ts }) (of_kind false now)
 restored v ts now us h k g is =
     let old = filter (λ e. covers v e.0.word) (of_kind false ts) in
     let rest = filter (λ e. not (covers v e.0.word)) (of_kind false now) in
     let rises : T (is_sorted name_cmp old) = sorted_among (covers v) (of_kind false ts) (names_rise ts h.0 h.1) in
-    same_content (of_kind false us) (put_back (seen (v, ts)) (of_kind false now)) (names_rise us g.0 g.1) (sorted_all_set old rest (sorted_among (λ w. not (covers v w)) (of_kind false now) (names_rise now k.0 k.1)))
+    same_content (of_kind false us) (put_back (record { words = v; locals = of_kind false ts }) (of_kind false now)) (names_rise us g.0 g.1) (sorted_all_set old rest (sorted_among (λ w. not (covers v w)) (of_kind false now) (names_rise now k.0 k.1)))
     (λ n. find_local us g.0 n ∙ by n n.global (covers v n.word) (is n.word)
     ∙ sym (find_all_set old rest n rises
     ∙ (λ i. or_else

@@ -1,20 +1,37 @@
 -- What stays when all words are emptied but some.
-use Rattle.std.proofs.Common.{◌≡◌, ℕ, Bool, true, cond, List, [], ◌∷◌, map, Vec, Global, refl, ap, ◌∙◌, subst}
+use Rattle.std.proofs.Common.{◌≡◌, ℕ, ◌+◌, ◌<◌, zero, suc, Bool, true, false, cond, if◌then◌else◌, List, [], ◌∷◌, length, refl, sym, ap, ◌∙◌, arith, add-one}
+use Rattle.std.specs.Prelude.{slice_set}
 use Rattle.std.specs.List.{list_any}
 use Rattle.std.specs.Str.{bytes_eq}
-use Rattle.std.specs.Map.Calls.{RetainsPairs}
 use Rattle.mj_store.specs.Questions.{Subtree}
-use Rattle.mj_globs.specs.Words.{spelled}
-use Rattle.mj_locals.specs.Trees.{Trees, all_spared}
+use Rattle.mj_locals.specs.Trees.{Trees, word_at, all_spared}
 
--- a closure that always answers `true`, writes g of each key and value, and stays as it was
-pub map_pairs : {F K X : Type 0} (Q : F → K → X → Bool → X → F → Type 0) (g : K → X → X) (f : F) → ((k : K) (v : X) (b : Bool) (w : X) (f' : F) → Q f k v b w f' → (b ≡ true) × (w ≡ g k v) × (f' ≡ f)) → (es kept : List (K × X)) → RetainsPairs Q f es kept → kept ≡ map (λ e. (e.0, g e.0 e.1)) es
-map_pairs Q g f h [] kept r = r
-map_pairs Q g f h (e ∷ es) kept r =
-    let a = h e.0 e.1 r.0 r.1 r.2 r.4 in
-    let rest = map_pairs Q g f h es r.3 (subst (λ u. RetainsPairs Q u es r.3) a.2 r.5) in
-    r.6 ∙ ap (λ b. cond b ((e.0, r.1) ∷ r.3) r.3) a.0 ∙ (λ i. (e.0, a.1 i) ∷ rest i)
+-- the same at the first so many places
+abbrev pub first_spared : List (List ℕ) → ℕ → Trees → Trees
+first_spared ws zero ts = ts
+first_spared ws (suc n) [] = []
+first_spared ws (suc n) (k ∷ ks) = (k.0, cond (list_any (bytes_eq k.0) ws) k.1 []) ∷ first_spared ws n ks
 
-pub spelled_spared : (ws : List (List ℕ)) (es : List (Vec ℕ Global × Subtree)) → spelled (map (λ e. (e.0, cond (list_any (bytes_eq e.0.items) ws) e.1 [])) es) ≡ all_spared ws (spelled es)
-spelled_spared ws [] = refl
-spelled_spared ws (e ∷ es) = ap (λ (r : Trees). (e.0.items, cond (list_any (bytes_eq e.0.items) ws) e.1 []) ∷ r) (spelled_spared ws es)
+pub length_spared : (ws : List (List ℕ)) (n : ℕ) (ts : Trees) → length (first_spared ws n ts) ≡ length ts
+length_spared ws zero ts = refl
+length_spared ws (suc n) [] = refl
+length_spared ws (suc n) (k ∷ ks) = ap suc (length_spared ws n ks)
+
+pub all_are_spared : (ws : List (List ℕ)) (ts : Trees) → first_spared ws (length ts) ts ≡ all_spared ws ts
+all_are_spared ws [] = refl
+all_are_spared ws (k ∷ ks) = ap (λ (r : Trees). (k.0, cond (list_any (bytes_eq k.0) ws) k.1 []) ∷ r) (all_are_spared ws ks)
+
+-- one more place
+pub next_spared : (ws : List (List ℕ)) (n : ℕ) (ts : Trees) → n < length ts → (if list_any (bytes_eq (word_at (first_spared ws n ts) n)) ws then first_spared ws n ts else slice_set (first_spared ws n ts) n (word_at (first_spared ws n ts) n, [])) ≡ first_spared ws (suc n) ts
+next_spared ws n [] h = absurd (omega arith)
+next_spared ws zero (k ∷ ks) h =
+    elim (list_any (bytes_eq k.0) ws) as (λ b. (if b then k ∷ ks else (k.0, []) ∷ ks) ≡ (k.0, cond b k.1 []) ∷ ks) [ true ↦ refl | false ↦ refl ]
+next_spared ws (suc n) (k ∷ ks) h =
+    let r = first_spared ws n ks in
+    let front : List ℕ × Subtree = (k.0, cond (list_any (bytes_eq k.0) ws) k.1 []) in
+    push (list_any (bytes_eq (word_at r n)) ws) front r (slice_set r n (word_at r n, []))
+    ∙ ap (λ (x : Trees). front ∷ x) (next_spared ws n ks (omega arith))
+  where
+    push : (b : Bool) (f : List ℕ × Subtree) (x y : Trees) → (if b then f ∷ x else f ∷ y) ≡ f ∷ (if b then x else y)
+    push true f x y = refl
+    push false f x y = refl

@@ -7,9 +7,11 @@
 
 mod access;
 mod locals;
+mod news;
+mod table;
 #[cfg(test)]
 mod tests;
-mod trees;
+mod trail;
 
 pub use access::perform;
 pub use locals::Locals;
