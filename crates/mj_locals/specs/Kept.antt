@@ -46,4 +46,4 @@ CanBeUndone ts [] = Unit {0}
 CanBeUndone ts (g ∷ gs) = HavePlaces (length ts) g.1 × AreCovered g.0 (named ts g.1) × CanBeUndone ts gs
 
 abbrev pub IsKept : Inside → Type 0
-IsKept a = (a.none ≡ []) × CanBeUndone a.table a.trail
+IsKept a = CanBeUndone a.table a.trail
