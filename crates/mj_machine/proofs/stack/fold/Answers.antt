@@ -8,5 +8,5 @@ returns c =
     let e : c.len-kept.result - 2 ≡ length c.args.stack.now.items - 2 = omega (arith, n) in
     let some : c.len-kept.result - 2 < length c.args.stack.now.items = omega (arith, c.requires, n) in
     let k : c.args.stack.now.len - 1 ≡ c.len-kept.result - 2 + 1 = omega (arith, c.requires, n, c.args.stack.now.ok.0) in
-    replaced c.args.stack.now.items c.pop.new.self.items 2 (c.len-kept.result - 2) c.args.value e some
-    (c.pop.ensures.rest ∙ ap (λ m. take m c.args.stack.now.items) k)
+    replaced c.args.stack.now.items c.pop-right.new.self.items 2 (c.len-kept.result - 2) c.args.value e some
+    (c.pop-right.ensures.rest ∙ ap (λ m. take m c.args.stack.now.items) k)
