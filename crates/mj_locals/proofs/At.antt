@@ -1,5 +1,5 @@
 -- What stands at each word after one of them changes, or after trees are put to their words.
-use Rattle.std.proofs.Common.{◌≡◌, ℕ, ◌+◌, ◌-◌, ◌<◌, ◌≤◌, zero, suc, Bool, true, false, cond, ◌||◌, List, [], ◌∷◌, ◌++◌, length, inl, inr, Option, Some, None, refl, sym, ap, ◌∙◌, subst, arith, length-append}
+use Rattle.std.proofs.Common.{◌≡◌, ℕ, ◌-◌, ◌<◌, ◌≤◌, zero, suc, Bool, true, false, cond, ◌||◌, List, [], ◌∷◌, ◌++◌, length, inl, inr, Option, Some, None, refl, sym, ap, ◌∙◌, arith, length-append}
 use Rattle.std.specs.Prelude.{is_some}
 use Rattle.std.specs.Ordering.{is_eq}
 use Rattle.std.specs.Map.{lookup}
@@ -10,7 +10,7 @@ use Rattle.mj_tree.specs.Nest.{nodes_of}
 use Rattle.mj_globs.proofs.Groups.{W}
 use Rattle.mj_locals.specs.Trees.{Trees, at, has_room, placed, added, word_at}
 use Rattle.mj_locals.specs.Hiding.{Grows, all_put}
-use Rattle.mj_locals.proofs.Places.{same_word, itself, word_placed, length_placed, placed_none, word_front}
+use Rattle.mj_locals.proofs.Places.{same_word, itself, word_placed, length_placed, word_front}
 
 -- ---- one word
 

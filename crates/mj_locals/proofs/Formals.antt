@@ -1,8 +1,8 @@
 -- The words of a group, and the values that they get one by one.
-use Rattle.std.proofs.Common.{◌≡◌, ℕ, ◌+◌, ◌<◌, zero, suc, List, [], ◌∷◌, length, map, drop, get_or, Option, Some, None, refl, sym, ap, ◌∙◌, arith}
+use Rattle.std.proofs.Common.{◌≡◌, ℕ, ◌+◌, ◌<◌, zero, suc, List, [], ◌∷◌, length, map, drop, get_or, Option, None, refl, sym, ap, ◌∙◌, arith}
 use Rattle.std.specs.Prelude.{slice_set}
 use Rattle.std.proofs.lemmas.List.{drop_more}
-use Rattle.mj_store.specs.Questions.{Content, Subtree}
+use Rattle.mj_store.specs.Questions.{Content}
 use Rattle.mj_semantics.specs.State.{bound}
 use Rattle.mj_locals.specs.Groups.{Pairs}
 use Rattle.mj_locals.specs.Kept.{named, HavePlaces}

@@ -1,20 +1,18 @@
 -- What NEW hides, one word after the other, and what putting it back gives.
-use Rattle.std.proofs.Common.{◌≡◌, ℕ, ◌+◌, ◌<◌, ◌≤◌, suc, Bool, true, false, cond, not, ◌||◌, List, [], ◌∷◌, ◌++◌, length, map, inl, inr, Option, Some, None, refl, sym, ap, ◌∙◌, subst, arith}
-use Rattle.std.specs.Prelude.{IsTrue, is_some}
+use Rattle.std.proofs.Common.{◌≡◌, ℕ, ◌+◌, ◌<◌, ◌≤◌, Bool, true, false, cond, not, ◌||◌, List, [], ◌∷◌, ◌++◌, length, map, inl, inr, Option, Some, None, refl, sym, ap, ◌∙◌, subst, arith}
+use Rattle.std.specs.Prelude.{IsTrue}
 use Rattle.std.specs.List.{list_any}
 use Rattle.std.specs.Str.{bytes_eq}
 use Rattle.std.specs.Ordering.{is_eq}
-use Rattle.std.specs.Map.{lookup, set_value}
 use Rattle.std.proofs.lemmas.Bool.{cases_lt}
 use Rattle.mj_store.specs.Questions.{Subtree}
 use Rattle.mj_globs.proofs.Groups.{W}
-use Rattle.mj_semantics.specs.State.{AllBut, covers}
 use Rattle.mj_locals.specs.Groups.{Pairs, Group, newest, rest, begun, saved, reduced}
 use Rattle.mj_locals.specs.Kept.{named, HavePlaces, AreOthers}
 use Rattle.mj_locals.specs.Trees.{Trees, at, has_room, placed, added, word_at, IsPlace}
 use Rattle.mj_locals.specs.Hiding.{Grows, Hides, HidesOnly, HidesOthersTo, all_put}
 use Rattle.mj_locals.proofs.Places.{same_word, itself, word_placed, length_placed}
-use Rattle.mj_locals.proofs.At.{HaveRoom, room_placed, at_placed, at_added, at_pushed, room_pushed, room_at, grows_itself, grows_on, grows_placed, grows_added, grows_length, grows_same, at_all_put, all_put_pushed, word_all_put, length_all_put}
+use Rattle.mj_locals.proofs.At.{HaveRoom, at_placed, at_added, at_pushed, room_pushed, room_at, grows_itself, grows_on, grows_added, grows_length, grows_same, at_all_put, word_all_put, length_all_put}
 
 -- ---- words in place of places
 

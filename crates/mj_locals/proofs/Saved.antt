@@ -1,7 +1,6 @@
 -- What NEW leaves and saves, and what undoing it gives, as a job's state has it.
-use Rattle.std.proofs.Common.{◌≡◌, ℕ, ◌+◌, ◌<◌, ◌≤◌, zero, suc, Bool, true, false, cond, not, ◌||◌, List, [], ◌∷◌, ◌++◌, length, map, Option, Some, None, Result, Ok, Err, OnOk, OnErr, refl, sym, ap, ◌∙◌, subst, arith}
-use Rattle.std.specs.Prelude.{T, IsTrue, is_some}
-use Rattle.std.specs.FinMap.{is_sorted}
+use Rattle.std.proofs.Common.{◌≡◌, ℕ, ◌<◌, zero, suc, Bool, true, false, cond, not, ◌||◌, List, [], ◌∷◌, ◌++◌, length, map, Option, Some, None, Result, Ok, Err, OnOk, OnErr, refl, sym, ap, ◌∙◌, subst, arith}
+use Rattle.std.specs.Prelude.{is_some}
 use Rattle.std.specs.List.{filter, list_any}
 use Rattle.std.specs.Str.{bytes_eq}
 use Rattle.std.specs.Ordering.{is_eq}
@@ -9,13 +8,13 @@ use Rattle.std.specs.Map.{lookup}
 use Rattle.std.specs.BTreeMap.{is_at}
 use Rattle.std.proofs.lemmas.Map.Text.{is_eq-slice_cmp}
 use Rattle.mj_store.specs.Questions.{Content, Subtree}
-use Rattle.mj_globs.proofs.Groups.{W, S}
-use Rattle.mj_semantics.specs.State.{Words, Only, AllBut, Saved, covers, put_back, bound}
-use Rattle.mj_locals.specs.Held.{Held, with_now, after_new, after_pass, after_undo}
+use Rattle.mj_globs.proofs.Groups.{W}
+use Rattle.mj_semantics.specs.State.{Only, AllBut, Saved, covers, put_back}
+use Rattle.mj_locals.specs.Held.{Held, with_now, after_new, after_undo}
 use Rattle.mj_locals.specs.Groups.{Pairs, Group, newest, rest, spared_by, AreTreesOf, AreSorted}
 use Rattle.mj_locals.specs.Kept.{named, words_of, seen, HavePlaces, AreOthers, AreCovered, CanBeUndone}
 use Rattle.mj_locals.specs.Trees.{Trees, at, has_room, placed, added, word_at, all_spared, AreTrees, content}
-use Rattle.mj_locals.specs.Hiding.{Grows, Hides, HidesOnly, HidesOthers, all_put, kept_of}
+use Rattle.mj_locals.specs.Hiding.{Grows, HidesOnly, HidesOthers, all_put, kept_of}
 use Rattle.mj_locals.proofs.Places.{same_word, trees_pushed}
 use Rattle.mj_locals.proofs.At.{HaveRoom, at_all_put, at_nowhere, at_added, grows_on, grows_placed, grows_added, grows_length, grows_same, word_all_put, length_all_put}
 use Rattle.mj_locals.proofs.Content.{same_at, picked_content, restored_content, at_spared}

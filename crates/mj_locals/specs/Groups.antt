@@ -1,5 +1,5 @@
 -- What NEWs saved, as groups of trees with the places of their words.
-use Rattle.std.specs.Prelude.{T, ℕ, List, [], ◌∷◌, ◌++◌, Option, None, Some}
+use Rattle.std.specs.Prelude.{T, ℕ, List, [], ◌∷◌, ◌++◌, Option, None}
 use Rattle.std.specs.FinMap.{is_sorted}
 use Rattle.std.specs.Cmp.Lexicographic.{slice_cmp}
 use Rattle.mj_subs.specs.Collation.{subscript_cmp}

@@ -1,6 +1,6 @@
 -- What NEW hides, and what undoing it shows again.
 use Rattle.std.specs.Prelude.{◌≡◌, ℕ, ◌<◌, cond, List, [], ◌∷◌, Option, None, Some, length, map, IsTrue}
-use Rattle.mj_semantics.specs.State.{Words, AllBut, covers}
+use Rattle.mj_semantics.specs.State.{AllBut, covers}
 use Rattle.mj_locals.specs.Groups.{Group, newest}
 use Rattle.mj_locals.specs.Kept.{named, HavePlaces, AreOthers}
 use Rattle.mj_locals.specs.Trees.{Trees, at, has_room, placed, word_at, all_spared}

@@ -1,5 +1,5 @@
 -- How the groups of what NEWs saved are kept.
-use Rattle.std.specs.Prelude.{ℕ, ◌≤◌, List, [], ◌∷◌, reverse, length, take, drop}
+use Rattle.std.specs.Prelude.{◌≤◌, List, [], ◌∷◌, reverse, length, take, drop}
 use Rattle.std.specs.Option.{option_map}
 use Rattle.mj_locals.specs.declared.trail.Mark.{Mark}
 use Rattle.mj_locals.specs.declared.trail.Trail.TheInside.{Inside}

@@ -1,5 +1,5 @@
 -- Words with a tree each. A word may stand there without a node: it has room then.
-use Rattle.std.specs.Prelude.{T, ◌≡◌, ℕ, ◌<◌, Bool, cond, IsTrue, is_some, List, [], ◌∷◌, ◌++◌, length, get_or, map, Option, None, Some, false, suc}
+use Rattle.std.specs.Prelude.{T, ◌≡◌, ℕ, ◌<◌, Bool, cond, is_some, List, [], ◌∷◌, ◌++◌, length, get_or, map, Option, None, Some, false, suc}
 use Rattle.std.specs.Option.{option_map}
 use Rattle.std.specs.List.{list_any}
 use Rattle.std.specs.Str.{bytes_eq}

@@ -2,13 +2,12 @@ use Rattle.std.proofs.Common.{◌≡◌, ℕ, ◌+◌, ◌<◌, suc, List, [], l
 use Rattle.std.specs.Prelude.{slice_set}
 use Rattle.std.specs.FinMap.{put}
 use Rattle.std.proofs.lemmas.List.{get_or_read}
-use Rattle.mj_store.specs.Questions.{Content, Subtree}
-use Rattle.mj_store.specs.Changes.{after_set}
+use Rattle.mj_store.specs.Questions.{Subtree}
 use Rattle.mj_globs.proofs.Groups.{S}
-use Rattle.mj_semantics.specs.State.{bound, plain_name}
+use Rattle.mj_semantics.specs.State.{bound}
 use Rattle.mj_locals.specs.Groups.{Pairs, newest}
 use Rattle.mj_locals.specs.Kept.{named}
-use Rattle.mj_locals.specs.Trees.{Trees, at, placed, word_at, content}
+use Rattle.mj_locals.specs.Trees.{Trees, at, word_at, content}
 use Rattle.mj_locals.proofs.Places.{length_placed, word_placed}
 use Rattle.mj_locals.proofs.At.{room_at}
 use Rattle.mj_locals.proofs.Content.{set_content, bound_step, bound_end}

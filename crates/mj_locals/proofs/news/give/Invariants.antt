@@ -1,7 +1,7 @@
 use Rattle.std.proofs.Common.{◌≡◌, ℕ, length, drop, map}
 use Rattle.mj_semantics.specs.State.{bound}
 use Rattle.mj_locals.specs.Groups.{newest}
-use Rattle.mj_locals.specs.Kept.{named, HavePlaces}
+use Rattle.mj_locals.specs.Kept.{named}
 use Rattle.mj_locals.specs.Trees.{word_at, content}
 use Rattle.mj_locals.proofs.news.give.Given as goal
 

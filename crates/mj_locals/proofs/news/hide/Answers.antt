@@ -1,4 +1,4 @@
-use Rattle.std.proofs.Common.{◌≡◌, None, Some, sym, ap, ◌∙◌}
+use Rattle.std.proofs.Common.{None}
 use Rattle.mj_locals.specs.Groups.{rest}
 use Rattle.mj_locals.proofs.HiddenWords.{put_back_at, put_back_grows}
 use Rattle.mj_locals.proofs.news.hide.Goals as goal

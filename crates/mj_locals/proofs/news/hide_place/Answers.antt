@@ -1,5 +1,5 @@
-use Rattle.std.proofs.Common.{◌≡◌, ℕ, ◌<◌, List, [], length, sym, ap, ◌∙◌, arith}
-use Rattle.mj_locals.specs.Trees.{Trees, at, placed, word_at}
+use Rattle.std.proofs.Common.{◌≡◌, length, ap, ◌∙◌, arith}
+use Rattle.mj_locals.specs.Trees.{Trees, placed, word_at}
 use Rattle.mj_locals.proofs.Places.{length_placed, word_placed, placed_back}
 use Rattle.mj_locals.proofs.news.hide_place.Goals as goal
 

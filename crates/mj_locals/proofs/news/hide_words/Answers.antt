@@ -1,8 +1,7 @@
-use Rattle.std.proofs.Common.{◌≡◌, ℕ, ◌<◌, List, [], ◌∷◌, ◌++◌, None, length, take, sym, ap, ◌∙◌, subst, arith}
+use Rattle.std.proofs.Common.{ℕ, ◌<◌, List, [], ◌∷◌, ◌++◌, None, length, take, sym, ap, ◌∙◌, subst, arith}
 use Rattle.std.proofs.lemmas.List.{take_more, get_or_read}
 use Rattle.mj_locals.specs.Groups.{Group, rest}
-use Rattle.mj_locals.specs.Trees.{Trees}
-use Rattle.mj_locals.specs.Hiding.{Hides, HidesOnly}
+use Rattle.mj_locals.specs.Hiding.{HidesOnly}
 use Rattle.mj_locals.proofs.Content.{on_err}
 use Rattle.mj_locals.proofs.HiddenWords.{hides_same, hides_added, only_next}
 use Rattle.mj_locals.proofs.news.hide_words.Goals as goal

@@ -1,7 +1,7 @@
-use Rattle.std.proofs.Common.{◌≡◌, ℕ, ◌<◌, List, [], ◌∷◌, ◌++◌, length, refl, sym, ap, ◌∙◌, subst, arith}
+use Rattle.std.proofs.Common.{ℕ, List, length, sym, ap, ◌∙◌, subst, arith}
 use Rattle.mj_store.specs.Questions.{Subtree}
 use Rattle.mj_globs.proofs.Groups.{append_nil}
-use Rattle.mj_locals.specs.Groups.{Pairs, Group, newest, rest, reduced}
+use Rattle.mj_locals.specs.Groups.{Pairs, newest, rest}
 use Rattle.mj_locals.specs.Kept.{named, HavePlaces}
 use Rattle.mj_locals.specs.Trees.{Trees, placed, word_at}
 use Rattle.mj_locals.specs.Hiding.{all_put}

@@ -1,7 +1,7 @@
-use Rattle.std.proofs.Common.{◌≡◌, ℕ, List, [], length, Option, None, Some, refl, reverse, sym, ap, ◌∙◌, arith}
+use Rattle.std.proofs.Common.{◌≡◌, Option, None, Some, ap, ◌∙◌, arith}
 use Rattle.std.specs.Prelude.{MatchOption}
 use Rattle.mj_locals.specs.declared.trail.Mark.{Mark}
-use Rattle.mj_locals.specs.Groups.{Group, newest, rest}
+use Rattle.mj_locals.specs.Groups.{newest, rest}
 use Rattle.mj_locals.proofs.Marks.{ended, ended_keeps}
 use Rattle.mj_locals.proofs.trail.Trail.end.Goals as goal
 

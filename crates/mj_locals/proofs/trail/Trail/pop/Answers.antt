@@ -1,5 +1,5 @@
-use Rattle.std.proofs.Common.{◌≡◌, ℕ, ◌<◌, List, ◌++◌, length, reverse, sym, ap, ◌∙◌, arith}
-use Rattle.std.specs.Prelude.{option_to_list, vec_len}
+use Rattle.std.proofs.Common.{◌≡◌, ◌<◌, List, length, reverse, sym, ap, ◌∙◌, arith}
+use Rattle.std.specs.Prelude.{vec_len}
 use Rattle.mj_locals.specs.Groups.{Group, newest, reduced}
 use Rattle.mj_locals.specs.Marks.{divided}
 use Rattle.mj_locals.proofs.Marks.{popped_keeps, popped_newest, popped_rest, popped_none}

@@ -1,6 +1,5 @@
-use Rattle.std.proofs.Common.{◌≡◌, ℕ, List, [], ◌∷◌, ◌++◌, if◌then◌else◌, OnOk, reverse, sym, ap, ◌∙◌, subst}
+use Rattle.std.proofs.Common.{◌≡◌, [], ◌∷◌, ◌++◌, if◌then◌else◌, OnOk, reverse, sym, ap, ◌∙◌, subst}
 use Rattle.std.specs.Prelude.{is_ok}
-use Rattle.mj_store.specs.Questions.{Subtree}
 use Rattle.mj_locals.specs.Groups.{Pairs, saved}
 use Rattle.mj_locals.specs.Marks.{divided}
 use Rattle.mj_locals.proofs.Marks.{pushed_keeps, pushed_is}
