@@ -1,6 +1,7 @@
 // What NEWs saved, one after the other.
 //
-// All that was saved lies in one list, each tree with the place of its word, and a NEW is a mark in it: so a NEW takes no memory of its own.
+// All that was saved lies in one list, each tree with the place of its word, and a NEW is a mark in it: so a NEW of words takes memory only
+// where the list grows.
 
 ghost use Rattle.std.specs.Prelude.{◌≡◌, ◌<◌, ◌++◌, [], ◌∷◌, length, option_to_list, slice_index_or, OnOk, OnErr, IfErr, IfNone};
 ghost use Rattle.std.specs.Option.{option_map};
