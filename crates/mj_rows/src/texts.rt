@@ -1,6 +1,6 @@
-//! What no clause says: printed names, that calls that allocate can succeed, and how much room a text takes.
+// What no clause says: printed names, that calls that allocate can succeed, and how much room a text takes.
 
-use crate::{Digits, Failure, Fault, TEXT_LIMIT, Text};
+use mj_text::{Digits, Failure, Fault, TEXT_LIMIT, Text};
 use std::mem::size_of;
 use std::test::Fail;
 

@@ -1,6 +1,6 @@
 // What each refusal is printed as, by rows.
 
-use crate::read;
+use mj_rou::read;
 use std::alloc::{AllocError, Global};
 
 /// What reading gives: `ok`, or the refusal's text.

@@ -2,7 +2,7 @@
 
 ghost use Rattle.std.specs.Prelude.{◌≡◌, false, IfOk};
 
-use crate::{Locals, perform};
+use mj_locals::{Locals, perform};
 use mj_store::{Access, Direction, Nodes};
 use mj_subs::{Name, Sub, Subs};
 use mj_text::{Failure, Text};

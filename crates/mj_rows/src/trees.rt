@@ -3,7 +3,7 @@
 
 ghost use Rattle.std.specs.Prelude.{◌<◌};
 
-use crate::{Change, Globals};
+use mj_globs::{Change, Globals};
 use mj_store::{Access, Answer, Direction, Flat, Nodes, Store, perform};
 use mj_subs::{Name, Sub, Subs};
 use mj_text::{Failure, Fault, Text};
