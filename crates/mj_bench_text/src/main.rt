@@ -36,13 +36,17 @@ fn measure_all(rt: &HostRuntime) -> io::Result<()> {
 }
 
 fn measure(rt: &HostRuntime, work: Work, size: u32) -> io::Result<()> {
-    let sample = match Sample::new(rt.alloc(), size) {
-        Ok(sample) => sample,
-        Err(_) => return Err(io::Error::from(io::ErrorKind::OutOfMemory)),
-    };
+    match Sample::new(rt.alloc(), size) {
+        Ok(sample) => time(rt, work, size, &sample),
+        Err(_) => Err(io::Error::from(io::ErrorKind::OutOfMemory)),
+    }
+}
+
+// Times as many calls as work through all the bytes.
+fn time(rt: &HostRuntime, work: Work, size: u32, sample: &Sample) -> io::Result<()> {
     let rounds = BYTES / u64::from(size.max(1));
     let start = Instant::now(rt)?;
-    let failures = refused(rt.alloc(), work, &sample, rounds);
+    let failures = refused(rt.alloc(), work, sample, rounds);
     tell(
         rt,
         work,
