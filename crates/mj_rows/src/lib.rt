@@ -1,5 +1,5 @@
 // Rows: runs of the whole program, from the words of the command line to what it prints and its exit status, and what the crates below it
-// give by themselves. Their expected values were written down before the program ran. No crate below has tests, so none is proved twice.
+// give by themselves. Their expected values were written down before the program ran. A crate with tests is proved twice, so they stand here.
 #![tactic(auto)]
 
 #[cfg(test)]
