@@ -29,19 +29,25 @@ answers _ _ = false
 
 -- an access is answered
 abbrev pub is_answer : Access → Reply → Bool
-is_answer a replies.Done = false
 is_answer a (replies.Answer x) = answers a x
+is_answer a _ = false
 
 -- it is told that it is done
 abbrev pub is_done : Reply → Bool
 is_done replies.Done = true
-is_done (replies.Answer x) = false
+is_done _ = false
+
+-- it is told how a call of a device went
+abbrev pub is_did : Reply → Bool
+is_did replies.Done = true
+is_did replies.Failed = true
+is_did _ = false
 
 -- the reply is one to this ask
 abbrev pub fits : Ask → Reply → Bool
-fits (asks.DeviceBegin device) r = is_done r
-fits (asks.DeviceWrite device bytes) r = is_done r
-fits (asks.DeviceEnd device) r = is_done r
+fits (asks.DeviceBegin device) r = is_did r
+fits (asks.DeviceWrite device bytes) r = is_did r
+fits (asks.DeviceEnd device) r = is_did r
 fits (asks.Access a) r = is_answer a r
 fits (asks.Halt fault) r = is_done r
 

@@ -26,6 +26,8 @@ pub enum Ask {
 pub enum Reply {
     /// it is done
     Done,
+    /// the device failed
+    Failed,
     /// the answer to an access
     Answer(Answer),
 }
@@ -38,14 +40,16 @@ impl Ask {
         match self {
             Ask::Access(access) => match reply {
                 Reply::Answer(answer) => answers(access, answer),
-                Reply::Done => false,
+                Reply::Done | Reply::Failed => false,
             },
-            Ask::DeviceBegin(_) | Ask::DeviceWrite(_, _) | Ask::DeviceEnd(_) | Ask::Halt(_) => {
-                match reply {
-                    Reply::Answer(_) => false,
-                    Reply::Done => true,
-                }
-            }
+            Ask::DeviceBegin(_) | Ask::DeviceWrite(_, _) | Ask::DeviceEnd(_) => match reply {
+                Reply::Answer(_) => false,
+                Reply::Done | Reply::Failed => true,
+            },
+            Ask::Halt(_) => match reply {
+                Reply::Answer(_) | Reply::Failed => false,
+                Reply::Done => true,
+            },
         }
     }
 
