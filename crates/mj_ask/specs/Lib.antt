@@ -1,2 +1,5 @@
-pub mod Fits
 pub mod Written
+pub mod Started
+pub mod Formed
+pub mod Fits
+pub mod Keeping

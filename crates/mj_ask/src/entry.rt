@@ -38,6 +38,27 @@ impl Entry {
         Ok(Some(Entry { label, routine }))
     }
 
+    /// Whether it can be written: its label is one, if it has any, and its routine is a word.
+    pub fn is_entry(&self) -> bool
+        ensures { result ≡ is_entry self.now }
+    {
+        let mut digits = Digits::new();
+        (match &self.label {
+            None => true,
+            Some(label) => is_label(label.bytes(&mut digits)),
+        }) && is_word(self.routine.bytes(&mut digits))
+    }
+
+    /// The same entry once more.
+    pub fn try_clone(&self) -> Result<Entry, AllocError>
+        ensures { IfOk result (λ entry. entry ≡ self.now) }
+    {
+        Ok(Entry {
+            label: self.label.clone()?,
+            routine: self.routine.try_clone()?,
+        })
+    }
+
     /// The bytes that it is written with.
     pub fn spell(&self, alloc: Global) -> Result<Vec<u8>, AllocError>
         ensures { IfOk result (λ bytes. bytes.items ≡ entry_text self.now) }

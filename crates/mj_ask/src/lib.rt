@@ -1,8 +1,15 @@
-// What a job may ask, what it may be told, and where it starts: plain data.
+// What a job may ask, what it may be told, and what it starts with: plain data.
 #![tactic(auto)]
 
 mod ask;
+mod clash;
 mod entry;
+mod formed;
+mod names;
+mod start;
 
-pub use ask::{Ask, Reply};
+pub use ask::{Ask, Kind, Reply};
+pub use clash::{Clash, Kept};
 pub use entry::Entry;
+pub use names::Names;
+pub use start::Start;
