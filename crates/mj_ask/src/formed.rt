@@ -1,11 +1,12 @@
 // Which asks and parts of replies hold what can be written, each in one way.
 
-ghost use Rattle.std.specs.Prelude.{◌≡◌};
+ghost use Rattle.std.specs.Prelude.{◌≡◌, true};
 ghost use Rattle.std.specs.List.{list_all};
 ghost use Rattle.std.specs.FinMap.{is_sorted};
 ghost use Rattle.mj_subs.specs.Name.{is_word};
 ghost use Rattle.mj_subs.specs.Collation.{subscripts_cmp};
 ghost use Rattle.mj_ask.specs.Formed.{is_filled, are_filled, are_filled_before_last, is_name, is_global_name, is_search_name, is_subtree, starts_after, is_access, are_names, is_ask, is_kept, is_clash};
+ghost use Rattle.mj_ask.specs.Fitting.{IsServed};
 
 use crate::ask::Ask;
 use crate::clash::{Clash, Kept};
@@ -106,8 +107,16 @@ fn starts_after(subs: &Subs, nodes: &[(Subs, Text)]) -> bool
     }
 }
 
-/// Whether the access can be written: it is to a global, and the empty subscript is one to search from alone.
+/// Whether the access can be written: it is to a global, and the empty subscript is one to search from alone. Then whatever it is
+/// answered on a content of globals fits it.
 pub fn is_access(access: &Access) -> bool
+    ensures value { result ≡ is_access access.now }
+    ensures served { result ≡ true → IsServed access.now }
+{
+    is_to_global(access)
+}
+
+fn is_to_global(access: &Access) -> bool
     ensures { result ≡ is_access access.now }
 {
     match access {
