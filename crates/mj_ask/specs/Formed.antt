@@ -1,7 +1,8 @@
 -- Which asks and parts of replies are formed: they hold what can be written, each in one way, so that what is written is read back.
-use Rattle.std.specs.Prelude.{ℕ, Bool, true, false, not, ◌&&◌, List, [], ◌∷◌, length, nat_lt, nat_le}
+use Rattle.std.specs.Prelude.{ℕ, Bool, true, not, ◌&&◌, List, [], ◌∷◌, length, nat_lt, nat_le}
 use Rattle.std.specs.List.{list_all}
 use Rattle.std.specs.FinMap.{is_sorted}
+use Rattle.std.specs.Ordering.{is_lt}
 use Rattle.mj_subs.specs.Name.{Name, is_word}
 use Rattle.mj_subs.specs.Collation.{subscripts_cmp}
 use Rattle.mj_store.specs.Nodes.{is_empty}
@@ -45,6 +46,11 @@ is_search_name n = n.global && is_word n.word && nat_le (length n.subscripts) 31
 abbrev pub is_subtree : Subtree → Bool
 is_subtree nodes = is_sorted subscripts_cmp nodes && list_all (λ e. are_filled e.0) nodes
 
+-- the nodes start after these subscripts, if there are any
+abbrev pub starts_after : List (List ℕ) → Subtree → Bool
+starts_after p [] = true
+starts_after p (e ∷ es) = is_lt (subscripts_cmp p e.0)
+
 -- an access is to a global, and the empty subscript is one to search from alone
 abbrev pub is_access : Access → Bool
 is_access (accesses.Value n) = is_global_name n
@@ -58,8 +64,7 @@ is_access (accesses.Put n nodes) = is_global_name n && is_subtree nodes
 
 -- names of a lock, of which there is one at least
 abbrev pub are_names : List Name → Bool
-are_names [] = false
-are_names (n ∷ ns) = list_all is_name (n ∷ ns)
+are_names names = nat_lt 0 (length names) && list_all is_name names
 
 -- an ask that can be written
 abbrev pub is_ask : Ask → Bool

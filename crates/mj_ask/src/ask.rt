@@ -166,6 +166,56 @@ impl Ask {
             _ => None,
         }
     }
+
+    /// The same ask once more.
+    pub fn try_clone(&self) -> Result<Ask, AllocError>
+        ensures { IfOk result (λ ask. ask ≡ self.now) }
+    {
+        Ok(match self {
+            Ask::DeviceBegin(device) => Ask::DeviceBegin(device.try_clone()?),
+            Ask::DeviceWrite(device, bytes) => Ask::DeviceWrite(
+                device.try_clone()?,
+                bytes.try_clone()?,
+            ),
+            Ask::DeviceLine(device, timeout) => Ask::DeviceLine(device.try_clone()?, *timeout),
+            Ask::DeviceByte(device, timeout) => Ask::DeviceByte(device.try_clone()?, *timeout),
+            Ask::DeviceEnd(device) => Ask::DeviceEnd(device.try_clone()?),
+            Ask::Access(access) => Ask::Access(access.try_clone()?),
+            Ask::Try(names, timeout) => Ask::Try(names.try_clone()?, *timeout),
+            Ask::Unlock(names) => Ask::Unlock(names.try_clone()?),
+            Ask::UnlockAll => Ask::UnlockAll,
+            Ask::Begin(kind) => Ask::Begin(*kind),
+            Ask::Commit => Ask::Commit,
+            Ask::Rollback => Ask::Rollback,
+            Ask::Open(device, timeout) => Ask::Open(device.try_clone()?, *timeout),
+            Ask::Close(device) => Ask::Close(device.try_clone()?),
+            Ask::Start(start, timeout) => Ask::Start(start.try_clone()?, *timeout),
+            Ask::Rest(time) => Ask::Rest(*time),
+            Ask::Halt(fault) => Ask::Halt(*fault),
+        })
+    }
+}
+
+impl Reply {
+    /// The same reply once more.
+    pub fn try_clone(&self) -> Result<Reply, AllocError>
+        ensures { IfOk result (λ reply. reply ≡ self.now) }
+    {
+        Ok(match self {
+            Reply::Done => Reply::Done,
+            Reply::Answer(answer) => Reply::Answer(answer.try_clone()?),
+            Reply::Limit => Reply::Limit,
+            Reply::Got => Reply::Got,
+            Reply::Late => Reply::Late,
+            Reply::NoSession => Reply::NoSession,
+            Reply::Failed => Reply::Failed,
+            Reply::End => Reply::End,
+            Reply::Line(text) => Reply::Line(text.try_clone()?),
+            Reply::Byte(code) => Reply::Byte(*code),
+            Reply::Job(number) => Reply::Job(*number),
+            Reply::Clash(clash) => Reply::Clash(clash.try_clone()?),
+        })
+    }
 }
 
 // Whether it is an answer to the access at all: one of its kind and formed, or that a limit is passed.
