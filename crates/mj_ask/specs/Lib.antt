@@ -1,2 +1,6 @@
-pub mod Fits
 pub mod Written
+pub mod Started
+pub mod Formed
+pub mod Fits
+pub mod Keeping
+pub mod Fitting

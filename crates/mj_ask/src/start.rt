@@ -1,0 +1,65 @@
+// What a job starts with.
+
+ghost use Rattle.std.specs.Prelude.{◌≡◌, IfOk};
+
+use crate::entry::Entry;
+use mj_text::Text;
+use std::alloc::AllocError;
+use std::marker::Model;
+
+/// Where a job starts, and the values that it is given: one for each actual, none where that was left out.
+#[derive(Drop)]
+pub struct Start {
+    entry: Entry,
+    values: Vec<Option<Text>>,
+}
+
+impl Model for Start {
+    ghost use Rattle.mj_ask.specs.Started.{Started};
+
+    ghost Value = { Started };
+
+    ghost view = { λ s. record { entry = s.entry; values = s.values.items } };
+}
+
+impl Start {
+    /// A start of these.
+    pub fn new(entry: Entry, values: Vec<Option<Text>>) -> Start
+        ensures { result ≡ record { entry = entry; values = values.items } }
+    {
+        Start { entry, values }
+    }
+
+    /// Where it starts.
+    pub fn entry(&self) -> &Entry
+        ensures { result.now ≡ self.now.entry }
+    {
+        &self.entry
+    }
+
+    /// The values, in order.
+    pub fn values(&self) -> &[Option<Text>]
+        ensures { result.now ≡ self.now.values }
+    {
+        &self.values
+    }
+
+    /// Both, for keeps.
+    pub fn into_parts(self) -> (Entry, Vec<Option<Text>>)
+        ensures entry { result.0 ≡ self.entry }
+        ensures values { result.1.items ≡ self.values }
+    {
+        let Start { entry, values } = self;
+        (entry, values)
+    }
+
+    /// The same start once more.
+    pub fn try_clone(&self) -> Result<Start, AllocError>
+        ensures { IfOk result (λ start. start ≡ self.now) }
+    {
+        Ok(Start {
+            entry: self.entry.try_clone()?,
+            values: self.values.clone()?,
+        })
+    }
+}
