@@ -123,11 +123,7 @@ impl Ask {
             },
             Ask::Try(_, _) => matches!(reply, Reply::Got | Reply::Late | Reply::Limit),
             Ask::Unlock(_) | Ask::UnlockAll => matches!(reply, Reply::Done | Reply::Limit),
-            Ask::Commit => match reply {
-                Reply::Done => true,
-                Reply::Clash(_) => true,
-                _ => false,
-            },
+            Ask::Commit => matches!(reply, Reply::Done | Reply::Clash(_)),
             Ask::Open(_, _) => matches!(reply, Reply::Got | Reply::Late | Reply::NoSession),
             Ask::Start(_, _) => matches!(reply, Reply::Job(_) | Reply::Limit),
             Ask::Begin(_) | Ask::Rollback | Ask::Close(_) | Ask::Rest(_) | Ask::Halt(_) => {
