@@ -1,2 +1,3 @@
 pub mod Talks
 mod Places
+mod Shelves

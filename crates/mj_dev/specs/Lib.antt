@@ -6,3 +6,4 @@ pub mod Rest
 pub mod Talk
 pub mod Supply
 pub mod Failing
+pub mod Shelves
