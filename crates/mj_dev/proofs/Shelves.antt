@@ -122,7 +122,7 @@ pub found-there : (name : List ℕ) (shelves : List Shelf) (i : ℕ) (shelf : Sh
 found-there name shelves i shelf found at named = record {
   within = (position-Some (is_behind name) shelves i shelf found).0;
   changes = λ d. added-same name shelves i d (sym (position_or_len-some (is_behind name) shelves i found)) (position-Some (is_behind name) shelves i shelf found).0
-    (ap (λ (s : Shelf). is_named name s) (get_or_default shelves i d shelf (position-Some (is_behind name) shelves i shelf found).0 ∙ sym at) ∙ named);
+      (ap (λ (s : Shelf). is_named name s) (get_or_default shelves i d shelf (position-Some (is_behind name) shelves i shelf found).0 ∙ sym at) ∙ named);
 }
 
 pub found-gap : (name : List ℕ) (shelves : List Shelf) (i : ℕ) (shelf : Shelf) → position (is_behind name) shelves ≡ Some i → shelf ≡ get_or shelves i shelf → is_named name shelf ≡ false → Belongs name shelves i
@@ -131,7 +131,7 @@ found-gap name shelves i shelf found at other =
     record {
       within = omega arith;
       grows = added-new name shelves i shelf (sym (position_or_len-some (is_behind name) shelves i found))
-        (λ _. ap (λ (s : Shelf). is_named name s) (sym at) ∙ other);
+          (λ _. ap (λ (s : Shelf). is_named name s) (sym at) ∙ other);
     }
 
 pub found-end : (name : List ℕ) (shelves : List Shelf) → position (is_behind name) shelves ≡ None → Belongs name shelves (length shelves)

@@ -46,9 +46,9 @@ abbrev pub added : List ℕ → List Shelf → List Shelf
 added name [] = new_shelf name ∷ []
 added name (shelf ∷ shelves) =
     match_ordering (slice_cmp nat_cmp shelf.name name)
-      (shelf ∷ added name shelves)
-      (one_more shelf ∷ shelves)
-      (new_shelf name ∷ shelf ∷ shelves)
+    (shelf ∷ added name shelves)
+    (one_more shelf ∷ shelves)
+    (new_shelf name ∷ shelf ∷ shelves)
 
 -- the name has a shelf, and here it stands
 pub record IsThere (name : List ℕ) (shelves : List Shelf) (place : ℕ) : Type 0 where

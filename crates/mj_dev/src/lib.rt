@@ -15,6 +15,8 @@ mod rest;
 mod row;
 mod session;
 mod talk;
+#[cfg(test)]
+mod tests;
 
 pub use counted::Counted;
 pub use device::{Device, Did, Input};

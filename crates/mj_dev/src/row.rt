@@ -36,10 +36,10 @@ impl<D: Device> Model for Row<D> {
     } };
 
     ghost invariant = { λ r.
-      record {
-        few : length r.waiting.items + r.taken < 2 ^ 32;
-        fresh : All (λ d. IsFresh (D.failures d) (D.taken d) (D.given d)) r.waiting.items;
-      } };
+        record {
+          few : length r.waiting.items + r.taken < 2 ^ 32;
+          fresh : All (λ d. IsFresh (D.failures d) (D.taken d) (D.given d)) r.waiting.items;
+        } };
 }
 
 impl<D: Device> Row<D> {

@@ -7,7 +7,7 @@ use Rattle.mj_dev.proofs.pool.Pool.left.Goals as goal
 pub returns-in-Some : goal.returns-in-Some
 returns-in-Some g c =
     let found : IsFound c.args.name.now c.self.inside.rows.items c.in-Some.place c.index.result.now =
-        found-named _ _ _ _ (ap (λ rows. position (is_named c.args.name.now) rows) (sym c.as_slice.ensures.value) ∙ sym c.place_of.ensures ∙ c.in-Some.is) c.index.ensures in
+    found-named _ _ _ _ (ap (λ rows. position (is_named c.args.name.now) rows) (sym c.as_slice.ensures.value) ∙ sym c.place_of.ensures ∙ c.in-Some.is) c.index.ensures in
     rw (← c.self.view_is) (c.left.ensures ∙ sym found.left)
 
 pub returns-in-None : goal.returns-in-None
