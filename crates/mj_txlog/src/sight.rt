@@ -149,10 +149,11 @@ fn seen_below(
 fn write_over(below: &mut Globals, entry: &Entry, name: &Name) -> Result<(), AllocError>
     ensures { OnOk result (below.new ≡ cond (meets name.now entry.now) (seen below.old (entry.now ∷ [])) below.old) }
 {
-    if let Entry::Access(access, _) = entry {
-        if is_write(access) && access.name().overlap(name) {
+    match entry {
+        Entry::Access(access, _) if meets(entry, name) => {
             let _answer = perform(below, access)?;
         }
+        _ => {}
     }
     Ok(())
 }
