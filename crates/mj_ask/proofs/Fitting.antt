@@ -27,9 +27,9 @@ use Rattle.mj_store.specs.declared.access.Access.{Access}
 use Rattle.mj_store.specs.declared.access.Access.TheVariants as accesses
 use Rattle.mj_store.specs.declared.access.Answer.TheVariants as answers_are
 use Rattle.mj_store.specs.declared.store.Direction.{Direction}
-use Rattle.mj_ask.specs.Formed.{is_filled, are_filled, are_filled_before_last, is_name, is_global_name, is_search_name, is_subtree, is_access}
+use Rattle.mj_ask.specs.Formed.{is_filled, are_filled, are_filled_before_last, is_name, is_global_name, is_search_name, is_subtree, is_access, is_answer}
 use Rattle.mj_ask.specs.Fits.{is_data, answers}
-use Rattle.mj_ask.specs.Fitting.{is_content, IsServed}
+use Rattle.mj_ask.specs.Fitting.{is_content, IsAnswered, IsServed}
 use Rattle.mj_ask.proofs.Lists.{both_true, and_true, holds, is_true, passes, all_filter, all_filter_map, all_map, passes_least}
 
 -- ---- what follows a name
@@ -298,15 +298,32 @@ limited n nodes false = refl
 shown : (b : Bool) → (b ≡ true) → (b && true) ≡ true
 shown b h = and_true b true h refl
 
-access_fits : (a : Access) → is_access a ≡ true → (content : Content) → is_content content ≡ true → answers a (answer_of a content) ≡ true
-access_fits (accesses.Value n) h content k = refl
-access_fits (accesses.Data n) h content k = data_is (subtree_at content n)
-access_fits (accesses.Order n way) h content k = order_fits content n n.subscripts way k
-access_fits (accesses.Query n) h content k = let p = search_parts n h in query_fits content n p.0 p.1 k
-access_fits (accesses.Subtree n) h content k = subtree_fits content n k
-access_fits (accesses.Set n text) h content k = refl
-access_fits (accesses.Kill n) h content k = refl
-access_fits (accesses.Put n nodes) h content k = limited n nodes (is_too_deep n nodes)
+access_fits : (a : Access) (content : Content) → answers a (answer_of a content) ≡ true
+access_fits (accesses.Value n) content = refl
+access_fits (accesses.Data n) content = data_is (subtree_at content n)
+access_fits (accesses.Order n way) content = refl
+access_fits (accesses.Query n) content = refl
+access_fits (accesses.Subtree n) content = refl
+access_fits (accesses.Set n text) content = refl
+access_fits (accesses.Kill n) content = refl
+access_fits (accesses.Put n nodes) content = limited n nodes (is_too_deep n nodes)
+
+pub answered : (a : Access) → IsAnswered a
+answered a content = shown (answers a (answer_of a content)) (access_fits a content)
+
+done_formed : (b : Bool) → is_answer (cond b answers_are.Limit answers_are.Done) ≡ true
+done_formed true = refl
+done_formed false = refl
+
+access_formed : (a : Access) → is_access a ≡ true → (content : Content) → is_content content ≡ true → is_answer (answer_of a content) ≡ true
+access_formed (accesses.Value n) h content k = refl
+access_formed (accesses.Data n) h content k = refl
+access_formed (accesses.Order n way) h content k = order_fits content n n.subscripts way k
+access_formed (accesses.Query n) h content k = let p = search_parts n h in query_fits content n p.0 p.1 k
+access_formed (accesses.Subtree n) h content k = subtree_fits content n k
+access_formed (accesses.Set n text) h content k = refl
+access_formed (accesses.Kill n) h content k = refl
+access_formed (accesses.Put n nodes) h content k = done_formed (is_too_deep n nodes)
 
 access_stays : (a : Access) → is_access a ≡ true → (content : Content) → is_content content ≡ true → is_content (after_access a content) ≡ true
 access_stays (accesses.Value n) h content k = k
@@ -322,6 +339,6 @@ access_stays (accesses.Put n nodes) h content k =
 
 pub served : (a : Access) → is_access a ≡ true → IsServed a
 served a h = record {
-  fitting = λ content k. shown (answers a (answer_of a content)) (access_fits a h content k);
+  formed = λ content k. access_formed a h content k;
   content = λ content k. access_stays a h content k;
 }

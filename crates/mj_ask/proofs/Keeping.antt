@@ -10,7 +10,7 @@ use Rattle.mj_store.specs.declared.access.Answer.TheVariants as answers_are
 use Rattle.mj_store.specs.declared.store.Direction.{Direction}
 use Rattle.mj_ask.specs.declared.clash.Kept.{Kept}
 use Rattle.mj_ask.specs.declared.clash.Kept.TheVariants as kepts
-use Rattle.mj_ask.specs.Formed.{is_kept}
+use Rattle.mj_ask.specs.Formed.{is_kept, is_answer}
 use Rattle.mj_ask.specs.Fits.{answers}
 use Rattle.mj_ask.specs.Keeping.{kept_subscript, kept_of, is_limit, Keeps}
 
@@ -23,31 +23,17 @@ subscript_formed s = by (is_canonic s)
     by true = refl
     by false = refl
 
-kept_formed : (a : Access) (x : Answer) → answers a x ≡ true → is_kept (kept_of x) ≡ true
-kept_formed a (answers_are.Value None) h = refl
-kept_formed a (answers_are.Value (Some t)) h = refl
-kept_formed a (answers_are.Data d) h = refl
-kept_formed a (answers_are.Order None) h = refl
-kept_formed a (answers_are.Order (Some s)) h = subscript_formed s
-kept_formed a (answers_are.Query None) h = refl
-kept_formed (accesses.Query n) (answers_are.Query (Some m)) h = h
-kept_formed (accesses.Value n) (answers_are.Query (Some m)) h = absurd cc
-kept_formed (accesses.Data n) (answers_are.Query (Some m)) h = absurd cc
-kept_formed (accesses.Order n way) (answers_are.Query (Some m)) h = absurd cc
-kept_formed (accesses.Subtree n) (answers_are.Query (Some m)) h = absurd cc
-kept_formed (accesses.Set n v) (answers_are.Query (Some m)) h = absurd cc
-kept_formed (accesses.Kill n) (answers_are.Query (Some m)) h = absurd cc
-kept_formed (accesses.Put n nodes) (answers_are.Query (Some m)) h = absurd cc
-kept_formed (accesses.Subtree n) (answers_are.Subtree nodes) h = h
-kept_formed (accesses.Value n) (answers_are.Subtree nodes) h = absurd cc
-kept_formed (accesses.Data n) (answers_are.Subtree nodes) h = absurd cc
-kept_formed (accesses.Order n way) (answers_are.Subtree nodes) h = absurd cc
-kept_formed (accesses.Query n) (answers_are.Subtree nodes) h = absurd cc
-kept_formed (accesses.Set n v) (answers_are.Subtree nodes) h = absurd cc
-kept_formed (accesses.Kill n) (answers_are.Subtree nodes) h = absurd cc
-kept_formed (accesses.Put n put) (answers_are.Subtree nodes) h = absurd cc
-kept_formed a answers_are.Done h = refl
-kept_formed a answers_are.Limit h = refl
+kept_formed : (x : Answer) → is_answer x ≡ true → is_kept (kept_of x) ≡ true
+kept_formed (answers_are.Value None) h = refl
+kept_formed (answers_are.Value (Some t)) h = refl
+kept_formed (answers_are.Data d) h = refl
+kept_formed (answers_are.Order None) h = refl
+kept_formed (answers_are.Order (Some s)) h = subscript_formed s
+kept_formed (answers_are.Query None) h = refl
+kept_formed (answers_are.Query (Some m)) h = h
+kept_formed (answers_are.Subtree nodes) h = h
+kept_formed answers_are.Done h = refl
+kept_formed answers_are.Limit h = refl
 
 -- ---- what is kept tells answers apart
 
@@ -127,6 +113,6 @@ back (accesses.Put n put) answers_are.Done h k = refl
 
 pub keeps : (x : Answer) (k : Kept) → k ≡ kept_of x → Keeps x k
 keeps x k is = record {
-  formed = λ a h. ap is_kept is ∙ kept_formed a x h;
+  formed = λ h. ap is_kept is ∙ kept_formed x h;
   apart = λ a y both same. sym (back a y both.other both.other_within) ∙ ap (answer_kept a) (same ∙ is) ∙ back a x both.one both.one_within;
 }

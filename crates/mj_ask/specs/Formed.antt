@@ -1,5 +1,5 @@
 -- Which asks and parts of replies are formed: they hold what can be written, each in one way, so that what is written is read back.
-use Rattle.std.specs.Prelude.{ℕ, Bool, true, not, ◌&&◌, List, [], ◌∷◌, length, nat_lt, nat_le}
+use Rattle.std.specs.Prelude.{ℕ, Some, None, Bool, true, not, ◌&&◌, List, [], ◌∷◌, length, nat_lt, nat_le}
 use Rattle.std.specs.List.{list_all}
 use Rattle.std.specs.FinMap.{is_sorted}
 use Rattle.std.specs.Ordering.{is_lt}
@@ -9,12 +9,16 @@ use Rattle.mj_store.specs.Nodes.{is_empty}
 use Rattle.mj_store.specs.Questions.{Subtree}
 use Rattle.mj_store.specs.declared.access.Access.{Access}
 use Rattle.mj_store.specs.declared.access.Access.TheVariants as accesses
+use Rattle.mj_store.specs.declared.access.Answer.{Answer}
+use Rattle.mj_store.specs.declared.access.Answer.TheVariants as answers_are
 use Rattle.mj_ask.specs.Written.{is_entry}
 use Rattle.mj_ask.specs.declared.clash.Kept.{Kept}
 use Rattle.mj_ask.specs.declared.clash.Kept.TheVariants as kepts
 use Rattle.mj_ask.specs.declared.clash.Clash.{Clash}
 use Rattle.mj_ask.specs.declared.ask.Ask.{Ask}
 use Rattle.mj_ask.specs.declared.ask.Ask.TheVariants as asks
+use Rattle.mj_ask.specs.declared.ask.Reply.{Reply}
+use Rattle.mj_ask.specs.declared.ask.Reply.TheVariants as replies
 
 -- the subscript has a byte
 abbrev pub is_filled : List ℕ → Bool
@@ -83,3 +87,16 @@ is_kept _ = true
 -- a clash: accesses are numbered from 1
 abbrev pub is_clash : Clash → Bool
 is_clash clash = nat_lt 0 clash.place && is_kept clash.then && is_kept clash.now
+
+-- an answer: a subscript that isn't empty, the name of a global, nodes in order
+abbrev pub is_answer : Answer → Bool
+is_answer (answers_are.Order s) = elim s [ None ↦ true | Some t ↦ is_filled t ]
+is_answer (answers_are.Query m) = elim m [ None ↦ true | Some n ↦ is_global_name n ]
+is_answer (answers_are.Subtree nodes) = is_subtree nodes
+is_answer _ = true
+
+-- a reply that can be written
+abbrev pub is_reply : Reply → Bool
+is_reply (replies.Answer x) = is_answer x
+is_reply (replies.Clash clash) = is_clash clash
+is_reply _ = true

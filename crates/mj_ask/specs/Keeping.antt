@@ -6,7 +6,7 @@ use Rattle.mj_store.specs.declared.access.Answer.{Answer}
 use Rattle.mj_store.specs.declared.access.Answer.TheVariants as answers_are
 use Rattle.mj_ask.specs.declared.clash.Kept.{Kept}
 use Rattle.mj_ask.specs.declared.clash.Kept.TheVariants as kepts
-use Rattle.mj_ask.specs.Formed.{is_kept}
+use Rattle.mj_ask.specs.Formed.{is_kept, is_answer}
 use Rattle.mj_ask.specs.Fits.{answers}
 
 -- a subscript: a number where it is canonic
@@ -35,7 +35,7 @@ pub record AreAnswers (a : Access) (x y : Answer) : Type 0 where
   pub one_within : is_limit x ≡ false
   pub other_within : is_limit y ≡ false
 
--- what is kept of an answer is formed, and tells the answers to one access apart
+-- what is kept of an answer that can be written can be written, and it tells the answers to one access apart
 pub record Keeps (x : Answer) (k : Kept) : Type 0 where
-  pub formed : (a : Access) → answers a x ≡ true → is_kept k ≡ true
+  pub formed : is_answer x ≡ true → is_kept k ≡ true
   pub apart : (a : Access) (y : Answer) → AreAnswers a x y → kept_of y ≡ k → y ≡ x

@@ -1,11 +1,9 @@
 // Questions and replies.
 
 ghost use Rattle.std.specs.Prelude.{◌≡◌, IfOk};
-ghost use Rattle.mj_ask.specs.Formed.{is_filled, is_global_name};
 ghost use Rattle.mj_ask.specs.Fits.{fits, is_reply_to, is_late, is_shared, timeout_of, answers, is_data};
 
 use crate::clash::Clash;
-use crate::formed::{is_clash, is_filled, is_global_name, is_subtree};
 use crate::names::Names;
 use crate::start::Start;
 use mj_num::Num;
@@ -127,7 +125,7 @@ impl Ask {
             Ask::Unlock(_) | Ask::UnlockAll => matches!(reply, Reply::Done | Reply::Limit),
             Ask::Commit => match reply {
                 Reply::Done => true,
-                Reply::Clash(clash) => is_clash(clash),
+                Reply::Clash(_) => true,
                 _ => false,
             },
             Ask::Open(_, _) => matches!(reply, Reply::Got | Reply::Late | Reply::NoSession),
@@ -218,7 +216,7 @@ impl Reply {
     }
 }
 
-// Whether it is an answer to the access at all: one of its kind and formed, or that a limit is passed.
+// Whether it is an answer to the access at all: one of its kind, or that a limit is passed.
 fn answers(access: &Access, answer: &Answer) -> bool
     ensures { result ≡ answers access.now answer.now }
 {
@@ -226,21 +224,9 @@ fn answers(access: &Access, answer: &Answer) -> bool
         Answer::Limit => true,
         Answer::Value(_) => matches!(access, Access::Value(_)),
         Answer::Data(data) => matches!(access, Access::Data(_)) && is_data(*data),
-        Answer::Order(next) => {
-            matches!(access, Access::Order(_, _))
-                && match next {
-                    None => true,
-                    Some(sub) => is_filled(sub)
-                }
-        }
-        Answer::Query(next) => {
-            matches!(access, Access::Query(_))
-                && match next {
-                    None => true,
-                    Some(name) => is_global_name(name)
-                }
-        }
-        Answer::Subtree(nodes) => { matches!(access, Access::Subtree(_)) && is_subtree(nodes) }
+        Answer::Order(_) => matches!(access, Access::Order(_, _)),
+        Answer::Query(_) => matches!(access, Access::Query(_)),
+        Answer::Subtree(_) => matches!(access, Access::Subtree(_)),
         Answer::Done => matches!(
             access,
             Access::Set(_, _) | Access::Kill(_) | Access::Put(_, _)

@@ -5,13 +5,13 @@ ghost use Rattle.std.specs.List.{list_all};
 ghost use Rattle.std.specs.FinMap.{is_sorted};
 ghost use Rattle.mj_subs.specs.Name.{is_word};
 ghost use Rattle.mj_subs.specs.Collation.{subscripts_cmp};
-ghost use Rattle.mj_ask.specs.Formed.{is_filled, are_filled, are_filled_before_last, is_name, is_global_name, is_search_name, is_subtree, starts_after, is_access, are_names, is_ask, is_kept, is_clash};
-ghost use Rattle.mj_ask.specs.Fitting.{IsServed};
+ghost use Rattle.mj_ask.specs.Formed.{is_filled, are_filled, are_filled_before_last, is_name, is_global_name, is_search_name, is_subtree, starts_after, is_access, are_names, is_ask, is_kept, is_clash, is_answer, is_reply};
+ghost use Rattle.mj_ask.specs.Fitting.{IsAnswered, IsServed};
 
-use crate::ask::Ask;
+use crate::ask::{Ask, Reply};
 use crate::clash::{Clash, Kept};
 use crate::entry::Entry;
-use mj_store::{Access, Nodes};
+use mj_store::{Access, Answer, Nodes};
 use mj_subs::{Name, Sub, Subs, is_word};
 use mj_text::{Digits, Text};
 
@@ -107,10 +107,11 @@ fn starts_after(subs: &Subs, nodes: &[(Subs, Text)]) -> bool
     }
 }
 
-/// Whether the access can be written: it is to a global, and the empty subscript is one to search from alone. Then whatever it is
-/// answered on a content of globals fits it.
+/// Whether the access can be written: it is to a global, and the empty subscript is one to search from alone. Whatever it is answered on a
+/// content fits it; and one that can be written is answered on a content of globals what can be written too.
 pub fn is_access(access: &Access) -> bool
     ensures value { result ≡ is_access access.now }
+    ensures answered { IsAnswered access.now }
     ensures served { result ≡ true → IsServed access.now }
 {
     is_to_global(access)
@@ -169,4 +170,26 @@ pub fn is_clash(clash: &Clash) -> bool
     ensures { result ≡ is_clash clash.entry.now }
 {
     0 < clash.place && is_kept(&clash.then) && is_kept(&clash.now)
+}
+
+/// Whether the reply can be written: a subscript isn't empty, a name is that of a global, nodes are in order.
+pub fn is_reply(reply: &Reply) -> bool
+    ensures { result ≡ is_reply reply.now }
+{
+    match reply {
+        Reply::Answer(answer) => is_answer(answer),
+        Reply::Clash(clash) => is_clash(clash),
+        _ => true,
+    }
+}
+
+fn is_answer(answer: &Answer) -> bool
+    ensures { result ≡ is_answer answer.now }
+{
+    match answer {
+        Answer::Order(Some(next)) => is_filled(next),
+        Answer::Query(Some(name)) => is_global_name(name),
+        Answer::Subtree(nodes) => is_subtree(nodes),
+        _ => true,
+    }
 }

@@ -15,7 +15,7 @@ pub use ask::{Ask, Kind, Reply};
 pub use clash::{Clash, Kept};
 pub use entry::Entry;
 pub use formed::{
-    is_access, is_ask, is_clash, is_global_name, is_name, is_search_name, is_subtree,
+    is_access, is_ask, is_clash, is_global_name, is_name, is_reply, is_search_name, is_subtree,
 };
 pub use names::Names;
 pub use start::Start;
