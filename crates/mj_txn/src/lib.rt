@@ -7,6 +7,8 @@
 
 mod changed;
 mod committing;
+#[cfg(test)]
+mod tests;
 mod writes;
 
 pub use changed::{Changed, first_changed};
