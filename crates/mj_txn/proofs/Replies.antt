@@ -1,17 +1,16 @@
 -- One access more, and the changes that accesses make.
-use Rattle.std.proofs.Common.{◌≡◌, ◌≢◌, ◌↔◌, ℕ, ◌+◌, ◌<◌, true, false, cond, ◌||◌, List, [], ◌∷◌, ◌++◌, length, get_or, take, drop, Option, Some, None, refl, sym, ap, ◌∙◌, subst, append_assoc, arith}
+use Rattle.std.proofs.Common.{◌≡◌, ◌↔◌, ℕ, ◌+◌, ◌<◌, true, false, cond, ◌||◌, List, [], ◌∷◌, ◌++◌, length, get_or, take, drop, Option, Some, None, refl, sym, ap, ◌∙◌, subst, append_assoc}
 use Rattle.std.proofs.lemmas.List.{take_more, take-append-drop, drop_more}
 use Rattle.std.specs.Option.{MatchOption}
-use Rattle.std.specs.List.{fold, list_any, cons_option}
+use Rattle.std.specs.List.{list_any, cons_option}
 use Rattle.mj_store.specs.Questions.{Content}
 use Rattle.mj_store.specs.Changes.{is_too_deep, after_put}
 use Rattle.mj_store.specs.Runs.{after_access}
-use Rattle.mj_store.specs.declared.access.Access.{Access}
 use Rattle.mj_store.specs.declared.access.Access.TheVariants as access
 use Rattle.mj_store.specs.declared.access.Answer.{Answer}
 use Rattle.mj_globs.specs.declared.change.Change.{Change}
 use Rattle.mj_globs.specs.declared.change.Change.TheVariants as change
-use Rattle.mj_globs.specs.Changes.{after_change, after_changes, goes_too_deep}
+use Rattle.mj_globs.specs.Changes.{after_changes, goes_too_deep}
 use Rattle.mj_txlog.specs.declared.entry.Entry.{Entry}
 use Rattle.mj_txlog.specs.declared.entry.Entry.TheVariants as entry
 use Rattle.mj_txlog.specs.Accesses.{Accesses, Transaction, seen}

@@ -7,8 +7,6 @@
 
 mod changed;
 mod committing;
-#[cfg(test)]
-mod tests;
 mod writes;
 
 pub use changed::{Changed, first_changed};

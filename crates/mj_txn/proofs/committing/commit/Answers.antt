@@ -12,9 +12,11 @@ use Rattle.mj_txn.proofs.committing.commit.Goals as goal
 
 pub returns-in-Some-clause-exactly : goal.returns-in-Some-clause-exactly
 returns-in-Some-clause-exactly c =
-    exact c.args.log.now c.args.globals.now (outcome.Clash c.in-Some.changed)
-    (sym c.if-is_serial.ensures, subst (λ (xs : Accesses). Differs c.args.globals.now xs c.in-Some.changed.place c.in-Some.changed.«then» c.in-Some.changed.now) c.entries.ensures.value
-    (told_some (Hold c.args.globals.now [] c.entries.result.now) (λ (d : Changed). Differs c.args.globals.now c.entries.result.now d.place d.«then» d.now) c.in_ok-changed.field-0 c.in-Some.changed c.in_ok-changed.ensures c.in-Some.is))
+    exact c.args.log.now c.args.globals.now (outcome.Clash c.in-Some.changed) (
+      sym c.if-is_serial.ensures,
+      subst (λ (xs : Accesses). Differs c.args.globals.now xs c.in-Some.changed.place c.in-Some.changed.«then» c.in-Some.changed.now) c.entries.ensures.value
+          (told_some (Hold c.args.globals.now [] c.entries.result.now) (λ (d : Changed). Differs c.args.globals.now c.entries.result.now d.place d.«then» d.now) c.in_ok-changed.field-0 c.in-Some.changed c.in_ok-changed.ensures c.in-Some.is),
+    )
 
 pub returns-in-Ok-clause-globals : goal.returns-in-Ok-clause-globals
 returns-in-Ok-clause-globals c =
