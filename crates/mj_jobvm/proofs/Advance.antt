@@ -1,7 +1,7 @@
 -- A job that goes on by a turn of its machine.
 use Rattle.std.proofs.Common.{◌≡◌, ℕ, ◌+◌, ◌≤◌, List, Option, Some, None, Bool, Box, Global, sym, subst}
 use Rattle.mj_ask.specs.declared.ask.Ask.{Ask}
-use Rattle.mj_ask.specs.declared.entry.Entry.{Entry}
+use Rattle.mj_semantics.specs.Job.{Start}
 use Rattle.mj_ast.specs.Syntax.{Routine}
 use Rattle.mj_pcode.specs.declared.instr.Unit.{Unit}
 use Rattle.mj_load.specs.Image.{Loaded, routines_of}
@@ -12,24 +12,24 @@ use Rattle.mj_machine.specs.declared.machine.Machine.{Machine}
 use Rattle.mj_machine.specs.Standing.{Standing, Code, Steps}
 use Rattle.mj_turn.specs.Sound.{IsSound}
 use Rattle.mj_machine.specs.Kept.{standing}
-use Rattle.mj_jobvm.specs.Run.{Log, IsRun}
-use Rattle.mj_jobvm.specs.Jobs.{running, given_of, code_in, IsRunOf}
+use Rattle.mj_jobvm.specs.Run.{Log, IsRunAfter}
+use Rattle.mj_jobvm.specs.Jobs.{running, given_of, code_in, IsRunOf, IsRunOfAfter}
 use Rattle.mj_jobvm.specs.Told.{Told, told_of}
 use Rattle.mj_jobvm.proofs.Jobs.{run, turned, asking, fewer, told_ended}
 
 -- the same of a pending ask by another name, and of fewer turns
-pub counted_as : (routines : List Routine) (entry : Entry) (code : Code) (log : Log) (pending named : Option Ask) (spent counted : ℕ) (at : Standing)
+pub counted_as : (routines : List Routine) (start : Start) (code : Code) (turns : ℕ) (log : Log) (pending named : Option Ask) (spent counted : ℕ) (at : Standing)
     → named ≡ pending → counted ≤ spent
-    → IsRun routines entry code (run log pending spent at) → IsRun routines entry code (run log named counted at)
-counted_as routines entry code log pending named spent counted at e le r =
-    let P : Option Ask → Type 0 = λ p. IsRun routines entry code (run log p counted at) in
-    subst P (sym e) (fewer routines entry code log pending counted spent at le r)
+    → IsRunAfter routines start code turns (run log pending spent at) → IsRunAfter routines start code turns (run log named counted at)
+counted_as routines start code turns log pending named spent counted at e le r =
+    let P : Option Ask → Type 0 = λ p. IsRunAfter routines start code turns (run log p counted at) in
+    subst P (sym e) (fewer routines start code log pending counted spent turns at le r)
 
-module _ (image : Loaded) (entry from : Entry) (units : List Unit) (log seen : Log) (eu : units ≡ image.units) (el : seen ≡ log)
+module _ (image : Loaded) (start from : Start) (turns : ℕ) (units : List Unit) (log seen : Log) (eu : units ≡ image.units) (el : seen ≡ log)
     (spent : ℕ) (old new : Machine) (given left : Bool) (went : Went)
-    (steps : Steps (record { units = units; entry = from }) (standing old (given_of given seen)) (told_of went) (standing new (given_of left seen)))
+    (steps : Steps (record { units = units; start = from }) (standing old (given_of given seen)) (told_of went) (standing new (given_of left seen)))
     (sound : IsSound units (standing new None))
-    (r : IsRunOf image entry (running from old log given None spent)) where
+    (r : IsRunOfAfter image start turns (running from old log given None spent)) where
   abbrev code : Code
   code = code_in image from
 
@@ -41,25 +41,25 @@ module _ (image : Loaded) (entry from : Entry) (units : List Unit) (log seen : L
 
   steps_as : (w : Went) → went ≡ w → Steps code before (told_of w) after
   steps_as w e =
-      let P : List Unit → Type 0 = λ us. Steps (record { units = us; entry = from }) (standing old (given_of given seen)) (told_of went) (standing new (given_of left seen)) in
+      let P : List Unit → Type 0 = λ us. Steps (record { units = us; start = from }) (standing old (given_of given seen)) (told_of went) (standing new (given_of left seen)) in
       let Q : Log → Type 0 = λ l. Steps code (standing old (given_of given l)) (told_of went) (standing new (given_of left l)) in
       let R : Went → Type 0 = λ x. Steps code before (told_of x) after in
       subst R e (subst Q el (subst P eu steps))
 
-  pub went_on : went ≡ wents.On → IsRunOf image entry (running from new log left None (spent + 1))
-  went_on e = turned (routines_of image) entry code log spent before after (steps_as wents.On e) (let h : IsSound image.units (standing new None) = subst (λ us. IsSound us (standing new None)) eu sound in h) r
+  pub went_on : went ≡ wents.On → IsRunOfAfter image start (turns + 1) (running from new log left None (spent + 1))
+  went_on e = turned (routines_of image) start code log spent turns before after (steps_as wents.On e) (let h : IsSound image.units (standing new None) = subst (λ us. IsSound us (standing new None)) eu sound in h) r
 
-  pub went_asks : (a : Box Ask Global) → went ≡ wents.Asks a → IsRunOf image entry (running from new log left (Some a.value) spent)
+  pub went_asks : (a : Box Ask Global) → went ≡ wents.Asks a → IsRunOfAfter image start turns (running from new log left (Some a.value) spent)
   went_asks a e =
       let s = steps_as (wents.Asks a) e in
-      let P : Standing → Type 0 = λ x. IsRun (routines_of image) entry code (run log (Some a.value) spent x) in
-      subst P (sym s.0) (asking (routines_of image) entry code log spent a.value before s.1 s.2 r)
+      let P : Standing → Type 0 = λ x. IsRunAfter (routines_of image) start code turns (run log (Some a.value) spent x) in
+      subst P (sym s.0) (asking (routines_of image) start code log spent turns a.value before s.1 s.2 r)
 
-  pub went_over : went ≡ wents.Over → IsRunOf image entry (running from new log left None spent)
+  pub went_over : went ≡ wents.Over → IsRunOfAfter image start turns (running from new log left None spent)
   went_over e =
       let s = steps_as wents.Over e in
-      let P : Standing → Type 0 = λ x. IsRun (routines_of image) entry code (run log None spent x) in
+      let P : Standing → Type 0 = λ x. IsRunAfter (routines_of image) start code turns (run log None spent x) in
       subst P (sym s.0) r
 
-  pub told_over : went ≡ wents.Over → (pending : Option Ask) (counted : ℕ) → Told (routines_of image) entry reports.Ended (run log pending counted after)
-  told_over e pending counted = told_ended (routines_of image) entry code log None spent before ((steps_as wents.Over e).1) r
+  pub told_over : went ≡ wents.Over → (pending : Option Ask) (counted : ℕ) → Told (routines_of image) start reports.Ended (run log pending counted after)
+  told_over e pending counted = told_ended (routines_of image) start code log None spent before ((steps_as wents.Over e).1) (turns, r)

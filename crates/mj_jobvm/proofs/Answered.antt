@@ -4,13 +4,13 @@ use Rattle.std.specs.Prelude.{IsTrue}
 use Rattle.std.proofs.lemmas.List.{reverse-append}
 use Rattle.mj_ask.specs.declared.ask.Ask.{Ask}
 use Rattle.mj_ask.specs.declared.ask.Reply.{Reply}
-use Rattle.mj_ask.specs.declared.entry.Entry.{Entry}
+use Rattle.mj_semantics.specs.Job.{Start}
 use Rattle.mj_ask.specs.Fits.{fits}
 use Rattle.mj_load.specs.Image.{Loaded, routines_of}
 use Rattle.mj_machine.specs.declared.machine.Machine.{Machine}
 use Rattle.mj_machine.specs.Kept.{standing}
-use Rattle.mj_jobvm.specs.Run.{Log, IsRun}
-use Rattle.mj_jobvm.specs.Jobs.{Fits, running, given_of, last_reply, code_in, IsRunOf}
+use Rattle.mj_jobvm.specs.Run.{Log, IsRunAfter}
+use Rattle.mj_jobvm.specs.Jobs.{Fits, running, given_of, last_reply, code_in, IsRunOf, IsRunOfAfter}
 use Rattle.mj_jobvm.proofs.Jobs.{run, answered}
 
 last_with : (log : Log) (a : Ask) (r : Reply) → last_reply (log ++ (a, r) ∷ []) ≡ Some r
@@ -26,17 +26,17 @@ fits_it pending ask reply e f =
     let P : Ask → Type 0 = λ a. IsTrue (fits a reply) in
     subst P (same_ask f.0 ask (sym f.1 ∙ e)) f.2
 
-pub answered_by : (image : Loaded) (entry : Entry) (from : Entry) (machine : Machine) (log now : Log) (given : Bool) (pending left : Option Ask)
+pub answered_by : (image : Loaded) (start : Start) (from : Start) (machine : Machine) (log now : Log) (given : Bool) (pending left : Option Ask)
     (spent : ℕ) (ask : Ask) (reply : Reply)
     → pending ≡ Some ask → Fits pending reply → now ≡ log ++ (ask, reply) ∷ [] → left ≡ None
-    → IsRunOf image entry (running from machine log given pending spent) → IsRunOf image entry (running from machine now true left 0)
-answered_by image entry from machine log now given pending left spent ask reply e f is none r =
+    → IsRunOf image start (running from machine log given pending spent) → IsRunOf image start (running from machine now true left 0)
+answered_by image start from machine log now given pending left spent ask reply e f is none (turns, r) =
     let routines = routines_of image in
     let code = code_in image from in
     let with : Log = log ++ (ask, reply) ∷ [] in
-    let P : Option Ask → Type 0 = λ p. IsRun routines entry code (run log p spent (standing machine (given_of given log))) in
-    let Q : Option Reply → Type 0 = λ g. IsRun routines entry code (run with None 0 (standing machine g)) in
-    let R : Option Ask → Type 0 = λ p. IsRun routines entry code (run with p 0 (standing machine (last_reply with))) in
-    let S : Log → Type 0 = λ l. IsRun routines entry code (run l left 0 (standing machine (last_reply l))) in
-    subst S (sym is) (subst R (sym none) (subst Q (sym (last_with log ask reply))
-    (answered routines entry code log spent ask reply (standing machine (given_of given log)) (fits_it pending ask reply e f) (subst P e r))))
+    let P : Option Ask → Type 0 = λ p. IsRunAfter routines start code turns (run log p spent (standing machine (given_of given log))) in
+    let Q : Option Reply → Type 0 = λ g. IsRunAfter routines start code 0 (run with None 0 (standing machine g)) in
+    let R : Option Ask → Type 0 = λ p. IsRunAfter routines start code 0 (run with p 0 (standing machine (last_reply with))) in
+    let S : Log → Type 0 = λ l. IsRunAfter routines start code 0 (run l left 0 (standing machine (last_reply l))) in
+    (0, subst S (sym is) (subst R (sym none) (subst Q (sym (last_with log ask reply))
+    (answered routines start code log spent turns ask reply (standing machine (given_of given log)) (fits_it pending ask reply e f) (subst P e r)))))

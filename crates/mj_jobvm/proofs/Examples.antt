@@ -7,9 +7,9 @@ use Rattle.mj_ask.specs.declared.ask.Ask.TheVariants as asks
 use Rattle.mj_ask.specs.declared.ask.Reply.TheVariants.{Done}
 use Rattle.mj_ask.specs.declared.entry.Entry.{Entry}
 use Rattle.mj_ast.specs.Syntax.{Routine, Quit}
-use Rattle.mj_semantics.specs.State.{State}
-use Rattle.mj_semantics.specs.Outcome.{Needs, More, principal, fault_bytes}
-use Rattle.mj_semantics.specs.Job.{next}
+use Rattle.mj_semantics.specs.State.{State, principal}
+use Rattle.mj_semantics.specs.Outcome.{Needs, More, fault_bytes}
+use Rattle.mj_semantics.specs.Job.{Start, next}
 use Rattle.mj_jobvm.specs.Limit.{IsAllowed}
 use Rattle.mj_jobvm.specs.Run.{Log, replies_of}
 
@@ -29,14 +29,15 @@ one_more (inr e) = e
 fault_line : (s : State) → IsAllowed 1000000 (asks.DeviceWrite principal (fault_bytes Steps s))
 fault_line s = inr (omega arith, refl, (Steps, s, refl))
 
-session_end : IsAllowed 1000001 (asks.DeviceEnd principal)
-session_end = inr (omega arith, refl)
+-- 17 sessions at most
+session_end : IsAllowed 1000017 (asks.DeviceEnd principal)
+session_end = inr (omega arith)
 
-job_end : IsAllowed 1000002 (asks.Halt (Some Steps))
+job_end : IsAllowed 1000018 (asks.Halt (Some Steps))
 job_end = inr (omega arith)
 
 -- and nothing after it
-nothing_after : IsAllowed 1000003 (asks.Halt None) → ⊥
+nothing_after : IsAllowed 1000019 (asks.Halt None) → ⊥
 nothing_after (inl lt) = absurd (omega (arith, lt))
 nothing_after (inr le) = absurd (omega (arith, le))
 
@@ -50,11 +51,14 @@ routines = record {
 abbrev entry : Entry
 entry = record { label = Some (codes "A"); routine = codes "R" }
 
+abbrev start : Start
+start = record { job = 1; entry = entry; values = [] }
+
 abbrev log : Log
 log = (asks.DeviceBegin principal, Done) ∷ []
 
-goes_on_for_five : next routines entry 5 (replies_of log) ≡ More
+goes_on_for_five : next routines start 5 (replies_of log) ≡ More
 goes_on_for_five = refl
 
-asks_in_the_sixth : next routines entry 6 (replies_of log) ≡ Needs (asks.DeviceEnd principal) [] (record { routine = codes "R"; line = 1 } ∷ [])
+asks_in_the_sixth : next routines start 6 (replies_of log) ≡ Needs (asks.DeviceEnd principal) [] (record { routine = codes "R"; line = 1 } ∷ [])
 asks_in_the_sixth = refl

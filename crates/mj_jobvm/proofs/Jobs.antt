@@ -2,40 +2,44 @@
 use Rattle.std.proofs.Common.{◌≡◌, ℕ, suc, ◌+◌, ◌≤◌, List, [], ◌∷◌, ◌++◌, Option, Some, None, Bool, true, false, inl, inr, refl, sym, ap, ◌∙◌, subst, arith, append-nil}
 use Rattle.std.specs.Prelude.{IsTrue, nat_lt}
 use Rattle.std.proofs.lemmas.Bool.{ltb-true, ltb-false}
+use Rattle.mj_text.specs.declared.fault.Fault.{Fault}
 use Rattle.mj_ask.specs.declared.ask.Ask.{Ask}
 use Rattle.mj_ask.specs.declared.ask.Reply.{Reply}
-use Rattle.mj_ask.specs.declared.entry.Entry.{Entry}
 use Rattle.mj_ask.specs.Fits.{fits}
 use Rattle.mj_ast.specs.Syntax.{Routine}
-use Rattle.mj_semantics.specs.State.{State, Locals, Place, places}
-use Rattle.mj_semantics.specs.Outcome.{Outcome, Needs, More, Handler}
+use Rattle.mj_semantics.specs.State.{State, Locals, Place, places, ending_order}
+use Rattle.mj_semantics.specs.Outcome.{Outcome, Needs, More, Handler, ends}
 use Rattle.mj_semantics.specs.Outcome as outcomes
-use Rattle.mj_semantics.specs.Job.{next, no_restart}
+use Rattle.mj_semantics.specs.Job.{Start, next}
 use Rattle.mj_pcode.specs.Context.{Context}
-use Rattle.mj_pcode.specs.Machine.{Stack}
+use Rattle.mj_pcode.specs.Machine.{Stack, handler}
 use Rattle.mj_machine.specs.declared.control.Control.{Control}
 use Rattle.mj_machine.specs.declared.control.Control.TheVariants as controls
 use Rattle.mj_jobvm.specs.declared.job.Turn.TheVariants as reports
 use Rattle.mj_machine.specs.Standing.{Standing, Code, left, given_first, onward, Steps}
-use Rattle.mj_machine.specs.Standing as turns
+use Rattle.mj_machine.specs.Standing as turns_are
 use Rattle.mj_turn.specs.Sound.{IsSound}
-use Rattle.mj_jobvm.specs.Run.{Log, Run, replies_of, TurnsBefore, begins, goes_on, IsRun}
+use Rattle.mj_jobvm.specs.Run.{Log, Run, replies_of, TurnsBefore, begins, goes_on, IsRun, IsRunAfter}
 use Rattle.mj_jobvm.specs.Told.{Told}
 
 abbrev pub run : Log → Option Ask → ℕ → Standing → Run
 run log pending spent at = record { log = log; pending = pending; spent = spent; at = at }
 
 -- without a turn nothing is done
-idle_left : (code : Code) (control : Control) (c : Context) (stack : Stack) (s : State) (replies : List Reply) → left code control c stack 0 no_restart s replies ≡ More
-idle_left code controls.Begin c stack s replies = refl
-idle_left code (controls.At pc) c stack s replies = refl
-idle_left code (controls.Faulted f) c stack s replies = refl
-idle_left code (controls.Closing f) c stack s replies = refl
-idle_left code (controls.Halting f) c stack s replies = refl
-idle_left code controls.Over c stack s replies = refl
+idle_ends : (names : List (List ℕ)) (f : Option Fault) (back : Handler) (s : State) (replies : List Reply) → ends names f 0 back s replies ≡ More
+idle_ends [] f back s replies = refl
+idle_ends (name ∷ names) f back s replies = refl
+
+idle_left : (code : Code) (control : Control) (c : Context) (stack : Stack) (back : Handler) (s : State) (replies : List Reply) → left code control c stack 0 back s replies ≡ More
+idle_left code controls.Begin c stack back s replies = refl
+idle_left code (controls.At pc) c stack back s replies = refl
+idle_left code (controls.Faulted f) c stack back s replies = refl
+idle_left code (controls.Closing f) c stack back s replies = idle_ends (ending_order s.devices) f back s replies
+idle_left code (controls.Halting f) c stack back s replies = refl
+idle_left code controls.Over c stack back s replies = refl
 
 idle : (code : Code) (at : Standing) (replies : List Reply) → onward code 0 at replies ≡ More
-idle code at replies = idle_left code at.control at.context at.stack at.state (given_first at.given replies)
+idle code at replies = idle_left code at.control at.context at.stack (handler code.units at.restart) at.state (given_first at.given replies)
 
 -- lists without their last elements
 last_off : (xs ys : Log) (e f : Ask × Reply) → xs ++ e ∷ [] ≡ ys ++ f ∷ [] → xs ≡ ys
@@ -61,7 +65,7 @@ one_further P m up here n le = by (nat_lt m n) refl
     by false e = up n (ltb-false m n e)
 
 -- the turns before the last reply of a log are the only ones
-module _ (routines : List Routine) (entry : Entry) where
+module _ (routines : List Routine) (start : Start) where
   some_more : (log : Log) (e : Ask × Reply) → [] ≡ log ++ e ∷ [] → ⊥
   some_more [] e h = cc
   some_more (x ∷ log) e h = cc
@@ -72,55 +76,53 @@ module _ (routines : List Routine) (entry : Entry) where
 
   -- where it asks with each number above one, it goes on with none above it
   no_later : (replies : List Reply) (m k : ℕ) (a : Ask) (locals : Locals) (at : List Place)
-      → ((n : ℕ) → n ≤ m → next routines entry n replies ≡ More)
-      → ((n : ℕ) → next routines entry (k + suc n) replies ≡ Needs a locals at) → m ≤ k
+      → ((n : ℕ) → n ≤ m → next routines start n replies ≡ More)
+      → ((n : ℕ) → next routines start (k + suc n) replies ≡ Needs a locals at) → m ≤ k
   no_later replies m k a locals at going needs = by (nat_lt k m) refl
     where
       by : (b : Bool) → nat_lt k m ≡ b → m ≤ k
       by false e = ltb-false k m e
-      by true e = absurd (never_both (next routines entry (k + 1) replies) a locals at
+      by true e = absurd (never_both (next routines start (k + 1) replies) a locals at
           (going (k + 1) (let h = ltb-true k m e in omega (arith, h))) (needs 0))
 
-  pub only_one : (log : Log) (k m : ℕ) → TurnsBefore routines entry log k → TurnsBefore routines entry log m → k ≡ m
+  pub only_one : (log : Log) (k m : ℕ) → TurnsBefore routines start log k → TurnsBefore routines start log m → k ≡ m
   only_one log k m (inl (e, c)) (inl (f, d)) = c ∙ sym d
   only_one log k m (inl (e, c)) (inr (earlier, a, r, locals, at, is, going, needs)) = absurd (some_more earlier (a, r) (sym e ∙ is))
   only_one log k m (inr (earlier, a, r, locals, at, is, going, needs)) (inl (f, d)) = absurd (some_more earlier (a, r) (sym f ∙ is))
   only_one log k m (inr (earlier, a, r, locals, at, is, going, needs)) (inr (earlier', a', r', locals', at', is', going', needs')) =
       let same : earlier ≡ earlier' = last_off earlier earlier' (a, r) (a', r') (sym is ∙ is') in
-      let P : Log → Type 0 = λ l. (n : ℕ) → n ≤ m → next routines entry n (replies_of l) ≡ More in
-      let Q : Log → Type 0 = λ l. (n : ℕ) → next routines entry (m + suc n) (replies_of l) ≡ Needs a' locals' at' in
+      let P : Log → Type 0 = λ l. (n : ℕ) → n ≤ m → next routines start n (replies_of l) ≡ More in
+      let Q : Log → Type 0 = λ l. (n : ℕ) → next routines start (m + suc n) (replies_of l) ≡ Needs a' locals' at' in
       let le : k ≤ m = no_later (replies_of earlier) k m a' locals' at' going (subst Q (sym same) needs') in
       let ge : m ≤ k = no_later (replies_of earlier) m k a locals at (subst P (sym same) going') needs in
       omega (arith, le, ge)
 
-module _ (routines : List Routine) (entry : Entry) (code : Code) where
+module _ (routines : List Routine) (start : Start) (code : Code) where
   -- what the routines do with the log
-  now : (log : Log) (pending : Option Ask) (spent n : ℕ) (at : Standing) (r : IsRun routines entry code (run log pending spent at))
-      → onward code n at [] ≡ next routines entry (r.before + r.turns + n) (replies_of log)
-  now log pending spent n at r = r.rest n [] ∙ ap (next routines entry (r.before + r.turns + n)) (append-nil (replies_of log))
+  now : (log : Log) (pending : Option Ask) (spent turns n : ℕ) (at : Standing) (r : IsRunAfter routines start code turns (run log pending spent at))
+      → onward code n at [] ≡ next routines start (r.before + turns + n) (replies_of log)
+  now log pending spent turns n at r = r.rest n [] ∙ ap (next routines start (r.before + turns + n)) (append-nil (replies_of log))
 
-  pub started : (at : Standing) → IsSound code.units at → ((n : ℕ) (replies : List Reply) → onward code n at replies ≡ next routines entry n replies)
-      → IsRun routines entry code (run [] None 0 at)
+  pub started : (at : Standing) → IsSound code.units at → ((n : ℕ) (replies : List Reply) → onward code n at replies ≡ next routines start n replies)
+      → IsRunAfter routines start code 0 (run [] None 0 at)
   started at sound h = record {
     before = 0;
     counted = inl (refl, refl);
     trace = begins;
-    turns = 0;
     within = omega arith;
-    going = λ n le replies. ap (λ k. next routines entry k replies) (let e : n ≡ 0 = omega (arith, le) in e);
-    rest = λ n replies. h n replies ∙ ap (λ k. next routines entry k replies) (let e : n ≡ 0 + 0 + n = omega arith in e);
+    going = λ n le replies. ap (λ k. next routines start k replies) (let e : n ≡ 0 = omega (arith, le) in e);
+    rest = λ n replies. h n replies ∙ ap (λ k. next routines start k replies) (let e : n ≡ 0 + 0 + n = omega arith in e);
     sound = sound;
     asks = tt;
   }
 
   -- fewer turns may be counted than are over
-  pub fewer : (log : Log) (pending : Option Ask) (counted spent : ℕ) (at : Standing) → counted ≤ spent
-      → IsRun routines entry code (run log pending spent at) → IsRun routines entry code (run log pending counted at)
-  fewer log pending counted spent at le r = record {
+  pub fewer : (log : Log) (pending : Option Ask) (counted spent turns : ℕ) (at : Standing) → counted ≤ spent
+      → IsRunAfter routines start code turns (run log pending spent at) → IsRunAfter routines start code turns (run log pending counted at)
+  fewer log pending counted spent turns at le r = record {
     before = r.before;
     counted = r.counted;
     trace = r.trace;
-    turns = r.turns;
     within = let w = r.within in omega (arith, w, le);
     going = r.going;
     rest = r.rest;
@@ -129,30 +131,28 @@ module _ (routines : List Routine) (entry : Entry) (code : Code) where
   }
 
   -- a turn
-  pub turned : (log : Log) (spent : ℕ) (old new : Standing) → Steps code old turns.Over new → IsSound code.units new
-      → IsRun routines entry code (run log None spent old) → IsRun routines entry code (run log None (spent + 1) new)
-  turned log spent old new h sound r = record {
+  pub turned : (log : Log) (spent turns : ℕ) (old new : Standing) → Steps code old turns_are.Over new → IsSound code.units new
+      → IsRunAfter routines start code turns (run log None spent old) → IsRunAfter routines start code (turns + 1) (run log None (spent + 1) new)
+  turned log spent turns old new h sound r = record {
     before = r.before;
     counted = r.counted;
     trace = r.trace;
-    turns = r.turns + 1;
     within = let w = r.within in omega (arith, w);
-    going = λ n le. one_further (λ k. (replies : List Reply) → next routines entry k (replies_of log ++ replies) ≡ More) (r.before + r.turns) r.going
-        (λ replies. sym (r.rest 1 replies) ∙ h 0 replies ∙ idle code new replies) n (let l : n ≤ r.before + r.turns + 1 = omega (arith, le) in l);
-    rest = λ n replies. sym (h n replies) ∙ r.rest (suc n) replies ∙ ap (λ k. next routines entry k (replies_of log ++ replies)) (let e : r.before + r.turns + suc n ≡ r.before + (r.turns + 1) + n = omega arith in e);
+    going = λ n le. one_further (λ k. (replies : List Reply) → next routines start k (replies_of log ++ replies) ≡ More) (r.before + turns) r.going
+        (λ replies. sym (r.rest 1 replies) ∙ h 0 replies ∙ idle code new replies) n (let l : n ≤ r.before + turns + 1 = omega (arith, le) in l);
+    rest = λ n replies. sym (h n replies) ∙ r.rest (suc n) replies ∙ ap (λ k. next routines start k (replies_of log ++ replies)) (let e : r.before + turns + suc n ≡ r.before + (turns + 1) + n = omega arith in e);
     sound = sound;
     asks = tt;
   }
 
   -- an ask
-  pub asking : (log : Log) (spent : ℕ) (a : Ask) (old : Standing) → old.given ≡ None
+  pub asking : (log : Log) (spent turns : ℕ) (a : Ask) (old : Standing) → old.given ≡ None
       → ((n : ℕ) → onward code (suc n) old [] ≡ Needs a old.state.locals (places old.state))
-      → IsRun routines entry code (run log None spent old) → IsRun routines entry code (run log (Some a) spent old)
-  asking log spent a old g h r = record {
+      → IsRunAfter routines start code turns (run log None spent old) → IsRunAfter routines start code turns (run log (Some a) spent old)
+  asking log spent turns a old g h r = record {
     before = r.before;
     counted = r.counted;
     trace = r.trace;
-    turns = r.turns;
     within = r.within;
     going = r.going;
     rest = r.rest;
@@ -161,55 +161,56 @@ module _ (routines : List Routine) (entry : Entry) (code : Code) where
   }
 
   -- a run asks in the turn that it asks in, and in each later one
-  pub needs : (log : Log) (spent : ℕ) (a : Ask) (at : Standing) (r : IsRun routines entry code (run log (Some a) spent at))
-      → (n : ℕ) → next routines entry (r.before + r.turns + suc n) (replies_of log) ≡ Needs a at.state.locals (places at.state)
-  needs log spent a at r n = sym (now log (Some a) spent (suc n) at r) ∙ r.asks.1 n
+  pub needs : (log : Log) (spent turns : ℕ) (a : Ask) (at : Standing) (r : IsRunAfter routines start code turns (run log (Some a) spent at))
+      → (n : ℕ) → next routines start (r.before + turns + suc n) (replies_of log) ≡ Needs a at.state.locals (places at.state)
+  needs log spent turns a at r n = sym (now log (Some a) spent turns (suc n) at r) ∙ r.asks.1 n
 
   -- and is still going in each before
-  still : (log : Log) (pending : Option Ask) (spent : ℕ) (at : Standing) (r : IsRun routines entry code (run log pending spent at))
-      → (n : ℕ) → n ≤ r.before + r.turns → next routines entry n (replies_of log) ≡ More
-  still log pending spent at r n le = ap (next routines entry n) (sym (append-nil (replies_of log))) ∙ r.going n le []
+  still : (log : Log) (pending : Option Ask) (spent turns : ℕ) (at : Standing) (r : IsRunAfter routines start code turns (run log pending spent at))
+      → (n : ℕ) → n ≤ r.before + turns → next routines start n (replies_of log) ≡ More
+  still log pending spent turns at r n le = ap (next routines start n) (sym (append-nil (replies_of log))) ∙ r.going n le []
 
-  pub told_asks : (log : Log) (spent : ℕ) (a : Ask) (at : Standing) → IsRun routines entry code (run log (Some a) spent at)
-      → Told routines entry reports.Asks (run log (Some a) spent at)
-  told_asks log spent a at r = (a, refl, (r.before + r.turns + 1, needs log spent a at r 0))
+  pub told_asks : (log : Log) (spent : ℕ) (a : Ask) (at : Standing) → IsRun routines start code (run log (Some a) spent at)
+      → Told routines start reports.Asks (run log (Some a) spent at)
+  told_asks log spent a at (turns, r) = (a, refl, (r.before + turns + 1, needs log spent turns a at r 0))
 
   -- what is told again while an ask is pending
-  pub told_again : (job : Run) (a : Ask) → job.pending ≡ Some a → IsRun routines entry code job → Told routines entry reports.Asks job
-  told_again job a e r =
-      let P : Option Ask → Type 0 = λ p. IsRun routines entry code (run job.log p job.spent job.at) in
-      let pending : IsRun routines entry code (run job.log (Some a) job.spent job.at) = subst P e r in
-      (a, e, (pending.before + pending.turns + 1, needs job.log job.spent a job.at pending 0))
+  pub told_again : (job : Run) (a : Ask) → job.pending ≡ Some a → IsRun routines start code job → Told routines start reports.Asks job
+  told_again job a e (turns, r) =
+      let P : Option Ask → Type 0 = λ p. IsRunAfter routines start code turns (run job.log p job.spent job.at) in
+      let pending : IsRunAfter routines start code turns (run job.log (Some a) job.spent job.at) = subst P e r in
+      (a, e, (pending.before + turns + 1, needs job.log job.spent turns a job.at pending 0))
 
-  pub told_ran : (log : Log) (pending : Option Ask) (spent : ℕ) (at : Standing) → IsRun routines entry code (run log pending spent at)
-      → Told routines entry reports.Ran (run log pending spent at)
-  told_ran log pending spent at r = (
+  pub told_ran : (log : Log) (pending : Option Ask) (spent : ℕ) (at : Standing) → IsRun routines start code (run log pending spent at)
+      → Told routines start reports.Ran (run log pending spent at)
+  told_ran log pending spent at (turns, r) = (
     r.before,
     r.counted,
-    (λ k c. only_one routines entry log k r.before c r.counted),
-    λ n le. still log pending spent at r n (let w = r.within in omega (arith, le, w)),
+    (λ k c. only_one routines start log k r.before c r.counted),
+    λ n le. still log pending spent turns at r n (let w = r.within in omega (arith, le, w)),
   )
 
   pub told_ended : (log : Log) (pending : Option Ask) (spent : ℕ) (at : Standing)
       → ((n : ℕ) (replies : List Reply) → onward code (suc n) at replies ≡ outcomes.Ended)
-      → IsRun routines entry code (run log pending spent at) → Told routines entry reports.Ended (run log pending spent at)
-  told_ended log pending spent at h r = (r.before + r.turns + 1, sym (now log pending spent 1 at r) ∙ h 0 [])
+      → IsRun routines start code (run log pending spent at) → Told routines start reports.Ended (run log pending spent at)
+  told_ended log pending spent at h (turns, r) = (r.before + turns + 1, sym (now log pending spent turns 1 at r) ∙ h 0 [])
 
   replies_more : (log : Log) (a : Ask) (r : Reply) (replies : List Reply) → replies_of log ++ r ∷ replies ≡ replies_of (log ++ (a, r) ∷ []) ++ replies
   replies_more [] a r replies = refl
   replies_more (e ∷ log) a r replies = ap (λ rs. e.1 ∷ rs) (replies_more log a r replies)
 
   -- a reply
-  pub answered : (log : Log) (spent : ℕ) (a : Ask) (r : Reply) (at : Standing)
-      → IsTrue (fits a r) → IsRun routines entry code (run log (Some a) spent at)
-      → IsRun routines entry code (run (log ++ (a, r) ∷ []) None 0 (record at { given = Some r }))
-  answered log spent a r at fit is =
-      let after : (n : ℕ) (replies : List Reply) → left code at.control at.context at.stack n no_restart at.state (r ∷ replies) ≡ next routines entry (is.before + is.turns + n) (replies_of (log ++ (a, r) ∷ []) ++ replies) =
-      λ n replies. ap (λ g. left code at.control at.context at.stack n no_restart at.state (given_first g (r ∷ replies))) (sym is.asks.0)
+  pub answered : (log : Log) (spent turns : ℕ) (a : Ask) (r : Reply) (at : Standing)
+      → IsTrue (fits a r) → IsRunAfter routines start code turns (run log (Some a) spent at)
+      → IsRunAfter routines start code 0 (run (log ++ (a, r) ∷ []) None 0 (record at { given = Some r }))
+  answered log spent turns a r at fit is =
+      let back : Handler = handler code.units at.restart in
+      let after : (n : ℕ) (replies : List Reply) → left code at.control at.context at.stack n back at.state (r ∷ replies) ≡ next routines start (is.before + turns + n) (replies_of (log ++ (a, r) ∷ []) ++ replies) =
+      λ n replies. ap (λ g. left code at.control at.context at.stack n back at.state (given_first g (r ∷ replies))) (sym is.asks.0)
       ∙ is.rest n (r ∷ replies)
-      ∙ ap (next routines entry (is.before + is.turns + n)) (replies_more log a r replies) in
+      ∙ ap (next routines start (is.before + turns + n)) (replies_more log a r replies) in
       record {
-        before = is.before + is.turns;
+        before = is.before + turns;
         counted = inr (
           log,
           a,
@@ -217,16 +218,15 @@ module _ (routines : List Routine) (entry : Entry) (code : Code) where
           at.state.locals,
           places at.state,
           refl,
-          still log (Some a) spent at is,
-          needs log spent a at is,
+          still log (Some a) spent turns at is,
+          needs log spent turns a at is,
         );
-        trace = goes_on log a r (is.before + is.turns + 1) at.state.locals (places at.state) is.trace (needs log spent a at is 0) fit;
-        turns = 0;
+        trace = goes_on log a r (is.before + turns + 1) at.state.locals (places at.state) is.trace (needs log spent turns a at is 0) fit;
         within = omega arith;
-        going = λ n le replies. ap (next routines entry n) (sym (replies_more log a r replies))
-            ∙ is.going n (let l : n ≤ is.before + is.turns = omega (arith, le) in l) (r ∷ replies);
+        going = λ n le replies. ap (next routines start n) (sym (replies_more log a r replies))
+            ∙ is.going n (let l : n ≤ is.before + turns = omega (arith, le) in l) (r ∷ replies);
         rest = λ n replies. after n replies
-            ∙ ap (λ k. next routines entry k (replies_of (log ++ (a, r) ∷ []) ++ replies)) (let e : is.before + is.turns + n ≡ is.before + is.turns + 0 + n = omega arith in e);
+            ∙ ap (λ k. next routines start k (replies_of (log ++ (a, r) ∷ []) ++ replies)) (let e : is.before + turns + n ≡ is.before + turns + 0 + n = omega arith in e);
         sound = is.sound;
         asks = tt;
       }

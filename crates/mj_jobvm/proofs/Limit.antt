@@ -1,7 +1,9 @@
 -- A job asks at most 1,000,000 times before its ending: whatever it does, it is told no more replies than it may have.
-use Rattle.std.proofs.Common.{◌≡◌, ℕ, zero, suc, ◌+◌, ◌≤◌, ◌<◌, List, [], ◌∷◌, ◌++◌, length, map, Option, Some, None, Bool, true, false, inl, inr, refl, sym, subst, arith, length-append}
+use Rattle.std.proofs.Common.{◌≡◌, ℕ, zero, suc, ◌+◌, ◌≤◌, ◌<◌, List, [], ◌∷◌, ◌++◌, length, map, Option, Some, None, Bool, true, false, inl, inr, refl, sym, ap, subst, arith, length-append}
 use Rattle.std.specs.Prelude.{Result, Ok, Err, ℤ, ◌+ℤ◌, nat_lt, nat_eq, if◌then◌else◌}
+use Rattle.std.specs.Str.{bytes_eq}
 use Rattle.std.proofs.lemmas.Bool.{ltb-true}
+use Rattle.mj_text.specs.declared.text.TheConstants.{TEXT_LIMIT}
 use Rattle.std.proofs.lemmas.List.{length-map}
 use Rattle.mj_text.specs.declared.fault.Fault.{Fault}
 use Rattle.mj_text.specs.declared.fault.Fault.TheVariants as faults
@@ -15,29 +17,39 @@ use Rattle.mj_store.specs.declared.access.Answer.{Answer}
 use Rattle.mj_ask.specs.declared.ask.Ask.{Ask}
 use Rattle.mj_ask.specs.declared.ask.Ask.TheVariants as asks
 use Rattle.mj_ask.specs.declared.ask.Reply.{Reply}
-use Rattle.mj_ask.specs.declared.entry.Entry.{Entry}
 use Rattle.mj_oper.specs.Operators.{binary_value, unary_value, truth_value}
 use Rattle.mj_ast.specs.Syntax.{Expr, Chain, Tails, Done, Then, Operand, Literal, Value, Intrinsic, Unary, Group, Call, About, Select, Variable, Var, Exprs, No, More as Another, Choices, Last, Before, Destination, Plain, Pieces, Targets, One, Several, Assignment, Killed, Gone, Spared, Merged, Output, Shown, Format, Called as CalledOf, Jumped as JumpedOf, Range, Single, Endless, UpTo, Renewed, Fresh, Kept, Command, Set, Write, Halt, Kill, Merge, If, Else, For, Forever, Do, Goto, Quit, New, Step, Line, Routine}
 use Rattle.mj_ast.specs.declared.expr.Scope.TheVariants.{Local}
 use Rattle.mj_num.specs.Number.{reading, sum_of, canonic_text}
-use Rattle.mj_semantics.specs.State.{State, Locals, Place, Frame, Only, AllBut, accessed, counted, wrote, newed, set_test, special_value, level_of, may_go, pushed, popped, passed, at_place, spare, hold}
+use Rattle.mj_semantics.specs.State.{State, Locals, Place, Frame, OpenDevice, principal, devices_limit, has_failed, is_at_mark, ending_order, on_device, moved, broke, Only, AllBut, accessed, counted, wrote, newed, set_test, special_value, level_of, may_go, pushed, popped, passed, at_place, spare, hold}
 use Rattle.mj_ast.specs.declared.function.NameFunction.{NameFunction}
 use Rattle.mj_semantics.specs.Functions.{call_value, needed, optional}
 use Rattle.mj_semantics.specs.Names.{spelled, asks as asks_some, question, told}
-use Rattle.mj_semantics.specs.Outcome.{Needs, Handler, Timed, turn, turns, look, change, asking, over, principal, halt, end, fault_bytes, fault, steps_limit, ask, tell, need, given}
+use Rattle.mj_semantics.specs.Outcome.{Needs, Handler, Timed, turn, turns, look, change, asking, until, over, halt, ends, end, fault_bytes, fault, steps_limit, ask, is_failed, to_device, need, given}
 use Rattle.mj_semantics.specs.Accesses.{answer_told, answered, access, value_told, nodes_told}
 use Rattle.mj_semantics.specs.Evaluation.{ev, ev_tails, ev_operand, ev_choices, ev_name, ev_named, ev_all, ev_actuals, ev_local, name_of, named_for, read, about, when}
 use Rattle.mj_semantics.specs.Lines.{Here, place_at, next_line, line_before, line_at, levels_of, entry_of, entered}
-use Rattle.mj_semantics.specs.Points.{Ways, Loop, Once, Always, By, Point, AtLine, Called, Jumped, Pass, Points}
-use Rattle.mj_semantics.specs.Commands.{Aim, Whole, Part, ev_destination, ev_destinations, store, or_empty, renewed, renew, put, put_all, assign_to, assign, assign_all, named, remove, kill, kill_list, kill_all, take_nodes, put_these, put_nodes, merge, merge_all, write, mark_byte, output, output_all, renewal, new_list, new_all, deeper, frames_limit, ifs, if_test, if_all, is_within, stepped, again, first, ranges, calls, block, do_all, jumps, obey, obey_all}
-use Rattle.mj_semantics.specs.Job.{quit_before, obey_line, call, jump, in_pass, points_of, opening, no_restart, start, next}
+use Rattle.mj_semantics.specs.Points.{Leave, Ways, Loop, Once, Always, By, Point, AtLine, Called, Jumped, Pass, Started, Points}
+use Rattle.mj_semantics.specs.Commands.{Aim, Whole, Part, ev_destination, ev_destinations, store, or_empty, renewed, renew, put, put_all, assign_to, assign, assign_all, named, remove, kill, kill_list, kill_all, take_nodes, put_these, put_nodes, merge, merge_all, write, mark_byte, output, output_all, renewal, new_list, new_all, quit_frame, deeper, frames_limit, ifs, if_test, if_all, is_within, stepped, again, first, ranges, calls, block, do_all, jumps, obey, obey_all}
+use Rattle.mj_semantics.specs.Job.{Start, quit_before, obey_line, call, jump, in_pass, points_of, opening, no_restart, start as starts, next}
 use Rattle.mj_jobvm.specs.Run.{Log, replies_of, IsTrace, begins, goes_on}
 use Rattle.mj_jobvm.specs.Limit.{IsAllowed, AreAllowed, IsLimited}
+
+-- no more asks were replied to than may be, and no more devices are open
+abbrev IsFair : State → Type 0
+IsFair s = (s.replied ≤ steps_limit) × (length s.devices ≤ devices_limit + 1)
+
+-- as many asks were replied to in one state as in another, and as many devices are open
+abbrev IsLike : State → State → Type 0
+IsLike s t = (t.replied ≡ s.replied) × (length t.devices ≡ length s.devices)
+
+like_fair : (s t : State) → IsLike s t → IsFair s → IsFair t
+like_fair s t same fair = (omega (arith, same.0, fair.0), omega (arith, same.1, fair.1))
 
 -- what is left to do asks only what it may, behind the replies before it and those that it is told
 pub record Keeps (t : Timed) : Type 0 where
   pub by : (n : ℕ) (h : Handler) (s : State) (replies : List Reply) (a : Ask) (locals : Locals) (at : List Place)
-      → s.replied ≤ steps_limit → t n h s replies ≡ Needs a locals at → IsAllowed (s.replied + length replies) a
+      → IsFair s → t n h s replies ≡ Needs a locals at → IsAllowed (s.replied + length replies) a
 
 asks_it : (a b : Ask) (locals locals' : Locals) (at at' : List Place) → Needs a locals at ≡ Needs b locals' at' → a ≡ b
 asks_it a b locals locals' at at' e = cc
@@ -51,15 +63,15 @@ module _ (rest : Timed) (k : Keeps rest) where
   turn_keeps = record { by = at }
     where
       at : (n : ℕ) (h : Handler) (s : State) (replies : List Reply) (a : Ask) (locals : Locals) (at : List Place)
-          → s.replied ≤ steps_limit → turn rest n h s replies ≡ Needs a locals at → IsAllowed (s.replied + length replies) a
+          → IsFair s → turn rest n h s replies ≡ Needs a locals at → IsAllowed (s.replied + length replies) a
       at zero h s replies a locals places le e = cc
       at (suc n) h s replies a locals places le e = k.by n h s replies a locals places le e
 
-  pub change_keeps : (f : State → State) → ((s : State) → (f s).replied ≡ s.replied) → Keeps (change f rest)
+  pub change_keeps : (f : State → State) → ((s : State) → IsLike s (f s)) → Keeps (change f rest)
   change_keeps f same = record {
     by = λ n h s replies a locals at le e.
-        subst (λ r. IsAllowed (r + length replies) a) (same s)
-        (k.by n h (f s) replies a locals at (subst (λ r. r ≤ steps_limit) (sym (same s)) le) e);
+        subst (λ r. IsAllowed (r + length replies) a) (same s).0
+        (k.by n h (f s) replies a locals at (like_fair s (f s) (same s) le) e);
   }
 
 turns_keep : (many : ℕ) (rest : Timed) → Keeps rest → Keeps (turns many rest)
@@ -77,48 +89,73 @@ over_asks (suc n) h s replies a locals at e = cc
 
 -- its last ask, behind so many
 halt_keeps : (f : Option Fault) (n k : ℕ) (h : Handler) (s : State) (replies : List Reply) (a : Ask) (locals : Locals) (at : List Place)
-    → k ≤ steps_limit + 2 → halt f n h s replies ≡ Needs a locals at → IsAllowed (k + length replies) a
+    → k ≤ steps_limit + 2 + devices_limit → halt f n h s replies ≡ Needs a locals at → IsAllowed (k + length replies) a
 halt_keeps f zero k h s replies a locals at le e = cc
 halt_keeps f (suc n) k h s [] a locals at le e =
-    allowed_as (asks.Halt f) a (k + 0) s.locals locals _ at e (inr (let l : k + 0 ≤ steps_limit + 2 = omega (arith, le) in l))
+    allowed_as (asks.Halt f) a (k + 0) s.locals locals _ at e (inr (let l : k + 0 ≤ steps_limit + 2 + devices_limit = omega (arith, le) in l))
 halt_keeps f (suc n) k h s (r ∷ replies) a locals at le e = absurd (over_asks n h s replies a locals at e)
 
--- its last two
-end_within : (f : Option Fault) (n k : ℕ) (h : Handler) (s : State) (replies : List Reply) (a : Ask) (locals : Locals) (at : List Place)
-    → k ≤ steps_limit + 1 → end f n h s replies ≡ Needs a locals at → IsAllowed (k + length replies) a
-end_within f zero k h s replies a locals at le e = cc
-end_within f (suc n) k h s [] a locals at le e =
-    allowed_as (asks.DeviceEnd principal) a (k + 0) s.locals locals _ at e (inr (let l : k + 0 ≤ steps_limit + 1 = omega (arith, le) in l, refl))
-end_within f (suc n) k h s (r ∷ replies) a locals at le e =
-    let g : k + 1 ≤ steps_limit + 2 = omega (arith, le) in
+-- the ends of sessions before it
+ends_within : (names : List (List ℕ)) (f : Option Fault) (n k : ℕ) (h : Handler) (s : State) (replies : List Reply) (a : Ask) (locals : Locals) (at : List Place)
+    → k + length names ≤ steps_limit + 2 + devices_limit → ends names f n h s replies ≡ Needs a locals at → IsAllowed (k + length replies) a
+ends_within [] f n k h s replies a locals at le e = halt_keeps f n k h s replies a locals at (omega (arith, le)) e
+ends_within (name ∷ names) f zero k h s replies a locals at le e = cc
+ends_within (name ∷ names) f (suc n) k h s [] a locals at le e =
+    allowed_as (asks.DeviceEnd name) a (k + 0) s.locals locals _ at e (inr (let l : k + 0 ≤ steps_limit + 1 + devices_limit = omega (arith, le) in l))
+ends_within (name ∷ names) f (suc n) k h s (r ∷ replies) a locals at le e =
+    let g : k + 1 + length names ≤ steps_limit + 2 + devices_limit = omega (arith, le) in
     let is : k + 1 + length replies ≡ k + length (r ∷ replies) = omega arith in
-    subst (λ i. IsAllowed i a) is (halt_keeps f n (k + 1) h s replies a locals at g e)
+    subst (λ i. IsAllowed i a) is (ends_within names f n (k + 1) h s replies a locals at g e)
+
+-- as many sessions end as devices are open
+ending_length : (devices : List OpenDevice) → length (ending_order devices) ≡ length devices
+ending_length [] = refl
+ending_length (p ∷ others) =
+    omega (arith, length-append (map (λ d. d.name) others) (p.name ∷ []), length-map others (λ d. d.name))
+
+end_within : (f : Option Fault) (n k : ℕ) (h : Handler) (s : State) (replies : List Reply) (a : Ask) (locals : Locals) (at : List Place)
+    → k ≤ steps_limit + 1 → IsFair s → end f n h s replies ≡ Needs a locals at → IsAllowed (k + length replies) a
+end_within f n k h s replies a locals at le fair e =
+    let g : k + length (ending_order s.devices) ≤ steps_limit + 2 + devices_limit = omega (arith, le, fair.1, ending_length s.devices) in
+    ends_within (ending_order s.devices) f n k h s replies a locals at g e
 
 pub end_keeps : (f : Option Fault) → Keeps (end f)
 end_keeps f = record {
-  by = λ n h s replies a locals at le e. end_within f n s.replied h s replies a locals at (let l : s.replied ≤ steps_limit + 1 = omega (arith, le) in l) e;
+  by = λ n h s replies a locals at le e. end_within f n s.replied h s replies a locals at (let l : s.replied ≤ steps_limit + 1 = omega (arith, le.0) in l) le e;
 }
 
--- a fault writes its line first
+-- a fault writes its line first, unless the principal device failed
+abbrev telling : Fault → State → Timed
+telling f s = asking (asks.DeviceWrite principal (fault_bytes f s)) (λ r. end (Some f))
+
+telling_keeps : (f : Fault) (n : ℕ) (h : Handler) (s : State) (replies : List Reply) (a : Ask) (locals : Locals) (at : List Place)
+    → IsFair s → telling f s n h s replies ≡ Needs a locals at → IsAllowed (s.replied + length replies) a
+telling_keeps f n h s [] a locals places le e =
+    allowed_as (asks.DeviceWrite principal (fault_bytes f s)) a (s.replied + 0) s.locals locals _ places e
+    (inr (let l : s.replied + 0 ≤ steps_limit = omega (arith, le.0) in l, refl, (f, s, refl)))
+telling_keeps f n h s (r ∷ replies) a locals places le e =
+    let g : s.replied + 1 ≤ steps_limit + 1 = omega (arith, le.0) in
+    let is : s.replied + 1 + length replies ≡ s.replied + length (r ∷ replies) = omega arith in
+    subst (λ i. IsAllowed i a) is (end_within (Some f) n (s.replied + 1) h s replies a locals places g le e)
+
 pub fault_keeps : (f : Fault) → Keeps (fault f)
 fault_keeps f = record { by = at }
   where
+    by_device : (b : Bool) (n : ℕ) (h : Handler) (s : State) (replies : List Reply) (a : Ask) (locals : Locals) (at : List Place)
+        → IsFair s → (if b then end (Some f) else telling f s) n h s replies ≡ Needs a locals at → IsAllowed (s.replied + length replies) a
+    by_device true n h s replies a locals places le e = (end_keeps (Some f)).by n h s replies a locals places le e
+    by_device false n h s replies a locals places le e = telling_keeps f n h s replies a locals places le e
+
     at : (n : ℕ) (h : Handler) (s : State) (replies : List Reply) (a : Ask) (locals : Locals) (at : List Place)
-        → s.replied ≤ steps_limit → fault f n h s replies ≡ Needs a locals at → IsAllowed (s.replied + length replies) a
+        → IsFair s → fault f n h s replies ≡ Needs a locals at → IsAllowed (s.replied + length replies) a
     at zero h s replies a locals places le e = cc
-    at (suc n) h s [] a locals places le e =
-        allowed_as (asks.DeviceWrite principal (fault_bytes f s)) a (s.replied + 0) s.locals locals _ places e
-        (inr (let l : s.replied + 0 ≤ steps_limit = omega (arith, le) in l, refl, (f, s, refl)))
-    at (suc n) h s (r ∷ replies) a locals places le e =
-        let g : s.replied + 1 ≤ steps_limit + 1 = omega (arith, le) in
-        let is : s.replied + 1 + length replies ≡ s.replied + length (r ∷ replies) = omega arith in
-        subst (λ i. IsAllowed i a) is (end_within (Some f) n (s.replied + 1) h s replies a locals places g e)
+    at (suc n) h s replies a locals places le e = by_device (has_failed principal s) n h s replies a locals places le e
 
 -- Asks.
 
 ask_by : (x : Ask) (rest : Reply → Timed) → ((r : Reply) → Keeps (rest r)) → (b : Bool)
     → (n : ℕ) (h : Handler) (s : State) (replies : List Reply) (a : Ask) (locals : Locals) (at : List Place)
-    → nat_lt s.replied steps_limit ≡ b → s.replied ≤ steps_limit
+    → nat_lt s.replied steps_limit ≡ b → IsFair s
     → (if b then asking x (λ r. change counted (rest r)) else fault faults.Steps) n h s replies ≡ Needs a locals at
     → IsAllowed (s.replied + length replies) a
 ask_by x rest k true n h s [] a locals at b le e =
@@ -126,18 +163,30 @@ ask_by x rest k true n h s [] a locals at b le e =
 ask_by x rest k true n h s (r ∷ replies) a locals at b le e =
     let g : s.replied + 1 ≤ steps_limit = (let q = ltb-true s.replied steps_limit b in omega (arith, q)) in
     let is : s.replied + 1 + length replies ≡ s.replied + length (r ∷ replies) = omega arith in
-    subst (λ i. IsAllowed i a) is ((k r).by n h (counted s) replies a locals at g e)
+    subst (λ i. IsAllowed i a) is ((k r).by n h (counted s) replies a locals at (g, le.1) e)
 ask_by x rest k false n h s replies a locals at b le e = (fault_keeps faults.Steps).by n h s replies a locals at le e
 
 pub ask_keeps : (x : Ask) (rest : Reply → Timed) → ((r : Reply) → Keeps (rest r)) → Keeps (ask x rest)
 ask_keeps x rest k = record { by = λ n h s replies a locals at le e. ask_by x rest k (nat_lt s.replied steps_limit) n h s replies a locals at refl le e }
 
-pub tell_keeps : (x : Ask) (rest : Timed) → Keeps rest → Keeps (tell x rest)
-tell_keeps x rest k = ask_keeps x (λ r. rest) (λ r. k)
 
 pub if_keeps : (b : Bool) (t u : Timed) → Keeps t → Keeps u → Keeps (if b then t else u)
 if_keeps true t u k l = k
 if_keeps false t u k l = l
+
+-- the devices of a state, of which one is changed
+device_length : (name : List ℕ) (f : OpenDevice → OpenDevice) (devices : List OpenDevice) → length (on_device name f devices) ≡ length devices
+device_length name f [] = refl
+device_length name f (d ∷ devices) = by (bytes_eq d.name name) (device_length name f devices)
+  where
+    by : (b : Bool) → length (on_device name f devices) ≡ length devices → length (if b then f d ∷ devices else d ∷ on_device name f devices) ≡ length (d ∷ devices)
+    by true e = refl
+    by false e = ap suc e
+
+pub to_device_keeps : (name : List ℕ) (x : Ask) (rest : Timed) → Keeps rest → Keeps (to_device name x rest)
+to_device_keeps name x rest k =
+    ask_keeps x _ (λ r. if_keeps (is_failed r) (change (broke name) (fault faults.Device)) rest
+    (change_keeps (fault faults.Device) (fault_keeps faults.Device) (broke name) (λ s. (refl, device_length name (λ d. record d { failed = true }) s.devices))) k)
 
 pub given_keeps : {A : Type 0} (r : Result A Fault) (rest : A → Timed) → ((v : A) → Keeps (rest v)) → Keeps (given r rest)
 given_keeps (Ok v) rest k = k v
@@ -152,7 +201,7 @@ access_keeps x rest k =
     if_keeps (name_in x).global (ask (asks.Access x) (λ r. given (answered (answer_told r)) rest))
     (look (λ s. change (accessed x) (given (answered (answer_of x s.locals)) rest)))
     (ask_keeps (asks.Access x) _ (λ r. given_keeps (answered (answer_told r)) rest k))
-    (look_keeps _ (λ s. change_keeps (given (answered (answer_of x s.locals)) rest) (given_keeps (answered (answer_of x s.locals)) rest k) (accessed x) (λ q. refl)))
+    (look_keeps _ (λ s. change_keeps (given (answered (answer_of x s.locals)) rest) (given_keeps (answered (answer_of x s.locals)) rest k) (accessed x) (λ q. (refl, refl))))
 
 -- Expressions.
 
@@ -165,179 +214,8 @@ about_keeps f x o rest k =
     (given_keeps (question f x o) _ (λ a. access_keeps a _ (λ r. given_keeps (told f o r) rest k)))
     (given_keeps (spelled x) rest k)
 
-mutual
-  pub ev_keeps : (e : Expr) (rest : List ℕ → Timed) → ((v : List ℕ) → Keeps (rest v)) → Keeps (ev e rest)
-  ev_keeps (Chain x ts) rest k = operand_keeps x (λ v. ev_tails v ts rest) (λ v. tails_keep v ts rest k)
-
-  tails_keep : (v : List ℕ) (ts : Tails) (rest : List ℕ → Timed) → ((v : List ℕ) → Keeps (rest v)) → Keeps (ev_tails v ts rest)
-  tails_keep v Done rest k = k v
-  tails_keep v (Then op x ts) rest k =
-      operand_keeps x _ (λ w. turn_keeps _ (given_keeps (binary_value op v w) (λ u. ev_tails u ts rest) (λ u. tails_keep u ts rest k)))
-
-  operand_keeps : (x : Operand) (rest : List ℕ → Timed) → ((v : List ℕ) → Keeps (rest v)) → Keeps (ev_operand x rest)
-  operand_keeps (Literal t) rest k = turn_keeps (rest t) (k t)
-  operand_keeps (Value v) rest k = name_keeps v (λ x. read x rest) (λ x. read_keeps x rest k)
-  operand_keeps (Intrinsic v) rest k = turn_keeps _ (look_keeps _ (λ s. k (special_value v s)))
-  operand_keeps (Unary op x) rest k = operand_keeps x _ (λ v. turn_keeps _ (given_keeps (unary_value op v) rest k))
-  operand_keeps (Group e) rest k = ev_keeps e rest k
-  operand_keeps (Call f es) rest k = all_keep es _ (λ vs. turn_keeps _ (given_keeps (call_value f vs) rest k))
-  operand_keeps (About f v es) rest k = named_keeps f v _ (λ x. all_keep es _ (λ vs. turn_keeps _ (about_keeps f x (optional 0 vs) rest k)))
-  operand_keeps (Select choices) rest k = choices_keep choices rest k
-
-  choices_keep : (x : Choices) (rest : List ℕ → Timed) → ((v : List ℕ) → Keeps (rest v)) → Keeps (ev_choices x rest)
-  choices_keep (Last c e) rest k =
-      ev_keeps c _ (λ v. turn_keeps _ (given_keeps (truth_value v) (λ b. if b then ev e (λ w. turn (rest w)) else turn (fault faults.Select)) (λ b.
-      if_keeps b (ev e (λ w. turn (rest w))) (turn (fault faults.Select)) (ev_keeps e (λ w. turn (rest w)) (λ w. turn_keeps (rest w) (k w))) (turn_keeps (fault faults.Select) (fault_keeps faults.Select)))))
-  choices_keep (Before c e others) rest k =
-      ev_keeps c _ (λ v. turn_keeps _ (given_keeps (truth_value v) (λ b. if b then ev e (λ w. turn (rest w)) else ev_choices others rest) (λ b.
-      if_keeps b (ev e (λ w. turn (rest w))) (ev_choices others rest) (ev_keeps e (λ w. turn (rest w)) (λ w. turn_keeps (rest w) (k w))) (choices_keep others rest k))))
-
-  name_keeps : (v : Variable) (rest : Name → Timed) → ((x : Name) → Keeps (rest x)) → Keeps (ev_name v rest)
-  name_keeps (Var scope word es) rest k = all_keep es _ (λ ss. turn_keeps _ (given_keeps (name_of scope word ss) rest k))
-
-  named_keeps : (f : NameFunction) (v : Variable) (rest : Name → Timed) → ((x : Name) → Keeps (rest x)) → Keeps (ev_named f v rest)
-  named_keeps f (Var scope word es) rest k = all_keep es _ (λ ss. turn_keeps _ (given_keeps (named_for f scope word ss) rest k))
-
-  all_keep : (es : Exprs) (rest : List (List ℕ) → Timed) → ((vs : List (List ℕ)) → Keeps (rest vs)) → Keeps (ev_all es rest)
-  all_keep No rest k = k []
-  all_keep (Another e es) rest k = ev_keeps e (λ v. ev_all es (λ vs. rest (v ∷ vs))) (λ v. all_keep es (λ vs. rest (v ∷ vs)) (λ vs. k (v ∷ vs)))
-
-when_keeps : (condition : Option Expr) (done skipped : Timed) → Keeps done → Keeps skipped → Keeps (when condition done skipped)
-when_keeps None done skipped k l = k
-when_keeps (Some e) done skipped k l =
-    ev_keeps e _ (λ v. turn_keeps _ (given_keeps (truth_value v) (λ b. if b then done else skipped) (λ b. if_keeps b done skipped k l)))
-
--- Commands.
-
 store_keeps : (x : Name) (v : List ℕ) (rest : Timed) → Keeps rest → Keeps (store x v rest)
 store_keeps x v rest k = access_keeps (accesses.Set x v) (λ a. rest) (λ a. k)
-
-destination_keeps : (d : Destination) (rest : Aim → Timed) → ((t : Aim) → Keeps (rest t)) → Keeps (ev_destination d rest)
-destination_keeps (Plain v) rest k = name_keeps v _ (λ x. k (Whole x))
-destination_keeps (Pieces v es) rest k = name_keeps v _ (λ x. all_keep es _ (λ ts. k (Part x ts)))
-
-destinations_keep : (list : List Destination) (rest : List Aim → Timed) → ((ts : List Aim) → Keeps (rest ts)) → Keeps (ev_destinations list rest)
-destinations_keep [] rest k = k []
-destinations_keep (d ∷ list) rest k = destination_keeps d _ (λ t. destinations_keep list (λ ts. rest (t ∷ ts)) (λ ts. k (t ∷ ts)))
-
-range_keeps : (range : Option (ℕ × ℕ)) (x : Name) (separator e : List ℕ) (skipped : Timed) (rest : List ℕ → Timed) → Keeps skipped → ((v : List ℕ) → Keeps (rest v)) →
-    Keeps (elim range [ None ↦ skipped | Some r ↦ renewed x separator r e rest ])
-range_keeps None x separator e skipped rest k l = k
-range_keeps (Some r) x separator e skipped rest k l = access_keeps (accesses.Value x) _ (λ a. given_keeps (set_piece_value (or_empty (value_told a)) separator r e) rest l)
-
-renew_keeps : (x : Name) (ts : List (List ℕ)) (e : List ℕ) (skipped : Timed) (rest : List ℕ → Timed) → Keeps skipped → ((v : List ℕ) → Keeps (rest v)) → Keeps (renew x ts e skipped rest)
-renew_keeps x ts e skipped rest k l = given_keeps (assigned_pieces (needed 0 ts) (optional 1 ts) (optional 2 ts)) _ (λ range. range_keeps range x (needed 0 ts) e skipped rest k l)
-
-put_keeps : (t : Aim) (v : List ℕ) (rest : Timed) → Keeps rest → Keeps (put t v rest)
-put_keeps (Whole x) v rest k = store_keeps x v rest k
-put_keeps (Part x ts) v rest k = renew_keeps x ts v rest _ k (λ w. turn_keeps (store x w rest) (store_keeps x w rest k))
-
-put_all_keeps : (ts : List Aim) (v : List ℕ) (rest : Timed) → Keeps rest → Keeps (put_all ts v rest)
-put_all_keeps [] v rest k = k
-put_all_keeps (t ∷ ts) v rest k = turn_keeps _ (put_keeps t v (put_all ts v rest) (put_all_keeps ts v rest k))
-
-targets_keep : (t : Targets) (e : Expr) (rest : Timed) → Keeps rest → Keeps (assign_to t e rest)
-targets_keep (One d) e rest k = destination_keeps d _ (λ t. ev_keeps e _ (λ v. turn_keeps (put t v rest) (put_keeps t v rest k)))
-targets_keep (Several list) e rest k = destinations_keep list _ (λ ts. ev_keeps e _ (λ v. put_all_keeps ts v (turn rest) (turn_keeps rest k)))
-
-assign_keeps : (a : Assignment) (rest : Timed) → Keeps rest → Keeps (assign a rest)
-assign_keeps a rest k = targets_keep a.targets a.value rest k
-
-assign_all_keeps : (list : List Assignment) (rest : Timed) → Keeps rest → Keeps (assign_all list rest)
-assign_all_keeps [] rest k = k
-assign_all_keeps (a ∷ list) rest k = assign_keeps a (assign_all list rest) (assign_all_keeps list rest k)
-
-write_keeps : (bytes : List ℕ) (rest : Timed) → Keeps rest → Keeps (write bytes rest)
-write_keeps [] rest k = k
-write_keeps (b ∷ bytes) rest k =
-    let all : List ℕ = b ∷ bytes in
-    if_keeps (nat_lt 32767 (length all)) (fault faults.Length) (tell (asks.DeviceWrite principal all) (change (wrote all) rest))
-    (fault_keeps faults.Length) (tell_keeps (asks.DeviceWrite principal all) _ (change_keeps rest k (wrote all) (λ q. refl)))
-
-output_keeps : (o : Output) (rest : Timed) → Keeps rest → Keeps (output o rest)
-output_keeps (Shown e) rest k = ev_keeps e _ (λ v. turn_keeps (write v rest) (write_keeps v rest k))
-output_keeps (Format marks) rest k = turn_keeps (write (map mark_byte marks) rest) (write_keeps (map mark_byte marks) rest k)
-
-output_all_keeps : (list : List Output) (rest : Timed) → Keeps rest → Keeps (output_all list rest)
-output_all_keeps [] rest k = k
-output_all_keeps (o ∷ list) rest k = output_keeps o (output_all list rest) (output_all_keeps list rest k)
-
-names_keep : (words : List (List ℕ)) (rest : Timed) → Keeps rest → Keeps (named words rest)
-names_keep [] rest k = k
-names_keep (word ∷ words) rest k = turn_keeps (named words rest) (names_keep words rest k)
-
-spare_keeps : (words : List (List ℕ)) (rest : Timed) → Keeps rest → Keeps (turn (change (spare words) rest))
-spare_keeps words rest k = turn_keeps (change (spare words) rest) (change_keeps rest k (spare words) (λ q. refl))
-
-kill_keeps : (x : Killed) (rest : Timed) → Keeps rest → Keeps (kill x rest)
-kill_keeps (Gone v) rest k = name_keeps v _ (λ x. turn_keeps (remove x rest) (access_keeps (accesses.Kill x) (λ a. rest) (λ a. k)))
-kill_keeps (Spared words) rest k = names_keep words _ (spare_keeps words rest k)
-
-kill_list_keeps : (list : List Killed) (rest : Timed) → Keeps rest → Keeps (kill_list list rest)
-kill_list_keeps [] rest k = k
-kill_list_keeps (x ∷ list) rest k = kill_keeps x (kill_list list rest) (kill_list_keeps list rest k)
-
-kill_all_keeps : (list : List Killed) (rest : Timed) → Keeps rest → Keeps (kill_all list rest)
-kill_all_keeps [] rest k = spare_keeps [] rest k
-kill_all_keeps (x ∷ list) rest k = kill_list_keeps (x ∷ list) rest k
-
-these_keep : (x : Name) (nodes : Subtree) (rest : Timed) → Keeps rest → Keeps (put_these x nodes rest)
-these_keep x [] rest k = k
-these_keep x (e ∷ nodes) rest k = access_keeps (accesses.Put x (e ∷ nodes)) _ (λ a. change_keeps rest k (hold []) (λ q. refl))
-
-nodes_keep : (x : Name) (rest : Timed) → Keeps rest → Keeps (put_nodes x rest)
-nodes_keep x rest k = look_keeps _ (λ s. these_keep x s.held rest k)
-
-take_keeps : (into from : Name) (rest : Timed) → Keeps rest → Keeps (take_nodes into from rest)
-take_keeps into from rest k =
-    if_keeps (overlaps into from) (fault faults.Overlap) (access (accesses.Subtree from) (λ a. change (hold (nodes_told a)) rest)) (fault_keeps faults.Overlap)
-    (access_keeps (accesses.Subtree from) _ (λ a. change_keeps rest k (hold (nodes_told a)) (λ q. refl)))
-
-merge_keeps : (m : Merged) (rest : Timed) → Keeps rest → Keeps (merge m rest)
-merge_keeps m rest k = name_keeps m.into _ (λ x. name_keeps m.from _ (λ y. take_keeps x y (turn (put_nodes x rest)) (turn_keeps (put_nodes x rest) (nodes_keep x rest k))))
-
-merge_all_keeps : (list : List Merged) (rest : Timed) → Keeps rest → Keeps (merge_all list rest)
-merge_all_keeps [] rest k = k
-merge_all_keeps (m ∷ list) rest k = merge_keeps m (merge_all list rest) (merge_all_keeps list rest k)
-
--- Actuals, and the local of a FOR.
-
-actuals_keep : (es : List (Option Expr)) (rest : List (Option (List ℕ)) → Timed) → ((vs : List (Option (List ℕ))) → Keeps (rest vs)) → Keeps (ev_actuals es rest)
-actuals_keep [] rest k = k []
-actuals_keep (None ∷ es) rest k = actuals_keep es _ (λ vs. k (None ∷ vs))
-actuals_keep (Some e ∷ es) rest k = ev_keeps e _ (λ v. actuals_keep es _ (λ vs. k (Some v ∷ vs)))
-
-local_keeps : (v : Variable) (rest : Name → Timed) → ((x : Name) → Keeps (rest x)) → Keeps (ev_local v rest)
-local_keeps (Var scope word es) rest k = all_keep es _ (λ ss. turn_keeps _ (given_keeps (name_of Local word ss) rest k))
-
--- NEW.
-
-new_keeps : (x : Renewed) (rest : Timed) → Keeps rest → Keeps (renewal x rest)
-new_keeps (Fresh word) rest k = turn_keeps (change (newed (Only (word ∷ []))) rest) (change_keeps rest k (newed (Only (word ∷ []))) (λ q. refl))
-new_keeps (Kept words) rest k =
-    names_keep words _ (turn_keeps (change (newed (AllBut words)) rest) (change_keeps rest k (newed (AllBut words)) (λ q. refl)))
-
-new_list_keeps : (list : List Renewed) (rest : Timed) → Keeps rest → Keeps (new_list list rest)
-new_list_keeps [] rest k = k
-new_list_keeps (x ∷ list) rest k = new_keeps x (new_list list rest) (new_list_keeps list rest k)
-
-new_all_keeps : (list : List Renewed) (rest : Timed) → Keeps rest → Keeps (new_all list rest)
-new_all_keeps [] rest k = turn_keeps (change (newed (AllBut [])) rest) (change_keeps rest k (newed (AllBut [])) (λ q. refl))
-new_all_keeps (x ∷ list) rest k = new_list_keeps (x ∷ list) rest k
-
--- IF and ELSE.
-
-ifs_keep : (es : List Expr) (line_end rest : Timed) → Keeps line_end → Keeps rest → Keeps (ifs es line_end rest)
-ifs_keep [] line_end rest l k = k
-ifs_keep (e ∷ es) line_end rest l k =
-    ev_keeps e _ (λ v. turn_keeps _ (given_keeps (truth_value v) _ (λ b.
-    change_keeps (if b then ifs es line_end rest else line_end) (if_keeps b (ifs es line_end rest) line_end (ifs_keep es line_end rest l k) l) (set_test b) (λ q. refl))))
-
-test_keeps : (b : Bool) (line_end rest : Timed) → Keeps line_end → Keeps rest → Keeps (if_test b line_end rest)
-test_keeps true line_end rest l k = look_keeps _ (λ s. if_keeps s.test rest line_end k l)
-test_keeps false line_end rest l k = look_keeps _ (λ s. if_keeps s.test line_end rest l k)
-
--- FOR.
 
 stepped_keeps : (x : Name) (step : ℤ) (end : Option ℤ) (i : ℤ) (after pass : Timed) → Keeps after → Keeps pass → Keeps (stepped x step end i after pass)
 stepped_keeps x step None i after pass a k = given_keeps (sum_of i step) _ (λ j. store_keeps x (canonic_text j) pass k)
@@ -355,36 +233,219 @@ first_keeps x i step None after pass a k = store_keeps x (canonic_text i) pass k
 first_keeps x i step (Some end) after pass a k =
     store_keeps x (canonic_text i) (if is_within step end i then pass else after) (if_keeps (is_within step end i) pass after k a)
 
--- Frames.
-
 deeper_keeps : (rest : Timed) → Keeps rest → Keeps (deeper rest)
 deeper_keeps rest k = look_keeps _ (λ s. if_keeps (nat_lt (length s.frames) frames_limit) rest (fault faults.Depth) k (fault_keeps faults.Depth))
 
-popped_same : (s : State) → (popped s).replied ≡ s.replied
+popped_same : (s : State) → IsLike s (popped s)
 popped_same s = by s.frames
   where
-    by : (fs : List Frame) → (popped (record s { frames = fs })).replied ≡ s.replied
-    by [] = refl
-    by (f ∷ fs) = refl
+    by : (fs : List Frame) → IsLike s (popped (record s { frames = fs }))
+    by [] = (refl, refl)
+    by (f ∷ fs) = (refl, refl)
 
 -- what each of the ways leads to asks only what it may
 pub record KeepsWays (ways : Ways) : Type 0 where
   pub line_end : Keeps ways.line_end
   pub for_quit : (t : Timed) → ways.for_quit ≡ Some t → Keeps t
-  pub leave : Keeps ways.leave
+  pub leave : (v : List ℕ) → Keeps (ways.leave v)
+
+-- what a QUIT leads to, with whatever value
+abbrev pub KeepsLeave : Leave → Type 0
+KeepsLeave leave = (v : List ℕ) → Keeps (leave v)
 
 -- what comes after a point
 abbrev pub KeepsPoint : Point → Type 0
-KeepsPoint (AtLine here leave) = Keeps leave
-KeepsPoint (Called entry vs leave) = Keeps leave
-KeepsPoint (Jumped entry leave) = Keeps leave
+KeepsPoint (AtLine here leave) = KeepsLeave leave
+KeepsPoint (Called function entry vs leave) = KeepsLeave leave
+KeepsPoint (Jumped entry leave) = KeepsLeave leave
 KeepsPoint (Pass here loop body after ways) = Keeps after × KeepsWays ways
+KeepsPoint (Started rest) = Keeps rest
+
+-- the QUIT of a frame
+framed_keeps : (rest : Timed) → Keeps rest → Keeps (quit_frame rest)
+framed_keeps rest k = look_keeps _ (λ s. if_keeps (is_at_mark s) (fault faults.QuitInTransaction) rest (fault_keeps faults.QuitInTransaction) k)
 
 quit_keeps : (quit : Option Timed) (leave : Timed) → ((t : Timed) → quit ≡ Some t → Keeps t) → Keeps leave → Keeps (elim quit [ None ↦ leave | Some t ↦ t ])
 quit_keeps None leave q k = k
 quit_keeps (Some t) leave q k = q t refl
 
 module _ (points : Points) (all : (p : Point) → KeepsPoint p → Keeps (points p)) (here : Here) where
+  mutual
+    pub ev_keeps : (e : Expr) (rest : List ℕ → Timed) → ((v : List ℕ) → Keeps (rest v)) → Keeps (ev points here e rest)
+    ev_keeps (Chain x ts) rest k = operand_keeps x (λ v. ev_tails points here v ts rest) (λ v. tails_keep v ts rest k)
+
+    tails_keep : (v : List ℕ) (ts : Tails) (rest : List ℕ → Timed) → ((v : List ℕ) → Keeps (rest v)) → Keeps (ev_tails points here v ts rest)
+    tails_keep v Done rest k = k v
+    tails_keep v (Then op x ts) rest k =
+        operand_keeps x _ (λ w. turn_keeps _ (given_keeps (binary_value op v w) (λ u. ev_tails points here u ts rest) (λ u. tails_keep u ts rest k)))
+
+    operand_keeps : (x : Operand) (rest : List ℕ → Timed) → ((v : List ℕ) → Keeps (rest v)) → Keeps (ev_operand points here x rest)
+    operand_keeps (Literal t) rest k = turn_keeps (rest t) (k t)
+    operand_keeps (Value v) rest k = name_keeps v (λ x. read x rest) (λ x. read_keeps x rest k)
+    operand_keeps (Intrinsic v) rest k = turn_keeps _ (look_keeps _ (λ s. k (special_value v s)))
+    operand_keeps (Unary op x) rest k = operand_keeps x _ (λ v. turn_keeps _ (given_keeps (unary_value op v) rest k))
+    operand_keeps (Group e) rest k = ev_keeps e rest k
+    operand_keeps (Call f es) rest k = all_keep es _ (λ vs. turn_keeps _ (given_keeps (call_value f vs) rest k))
+    operand_keeps (About f v es) rest k = named_keeps f v _ (λ x. all_keep es _ (λ vs. turn_keeps _ (about_keeps f x (optional 0 vs) rest k)))
+    operand_keeps (Select choices) rest k = choices_keep choices rest k
+
+    choices_keep : (x : Choices) (rest : List ℕ → Timed) → ((v : List ℕ) → Keeps (rest v)) → Keeps (ev_choices points here x rest)
+    choices_keep (Last c e) rest k =
+        ev_keeps c _ (λ v. turn_keeps _ (given_keeps (truth_value v) (λ b. if b then ev points here e (λ w. turn (rest w)) else turn (fault faults.Select)) (λ b.
+        if_keeps b (ev points here e (λ w. turn (rest w))) (turn (fault faults.Select)) (ev_keeps e (λ w. turn (rest w)) (λ w. turn_keeps (rest w) (k w))) (turn_keeps (fault faults.Select) (fault_keeps faults.Select)))))
+    choices_keep (Before c e others) rest k =
+        ev_keeps c _ (λ v. turn_keeps _ (given_keeps (truth_value v) (λ b. if b then ev points here e (λ w. turn (rest w)) else ev_choices points here others rest) (λ b.
+        if_keeps b (ev points here e (λ w. turn (rest w))) (ev_choices points here others rest) (ev_keeps e (λ w. turn (rest w)) (λ w. turn_keeps (rest w) (k w))) (choices_keep others rest k))))
+
+    name_keeps : (v : Variable) (rest : Name → Timed) → ((x : Name) → Keeps (rest x)) → Keeps (ev_name points here v rest)
+    name_keeps (Var scope word es) rest k = all_keep es _ (λ ss. turn_keeps _ (given_keeps (name_of scope word ss) rest k))
+
+    named_keeps : (f : NameFunction) (v : Variable) (rest : Name → Timed) → ((x : Name) → Keeps (rest x)) → Keeps (ev_named points here f v rest)
+    named_keeps f (Var scope word es) rest k = all_keep es _ (λ ss. turn_keeps _ (given_keeps (named_for f scope word ss) rest k))
+
+    all_keep : (es : Exprs) (rest : List (List ℕ) → Timed) → ((vs : List (List ℕ)) → Keeps (rest vs)) → Keeps (ev_all points here es rest)
+    all_keep No rest k = k []
+    all_keep (Another e es) rest k = ev_keeps e (λ v. ev_all points here es (λ vs. rest (v ∷ vs))) (λ v. all_keep es (λ vs. rest (v ∷ vs)) (λ vs. k (v ∷ vs)))
+
+  when_keeps : (condition : Option Expr) (done skipped : Timed) → Keeps done → Keeps skipped → Keeps (when points here condition done skipped)
+  when_keeps None done skipped k l = k
+  when_keeps (Some e) done skipped k l =
+      ev_keeps e _ (λ v. turn_keeps _ (given_keeps (truth_value v) (λ b. if b then done else skipped) (λ b. if_keeps b done skipped k l)))
+
+  -- Commands.
+
+  destination_keeps : (d : Destination) (rest : Aim → Timed) → ((t : Aim) → Keeps (rest t)) → Keeps (ev_destination points here d rest)
+  destination_keeps (Plain v) rest k = name_keeps v _ (λ x. k (Whole x))
+  destination_keeps (Pieces v es) rest k = name_keeps v _ (λ x. all_keep es _ (λ ts. k (Part x ts)))
+
+  destinations_keep : (list : List Destination) (rest : List Aim → Timed) → ((ts : List Aim) → Keeps (rest ts)) → Keeps (ev_destinations points here list rest)
+  destinations_keep [] rest k = k []
+  destinations_keep (d ∷ list) rest k = destination_keeps d _ (λ t. destinations_keep list (λ ts. rest (t ∷ ts)) (λ ts. k (t ∷ ts)))
+
+  range_keeps : (range : Option (ℕ × ℕ)) (x : Name) (separator e : List ℕ) (skipped : Timed) (rest : List ℕ → Timed) → Keeps skipped → ((v : List ℕ) → Keeps (rest v)) →
+      Keeps (elim range [ None ↦ skipped | Some r ↦ renewed x separator r e rest ])
+  range_keeps None x separator e skipped rest k l = k
+  range_keeps (Some r) x separator e skipped rest k l = access_keeps (accesses.Value x) _ (λ a. given_keeps (set_piece_value (or_empty (value_told a)) separator r e) rest l)
+
+  renew_keeps : (x : Name) (ts : List (List ℕ)) (e : List ℕ) (skipped : Timed) (rest : List ℕ → Timed) → Keeps skipped → ((v : List ℕ) → Keeps (rest v)) → Keeps (renew x ts e skipped rest)
+  renew_keeps x ts e skipped rest k l = given_keeps (assigned_pieces (needed 0 ts) (optional 1 ts) (optional 2 ts)) _ (λ range. range_keeps range x (needed 0 ts) e skipped rest k l)
+
+  put_keeps : (t : Aim) (v : List ℕ) (rest : Timed) → Keeps rest → Keeps (put t v rest)
+  put_keeps (Whole x) v rest k = store_keeps x v rest k
+  put_keeps (Part x ts) v rest k = renew_keeps x ts v rest _ k (λ w. turn_keeps (store x w rest) (store_keeps x w rest k))
+
+  put_all_keeps : (ts : List Aim) (v : List ℕ) (rest : Timed) → Keeps rest → Keeps (put_all ts v rest)
+  put_all_keeps [] v rest k = k
+  put_all_keeps (t ∷ ts) v rest k = turn_keeps _ (put_keeps t v (put_all ts v rest) (put_all_keeps ts v rest k))
+
+  targets_keep : (t : Targets) (e : Expr) (rest : Timed) → Keeps rest → Keeps (assign_to points here t e rest)
+  targets_keep (One d) e rest k = destination_keeps d _ (λ t. ev_keeps e _ (λ v. turn_keeps (put t v rest) (put_keeps t v rest k)))
+  targets_keep (Several list) e rest k = destinations_keep list _ (λ ts. ev_keeps e _ (λ v. put_all_keeps ts v (turn rest) (turn_keeps rest k)))
+
+  assign_keeps : (a : Assignment) (rest : Timed) → Keeps rest → Keeps (assign points here a rest)
+  assign_keeps a rest k = targets_keep a.targets a.value rest k
+
+  assign_all_keeps : (list : List Assignment) (rest : Timed) → Keeps rest → Keeps (assign_all points here list rest)
+  assign_all_keeps [] rest k = k
+  assign_all_keeps (a ∷ list) rest k = assign_keeps a (assign_all points here list rest) (assign_all_keeps list rest k)
+
+  write_keeps : (bytes : List ℕ) (rest : Timed) → Keeps rest → Keeps (write bytes rest)
+  write_keeps [] rest k = k
+  write_keeps (b ∷ bytes) rest k =
+      let all : List ℕ = b ∷ bytes in
+      let sent : State → Timed = λ s. to_device s.current (asks.DeviceWrite s.current all) (change (wrote all) rest) in
+      if_keeps (nat_lt TEXT_LIMIT (length all)) (fault faults.Length) (look sent)
+      (fault_keeps faults.Length)
+      (look_keeps sent (λ s. to_device_keeps s.current (asks.DeviceWrite s.current all) (change (wrote all) rest)
+      (change_keeps rest k (wrote all) (λ t. (refl, device_length t.current (moved all) t.devices)))))
+
+  output_keeps : (o : Output) (rest : Timed) → Keeps rest → Keeps (output points here o rest)
+  output_keeps (Shown e) rest k = ev_keeps e _ (λ v. turn_keeps (write v rest) (write_keeps v rest k))
+  output_keeps (Format marks) rest k = turn_keeps (write (map mark_byte marks) rest) (write_keeps (map mark_byte marks) rest k)
+
+  output_all_keeps : (list : List Output) (rest : Timed) → Keeps rest → Keeps (output_all points here list rest)
+  output_all_keeps [] rest k = k
+  output_all_keeps (o ∷ list) rest k = output_keeps o (output_all points here list rest) (output_all_keeps list rest k)
+
+  names_keep : (words : List (List ℕ)) (rest : Timed) → Keeps rest → Keeps (named words rest)
+  names_keep [] rest k = k
+  names_keep (word ∷ words) rest k = turn_keeps (named words rest) (names_keep words rest k)
+
+  spare_keeps : (words : List (List ℕ)) (rest : Timed) → Keeps rest → Keeps (turn (change (spare words) rest))
+  spare_keeps words rest k = turn_keeps (change (spare words) rest) (change_keeps rest k (spare words) (λ q. (refl, refl)))
+
+  kill_keeps : (x : Killed) (rest : Timed) → Keeps rest → Keeps (kill points here x rest)
+  kill_keeps (Gone v) rest k = name_keeps v _ (λ x. turn_keeps (remove x rest) (access_keeps (accesses.Kill x) (λ a. rest) (λ a. k)))
+  kill_keeps (Spared words) rest k = names_keep words _ (spare_keeps words rest k)
+
+  kill_list_keeps : (list : List Killed) (rest : Timed) → Keeps rest → Keeps (kill_list points here list rest)
+  kill_list_keeps [] rest k = k
+  kill_list_keeps (x ∷ list) rest k = kill_keeps x (kill_list points here list rest) (kill_list_keeps list rest k)
+
+  kill_all_keeps : (list : List Killed) (rest : Timed) → Keeps rest → Keeps (kill_all points here list rest)
+  kill_all_keeps [] rest k = spare_keeps [] rest k
+  kill_all_keeps (x ∷ list) rest k = kill_list_keeps (x ∷ list) rest k
+
+  these_keep : (x : Name) (nodes : Subtree) (rest : Timed) → Keeps rest → Keeps (put_these x nodes rest)
+  these_keep x [] rest k = k
+  these_keep x (e ∷ nodes) rest k = access_keeps (accesses.Put x (e ∷ nodes)) _ (λ a. change_keeps rest k (hold []) (λ q. (refl, refl)))
+
+  nodes_keep : (x : Name) (rest : Timed) → Keeps rest → Keeps (put_nodes x rest)
+  nodes_keep x rest k = look_keeps _ (λ s. these_keep x s.held rest k)
+
+  take_keeps : (into from : Name) (rest : Timed) → Keeps rest → Keeps (take_nodes into from rest)
+  take_keeps into from rest k =
+      if_keeps (overlaps into from) (fault faults.Overlap) (access (accesses.Subtree from) (λ a. change (hold (nodes_told a)) rest)) (fault_keeps faults.Overlap)
+      (access_keeps (accesses.Subtree from) _ (λ a. change_keeps rest k (hold (nodes_told a)) (λ q. (refl, refl))))
+
+  merge_keeps : (m : Merged) (rest : Timed) → Keeps rest → Keeps (merge points here m rest)
+  merge_keeps m rest k = name_keeps m.into _ (λ x. name_keeps m.from _ (λ y. take_keeps x y (turn (put_nodes x rest)) (turn_keeps (put_nodes x rest) (nodes_keep x rest k))))
+
+  merge_all_keeps : (list : List Merged) (rest : Timed) → Keeps rest → Keeps (merge_all points here list rest)
+  merge_all_keeps [] rest k = k
+  merge_all_keeps (m ∷ list) rest k = merge_keeps m (merge_all points here list rest) (merge_all_keeps list rest k)
+
+  -- Actuals, and the local of a FOR.
+
+  actuals_keep : (es : List (Option Expr)) (rest : List (Option (List ℕ)) → Timed) → ((vs : List (Option (List ℕ))) → Keeps (rest vs)) → Keeps (ev_actuals points here es rest)
+  actuals_keep [] rest k = k []
+  actuals_keep (None ∷ es) rest k = actuals_keep es _ (λ vs. k (None ∷ vs))
+  actuals_keep (Some e ∷ es) rest k = ev_keeps e _ (λ v. actuals_keep es _ (λ vs. k (Some v ∷ vs)))
+
+  local_keeps : (v : Variable) (rest : Name → Timed) → ((x : Name) → Keeps (rest x)) → Keeps (ev_local points here v rest)
+  local_keeps (Var scope word es) rest k = all_keep es _ (λ ss. turn_keeps _ (given_keeps (name_of Local word ss) rest k))
+
+  -- NEW.
+
+  new_keeps : (x : Renewed) (rest : Timed) → Keeps rest → Keeps (renewal x rest)
+  new_keeps (Fresh word) rest k = turn_keeps (change (newed (Only (word ∷ []))) rest) (change_keeps rest k (newed (Only (word ∷ []))) (λ q. (refl, refl)))
+  new_keeps (Kept words) rest k =
+      names_keep words _ (turn_keeps (change (newed (AllBut words)) rest) (change_keeps rest k (newed (AllBut words)) (λ q. (refl, refl))))
+
+  new_list_keeps : (list : List Renewed) (rest : Timed) → Keeps rest → Keeps (new_list list rest)
+  new_list_keeps [] rest k = k
+  new_list_keeps (x ∷ list) rest k = new_keeps x (new_list list rest) (new_list_keeps list rest k)
+
+  new_all_keeps : (list : List Renewed) (rest : Timed) → Keeps rest → Keeps (new_all list rest)
+  new_all_keeps [] rest k = turn_keeps (change (newed (AllBut [])) rest) (change_keeps rest k (newed (AllBut [])) (λ q. (refl, refl)))
+  new_all_keeps (x ∷ list) rest k = new_list_keeps (x ∷ list) rest k
+
+  -- IF and ELSE.
+
+  ifs_keep : (es : List Expr) (line_end rest : Timed) → Keeps line_end → Keeps rest → Keeps (ifs points here es line_end rest)
+  ifs_keep [] line_end rest l k = k
+  ifs_keep (e ∷ es) line_end rest l k =
+      ev_keeps e _ (λ v. turn_keeps _ (given_keeps (truth_value v) _ (λ b.
+      change_keeps (if b then ifs points here es line_end rest else line_end) (if_keeps b (ifs points here es line_end rest) line_end (ifs_keep es line_end rest l k) l) (set_test b) (λ q. (refl, refl)))))
+
+  test_keeps : (b : Bool) (line_end rest : Timed) → Keeps line_end → Keeps rest → Keeps (if_test b line_end rest)
+  test_keeps true line_end rest l k = look_keeps _ (λ s. if_keeps s.test rest line_end k l)
+  test_keeps false line_end rest l k = look_keeps _ (λ s. if_keeps s.test line_end rest l k)
+
+  -- FOR.
+
+  -- Frames.
+
   ranges_keep : (x : Name) (rs : List Range) (body : List Step) (ways : Ways) → KeepsWays ways → Keeps (ranges points here x rs body ways)
   ranges_keep x [] body ways k = turn_keeps ways.line_end k.line_end
   ranges_keep x (Single a ∷ rs) body ways k =
@@ -403,18 +464,19 @@ module _ (points : Points) (all : (p : Point) → KeepsPoint p → Keeps (points
   calls_keep [] rest k = k
   calls_keep (c ∷ list) rest k =
       let later = calls_keep list rest k in
+      let leave : Leave = λ v. change popped (calls points here list rest) in
       when_keeps c.condition _ (calls points here list rest)
-      (actuals_keep c.actuals _ (λ vs. turn_keeps _ (all (Called (entry_of here c.target) vs (change popped (calls points here list rest))) (change_keeps (calls points here list rest) later popped popped_same)))) later
+      (actuals_keep c.actuals _ (λ vs. turn_keeps _ (all (Called false (entry_of here c.target) vs leave) (λ v. change_keeps (calls points here list rest) later popped popped_same)))) later
 
   block_keeps : (rest : Timed) → Keeps rest → Keeps (block points here rest)
   block_keeps rest k =
-      deeper_keeps _ (look_keeps _ (λ s. change_keeps _ (turn_keeps _ (all (AtLine (next_line here) (change popped rest)) (change_keeps rest k popped popped_same))) (pushed (place_at here) (level_of s + 1) (Some s.test)) (λ q. refl)))
+      deeper_keeps _ (look_keeps _ (λ s. change_keeps _ (turn_keeps _ (all (AtLine (next_line here) (λ v. change popped rest)) (λ v. change_keeps rest k popped popped_same))) (pushed (place_at here) (level_of s + 1) false (Some s.test)) (λ q. (refl, refl))))
 
   do_keeps : (list : List CalledOf) (rest : Timed) → Keeps rest → Keeps (do_all points here list rest)
   do_keeps [] rest k = turn_keeps (block points here rest) (block_keeps rest k)
   do_keeps (c ∷ list) rest k = calls_keep (c ∷ list) rest k
 
-  jumps_keep : (list : List JumpedOf) (leave rest : Timed) → Keeps leave → Keeps rest → Keeps (jumps points here list leave rest)
+  jumps_keep : (list : List JumpedOf) (leave : Leave) (rest : Timed) → KeepsLeave leave → Keeps rest → Keeps (jumps points here list leave rest)
   jumps_keep [] leave rest l k = k
   jumps_keep (j ∷ list) leave rest l k =
       when_keeps j.condition _ (jumps points here list leave rest) (turn_keeps _ (all (Jumped (entry_of here j.target) leave) l)) (jumps_keep list leave rest l k)
@@ -435,7 +497,7 @@ module _ (points : Points) (all : (p : Point) → KeepsPoint p → Keeps (points
   obey_keeps Forever c steps ways rest w k = turn_keeps _ (all (Pass here Always steps (turn ways.line_end) ways) (turn_keeps ways.line_end w.line_end, w))
   obey_keeps (Do list) c steps ways rest w k = when_keeps c _ rest (do_keeps list rest k) k
   obey_keeps (Goto list) c steps ways rest w k = when_keeps c _ rest (jumps_keep list ways.leave rest w.leave k) k
-  obey_keeps Quit c steps ways rest w k = when_keeps c _ rest (turn_keeps _ (quit_keeps ways.for_quit ways.leave w.for_quit w.leave)) k
+  obey_keeps Quit c steps ways rest w k = when_keeps c _ rest (turn_keeps _ (quit_keeps ways.for_quit (quit_frame (ways.leave [])) w.for_quit (framed_keeps (ways.leave []) (w.leave [])))) k
   obey_keeps (New list) c steps ways rest w k = when_keeps c _ rest (new_all_keeps list rest k) k
 
   obey_all_keeps : (steps : List Step) (ways : Ways) → KeepsWays ways → Keeps (obey_all points here steps ways)
@@ -448,34 +510,34 @@ no_quit : (t : Timed) → ◌≡◌ {A = Option Timed} None (Some t) → Keeps t
 no_quit t e = cc
 
 module _ (image : List Routine) where
-  quit_before_keeps : (here : Here) (leave : Timed) → Keeps leave → Keeps (quit_before here leave)
-  quit_before_keeps here leave k = change_keeps leave k (at_place (place_at (line_before here))) (λ q. refl)
+  quit_before_keeps : (here : Here) (leave : Leave) → KeepsLeave leave → Keeps (quit_before here leave)
+  quit_before_keeps here leave k = change_keeps _ (framed_keeps (leave []) (k [])) (at_place (place_at (line_before here))) (λ q. (refl, refl))
 
-  line_keeps : (points : Points) → ((p : Point) → KeepsPoint p → Keeps (points p)) → (here : Here) (line : Option Line) (leave : Timed)
-      → Keeps leave → Keeps (obey_line points here line leave)
+  line_keeps : (points : Points) → ((p : Point) → KeepsPoint p → Keeps (points p)) → (here : Here) (line : Option Line) (leave : Leave)
+      → KeepsLeave leave → Keeps (obey_line points here line leave)
   line_keeps points all here None leave k = quit_before_keeps here leave k
   line_keeps points all here (Some line) leave k =
       let next : Timed = turn (points (AtLine (next_line here) leave)) in
       let goes_on : Keeps next = turn_keeps _ (all (AtLine (next_line here) leave) k) in
       let ways : Ways = record { line_end = next; for_quit = None; leave = leave } in
       let within : Timed = change (at_place (place_at here)) (obey_all points here line.steps ways) in
-      let keeps : Keeps within = change_keeps _ (obey_all_keeps points all here line.steps ways (record { line_end = goes_on; for_quit = no_quit; leave = k })) (at_place (place_at here)) (λ q. refl) in
+      let keeps : Keeps within = change_keeps _ (obey_all_keeps points all here line.steps ways (record { line_end = goes_on; for_quit = no_quit; leave = k })) (at_place (place_at here)) (λ q. (refl, refl)) in
       look_keeps _ (λ s. if_keeps (nat_lt line.level (level_of s)) (quit_before here leave) (if nat_lt (level_of s) line.level then next else within) (quit_before_keeps here leave k)
       (if_keeps (nat_lt (level_of s) line.level) next within goes_on keeps))
 
-  call_keeps : (points : Points) → ((p : Point) → KeepsPoint p → Keeps (points p)) → (to : Option (Here × Line)) (vs : List (Option (List ℕ))) (leave : Timed)
-      → Keeps leave → Keeps (call points to vs leave)
-  call_keeps points all None vs leave k = fault_keeps faults.NoLine
-  call_keeps points all (Some to) vs leave k =
-      let enters : State → State = λ s. passed to.1.formals vs (pushed (place_at to.0) 1 None s) in
+  call_keeps : (points : Points) → ((p : Point) → KeepsPoint p → Keeps (points p)) → (function : Bool) (to : Option (Here × Line)) (vs : List (Option (List ℕ))) (leave : Leave)
+      → KeepsLeave leave → Keeps (call points function to vs leave)
+  call_keeps points all function None vs leave k = fault_keeps faults.NoLine
+  call_keeps points all function (Some to) vs leave k =
+      let enters : State → State = λ s. passed to.1.formals vs (pushed (place_at to.0) 1 function (if function then Some s.test else None) s) in
       let in_frame : Timed = deeper (change enters (turns (length to.1.formals) (turn (points (AtLine to.0 leave))))) in
       if_keeps (nat_eq to.1.level 1) (if nat_lt (length to.1.formals) (length vs) then fault faults.Params else in_frame) (fault faults.NoLine)
       (if_keeps (nat_lt (length to.1.formals) (length vs)) (fault faults.Params) in_frame (fault_keeps faults.Params)
-      (deeper_keeps _ (change_keeps _ (turns_keep (length to.1.formals) _ (turn_keeps _ (all (AtLine to.0 leave) k))) enters (λ q. refl))))
+      (deeper_keeps _ (change_keeps _ (turns_keep (length to.1.formals) _ (turn_keeps _ (all (AtLine to.0 leave) k))) enters (λ q. (refl, refl)))))
       (fault_keeps faults.NoLine)
 
-  jump_keeps : (points : Points) → ((p : Point) → KeepsPoint p → Keeps (points p)) → (to : Option (Here × Line)) (leave : Timed)
-      → Keeps leave → Keeps (jump image points to leave)
+  jump_keeps : (points : Points) → ((p : Point) → KeepsPoint p → Keeps (points p)) → (to : Option (Here × Line)) (leave : Leave)
+      → KeepsLeave leave → Keeps (jump image points to leave)
   jump_keeps points all None leave k = fault_keeps faults.NoLine
   jump_keeps points all (Some to) leave k =
       look_keeps _ (λ s. if_keeps (may_go s (place_at to.0) to.1.level (levels_of image to.0.routine)) (turn (points (AtLine to.0 leave))) (fault faults.NoLine)
@@ -487,7 +549,7 @@ module _ (image : List Routine) where
   points_keep : (depth : ℕ) (p : Point) → KeepsPoint p → Keeps (points_of image depth p)
   points_keep zero p k = record { by = λ n h s replies a locals at le e. cc }
   points_keep (suc d) (AtLine here leave) k = line_keeps (points_of image d) (points_keep d) here (line_at image here) leave k
-  points_keep (suc d) (Called entry vs leave) k = call_keeps (points_of image d) (points_keep d) (entered image entry) vs leave k
+  points_keep (suc d) (Called function entry vs leave) k = call_keeps (points_of image d) (points_keep d) function (entered image entry) vs leave k
   points_keep (suc d) (Jumped entry leave) k = jump_keeps (points_of image d) (points_keep d) (entered image entry) leave k
   points_keep (suc d) (Pass here loop body after ways) k =
       let pass : Timed = points_of image d (Pass here loop body after ways) in
@@ -499,13 +561,19 @@ module _ (image : List Routine) where
         leave = k.1.leave;
       })
 
+  points_keep (suc d) (Started rest) k = record {
+    by = λ n h s replies a locals at le e. k.by n (until n (turn (points_of image d (Started rest))) h) s replies a locals at le e;
+  }
+
   -- a job from its start
-  pub job_keeps : (entry : Entry) (n : ℕ) (replies : List Reply) (a : Ask) (locals : Locals) (at : List Place)
-      → next image entry n replies ≡ Needs a locals at → IsAllowed (length replies) a
-  job_keeps entry n replies a locals at e =
-      let k : Keeps (start image entry (suc n)) =
-      turn_keeps _ (tell_keeps (asks.DeviceBegin principal) _ (points_keep (suc n) (Called entry [] (end None)) (end_keeps None))) in
-      subst (λ i. IsAllowed i a) (let z : opening.replied + length replies ≡ length replies = omega arith in z) (k.by n no_restart opening replies a locals at (omega arith) e)
+  pub job_keeps : (start : Start) (n : ℕ) (replies : List Reply) (a : Ask) (locals : Locals) (at : List Place)
+      → next image start n replies ≡ Needs a locals at → IsAllowed (length replies) a
+  job_keeps start n replies a locals at e =
+      let called : Timed = points_of image (suc n) (Called false start.entry start.values (λ v. end None)) in
+      let k : Keeps (starts image start (suc n)) =
+      turn_keeps _ (to_device_keeps principal (asks.DeviceBegin principal) called (points_keep (suc n) (Called false start.entry start.values (λ v. end None)) (λ v. end_keeps None))) in
+      let fair : IsFair (opening start.job) = (omega arith, omega arith) in
+      subst (λ i. IsAllowed i a) (let z : (opening start.job).replied + length replies ≡ length replies = omega arith in z) (k.by n no_restart (opening start.job) replies a locals at fair e)
 
 -- Logs.
 
@@ -515,21 +583,21 @@ allowed_with k (x ∷ log) a r all this =
     (all.0, allowed_with (k + 1) log a r all.1 (subst (λ i. IsAllowed i a) (let e : k + length (x ∷ log) ≡ k + 1 + length log = omega arith in e) this))
 
 -- an ask of the ending has its place
-in_time : (k : ℕ) (a : Ask) → IsAllowed k a → k ≤ steps_limit + 2
+in_time : (k : ℕ) (a : Ask) → IsAllowed k a → k ≤ steps_limit + 2 + devices_limit
 in_time k a (inl lt) = omega (arith, lt)
 in_time k (asks.DeviceBegin device) (inr e) = absurd e
 in_time k (asks.DeviceWrite device bytes) (inr e) = let le = e.0 in omega (arith, le)
-in_time k (asks.DeviceEnd device) (inr e) = let le = e.0 in omega (arith, le)
+in_time k (asks.DeviceEnd device) (inr e) = omega (arith, e)
 in_time k (asks.Access x) (inr e) = absurd e
 in_time k (asks.Halt fault) (inr e) = e
 
-module _ (image : List Routine) (entry : Entry) where
-  pub trace_is_limited : (log : Log) → IsTrace image entry log → IsLimited log
+module _ (image : List Routine) (start : Start) where
+  pub trace_is_limited : (log : Log) → IsTrace image start log → IsLimited log
   trace_is_limited _ begins = record { allowed = tt; short = omega arith }
   trace_is_limited _ (goes_on log a r n locals at trace needs fit) =
       let before = trace_is_limited log trace in
       let this : IsAllowed (length log) a =
-      subst (λ i. IsAllowed i a) (length-map log (λ e. e.1)) (job_keeps image entry n (replies_of log) a locals at needs) in
+      subst (λ i. IsAllowed i a) (length-map log (λ e. e.1)) (job_keeps image start n (replies_of log) a locals at needs) in
       let le = in_time (length log) a this in
       record {
         allowed = allowed_with 0 log a r before.allowed (subst (λ i. IsAllowed i a) (let e : length log ≡ 0 + length log = omega arith in e) this);

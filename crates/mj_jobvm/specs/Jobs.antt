@@ -1,5 +1,5 @@
 -- What a caller sees of a job.
-use Rattle.std.specs.Prelude.{◌≡◌, ℕ, [], ◌∷◌, Option, Some, None, Bool, true, false, IsTrue, reverse}
+use Rattle.std.specs.Prelude.{◌≡◌, ℕ, ◌≤◌, [], ◌∷◌, Option, Some, None, Bool, true, false, IsTrue, reverse}
 use Rattle.mj_ask.specs.declared.ask.Ask.{Ask}
 use Rattle.mj_ask.specs.declared.ask.Reply.{Reply}
 use Rattle.mj_ask.specs.Fits.{fits}
@@ -10,7 +10,7 @@ use Rattle.mj_machine.specs.declared.machine.Machine.{Machine}
 use Rattle.mj_machine.specs.declared.control.Control.TheVariants.{Begin}
 use Rattle.mj_machine.specs.Standing.{Standing, Code}
 use Rattle.mj_machine.specs.Kept.{standing}
-use Rattle.mj_jobvm.specs.Run.{Log, Run, IsRun}
+use Rattle.mj_jobvm.specs.Run.{Log, Run, IsRun, IsRunAfter}
 
 -- a job: how it starts, and its run
 pub record Running : Type 0 where
@@ -51,6 +51,15 @@ code_in image start = record { units = image.units; start = start }
 -- the job runs the routines of this image, from this start
 abbrev pub IsRunOf : Loaded → Start → Running → Type 0
 IsRunOf image start job = IsRun (routines_of image) start (code_in image job.start) job.run
+
+-- so many turns after its last reply
+abbrev pub IsRunOfAfter : Loaded → Start → ℕ → Running → Type 0
+IsRunOfAfter image start turns job = IsRunAfter (routines_of image) start (code_in image job.start) turns job.run
+
+-- the job stands at a later place of the run than it stood, or at the same: wherever it stood so many turns after its last reply, it stands
+-- at least as many after it
+abbrev pub GoesForward : Loaded → Start → Running → Running → Type 0
+GoesForward image start old new = (turns : ℕ) → IsRunOfAfter image start turns old → (later : ℕ) × (turns ≤ later) × IsRunOfAfter image start later new
 
 -- the job was started in this image
 abbrev pub IsIn : Loaded → Running → Type 0

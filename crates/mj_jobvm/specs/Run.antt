@@ -54,13 +54,13 @@ pub record Run : Type 0 where
   pub spent : ℕ
   pub at : Standing
 
--- the job is at a point of the run of its routines from its start, by this code, with the replies of its log
-pub record IsRun (routines : List Routine) (start : Start) (code : Code) (job : Run) : Type 0 where
+-- the job is at a point of the run of its routines from its start, by this code, with the replies of its log, so many turns after
+-- the last reply
+pub record IsRunAfter (routines : List Routine) (start : Start) (code : Code) (turns : ℕ) (job : Run) : Type 0 where
   pub before : ℕ
   pub counted : TurnsBefore routines start job.log before
   pub trace : IsTrace routines start job.log
-  -- the turns that are over since the last reply, which are at least those that it counted
-  pub turns : ℕ
+  -- the turns that are over since the last reply are at least those that it counted
   pub within : job.spent ≤ turns
   -- at none of all turns the run was over, or asked for more than the log's replies, whatever is told next
   pub going : (n : ℕ) → n ≤ before + turns → (replies : List Reply) → next routines start n (replies_of job.log ++ replies) ≡ More
@@ -70,3 +70,7 @@ pub record IsRun (routines : List Routine) (start : Start) (code : Code) (job : 
   pub sound : IsSound code.units job.at
   -- and with an ask pending, the run needs its reply
   pub asks : IfSome job.pending (λ a. (job.at.given ≡ None) × ((n : ℕ) → onward code (suc n) job.at [] ≡ Needs a job.at.state.locals (places job.at.state)))
+
+-- the same after any number of turns
+abbrev pub IsRun : List Routine → Start → Code → Run → Type 0
+IsRun routines start code job = (turns : ℕ) × IsRunAfter routines start code turns job

@@ -2,11 +2,12 @@
 
 ghost use Rattle.std.specs.Prelude.{◌≡◌, ◌++◌, ◌∷◌, [], Some, None, IfOk, OnErr, option_copied};
 ghost use Rattle.mj_ask.specs.declared.ask.Ask as asks;
-ghost use Rattle.mj_ask.specs.declared.entry.Entry as entries;
 ghost use Rattle.mj_semantics.specs.State.{place_of};
+ghost use Rattle.mj_semantics.specs.Job.{Start as Starts};
+ghost use Rattle.mj_turn.specs.Starts.{start_of};
 ghost use Rattle.mj_load.specs.Image.{Loaded, routines_of};
 ghost use Rattle.mj_frames.specs.Frames.{frames_of, place_at};
-ghost use Rattle.mj_jobvm.specs.Jobs.{Fits, IsRunOf, IsIn, given_of, opened};
+ghost use Rattle.mj_jobvm.specs.Jobs.{Fits, IsRunOf, IsRunOfAfter, GoesForward, IsIn, given_of, opened, opening_at};
 ghost use Rattle.mj_pcode.specs.Sound.{AreChecked};
 ghost use Rattle.mj_turn.specs.Sound.{IsSound};
 ghost use Rattle.mj_machine.specs.Standing.{Steps};
@@ -24,7 +25,7 @@ use mj_machine::{Control, Machine, Step};
 use mj_pcode::Unit;
 use mj_store::Nodes;
 use mj_text::Text;
-use mj_turn::make_turn;
+use mj_turn::{Start, make_turn};
 use std::alloc::{AllocError, Global};
 use std::marker::Model;
 
@@ -54,7 +55,7 @@ enum Went {
 #[derive(Drop)]
 pub struct Job {
     alloc: Global,
-    entry: Entry,
+    start: Start,
     machine: Machine,
     log: Vec<(Ask, Reply)>,
     // whether the log's last reply is still to be taken
@@ -66,46 +67,41 @@ pub struct Job {
 
 impl Model for Job {
     ghost use Rattle.std.specs.Prelude.{◌<◌, IsSome};
+    ghost use Rattle.mj_turn.specs.Starts.{start_of};
     ghost use Rattle.mj_jobvm.specs.Jobs.{Running, running};
 
     ghost Value = { Running };
 
-    ghost view = { λ j. running j.entry j.machine j.log.items j.given j.pending j.spent };
+    ghost view = { λ j. running (start_of j.start) j.machine j.log.items j.given j.pending j.spent };
 
     ghost invariant = { λ j. IsSome j.pending → j.log.len < j.log.cap };
 }
 
 impl Job {
-    /// A job that starts at this entry. Where the image has no such line, it begins all the same, and ends by a fault.
-    pub fn start(alloc: Global, image: &Image, entry: Entry) -> Result<Job, AllocError>
-        ensures run { IfOk result (IsRunOf image.now entry) }
-        ensures log { IfOk result (λ job. job.run.log ≡ []) }
-        ensures pending { IfOk result (λ job. job.run.pending ≡ None) }
-        ensures spent { IfOk result (λ job. job.run.spent ≡ 0) }
+    /// A job with this number that starts at this entry, with these values for the formals of its line, before its first turn. Where the
+    /// image has no such line, it begins all the same, and ends by a fault. It takes no memory.
+    pub fn start(
+        alloc: Global,
+        image: &Image,
+        job: u32,
+        entry: Entry,
+        values: Vec<Option<Text>>,
+    ) -> Job
+        ensures opening { result ≡ opened (record { job = job; entry = entry; values = values.items }) }
+        ensures run { IsRunOfAfter image.now (record { job = job; entry = entry; values = values.items }) 0 result }
     {
         let _ = image.units();
-        Ok(Job::at(alloc, entry))
+        Job::at(alloc, Start { job, entry, values })
     }
 
-    fn at(alloc: Global, entry: Entry) -> Job
-        ensures { result ≡ opened entry }
+    fn at(alloc: Global, start: Start) -> Job
+        ensures { result ≡ opened (start_of start) }
     {
+        let machine = opening(alloc, start.job);
         Job {
             alloc,
-            entry,
-            machine: Machine {
-                control: Control::Begin,
-                stack: Vec::new(alloc),
-                locals: Locals::new(alloc),
-                test: false,
-                frames: Frames::new(alloc),
-                unit: 0,
-                loops: Vec::new(alloc),
-                calls: Vec::new(alloc),
-                column: 0,
-                replied: 0,
-                held: Nodes::new(alloc),
-            },
+            start,
+            machine,
             log: Vec::new(alloc),
             given: false,
             pending: None,
@@ -117,8 +113,9 @@ impl Job {
     /// memory its log and its ask are as before, and it stands at some later or equal place of the same run.
     pub fn advance(&mut self, image: &Image, fuel: u64) -> Result<Turn, AllocError>
         requires { IsIn image.now self.old }
-        ensures run { (entry : entries.Entry) → IsRunOf image.now entry self.old → IsRunOf image.now entry self.new }
-        ensures told { (entry : entries.Entry) → IsRunOf image.now entry self.old → IfOk result (λ turn. Told (routines_of image.now) entry turn self.new.run) }
+        ensures run { (start : Starts) → IsRunOf image.now start self.old → IsRunOf image.now start self.new }
+        ensures forward { (start : Starts) → GoesForward image.now start self.old self.new }
+        ensures told { (start : Starts) → IsRunOf image.now start self.old → IfOk result (λ turn. Told (routines_of image.now) start turn self.new.run) }
         ensures log { self.new.run.log ≡ self.old.run.log }
         ensures spent { self.new.run.spent ≡ spent_after result fuel self.old.run.spent }
         ensures err { OnErr result (self.new.run.pending ≡ self.old.run.pending) }
@@ -129,14 +126,18 @@ impl Job {
         self.log.reserve(1)?;
         let units = image.units();
         'turns: for done in 0..fuel {
-            match go_on(
+            let went = match go_on(
                 self.alloc,
                 units,
-                &self.entry,
+                &self.start,
                 &mut self.machine,
                 &self.log,
                 &mut self.given,
-            )? {
+            ) {
+                Ok(went) => went,
+                Err(error) => return Err(error),
+            };
+            match went {
                 Went::On => {}
                 Went::Asks(ask) => {
                     self.pending = Some(Box::into_inner(ask));
@@ -159,7 +160,7 @@ impl Job {
     /// Replies to what the job asks. It takes no memory.
     pub fn answer(&mut self, reply: Reply)
         requires { Fits self.old.run.pending reply }
-        ensures run { (image : Loaded) (entry : entries.Entry) → IsRunOf image entry self.old → IsRunOf image entry self.new }
+        ensures run { (image : Loaded) (start : Starts) → IsRunOf image start self.old → IsRunOf image start self.new }
         ensures state { self.new.run.at.state ≡ self.old.run.at.state }
         ensures log { (a : asks.Ask) → self.old.run.pending ≡ Some a → self.new.run.log ≡ self.old.run.log ++ (a, reply) ∷ [] }
         ensures pending { self.new.run.pending ≡ None }
@@ -177,8 +178,8 @@ impl Job {
     /// What it asked, with the replies, in order: at most 1,000,000 entries, and those of its ending.
     pub fn log(&self) -> &[(Ask, Reply)]
         ensures which { result.now ≡ self.now.run.log }
-        ensures trace { (image : Loaded) (entry : entries.Entry) → IsRunOf image entry self.now → IsTrace (routines_of image) entry result.now }
-        ensures limit { (image : Loaded) (entry : entries.Entry) → IsRunOf image entry self.now → IsLimited result.now }
+        ensures trace { (image : Loaded) (start : Starts) → IsRunOf image start self.now → IsTrace (routines_of image) start result.now }
+        ensures limit { (image : Loaded) (start : Starts) → IsRunOf image start self.now → IsLimited result.now }
     {
         self.log.as_slice()
     }
@@ -215,11 +216,33 @@ impl Job {
     }
 }
 
+// Where a job with this number stands before its first turn.
+fn opening(alloc: Global, job: u32) -> Machine
+    ensures { standing result None ≡ opening_at job }
+{
+    Machine {
+        job,
+        control: Control::Begin,
+        stack: Vec::new(alloc),
+        locals: Locals::new(alloc),
+        test: false,
+        frames: Frames::new(alloc),
+        unit: 0,
+        loops: Vec::new(alloc),
+        calls: Vec::new(alloc),
+        column: 0,
+        row: 0,
+        failed: false,
+        replied: 0,
+        held: Nodes::new(alloc),
+    }
+}
+
 // A turn, with the last reply of the log, if it is still to be taken.
 fn go_on(
     alloc: Global,
     units: &[Unit],
-    entry: &Entry,
+    start: &Start,
     machine: &mut Machine,
     log: &[(Ask, Reply)],
     given: &mut bool,
@@ -227,12 +250,12 @@ fn go_on(
     requires small { AreSmall units.now }
     requires checked { AreChecked units.now }
     requires sound { IsSound units.now (standing machine.old None) }
-    ensures ok { IfOk result (λ w. Steps (record { units = units.now; entry = entry.now }) (standing machine.old (given_of given.old log.now)) (told_of w) (standing machine.new (given_of given.new log.now))) }
+    ensures ok { IfOk result (λ w. Steps (record { units = units.now; start = start_of start.now }) (standing machine.old (given_of given.old log.now)) (told_of w) (standing machine.new (given_of given.new log.now))) }
     ensures err { OnErr result (standing machine.new (given_of given.new log.now) ≡ standing machine.old (given_of given.old log.now)) }
     ensures sound { IsSound units.now (standing machine.new None) }
 {
     // Matched as it comes: a `?` here would move the room of an ask in each turn.
-    match make_turn(alloc, units, entry, machine, reply_in(log, *given)) {
+    match make_turn(alloc, units, start, machine, reply_in(log, *given)) {
         Ok(Step::Next) => Ok(Went::On),
         Ok(Step::Took) => {
             *given = false;

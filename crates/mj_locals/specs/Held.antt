@@ -1,7 +1,8 @@
 -- A job's locals with what NEWs saved of them, and how NEW, the passing of actuals and the end of a frame change both.
-use Rattle.std.specs.Prelude.{ℕ, ◌-◌, false, List, [], ◌∷◌, Option, length, take, drop}
+use Rattle.std.specs.Prelude.{ℕ, ◌-◌, List, [], ◌∷◌, Option, length, take, drop}
 use Rattle.mj_store.specs.Questions.{Content}
 use Rattle.mj_semantics.specs.State.{State, Saved, Words, newed, passed, put_back, undone}
+use Rattle.mj_semantics.specs.Job.{opening}
 
 -- the locals that have a value, with it, and what NEWs saved, the newest first
 pub record Held : Type 0 where
@@ -10,7 +11,7 @@ pub record Held : Type 0 where
 
 -- a state with these locals, of which nothing else matters here
 abbrev pub alone : Held → State
-alone h = record { locals = h.now; saved = h.saved; test = false; frames = []; column = 0; replied = 0; held = [] }
+alone h = record (opening 0) { locals = h.now; saved = h.saved }
 
 -- the locals of a state
 abbrev pub held : State → Held

@@ -1,24 +1,22 @@
 // Functions of variables.
 
-ghost use Rattle.std.specs.Prelude.{◌≡◌, ◌+◌, ◌-◌, ◌<◌, ◌^◌, ◌∷◌, drop, List, ℕ, Option, true, false, option_copied, IfOk, OnErr, ◌≤◌, length};
-ghost use Rattle.mj_ask.specs.declared.ask.Reply as replies;
+ghost use Rattle.std.specs.Prelude.{◌≡◌, ◌+◌, ◌<◌, ◌^◌, true, false, IfOk, OnErr, ◌≤◌, length};
 ghost use Rattle.mj_store.specs.Runs as runs;
 ghost use Rattle.mj_store.specs.Questions.{Content};
 ghost use Rattle.mj_semantics.specs.Functions.{optional};
-ghost use Rattle.mj_semantics.specs.Outcome as told;
 ghost use Rattle.mj_semantics.specs.Evaluation as evaluation;
-ghost use Rattle.mj_semantics.specs.Names as names;
-ghost use Rattle.mj_pcode.specs.Machine.{operands};
+ghost use Rattle.mj_pcode.specs.declared.instr.Instr.TheVariants as instrs;
 ghost use Rattle.mj_machine.specs.Asked as asked;
-ghost use Rattle.mj_machine.specs.Kept.{standing, stack_of, context_of, Does, replied};
+ghost use Rattle.mj_machine.specs.Kept.{Does, DoesAlone, Obeys, ObeysAlone, Stays, with_value, replied};
 
+use crate::asking::wait;
 use crate::control::Control;
 use crate::machine::{Machine, STEPS_LIMIT, Step};
 use crate::names::name_for;
 use crate::quiet::fail;
 use crate::stack;
 use crate::tellings::{asks, question, spelled, told_by, told_of};
-use crate::values::put_value;
+use crate::values::{put_told, put_value};
 use mj_ask::{Ask, Reply};
 use mj_ast::NameFunction;
 use mj_locals::perform;
@@ -39,8 +37,8 @@ pub fn named(
 ) -> Result<Step, AllocError>
     requires next { pc + 1 < 2 ^ 64 }
     requires enough { reference.now.count ≤ length machine.old.stack.items }
-    ensures ok { IfOk result (λ step. (reply : Option replies.Reply) → Does (λ next. told.given (evaluation.named_for function reference.now.scope reference.now.word (operands reference.now.count (stack_of machine.old))) (λ x. next (context_of machine.old) (pc + 1) (stack_of machine.old))) machine.old reply step machine.new) }
-    ensures err { OnErr result ((reply : Option replies.Reply) → standing machine.new reply ≡ standing machine.old reply) }
+    ensures ok { IfOk result (λ step. ObeysAlone (instrs.Named function reference.now) pc machine.old step machine.new) }
+    ensures err { OnErr result (Stays machine.old machine.new) }
 {
     if let Err(fault) = name_for(
         alloc,
@@ -68,8 +66,8 @@ pub fn about(
     requires next { pc + 1 < 2 ^ 64 }
     requires whole { reference.now.count ≤ count }
     requires enough { count ≤ length machine.old.stack.items }
-    ensures ok { IfOk result (λ step. Does (λ next. told.given (evaluation.named_for function reference.now.scope reference.now.word (operands reference.now.count (drop (count - reference.now.count) (stack_of machine.old)))) (λ x. evaluation.about function x (optional 0 (operands (count - reference.now.count) (stack_of machine.old))) (λ v. next (context_of machine.old) (pc + 1) (v ∷ drop count (stack_of machine.old))))) machine.old (replied given.entry) step machine.new) }
-    ensures err { OnErr result ((reply : Option replies.Reply) → standing machine.new reply ≡ standing machine.old reply) }
+    ensures ok { IfOk result (λ step. Obeys (instrs.About function reference.now count) pc machine.old (replied given.entry) step machine.new) }
+    ensures err { OnErr result (Stays machine.old machine.new) }
 {
     let others = count - reference.count;
     let subscripts = stack::topmost(stack::under(&machine.stack, others), reference.count);
@@ -104,12 +102,13 @@ fn inquire(
 ) -> Result<Step, AllocError>
     requires next { pc + 1 < 2 ^ 64 }
     requires enough { count ≤ length machine.old.stack.items }
-    ensures ok { IfOk result (λ step. Does (λ next. evaluation.about function name other (λ v. next (context_of machine.old) (pc + 1) (v ∷ drop count (stack_of machine.old)))) machine.old (replied given.entry) step machine.new) }
-    ensures err { OnErr result ((reply : Option replies.Reply) → standing machine.new reply ≡ standing machine.old reply) }
+    ensures ok { IfOk result (λ step. Does (λ next. evaluation.about function name other (with_value machine.old pc count next)) machine.old (replied given.entry) step machine.new) }
+    ensures err { OnErr result (Stays machine.old machine.new) }
 {
     if !asks(function) {
         let text = spelled(alloc, &name);
-        return put_value(pc, count, text, machine);
+        put_value(pc, count, text, machine)?;
+        return Ok(Step::Next);
     }
     let access = match question(function, name, other.as_ref()) {
         Ok(access) => access,
@@ -126,7 +125,7 @@ fn look_up(access: &Access, machine: &mut Machine) -> Result<Answer, AllocError>
     requires local { (runs.name_of access.now).global ≡ false }
     requires question { (content : Content) → runs.after_access access.now content ≡ content }
     ensures answer { IfOk result (λ answer. answer ≡ runs.answer_of access.now machine.old.locals.now) }
-    ensures same { (reply : Option replies.Reply) → standing machine.new reply ≡ standing machine.old reply }
+    ensures same { Stays machine.old machine.new }
 {
     perform(&mut machine.locals, access)
 }
@@ -145,12 +144,13 @@ fn ask_local(
     requires local { (runs.name_of access).global ≡ false }
     requires question { (content : Content) → runs.after_access access content ≡ content }
     requires enough { count ≤ length machine.old.stack.items }
-    ensures ok { IfOk result (λ step. (reply : Option replies.Reply) → Does (λ next. asked.asked function other access (λ v. next (context_of machine.old) (pc + 1) (v ∷ drop count (stack_of machine.old)))) machine.old reply step machine.new) }
-    ensures err { OnErr result ((reply : Option replies.Reply) → standing machine.new reply ≡ standing machine.old reply) }
+    ensures ok { IfOk result (λ step. DoesAlone (λ next. asked.asked function other access (with_value machine.old pc count next)) machine.old step machine.new) }
+    ensures err { OnErr result (Stays machine.old machine.new) }
 {
     let answer = look_up(&access, machine)?;
     let value = told_of(alloc, function, other.as_ref(), &answer);
-    put_value(pc, count, value, machine)
+    put_value(pc, count, value, machine)?;
+    Ok(Step::Next)
 }
 
 /// A question to the globals.
@@ -168,29 +168,17 @@ fn ask_global(
     requires next { pc + 1 < 2 ^ 64 }
     requires global { (runs.name_of access).global ≡ true }
     requires enough { count ≤ length machine.old.stack.items }
-    ensures ok { IfOk result (λ step. Does (λ next. asked.asked function other access (λ v. next (context_of machine.old) (pc + 1) (v ∷ drop count (stack_of machine.old)))) machine.old (replied given.entry) step machine.new) }
-    ensures err { OnErr result ((reply : Option replies.Reply) → standing machine.new reply ≡ standing machine.old reply) }
+    ensures ok { IfOk result (λ step. Does (λ next. asked.asked function other access (with_value machine.old pc count next)) machine.old (replied given.entry) step machine.new) }
+    ensures err { OnErr result (Stays machine.old machine.new) }
 {
     if machine.replied >= STEPS_LIMIT {
         return Ok(fail(Fault::Steps, machine));
     }
-    let Some(reply) = given else {
-        return Ok(Step::Asks(Box::new(alloc, Ask::Access(access))?));
-    };
-    match told_by(alloc, function, other.as_ref(), reply) {
-        Ok(value) => {
-            stack::replace(&mut machine.stack, count, value)?;
-            machine.replied += 1;
-            machine.control = Control::At(pc + 1);
-            Ok(Step::Took)
+    match given {
+        None => wait(alloc, Ask::Access(access)),
+        Some(reply) => {
+            let value = told_by(alloc, function, other.as_ref(), reply);
+            put_told(pc, count, value, machine)
         }
-        Err(failure) => match failure {
-            Failure::Fault(fault) => {
-                machine.replied += 1;
-                machine.control = Control::Faulted(fault);
-                Ok(Step::Took)
-            }
-            Failure::Memory => Err(AllocError),
-        },
     }
 }

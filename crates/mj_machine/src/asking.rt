@@ -1,12 +1,12 @@
 // What the instructions do that ask.
 
-ghost use Rattle.std.specs.Prelude.{◌≡◌, ℕ, ◌+◌, ◌<◌, ◌≤◌, ◌^◌, drop, length, Option, Some, None, IfOk, OnErr};
-ghost use Rattle.mj_ask.specs.declared.ask.Reply.{Reply};
+ghost use Rattle.std.specs.Prelude.{◌≡◌, ◌+◌, ◌<◌, ◌≤◌, ◌^◌, length, IfOk, OnErr};
+ghost use Rattle.mj_semantics.specs.State as states;
 ghost use Rattle.mj_semantics.specs.Outcome as told;
 ghost use Rattle.mj_semantics.specs.Commands as commands;
-ghost use Rattle.mj_machine.specs.Kept.{standing, stack_of, context_of, Does, replied};
+ghost use Rattle.mj_machine.specs.Kept.{Does, IsWaiting, Stays, without, replied};
 
-use crate::column::column_after;
+use crate::column::{column_after, row_after};
 use crate::control::Control;
 use crate::machine::{Machine, STEPS_LIMIT, Step};
 use crate::quiet::fail;
@@ -17,12 +17,30 @@ use std::alloc::{AllocError, Global};
 
 /// The name of the principal device.
 pub fn principal(alloc: Global) -> Text
-    ensures { result ≡ told.principal }
+    ensures { result ≡ states.principal }
 {
     Text::from_number(alloc, 0)
 }
 
-/// Writes a text by one ask, or by none where it has no bytes, and then takes `count` operands off and goes on.
+/// The job waits for the reply to an ask.
+pub fn wait(alloc: Global, ask: Ask) -> Result<Step, AllocError>
+    ensures { IfOk result (λ step. IsWaiting ask step) }
+{
+    Ok(Step::Asks(Box::new(alloc, ask)?))
+}
+
+/// Whether a reply says that the device failed.
+pub fn is_failed(reply: &Reply) -> bool
+    ensures { result ≡ told.is_failed reply.now }
+{
+    match reply {
+        Reply::Failed => true,
+        _ => false,
+    }
+}
+
+/// Writes a text by one ask, or by none where it has no bytes, and then takes `count` operands off and goes on. Where the device failed
+/// it is a fault.
 pub(crate) fn put_out(
     alloc: Global,
     pc: usize,
@@ -33,8 +51,8 @@ pub(crate) fn put_out(
 ) -> Result<Step, AllocError>
     requires next { pc + 1 < 2 ^ 64 }
     requires enough { count ≤ length machine.old.stack.items }
-    ensures ok { IfOk result (λ step. Does (λ next. commands.write text (next (context_of machine.old) (pc + 1) (drop count (stack_of machine.old)))) machine.old (replied given.entry) step machine.new) }
-    ensures err { OnErr result ((reply : Option Reply) → standing machine.new reply ≡ standing machine.old reply) }
+    ensures ok { IfOk result (λ step. Does (λ next. commands.write text (without machine.old pc count next)) machine.old (replied given.entry) step machine.new) }
+    ensures err { OnErr result (Stays machine.old machine.new) }
 {
     let size = text.len();
     if size == 0 {
@@ -46,13 +64,19 @@ pub(crate) fn put_out(
         return Ok(fail(Fault::Steps, machine));
     }
     match given {
-        None => Ok(Step::Asks(Box::new(alloc, Ask::DeviceWrite(principal(alloc), text))?)),
-        Some(_) => {
-            let mut digits = Digits::new();
-            let column = column_after(machine.column, text.bytes(&mut digits));
-            stack::take_off(&mut machine.stack, count);
-            machine.column = column;
+        None => wait(alloc, Ask::DeviceWrite(principal(alloc), text)),
+        Some(reply) => {
             machine.replied += 1;
+            if is_failed(reply) {
+                machine.failed = true;
+                machine.control = Control::Faulted(Fault::Device);
+                return Ok(Step::Took);
+            }
+            let mut digits = Digits::new();
+            let bytes = text.bytes(&mut digits);
+            machine.column = column_after(machine.column, bytes);
+            machine.row = row_after(machine.row, bytes);
+            stack::take_off(&mut machine.stack, count);
             machine.control = Control::At(pc + 1);
             Ok(Step::Took)
         }

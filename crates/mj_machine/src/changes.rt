@@ -1,18 +1,18 @@
 // Assigning variables, and taking them away.
 
-ghost use Rattle.std.specs.Prelude.{◌≡◌, ◌+◌, ◌<◌, ◌^◌, drop, Option, true, false, IfOk, OnErr, ◌≤◌, length};
+ghost use Rattle.std.specs.Prelude.{◌≡◌, ◌+◌, ◌<◌, ◌^◌, true, false, IfOk, OnErr, ◌≤◌, length};
 ghost use Rattle.mj_store.specs.Runs.{name_of as name_in};
-ghost use Rattle.mj_ask.specs.declared.ask.Reply as replies;
 ghost use Rattle.mj_semantics.specs.State.{plain_name};
 ghost use Rattle.mj_semantics.specs.Outcome as told;
 ghost use Rattle.mj_semantics.specs.Commands as commands;
-ghost use Rattle.mj_semantics.specs.Evaluation as evaluation;
 ghost use Rattle.mj_semantics.specs.Accesses as accesses;
 ghost use Rattle.mj_semantics.specs.Accesses.{answer_told};
 ghost use Rattle.mj_machine.specs.Answers as answers;
-ghost use Rattle.mj_pcode.specs.Machine.{top, operands};
-ghost use Rattle.mj_machine.specs.Kept.{standing, stack_of, context_of, Does, replied};
+ghost use Rattle.mj_pcode.specs.declared.instr.Instr.TheVariants as instrs;
+ghost use Rattle.mj_pcode.specs.Machine.{top};
+ghost use Rattle.mj_machine.specs.Kept.{stack_of, DidAlone, Does, DoesAlone, Obeys, Stays, without, replied};
 
+use crate::asking::wait;
 use crate::control::Control;
 use crate::machine::{Machine, STEPS_LIMIT, Step};
 use crate::names::name_below;
@@ -40,8 +40,8 @@ pub fn store(
     requires value { 1 ≤ length machine.old.stack.items }
     requires enough { depth.above + reference.now.count ≤ length machine.old.stack.items }
     requires taken { depth.taken ≤ length machine.old.stack.items }
-    ensures ok { IfOk result (λ step. Does (λ next. told.given (evaluation.name_of reference.now.scope reference.now.word (operands reference.now.count (drop depth.above (stack_of machine.old)))) (λ x. commands.store x (top (stack_of machine.old)) (next (context_of machine.old) (pc + 1) (drop depth.taken (stack_of machine.old))))) machine.old (replied given.entry) step machine.new) }
-    ensures err { OnErr result ((reply : Option replies.Reply) → standing machine.new reply ≡ standing machine.old reply) }
+    ensures ok { IfOk result (λ step. Obeys (instrs.Store reference.now depth) pc machine.old (replied given.entry) step machine.new) }
+    ensures err { OnErr result (Stays machine.old machine.new) }
 {
     if is_plain_local(reference) {
         return store_word(pc, &reference.word, depth.taken, machine);
@@ -59,8 +59,8 @@ fn store_word(
     requires next { pc + 1 < 2 ^ 64 }
     requires value { 1 ≤ length machine.old.stack.items }
     requires enough { taken ≤ length machine.old.stack.items }
-    ensures ok { IfOk result (λ step. (reply : Option replies.Reply) → Does (λ next. commands.store (plain_name word.now) (top (stack_of machine.old)) (next (context_of machine.old) (pc + 1) (drop taken (stack_of machine.old)))) machine.old reply step machine.new) }
-    ensures err { OnErr result ((reply : Option replies.Reply) → standing machine.new reply ≡ standing machine.old reply) }
+    ensures ok { IfOk result (λ step. DoesAlone (λ next. commands.store (plain_name word.now) (top (stack_of machine.old)) (without machine.old pc taken next)) machine.old step machine.new) }
+    ensures err { OnErr result (Stays machine.old machine.new) }
 {
     machine.locals.set_word(word, stack::top(&machine.stack))?;
     stack::take_off(&mut machine.stack, taken);
@@ -82,8 +82,8 @@ fn store_named(
     requires value { 1 ≤ length machine.old.stack.items }
     requires enough { depth.above + reference.now.count ≤ length machine.old.stack.items }
     requires taken { depth.taken ≤ length machine.old.stack.items }
-    ensures ok { IfOk result (λ step. Does (λ next. told.given (evaluation.name_of reference.now.scope reference.now.word (operands reference.now.count (drop depth.above (stack_of machine.old)))) (λ x. commands.store x (top (stack_of machine.old)) (next (context_of machine.old) (pc + 1) (drop depth.taken (stack_of machine.old))))) machine.old (replied given.entry) step machine.new) }
-    ensures err { OnErr result ((reply : Option replies.Reply) → standing machine.new reply ≡ standing machine.old reply) }
+    ensures ok { IfOk result (λ step. Obeys (instrs.Store reference.now depth) pc machine.old (replied given.entry) step machine.new) }
+    ensures err { OnErr result (Stays machine.old machine.new) }
 {
     let name = match name_below(alloc, reference, machine, depth.above, 0)? {
         Ok(name) => name,
@@ -111,8 +111,8 @@ pub fn kill(
 ) -> Result<Step, AllocError>
     requires next { pc + 1 < 2 ^ 64 }
     requires enough { reference.now.count ≤ length machine.old.stack.items }
-    ensures ok { IfOk result (λ step. Does (λ next. told.given (evaluation.name_of reference.now.scope reference.now.word (operands reference.now.count (stack_of machine.old))) (λ x. commands.remove x (next (context_of machine.old) (pc + 1) (drop reference.now.count (stack_of machine.old))))) machine.old (replied given.entry) step machine.new) }
-    ensures err { OnErr result ((reply : Option replies.Reply) → standing machine.new reply ≡ standing machine.old reply) }
+    ensures ok { IfOk result (λ step. Obeys (instrs.Kill reference.now) pc machine.old (replied given.entry) step machine.new) }
+    ensures err { OnErr result (Stays machine.old machine.new) }
 {
     let name = match name_below(alloc, reference, machine, 0, 0)? {
         Ok(name) => name,
@@ -139,13 +139,28 @@ pub(crate) fn change(
 ) -> Result<Step, AllocError>
     requires next { pc + 1 < 2 ^ 64 }
     requires enough { taken ≤ length machine.old.stack.items }
-    ensures ok { IfOk result (λ step. Does (λ next. accesses.access access (λ a. next (context_of machine.old) (pc + 1) (drop taken (stack_of machine.old)))) machine.old (replied given.entry) step machine.new) }
-    ensures err { OnErr result ((reply : Option replies.Reply) → standing machine.new reply ≡ standing machine.old reply) }
+    ensures ok { IfOk result (λ step. Does (λ next. accesses.access access (λ a. without machine.old pc taken next)) machine.old (replied given.entry) step machine.new) }
+    ensures err { OnErr result (Stays machine.old machine.new) }
 {
     if access.name().is_global() {
         return change_global(alloc, pc, taken, access, machine, given);
     }
     change_local(pc, taken, &access, machine)
+}
+
+// Goes on with `taken` operands less behind a change that is done, or fails.
+pub(crate) fn settle(pc: usize, taken: usize, done: Result<(), Fault>, machine: &mut Machine)
+    requires next { pc + 1 < 2 ^ 64 }
+    requires enough { taken ≤ length machine.old.stack.items }
+    ensures { DidAlone (λ next. told.given done (λ u. without machine.old pc taken next)) machine.old machine.new }
+{
+    match done {
+        Ok(()) => {
+            stack::take_off(&mut machine.stack, taken);
+            machine.control = Control::At(pc + 1);
+        }
+        Err(fault) => machine.control = Control::Faulted(fault),
+    }
 }
 
 fn change_local(
@@ -157,21 +172,12 @@ fn change_local(
     requires next { pc + 1 < 2 ^ 64 }
     requires local { (name_in access.now).global ≡ false }
     requires enough { taken ≤ length machine.old.stack.items }
-    ensures ok { IfOk result (λ step. (reply : Option replies.Reply) → Does (λ next. accesses.access access.now (λ a. next (context_of machine.old) (pc + 1) (drop taken (stack_of machine.old)))) machine.old reply step machine.new) }
-    ensures err { OnErr result ((reply : Option replies.Reply) → standing machine.new reply ≡ standing machine.old reply) }
+    ensures ok { IfOk result (λ step. DoesAlone (λ next. accesses.access access.now (λ a. without machine.old pc taken next)) machine.old step machine.new) }
+    ensures err { OnErr result (Stays machine.old machine.new) }
 {
     let answer = perform(&mut machine.locals, access)?;
-    match change_done(&answer) {
-        Ok(()) => {
-            stack::take_off(&mut machine.stack, taken);
-            machine.control = Control::At(pc + 1);
-            Ok(Step::Next)
-        }
-        Err(fault) => {
-            machine.control = Control::Faulted(fault);
-            Ok(Step::Next)
-        }
-    }
+    settle(pc, taken, change_done(&answer), machine);
+    Ok(Step::Next)
 }
 
 #[inline(never)]
@@ -186,24 +192,20 @@ fn change_global(
     requires next { pc + 1 < 2 ^ 64 }
     requires global { (name_in access).global ≡ true }
     requires enough { taken ≤ length machine.old.stack.items }
-    ensures ok { IfOk result (λ step. Does (λ next. accesses.access access (λ a. next (context_of machine.old) (pc + 1) (drop taken (stack_of machine.old)))) machine.old (replied given.entry) step machine.new) }
-    ensures err { OnErr result ((reply : Option replies.Reply) → standing machine.new reply ≡ standing machine.old reply) }
+    ensures ok { IfOk result (λ step. Does (λ next. accesses.access access (λ a. without machine.old pc taken next)) machine.old (replied given.entry) step machine.new) }
+    ensures err { OnErr result (Stays machine.old machine.new) }
 {
     if machine.replied >= STEPS_LIMIT {
         return Ok(fail(Fault::Steps, machine));
     }
-    let Some(reply) = given else {
-        return Ok(Step::Asks(Box::new(alloc, Ask::Access(access))?));
-    };
-    machine.replied += 1;
-    match reply_done(reply) {
-        Ok(()) => {
-            stack::take_off(&mut machine.stack, taken);
-            machine.control = Control::At(pc + 1);
+    match given {
+        None => wait(alloc, Ask::Access(access)),
+        Some(reply) => {
+            machine.replied += 1;
+            settle(pc, taken, reply_done(reply), machine);
+            Ok(Step::Took)
         }
-        Err(fault) => machine.control = Control::Faulted(fault),
     }
-    Ok(Step::Took)
 }
 
 /// Whether a reply says that a change is done.
@@ -212,7 +214,7 @@ pub(crate) fn reply_done(reply: &Reply) -> Result<(), Fault>
 {
     match reply {
         Reply::Answer(answer) => change_done(answer),
-        Reply::Done => Ok(()),
+        _ => Ok(()),
     }
 }
 

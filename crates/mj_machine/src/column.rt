@@ -1,7 +1,7 @@
-// The column of a device.
+// The column and the row of a device.
 
 ghost use Rattle.std.specs.Prelude.{◌≡◌, ◌+◌, ◌*◌, ◌≤◌, ◌<◌, ◌^◌, length};
-ghost use Rattle.mj_semantics.specs.State.{column_after};
+ghost use Rattle.mj_semantics.specs.State.{column_after, row_after};
 
 /// The column after these bytes were written from this one on.
 pub fn column_after(column: u64, bytes: &[u8]) -> u64
@@ -17,4 +17,21 @@ pub fn column_after(column: u64, bytes: &[u8]) -> u64
         };
     }
     column
+}
+
+/// The row after these bytes were written from this one on.
+pub fn row_after(row: u64, bytes: &[u8]) -> u64
+    requires { row + length bytes.now < 2 ^ 64 }
+    ensures value { result ≡ row_after row bytes.now }
+    ensures bound { result ≤ row + length bytes.now }
+{
+    let mut row = row;
+    for &b in bytes {
+        row = match b {
+            10 => row + 1,
+            12 => 0,
+            _ => row,
+        };
+    }
+    row
 }

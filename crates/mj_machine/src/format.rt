@@ -1,9 +1,9 @@
 // What a format writes.
 
-ghost use Rattle.std.specs.Prelude.{◌≡◌, ◌+◌, ◌<◌, ◌^◌, drop, map, Option, IfOk, OnErr};
-ghost use Rattle.mj_ask.specs.declared.ask.Reply as replies;
+ghost use Rattle.std.specs.Prelude.{◌≡◌, ◌+◌, ◌<◌, ◌^◌, map, IfOk, OnErr};
 ghost use Rattle.mj_semantics.specs.Commands as commands;
-ghost use Rattle.mj_machine.specs.Kept.{standing, stack_of, context_of, Does, replied};
+ghost use Rattle.mj_pcode.specs.declared.instr.Instr.TheVariants as instrs;
+ghost use Rattle.mj_machine.specs.Kept.{Obeys, Stays, replied};
 
 use crate::asking::put_out;
 use crate::machine::{Machine, Step};
@@ -44,8 +44,8 @@ pub fn write_marks(
     given: Option<&Reply>,
 ) -> Result<Step, AllocError>
     requires { pc + 1 < 2 ^ 64 }
-    ensures ok { IfOk result (λ step. Does (λ next. commands.write (map commands.mark_byte marks.now) (next (context_of machine.old) (pc + 1) (drop 0 (stack_of machine.old)))) machine.old (replied given.entry) step machine.new) }
-    ensures err { OnErr result ((reply : Option replies.Reply) → standing machine.new reply ≡ standing machine.old reply) }
+    ensures ok { IfOk result (λ step. Obeys (instrs.Format marks.now) pc machine.old (replied given.entry) step machine.new) }
+    ensures err { OnErr result (Stays machine.old machine.new) }
 {
     let bytes = spelled(alloc, marks.as_slice())?;
     match Text::from(alloc, &bytes) {

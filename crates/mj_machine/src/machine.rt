@@ -15,6 +15,8 @@ pub const STEPS_LIMIT: u64 = 1_000_000;
 /// Where a job stands.
 #[derive(Drop)]
 pub struct Machine {
+    // `$JOB`
+    pub job: u32,
     pub control: Control,
     // the topmost last
     pub stack: Vec<Text>,
@@ -28,13 +30,15 @@ pub struct Machine {
     pub loops: Vec<Loop>,
     // where the frames below go on, the topmost last
     pub calls: Vec<Call>,
-    // of the principal device
+    // of the principal device: `$X`, `$Y`, and whether a call of its session failed
     pub column: u64,
+    pub row: u64,
+    pub failed: bool,
     // asks that were replied to
     pub replied: u64,
     // what a MERGE has read and not put yet
     pub held: Nodes,
-    ghost bounded: { (column ≤ 32767 * replied) × (replied ≤ 1000000) },
+    ghost bounded: { (column ≤ 32767 * replied) × (row ≤ 32767 * replied) × (replied ≤ 1000000) },
 }
 
 /// How a turn goes. It is small, so that a turn that asks nothing moves little.

@@ -1,17 +1,15 @@
 // What MERGE takes from a variable, and puts to another.
 
-ghost use Rattle.std.specs.Prelude.{◌≡◌, ◌+◌, ◌<◌, ◌^◌, [], drop, Option, true, false, IfOk, OnErr, ◌≤◌, length};
-ghost use Rattle.mj_ask.specs.declared.ask.Reply as replies;
+ghost use Rattle.std.specs.Prelude.{◌≡◌, ◌+◌, ◌<◌, ◌^◌, [], true, false, IfOk, OnErr, ◌≤◌, length};
 ghost use Rattle.mj_store.specs.declared.access.Access.TheVariants as accesses;
 ghost use Rattle.mj_semantics.specs.Outcome as told;
-ghost use Rattle.mj_semantics.specs.Commands as commands;
-ghost use Rattle.mj_semantics.specs.Evaluation as evaluation;
 ghost use Rattle.mj_semantics.specs.Accesses.{access, answer_told, nodes_told};
 ghost use Rattle.mj_semantics.specs.State.{hold};
 ghost use Rattle.mj_machine.specs.Answers as answers;
-ghost use Rattle.mj_pcode.specs.Machine.{operands};
-ghost use Rattle.mj_machine.specs.Kept.{standing, stack_of, context_of, Does, replied};
+ghost use Rattle.mj_pcode.specs.declared.instr.Instr.TheVariants as instrs;
+ghost use Rattle.mj_machine.specs.Kept.{DidAlone, Does, DoesAlone, Obeys, Stays, without, replied};
 
+use crate::asking::wait;
 use crate::changes::reply_done;
 use crate::control::Control;
 use crate::machine::{Machine, STEPS_LIMIT, Step};
@@ -37,8 +35,8 @@ pub fn take(
 ) -> Result<Step, AllocError>
     requires next { pc + 1 < 2 ^ 64 }
     requires enough { from.now.count + into.now.count ≤ length machine.old.stack.items }
-    ensures ok { IfOk result (λ step. Does (λ next. told.given (evaluation.name_of from.now.scope from.now.word (operands from.now.count (stack_of machine.old))) (λ y. told.given (evaluation.name_of into.now.scope into.now.word (operands into.now.count (drop from.now.count (stack_of machine.old)))) (λ x. commands.take_nodes x y (next (context_of machine.old) (pc + 1) (drop from.now.count (stack_of machine.old)))))) machine.old (replied given.entry) step machine.new) }
-    ensures err { OnErr result ((reply : Option replies.Reply) → standing machine.new reply ≡ standing machine.old reply) }
+    ensures ok { IfOk result (λ step. Obeys (instrs.Take into.now from.now) pc machine.old (replied given.entry) step machine.new) }
+    ensures err { OnErr result (Stays machine.old machine.new) }
 {
     let source = match name_below(alloc, from, machine, 0, 0)? {
         Ok(name) => name,
@@ -66,14 +64,46 @@ fn take_local(
     requires next { pc + 1 < 2 ^ 64 }
     requires local { name.now.global ≡ false }
     requires enough { count ≤ length machine.old.stack.items }
-    ensures ok { IfOk result (λ step. (reply : Option replies.Reply) → Does (λ next. access (accesses.Subtree name.now) (λ a. told.change (hold (nodes_told a)) (next (context_of machine.old) (pc + 1) (drop count (stack_of machine.old))))) machine.old reply step machine.new) }
-    ensures err { OnErr result ((reply : Option replies.Reply) → standing machine.new reply ≡ standing machine.old reply) }
+    ensures ok { IfOk result (λ step. DoesAlone (λ next. access (accesses.Subtree name.now) (λ a. told.change (hold (nodes_told a)) (without machine.old pc count next))) machine.old step machine.new) }
+    ensures err { OnErr result (Stays machine.old machine.new) }
 {
     let nodes = machine.locals.subtree(name)?;
     machine.held = nodes;
     stack::take_off(&mut machine.stack, count);
     machine.control = Control::At(pc + 1);
     Ok(Step::Next)
+}
+
+// Nodes that are read are in hand, and `count` operands are taken off; or it is a fault.
+fn keep(pc: usize, count: usize, nodes: Result<Nodes, Fault>, machine: &mut Machine)
+    requires next { pc + 1 < 2 ^ 64 }
+    requires enough { count ≤ length machine.old.stack.items }
+    ensures { DidAlone (λ next. told.given nodes (λ l. told.change (hold l) (without machine.old pc count next))) machine.old machine.new }
+{
+    match nodes {
+        Ok(nodes) => {
+            machine.held = nodes;
+            stack::take_off(&mut machine.stack, count);
+            machine.control = Control::At(pc + 1);
+        }
+        Err(fault) => machine.control = Control::Faulted(fault),
+    }
+}
+
+// Nodes that are put are no longer in hand, and `count` operands are taken off; or it is a fault.
+fn let_go(alloc: Global, pc: usize, count: usize, done: Result<(), Fault>, machine: &mut Machine)
+    requires next { pc + 1 < 2 ^ 64 }
+    requires enough { count ≤ length machine.old.stack.items }
+    ensures { DidAlone (λ next. told.given done (λ u. told.change (hold []) (without machine.old pc count next))) machine.old machine.new }
+{
+    match done {
+        Ok(()) => {
+            machine.held = Nodes::new(alloc);
+            stack::take_off(&mut machine.stack, count);
+            machine.control = Control::At(pc + 1);
+        }
+        Err(fault) => machine.control = Control::Faulted(fault),
+    }
 }
 
 fn take_global(
@@ -87,26 +117,18 @@ fn take_global(
     requires next { pc + 1 < 2 ^ 64 }
     requires global { name.global ≡ true }
     requires enough { count ≤ length machine.old.stack.items }
-    ensures ok { IfOk result (λ step. Does (λ next. access (accesses.Subtree name) (λ a. told.change (hold (nodes_told a)) (next (context_of machine.old) (pc + 1) (drop count (stack_of machine.old))))) machine.old (replied given.entry) step machine.new) }
-    ensures err { OnErr result ((reply : Option replies.Reply) → standing machine.new reply ≡ standing machine.old reply) }
+    ensures ok { IfOk result (λ step. Does (λ next. access (accesses.Subtree name) (λ a. told.change (hold (nodes_told a)) (without machine.old pc count next))) machine.old (replied given.entry) step machine.new) }
+    ensures err { OnErr result (Stays machine.old machine.new) }
 {
     if machine.replied >= STEPS_LIMIT {
         return Ok(fail(Fault::Steps, machine));
     }
-    let Some(reply) = given else {
-        return Ok(Step::Asks(Box::new(alloc, Ask::Access(Access::Subtree(name)))?));
-    };
-    match nodes_of(alloc, reply)? {
-        Ok(nodes) => {
-            machine.held = nodes;
-            stack::take_off(&mut machine.stack, count);
+    match given {
+        None => wait(alloc, Ask::Access(Access::Subtree(name))),
+        Some(reply) => {
+            let nodes = nodes_of(alloc, reply)?;
             machine.replied += 1;
-            machine.control = Control::At(pc + 1);
-            Ok(Step::Took)
-        }
-        Err(fault) => {
-            machine.replied += 1;
-            machine.control = Control::Faulted(fault);
+            keep(pc, count, nodes, machine);
             Ok(Step::Took)
         }
     }
@@ -145,8 +167,8 @@ pub fn put(
 ) -> Result<Step, AllocError>
     requires next { pc + 1 < 2 ^ 64 }
     requires enough { reference.now.count ≤ length machine.old.stack.items }
-    ensures ok { IfOk result (λ step. Does (λ next. told.given (evaluation.name_of reference.now.scope reference.now.word (operands reference.now.count (stack_of machine.old))) (λ x. commands.put_nodes x (next (context_of machine.old) (pc + 1) (drop reference.now.count (stack_of machine.old))))) machine.old (replied given.entry) step machine.new) }
-    ensures err { OnErr result ((reply : Option replies.Reply) → standing machine.new reply ≡ standing machine.old reply) }
+    ensures ok { IfOk result (λ step. Obeys (instrs.Put reference.now) pc machine.old (replied given.entry) step machine.new) }
+    ensures err { OnErr result (Stays machine.old machine.new) }
 {
     let name = match name_below(alloc, reference, machine, 0, 0)? {
         Ok(name) => name,
@@ -173,8 +195,8 @@ fn put_local(
     requires next { pc + 1 < 2 ^ 64 }
     requires local { name.now.global ≡ false }
     requires enough { count ≤ length machine.old.stack.items }
-    ensures ok { IfOk result (λ step. (reply : Option replies.Reply) → Does (λ next. access (accesses.Put name.now machine.old.held) (λ a. told.change (hold []) (next (context_of machine.old) (pc + 1) (drop count (stack_of machine.old))))) machine.old reply step machine.new) }
-    ensures err { OnErr result ((reply : Option replies.Reply) → standing machine.new reply ≡ standing machine.old reply) }
+    ensures ok { IfOk result (λ step. DoesAlone (λ next. access (accesses.Put name.now machine.old.held) (λ a. told.change (hold []) (without machine.old pc count next))) machine.old step machine.new) }
+    ensures err { OnErr result (Stays machine.old machine.new) }
 {
     match machine.locals.put(name, &machine.held) {
         Ok(()) => {
@@ -204,27 +226,20 @@ fn put_global(
     requires next { pc + 1 < 2 ^ 64 }
     requires global { name.global ≡ true }
     requires enough { count ≤ length machine.old.stack.items }
-    ensures ok { IfOk result (λ step. Does (λ next. access (accesses.Put name machine.old.held) (λ a. told.change (hold []) (next (context_of machine.old) (pc + 1) (drop count (stack_of machine.old))))) machine.old (replied given.entry) step machine.new) }
-    ensures err { OnErr result ((reply : Option replies.Reply) → standing machine.new reply ≡ standing machine.old reply) }
+    ensures ok { IfOk result (λ step. Does (λ next. access (accesses.Put name machine.old.held) (λ a. told.change (hold []) (without machine.old pc count next))) machine.old (replied given.entry) step machine.new) }
+    ensures err { OnErr result (Stays machine.old machine.new) }
 {
     if machine.replied >= STEPS_LIMIT {
         return Ok(fail(Fault::Steps, machine));
     }
-    let Some(reply) = given else {
-        let nodes = copied(alloc, &machine.held)?;
-        return Ok(Step::Asks(Box::new(alloc, Ask::Access(Access::Put(name, nodes)))?));
-    };
-    match reply_done(reply) {
-        Ok(()) => {
-            machine.held = Nodes::new(alloc);
-            stack::take_off(&mut machine.stack, count);
-            machine.replied += 1;
-            machine.control = Control::At(pc + 1);
-            Ok(Step::Took)
+    match given {
+        None => {
+            let nodes = copied(alloc, &machine.held)?;
+            wait(alloc, Ask::Access(Access::Put(name, nodes)))
         }
-        Err(fault) => {
+        Some(reply) => {
             machine.replied += 1;
-            machine.control = Control::Faulted(fault);
+            let_go(alloc, pc, count, reply_done(reply), machine);
             Ok(Step::Took)
         }
     }

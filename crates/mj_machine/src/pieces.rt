@@ -1,25 +1,24 @@
 // Pieces of a variable's value.
 
-ghost use Rattle.std.specs.Prelude.{◌≡◌, ◌+◌, ◌<◌, ◌^◌, ◌∷◌, drop, Option, true, false, option_copied, IfOk, OnErr, ◌≤◌, length};
+ghost use Rattle.std.specs.Prelude.{◌≡◌, ◌+◌, ◌<◌, ◌^◌, true, false, option_copied, IfOk, OnErr, ◌≤◌, length};
 ghost use Rattle.mj_text.specs.Failing.{failing, then_value};
 ghost use Rattle.mj_strfn.specs.Functions.{AnswersOrMemory, set_piece_value, assigned_pieces as assigned_by};
 ghost use Rattle.mj_semantics.specs.Functions.{needed as needed_of, optional as optional_of};
-ghost use Rattle.mj_ask.specs.declared.ask.Reply as replies;
-ghost use Rattle.mj_semantics.specs.Outcome as told;
 ghost use Rattle.mj_semantics.specs.Commands as commands;
-ghost use Rattle.mj_semantics.specs.Evaluation as evaluation;
 ghost use Rattle.mj_semantics.specs.Accesses.{answer_told};
 ghost use Rattle.mj_machine.specs.Answers as answers;
-ghost use Rattle.mj_pcode.specs.Machine.{top, operands};
-ghost use Rattle.mj_machine.specs.Kept.{standing, stack_of, context_of, Does, replied};
+ghost use Rattle.mj_pcode.specs.declared.instr.Instr.TheVariants as instrs;
+ghost use Rattle.mj_pcode.specs.Machine.{top};
+ghost use Rattle.mj_machine.specs.Kept.{stack_of, Does, DoesAlone, Obeys, Stays, with_value, replied};
 
+use crate::asking::wait;
 use crate::calls::{needed, optional};
 use crate::control::Control;
 use crate::machine::{Machine, STEPS_LIMIT, Step};
 use crate::names::name_below;
 use crate::quiet::fail;
 use crate::stack;
-use crate::values::put_value;
+use crate::values::{put_told, put_value};
 use mj_ask::{Ask, Reply};
 use mj_pcode::{Depth, Reference};
 use mj_store::{Access, Answer};
@@ -44,8 +43,8 @@ pub fn renew(
     requires value { 1 ≤ length machine.old.stack.items }
     requires enough { depth.above + count + reference.now.count ≤ length machine.old.stack.items }
     requires taken { depth.taken ≤ length machine.old.stack.items }
-    ensures ok { IfOk result (λ step. Does (λ next. told.given (evaluation.name_of reference.now.scope reference.now.word (operands reference.now.count (drop count (drop depth.above (stack_of machine.old))))) (λ x. commands.renew x (operands count (drop depth.above (stack_of machine.old))) (top (stack_of machine.old)) (next (context_of machine.old) (pc + 2) (drop depth.taken (stack_of machine.old))) (λ v. next (context_of machine.old) (pc + 1) (v ∷ stack_of machine.old)))) machine.old (replied given.entry) step machine.new) }
-    ensures err { OnErr result ((reply : Option replies.Reply) → standing machine.new reply ≡ standing machine.old reply) }
+    ensures ok { IfOk result (λ step. Obeys (instrs.Renew reference.now count depth) pc machine.old (replied given.entry) step machine.new) }
+    ensures err { OnErr result (Stays machine.old machine.new) }
 {
     let name = match name_below(alloc, reference, machine, depth.above, count)? {
         Ok(name) => name,
@@ -94,8 +93,8 @@ fn renew_range(
 ) -> Result<Step, AllocError>
     requires next { pc + 1 < 2 ^ 64 }
     requires enough { 1 ≤ length machine.old.stack.items }
-    ensures ok { IfOk result (λ step. Does (λ next. commands.renewed name separator.now range (top (stack_of machine.old)) (λ v. next (context_of machine.old) (pc + 1) (v ∷ stack_of machine.old))) machine.old (replied given.entry) step machine.new) }
-    ensures err { OnErr result ((reply : Option replies.Reply) → standing machine.new reply ≡ standing machine.old reply) }
+    ensures ok { IfOk result (λ step. Does (λ next. commands.renewed name separator.now range (top (stack_of machine.old)) (with_value machine.old pc 0 next)) machine.old (replied given.entry) step machine.new) }
+    ensures err { OnErr result (Stays machine.old machine.new) }
 {
     if name.is_global() {
         return renew_global(alloc, pc, name, separator, range, machine, given);
@@ -114,13 +113,14 @@ fn renew_local(
     requires next { pc + 1 < 2 ^ 64 }
     requires local { name.now.global ≡ false }
     requires enough { 1 ≤ length machine.old.stack.items }
-    ensures ok { IfOk result (λ step. (reply : Option replies.Reply) → Does (λ next. commands.renewed name.now separator.now range (top (stack_of machine.old)) (λ v. next (context_of machine.old) (pc + 1) (v ∷ stack_of machine.old))) machine.old reply step machine.new) }
-    ensures err { OnErr result ((reply : Option replies.Reply) → standing machine.new reply ≡ standing machine.old reply) }
+    ensures ok { IfOk result (λ step. DoesAlone (λ next. commands.renewed name.now separator.now range (top (stack_of machine.old)) (with_value machine.old pc 0 next)) machine.old step machine.new) }
+    ensures err { OnErr result (Stays machine.old machine.new) }
 {
     let value = stack::top(&machine.stack);
     let old = machine.locals.value(name);
     let renewed = with_pieces(alloc, old, separator, range, value);
-    put_value(pc, 0, renewed, machine)
+    put_value(pc, 0, renewed, machine)?;
+    Ok(Step::Next)
 }
 
 fn renew_global(
@@ -135,31 +135,19 @@ fn renew_global(
     requires next { pc + 1 < 2 ^ 64 }
     requires global { name.global ≡ true }
     requires enough { 1 ≤ length machine.old.stack.items }
-    ensures ok { IfOk result (λ step. Does (λ next. commands.renewed name separator.now range (top (stack_of machine.old)) (λ v. next (context_of machine.old) (pc + 1) (v ∷ stack_of machine.old))) machine.old (replied given.entry) step machine.new) }
-    ensures err { OnErr result ((reply : Option replies.Reply) → standing machine.new reply ≡ standing machine.old reply) }
+    ensures ok { IfOk result (λ step. Does (λ next. commands.renewed name separator.now range (top (stack_of machine.old)) (with_value machine.old pc 0 next)) machine.old (replied given.entry) step machine.new) }
+    ensures err { OnErr result (Stays machine.old machine.new) }
 {
     if machine.replied >= STEPS_LIMIT {
         return Ok(fail(Fault::Steps, machine));
     }
-    let Some(reply) = given else {
-        return Ok(Step::Asks(Box::new(alloc, Ask::Access(Access::Value(name)))?));
-    };
-    let value = stack::top(&machine.stack);
-    match renewed(alloc, reply, separator, range, value) {
-        Ok(renewed) => {
-            stack::replace(&mut machine.stack, 0, renewed)?;
-            machine.replied += 1;
-            machine.control = Control::At(pc + 1);
-            Ok(Step::Took)
+    match given {
+        None => wait(alloc, Ask::Access(Access::Value(name))),
+        Some(reply) => {
+            let value = stack::top(&machine.stack);
+            let renewed = renewed(alloc, reply, separator, range, value);
+            put_told(pc, 0, renewed, machine)
         }
-        Err(failure) => match failure {
-            Failure::Fault(fault) => {
-                machine.replied += 1;
-                machine.control = Control::Faulted(fault);
-                Ok(Step::Took)
-            }
-            Failure::Memory => Err(AllocError),
-        },
     }
 }
 

@@ -1,11 +1,11 @@
 // What the instructions do that ask nothing.
 
-ghost use Rattle.std.specs.Prelude.{◌≡◌, ◌+◌, ◌<◌, ◌^◌, ◌∷◌, drop, Option, None, IfOk, OnErr, ◌≤◌, length};
-ghost use Rattle.mj_ask.specs.declared.ask.Reply.{Reply};
+ghost use Rattle.std.specs.Prelude.{◌≡◌, ℕ, ◌+◌, ◌<◌, ◌^◌, IfOk, OnErr, ◌≤◌, length};
 ghost use Rattle.mj_oper.specs.Operators.{truth_text as text_of_truth};
 ghost use Rattle.mj_semantics.specs.State as states;
 ghost use Rattle.mj_semantics.specs.Outcome as told;
-ghost use Rattle.mj_machine.specs.Kept.{standing, stack_of, state_of, context_of, Does};
+ghost use Rattle.mj_pcode.specs.declared.instr.Instr.TheVariants as instrs;
+ghost use Rattle.mj_machine.specs.Kept.{state_of, DoesAlone, ObeysAlone, Stays};
 
 use crate::control::Control;
 use crate::machine::{Machine, Step};
@@ -18,7 +18,7 @@ use std::alloc::{AllocError, Global};
 
 /// A fault, which is told of in the next turn.
 pub fn fail(fault: Fault, machine: &mut Machine) -> Step
-    ensures { (reply : Option Reply) → Does (λ next. told.fault fault) machine.old reply result machine.new }
+    ensures { DoesAlone (λ next. told.fault fault) machine.old result machine.new }
 {
     machine.control = Control::Faulted(fault);
     Step::Next
@@ -28,8 +28,8 @@ pub fn fail(fault: Fault, machine: &mut Machine) -> Step
 #[inline(never)]
 pub fn push(pc: usize, text: &Text, machine: &mut Machine) -> Result<Step, AllocError>
     requires { pc + 1 < 2 ^ 64 }
-    ensures ok { IfOk result (λ step. (reply : Option Reply) → Does (λ next. next (context_of machine.old) (pc + 1) (text.now ∷ stack_of machine.old)) machine.old reply step machine.new) }
-    ensures err { OnErr result ((reply : Option Reply) → standing machine.new reply ≡ standing machine.old reply) }
+    ensures ok { IfOk result (λ step. ObeysAlone (instrs.Push text.now) pc machine.old step machine.new) }
+    ensures err { OnErr result (Stays machine.old machine.new) }
 {
     let text = text.try_clone()?;
     stack::push(&mut machine.stack, text)?;
@@ -46,8 +46,8 @@ pub fn special(
     machine: &mut Machine,
 ) -> Result<Step, AllocError>
     requires { pc + 1 < 2 ^ 64 }
-    ensures ok { IfOk result (λ step. (reply : Option Reply) → Does (λ next. next (context_of machine.old) (pc + 1) (states.special_value special (state_of machine.old) ∷ stack_of machine.old)) machine.old reply step machine.new) }
-    ensures err { OnErr result ((reply : Option Reply) → standing machine.new reply ≡ standing machine.old reply) }
+    ensures ok { IfOk result (λ step. ObeysAlone (instrs.Special special) pc machine.old step machine.new) }
+    ensures err { OnErr result (Stays machine.old machine.new) }
 {
     let value = special_value(alloc, special, machine);
     stack::push(&mut machine.stack, value)?;
@@ -76,7 +76,7 @@ fn truth_text(alloc: Global, truth: bool) -> Text
 pub fn discard(pc: usize, count: usize, machine: &mut Machine) -> Step
     requires next { pc + 1 < 2 ^ 64 }
     requires enough { count ≤ length machine.old.stack.items }
-    ensures { (reply : Option Reply) → Does (λ next. next (context_of machine.old) (pc + 1) (drop count (stack_of machine.old))) machine.old reply result machine.new }
+    ensures { ObeysAlone (instrs.Discard count) pc machine.old result machine.new }
 {
     stack::take_off(&mut machine.stack, count);
     machine.control = Control::At(pc + 1);
@@ -87,7 +87,7 @@ pub fn discard(pc: usize, count: usize, machine: &mut Machine) -> Step
 #[inline(never)]
 pub fn spare(pc: usize, words: &Words, machine: &mut Machine) -> Step
     requires { pc + 1 < 2 ^ 64 }
-    ensures { (reply : Option Reply) → Does (λ next. told.change (states.spare words.now) (next (context_of machine.old) (pc + 1) (stack_of machine.old))) machine.old reply result machine.new }
+    ensures { ObeysAlone (instrs.Spare words.now) pc machine.old result machine.new }
 {
     machine.locals.keep_words(words.as_slice());
     machine.control = Control::At(pc + 1);
@@ -96,7 +96,7 @@ pub fn spare(pc: usize, words: &Words, machine: &mut Machine) -> Step
 
 /// The job goes on at another instruction.
 pub fn jump(target: usize, machine: &mut Machine) -> Step
-    ensures { (reply : Option Reply) → Does (λ next. next (context_of machine.old) target (stack_of machine.old)) machine.old reply result machine.new }
+    ensures { (pc : ℕ) → ObeysAlone (instrs.Jump target) pc machine.old result machine.new }
 {
     machine.control = Control::At(target);
     Step::Next
@@ -104,7 +104,7 @@ pub fn jump(target: usize, machine: &mut Machine) -> Step
 
 /// The job ends.
 pub fn halt(machine: &mut Machine) -> Step
-    ensures { (reply : Option Reply) → Does (λ next. told.end None) machine.old reply result machine.new }
+    ensures { (pc : ℕ) → ObeysAlone instrs.Halt pc machine.old result machine.new }
 {
     machine.control = Control::Closing(None);
     Step::Next

@@ -39,7 +39,7 @@ pub fn topmost(stack: &[Text], count: usize) -> &[Text]
 #[inline(always)]
 pub fn take_one(stack: &mut Vec<Text>)
     requires { 1 ≤ length stack.old.items }
-    ensures { reverse stack.new.items ≡ drop 1 (reverse stack.old.items) }
+    ensures { reverse stack.new.items ≡ below (reverse stack.old.items) }
 {
     let _top = stack.pop();
 }
@@ -69,7 +69,7 @@ pub(crate) fn push(stack: &mut Vec<Text>, value: Text) -> Result<(), AllocError>
 #[inline(always)]
 pub(crate) fn fold(stack: &mut Vec<Text>, value: Text)
     requires { 2 ≤ length stack.old.items }
-    ensures { reverse stack.new.items ≡ value ∷ drop 2 (reverse stack.old.items) }
+    ensures { reverse stack.new.items ≡ value ∷ below (below (reverse stack.old.items)) }
 {
     let kept = stack.len() - 2;
     let _right = stack.pop();

@@ -1,15 +1,11 @@
 // What the operators, postconditions and WRITE do with operands.
 
-ghost use Rattle.std.specs.Prelude.{◌≡◌, ℕ, ◌+◌, ◌<◌, ◌^◌, ◌∷◌, drop, map, List, Option, Some, Result, IfOk, OnErr, if◌then◌else◌, ◌≤◌, length};
+ghost use Rattle.std.specs.Prelude.{◌≡◌, ℕ, ◌+◌, ◌<◌, ◌^◌, List, Result, IfOk, OnErr, ◌≤◌, length};
 ghost use Rattle.mj_text.specs.declared.fault.Fault as faults;
-ghost use Rattle.mj_ask.specs.declared.ask.Reply as replies;
 ghost use Rattle.mj_strfn.specs.Functions.{AnswersOrMemory};
-ghost use Rattle.mj_oper.specs.Operators.{unary_value, binary_value, truth_value};
-ghost use Rattle.mj_semantics.specs.Functions.{call_value};
 ghost use Rattle.mj_semantics.specs.Outcome as told;
-ghost use Rattle.mj_semantics.specs.Commands as commands;
-ghost use Rattle.mj_pcode.specs.Machine.{top, below, operands};
-ghost use Rattle.mj_machine.specs.Kept.{standing, stack_of, context_of, Does, replied};
+ghost use Rattle.mj_pcode.specs.declared.instr.Instr.TheVariants as instrs;
+ghost use Rattle.mj_machine.specs.Kept.{DidAlone, Takes, Obeys, ObeysAlone, Stays, with_value, replied};
 
 use crate::asking::put_out;
 use crate::calls::value_of;
@@ -30,22 +26,49 @@ pub(crate) fn put_value(
     count: usize,
     value: Result<Text, Failure>,
     machine: &mut Machine,
-) -> Result<Step, AllocError>
+) -> Result<(), AllocError>
     requires next { pc + 1 < 2 ^ 64 }
     requires enough { count ≤ length machine.old.stack.items }
-    ensures ok { (r : Result (List ℕ) faults.Fault) → AnswersOrMemory r value → IfOk result (λ step. (reply : Option replies.Reply) → Does (λ next. told.given r (λ v. next (context_of machine.old) (pc + 1) (v ∷ drop count (stack_of machine.old)))) machine.old reply step machine.new) }
-    ensures err { OnErr result ((reply : Option replies.Reply) → standing machine.new reply ≡ standing machine.old reply) }
+    ensures ok { (r : Result (List ℕ) faults.Fault) → AnswersOrMemory r value → IfOk result (λ done. DidAlone (λ next. told.given r (with_value machine.old pc count next)) machine.old machine.new) }
+    ensures err { OnErr result (Stays machine.old machine.new) }
+    ensures same { (machine.new.replied ≡ machine.old.replied) × (machine.new.column ≡ machine.old.column) × (machine.new.row ≡ machine.old.row) }
 {
     match value {
         Ok(text) => {
             stack::replace(&mut machine.stack, count, text)?;
             machine.control = Control::At(pc + 1);
-            Ok(Step::Next)
+            Ok(())
         }
         Err(failure) => match failure {
-            Failure::Fault(fault) => Ok(fail(fault, machine)),
+            Failure::Fault(fault) => {
+                machine.control = Control::Faulted(fault);
+                Ok(())
+            }
             Failure::Memory => Err(AllocError),
         },
+    }
+}
+
+/// What a reply brought is put in the place of `count` operands, or it is a fault. The reply is counted, and taken.
+pub(crate) fn put_told(
+    pc: usize,
+    count: usize,
+    value: Result<Text, Failure>,
+    machine: &mut Machine,
+) -> Result<Step, AllocError>
+    requires next { pc + 1 < 2 ^ 64 }
+    requires enough { count ≤ length machine.old.stack.items }
+    requires more { machine.old.replied < 1000000 }
+    ensures ok { (r : Result (List ℕ) faults.Fault) → AnswersOrMemory r value → IfOk result (λ step. Takes (λ next. told.given r (with_value machine.old pc count next)) machine.old step machine.new) }
+    ensures err { OnErr result (Stays machine.old machine.new) }
+{
+    machine.replied += 1;
+    match put_value(pc, count, value, machine) {
+        Ok(()) => Ok(Step::Took),
+        Err(error) => {
+            machine.replied -= 1;
+            Err(error)
+        }
     }
 }
 
@@ -59,11 +82,12 @@ pub fn apply_unary(
 ) -> Result<Step, AllocError>
     requires next { pc + 1 < 2 ^ 64 }
     requires enough { 1 ≤ length machine.old.stack.items }
-    ensures ok { IfOk result (λ step. (reply : Option replies.Reply) → Does (λ next. told.given (unary_value op (top (stack_of machine.old))) (λ v. next (context_of machine.old) (pc + 1) (v ∷ drop 1 (stack_of machine.old)))) machine.old reply step machine.new) }
-    ensures err { OnErr result ((reply : Option replies.Reply) → standing machine.new reply ≡ standing machine.old reply) }
+    ensures ok { IfOk result (λ step. ObeysAlone (instrs.Unary op) pc machine.old step machine.new) }
+    ensures err { OnErr result (Stays machine.old machine.new) }
 {
     let value = unary(alloc, op, stack::top(&machine.stack));
-    put_value(pc, 1, value, machine)
+    put_value(pc, 1, value, machine)?;
+    Ok(Step::Next)
 }
 
 /// An operator between its operands.
@@ -76,8 +100,8 @@ pub fn apply_binary(
 ) -> Result<Step, AllocError>
     requires next { pc + 1 < 2 ^ 64 }
     requires enough { 2 ≤ length machine.old.stack.items }
-    ensures ok { IfOk result (λ step. (reply : Option replies.Reply) → Does (λ next. told.given (binary_value op (top (below (stack_of machine.old))) (top (stack_of machine.old))) (λ v. next (context_of machine.old) (pc + 1) (v ∷ drop 2 (stack_of machine.old)))) machine.old reply step machine.new) }
-    ensures err { OnErr result ((reply : Option replies.Reply) → standing machine.new reply ≡ standing machine.old reply) }
+    ensures ok { IfOk result (λ step. ObeysAlone (instrs.Binary op) pc machine.old step machine.new) }
+    ensures err { OnErr result (Stays machine.old machine.new) }
 {
     let number = of_numbers(
         op,
@@ -99,8 +123,8 @@ pub fn apply_binary(
 fn apply_texts(alloc: Global, pc: usize, op: Op, machine: &mut Machine) -> Result<Step, AllocError>
     requires next { pc + 1 < 2 ^ 64 }
     requires enough { 2 ≤ length machine.old.stack.items }
-    ensures ok { IfOk result (λ step. (reply : Option replies.Reply) → Does (λ next. told.given (binary_value op (top (below (stack_of machine.old))) (top (stack_of machine.old))) (λ v. next (context_of machine.old) (pc + 1) (v ∷ drop 2 (stack_of machine.old)))) machine.old reply step machine.new) }
-    ensures err { OnErr result ((reply : Option replies.Reply) → standing machine.new reply ≡ standing machine.old reply) }
+    ensures ok { IfOk result (λ step. ObeysAlone (instrs.Binary op) pc machine.old step machine.new) }
+    ensures err { OnErr result (Stays machine.old machine.new) }
 {
     let value = binary(
         alloc,
@@ -108,7 +132,8 @@ fn apply_texts(alloc: Global, pc: usize, op: Op, machine: &mut Machine) -> Resul
         stack::second(&machine.stack),
         stack::top(&machine.stack),
     );
-    put_value(pc, 2, value, machine)
+    put_value(pc, 2, value, machine)?;
+    Ok(Step::Next)
 }
 
 /// A function of the topmost `count` operands.
@@ -122,11 +147,12 @@ pub fn call(
 ) -> Result<Step, AllocError>
     requires next { pc + 1 < 2 ^ 64 }
     requires enough { count ≤ length machine.old.stack.items }
-    ensures ok { IfOk result (λ step. (reply : Option replies.Reply) → Does (λ next. told.given (call_value function (operands count (stack_of machine.old))) (λ v. next (context_of machine.old) (pc + 1) (v ∷ drop count (stack_of machine.old)))) machine.old reply step machine.new) }
-    ensures err { OnErr result ((reply : Option replies.Reply) → standing machine.new reply ≡ standing machine.old reply) }
+    ensures ok { IfOk result (λ step. ObeysAlone (instrs.Call function count) pc machine.old step machine.new) }
+    ensures err { OnErr result (Stays machine.old machine.new) }
 {
     let value = value_of(alloc, function, stack::topmost(&machine.stack, count));
-    put_value(pc, count, value, machine)
+    put_value(pc, count, value, machine)?;
+    Ok(Step::Next)
 }
 
 /// A postcondition.
@@ -134,8 +160,8 @@ pub fn call(
 pub fn test(pc: usize, target: usize, machine: &mut Machine) -> Result<Step, AllocError>
     requires next { pc + 1 < 2 ^ 64 }
     requires enough { 1 ≤ length machine.old.stack.items }
-    ensures ok { IfOk result (λ step. (reply : Option replies.Reply) → Does (λ next. told.given (truth_value (top (stack_of machine.old))) (λ b. if b then next (context_of machine.old) (pc + 1) (drop 1 (stack_of machine.old)) else next (context_of machine.old) target (drop 1 (stack_of machine.old)))) machine.old reply step machine.new) }
-    ensures err { OnErr result ((reply : Option replies.Reply) → standing machine.new reply ≡ standing machine.old reply) }
+    ensures ok { IfOk result (λ step. ObeysAlone (instrs.Unless target) pc machine.old step machine.new) }
+    ensures err { OnErr result (Stays machine.old machine.new) }
 {
     match truth(stack::top(&machine.stack)) {
         Ok(holds) => {
@@ -158,8 +184,8 @@ pub fn write(
 ) -> Result<Step, AllocError>
     requires next { pc + 1 < 2 ^ 64 }
     requires enough { 1 ≤ length machine.old.stack.items }
-    ensures ok { IfOk result (λ step. Does (λ next. commands.write (top (stack_of machine.old)) (next (context_of machine.old) (pc + 1) (drop 1 (stack_of machine.old)))) machine.old (replied given.entry) step machine.new) }
-    ensures err { OnErr result ((reply : Option replies.Reply) → standing machine.new reply ≡ standing machine.old reply) }
+    ensures ok { IfOk result (λ step. Obeys instrs.Write pc machine.old (replied given.entry) step machine.new) }
+    ensures err { OnErr result (Stays machine.old machine.new) }
 {
     let text = stack::top(&machine.stack).try_clone()?;
     put_out(alloc, pc, 1, text, machine, given)

@@ -1,27 +1,28 @@
 // Reading variables, and their names.
 
-ghost use Rattle.std.specs.Prelude.{◌≡◌, ◌+◌, ◌<◌, ◌^◌, ◌∷◌, drop, Option, true, false, Ok, Err, IsTrue, IfOk, IfErr, OnErr, ◌≤◌, length};
-ghost use Rattle.mj_ask.specs.declared.ask.Reply as replies;
+ghost use Rattle.std.specs.Prelude.{◌≡◌, ◌+◌, ◌<◌, ◌^◌, true, false, IsTrue, IfOk, OnErr, ◌≤◌, length};
 ghost use Rattle.mj_ast.specs.declared.expr.Scope.TheVariants as scopes;
 ghost use Rattle.mj_semantics.specs.State.{plain_name};
-ghost use Rattle.mj_semantics.specs.Outcome as told;
 ghost use Rattle.mj_semantics.specs.Evaluation as evaluation;
 ghost use Rattle.mj_semantics.specs.Accesses.{answer_told};
+ghost use Rattle.mj_strfn.specs.Functions.{AnswersOrMemory};
 ghost use Rattle.mj_machine.specs.Answers as answers;
-ghost use Rattle.mj_pcode.specs.Machine.{operands};
-ghost use Rattle.mj_machine.specs.Kept.{standing, stack_of, context_of, Does, replied};
+ghost use Rattle.mj_pcode.specs.declared.instr.Instr.TheVariants as instrs;
+ghost use Rattle.mj_machine.specs.Kept.{Does, DoesAlone, Obeys, ObeysAlone, Stays, with_value, replied};
 
+use crate::asking::wait;
 use crate::control::Control;
 use crate::machine::{Machine, STEPS_LIMIT, Step};
 use crate::names::name_of;
 use crate::quiet::fail;
 use crate::stack;
+use crate::values::put_told;
 use mj_ask::{Ask, Reply};
 use mj_ast::Scope;
 use mj_pcode::Reference;
 use mj_store::{Access, Answer};
 use mj_subs::Name;
-use mj_text::{Fault, Text};
+use mj_text::{Failure, Fault, Text};
 use std::alloc::{AllocError, Global};
 
 /// The value of a variable is put in the place of its subscripts.
@@ -35,8 +36,8 @@ pub fn load(
 ) -> Result<Step, AllocError>
     requires next { pc + 1 < 2 ^ 64 }
     requires enough { reference.now.count ≤ length machine.old.stack.items }
-    ensures ok { IfOk result (λ step. Does (λ next. told.given (evaluation.name_of reference.now.scope reference.now.word (operands reference.now.count (stack_of machine.old))) (λ x. evaluation.read x (λ v. next (context_of machine.old) (pc + 1) (v ∷ drop reference.now.count (stack_of machine.old))))) machine.old (replied given.entry) step machine.new) }
-    ensures err { OnErr result ((reply : Option replies.Reply) → standing machine.new reply ≡ standing machine.old reply) }
+    ensures ok { IfOk result (λ step. Obeys (instrs.Load reference.now) pc machine.old (replied given.entry) step machine.new) }
+    ensures err { OnErr result (Stays machine.old machine.new) }
 {
     if is_plain_local(reference) {
         return read_word(pc, &reference.word, machine);
@@ -58,8 +59,8 @@ pub(crate) fn is_plain_local(reference: &Reference) -> bool
 // The value of a local without subscripts is put on the stack.
 fn read_word(pc: usize, word: &Text, machine: &mut Machine) -> Result<Step, AllocError>
     requires { pc + 1 < 2 ^ 64 }
-    ensures ok { IfOk result (λ step. (reply : Option replies.Reply) → Does (λ next. evaluation.read (plain_name word.now) (λ v. next (context_of machine.old) (pc + 1) (v ∷ drop 0 (stack_of machine.old)))) machine.old reply step machine.new) }
-    ensures err { OnErr result ((reply : Option replies.Reply) → standing machine.new reply ≡ standing machine.old reply) }
+    ensures ok { IfOk result (λ step. DoesAlone (λ next. evaluation.read (plain_name word.now) (with_value machine.old pc 0 next)) machine.old step machine.new) }
+    ensures err { OnErr result (Stays machine.old machine.new) }
 {
     match machine.locals.value_of_word(word) {
         Some(value) => {
@@ -83,8 +84,8 @@ fn load_named(
 ) -> Result<Step, AllocError>
     requires next { pc + 1 < 2 ^ 64 }
     requires enough { reference.now.count ≤ length machine.old.stack.items }
-    ensures ok { IfOk result (λ step. Does (λ next. told.given (evaluation.name_of reference.now.scope reference.now.word (operands reference.now.count (stack_of machine.old))) (λ x. evaluation.read x (λ v. next (context_of machine.old) (pc + 1) (v ∷ drop reference.now.count (stack_of machine.old))))) machine.old (replied given.entry) step machine.new) }
-    ensures err { OnErr result ((reply : Option replies.Reply) → standing machine.new reply ≡ standing machine.old reply) }
+    ensures ok { IfOk result (λ step. Obeys (instrs.Load reference.now) pc machine.old (replied given.entry) step machine.new) }
+    ensures err { OnErr result (Stays machine.old machine.new) }
 {
     let name = match name_of(
         alloc,
@@ -109,8 +110,8 @@ fn read_local(
     requires next { pc + 1 < 2 ^ 64 }
     requires local { name.now.global ≡ false }
     requires enough { count ≤ length machine.old.stack.items }
-    ensures ok { IfOk result (λ step. (reply : Option replies.Reply) → Does (λ next. evaluation.read name.now (λ v. next (context_of machine.old) (pc + 1) (v ∷ drop count (stack_of machine.old)))) machine.old reply step machine.new) }
-    ensures err { OnErr result ((reply : Option replies.Reply) → standing machine.new reply ≡ standing machine.old reply) }
+    ensures ok { IfOk result (λ step. DoesAlone (λ next. evaluation.read name.now (with_value machine.old pc count next)) machine.old step machine.new) }
+    ensures err { OnErr result (Stays machine.old machine.new) }
 {
     match machine.locals.value(name) {
         Some(value) => {
@@ -135,40 +136,26 @@ fn read_global(
     requires next { pc + 1 < 2 ^ 64 }
     requires global { name.global ≡ true }
     requires enough { count ≤ length machine.old.stack.items }
-    ensures ok { IfOk result (λ step. Does (λ next. evaluation.read name (λ v. next (context_of machine.old) (pc + 1) (v ∷ drop count (stack_of machine.old)))) machine.old (replied given.entry) step machine.new) }
-    ensures err { OnErr result ((reply : Option replies.Reply) → standing machine.new reply ≡ standing machine.old reply) }
+    ensures ok { IfOk result (λ step. Does (λ next. evaluation.read name (with_value machine.old pc count next)) machine.old (replied given.entry) step machine.new) }
+    ensures err { OnErr result (Stays machine.old machine.new) }
 {
     if machine.replied >= STEPS_LIMIT {
         return Ok(fail(Fault::Steps, machine));
     }
-    let Some(reply) = given else {
-        return Ok(Step::Asks(Box::new(alloc, Ask::Access(Access::Value(name)))?));
-    };
-    match value_read(reply) {
-        Ok(value) => {
-            let value = value.try_clone()?;
-            stack::replace(&mut machine.stack, count, value)?;
-            machine.replied += 1;
-            machine.control = Control::At(pc + 1);
-            Ok(Step::Took)
-        }
-        Err(fault) => {
-            machine.replied += 1;
-            machine.control = Control::Faulted(fault);
-            Ok(Step::Took)
-        }
+    match given {
+        None => wait(alloc, Ask::Access(Access::Value(name))),
+        Some(reply) => put_told(pc, count, value_read(reply), machine),
     }
 }
 
 // The value that a reply brings to who reads.
-fn value_read(reply: &Reply) -> Result<&Text, Fault>
-    ensures ok { IfOk result (λ value. answers.value_read (answer_told reply.now) ≡ Ok value.now) }
-    ensures err { IfErr result (λ fault. answers.value_read (answer_told reply.now) ≡ Err fault) }
+fn value_read(reply: &Reply) -> Result<Text, Failure>
+    ensures { AnswersOrMemory (answers.value_read (answer_told reply.now)) result }
 {
     match reply {
-        Reply::Answer(Answer::Value(Some(value))) => Ok(value),
-        Reply::Answer(Answer::Limit) => Err(Fault::Limit),
-        _ => Err(Fault::Undefined),
+        Reply::Answer(Answer::Value(Some(value))) => Ok(value.try_clone()?),
+        Reply::Answer(Answer::Limit) => Err(Failure::Fault(Fault::Limit)),
+        _ => Err(Failure::Fault(Fault::Undefined)),
     }
 }
 
@@ -182,8 +169,8 @@ pub fn check(
 ) -> Result<Step, AllocError>
     requires next { pc + 1 < 2 ^ 64 }
     requires enough { reference.now.count ≤ length machine.old.stack.items }
-    ensures ok { IfOk result (λ step. (reply : Option replies.Reply) → Does (λ next. told.given (evaluation.name_of reference.now.scope reference.now.word (operands reference.now.count (stack_of machine.old))) (λ x. next (context_of machine.old) (pc + 1) (stack_of machine.old))) machine.old reply step machine.new) }
-    ensures err { OnErr result ((reply : Option replies.Reply) → standing machine.new reply ≡ standing machine.old reply) }
+    ensures ok { IfOk result (λ step. ObeysAlone (instrs.Check reference.now) pc machine.old step machine.new) }
+    ensures err { OnErr result (Stays machine.old machine.new) }
 {
     if is_plain_local(reference) {
         machine.control = Control::At(pc + 1);

@@ -1,3 +1,6 @@
+pub mod Starts
+pub mod Turns
+pub mod Leaves
 pub mod Faults
 pub mod Loops
 pub mod Enters

@@ -1,19 +1,17 @@
 // The turns before a job's first instruction and after its last.
 
-ghost use Rattle.std.specs.Prelude.{◌≡◌, Option, Some, None, IfOk, OnErr};
-ghost use Rattle.mj_ask.specs.declared.ask.Reply.{Reply};
-ghost use Rattle.mj_ask.specs.declared.ask.Ask.TheVariants as asks;
-ghost use Rattle.mj_semantics.specs.Outcome as told;
-ghost use Rattle.mj_machine.specs.Kept.{standing, Does, replied};
+ghost use Rattle.std.specs.Prelude.{IfOk, OnErr};
+ghost use Rattle.mj_machine.specs.Kept.{Does, Stays, replied};
+ghost use Rattle.mj_turn.specs.Faults.{telling, closing, halting};
 
 use crate::fault::fault_text;
 use mj_ask::{Ask, Reply};
-use mj_machine::asking::principal;
+use mj_machine::asking::{principal, wait};
 use mj_machine::{Control, Machine, Step};
 use mj_text::Fault;
 use std::alloc::{AllocError, Global};
 
-/// A fault is told of.
+/// A fault is told of, but not to a principal device that failed. Whether its line is written changes nothing.
 #[inline(never)]
 pub fn tell_fault(
     alloc: Global,
@@ -21,15 +19,23 @@ pub fn tell_fault(
     machine: &mut Machine,
     given: Option<&Reply>,
 ) -> Result<Step, AllocError>
-    ensures ok { IfOk result (λ step. Does (λ next. told.look (λ s. told.asking (asks.DeviceWrite told.principal (told.fault_bytes fault s)) (λ r. told.end (Some fault)))) machine.old (replied given.entry) step machine.new) }
-    ensures err { OnErr result ((reply : Option Reply) → standing machine.new reply ≡ standing machine.old reply) }
+    ensures ok { IfOk result (λ step. Does (λ next. telling fault) machine.old (replied given.entry) step machine.new) }
+    ensures err { OnErr result (Stays machine.old machine.new) }
 {
-    if let Some(_) = given {
+    if machine.failed {
         machine.control = Control::Closing(Some(fault));
-        return Ok(Step::Took);
+        return Ok(Step::Next);
     }
-    let line = fault_text(alloc, fault, machine)?;
-    Ok(Step::Asks(Box::new(alloc, Ask::DeviceWrite(principal(alloc), line))?))
+    match given {
+        None => {
+            let line = fault_text(alloc, fault, machine)?;
+            wait(alloc, Ask::DeviceWrite(principal(alloc), line))
+        }
+        Some(_) => {
+            machine.control = Control::Closing(Some(fault));
+            Ok(Step::Took)
+        }
+    }
 }
 
 /// The principal session ends.
@@ -40,14 +46,16 @@ pub fn close(
     machine: &mut Machine,
     given: Option<&Reply>,
 ) -> Result<Step, AllocError>
-    ensures ok { IfOk result (λ step. Does (λ next. told.asking (asks.DeviceEnd told.principal) (λ r. told.halt fault)) machine.old (replied given.entry) step machine.new) }
-    ensures err { OnErr result ((reply : Option Reply) → standing machine.new reply ≡ standing machine.old reply) }
+    ensures ok { IfOk result (λ step. Does (λ next. closing fault) machine.old (replied given.entry) step machine.new) }
+    ensures err { OnErr result (Stays machine.old machine.new) }
 {
-    if let Some(_) = given {
-        machine.control = Control::Halting(fault);
-        return Ok(Step::Took);
+    match given {
+        None => wait(alloc, Ask::DeviceEnd(principal(alloc))),
+        Some(_) => {
+            machine.control = Control::Halting(fault);
+            Ok(Step::Took)
+        }
     }
-    Ok(Step::Asks(Box::new(alloc, Ask::DeviceEnd(principal(alloc)))?))
 }
 
 /// The job ends.
@@ -58,12 +66,14 @@ pub fn finish(
     machine: &mut Machine,
     given: Option<&Reply>,
 ) -> Result<Step, AllocError>
-    ensures ok { IfOk result (λ step. Does (λ next. told.asking (asks.Halt fault) (λ r. told.over)) machine.old (replied given.entry) step machine.new) }
-    ensures err { OnErr result ((reply : Option Reply) → standing machine.new reply ≡ standing machine.old reply) }
+    ensures ok { IfOk result (λ step. Does (λ next. halting fault) machine.old (replied given.entry) step machine.new) }
+    ensures err { OnErr result (Stays machine.old machine.new) }
 {
-    if let Some(_) = given {
-        machine.control = Control::Over;
-        return Ok(Step::Took);
+    match given {
+        None => wait(alloc, Ask::Halt(fault)),
+        Some(_) => {
+            machine.control = Control::Over;
+            Ok(Step::Took)
+        }
     }
-    Ok(Step::Asks(Box::new(alloc, Ask::Halt(fault))?))
 }

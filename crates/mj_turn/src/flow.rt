@@ -1,13 +1,9 @@
 // IF, ELSE, and the lines of a frame.
 
-ghost use Rattle.std.specs.Prelude.{◌≡◌, ◌+◌, ◌<◌, ◌^◌, drop, length, Option, IfOk, OnErr, if◌then◌else◌, ◌≤◌};
-ghost use Rattle.mj_ask.specs.declared.ask.Reply.{Reply};
-ghost use Rattle.mj_oper.specs.Operators.{truth_value};
-ghost use Rattle.mj_semantics.specs.State as states;
-ghost use Rattle.mj_semantics.specs.Outcome as told;
-ghost use Rattle.mj_semantics.specs.Commands as commands;
-ghost use Rattle.mj_pcode.specs.Machine as machines;
-ghost use Rattle.mj_machine.specs.Kept.{standing, stack_of, context_of, Does};
+ghost use Rattle.std.specs.Prelude.{◌+◌, ◌<◌, ◌^◌, ◌≤◌, ℕ, List, length, Some, None, IfOk, OnErr, if◌then◌else◌};
+ghost use Rattle.mj_pcode.specs.declared.instr.Instr.TheVariants as instrs;
+ghost use Rattle.mj_pcode.specs.declared.instr.Unit as pcode_units;
+ghost use Rattle.mj_machine.specs.Kept.{ActsAlone, ObeysAlone, Stays};
 ghost use Rattle.mj_turn.specs.Units.{IsSmall};
 
 use crate::calling::take_tally;
@@ -24,8 +20,8 @@ use std::alloc::AllocError;
 pub fn decide(pc: usize, target: usize, machine: &mut Machine) -> Result<Step, AllocError>
     requires next { pc + 1 < 2 ^ 64 }
     requires enough { 1 ≤ length machine.old.stack.items }
-    ensures ok { IfOk result (λ step. (reply : Option Reply) → Does (λ next. told.given (truth_value (machines.top (stack_of machine.old))) (λ b. told.change (states.set_test b) (if b then next (context_of machine.old) (pc + 1) (drop 1 (stack_of machine.old)) else next (context_of machine.old) target (drop 1 (stack_of machine.old))))) machine.old reply step machine.new) }
-    ensures err { OnErr result ((reply : Option Reply) → standing machine.new reply ≡ standing machine.old reply) }
+    ensures ok { IfOk result (λ step. ObeysAlone (instrs.Decide target) pc machine.old step machine.new) }
+    ensures err { OnErr result (Stays machine.old machine.new) }
 {
     match truth(stack::top(&machine.stack)) {
         Ok(holds) => {
@@ -42,7 +38,7 @@ pub fn decide(pc: usize, target: usize, machine: &mut Machine) -> Result<Step, A
 /// The job goes on behind this instruction where `$TEST` is so, and else at another.
 pub fn branch(pc: usize, wanted: bool, target: usize, machine: &mut Machine) -> Step
     requires { pc + 1 < 2 ^ 64 }
-    ensures { (reply : Option Reply) → Does (λ next. commands.if_test wanted (next (context_of machine.old) target (stack_of machine.old)) (next (context_of machine.old) (pc + 1) (stack_of machine.old))) machine.old reply result machine.new }
+    ensures { ObeysAlone (if wanted then instrs.If target else instrs.Else target) pc machine.old result machine.new }
 {
     machine.control = Control::At(if machine.test == wanted {
         pc + 1
@@ -63,8 +59,8 @@ pub fn enter_line(
 ) -> Result<Step, AllocError>
     requires next { pc + 1 < 2 ^ 64 }
     requires small { IsSmall unit.now }
-    ensures ok { IfOk result (λ step. (reply : Option Reply) → Does (λ next. machines.comes_to unit.now line next (context_of machine.old) pc (stack_of machine.old)) machine.old reply step machine.new) }
-    ensures err { OnErr result ((reply : Option Reply) → standing machine.new reply ≡ standing machine.old reply) }
+    ensures ok { IfOk result (λ step. (all : List pcode_units.Unit) → ActsAlone all unit.now (Some (instrs.Line line)) pc machine.old step machine.new) }
+    ensures err { OnErr result (Stays machine.old machine.new) }
 {
     if !machine.stack.is_empty() {
         return Ok(take_tally(pc, machine));
@@ -86,8 +82,8 @@ pub fn enter_line(
 #[inline(never)]
 pub fn end_unit(unit: &Unit, machine: &mut Machine) -> Result<Step, AllocError>
     requires { IsSmall unit.now }
-    ensures ok { IfOk result (λ step. (reply : Option Reply) → Does (λ next. told.change (states.at_place (machines.place_in unit.now (length unit.now.heads.items))) (machines.returns next (context_of machine.old).calls)) machine.old reply step machine.new) }
-    ensures err { OnErr result ((reply : Option Reply) → standing machine.new reply ≡ standing machine.old reply) }
+    ensures ok { IfOk result (λ step. (all : List pcode_units.Unit) (pc : ℕ) → ActsAlone all unit.now None pc machine.old step machine.new) }
+    ensures err { OnErr result (Stays machine.old machine.new) }
 {
     leave(unit, unit.heads.len() as u32, machine)
 }

@@ -16,6 +16,8 @@ mod flow;
 mod leaving;
 mod news;
 mod repeat;
+mod start;
 mod turn;
 
+pub use start::Start;
 pub use turn::make_turn;

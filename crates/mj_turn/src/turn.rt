@@ -2,9 +2,8 @@
 
 ghost use Rattle.std.specs.Prelude.{◌≡◌, ◌+◌, ◌<◌, ◌^◌, Option, Some, None, IfOk, OnErr, length};
 ghost use Rattle.mj_ask.specs.declared.ask.Reply as replies;
-ghost use Rattle.mj_pcode.specs.Machine.{act};
-ghost use Rattle.mj_machine.specs.Standing as standings;
-ghost use Rattle.mj_machine.specs.Kept.{standing, stack_of, context_of, Does, replied, told, left_of};
+ghost use Rattle.mj_machine.specs.Kept.{standing, stack_of, context_of, Acts, Stays, replied};
+ghost use Rattle.mj_turn.specs.Turns.{Turns};
 ghost use Rattle.mj_pcode.specs.Checked.{footing};
 ghost use Rattle.mj_pcode.specs.Sound.{AreChecked};
 ghost use Rattle.mj_turn.specs.Sound.{IsReady, IsSound};
@@ -17,7 +16,8 @@ use crate::flow::{branch, decide, end_unit, enter_line};
 use crate::leaving::quit;
 use crate::news::{new_except, new_words};
 use crate::repeat;
-use mj_ask::{Entry, Reply};
+use crate::start::Start;
+use mj_ask::Reply;
 use mj_machine::about::{about, named};
 use mj_machine::changes::{kill, store};
 use mj_machine::format::write_marks;
@@ -45,8 +45,8 @@ pub fn obey(
     requires small { IsSmall unit.now }
     requires all { AreSmall units.now }
     requires enough { IsReady instr.now (footing (length (stack_of machine.old)) (length (context_of machine.old).loops)) }
-    ensures ok { IfOk result (λ step. Does (λ next. act units.now unit.now (Some instr.now) next (context_of machine.old) pc (stack_of machine.old)) machine.old (replied given.entry) step machine.new) }
-    ensures err { OnErr result ((reply : Option replies.Reply) → standing machine.new reply ≡ standing machine.old reply) }
+    ensures ok { IfOk result (λ step. Acts units.now unit.now (Some instr.now) pc machine.old (replied given.entry) step machine.new) }
+    ensures err { OnErr result (Stays machine.old machine.new) }
 {
     match instr {
         Instr::Line(line) => enter_line(unit, pc, *line, machine),
@@ -96,24 +96,24 @@ pub fn obey(
     }
 }
 
-/// A turn of a job that runs these units and starts at this entry. With want of memory the machine stands where it stood. It leads only to
+/// A turn of a job that runs these units and starts so. With want of memory the machine stands where it stood. It leads only to
 /// where no operand and no FOR is missing.
 pub fn make_turn(
     alloc: Global,
     units: &[Unit],
-    entry: &Entry,
+    start: &Start,
     machine: &mut Machine,
     given: Option<&Reply>,
 ) -> Result<Step, AllocError>
     requires small { AreSmall units.now }
     requires checked { AreChecked units.now }
     requires sound { IsSound units.now (standing machine.old None) }
-    ensures ok { IfOk result (λ step. standings.Steps (record { units = units.now; entry = entry.now }) (standing machine.old (replied given.entry)) (told step) (standing machine.new (left_of step (replied given.entry)))) }
-    ensures err { OnErr result ((reply : Option replies.Reply) → standing machine.new reply ≡ standing machine.old reply) }
+    ensures ok { IfOk result (λ step. Turns units.now start.now machine.old (replied given.entry) step machine.new) }
+    ensures err { OnErr result (Stays machine.old machine.new) }
     ensures sound { IsSound units.now (standing machine.new None) }
 {
     match machine.control {
-        Control::Begin => begin(alloc, units, entry, machine, given),
+        Control::Begin => begin(alloc, units, start, machine, given),
         Control::At(pc) => match units.get(machine.unit) {
             None => unreachable!(),
             Some(unit) => match unit.instrs.get(pc) {

@@ -8,7 +8,7 @@ use Rattle.mj_machine.proofs.Asks.{does_as, given_is}
 use Rattle.mj_machine.proofs.about.named.Goals as goal
 
 pub returns-in-Err-clause-ok : goal.returns-in-Err-clause-ok
-returns-in-Err-clause-ok c = λ reply.
+returns-in-Err-clause-ok c = λ reply all u.
     let old = c.args.machine.now in
     let f = c.args.function in
     let r = c.args.reference.now in
@@ -17,5 +17,5 @@ returns-in-Err-clause-ok c = λ reply.
     sym (c.in_ok-fault.ensures ∙ ap (named_for f r.scope r.word) under) ∙ c.in-Err.is in
     does_as (λ next. given (named_for f r.scope r.word (operands r.count (stack_of old))) (λ x. next (context_of old) (c.args.pc + 1) (stack_of old))) (λ next. fault c.in-Err.fault)
     old reply c.fail.result c.fail.new.machine
-    (λ next n replies. given_is (named_for f r.scope r.word (operands r.count (stack_of old))) (Err c.in-Err.fault) (λ x. next (context_of old) (c.args.pc + 1) (stack_of old)) n (state_of old) replies is)
+    (λ next n back replies. given_is (named_for f r.scope r.word (operands r.count (stack_of old))) (Err c.in-Err.fault) (λ x. next (context_of old) (c.args.pc + 1) (stack_of old)) n back (state_of old) replies is)
     (c.fail.ensures reply)

@@ -11,14 +11,14 @@ use Rattle.mj_machine.proofs.Asks.{does_as, given_is}
 use Rattle.mj_machine.proofs.changes.kill.Goals as goal
 
 pub returns-in-Err-clause-ok : goal.returns-in-Err-clause-ok
-returns-in-Err-clause-ok c =
+returns-in-Err-clause-ok c = λ all u.
     let old = c.args.machine.now in
     let r = c.args.reference.now in
     let rest : Next → Name → Timed = λ next x. remove x (next (context_of old) (c.args.pc + 1) (drop r.count (stack_of old))) in
     let is : name_of r.scope r.word (operands r.count (stack_of old)) ≡ Err c.in-Err.fault = sym c.in_ok-name.ensures ∙ c.in-Err.is in
     does_as (λ next. given (name_of r.scope r.word (operands r.count (stack_of old))) (rest next)) (λ next. fault c.in-Err.fault)
     old (replied c.args.given) c.fail.result c.fail.new.machine
-    (λ next n replies. given_is (name_of r.scope r.word (operands r.count (stack_of old))) (Err c.in-Err.fault) (rest next) n (state_of old) replies is)
+    (λ next n back replies. given_is (name_of r.scope r.word (operands r.count (stack_of old))) (Err c.in-Err.fault) (rest next) n back (state_of old) replies is)
     (c.fail.ensures (replied c.args.given))
 
 pub returns-clause-ok : goal.returns-clause-ok
@@ -28,7 +28,7 @@ returns-clause-ok c =
     let rest : Next → Name → Timed = λ next x. remove x (next (context_of old) (c.args.pc + 1) (drop r.count (stack_of old))) in
     let is : name_of r.scope r.word (operands r.count (stack_of old)) ≡ Ok c.in-Ok.name = sym c.in_ok-name.ensures ∙ c.in-Ok.is in
     IfOk-weaker c.change.result _ _
-    (λ step d. does_as (λ next. given (name_of r.scope r.word (operands r.count (stack_of old))) (rest next)) (λ next. rest next c.in-Ok.name)
+    (λ step d all u. does_as (λ next. given (name_of r.scope r.word (operands r.count (stack_of old))) (rest next)) (λ next. rest next c.in-Ok.name)
     old (replied c.args.given) step _
-    (λ next n replies. given_is (name_of r.scope r.word (operands r.count (stack_of old))) (Ok c.in-Ok.name) (rest next) n (state_of old) replies is) d)
+    (λ next n back replies. given_is (name_of r.scope r.word (operands r.count (stack_of old))) (Ok c.in-Ok.name) (rest next) n back (state_of old) replies is) d)
     c.change.ensures.ok

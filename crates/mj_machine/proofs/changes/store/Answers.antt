@@ -24,8 +24,8 @@ returns-then-is_plain_local-clause-ok c =
     let is : name_of r.scope r.word (operands r.count (drop depth.above (stack_of old))) ≡ Ok x =
     ap (λ (s : Scope). name_of s r.word (operands r.count (drop depth.above (stack_of old)))) plain.0 ∙ ap (λ (k : ℕ). name_of scopes.Local r.word (operands k (drop depth.above (stack_of old)))) plain.1 in
     IfOk-weaker c.store_word.result _ _
-    (λ step d. does_as (λ next. given (name_of r.scope r.word (operands r.count (drop depth.above (stack_of old)))) (rest next)) (λ next. rest next x)
+    (λ step d all u. does_as (λ next. given (name_of r.scope r.word (operands r.count (drop depth.above (stack_of old)))) (rest next)) (λ next. rest next x)
     old (replied c.args.given) step _
-    (λ next n replies. given_is (name_of r.scope r.word (operands r.count (drop depth.above (stack_of old)))) (Ok x) (rest next) n (state_of old) replies is)
+    (λ next n back replies. given_is (name_of r.scope r.word (operands r.count (drop depth.above (stack_of old)))) (Ok x) (rest next) n back (state_of old) replies is)
     (d (replied c.args.given)))
     c.store_word.ensures.ok

@@ -1,5 +1,5 @@
-use Rattle.std.proofs.Common.{◌≡◌, ◌+◌, ◌-◌, ◌<◌, ◌∙◌, ap, take, length, arith}
-use Rattle.mj_machine.proofs.Operands.{replaced}
+use Rattle.std.proofs.Common.{◌≡◌, ◌+◌, ◌-◌, ◌<◌, ◌∙◌, ap, sym, ◌∷◌, reverse, take, length, arith}
+use Rattle.mj_machine.proofs.Operands.{replaced, below_twice}
 use Rattle.mj_machine.proofs.stack.fold.Goals as goal
 
 pub returns : goal.returns
@@ -10,3 +10,4 @@ returns c =
     let k : c.args.stack.now.len - 1 ≡ c.len-kept.result - 2 + 1 = omega (arith, c.requires, n, c.args.stack.now.ok.0) in
     replaced c.args.stack.now.items c.pop-right.new.self.items 2 (c.len-kept.result - 2) c.args.value e some
     (c.pop-right.ensures.rest ∙ ap (λ m. take m c.args.stack.now.items) k)
+    ∙ ap (λ l. c.args.value ∷ l) (sym (below_twice (reverse c.args.stack.now.items)))

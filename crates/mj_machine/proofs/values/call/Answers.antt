@@ -6,7 +6,7 @@ use Rattle.mj_machine.specs.Kept.{stack_of}
 use Rattle.mj_machine.proofs.values.call.Goals as goal
 
 pub returns-clause-ok : goal.returns-clause-ok
-returns-clause-ok c =
+returns-clause-ok c = λ reply all u.
     let t : c.topmost.result.now ≡ operands c.args.count (stack_of c.args.machine.now) = c.topmost.ensures ∙ ap (λ l. operands c.args.count (reverse l)) c.deref.ensures.value in
     let P : List (List ℕ) → Type 0 = λ x. AnswersOrMemory (call_value c.args.function x) c.value_of-value.result in
-    c.put_value.ensures.ok (call_value c.args.function (operands c.args.count (stack_of c.args.machine.now))) (subst P t c.value_of-value.ensures)
+    c.in_ok-put_value.ensures.ok (call_value c.args.function (operands c.args.count (stack_of c.args.machine.now))) (subst P t c.value_of-value.ensures) reply

@@ -1,4 +1,4 @@
-use Rattle.std.proofs.Common.{◌≡◌, ℕ, ◌+◌, sym, ap, ◌∙◌, reverse}
+use Rattle.std.proofs.Common.{◌≡◌, ℕ, ◌+◌, sym, ap, ◌∙◌, reverse, None}
 use Rattle.std.specs.Prelude.{Ok, Err}
 use Rattle.mj_ast.specs.declared.expr.Scope.{Scope}
 use Rattle.mj_ast.specs.declared.expr.Scope.TheVariants as scopes
@@ -12,7 +12,7 @@ use Rattle.mj_machine.proofs.Asks.{does_as, given_is}
 use Rattle.mj_machine.proofs.variables.check.Goals as goal
 
 pub returns-in-Err-clause-ok : goal.returns-in-Err-clause-ok
-returns-in-Err-clause-ok c = λ reply.
+returns-in-Err-clause-ok c = λ reply all u.
     let old = c.args.machine.now in
     let r = c.args.reference.now in
     let under = c.topmost.ensures ∙ ap (λ l. operands r.count (reverse l)) c.deref.ensures.value in
@@ -20,14 +20,14 @@ returns-in-Err-clause-ok c = λ reply.
     sym (c.in_ok-fault.ensures ∙ ap (name_of r.scope r.word) under) ∙ c.in-Err.is in
     does_as (λ next. given (name_of r.scope r.word (operands r.count (stack_of old))) (λ x. next (context_of old) (c.args.pc + 1) (stack_of old))) (λ next. fault c.in-Err.fault)
     old reply c.fail.result c.fail.new.machine
-    (λ next n replies. given_is (name_of r.scope r.word (operands r.count (stack_of old))) (Err c.in-Err.fault) (λ x. next (context_of old) (c.args.pc + 1) (stack_of old)) n (state_of old) replies is)
+    (λ next n back replies. given_is (name_of r.scope r.word (operands r.count (stack_of old))) (Err c.in-Err.fault) (λ x. next (context_of old) (c.args.pc + 1) (stack_of old)) n back (state_of old) replies is)
     (c.fail.ensures reply)
 
 pub returns-then-is_plain_local-clause-ok : goal.returns-then-is_plain_local-clause-ok
-returns-then-is_plain_local-clause-ok c = λ reply.
+returns-then-is_plain_local-clause-ok c = λ reply all u.
     let old = c.args.machine.now in
     let r = c.args.reference.now in
     let plain = c.is_plain_local.ensures.plain c.if-is_plain_local.true in
     let is : name_of r.scope r.word (operands r.count (stack_of old)) ≡ Ok (plain_name r.word) =
     ap (λ (s : Scope). name_of s r.word (operands r.count (stack_of old))) plain.0 ∙ ap (λ (k : ℕ). name_of scopes.Local r.word (operands k (stack_of old))) plain.1 in
-    (tt, λ next n replies. given_is (name_of r.scope r.word (operands r.count (stack_of old))) (Ok (plain_name r.word)) (λ x. next (context_of old) (c.args.pc + 1) (stack_of old)) n (state_of old) (given_first reply replies) is)
+    (tt, λ next n handle replies. given_is (name_of r.scope r.word (operands r.count (stack_of old))) (Ok (plain_name r.word)) (λ x. next (context_of old) (c.args.pc + 1) (stack_of old)) n (handle None) (state_of old) (given_first reply replies) is)

@@ -10,7 +10,7 @@ use Rattle.mj_machine.proofs.Asks.{does_as, given_is}
 use Rattle.mj_machine.proofs.variables.load_named.Goals as goal
 
 pub returns-in-Err-clause-ok : goal.returns-in-Err-clause-ok
-returns-in-Err-clause-ok c =
+returns-in-Err-clause-ok c = λ all u.
     let old = c.args.machine.now in
     let r = c.args.reference.now in
     let under = c.topmost.ensures ∙ ap (λ l. operands r.count (reverse l)) c.deref.ensures.value in
@@ -19,7 +19,7 @@ returns-in-Err-clause-ok c =
     sym (c.in_ok-name.ensures ∙ ap (name_of r.scope r.word) under) ∙ c.in-Err.is in
     does_as (λ next. given (name_of r.scope r.word (operands r.count (stack_of old))) (rest next)) (λ next. fault c.in-Err.fault)
     old (replied c.args.given) c.fail.result c.fail.new.machine
-    (λ next n replies. given_is (name_of r.scope r.word (operands r.count (stack_of old))) (Err c.in-Err.fault) (rest next) n (state_of old) replies is)
+    (λ next n back replies. given_is (name_of r.scope r.word (operands r.count (stack_of old))) (Err c.in-Err.fault) (rest next) n back (state_of old) replies is)
     (c.fail.ensures (replied c.args.given))
 
 pub returns-then-is_global-clause-ok : goal.returns-then-is_global-clause-ok
@@ -31,9 +31,9 @@ returns-then-is_global-clause-ok c =
     let is : name_of r.scope r.word (operands r.count (stack_of old)) ≡ Ok c.in-Ok.name =
     sym (c.in_ok-name.ensures ∙ ap (name_of r.scope r.word) under) ∙ c.in-Ok.is in
     IfOk-weaker c.read_global.result _ _
-    (λ step d. does_as (λ next. given (name_of r.scope r.word (operands r.count (stack_of old))) (rest next)) (λ next. rest next c.in-Ok.name)
+    (λ step d all u. does_as (λ next. given (name_of r.scope r.word (operands r.count (stack_of old))) (rest next)) (λ next. rest next c.in-Ok.name)
     old (replied c.args.given) step _
-    (λ next n replies. given_is (name_of r.scope r.word (operands r.count (stack_of old))) (Ok c.in-Ok.name) (rest next) n (state_of old) replies is) d)
+    (λ next n back replies. given_is (name_of r.scope r.word (operands r.count (stack_of old))) (Ok c.in-Ok.name) (rest next) n back (state_of old) replies is) d)
     c.read_global.ensures.ok
 
 pub returns-clause-ok : goal.returns-clause-ok
@@ -45,8 +45,8 @@ returns-clause-ok c =
     let is : name_of r.scope r.word (operands r.count (stack_of old)) ≡ Ok c.in-Ok.name =
     sym (c.in_ok-name.ensures ∙ ap (name_of r.scope r.word) under) ∙ c.in-Ok.is in
     IfOk-weaker c.read_local.result _ _
-    (λ step d. does_as (λ next. given (name_of r.scope r.word (operands r.count (stack_of old))) (rest next)) (λ next. rest next c.in-Ok.name)
+    (λ step d all u. does_as (λ next. given (name_of r.scope r.word (operands r.count (stack_of old))) (rest next)) (λ next. rest next c.in-Ok.name)
     old (replied c.args.given) step _
-    (λ next n replies. given_is (name_of r.scope r.word (operands r.count (stack_of old))) (Ok c.in-Ok.name) (rest next) n (state_of old) replies is)
+    (λ next n back replies. given_is (name_of r.scope r.word (operands r.count (stack_of old))) (Ok c.in-Ok.name) (rest next) n back (state_of old) replies is)
     (d (replied c.args.given)))
     c.read_local.ensures.ok

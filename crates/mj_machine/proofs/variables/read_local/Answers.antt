@@ -14,5 +14,5 @@ returns-in-None-clause-ok c = λ reply.
     let none : value_at old.locals.now c.args.name.now ≡ None = sym c.value.ensures ∙ ap option_copied c.in-None.is in
     does_as (λ next. read c.args.name.now (λ v. next (context_of old) (c.args.pc + 1) (v ∷ drop c.args.count (stack_of old)))) (λ next. fault Undefined)
     old reply c.fail.result c.fail.new.machine
-    (λ next n replies. read_made c.args.name.now (λ v. next (context_of old) (c.args.pc + 1) (v ∷ drop c.args.count (stack_of old))) n (state_of old) None replies c.requires.local none)
+    (λ next n back replies. read_made c.args.name.now (λ v. next (context_of old) (c.args.pc + 1) (v ∷ drop c.args.count (stack_of old))) n back (state_of old) None replies c.requires.local none)
     (c.fail.ensures reply)

@@ -16,5 +16,5 @@ returns-in-None-clause-ok c = λ reply.
     let none : value_at old.locals.now x ≡ None = sym c.value_of_word.ensures ∙ ap option_copied c.in-None.is in
     does_as (λ next. read x (λ v. next (context_of old) (c.args.pc + 1) (v ∷ drop 0 (stack_of old)))) (λ next. fault Undefined)
     old reply c.fail.result c.fail.new.machine
-    (λ next n replies. read_made x (λ v. next (context_of old) (c.args.pc + 1) (v ∷ drop 0 (stack_of old))) n (state_of old) None replies refl none)
+    (λ next n back replies. read_made x (λ v. next (context_of old) (c.args.pc + 1) (v ∷ drop 0 (stack_of old))) n back (state_of old) None replies refl none)
     (c.fail.ensures reply)

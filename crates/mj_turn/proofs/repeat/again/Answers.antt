@@ -1,9 +1,8 @@
-use Rattle.std.proofs.Common.{◌≡◌, List, Some, Ok, sym, ap, ◌∙◌}
+use Rattle.std.proofs.Common.{◌≡◌, List, Some, Ok, sym, ap, ◌∙◌, None}
 use Rattle.std.specs.Prelude.{if◌then◌else◌}
 use Rattle.mj_ask.specs.declared.ask.Reply.{Reply}
 use Rattle.mj_semantics.specs.State.{State}
 use Rattle.mj_semantics.specs.Outcome.{Timed, given}
-use Rattle.mj_semantics.specs.Job.{no_restart}
 use Rattle.mj_pcode.specs.Context.{Loop}
 use Rattle.mj_pcode.specs.Machine as machines
 use Rattle.mj_machine.specs.Contexts.{loop_of, loops_of}
@@ -14,9 +13,9 @@ use Rattle.mj_turn.proofs.Ranges.{loops_by}
 use Rattle.mj_turn.proofs.repeat.again.Goals as goal
 
 pub returns-in-Ok-true-clause-ok : goal.returns-in-Ok-true-clause-ok
-returns-in-Ok-true-clause-ok c = λ reply. (
+returns-in-Ok-true-clause-ok c = λ reply all u. (
   tt,
-  λ next n replies.
+  λ next n handle replies.
       let m = c.args.machine.now in
       let ctx = context_of m in
       let l : Loop = loop_of c.in-Some.current.now in
@@ -26,15 +25,15 @@ returns-in-Ok-true-clause-ok c = λ reply. (
       let after : Timed = next ctx l.resume (stack_of m) in
       let pass : Timed = next ctx l.body (stack_of m) in
       let is : innermost ls ≡ Some l = sym (c.in-Some.ensures ∙ ap (λ k. innermost (loops_of k)) c.deref.ensures.value) in
-      ap (λ k. machines.passes k next ctx c.args.pc (stack_of m) n no_restart (state_of m) rs) (loops_by ls l is)
-      ∙ c.in_ok-pass_on.ensures.ok after pass n (state_of m) rs
-      ∙ ap (λ w. given w (λ b. if b then pass else after) n no_restart s rs) (c.in-Ok-true.is ∙ ap Ok c.in-Ok-true.field-0-test),
+      ap (λ k. machines.passes k next ctx c.args.pc (stack_of m) n (handle None) (state_of m) rs) (loops_by ls l is)
+      ∙ c.in_ok-pass_on.ensures.ok after pass n (handle None) (state_of m) rs
+      ∙ ap (λ w. given w (λ b. if b then pass else after) n (handle None) s rs) (c.in-Ok-true.is ∙ ap Ok c.in-Ok-true.field-0-test),
 )
 
 pub returns-in-Ok-false-clause-ok : goal.returns-in-Ok-false-clause-ok
-returns-in-Ok-false-clause-ok c = λ reply. (
+returns-in-Ok-false-clause-ok c = λ reply all u. (
   tt,
-  λ next n replies.
+  λ next n handle replies.
       let m = c.args.machine.now in
       let ctx = context_of m in
       let l : Loop = loop_of c.in-Some.current.now in
@@ -44,15 +43,15 @@ returns-in-Ok-false-clause-ok c = λ reply. (
       let after : Timed = next ctx l.resume (stack_of m) in
       let pass : Timed = next ctx l.body (stack_of m) in
       let is : innermost ls ≡ Some l = sym (c.in-Some.ensures ∙ ap (λ k. innermost (loops_of k)) c.deref.ensures.value) in
-      ap (λ k. machines.passes k next ctx c.args.pc (stack_of m) n no_restart (state_of m) rs) (loops_by ls l is)
-      ∙ c.in_ok-pass_on.ensures.ok after pass n (state_of m) rs
-      ∙ ap (λ w. given w (λ b. if b then pass else after) n no_restart s rs) (c.in-Ok-false.is ∙ ap Ok c.in-Ok-false.field-0-test),
+      ap (λ k. machines.passes k next ctx c.args.pc (stack_of m) n (handle None) (state_of m) rs) (loops_by ls l is)
+      ∙ c.in_ok-pass_on.ensures.ok after pass n (handle None) (state_of m) rs
+      ∙ ap (λ w. given w (λ b. if b then pass else after) n (handle None) s rs) (c.in-Ok-false.is ∙ ap Ok c.in-Ok-false.field-0-test),
 )
 
 pub returns-in-Err-clause-ok : goal.returns-in-Err-clause-ok
-returns-in-Err-clause-ok c = λ reply. (
+returns-in-Err-clause-ok c = λ reply all u. (
   tt,
-  λ next n replies.
+  λ next n handle replies.
       let m = c.args.machine.now in
       let ctx = context_of m in
       let l : Loop = loop_of c.in-Some.current.now in
@@ -62,7 +61,7 @@ returns-in-Err-clause-ok c = λ reply. (
       let after : Timed = next ctx l.resume (stack_of m) in
       let pass : Timed = next ctx l.body (stack_of m) in
       let is : innermost ls ≡ Some l = sym (c.in-Some.ensures ∙ ap (λ k. innermost (loops_of k)) c.deref.ensures.value) in
-      ap (λ k. machines.passes k next ctx c.args.pc (stack_of m) n no_restart (state_of m) rs) (loops_by ls l is)
-      ∙ c.in_ok-pass_on.ensures.ok after pass n (state_of m) rs
-      ∙ ap (λ w. given w (λ b. if b then pass else after) n no_restart s rs) c.in-Err.is,
+      ap (λ k. machines.passes k next ctx c.args.pc (stack_of m) n (handle None) (state_of m) rs) (loops_by ls l is)
+      ∙ c.in_ok-pass_on.ensures.ok after pass n (handle None) (state_of m) rs
+      ∙ ap (λ w. given w (λ b. if b then pass else after) n (handle None) s rs) c.in-Err.is,
 )

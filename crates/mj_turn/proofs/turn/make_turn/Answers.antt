@@ -3,8 +3,8 @@ use Rattle.std.specs.Prelude.{slice_get}
 use Rattle.std.proofs.lemmas.Option.{slice_get-get_or, slice_get_past}
 use Rattle.std.proofs.lemmas.Bool.{ltb-false}
 use Rattle.std.proofs.lemmas.Result.{IfOk-weaker}
-use Rattle.mj_ask.specs.declared.ask.Ask.TheVariants.{DeviceWrite, DeviceEnd, Halt}
-use Rattle.mj_semantics.specs.Outcome.{look, asking, end, halt, over, principal, fault_bytes}
+use Rattle.mj_turn.specs.Starts.{start_of}
+use Rattle.mj_turn.specs.Faults.{telling, closing, halting}
 use Rattle.mj_semantics.specs.Job.{no_restart}
 use Rattle.mj_pcode.specs.Machine.{act, act_in, exec}
 use Rattle.mj_machine.specs.Standing.{Code, left, from, begin}
@@ -19,9 +19,9 @@ use Rattle.mj_turn.proofs.turn.make_turn.Goals as goal
 pub returns-in-Begin-clause-ok : goal.returns-in-Begin-clause-ok
 returns-in-Begin-clause-ok c =
     let old = c.args.machine.now in
-    let code : Code = record { units = c.args.units.now; entry = c.args.entry.now } in
+    let code : Code = record { units = c.args.units.now; start = start_of c.args.start.now } in
     IfOk-weaker c.begin.result _ _
-    (λ step d. steps_of code (begin code.entry code.units) (λ n. from code.units) old (replied c.args.given) step _
+    (λ step d. steps_of code (begin code.start code.units) (λ n. from code.units) old (replied c.args.given) step _
     (λ n replies. ap (λ k. left code k (context_of old) (stack_of old) (suc n) no_restart (state_of old) replies) c.in-Begin.is)
     (λ n d pc stack s replies. refl) d)
     c.begin.ensures.ok
@@ -30,7 +30,7 @@ pub returns-in-None-get-clause-ok : goal.returns-in-None-get-clause-ok
 returns-in-None-get-clause-ok c =
     let old = c.args.machine.now in
     let units = c.args.units.now in
-    let code : Code = record { units = units; entry = c.args.entry.now } in
+    let code : Code = record { units = units; start = start_of c.args.start.now } in
     let u = c.in-Some.unit.now in
     let pc = c.in-At.pc in
     let h = c.in-Some.ensures.lookup in
@@ -44,14 +44,14 @@ returns-in-None-get-clause-ok c =
     ∙ ap (λ o. act_in units o (λ d p st m. exec units n d p st) (context_of old) pc (stack_of old) n no_restart (state_of old) replies) found
     ∙ ap (λ i. act units u i (λ d p st m. exec units n d p st) (context_of old) pc (stack_of old) n no_restart (state_of old) replies) none)
     (λ n d p stack s replies. refl)
-    (d (replied c.args.given)))
+    (d units pc (replied c.args.given)))
     c.end_unit.ensures.ok
 
 pub returns-in-Some-get-clause-ok : goal.returns-in-Some-get-clause-ok
 returns-in-Some-get-clause-ok c =
     let old = c.args.machine.now in
     let units = c.args.units.now in
-    let code : Code = record { units = units; entry = c.args.entry.now } in
+    let code : Code = record { units = units; start = start_of c.args.start.now } in
     let u = c.in-Some.unit.now in
     let pc = c.in-At.pc in
     let h = c.in-Some.ensures.lookup in
@@ -72,10 +72,10 @@ returns-in-Some-get-clause-ok c =
 pub returns-in-Faulted-clause-ok : goal.returns-in-Faulted-clause-ok
 returns-in-Faulted-clause-ok c =
     let old = c.args.machine.now in
-    let code : Code = record { units = c.args.units.now; entry = c.args.entry.now } in
+    let code : Code = record { units = c.args.units.now; start = start_of c.args.start.now } in
     let f = c.in-Faulted.fault in
     IfOk-weaker c.tell_fault.result _ _
-    (λ step d. steps_of code (λ next. look (λ s. asking (DeviceWrite principal (fault_bytes f s)) (λ r. end (Some f)))) (λ n. from code.units) old (replied c.args.given) step _
+    (λ step d. steps_of code (λ next. telling f) (λ n. from code.units) old (replied c.args.given) step _
     (λ n replies. ap (λ k. left code k (context_of old) (stack_of old) (suc n) no_restart (state_of old) replies) c.in-Faulted.is)
     (λ n d pc stack s replies. refl) d)
     c.tell_fault.ensures.ok
@@ -83,10 +83,10 @@ returns-in-Faulted-clause-ok c =
 pub returns-in-Closing-clause-ok : goal.returns-in-Closing-clause-ok
 returns-in-Closing-clause-ok c =
     let old = c.args.machine.now in
-    let code : Code = record { units = c.args.units.now; entry = c.args.entry.now } in
+    let code : Code = record { units = c.args.units.now; start = start_of c.args.start.now } in
     let f = c.in-Closing.fault in
     IfOk-weaker c.close.result _ _
-    (λ step d. steps_of code (λ next. asking (DeviceEnd principal) (λ r. halt f)) (λ n. from code.units) old (replied c.args.given) step _
+    (λ step d. steps_of code (λ next. closing f) (λ n. from code.units) old (replied c.args.given) step _
     (λ n replies. ap (λ k. left code k (context_of old) (stack_of old) (suc n) no_restart (state_of old) replies) c.in-Closing.is)
     (λ n d pc stack s replies. refl) d)
     c.close.ensures.ok
@@ -94,10 +94,10 @@ returns-in-Closing-clause-ok c =
 pub returns-in-Halting-clause-ok : goal.returns-in-Halting-clause-ok
 returns-in-Halting-clause-ok c =
     let old = c.args.machine.now in
-    let code : Code = record { units = c.args.units.now; entry = c.args.entry.now } in
+    let code : Code = record { units = c.args.units.now; start = start_of c.args.start.now } in
     let f = c.in-Halting.fault in
     IfOk-weaker c.finish.result _ _
-    (λ step d. steps_of code (λ next. asking (Halt f) (λ r. over)) (λ n. from code.units) old (replied c.args.given) step _
+    (λ step d. steps_of code (λ next. halting f) (λ n. from code.units) old (replied c.args.given) step _
     (λ n replies. ap (λ k. left code k (context_of old) (stack_of old) (suc n) no_restart (state_of old) replies) c.in-Halting.is)
     (λ n d pc stack s replies. refl) d)
     c.finish.ensures.ok
@@ -105,8 +105,8 @@ returns-in-Halting-clause-ok c =
 pub returns-in-Begin-clause-sound : goal.returns-in-Begin-clause-sound
 returns-in-Begin-clause-sound c =
     let units = c.args.units.now in
-    turn_sound units (begin c.args.entry.now units) c.args.machine.now (replied c.args.given) c.begin.new.machine c.begin.result
-    (begin_keeps units c.requires.checked c.args.entry.now) c.requires.sound c.begin.ensures.ok c.begin.ensures.err
+    turn_sound units (begin (start_of c.args.start.now) units) c.args.machine.now (replied c.args.given) c.begin.new.machine c.begin.result
+    (begin_keeps units c.requires.checked (start_of c.args.start.now)) c.requires.sound c.begin.ensures.ok c.begin.ensures.err
 
 pub returns-in-None-get-clause-sound : goal.returns-in-None-get-clause-sound
 returns-in-None-get-clause-sound c =
@@ -121,7 +121,7 @@ returns-in-None-get-clause-sound c =
     let place : IsPlace units (context_of old) pc (stack_of old) = subst (λ k. MayStand units k (context_of old) (stack_of old)) c.in-At.is c.requires.sound in
     turn_sound units (λ next. act units u None next (context_of old) pc (stack_of old)) old (replied c.args.given) c.end_unit.new.machine c.end_unit.result
     (act_keeps units c.requires.checked u (context_of old) pc (stack_of old) found place None none) c.requires.sound
-    (IfOk-weaker c.end_unit.result _ _ (λ step d. d (replied c.args.given)) c.end_unit.ensures.ok) c.end_unit.ensures.err
+    (IfOk-weaker c.end_unit.result _ _ (λ step d. d units pc (replied c.args.given)) c.end_unit.ensures.ok) c.end_unit.ensures.err
 
 pub returns-in-Some-get-clause-sound : goal.returns-in-Some-get-clause-sound
 returns-in-Some-get-clause-sound c =
@@ -142,19 +142,19 @@ returns-in-Some-get-clause-sound c =
 pub returns-in-Faulted-clause-sound : goal.returns-in-Faulted-clause-sound
 returns-in-Faulted-clause-sound c =
     let f = c.in-Faulted.fault in
-    turn_sound c.args.units.now (λ next. look (λ s. asking (DeviceWrite principal (fault_bytes f s)) (λ r. end (Some f)))) c.args.machine.now (replied c.args.given) c.tell_fault.new.machine c.tell_fault.result
+    turn_sound c.args.units.now (λ next. telling f) c.args.machine.now (replied c.args.given) c.tell_fault.new.machine c.tell_fault.result
     (λ n. refl) c.requires.sound c.tell_fault.ensures.ok c.tell_fault.ensures.err
 
 pub returns-in-Closing-clause-sound : goal.returns-in-Closing-clause-sound
 returns-in-Closing-clause-sound c =
     let f = c.in-Closing.fault in
-    turn_sound c.args.units.now (λ next. asking (DeviceEnd principal) (λ r. halt f)) c.args.machine.now (replied c.args.given) c.close.new.machine c.close.result
+    turn_sound c.args.units.now (λ next. closing f) c.args.machine.now (replied c.args.given) c.close.new.machine c.close.result
     (λ n. refl) c.requires.sound c.close.ensures.ok c.close.ensures.err
 
 pub returns-in-Halting-clause-sound : goal.returns-in-Halting-clause-sound
 returns-in-Halting-clause-sound c =
     let f = c.in-Halting.fault in
-    turn_sound c.args.units.now (λ next. asking (Halt f) (λ r. over)) c.args.machine.now (replied c.args.given) c.finish.new.machine c.finish.result
+    turn_sound c.args.units.now (λ next. halting f) c.args.machine.now (replied c.args.given) c.finish.new.machine c.finish.result
     (λ n. refl) c.requires.sound c.finish.ensures.ok c.finish.ensures.err
 
 pub obey-requires-clause-enough : goal.obey-requires-clause-enough

@@ -1,95 +1,102 @@
-use Rattle.std.proofs.Common.{◌+◌, ◌∷◌, drop, ap, refl, Some}
-use Rattle.std.specs.Prelude.{if◌then◌else◌}
 use Rattle.std.proofs.lemmas.Result.{IfOk-weaker}
-use Rattle.mj_oper.specs.Operators.{unary_value, binary_value, truth_value}
-use Rattle.mj_semantics.specs.State.{special_value}
-use Rattle.mj_semantics.specs.Outcome.{given}
-use Rattle.mj_semantics.specs.Commands.{write}
-use Rattle.mj_semantics.specs.Job.{no_restart}
 use Rattle.mj_pcode.specs.declared.instr.Instr.TheVariants as instrs
-use Rattle.mj_pcode.specs.Machine.{top, below, act}
 use Rattle.mj_machine.specs.declared.machine.Step.TheVariants as steps
-use Rattle.mj_machine.specs.Kept.{stack_of, state_of, context_of, replied}
-use Rattle.mj_machine.proofs.Operands.{below_is, below_twice}
-use Rattle.mj_machine.proofs.Asks.{does_as}
+use Rattle.mj_machine.specs.Kept.{replied}
 use Rattle.mj_turn.proofs.Turns.{obeys}
 use Rattle.mj_turn.proofs.turn.obey.Goals as goal
 
 pub returns-in-Line-clause-ok : goal.returns-in-Line-clause-ok
 returns-in-Line-clause-ok c =
-    IfOk-weaker c.enter_line.result _ _ (λ step d. obeys c.args.units.now c.args.unit.now c.args.instr.now _ c.args.pc c.args.machine.now (replied c.args.given) step _ c.in-Line.is (d (replied c.args.given))) c.enter_line.ensures.ok
+    let given = (replied c.args.given) in
+    IfOk-weaker c.enter_line.result _ _ (λ step d. obeys c.args.units.now c.args.unit.now c.args.instr.now _ c.args.pc c.args.machine.now given step _ c.in-Line.is (d c.args.units.now given)) c.enter_line.ensures.ok
 
 pub returns-in-Push-clause-ok : goal.returns-in-Push-clause-ok
 returns-in-Push-clause-ok c =
-    IfOk-weaker c.push.result _ _ (λ step d. obeys c.args.units.now c.args.unit.now c.args.instr.now _ c.args.pc c.args.machine.now (replied c.args.given) step _ c.in-Push.is (d (replied c.args.given))) c.push.ensures.ok
+    let us = c.args.units.now in
+    let u = c.args.unit.now in
+    let given = (replied c.args.given) in
+    IfOk-weaker c.push.result _ _ (λ step d. obeys us u c.args.instr.now _ c.args.pc c.args.machine.now given step _ c.in-Push.is (d given us u)) c.push.ensures.ok
 
 pub returns-in-Load-clause-ok : goal.returns-in-Load-clause-ok
 returns-in-Load-clause-ok c =
-    IfOk-weaker c.load.result _ _ (λ step d. obeys c.args.units.now c.args.unit.now c.args.instr.now _ c.args.pc c.args.machine.now (replied c.args.given) step _ c.in-Load.is (d)) c.load.ensures.ok
+    let us = c.args.units.now in
+    let u = c.args.unit.now in
+    let given = (replied c.args.given) in
+    IfOk-weaker c.load.result _ _ (λ step d. obeys us u c.args.instr.now _ c.args.pc c.args.machine.now given step _ c.in-Load.is (d us u)) c.load.ensures.ok
 
 pub returns-in-Check-clause-ok : goal.returns-in-Check-clause-ok
 returns-in-Check-clause-ok c =
-    IfOk-weaker c.check.result _ _ (λ step d. obeys c.args.units.now c.args.unit.now c.args.instr.now _ c.args.pc c.args.machine.now (replied c.args.given) step _ c.in-Check.is (d (replied c.args.given))) c.check.ensures.ok
+    let us = c.args.units.now in
+    let u = c.args.unit.now in
+    let given = (replied c.args.given) in
+    IfOk-weaker c.check.result _ _ (λ step d. obeys us u c.args.instr.now _ c.args.pc c.args.machine.now given step _ c.in-Check.is (d given us u)) c.check.ensures.ok
 
 pub returns-in-Named-clause-ok : goal.returns-in-Named-clause-ok
 returns-in-Named-clause-ok c =
-    IfOk-weaker c.named.result _ _ (λ step d. obeys c.args.units.now c.args.unit.now c.args.instr.now _ c.args.pc c.args.machine.now (replied c.args.given) step _ c.in-Named.is (d (replied c.args.given))) c.named.ensures.ok
+    let us = c.args.units.now in
+    let u = c.args.unit.now in
+    let given = (replied c.args.given) in
+    IfOk-weaker c.named.result _ _ (λ step d. obeys us u c.args.instr.now _ c.args.pc c.args.machine.now given step _ c.in-Named.is (d given us u)) c.named.ensures.ok
 
 pub returns-in-About-clause-ok : goal.returns-in-About-clause-ok
 returns-in-About-clause-ok c =
-    IfOk-weaker c.about.result _ _ (λ step d. obeys c.args.units.now c.args.unit.now c.args.instr.now _ c.args.pc c.args.machine.now (replied c.args.given) step _ c.in-About.is (d)) c.about.ensures.ok
+    let us = c.args.units.now in
+    let u = c.args.unit.now in
+    let given = (replied c.args.given) in
+    IfOk-weaker c.about.result _ _ (λ step d. obeys us u c.args.instr.now _ c.args.pc c.args.machine.now given step _ c.in-About.is (d us u)) c.about.ensures.ok
 
 pub returns-in-Store-clause-ok : goal.returns-in-Store-clause-ok
 returns-in-Store-clause-ok c =
-    IfOk-weaker c.store.result _ _ (λ step d. obeys c.args.units.now c.args.unit.now c.args.instr.now _ c.args.pc c.args.machine.now (replied c.args.given) step _ c.in-Store.is (d)) c.store.ensures.ok
+    let us = c.args.units.now in
+    let u = c.args.unit.now in
+    let given = (replied c.args.given) in
+    IfOk-weaker c.store.result _ _ (λ step d. obeys us u c.args.instr.now _ c.args.pc c.args.machine.now given step _ c.in-Store.is (d us u)) c.store.ensures.ok
 
 pub returns-in-Unary-clause-ok : goal.returns-in-Unary-clause-ok
 returns-in-Unary-clause-ok c =
-    let old = c.args.machine.now in
-    IfOk-weaker c.apply_unary.result _ _
-    (λ step d. obeys c.args.units.now c.args.unit.now c.args.instr.now _ c.args.pc old (replied c.args.given) step _ c.in-Unary.is
-    (does_as (λ next. act c.args.units.now c.args.unit.now (Some (instrs.Unary c.in-Unary.op)) next (context_of old) c.args.pc (stack_of old)) (λ next. given (unary_value c.in-Unary.op (top (stack_of old))) (λ v. next (context_of old) (c.args.pc + 1) (v ∷ drop 1 (stack_of old)))) old (replied c.args.given) step _
-    (λ next n replies. ap (λ l. given (unary_value c.in-Unary.op (top (stack_of old))) (λ v. next (context_of old) (c.args.pc + 1) (v ∷ l)) n no_restart (state_of old) replies) (below_is (stack_of old))) (d (replied c.args.given))))
-    c.apply_unary.ensures.ok
+    let us = c.args.units.now in
+    let u = c.args.unit.now in
+    let given = (replied c.args.given) in
+    IfOk-weaker c.apply_unary.result _ _ (λ step d. obeys us u c.args.instr.now _ c.args.pc c.args.machine.now given step _ c.in-Unary.is (d given us u)) c.apply_unary.ensures.ok
 
 pub returns-in-Binary-clause-ok : goal.returns-in-Binary-clause-ok
 returns-in-Binary-clause-ok c =
-    let old = c.args.machine.now in
-    IfOk-weaker c.apply_binary.result _ _
-    (λ step d. obeys c.args.units.now c.args.unit.now c.args.instr.now _ c.args.pc old (replied c.args.given) step _ c.in-Binary.is
-    (does_as (λ next. act c.args.units.now c.args.unit.now (Some (instrs.Binary c.in-Binary.op)) next (context_of old) c.args.pc (stack_of old)) (λ next. given (binary_value c.in-Binary.op (top (below (stack_of old))) (top (stack_of old))) (λ v. next (context_of old) (c.args.pc + 1) (v ∷ drop 2 (stack_of old)))) old (replied c.args.given) step _
-    (λ next n replies. ap (λ l. given (binary_value c.in-Binary.op (top (below (stack_of old))) (top (stack_of old))) (λ v. next (context_of old) (c.args.pc + 1) (v ∷ l)) n no_restart (state_of old) replies) (below_twice (stack_of old))) (d (replied c.args.given))))
-    c.apply_binary.ensures.ok
+    let us = c.args.units.now in
+    let u = c.args.unit.now in
+    let given = (replied c.args.given) in
+    IfOk-weaker c.apply_binary.result _ _ (λ step d. obeys us u c.args.instr.now _ c.args.pc c.args.machine.now given step _ c.in-Binary.is (d given us u)) c.apply_binary.ensures.ok
 
 pub returns-in-Unless-clause-ok : goal.returns-in-Unless-clause-ok
 returns-in-Unless-clause-ok c =
-    let old = c.args.machine.now in
-    IfOk-weaker c.test.result _ _
-    (λ step d. obeys c.args.units.now c.args.unit.now c.args.instr.now _ c.args.pc old (replied c.args.given) step _ c.in-Unless.is
-    (does_as (λ next. act c.args.units.now c.args.unit.now (Some (instrs.Unless c.in-Unless.target)) next (context_of old) c.args.pc (stack_of old)) (λ next. given (truth_value (top (stack_of old))) (λ b. if b then next (context_of old) (c.args.pc + 1) (drop 1 (stack_of old)) else next (context_of old) c.in-Unless.target (drop 1 (stack_of old)))) old (replied c.args.given) step _
-    (λ next n replies. ap (λ l. given (truth_value (top (stack_of old))) (λ b. if b then next (context_of old) (c.args.pc + 1) l else next (context_of old) c.in-Unless.target l) n no_restart (state_of old) replies) (below_is (stack_of old))) (d (replied c.args.given))))
-    c.test.ensures.ok
+    let us = c.args.units.now in
+    let u = c.args.unit.now in
+    let given = (replied c.args.given) in
+    IfOk-weaker c.test.result _ _ (λ step d. obeys us u c.args.instr.now _ c.args.pc c.args.machine.now given step _ c.in-Unless.is (d given us u)) c.test.ensures.ok
 
 pub returns-in-Write-clause-ok : goal.returns-in-Write-clause-ok
 returns-in-Write-clause-ok c =
-    let old = c.args.machine.now in
-    IfOk-weaker c.write.result _ _
-    (λ step d. obeys c.args.units.now c.args.unit.now c.args.instr.now _ c.args.pc old (replied c.args.given) step _ c.in-Write.is
-    (does_as (λ next. act c.args.units.now c.args.unit.now (Some instrs.Write) next (context_of old) c.args.pc (stack_of old)) (λ next. write (top (stack_of old)) (next (context_of old) (c.args.pc + 1) (drop 1 (stack_of old)))) old (replied c.args.given) step _
-    (λ next n replies. ap (λ l. write (top (stack_of old)) (next (context_of old) (c.args.pc + 1) l) n no_restart (state_of old) replies) (below_is (stack_of old))) d))
-    c.write.ensures.ok
+    let us = c.args.units.now in
+    let u = c.args.unit.now in
+    let given = (replied c.args.given) in
+    IfOk-weaker c.write.result _ _ (λ step d. obeys us u c.args.instr.now instrs.Write c.args.pc c.args.machine.now given step _ c.in-Write.is (d us u)) c.write.ensures.ok
 
 pub returns-in-Format-clause-ok : goal.returns-in-Format-clause-ok
 returns-in-Format-clause-ok c =
-    IfOk-weaker c.write_marks.result _ _ (λ step d. obeys c.args.units.now c.args.unit.now c.args.instr.now (instrs.Format c.in-Format.marks) c.args.pc c.args.machine.now (replied c.args.given) step _ c.in-Format.is d) c.write_marks.ensures.ok
+    let us = c.args.units.now in
+    let u = c.args.unit.now in
+    let given = (replied c.args.given) in
+    IfOk-weaker c.write_marks.result _ _ (λ step d. obeys us u c.args.instr.now (instrs.Format c.in-Format.marks) c.args.pc c.args.machine.now given step _ c.in-Format.is (d us u)) c.write_marks.ensures.ok
 
 pub returns-in-Call-clause-ok : goal.returns-in-Call-clause-ok
 returns-in-Call-clause-ok c =
-    IfOk-weaker c.call.result _ _ (λ step d. obeys c.args.units.now c.args.unit.now c.args.instr.now _ c.args.pc c.args.machine.now (replied c.args.given) step _ c.in-Call.is (d (replied c.args.given))) c.call.ensures.ok
+    let us = c.args.units.now in
+    let u = c.args.unit.now in
+    let given = (replied c.args.given) in
+    IfOk-weaker c.call.result _ _ (λ step d. obeys us u c.args.instr.now _ c.args.pc c.args.machine.now given step _ c.in-Call.is (d given us u)) c.call.ensures.ok
 
 pub returns-in-Jump-clause-ok : goal.returns-in-Jump-clause-ok
 returns-in-Jump-clause-ok c =
-    obeys c.args.units.now c.args.unit.now c.args.instr.now (instrs.Jump c.in-Jump.target) c.args.pc c.args.machine.now (replied c.args.given) c.jump.result _ c.in-Jump.is (c.jump.ensures (replied c.args.given))
+    obeys c.args.units.now c.args.unit.now c.args.instr.now (instrs.Jump c.in-Jump.target) c.args.pc c.args.machine.now (replied c.args.given) c.jump.result _ c.in-Jump.is (c.jump.ensures c.args.pc (replied c.args.given) c.args.units.now c.args.unit.now)
 
 pub returns-in-NoneTrue-clause-ok : goal.returns-in-NoneTrue-clause-ok
 returns-in-NoneTrue-clause-ok c =
@@ -97,95 +104,125 @@ returns-in-NoneTrue-clause-ok c =
 
 pub returns-in-Halt-clause-ok : goal.returns-in-Halt-clause-ok
 returns-in-Halt-clause-ok c =
-    obeys c.args.units.now c.args.unit.now c.args.instr.now instrs.Halt c.args.pc c.args.machine.now (replied c.args.given) c.halt.result _ c.in-Halt.is (c.halt.ensures (replied c.args.given))
+    obeys c.args.units.now c.args.unit.now c.args.instr.now instrs.Halt c.args.pc c.args.machine.now (replied c.args.given) c.halt.result _ c.in-Halt.is (c.halt.ensures c.args.pc (replied c.args.given) c.args.units.now c.args.unit.now)
 
 pub returns-in-Renew-clause-ok : goal.returns-in-Renew-clause-ok
 returns-in-Renew-clause-ok c =
-    IfOk-weaker c.renew.result _ _ (λ step d. obeys c.args.units.now c.args.unit.now c.args.instr.now _ c.args.pc c.args.machine.now (replied c.args.given) step _ c.in-Renew.is d) c.renew.ensures.ok
+    let us = c.args.units.now in
+    let u = c.args.unit.now in
+    let given = (replied c.args.given) in
+    IfOk-weaker c.renew.result _ _ (λ step d. obeys us u c.args.instr.now _ c.args.pc c.args.machine.now given step _ c.in-Renew.is (d us u)) c.renew.ensures.ok
 
 pub returns-in-Kill-clause-ok : goal.returns-in-Kill-clause-ok
 returns-in-Kill-clause-ok c =
-    IfOk-weaker c.kill.result _ _ (λ step d. obeys c.args.units.now c.args.unit.now c.args.instr.now _ c.args.pc c.args.machine.now (replied c.args.given) step _ c.in-Kill.is d) c.kill.ensures.ok
+    let us = c.args.units.now in
+    let u = c.args.unit.now in
+    let given = (replied c.args.given) in
+    IfOk-weaker c.kill.result _ _ (λ step d. obeys us u c.args.instr.now _ c.args.pc c.args.machine.now given step _ c.in-Kill.is (d us u)) c.kill.ensures.ok
 
 pub returns-in-Take-clause-ok : goal.returns-in-Take-clause-ok
 returns-in-Take-clause-ok c =
-    IfOk-weaker c.take.result _ _ (λ step d. obeys c.args.units.now c.args.unit.now c.args.instr.now _ c.args.pc c.args.machine.now (replied c.args.given) step _ c.in-Take.is d) c.take.ensures.ok
+    let us = c.args.units.now in
+    let u = c.args.unit.now in
+    let given = (replied c.args.given) in
+    IfOk-weaker c.take.result _ _ (λ step d. obeys us u c.args.instr.now _ c.args.pc c.args.machine.now given step _ c.in-Take.is (d us u)) c.take.ensures.ok
 
 pub returns-in-Put-clause-ok : goal.returns-in-Put-clause-ok
 returns-in-Put-clause-ok c =
-    IfOk-weaker c.put.result _ _ (λ step d. obeys c.args.units.now c.args.unit.now c.args.instr.now _ c.args.pc c.args.machine.now (replied c.args.given) step _ c.in-Put.is d) c.put.ensures.ok
+    let us = c.args.units.now in
+    let u = c.args.unit.now in
+    let given = (replied c.args.given) in
+    IfOk-weaker c.put.result _ _ (λ step d. obeys us u c.args.instr.now _ c.args.pc c.args.machine.now given step _ c.in-Put.is (d us u)) c.put.ensures.ok
 
 pub returns-in-Discard-clause-ok : goal.returns-in-Discard-clause-ok
 returns-in-Discard-clause-ok c =
-    obeys c.args.units.now c.args.unit.now c.args.instr.now (instrs.Discard c.in-Discard.count) c.args.pc c.args.machine.now (replied c.args.given) c.discard.result _ c.in-Discard.is (c.discard.ensures (replied c.args.given))
+    obeys c.args.units.now c.args.unit.now c.args.instr.now (instrs.Discard c.in-Discard.count) c.args.pc c.args.machine.now (replied c.args.given) c.discard.result _ c.in-Discard.is (c.discard.ensures (replied c.args.given) c.args.units.now c.args.unit.now)
 
 pub returns-in-Spare-clause-ok : goal.returns-in-Spare-clause-ok
 returns-in-Spare-clause-ok c =
-    obeys c.args.units.now c.args.unit.now c.args.instr.now (instrs.Spare c.in-Spare.words) c.args.pc c.args.machine.now (replied c.args.given) c.spare.result _ c.in-Spare.is (c.spare.ensures (replied c.args.given))
+    obeys c.args.units.now c.args.unit.now c.args.instr.now (instrs.Spare c.in-Spare.words) c.args.pc c.args.machine.now (replied c.args.given) c.spare.result _ c.in-Spare.is (c.spare.ensures (replied c.args.given) c.args.units.now c.args.unit.now)
 
 pub returns-in-Decide-clause-ok : goal.returns-in-Decide-clause-ok
 returns-in-Decide-clause-ok c =
-    IfOk-weaker c.decide.result _ _ (λ step d. obeys c.args.units.now c.args.unit.now c.args.instr.now _ c.args.pc c.args.machine.now (replied c.args.given) step _ c.in-Decide.is (d (replied c.args.given))) c.decide.ensures.ok
+    let us = c.args.units.now in
+    let u = c.args.unit.now in
+    let given = (replied c.args.given) in
+    IfOk-weaker c.decide.result _ _ (λ step d. obeys us u c.args.instr.now _ c.args.pc c.args.machine.now given step _ c.in-Decide.is (d given us u)) c.decide.ensures.ok
 
 pub returns-in-Open-clause-ok : goal.returns-in-Open-clause-ok
 returns-in-Open-clause-ok c =
-    IfOk-weaker c.open.result _ _ (λ step d. obeys c.args.units.now c.args.unit.now c.args.instr.now _ c.args.pc c.args.machine.now (replied c.args.given) step _ c.in-Open.is (d (replied c.args.given))) c.open.ensures.ok
+    let us = c.args.units.now in
+    let u = c.args.unit.now in
+    let given = (replied c.args.given) in
+    IfOk-weaker c.open.result _ _ (λ step d. obeys us u c.args.instr.now _ c.args.pc c.args.machine.now given step _ c.in-Open.is (d given us u)) c.open.ensures.ok
 
 pub returns-in-Forever-clause-ok : goal.returns-in-Forever-clause-ok
 returns-in-Forever-clause-ok c =
-    IfOk-weaker c.forever.result _ _ (λ step d. obeys c.args.units.now c.args.unit.now c.args.instr.now instrs.Forever c.args.pc c.args.machine.now (replied c.args.given) step _ c.in-Forever.is (d (replied c.args.given))) c.forever.ensures.ok
+    let us = c.args.units.now in
+    let u = c.args.unit.now in
+    let given = (replied c.args.given) in
+    IfOk-weaker c.forever.result _ _ (λ step d. obeys us u c.args.instr.now instrs.Forever c.args.pc c.args.machine.now given step _ c.in-Forever.is (d given us u)) c.forever.ensures.ok
 
 pub returns-in-Begin-clause-ok : goal.returns-in-Begin-clause-ok
 returns-in-Begin-clause-ok c =
-    IfOk-weaker c.begin.result _ _ (λ step d. obeys c.args.units.now c.args.unit.now c.args.instr.now _ c.args.pc c.args.machine.now (replied c.args.given) step _ c.in-Begin.is (d (replied c.args.given))) c.begin.ensures.ok
+    let us = c.args.units.now in
+    let u = c.args.unit.now in
+    let given = (replied c.args.given) in
+    IfOk-weaker c.begin.result _ _ (λ step d. obeys us u c.args.instr.now _ c.args.pc c.args.machine.now given step _ c.in-Begin.is (d given us u)) c.begin.ensures.ok
 
 pub returns-in-Again-clause-ok : goal.returns-in-Again-clause-ok
 returns-in-Again-clause-ok c =
-    IfOk-weaker c.again.result _ _ (λ step d. obeys c.args.units.now c.args.unit.now c.args.instr.now instrs.Again c.args.pc c.args.machine.now (replied c.args.given) step _ c.in-Again.is (d (replied c.args.given))) c.again.ensures.ok
+    let us = c.args.units.now in
+    let u = c.args.unit.now in
+    let given = (replied c.args.given) in
+    IfOk-weaker c.again.result _ _ (λ step d. obeys us u c.args.instr.now instrs.Again c.args.pc c.args.machine.now given step _ c.in-Again.is (d given us u)) c.again.ensures.ok
 
 pub returns-in-Do-clause-ok : goal.returns-in-Do-clause-ok
 returns-in-Do-clause-ok c =
-    IfOk-weaker c.call_line.result _ _ (λ step d. obeys c.args.units.now c.args.unit.now c.args.instr.now _ c.args.pc c.args.machine.now (replied c.args.given) step _ c.in-Do.is (d (replied c.args.given))) c.call_line.ensures.ok
+    let given = (replied c.args.given) in
+    IfOk-weaker c.call_line.result _ _ (λ step d. obeys c.args.units.now c.args.unit.now c.args.instr.now _ c.args.pc c.args.machine.now given step _ c.in-Do.is (d c.args.unit.now given)) c.call_line.ensures.ok
 
 pub returns-in-Block-clause-ok : goal.returns-in-Block-clause-ok
 returns-in-Block-clause-ok c =
-    IfOk-weaker c.block.result _ _ (λ step d. obeys c.args.units.now c.args.unit.now c.args.instr.now _ c.args.pc c.args.machine.now (replied c.args.given) step _ c.in-Block.is (d (replied c.args.given))) c.block.ensures.ok
+    let given = (replied c.args.given) in
+    IfOk-weaker c.block.result _ _ (λ step d. obeys c.args.units.now c.args.unit.now c.args.instr.now _ c.args.pc c.args.machine.now given step _ c.in-Block.is (d c.args.units.now given)) c.block.ensures.ok
 
 pub returns-in-New-clause-ok : goal.returns-in-New-clause-ok
 returns-in-New-clause-ok c =
-    IfOk-weaker c.new_words.result _ _ (λ step d. obeys c.args.units.now c.args.unit.now c.args.instr.now _ c.args.pc c.args.machine.now (replied c.args.given) step _ c.in-New.is (d (replied c.args.given))) c.new_words.ensures.ok
+    let us = c.args.units.now in
+    let u = c.args.unit.now in
+    let given = (replied c.args.given) in
+    IfOk-weaker c.new_words.result _ _ (λ step d. obeys us u c.args.instr.now _ c.args.pc c.args.machine.now given step _ c.in-New.is (d given us u)) c.new_words.ensures.ok
 
 pub returns-in-NewExcept-clause-ok : goal.returns-in-NewExcept-clause-ok
 returns-in-NewExcept-clause-ok c =
-    IfOk-weaker c.new_except.result _ _ (λ step d. obeys c.args.units.now c.args.unit.now c.args.instr.now _ c.args.pc c.args.machine.now (replied c.args.given) step _ c.in-NewExcept.is (d (replied c.args.given))) c.new_except.ensures.ok
+    let us = c.args.units.now in
+    let u = c.args.unit.now in
+    let given = (replied c.args.given) in
+    IfOk-weaker c.new_except.result _ _ (λ step d. obeys us u c.args.instr.now _ c.args.pc c.args.machine.now given step _ c.in-NewExcept.is (d given us u)) c.new_except.ensures.ok
 
 pub returns-in-Special-clause-ok : goal.returns-in-Special-clause-ok
 returns-in-Special-clause-ok c =
-    let old = c.args.machine.now in
     let us = c.args.units.now in
     let u = c.args.unit.now in
-    let v = c.in-Special.variable in
-    IfOk-weaker c.special.result _ _
-    (λ step d. obeys us u c.args.instr.now _ c.args.pc old (replied c.args.given) step _ c.in-Special.is
-    (does_as (λ next. act us u (Some (instrs.Special v)) next (context_of old) c.args.pc (stack_of old)) (λ next. next (context_of old) (c.args.pc + 1) (special_value v (state_of old) ∷ stack_of old)) old (replied c.args.given) step _
-    (λ next n replies. refl) (d (replied c.args.given))))
-    c.special.ensures.ok
+    let given = (replied c.args.given) in
+    IfOk-weaker c.special.result _ _ (λ step d. obeys us u c.args.instr.now _ c.args.pc c.args.machine.now given step _ c.in-Special.is (d given us u)) c.special.ensures.ok
 
 pub returns-in-Close-clause-ok : goal.returns-in-Close-clause-ok
 returns-in-Close-clause-ok c =
-    obeys c.args.units.now c.args.unit.now c.args.instr.now (instrs.Close c.in-Close.target) c.args.pc c.args.machine.now (replied c.args.given) c.close.result _ c.in-Close.is (c.close.ensures (replied c.args.given))
+    obeys c.args.units.now c.args.unit.now c.args.instr.now (instrs.Close c.in-Close.target) c.args.pc c.args.machine.now (replied c.args.given) c.close.result _ c.in-Close.is (c.close.ensures c.args.pc (replied c.args.given) c.args.units.now c.args.unit.now)
 
 pub returns-in-Goto-clause-ok : goal.returns-in-Goto-clause-ok
 returns-in-Goto-clause-ok c =
-    obeys c.args.units.now c.args.unit.now c.args.instr.now (instrs.Goto c.in-Goto.entry) c.args.pc c.args.machine.now (replied c.args.given) c.go_to.result _ c.in-Goto.is (c.go_to.ensures (replied c.args.given))
+    obeys c.args.units.now c.args.unit.now c.args.instr.now (instrs.Goto c.in-Goto.entry) c.args.pc c.args.machine.now (replied c.args.given) c.go_to.result _ c.in-Goto.is (c.go_to.ensures c.args.unit.now c.args.pc (replied c.args.given))
 
 pub returns-in-If-clause-ok : goal.returns-in-If-clause-ok
 returns-in-If-clause-ok c =
-    obeys c.args.units.now c.args.unit.now c.args.instr.now (instrs.If c.in-If.target) c.args.pc c.args.machine.now (replied c.args.given) c.branch-pc.result _ c.in-If.is (c.branch-pc.ensures (replied c.args.given))
+    obeys c.args.units.now c.args.unit.now c.args.instr.now (instrs.If c.in-If.target) c.args.pc c.args.machine.now (replied c.args.given) c.branch-pc.result _ c.in-If.is (c.branch-pc.ensures (replied c.args.given) c.args.units.now c.args.unit.now)
 
 pub returns-in-Else-clause-ok : goal.returns-in-Else-clause-ok
 returns-in-Else-clause-ok c =
-    obeys c.args.units.now c.args.unit.now c.args.instr.now (instrs.Else c.in-Else.target) c.args.pc c.args.machine.now (replied c.args.given) c.branch-pc-in-Else.result _ c.in-Else.is (c.branch-pc-in-Else.ensures (replied c.args.given))
+    obeys c.args.units.now c.args.unit.now c.args.instr.now (instrs.Else c.in-Else.target) c.args.pc c.args.machine.now (replied c.args.given) c.branch-pc-in-Else.result _ c.in-Else.is (c.branch-pc-in-Else.ensures (replied c.args.given) c.args.units.now c.args.unit.now)
 
 pub returns-in-Quit-clause-ok : goal.returns-in-Quit-clause-ok
 returns-in-Quit-clause-ok c =

@@ -1,6 +1,7 @@
-use Rattle.std.proofs.Common.{◌≡◌, ◌+◌, ◌<◌, None}
-use Rattle.mj_ask.specs.declared.entry.Entry.{Entry}
-use Rattle.mj_jobvm.specs.Jobs.{IsRunOf, running}
+use Rattle.std.proofs.Common.{◌≡◌, ℕ, ◌+◌, ◌<◌, None}
+use Rattle.mj_semantics.specs.Job.{Start}
+use Rattle.mj_turn.specs.Starts.{start_of}
+use Rattle.mj_jobvm.specs.Jobs.{IsRunOfAfter, running}
 use Rattle.mj_pcode.specs.Sound.{AreChecked}
 use Rattle.mj_machine.specs.Kept.{standing}
 use Rattle.mj_turn.specs.Sound.{IsSound}
@@ -9,8 +10,8 @@ use Rattle.mj_jobvm.proofs.job.Job.advance.Given as goal
 
 abbrev pub invariant-turns : goal.invariant-turns
 invariant-turns l = record {
-  run : (entry : Entry) → IsRunOf l.image entry l.fn.self
-      → IsRunOf l.image entry (running l.self-inside.entry l.self-inside.machine l.self-inside.log.items l.self-inside.given None (l.fn.self.run.spent + l.done));
+  run : (start : Start) (turns : ℕ) → IsRunOfAfter l.image start turns l.fn.self
+      → IsRunOfAfter l.image start (turns + l.done) (running (start_of l.self-inside.start) l.self-inside.machine l.self-inside.log.items l.self-inside.given None (l.fn.self.run.spent + l.done));
   code : l.units ≡ l.image.units;
   small : AreSmall l.units;
   checked : AreChecked l.units;

@@ -5,6 +5,6 @@ use Rattle.mj_jobvm.proofs.Limit.{trace_is_limited}
 use Rattle.mj_jobvm.proofs.job.Job.log.Goals as goal
 
 pub returns-clause-limit : goal.returns-clause-limit
-returns-clause-limit c = λ image entry is.
+returns-clause-limit c = λ image start is.
     subst IsLimited (sym (c.as_slice.ensures.value ∙ ap (λ j. j.run.log) c.self.view_is))
-    (trace_is_limited (routines_of image) entry c.args.self.now.run.log is.trace)
+    (trace_is_limited (routines_of image) start c.args.self.now.run.log is.1.trace)

@@ -1,0 +1,35 @@
+use Rattle.std.proofs.Common.{◌≡◌, [], None, true, false, refl, sym, ap, ◌∙◌}
+use Rattle.std.specs.Prelude.{option_map, if◌then◌else◌, Some}
+use Rattle.std.proofs.lemmas.Result.{IfOk-weaker}
+use Rattle.mj_ask.specs.declared.ask.Ask.TheVariants.{DeviceWrite, DeviceEnd, Halt}
+use Rattle.mj_semantics.specs.State.{principal, places}
+use Rattle.mj_semantics.specs.Outcome.{Needs, asking, end, fault_bytes}
+use Rattle.mj_machine.specs.Standing.{given_first}
+use Rattle.mj_machine.specs.Kept.{state_of, replied}
+use Rattle.mj_machine.proofs.Asks.{waits}
+use Rattle.mj_turn.specs.Faults.{telling, closing, halting}
+use Rattle.mj_turn.proofs.ending.tell_fault.Goals as goal
+
+pub returns-in_ok-line-in-None-clause-ok : goal.returns-in_ok-line-in-None-clause-ok
+returns-in_ok-line-in-None-clause-ok c =
+    let old = c.args.machine.now in
+    let f = c.args.fault in
+    let line = asking (DeviceWrite principal (fault_bytes f (state_of old))) (λ r. end (Some f)) in
+    IfOk-weaker c.wait.result _ _
+    (λ step w. waits (λ next. telling f) (DeviceWrite c.principal.result c.in_ok-line-in-None.line) old (replied c.args.given) step (ap (option_map (λ r. r.now)) c.in-None.is) w
+    (λ next n back.
+    ap (λ b. (if b then end (Some f) else line) n back (state_of old) []) c.if-machine.false
+    ∙ ap (λ p. Needs (DeviceWrite p (fault_bytes f (state_of old))) (state_of old).locals (places (state_of old))) (sym c.principal.ensures)
+    ∙ ap (λ t. Needs (DeviceWrite c.principal.result t) (state_of old).locals (places (state_of old))) (sym c.in_ok-line-in-None.ensures)))
+    c.wait.ensures
+
+pub returns-in-Some-clause-ok : goal.returns-in-Some-clause-ok
+returns-in-Some-clause-ok c = (
+  tt,
+  λ next n handle replies.
+      let old = c.args.machine.now in
+      let f = c.args.fault in
+      let line = asking (DeviceWrite principal (fault_bytes f (state_of old))) (λ r. end (Some f)) in
+      ap (λ g. telling f n (handle None) (state_of old) (given_first (replied g) replies)) c.in-Some.is
+      ∙ ap (λ b. (if b then end (Some f) else line) n (handle None) (state_of old) (given_first (replied (Some c.in-Some.field-0)) replies)) c.if-machine.false,
+)
