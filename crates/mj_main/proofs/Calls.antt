@@ -2,7 +2,7 @@
 use Rattle.std.proofs.Common.{◌≡◌, ℕ, ◌+◌, ◌^◌, min, Result, Ok, [], ◌∷◌, ◌++◌, refl, sym, ap, ◌∙◌, subst, arith}
 use Rattle.mj_ask.specs.declared.ask.Ask.{Ask}
 use Rattle.mj_ask.specs.declared.ask.Reply.{Reply}
-use Rattle.mj_ask.specs.declared.entry.Entry.{Entry}
+use Rattle.mj_semantics.specs.Job.{Start}
 use Rattle.mj_load.specs.Image.{Loaded, routines_of}
 use Rattle.mj_jobvm.specs.declared.job.Turn.{Turn}
 use Rattle.mj_jobvm.specs.declared.job.Turn.TheVariants.{Asks, Ran, Ended}
@@ -33,32 +33,32 @@ module _ {E : Type 0} (result : Result Turn E) (turn : Turn) (old new : ℕ) (e 
   pub spent_ended : turn ≡ Ended → new ≡ old
   spent_ended is = spent_as Ended is
 
-module _ (image : Loaded) (entry : Entry) (job : Running) where
+module _ (image : Loaded) (start : Start) (job : Running) where
   -- a job is still going after the turns that it counted
-  goes_on : IsRunOf image entry job → GoesOn (routines_of image) entry job.run.log job.run.spent
-  goes_on r = told_ran (routines_of image) entry (code_in image job.entry) job.run.log job.run.pending job.run.spent job.run.at r
+  goes_on : IsRunOf image start job → GoesOn (routines_of image) start job.run.log job.run.spent
+  goes_on r = told_ran (routines_of image) start (code_in image job.start) job.run.log job.run.pending job.run.spent job.run.at r
 
-  going_as : (ran : ℕ) → job.run.spent ≡ turns_of ran → IsRunOf image entry job → GoesOn (routines_of image) entry job.run.log (turns_of ran)
-  going_as ran e r = subst (GoesOn (routines_of image) entry job.run.log) e (goes_on r)
+  going_as : (ran : ℕ) → job.run.spent ≡ turns_of ran → IsRunOf image start job → GoesOn (routines_of image) start job.run.log (turns_of ran)
+  going_as ran e r = subst (GoesOn (routines_of image) start job.run.log) e (goes_on r)
 
   -- before the first call
-  pub made_none : job.run.log ≡ [] → job.run.spent ≡ 0 → Made (routines_of image) entry job.run 0
+  pub made_none : job.run.log ≡ [] → job.run.spent ≡ 0 → Made (routines_of image) start job.run 0
   made_none log spent =
-      let P : Log → Type 0 = λ l. AnsweredBy (routines_of image) entry l 0 in
+      let P : Log → Type 0 = λ l. AnsweredBy (routines_of image) start l 0 in
       record { answered = 0; ran = 0; by = subst P (sym log) none; counted = spent ∙ (let z : 0 ≡ turns_of 0 = omega arith in z); all = refl }
 
-  module _ (calls : ℕ) (m : Made (routines_of image) entry job.run calls) where
+  module _ (calls : ℕ) (m : Made (routines_of image) start job.run calls) where
     -- nothing was asked, and nothing counted
-    pub made_still : (new : Running) → new.run.log ≡ job.run.log → new.run.spent ≡ job.run.spent → Made (routines_of image) entry new.run calls
+    pub made_still : (new : Running) → new.run.log ≡ job.run.log → new.run.spent ≡ job.run.spent → Made (routines_of image) start new.run calls
     made_still new log spent =
-        let P : Log → Type 0 = λ l. AnsweredBy (routines_of image) entry l m.answered in
+        let P : Log → Type 0 = λ l. AnsweredBy (routines_of image) start l m.answered in
         record { answered = m.answered; ran = m.ran; by = subst P (sym log) m.by; counted = spent ∙ m.counted; all = m.all }
 
     -- one ran
     pub made_ran : (new : Running) → new.run.log ≡ job.run.log → new.run.spent ≡ min (job.run.spent + fuel) (2 ^ 63)
-        → Made (routines_of image) entry new.run (calls + 1)
+        → Made (routines_of image) start new.run (calls + 1)
     made_ran new log spent =
-        let P : Log → Type 0 = λ l. AnsweredBy (routines_of image) entry l m.answered in
+        let P : Log → Type 0 = λ l. AnsweredBy (routines_of image) start l m.answered in
         let e = m.all in
         record {
           answered = m.answered;
@@ -69,10 +69,10 @@ module _ (image : Loaded) (entry : Entry) (job : Running) where
         }
 
     -- one asked, and was replied to
-    pub made_asked : (new : Running) (a : Ask) (r : Reply) → IsRunOf image entry job → new.run.log ≡ job.run.log ++ (a, r) ∷ [] → new.run.spent ≡ 0
-        → Made (routines_of image) entry new.run (calls + 1)
+    pub made_asked : (new : Running) (a : Ask) (r : Reply) → IsRunOf image start job → new.run.log ≡ job.run.log ++ (a, r) ∷ [] → new.run.spent ≡ 0
+        → Made (routines_of image) start new.run (calls + 1)
     made_asked new a r is log spent =
-        let P : Log → Type 0 = λ l. AnsweredBy (routines_of image) entry l (m.answered + m.ran + 1) in
+        let P : Log → Type 0 = λ l. AnsweredBy (routines_of image) start l (m.answered + m.ran + 1) in
         let e = m.all in
         record {
           answered = m.answered + m.ran + 1;
@@ -83,5 +83,5 @@ module _ (image : Loaded) (entry : Entry) (job : Running) where
         }
 
     -- they are what the run takes
-    pub takes_them : IsRunOf image entry job → TakesCalls (routines_of image) entry job.run.log calls
+    pub takes_them : IsRunOf image start job → TakesCalls (routines_of image) start job.run.log calls
     takes_them is = record { answered = m.answered; ran = m.ran; by = m.by; going = going_as m.ran m.counted is; all = m.all }

@@ -1,4 +1,5 @@
 use Rattle.std.proofs.Common.{◌≡◌, ◌+◌, arith}
+use Rattle.mj_main.specs.Alone.{first_job}
 use Rattle.mj_main.proofs.Calls.{spent_ran, spent_asks, spent_ended}
 use Rattle.mj_main.proofs.Logs.{stands_first, stands_as, stands_on, stands_ran, waits, alone_is, ended_is, stopped_is}
 use Rattle.mj_main.proofs.alone.one.Goals.{in-Ran, in-Asks+in_ok-answer-in-Asks}
@@ -6,13 +7,12 @@ use Rattle.mj_main.proofs.alone.one.Goals as goal
 
 pub calls-init : goal.calls-init
 calls-init c =
-    let j = c.in_ok-job.ensures in
-    stands_first c.args.image.now c.args.entry c.in_ok-job.job c.new-globals.result j.run j.log j.spent c.new-globals.ensures
+    stands_first c.args.image.now (first_job c.args.entry) c.start-job.result c.new-globals.result ? ? ? c.new-globals.ensures
 
 pub returns-in-Ended : goal.returns-in-Ended
 returns-in-Ended c =
     let image = c.args.image.now in
-    let entry = c.args.entry in
+    let entry = first_job c.args.entry in
     let s = c.calls.invariant in
     let a = c.in_ok-advance.ensures in
     let spent = spent_ended c.advance.result c.in_ok-advance.field-0 c.calls.job.run.spent c.advance.new.self.run.spent c.in_ok-advance.was c.advance.ensures.spent c.in-Ended.is in
@@ -24,7 +24,7 @@ returns-in-Ended c =
 pub calls-preserved : goal.calls-preserved
 calls-preserved c =
     let image = c.args.image.now in
-    let entry = c.args.entry in
+    let entry = first_job c.args.entry in
     let s = c.calls.invariant in
     let a = c.in_ok-advance.ensures in
     let old = c.calls.job.run.spent in
@@ -45,7 +45,7 @@ calls-preserved c =
 pub returns : goal.returns
 returns c =
     let image = c.args.image.now in
-    let entry = c.args.entry in
+    let entry = first_job c.args.entry in
     let s = c.calls.invariant in
     let f = c.calls-test.false in
     let le = c.calls.auto.done-end in
