@@ -32,7 +32,8 @@ use Rattle.mj_line.proofs.Facts.{lift_accept, lift_stuck, lift_deep, lift_long}
 use Rattle.mj_line.proofs.Complete.{blanks_go, Parted, run_rests, args_rests, complete_bare, NoColon, worded_bare}
 use Rattle.mj_cmd.proofs.Locals.{MayEnter, may_enter}
 use Rattle.mj_cmd.specs.Heads.{HasNoComma, HasNoBlank, HasNoColon, HasNoWord, HasParted, HasOther}
-use Rattle.mj_cmd.specs.Reads.{HasRoom, Refuses, IsWritten, IsWrittenStep, AreWritten, ReadsAs, EndsAs, Reads, Lists, Ends}
+use Rattle.mj_cmd.specs.Reads.{HasRoom, Refuses, IsWritten, IsWrittenStep, AreWritten, ReadsAs, EndsAs, Reads, Ends}
+use Rattle.mj_cmd.specs.Lists.{comma_or}
 
 -- another token
 abbrev pub IsNoComment : Token → Type 0
@@ -149,11 +150,6 @@ free_refuses limited wrap rest (stop.Deep n) m ls g s h = absurd h
 free_refuses limited wrap rest stop.Long m ls g s h = lift_long m (tokens_seen ls) g s h
 
 -- a refusal of an argument of WRITE that is passed on
-pub lists_err : {X : Type 0} (limited : Bool) (parts : X → List Part) (rest : X → List Lexeme) (r : Result X Stop) (x : Stop) (m : Limits) (ls : List Lexeme) →
-    IsErrAnd r (λ e. e ≡ x) → ((o : Sentence) → (condition : Option Expr) → (k : Keyword) → (done : List Part) → Refuses limited x (run m (tokens_seen ls) (At (Args o condition k done OutputWanted)))) → Lists limited parts rest r m ls
-lists_err limited parts rest (Ok y) x m ls e h = absurd e
-lists_err limited parts rest (Err y) x m ls e h = λ o condition k done. let P : Stop → Type 0 = λ v. Refuses limited v (run m (tokens_seen ls) (At (Args o condition k done OutputWanted))) in subst P (sym e) (h o condition k done)
-
 -- ---- parts of arguments
 
 -- no part of one token is taken there
@@ -312,9 +308,6 @@ only_comma n (t ∷ ks) h i = tt
 pub comma_untaken : (n : Node) (ks : List Token) → labels n ≡ false → ((w : List ℕ) → takes n (Named w) ≡ None) → takes n PieceCall ≡ None → ((s : Sign) → (takes n (Put s) ≡ None) ⊎ (s ≡ Comma)) → HasNoComma ks → Untaken n ks
 comma_untaken n ks l h i j z = untaken_by n ks l h i (only_comma n ks j z)
 
-abbrev pub comma_or : Node → Type 0
-comma_or n = (s : Sign) → (takes n (Put s) ≡ None) ⊎ (s ≡ Comma)
-
 -- one item more, behind a comma
 pub commas_more : {A : Type 0} (parts : A → List Part) (xs : List A) (y : A) → 1 ≤ length xs → with_commas parts (xs ++ y ∷ []) ≡ with_commas parts xs ++ (Put Comma ∷ parts y)
 commas_more parts [] y h = absurd (omega arith)
@@ -325,15 +318,7 @@ commas_more parts (x ∷ xs) y h = ap (λ (zs : List Part). parts x ++ zs) (behi
     behind_more parts (x ∷ xs) y = ap (λ (zs : List Part). Put Comma ∷ (parts x ++ zs)) (behind_more parts xs y) ∙ ap (λ (zs : List Part). Put Comma ∷ zs) (sym (append_assoc (parts x) (behind_commas parts xs) (Put Comma ∷ parts y)))
 
 -- the parts of items that are kept, with one more
-pub kept_more : {X T : Type 0} (f : X → T) (parts : T → List Part) (old new : List X) (x : X) → new ≡ old ++ x ∷ [] → 1 ≤ length old → with_commas parts (map f old) ++ (Put Comma ∷ parts (f x)) ≡ with_commas parts (map f new)
-kept_more {T = T} f parts old new x e h =
-    sym (commas_more parts (map f old) (f x) (let n = length-map old f in omega arith))
-    ∙ ap (with_commas parts) (sym (ap (map f) e ∙ map-append f old (x ∷ [])))
-
 -- the parts of the first
-pub kept_first : {X T : Type 0} (f : X → T) (parts : T → List Part) (old new : List X) (x : X) → old ≡ [] → new ≡ old ++ x ∷ [] → parts (f x) ≡ with_commas parts (map f new)
-kept_first f parts old new x e h = sym (append-nil (parts (f x))) ∙ ap (with_commas parts) (sym (ap (map f) (h ∙ ap (λ (xs : List _). xs ++ x ∷ []) e)))
-
 pub kept_length : {X : Type 0} (old new : List X) (x : X) → new ≡ old ++ x ∷ [] → 1 ≤ length new
 kept_length {X = X} old new x e = let n = ap (length {A = X}) e in let k = length-append old (x ∷ []) in omega arith
 

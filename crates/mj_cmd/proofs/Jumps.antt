@@ -21,25 +21,11 @@ use Rattle.mj_line.proofs.Tables.{part_taken, called_apart}
 use Rattle.mj_cmd.specs.Heads.{HasNoComma, HasNoOpen, HasNoCaret, HasNoLabel, StartsLabel, HasNoClose, HasNoName, HasNoColon}
 use Rattle.mj_cmd.specs.Parts.{MayBeGuarded}
 use Rattle.mj_cmd.specs.Reads.{AreWrittenActuals, IsWrittenCall, AreWrittenCalls}
-use Rattle.mj_cmd.proofs.Follow.{Untaken, Went, went_as, went_token, SignUntaken, untaken_by, no_sign, comma_untaken, comma_or, commas_more, kept_untaken_word, SameAt, went_same, name_neither, piece_neither, WentAs}
+use Rattle.mj_cmd.proofs.Follow.{Untaken, Went, went_as, went_token, SignUntaken, untaken_by, no_sign, comma_untaken, commas_more, kept_untaken_word, SameAt, went_same, name_neither, piece_neither, WentAs}
 
 -- IF, NEW and GOTO
-if_comma : comma_or IfEnd
-if_comma Comma = inr refl
-if_comma s = inl refl
-
-pub truth_untaken : (ks : List Token) → HasNoComma ks → Untaken IfEnd ks
-truth_untaken ks h = comma_untaken IfEnd ks refl (λ w. refl) refl if_comma h
-
 pub if_untaken : (first : Bool) (ks : List Token) → Untaken (IfWanted first) ks
 if_untaken first ks = untaken_by (IfWanted first) ks refl (λ w. refl) refl (no_sign (IfWanted first) ks (λ s. refl))
-
-new_comma : comma_or NewEnd
-new_comma Comma = inr refl
-new_comma s = inl refl
-
-pub new_untaken : (ks : List Token) → HasNoComma ks → Untaken NewEnd ks
-new_untaken ks h = comma_untaken NewEnd ks refl (λ w. refl) refl new_comma h
 
 pub renewed_untaken : (first : Bool) (ks : List Token) → HasNoOpen ks → HasNoName ks → Untaken (NewWanted first) ks
 renewed_untaken first [] h i = tt
@@ -48,13 +34,6 @@ renewed_untaken first (Called w ∷ ks) h i = called_apart (NewWanted first) (ca
 renewed_untaken first (Signed Open ∷ ks) h i = absurd h
 renewed_untaken first (Signed s ∷ ks) h i = refl
 renewed_untaken first (t ∷ ks) h i = refl
-
-guard_comma : (call : Bool) → comma_or (GuardEnd call)
-guard_comma call Comma = inr refl
-guard_comma call s = inl refl
-
-pub guard_untaken : (call : Bool) (ks : List Token) → HasNoComma ks → Untaken (GuardEnd call) ks
-guard_untaken call ks h = comma_untaken (GuardEnd call) ks refl (λ w. refl) refl (guard_comma call) h
 
 pub guard_text_untaken : (call : Bool) (ks : List Token) → Untaken (GuardWanted call) ks
 guard_text_untaken call ks = untaken_by (GuardWanted call) ks refl (λ w. refl) refl (no_sign (GuardWanted call) ks (λ s. refl))
@@ -209,20 +188,3 @@ call_written target list condition ps qs rs e h f = (
 )
 
 -- calls with commas between them
-pub first_call : (old new : List kept_call.Called) (x : kept_call.Called) (ps : List Part) → old ≡ [] → new ≡ old ++ x ∷ [] → IsWrittenCall ps (called_of x) → AreWrittenCalls ps (map called_of new)
-first_call old new x ps e h i = (
-  i.0 ∷ [],
-  i.1 ∙ sym (append-nil (called_parts i.0)),
-  ap (λ (y : Call). y ∷ []) i.2 ∙ sym (ap (λ (xs : List kept_call.Called). map called_of xs) (h ∙ ap (λ (xs : List kept_call.Called). xs ++ x ∷ []) e)),
-)
-
-pub more_call : (old new : List kept_call.Called) (x : kept_call.Called) (ps qs : List Part) → new ≡ old ++ x ∷ [] → 1 ≤ length old → AreWrittenCalls ps (map called_of old) → IsWrittenCall qs (called_of x) → AreWrittenCalls (ps ++ (Put Comma ∷ qs)) (map called_of new)
-more_call old new x ps qs h l i j =
-    let a = length-map old called_of in
-    let b = length-map i.0 plain_called in
-    let c = ap (length {A = Call}) i.2 in (
-      i.0 ++ j.0 ∷ [],
-      ap (λ (zs : List Part). zs ++ (Put Comma ∷ qs)) i.1 ∙ ap (λ (zs : List Part). with_commas called_parts i.0 ++ (Put Comma ∷ zs)) j.1 ∙ sym (commas_more called_parts i.0 j.0 (omega arith)),
-      map-append plain_called i.0 (j.0 ∷ []) ∙ ap (λ (ys : List Call). ys ++ plain_called j.0 ∷ []) i.2 ∙ ap (λ (y : Call). map called_of old ++ y ∷ []) j.2
-          ∙ sym (ap (λ (xs : List kept_call.Called). map called_of xs) h ∙ map-append called_of old (x ∷ [])),
-    )
