@@ -4,7 +4,7 @@ use Rattle.std.proofs.Common.{inl, inr}
 use Rattle.mj_ast.specs.declared.sign.Sign.{Sign}
 use Rattle.mj_ast.specs.declared.sign.Sign.TheVariants.{Close, Comma}
 use Rattle.mj_ast.specs.Commands.{Part, Put, Named, PieceCall}
-use Rattle.mj_line.specs.Forms.{Node, SetBehind, SetEnd, OutputEnd, KillEnd, MergeEnd, IfEnd, LimitEnd, NewEnd, GuardEnd, ActualEnd, labels, takes, wants, ends}
+use Rattle.mj_line.specs.Forms.{Mode, Node, SetBehind, SetEnd, OutputEnd, KillEnd, MergeEnd, IfEnd, LimitEnd, NewEnd, GuardEnd, ActualEnd, labels, takes, wants, ends}
 
 -- Items with commas between them, the parts of each such.
 abbrev pub AreItems : {X : Type 0} → (List Part → X → Type 0) → List Part → List X → Type 0
@@ -68,9 +68,9 @@ new_comma : comma_or NewEnd
 new_comma Comma = inr refl
 new_comma s = inl refl
 
-guard_comma : (call : Bool) → comma_or (GuardEnd call)
-guard_comma call Comma = inr refl
-guard_comma call s = inl refl
+guard_comma : (mode : Mode) → comma_or (GuardEnd mode)
+guard_comma mode Comma = inr refl
+guard_comma mode s = inl refl
 
 target_comma : comma_or_close (SetBehind true)
 target_comma Comma = inr (inl refl)
@@ -103,8 +103,8 @@ range_over = record { shut = record { unlabelled = refl; unnamed = λ w. refl; p
 pub new_over : IsOver NewEnd
 new_over = record { shut = record { unlabelled = refl; unnamed = λ w. refl; pieceless = refl; alone = refl }; comma = new_comma }
 
-pub guard_over : (call : Bool) → IsOver (GuardEnd call)
-guard_over call = record { shut = record { unlabelled = refl; unnamed = λ w. refl; pieceless = refl; alone = refl }; comma = guard_comma call }
+pub guard_over : (mode : Mode) → IsOver (GuardEnd mode)
+guard_over mode = record { shut = record { unlabelled = refl; unnamed = λ w. refl; pieceless = refl; alone = refl }; comma = guard_comma mode }
 
 pub targets_unclosed : IsUnclosed (SetBehind true)
 targets_unclosed = record { shut = record { unlabelled = refl; unnamed = λ w. refl; pieceless = refl; alone = refl }; comma = target_comma; open_yet = refl }

@@ -6,7 +6,7 @@ ghost use Rattle.mj_ast.specs.Trees.{called_of, expr_of};
 ghost use Rattle.mj_ast.specs.declared.sign.Sign.TheVariants.{Close};
 ghost use Rattle.mj_expr.specs.Machine.{Limits};
 ghost use Rattle.mj_lex.specs.Seen.{tokens_seen};
-ghost use Rattle.mj_line.specs.Forms.{ActualEnd, ActualWanted, ActualsEnd, EntryWanted, GuardEnd, RoutineEnd};
+ghost use Rattle.mj_line.specs.Forms.{ActualEnd, ActualWanted, ActualsEnd, Calls, EntryWanted, GuardEnd, RoutineEnd};
 ghost use Rattle.mj_cmd.specs.Heads.{HasOther};
 ghost use Rattle.mj_cmd.specs.Reads.{AreWrittenActuals, HasRoom, IsWrittenCall, Passes, PassesAs};
 
@@ -88,7 +88,7 @@ fn passed<'a, 't>(
     tokens: &'t [Lexeme<'a>],
 ) -> Result<(Vec<Option<Expr>>, &'t [Lexeme<'a>]), Stop>
     ensures shorter { IfOk result (λ x. length x.1.now ≤ length tokens.now) }
-    ensures reads { (m : Limits) → HasRoom phrases.limited m tokens.now → PassesAs phrases.limited (λ ps x. AreWrittenActuals ps (map (option_map expr_of) x.0.items)) (λ x. x.1.now) result m tokens.now (RoutineEnd true) ActualsEnd }
+    ensures reads { (m : Limits) → HasRoom phrases.limited m tokens.now → PassesAs phrases.limited (λ ps x. AreWrittenActuals ps (map (option_map expr_of) x.0.items)) (λ x. x.1.now) result m tokens.now (RoutineEnd Calls) ActualsEnd }
 {
     match behind_open(tokens) {
         None => Ok((Vec::new(phrases.alloc), tokens)),
@@ -105,7 +105,7 @@ fn called<'a, 't>(
     tokens: &'t [Lexeme<'a>],
 ) -> Result<(Called, &'t [Lexeme<'a>]), Stop>
     ensures shorter { IfOk result (λ x. length x.1.now ≤ length tokens.now) }
-    ensures reads { (m : Limits) → HasRoom phrases.limited m tokens.now → (first : Bool) → (first ≡ false) ⊎ HasOther (tokens_seen tokens.now) → PassesAs phrases.limited (λ ps x. IsWrittenCall ps (called_of x.0)) (λ x. x.1.now) result m tokens.now (EntryWanted true first) (GuardEnd true) }
+    ensures reads { (m : Limits) → HasRoom phrases.limited m tokens.now → (first : Bool) → (first ≡ false) ⊎ HasOther (tokens_seen tokens.now) → PassesAs phrases.limited (λ ps x. IsWrittenCall ps (called_of x.0)) (λ x. x.1.now) result m tokens.now (EntryWanted Calls first) (GuardEnd Calls) }
 {
     let (target, rest) = entry(phrases, tokens)?;
     let (actuals, rest) = passed(phrases, rest)?;
@@ -121,11 +121,11 @@ fn called<'a, 't>(
 }
 
 impl Item for Called {
-    ghost first_at = { EntryWanted true true };
+    ghost first_at = { EntryWanted Calls true };
 
-    ghost more_at = { EntryWanted true false };
+    ghost more_at = { EntryWanted Calls false };
 
-    ghost behind_at = { GuardEnd true };
+    ghost behind_at = { GuardEnd Calls };
 
     ghost begins = { HasOther };
 
@@ -144,5 +144,5 @@ impl Item for Called {
 impl Argument for Called {
     ghost use Rattle.mj_cmd.specs.Lists.{guard_over};
 
-    ghost over = { guard_over true };
+    ghost over = { guard_over Calls };
 }

@@ -5,7 +5,7 @@ ghost use Rattle.mj_ast.specs.Commands.{Named, condition_parts, guard_parts, jum
 ghost use Rattle.mj_ast.specs.Trees.{expr_of, jumped_of, renewed_of, target_of};
 ghost use Rattle.mj_expr.specs.Machine.{Limits};
 ghost use Rattle.mj_lex.specs.Seen.{tokens_seen};
-ghost use Rattle.mj_line.specs.Forms.{EntryWanted, GuardEnd, IfEnd, IfWanted, NewEnd, NewWanted, Node, RoutineEnd, RoutineWanted, ends};
+ghost use Rattle.mj_line.specs.Forms.{EntryWanted, GuardEnd, IfEnd, IfWanted, Jumps, Mode, NewEnd, NewWanted, Node, RoutineEnd, RoutineWanted, ends};
 ghost use Rattle.mj_cmd.specs.Heads.{HasOther};
 ghost use Rattle.mj_cmd.specs.Parts.{MayBeGuarded};
 ghost use Rattle.mj_cmd.specs.Reads.{HasRoom, Passes};
@@ -116,7 +116,7 @@ fn routine<'a, 't>(
     tokens: &'t [Lexeme<'a>],
 ) -> Result<(Text, &'t [Lexeme<'a>]), Stop>
     ensures shorter { IfOk result (λ x. length x.1.now ≤ length tokens.now) }
-    ensures reads { (m : Limits) → (call : Bool) → Passes phrases.limited (λ x. Named x.0 ∷ []) (λ x. x.1.now) result m tokens.now (RoutineWanted call) (RoutineEnd call) }
+    ensures reads { (m : Limits) → (mode : Mode) → Passes phrases.limited (λ x. Named x.0 ∷ []) (λ x. x.1.now) result m tokens.now (RoutineWanted mode) (RoutineEnd mode) }
 {
     match behind_name(tokens) {
         None => Err(stuck(tokens)),
@@ -133,7 +133,7 @@ pub fn entry<'a, 't>(
     tokens: &'t [Lexeme<'a>],
 ) -> Result<(Target, &'t [Lexeme<'a>]), Stop>
     ensures shorter { IfOk result (λ x. length x.1.now ≤ length tokens.now) }
-    ensures reads { (m : Limits) → (call : Bool) → (first : Bool) → (ends (EntryWanted call first) ≡ false) ⊎ HasOther (tokens_seen tokens.now) → Passes phrases.limited (λ x. target_parts (target_of x.0)) (λ x. x.1.now) result m tokens.now (EntryWanted call first) (RoutineEnd call) }
+    ensures reads { (m : Limits) → (mode : Mode) → (first : Bool) → (ends (EntryWanted mode first) ≡ false) ⊎ HasOther (tokens_seen tokens.now) → Passes phrases.limited (λ x. target_parts (target_of x.0)) (λ x. x.1.now) result m tokens.now (EntryWanted mode first) (RoutineEnd mode) }
 {
     match behind_entry_label(tokens) {
         None => match behind_caret(tokens) {
@@ -176,7 +176,7 @@ pub fn guard<'a, 't>(
     tokens: &'t [Lexeme<'a>],
 ) -> Result<(Option<Expr>, &'t [Lexeme<'a>]), Stop>
     ensures shorter { IfOk result (λ x. length x.1.now ≤ length tokens.now) }
-    ensures reads { (m : Limits) → HasRoom phrases.limited m tokens.now → (call : Bool) → (n : Node) → MayBeGuarded call n (tokens_seen tokens.now) → Passes phrases.limited (λ x. guard_parts (option_map expr_of x.0)) (λ x. x.1.now) result m tokens.now n (GuardEnd call) }
+    ensures reads { (m : Limits) → HasRoom phrases.limited m tokens.now → (mode : Mode) → (n : Node) → MayBeGuarded mode n (tokens_seen tokens.now) → Passes phrases.limited (λ x. guard_parts (option_map expr_of x.0)) (λ x. x.1.now) result m tokens.now n (GuardEnd mode) }
 {
     match behind_colon(tokens) {
         None => Ok((None, tokens)),
@@ -193,7 +193,7 @@ fn jump<'a, 't>(
     tokens: &'t [Lexeme<'a>],
 ) -> Result<(Jumped, &'t [Lexeme<'a>]), Stop>
     ensures shorter { IfOk result (λ x. length x.1.now ≤ length tokens.now) }
-    ensures reads { (m : Limits) → HasRoom phrases.limited m tokens.now → (first : Bool) → Passes phrases.limited (λ x. jumped_parts (jumped_of x.0)) (λ x. x.1.now) result m tokens.now (EntryWanted false first) (GuardEnd false) }
+    ensures reads { (m : Limits) → HasRoom phrases.limited m tokens.now → (first : Bool) → Passes phrases.limited (λ x. jumped_parts (jumped_of x.0)) (λ x. x.1.now) result m tokens.now (EntryWanted Jumps first) (GuardEnd Jumps) }
 {
     let (target, rest) = entry(phrases, tokens)?;
     let (condition, rest) = guard(phrases, rest)?;
@@ -201,11 +201,11 @@ fn jump<'a, 't>(
 }
 
 impl Item for Jumped {
-    ghost first_at = { EntryWanted false true };
+    ghost first_at = { EntryWanted Jumps true };
 
-    ghost more_at = { EntryWanted false false };
+    ghost more_at = { EntryWanted Jumps false };
 
-    ghost behind_at = { GuardEnd false };
+    ghost behind_at = { GuardEnd Jumps };
 
     ghost spells = { λ ps x. ps ≡ jumped_parts (jumped_of x) };
 
@@ -222,5 +222,5 @@ impl Item for Jumped {
 impl Argument for Jumped {
     ghost use Rattle.mj_cmd.specs.Lists.{guard_over};
 
-    ghost over = { guard_over false };
+    ghost over = { guard_over Jumps };
 }

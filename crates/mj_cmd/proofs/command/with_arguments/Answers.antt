@@ -5,7 +5,7 @@ use Rattle.mj_ast.specs.Syntax.{Set, Write, Kill, Merge, If, For, Do, Goto, New}
 use Rattle.mj_ast.specs.Commands.{assignment_parts, output_parts, killed_parts, merged_parts, condition_parts, jumped_parts, renewed_parts}
 use Rattle.mj_ast.specs.Trees.{assignment_of, output_of, killed_of, merged_of, expr_of, variable_of, range_of, called_of, jumped_of, renewed_of}
 use Rattle.mj_lex.specs.Seen.{tokens_seen}
-use Rattle.mj_line.specs.Forms.{SetTarget, SetEnd, OutputWanted, OutputEnd, KillWanted, KillEnd, MergeInto, MergeEnd, IfWanted, IfEnd, ForWanted, LimitEnd, EntryWanted, GuardEnd, NewWanted, NewEnd, may_be_bare}
+use Rattle.mj_line.specs.Forms.{Calls, Jumps, SetTarget, SetEnd, OutputWanted, OutputEnd, KillWanted, KillEnd, MergeInto, MergeEnd, IfWanted, IfEnd, ForWanted, LimitEnd, EntryWanted, GuardEnd, NewWanted, NewEnd, may_be_bare}
 use Rattle.mj_line.specs.Machine.{Behind, At, args_rest, run}
 use Rattle.mj_cmd.proofs.Follow.{room_for, args_end, blank_opens, at_keyword}
 use Rattle.mj_cmd.proofs.Lists.{items_calls, items_parts}
@@ -83,9 +83,9 @@ returns-in_ok-arguments-in-Do-clause-reads c = λ m r o condition.
       a.0,
       λ l. let w = items_calls called_of c.in_ok-arguments-in-Do.arguments.items a.0 (a.1 l) in (Do w.0, w.1, ap Do w.2),
       at_keyword m o condition c.args.keyword keyword.Do (tokens_seen c.args.tokens.now) c.in-Do.is
-          ∙ blank_opens m o condition keyword.Do (EntryWanted true true) (tokens_seen c.args.tokens.now) (tokens_seen c.args.behind.now) c.requires.blank refl
+          ∙ blank_opens m o condition keyword.Do (EntryWanted Calls true) (tokens_seen c.args.tokens.now) (tokens_seen c.args.behind.now) c.requires.blank refl
           ∙ a.2
-          ∙ args_end m o condition keyword.Do a.0 (GuardEnd true) (tokens_seen c.in_ok-arguments-in-Do.rest.now) refl c.in_ok-arguments-in-Do.ensures.parted
+          ∙ args_end m o condition keyword.Do a.0 (GuardEnd Calls) (tokens_seen c.in_ok-arguments-in-Do.rest.now) refl c.in_ok-arguments-in-Do.ensures.parted
           ∙ kw,
     )
 
@@ -96,9 +96,9 @@ returns-in_ok-arguments-in-Goto-clause-reads c = λ m r o condition.
       a.0,
       λ l. (Goto (map jumped_of c.in_ok-arguments-in-Goto.arguments.items), items_parts jumped_of jumped_parts c.in_ok-arguments-in-Goto.arguments.items a.0 (a.1 l), refl),
       at_keyword m o condition c.args.keyword keyword.Goto (tokens_seen c.args.tokens.now) c.in-Goto.is
-          ∙ blank_opens m o condition keyword.Goto (EntryWanted false true) (tokens_seen c.args.tokens.now) (tokens_seen c.args.behind.now) c.requires.blank refl
+          ∙ blank_opens m o condition keyword.Goto (EntryWanted Jumps true) (tokens_seen c.args.tokens.now) (tokens_seen c.args.behind.now) c.requires.blank refl
           ∙ a.2
-          ∙ args_end m o condition keyword.Goto a.0 (GuardEnd false) (tokens_seen c.in_ok-arguments-in-Goto.rest.now) refl c.in_ok-arguments-in-Goto.ensures.parted
+          ∙ args_end m o condition keyword.Goto a.0 (GuardEnd Jumps) (tokens_seen c.in_ok-arguments-in-Goto.rest.now) refl c.in_ok-arguments-in-Goto.ensures.parted
           ∙ kw,
     )
 
