@@ -4,8 +4,8 @@
 use crate::reading::outcome;
 
 #[test]
-fn each_production_is_read(rt: HostRuntime) {
-    let rows: [(&[u8], &str); 65] = [
+fn lines_and_their_first_commands_are_as_the_grammar_says(rt: HostRuntime) {
+    let rows: [(&[u8], &str); 35] = [
         // lines, labels, formals
         (b" \t", "ok"),
         (b";any (", "ok"),
@@ -46,6 +46,16 @@ fn each_production_is_read(rt: HostRuntime) {
         (b" M X=Y,^X(1)=Z", "ok"),
         (b" M", "L2 R:1:3"),
         (b" M X", "L2 R:1:5"),
+    ];
+    for (bytes, wanted) in rows {
+        let given = outcome(rt.alloc(), bytes).expect(&rt, "memory");
+        assert_eq!(rt; given.as_str(), wanted, "{wanted}");
+    }
+}
+
+#[test]
+fn control_and_expressions_are_as_the_grammar_says(rt: HostRuntime) {
+    let rows: [(&[u8], &str); 30] = [
         // IF, ELSE, QUIT, FOR
         (b" I", "ok"),
         (b" IF 1,X", "ok"),
