@@ -2,7 +2,7 @@
 use Rattle.std.proofs.Common.{◌≡◌, ◌==◌, ℕ, zero, suc, ◌+◌, ◌-◌, ◌≤◌, ◌<◌, List, [], ◌∷◌, ◌++◌, length, refl, ap, sym, ◌∙◌, subst, Bool, true, false, append_assoc, append-nil, arith, Option, Some, None, map, Result, Ok, Err, nat_le, ◌⊎◌, inl, inr, length-append}
 use Rattle.std.specs.Prelude.{cond, replicate}
 use Rattle.std.specs.Result.{IfOk, IsErrAnd}
-use Rattle.std.proofs.lemmas.List.{map-append, length-map}
+use Rattle.std.proofs.lemmas.List.{map-append}
 use Rattle.std.proofs.lemmas.Bool.Decides.{nat_tests}
 use Rattle.mj_ast.specs.declared.sign.Sign.{Sign}
 use Rattle.mj_ast.specs.declared.sign.Sign.TheVariants.{Comma, Colon}
@@ -24,7 +24,7 @@ use Rattle.mj_expr.specs.Shapes.{IsEndOf}
 use Rattle.mj_expr.specs.Shapes as shapes
 use Rattle.mj_lex.specs.declared.token.Lexeme.{Lexeme}
 use Rattle.mj_lex.specs.Seen.{tokens_seen}
-use Rattle.mj_line.specs.Forms.{Node, OutputWanted, Want, AnExpr, AVar, ALocal, part_of, part_at, labels, takes, wants, ends, first_node, may_be_bare}
+use Rattle.mj_line.specs.Forms.{Node, Want, AnExpr, AVar, ALocal, part_of, part_at, labels, takes, wants, ends, first_node, may_be_bare}
 use Rattle.mj_line.specs.Sentences.{Clause, Sentence, clause_of}
 use Rattle.mj_line.specs.Machine.{bare_rest, ended_at, opened, Condition, Rest, Behind, Over, Worded, Asked, Bare, Args, Goal, Argument, State, At, In, IsClosed, with_clause, clause, args_rest, bare_rested, expression_wanted, variable_wanted, wanted, level, inside, behind, argument, entry, rested, Outcome, Accept, StuckAt, refused, run, turn, begins, first, Next, Go, Stuck, taken, moved, on_rested, entering, in_step}
 use Rattle.mj_line.proofs.Tables.{part_taken, word_apart, called_apart}
@@ -33,7 +33,6 @@ use Rattle.mj_line.proofs.Complete.{blanks_go, Parted, run_rests, args_rests, co
 use Rattle.mj_cmd.proofs.Locals.{MayEnter, may_enter}
 use Rattle.mj_cmd.specs.Heads.{HasNoComma, HasNoBlank, HasNoColon, HasNoWord, HasParted, HasOther}
 use Rattle.mj_cmd.specs.Reads.{HasRoom, Refuses, IsWritten, IsWrittenStep, AreWritten, ReadsAs, EndsAs, Reads, Ends}
-use Rattle.mj_cmd.specs.Lists.{comma_or}
 
 -- another token
 abbrev pub IsNoComment : Token → Type 0

@@ -1,27 +1,24 @@
 -- What the functions that read the arguments of IF, NEW, GOTO and DO follow.
-use Rattle.std.proofs.Common.{◌≡◌, ℕ, ◌≤◌, List, [], ◌∷◌, ◌++◌, length, refl, ap, sym, ◌∙◌, subst, Bool, true, false, append-nil, arith, Option, Some, None, map, nat_le, ◌⊎◌, inl, inr}
+use Rattle.std.proofs.Common.{◌≡◌, ℕ, ◌≤◌, List, [], ◌∷◌, ◌++◌, length, refl, ap, sym, ◌∙◌, subst, Bool, true, false, arith, Option, Some, None, nat_le, ◌⊎◌, inl, inr}
 use Rattle.std.specs.Prelude.{cond}
-use Rattle.std.proofs.lemmas.List.{map-append, length-map}
 use Rattle.std.proofs.lemmas.Bool.Decides.{nat_tests}
 use Rattle.mj_ast.specs.declared.sign.Sign.TheVariants.{Comma, Colon, Caret, Open, Close}
 use Rattle.mj_ast.specs.declared.keyword.Keyword.{Keyword}
 use Rattle.mj_ast.specs.Syntax.{Expr, Called as Call, Target}
-use Rattle.mj_ast.specs.Trees.{called_of}
-use Rattle.mj_ast.specs.declared.routine.Called as kept_call
 use Rattle.mj_ast.specs.Tokens.{Token, Word, Called, Digits, Signed}
 use Rattle.mj_ast.specs.Expressions.{callee_of}
-use Rattle.mj_ast.specs.Commands.{Part, Put, Label, with_commas, target_parts, actual_parts, actuals_parts, guard_parts, called_parts, plain_actuals, plain_called, plain}
+use Rattle.mj_ast.specs.Commands.{Part, Put, Label, with_commas, target_parts, actual_parts, actuals_parts, guard_parts, plain_actuals, plain}
 use Rattle.mj_expr.specs.Machine.{Limits}
 use Rattle.mj_lex.specs.declared.token.Lexeme.{Lexeme}
 use Rattle.mj_lex.specs.Seen.{tokens_seen}
-use Rattle.mj_line.specs.Forms.{Mode, Calls, Jumps, Node, IfWanted, IfEnd, NewWanted, NewEnd, EntryWanted, LabelEnd, RoutineWanted, RoutineEnd, ActualWanted, ActualEnd, ActualsEnd, GuardWanted, GuardEnd, part_of, part_at, labels, takes}
+use Rattle.mj_line.specs.Forms.{Mode, Calls, Jumps, Node, IfWanted, NewWanted, EntryWanted, LabelEnd, RoutineWanted, RoutineEnd, ActualWanted, ActualEnd, ActualsEnd, GuardWanted, GuardEnd, part_of, part_at, labels, takes}
 use Rattle.mj_line.specs.Sentences.{Sentence}
 use Rattle.mj_line.specs.Machine.{args_rest, first, on_rested}
 use Rattle.mj_line.proofs.Tables.{part_taken, called_apart}
 use Rattle.mj_cmd.specs.Heads.{HasNoComma, HasNoOpen, HasNoCaret, HasNoLabel, StartsLabel, HasNoClose, HasNoName, HasNoColon}
 use Rattle.mj_cmd.specs.Parts.{MayBeGuarded}
-use Rattle.mj_cmd.specs.Reads.{AreWrittenActuals, IsWrittenCall, AreWrittenCalls}
-use Rattle.mj_cmd.proofs.Follow.{Untaken, Went, went_as, went_token, SignUntaken, untaken_by, no_sign, comma_untaken, commas_more, kept_untaken_word, SameAt, went_same, name_neither, piece_neither, WentAs}
+use Rattle.mj_cmd.specs.Reads.{AreWrittenActuals, IsWrittenCall}
+use Rattle.mj_cmd.proofs.Follow.{Untaken, Went, went_as, went_token, SignUntaken, untaken_by, no_sign, kept_untaken_word, SameAt, went_same, name_neither, piece_neither, WentAs}
 
 -- IF, NEW and GOTO
 pub if_untaken : (first : Bool) (ks : List Token) → Untaken (IfWanted first) ks

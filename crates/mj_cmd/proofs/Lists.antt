@@ -1,5 +1,5 @@
 -- Lists of items with commas between them.
-use Rattle.std.proofs.Common.{◌≡◌, ◌∙◌, ◌⊎◌, inl, inr, None, List, [], ◌∷◌, ◌++◌, refl, ap, sym, subst, map, append_assoc, append-nil, true, Bool, Option, Some}
+use Rattle.std.proofs.Common.{◌≡◌, ◌∙◌, ◌⊎◌, inl, inr, None, List, [], ◌∷◌, ◌++◌, refl, ap, sym, subst, map, append_assoc, append-nil, Bool, Option, Some}
 use Rattle.mj_ast.specs.declared.sign.Sign.{Sign}
 use Rattle.mj_ast.specs.declared.sign.Sign.TheVariants.{Close, Comma}
 use Rattle.mj_ast.specs.declared.keyword.Keyword.{Keyword}

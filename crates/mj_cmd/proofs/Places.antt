@@ -21,15 +21,15 @@ use Rattle.mj_expr.specs.Machine.{Limits}
 use Rattle.mj_expr.specs.declared.stop.Stop.{Stop}
 use Rattle.mj_lex.specs.declared.token.Lexeme.{Lexeme}
 use Rattle.mj_lex.specs.Seen.{tokens_seen}
-use Rattle.mj_line.specs.Forms.{Node, SetTarget, PieceOpens, PieceVariable, PieceComma, PieceText, PieceBehind, SetBehind, SetValue, SetEnd, OutputWanted, OutputEnd, MarksEnd, KillWanted, NameWanted, NameBehind, KillEnd, MergeInto, MergeBehind, MergeFrom, MergeEnd, KeptWanted, KeptBehind, part_of, part_at, labels, piece_part, takes, wants, ends}
+use Rattle.mj_line.specs.Forms.{Node, SetTarget, PieceOpens, PieceVariable, PieceComma, PieceText, PieceBehind, SetBehind, SetValue, OutputWanted, OutputEnd, MarksEnd, KillWanted, NameWanted, NameBehind, MergeInto, MergeBehind, MergeFrom, KeptWanted, KeptBehind, part_of, part_at, labels, piece_part, takes, wants, ends}
 use Rattle.mj_line.specs.Sentences.{Sentence}
-use Rattle.mj_line.specs.Machine.{Behind, Args, At, args_rest, behind, on_rested, refused, run, first}
+use Rattle.mj_line.specs.Machine.{Args, At, args_rest, behind, on_rested, run, first}
 use Rattle.mj_line.proofs.Tables.{part_taken, word_apart, called_apart}
-use Rattle.mj_cmd.specs.Heads.{HasNoComma, HasNoEquals, HasNoMark, HasNoOpen, HasNoClose, HasNoPiece, HasNoName, HasParted, HasOther}
+use Rattle.mj_cmd.specs.Heads.{HasNoComma, HasNoEquals, HasNoMark, HasNoOpen, HasNoClose, HasNoPiece, HasNoName}
 use Rattle.mj_cmd.specs.Parts.{piece_node, opened_parts, name_wanted, name_behind, name_end, NotListed}
 use Rattle.mj_cmd.specs.Lists.{comma_or}
 use Rattle.mj_cmd.specs.Reads.{Reads}
-use Rattle.mj_cmd.proofs.Follow.{refuses_from, Untaken, here_stuck, token_run, Went, went_then, went_as, went_token, SignUntaken, untaken_by, no_sign, comma_untaken, commas_more, kept_untaken_word, went_word, SameAt, name_neither, piece_neither}
+use Rattle.mj_cmd.proofs.Follow.{refuses_from, Untaken, token_run, Went, went_then, went_as, went_token, SignUntaken, untaken_by, no_sign, comma_untaken, commas_more, kept_untaken_word, went_word, SameAt, name_neither, piece_neither}
 
 piece_comma : (listed : Bool) → comma_or (PieceComma listed)
 piece_comma listed Comma = inr refl

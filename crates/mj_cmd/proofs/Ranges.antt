@@ -1,6 +1,6 @@
 -- What the functions that read the argument of FOR follow.
 use Rattle.std.proofs.Common.{◌≡◌, ◌∙◌, List, [], ◌∷◌, length, refl, ap, Bool, true, false, Option, Some, nat_le, inl, inr}
-use Rattle.mj_ast.specs.declared.sign.Sign.TheVariants.{Equals, Comma, Colon}
+use Rattle.mj_ast.specs.declared.sign.Sign.TheVariants.{Equals, Colon}
 use Rattle.mj_ast.specs.declared.keyword.Keyword.{Keyword}
 use Rattle.mj_ast.specs.Syntax.{Expr, Variable}
 use Rattle.mj_ast.specs.Tokens.{Token, Word, Called, Signed}
@@ -15,9 +15,9 @@ use Rattle.mj_line.specs.Forms.{Node, ForWanted, ForBehind, RangeWanted, RangeEn
 use Rattle.mj_line.specs.Sentences.{Sentence}
 use Rattle.mj_line.specs.Machine.{Args, Argument, At, In, args_rest, expression_wanted, variable_wanted, behind, on_rested, run}
 use Rattle.mj_line.proofs.Tables.{called_apart}
-use Rattle.mj_cmd.specs.Heads.{HasNoComma, HasNoEquals, HasNoColon, HasNoCaret, HasOther}
+use Rattle.mj_cmd.specs.Heads.{HasNoEquals, HasNoColon, HasNoCaret, HasOther}
 use Rattle.mj_cmd.specs.Reads.{Refuses}
-use Rattle.mj_cmd.proofs.Follow.{Untaken, SignUntaken, Went, SameAt, sign_at, enter_here, went_then, went_token, went_text, went_same, fails_then, fails_enter, untaken_by, no_sign, comma_untaken, name_neither, piece_neither}
+use Rattle.mj_cmd.proofs.Follow.{Untaken, SignUntaken, Went, SameAt, sign_at, enter_here, went_then, went_token, went_text, went_same, fails_then, fails_enter, untaken_by, no_sign, name_neither, piece_neither}
 
 -- ---- what is not taken
 

@@ -1,9 +1,8 @@
 -- What a function that reads a part of a line returns.
-use Rattle.std.specs.Prelude.{◌≡◌, ◌≤◌, ◌+◌, ◌⊎◌, Bool, true, false, List, ◌++◌, length, Option, map, Result, Ok, Err}
+use Rattle.std.specs.Prelude.{◌≡◌, ◌≤◌, ◌+◌, Bool, true, false, List, ◌++◌, length, Option, map, Result, Ok, Err}
 use Rattle.mj_ast.specs.Expressions.{depth_limit, width_limit}
 use Rattle.mj_ast.specs.declared.keyword.Keyword.{Keyword}
 use Rattle.mj_ast.specs.Syntax.{Expr, Called, Command, Step, Line}
-use Rattle.mj_ast.specs.Tokens.{Token}
 use Rattle.mj_ast.specs.Commands.{Part, actuals_parts, called_parts, command_parts, with_commas, plain, plain_actuals, plain_called, plain_step}
 use Rattle.mj_ast.specs.Lines.{plain_line}
 use Rattle.mj_lex.specs.declared.token.Lexeme.{Lexeme}

@@ -11,8 +11,8 @@ use crate::stand::{
 };
 use crate::tokens::{
     ends_in_caret, ends_in_digits, ends_in_star, has_dollar, is_at, is_bar, is_bracket, is_close,
-    is_comma, is_dollar, is_dot, is_negated_question, is_open, is_plus, is_question, is_slash, is_star,
-    starts_digits, starts_dollar, starts_word,
+    is_comma, is_dollar, is_dot, is_negated_question, is_open, is_plus, is_question, is_slash,
+    is_star, starts_digits, starts_dollar, starts_word,
 };
 use crate::words::{
     called, innermost, is_e, is_extract, is_justify, is_later, is_name, is_order_name, is_query,

@@ -1,7 +1,7 @@
-use Rattle.std.proofs.Common.{◌≡◌, List, ◌++◌, refl, sym, subst, inr, arith, true, map, option_map}
+use Rattle.std.proofs.Common.{◌≡◌, List, ◌++◌, refl, sym, subst, inr, arith, map, option_map}
 use Rattle.mj_ast.specs.Commands.{Part, target_parts, guard_parts}
 use Rattle.mj_ast.specs.Trees.{expr_of, target_of}
-use Rattle.mj_line.specs.Forms.{Calls, Jumps, EntryWanted, RoutineEnd, ActualsEnd, GuardEnd}
+use Rattle.mj_line.specs.Forms.{Calls, EntryWanted, RoutineEnd, ActualsEnd, GuardEnd}
 use Rattle.mj_cmd.specs.Reads.{AreWrittenActuals, IsWrittenCall}
 use Rattle.mj_cmd.proofs.Follow.{reads_as_err, room_for, joined, fails_then, fails_behind}
 use Rattle.mj_cmd.proofs.Jumps.{call_of, call_written}

@@ -1,10 +1,10 @@
-use Rattle.std.proofs.Common.{◌≡◌, ◌∙◌, List, [], ◌∷◌, ◌++◌, refl, ap, arith, true, map, option_map}
+use Rattle.std.proofs.Common.{◌≡◌, ◌∙◌, List, [], ◌∷◌, ◌++◌, refl, ap, arith, map, option_map}
 use Rattle.std.proofs.lemmas.List.{length-map}
 use Rattle.mj_ast.specs.declared.sign.Sign.TheVariants.{Open, Close}
 use Rattle.mj_ast.specs.Tokens.{Signed}
 use Rattle.mj_ast.specs.Commands.{Part, Put, with_commas, actual_parts}
 use Rattle.mj_ast.specs.Trees.{expr_of}
-use Rattle.mj_line.specs.Forms.{Calls, Jumps, RoutineEnd, ActualWanted, ActualsEnd}
+use Rattle.mj_line.specs.Forms.{Calls, RoutineEnd, ActualWanted, ActualsEnd}
 use Rattle.mj_cmd.specs.Lists.{AreItems}
 use Rattle.mj_cmd.specs.Reads.{AreWrittenActuals}
 use Rattle.mj_cmd.proofs.Lists.{items_parts}

@@ -3,7 +3,7 @@ use Rattle.mj_ast.specs.declared.sign.Sign.TheVariants.{Caret}
 use Rattle.mj_ast.specs.Tokens.{Signed}
 use Rattle.mj_ast.specs.Commands.{Put, Named, Label}
 use Rattle.mj_lex.specs.Seen.{tokens_seen}
-use Rattle.mj_line.specs.Forms.{Jumps, EntryWanted, LabelEnd, RoutineWanted, RoutineEnd}
+use Rattle.mj_line.specs.Forms.{EntryWanted, LabelEnd, RoutineWanted, RoutineEnd}
 use Rattle.mj_cmd.proofs.Follow.{went_then, went_token, fails_here}
 use Rattle.mj_cmd.proofs.Jumps.{went_label, went_unnamed, entry_untaken}
 use Rattle.mj_cmd.proofs.control.entry.Goals as goal

@@ -3,7 +3,7 @@ use Rattle.mj_ast.specs.declared.sign.Sign.TheVariants.{Colon}
 use Rattle.mj_ast.specs.Commands.{Put, Text}
 use Rattle.mj_ast.specs.Trees.{expr_of}
 use Rattle.mj_lex.specs.Seen.{tokens_seen}
-use Rattle.mj_line.specs.Forms.{Jumps, GuardWanted, GuardEnd, AnExpr}
+use Rattle.mj_line.specs.Forms.{GuardWanted, GuardEnd, AnExpr}
 use Rattle.mj_line.specs.Machine.{Argument}
 use Rattle.mj_cmd.proofs.Follow.{reads_err, room_for, went_then, went_text, fails_then, fails_enter}
 use Rattle.mj_cmd.proofs.Jumps.{went_colon, went_unguarded, guard_text_untaken}

@@ -1,4 +1,4 @@
-use Rattle.std.proofs.Common.{refl, inl, false, option_map}
+use Rattle.std.proofs.Common.{refl, inl, option_map}
 use Rattle.mj_ast.specs.Commands.{target_parts, guard_parts}
 use Rattle.mj_ast.specs.Trees.{expr_of, target_of}
 use Rattle.mj_line.specs.Forms.{Jumps, EntryWanted, RoutineEnd, GuardEnd}

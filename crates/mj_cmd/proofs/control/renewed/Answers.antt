@@ -3,7 +3,7 @@ use Rattle.mj_ast.specs.declared.sign.Sign.TheVariants.{Open, Close}
 use Rattle.mj_ast.specs.Tokens.{Signed}
 use Rattle.mj_ast.specs.Commands.{Put, with_commas, name_parts}
 use Rattle.mj_lex.specs.Seen.{tokens_seen}
-use Rattle.mj_line.specs.Forms.{Jumps, NewWanted, NewEnd, KeptWanted}
+use Rattle.mj_line.specs.Forms.{NewWanted, NewEnd, KeptWanted}
 use Rattle.mj_cmd.proofs.Follow.{reads_err, went_then, went_token, went_word, fails_then, fails_here}
 use Rattle.mj_cmd.proofs.Jumps.{renewed_untaken}
 use Rattle.mj_cmd.proofs.control.renewed.Goals as goal

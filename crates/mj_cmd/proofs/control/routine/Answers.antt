@@ -1,6 +1,6 @@
 use Rattle.std.proofs.Common.{refl, inl}
 use Rattle.mj_lex.specs.Seen.{tokens_seen}
-use Rattle.mj_line.specs.Forms.{Jumps, RoutineWanted, RoutineEnd}
+use Rattle.mj_line.specs.Forms.{RoutineWanted, RoutineEnd}
 use Rattle.mj_cmd.proofs.Follow.{went_word, fails_here}
 use Rattle.mj_cmd.proofs.Jumps.{routine_untaken}
 use Rattle.mj_cmd.proofs.control.routine.Goals as goal

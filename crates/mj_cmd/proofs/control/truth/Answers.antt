@@ -1,7 +1,7 @@
 use Rattle.std.proofs.Common.{refl}
 use Rattle.mj_ast.specs.Trees.{expr_of}
 use Rattle.mj_lex.specs.Seen.{tokens_seen}
-use Rattle.mj_line.specs.Forms.{Jumps, IfWanted, IfEnd, AnExpr}
+use Rattle.mj_line.specs.Forms.{IfWanted, IfEnd, AnExpr}
 use Rattle.mj_line.specs.Machine.{Argument}
 use Rattle.mj_cmd.proofs.Follow.{reads_err, went_text, fails_enter}
 use Rattle.mj_cmd.proofs.Jumps.{if_untaken}

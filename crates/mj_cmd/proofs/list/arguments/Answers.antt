@@ -1,5 +1,4 @@
-use Rattle.std.proofs.Common.{◌∙◌, List, ◌++◌, ap, sym, true}
-use Rattle.mj_ast.specs.Commands.{Part}
+use Rattle.std.proofs.Common.{◌∙◌, List, ◌++◌, ap, sym}
 use Rattle.mj_lex.specs.declared.token.Lexeme.{Lexeme}
 use Rattle.mj_lex.specs.Seen.{tokens_seen}
 use Rattle.mj_line.specs.Machine.{Args, At, run}

@@ -1,8 +1,7 @@
-use Rattle.std.proofs.Common.{[], ◌∷◌, ◌++◌, refl, List, true, arith}
+use Rattle.std.proofs.Common.{[], ◌∷◌, arith}
 use Rattle.mj_ast.specs.declared.sign.Sign.TheVariants.{Comma}
 use Rattle.mj_ast.specs.Tokens.{Signed}
-use Rattle.mj_ast.specs.Commands.{Part, Put}
-use Rattle.mj_lex.specs.Seen.{tokens_seen}
+use Rattle.mj_ast.specs.Commands.{Put}
 use Rattle.mj_line.specs.Forms.{labels}
 use Rattle.mj_cmd.specs.Lists.{AreItems}
 use Rattle.mj_cmd.proofs.Follow.{fails_behind, fails_then, kept_length, reads_as_err, room_for, sign_at, went_by, went_token}
