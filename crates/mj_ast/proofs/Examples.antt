@@ -3,7 +3,7 @@ use Rattle.std.proofs.Common.{◌≡◌, [], ◌∷◌, Some, None, false, inl, 
 use Rattle.std.specs.Fmt.{digits}
 use Rattle.std.specs.List.{IsDistinct}
 use Rattle.mj_oper.specs.declared.op.TruthOp.TheVariants.{Equal, SortsAfter, Or}
-use Rattle.mj_ast.specs.declared.sign.Sign.TheVariants.{Star, Caret, Colon, Equals, CloseBracket, CloseBrackets, Exclamation, Apostrophe, Negated, NegatedQuestion, Open, Close, Comma}
+use Rattle.mj_ast.specs.declared.sign.Sign.TheVariants.{Star, Caret, Colon, Equals, CloseBracket, CloseBrackets, Exclamation, Apostrophe, Negated, Question, NegatedQuestion, Open, Close, Comma}
 use Rattle.mj_ast.specs.Tokens.{Word, Called, Special, Digits, Quoted, Signed, Blank, Comment, Unclosed, Stray, lexemes, tokens, column}
 use Rattle.mj_ast.specs.declared.keyword.Keyword.TheVariants as keyword
 use Rattle.mj_ast.specs.declared.function.Function.TheVariants.{QLength, QSubscript, Reverse, Translate}
@@ -71,7 +71,7 @@ questions : tokens (codes "'?''?'") ≡ Signed NegatedQuestion ∷ Signed Apostr
 unfolding lexemes
 questions = refl
 
-lone_question : tokens (codes "?'=?") ≡ Stray 63 ∷ Signed (Negated Equal) ∷ Stray 63 ∷ []
+lone_question : tokens (codes "?'=?") ≡ Signed Question ∷ Signed (Negated Equal) ∷ Signed Question ∷ []
 unfolding lexemes
 lone_question = refl
 

@@ -13,6 +13,7 @@
 --   structured        `$` directly behind `^`, a word behind it or not
 --   by reference      `.` and a word where an actual may begin
 --   entry offset      `+` behind the label of an entry
+--   mnemonic space    `/` where an argument of WRITE may begin
 --   set extract       `$EXTRACT(` as a destination
 --   justify decimals  the second comma in `$JUSTIFY`
 --   query backward    the first comma in `$QUERY`
@@ -31,16 +32,17 @@
 use Rattle.std.specs.Prelude.{◌≡◌, ◌⊎◌, ℕ, ◌+◌, ◌-◌, ◌==◌, Bool, true, false, not, ◌&&◌, ◌||◌, List, [], ◌∷◌, ◌++◌, reverse, take, drop, Option, Some, None, codes}
 use Rattle.mj_ast.specs.declared.construct.Construct.{Construct}
 use Rattle.mj_ast.specs.declared.construct.Construct.TheVariants as construct
-use Rattle.mj_ast.specs.declared.sign.Sign.TheVariants.{Plus, Minus, Star, Underscore, OpenBracket, Apostrophe, NegatedQuestion, Caret, Open, Close, Comma, Dot}
+use Rattle.mj_ast.specs.declared.sign.Sign.TheVariants.{Plus, Minus, Star, Slash, Underscore, OpenBracket, Exclamation, Apostrophe, Question, NegatedQuestion, Caret, Open, Close, Comma, Dot}
 use Rattle.mj_ast.specs.declared.function.Function.TheVariants.{Extract, Justify}
 use Rattle.mj_ast.specs.declared.function.NameFunction.TheVariants as names
 use Rattle.mj_ast.specs.declared.function.Callee.{Callee}
 use Rattle.mj_ast.specs.declared.function.Callee.TheVariants.{Texts, Names}
 use Rattle.mj_ast.specs.declared.keyword.Keyword.{Keyword}
-use Rattle.mj_ast.specs.Syntax.{Line, Step, Command, Quit}
+use Rattle.mj_ast.specs.declared.keyword.Keyword.TheVariants as keyword
+use Rattle.mj_ast.specs.Syntax.{Line, Step}
 use Rattle.mj_ast.specs.Tokens.{Token, Word, Called, Special, Digits, Quoted, Signed, Blank, Stray, tokens}
 use Rattle.mj_ast.specs.Expressions.{callee_of, is_named}
-use Rattle.mj_ast.specs.Commands.{keyword_of}
+use Rattle.mj_ast.specs.Commands.{keyword_of, keyword_for}
 use Rattle.mj_ast.specs.Lines.{SpellsLine, BeginsLine, IsStuckAt}
 
 -- ---- names
@@ -57,6 +59,7 @@ name_of construct.Environment = codes "environment"
 name_of construct.Structured = codes "structured"
 name_of construct.ByReference = codes "by reference"
 name_of construct.EntryOffset = codes "entry offset"
+name_of construct.MnemonicSpace = codes "mnemonic space"
 name_of construct.SetExtract = codes "set extract"
 name_of construct.JustifyDecimals = codes "justify decimals"
 name_of construct.QueryBackward = codes "query backward"
@@ -73,12 +76,9 @@ abbrev pub is_stray : ℕ → Token → Bool
 is_stray byte (Stray b) = b == byte
 is_stray byte t = false
 
--- `@`, `?`, the vertical bar, and a `$` without a word
+-- `@`, the vertical bar, and a `$` without a word
 abbrev pub is_at : Token → Bool
 is_at t = is_stray 64 t
-
-abbrev pub is_question : Token → Bool
-is_question t = is_stray 63 t
 
 abbrev pub is_bar : Token → Bool
 is_bar t = is_stray 124 t
@@ -112,6 +112,10 @@ abbrev pub is_star : Token → Bool
 is_star (Signed Star) = true
 is_star t = false
 
+abbrev pub is_slash : Token → Bool
+is_slash (Signed Slash) = true
+is_slash t = false
+
 abbrev pub is_caret : Token → Bool
 is_caret (Signed Caret) = true
 is_caret t = false
@@ -135,6 +139,10 @@ is_plus t = false
 abbrev pub is_bracket : Token → Bool
 is_bracket (Signed OpenBracket) = true
 is_bracket t = false
+
+abbrev pub is_question : Token → Bool
+is_question (Signed Question) = true
+is_question t = false
 
 abbrev pub is_negated_question : Token → Bool
 is_negated_question (Signed NegatedQuestion) = true
@@ -182,6 +190,10 @@ MayBeOperator front = MayStand front (Signed Underscore)
 -- an actual may begin: an operand may, and as an actual may be left out, the list may also be closed
 abbrev pub MayBeginActual : List Token → Type 0
 MayBeginActual front = MayBeginOperand front × MayStand front (Signed Close)
+
+-- An argument of WRITE may begin: an operand may, and so may a run of `!`, which is a binary operator where no operand may.
+abbrev pub MayBeginOutput : List Token → Type 0
+MayBeginOutput front = MayBeginOperand front × MayStand front (Signed Exclamation)
 
 -- the label of an entry was read: a word or digits with a `^` behind them are one
 abbrev pub is_label : Token → Bool
@@ -333,29 +345,31 @@ is_two_dollars t behind = is_dollar t && starts has_dollar behind
 abbrev pub is_match : Token → Bool
 is_match t = is_question t || is_negated_question t
 
--- ---- an argument of QUIT
+-- ---- the command that stands last
 
--- the command is QUIT
-abbrev pub is_quit : Command → Bool
-is_quit Quit = true
-is_quit c = false
+-- the last command of a line, by its word
+abbrev pub last_keyword : List Step → Option Keyword
+last_keyword [] = None
+last_keyword (s ∷ []) = Some (keyword_for s.command)
+last_keyword (s ∷ t ∷ ss) = last_keyword (t ∷ ss)
 
--- the last command is
-abbrev pub quits : List Step → Bool
-quits [] = false
-quits (s ∷ []) = is_quit s.command
-quits (s ∷ t ∷ ss) = quits (t ∷ ss)
-
--- The tokens are those of a line up to the end of its last command, which is QUIT.
-pub record EndsInQuit (ks : List Token) : Type 0 where
+-- The tokens are those of a line up to the end of its last command, which is this one.
+pub record EndsInCommand (keyword : Keyword) (ks : List Token) : Type 0 where
   pub single : ends_in is_blank_token ks ≡ false
   pub line : Line
   pub spells : SpellsLine ks line
-  pub last : quits line.steps ≡ true
+  pub last : last_keyword line.steps ≡ Some keyword
 
--- and one blank behind it
-abbrev pub IsBehindQuit : List Token → Type 0
-IsBehindQuit front = (before : List Token) × (front ≡ before ++ Blank ∷ []) × EndsInQuit before
+-- the command that stands last in them, or none where they are no such line
+pub record IsLast (ks : List Token) (last : Option Keyword) : Type 0 where
+  pub found : (k : Keyword) → last ≡ Some k → EndsInCommand k ks
+  pub only : (k : Keyword) → EndsInCommand k ks → last ≡ Some k
+
+-- such a command, and one blank behind it
+abbrev pub IsBehindCommand : Keyword → List Token → Type 0
+IsBehindCommand keyword front = (before : List Token) × (front ≡ before ++ Blank ∷ []) × EndsInCommand keyword before
+
+-- ---- an argument of QUIT
 
 -- the token may begin an expression or an indirection
 abbrev pub begins_argument : Token → List Token → Bool
@@ -374,7 +388,7 @@ begins_argument (Stray b) behind = b == 64 || (b == 36 && starts has_dollar behi
 begins_argument t behind = false
 
 abbrev pub IsQuitArgument : List Token → Token → List Token → Type 0
-IsQuitArgument front t behind = (begins_argument t behind ≡ true) × IsBehindQuit front
+IsQuitArgument front t behind = (begins_argument t behind ≡ true) × IsBehindCommand keyword.Quit front
 
 -- ---- the table
 
@@ -391,6 +405,7 @@ Fits construct.Environment front t behind = ((is_bracket t || is_bar t) && ends_
 Fits construct.Structured front t behind = (has_dollar t && ends_in is_caret front) ≡ true
 Fits construct.ByReference front t behind = ((is_dot t && starts is_word behind) ≡ true) × MayBeginActual front
 Fits construct.EntryOffset front t behind = (is_plus t ≡ true) × IsBehindLabel front
+Fits construct.MnemonicSpace front t behind = (is_slash t ≡ true) × MayBeginOutput front
 Fits construct.SetExtract front t behind = (is_extract (called t) ≡ true) × MayBeginDestination front
 Fits construct.JustifyDecimals front t behind = is_comma_in is_justify 1 front t ≡ true
 Fits construct.QueryBackward front t behind = is_comma_in is_query 0 front t ≡ true
@@ -405,9 +420,9 @@ Fits construct.Extrinsic front t behind = is_two_dollars t behind ≡ true
 abbrev pub rows : List Construct
 rows =
     construct.Indirection ∷ construct.Fraction ∷ construct.Exponent ∷ construct.Power ∷ construct.Pattern ∷ construct.Naked
-    ∷ construct.Environment ∷ construct.Structured ∷ construct.ByReference ∷ construct.EntryOffset ∷ construct.SetExtract
-    ∷ construct.JustifyDecimals ∷ construct.QueryBackward ∷ construct.NameDepth ∷ construct.OrderNames ∷ construct.Function
-    ∷ construct.Variable ∷ construct.Command ∷ construct.Extrinsic ∷ []
+    ∷ construct.Environment ∷ construct.Structured ∷ construct.ByReference ∷ construct.EntryOffset ∷ construct.MnemonicSpace
+    ∷ construct.SetExtract ∷ construct.JustifyDecimals ∷ construct.QueryBackward ∷ construct.NameDepth ∷ construct.OrderNames
+    ∷ construct.Function ∷ construct.Variable ∷ construct.Command ∷ construct.Extrinsic ∷ []
 
 -- the first of the rows that fits there, if one does
 abbrev pub IsFirstOf : List Construct → List Token → Token → List Token → Option Construct → Type 0

@@ -5,7 +5,7 @@ use Rattle.std.specs.Prelude.{◌≡◌, ◌⊎◌, ℕ, zero, suc, ◌+◌, ◌
 use Rattle.mj_ast.specs.declared.sign.Sign.{Sign}
 use Rattle.mj_oper.specs.declared.op.TruthOp.{TruthOp}
 use Rattle.mj_oper.specs.declared.op.TruthOp.TheVariants as truth
-use Rattle.mj_ast.specs.declared.sign.Sign.TheVariants.{Plus, Minus, Star, Backslash, Hash, Slash, Underscore, Equals, Less, Greater, OpenBracket, CloseBracket, CloseBrackets, Ampersand, Exclamation, Apostrophe, Negated, NegatedQuestion, Caret, Open, Close, Comma, Colon, Dot}
+use Rattle.mj_ast.specs.declared.sign.Sign.TheVariants.{Plus, Minus, Star, Backslash, Hash, Slash, Underscore, Equals, Less, Greater, OpenBracket, CloseBracket, CloseBrackets, Ampersand, Exclamation, Apostrophe, Negated, Question, NegatedQuestion, Caret, Open, Close, Comma, Colon, Dot}
 
 -- a letter
 abbrev pub is_letter : ℕ → Bool
@@ -90,6 +90,7 @@ sign_bytes Ampersand = truth_bytes truth.And
 sign_bytes Exclamation = truth_bytes truth.Or
 sign_bytes Apostrophe = 39 ∷ []
 sign_bytes (Negated op) = 39 ∷ truth_bytes op
+sign_bytes Question = 63 ∷ []
 sign_bytes NegatedQuestion = 39 ∷ 63 ∷ []
 sign_bytes Caret = 94 ∷ []
 sign_bytes Open = 40 ∷ []
@@ -132,6 +133,7 @@ sign_class b =
     else if b == 38 then ASign Ampersand
     else if b == 33 then ASign Exclamation
     else if b == 39 then ASign Apostrophe
+    else if b == 63 then ASign Question
     else if b == 94 then ASign Caret
     else if b == 40 then ASign Open
     else if b == 41 then ASign Close

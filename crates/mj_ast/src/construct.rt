@@ -27,6 +27,8 @@ pub enum Construct {
     ByReference,
     /// `+` behind the label of an entry
     EntryOffset,
+    /// `/` where an argument of WRITE may begin
+    MnemonicSpace,
     /// `$EXTRACT(` as a destination
     SetExtract,
     /// the second comma in `$JUSTIFY`
@@ -65,6 +67,7 @@ impl Construct {
             Construct::Structured => "structured",
             Construct::ByReference => "by reference",
             Construct::EntryOffset => "entry offset",
+            Construct::MnemonicSpace => "mnemonic space",
             Construct::SetExtract => "set extract",
             Construct::JustifyDecimals => "justify decimals",
             Construct::QueryBackward => "query backward",

@@ -39,6 +39,8 @@ pub enum Sign {
     Apostrophe,
     /// `'` and the sign of a truth operator behind it, as `'=`
     Negated(TruthOp),
+    /// `?`
+    Question,
     /// `'?`
     NegatedQuestion,
     /// `^`

@@ -2,7 +2,7 @@
 use Rattle.std.proofs.Common.{◌≡◌, ◌==◌, ℕ, zero, suc, ◌+◌, ◌-◌, ◌≤◌, ◌<◌, List, [], ◌∷◌, ◌++◌, length, refl, ap, sym, ◌∙◌, subst, Bool, true, false, append_assoc, append-nil, arith, Option, Some, None, map, Result, Ok, Err, nat_le, ◌⊎◌, inl, inr, length-append}
 use Rattle.std.specs.Prelude.{cond, replicate}
 use Rattle.std.specs.Result.{IfOk, IsErrAnd}
-use Rattle.std.proofs.lemmas.List.{map-append, length-map}
+use Rattle.std.proofs.lemmas.List.{map-append}
 use Rattle.std.proofs.lemmas.Bool.Decides.{nat_tests}
 use Rattle.mj_ast.specs.declared.sign.Sign.{Sign}
 use Rattle.mj_ast.specs.declared.sign.Sign.TheVariants.{Comma, Colon}
@@ -24,7 +24,7 @@ use Rattle.mj_expr.specs.Shapes.{IsEndOf}
 use Rattle.mj_expr.specs.Shapes as shapes
 use Rattle.mj_lex.specs.declared.token.Lexeme.{Lexeme}
 use Rattle.mj_lex.specs.Seen.{tokens_seen}
-use Rattle.mj_line.specs.Forms.{Node, OutputWanted, Want, AnExpr, AVar, ALocal, part_of, part_at, labels, takes, wants, ends, first_node, may_be_bare}
+use Rattle.mj_line.specs.Forms.{Node, Want, AnExpr, AVar, ALocal, part_of, part_at, labels, takes, wants, ends, first_node, may_be_bare}
 use Rattle.mj_line.specs.Sentences.{Clause, Sentence, clause_of}
 use Rattle.mj_line.specs.Machine.{bare_rest, ended_at, opened, Condition, Rest, Behind, Over, Worded, Asked, Bare, Args, Goal, Argument, State, At, In, IsClosed, with_clause, clause, args_rest, bare_rested, expression_wanted, variable_wanted, wanted, level, inside, behind, argument, entry, rested, Outcome, Accept, StuckAt, refused, run, turn, begins, first, Next, Go, Stuck, taken, moved, on_rested, entering, in_step}
 use Rattle.mj_line.proofs.Tables.{part_taken, word_apart, called_apart}
@@ -32,7 +32,7 @@ use Rattle.mj_line.proofs.Facts.{lift_accept, lift_stuck, lift_deep, lift_long}
 use Rattle.mj_line.proofs.Complete.{blanks_go, Parted, run_rests, args_rests, complete_bare, NoColon, worded_bare}
 use Rattle.mj_cmd.proofs.Locals.{MayEnter, may_enter}
 use Rattle.mj_cmd.specs.Heads.{HasNoComma, HasNoBlank, HasNoColon, HasNoWord, HasParted, HasOther}
-use Rattle.mj_cmd.specs.Reads.{HasRoom, Refuses, IsWritten, IsWrittenStep, AreWritten, ReadsAs, EndsAs, Reads, Lists, Ends}
+use Rattle.mj_cmd.specs.Reads.{HasRoom, Refuses, IsWritten, IsWrittenStep, AreWritten, ReadsAs, EndsAs, Reads, Ends}
 
 -- another token
 abbrev pub IsNoComment : Token → Type 0
@@ -149,11 +149,6 @@ free_refuses limited wrap rest (stop.Deep n) m ls g s h = absurd h
 free_refuses limited wrap rest stop.Long m ls g s h = lift_long m (tokens_seen ls) g s h
 
 -- a refusal of an argument of WRITE that is passed on
-pub lists_err : {X : Type 0} (limited : Bool) (parts : X → List Part) (rest : X → List Lexeme) (r : Result X Stop) (x : Stop) (m : Limits) (ls : List Lexeme) →
-    IsErrAnd r (λ e. e ≡ x) → ((o : Sentence) → (condition : Option Expr) → (k : Keyword) → (done : List Part) → Refuses limited x (run m (tokens_seen ls) (At (Args o condition k done OutputWanted)))) → Lists limited parts rest r m ls
-lists_err limited parts rest (Ok y) x m ls e h = absurd e
-lists_err limited parts rest (Err y) x m ls e h = λ o condition k done. let P : Stop → Type 0 = λ v. Refuses limited v (run m (tokens_seen ls) (At (Args o condition k done OutputWanted))) in subst P (sym e) (h o condition k done)
-
 -- ---- parts of arguments
 
 -- no part of one token is taken there
@@ -312,9 +307,6 @@ only_comma n (t ∷ ks) h i = tt
 pub comma_untaken : (n : Node) (ks : List Token) → labels n ≡ false → ((w : List ℕ) → takes n (Named w) ≡ None) → takes n PieceCall ≡ None → ((s : Sign) → (takes n (Put s) ≡ None) ⊎ (s ≡ Comma)) → HasNoComma ks → Untaken n ks
 comma_untaken n ks l h i j z = untaken_by n ks l h i (only_comma n ks j z)
 
-abbrev pub comma_or : Node → Type 0
-comma_or n = (s : Sign) → (takes n (Put s) ≡ None) ⊎ (s ≡ Comma)
-
 -- one item more, behind a comma
 pub commas_more : {A : Type 0} (parts : A → List Part) (xs : List A) (y : A) → 1 ≤ length xs → with_commas parts (xs ++ y ∷ []) ≡ with_commas parts xs ++ (Put Comma ∷ parts y)
 commas_more parts [] y h = absurd (omega arith)
@@ -325,15 +317,7 @@ commas_more parts (x ∷ xs) y h = ap (λ (zs : List Part). parts x ++ zs) (behi
     behind_more parts (x ∷ xs) y = ap (λ (zs : List Part). Put Comma ∷ (parts x ++ zs)) (behind_more parts xs y) ∙ ap (λ (zs : List Part). Put Comma ∷ zs) (sym (append_assoc (parts x) (behind_commas parts xs) (Put Comma ∷ parts y)))
 
 -- the parts of items that are kept, with one more
-pub kept_more : {X T : Type 0} (f : X → T) (parts : T → List Part) (old new : List X) (x : X) → new ≡ old ++ x ∷ [] → 1 ≤ length old → with_commas parts (map f old) ++ (Put Comma ∷ parts (f x)) ≡ with_commas parts (map f new)
-kept_more {T = T} f parts old new x e h =
-    sym (commas_more parts (map f old) (f x) (let n = length-map old f in omega arith))
-    ∙ ap (with_commas parts) (sym (ap (map f) e ∙ map-append f old (x ∷ [])))
-
 -- the parts of the first
-pub kept_first : {X T : Type 0} (f : X → T) (parts : T → List Part) (old new : List X) (x : X) → old ≡ [] → new ≡ old ++ x ∷ [] → parts (f x) ≡ with_commas parts (map f new)
-kept_first f parts old new x e h = sym (append-nil (parts (f x))) ∙ ap (with_commas parts) (sym (ap (map f) (h ∙ ap (λ (xs : List _). xs ++ x ∷ []) e)))
-
 pub kept_length : {X : Type 0} (old new : List X) (x : X) → new ≡ old ++ x ∷ [] → 1 ≤ length new
 kept_length {X = X} old new x e = let n = ap (length {A = X}) e in let k = length-append old (x ∷ []) in omega arith
 

@@ -1,45 +1,28 @@
 -- What the functions that read the arguments of IF, NEW, GOTO and DO follow.
-use Rattle.std.proofs.Common.{◌≡◌, ℕ, ◌≤◌, List, [], ◌∷◌, ◌++◌, length, refl, ap, sym, ◌∙◌, subst, Bool, true, false, append-nil, arith, Option, Some, None, map, nat_le, ◌⊎◌, inl, inr}
+use Rattle.std.proofs.Common.{◌≡◌, ℕ, ◌≤◌, List, [], ◌∷◌, ◌++◌, length, refl, ap, sym, ◌∙◌, subst, Bool, true, false, arith, Option, Some, None, nat_le, ◌⊎◌, inl, inr}
 use Rattle.std.specs.Prelude.{cond}
-use Rattle.std.proofs.lemmas.List.{map-append, length-map}
 use Rattle.std.proofs.lemmas.Bool.Decides.{nat_tests}
 use Rattle.mj_ast.specs.declared.sign.Sign.TheVariants.{Comma, Colon, Caret, Open, Close}
 use Rattle.mj_ast.specs.declared.keyword.Keyword.{Keyword}
 use Rattle.mj_ast.specs.Syntax.{Expr, Called as Call, Target}
-use Rattle.mj_ast.specs.Trees.{called_of}
-use Rattle.mj_ast.specs.declared.routine.Called as kept_call
 use Rattle.mj_ast.specs.Tokens.{Token, Word, Called, Digits, Signed}
 use Rattle.mj_ast.specs.Expressions.{callee_of}
-use Rattle.mj_ast.specs.Commands.{Part, Put, Label, with_commas, target_parts, actual_parts, actuals_parts, guard_parts, called_parts, plain_actuals, plain_called, plain}
+use Rattle.mj_ast.specs.Commands.{Part, Put, Label, with_commas, target_parts, actual_parts, actuals_parts, guard_parts, plain_actuals, plain}
 use Rattle.mj_expr.specs.Machine.{Limits}
 use Rattle.mj_lex.specs.declared.token.Lexeme.{Lexeme}
 use Rattle.mj_lex.specs.Seen.{tokens_seen}
-use Rattle.mj_line.specs.Forms.{Node, IfWanted, IfEnd, NewWanted, NewEnd, EntryWanted, LabelEnd, RoutineWanted, RoutineEnd, ActualWanted, ActualEnd, ActualsEnd, GuardWanted, GuardEnd, part_of, part_at, labels, takes}
+use Rattle.mj_line.specs.Forms.{Mode, Calls, Jumps, Node, IfWanted, NewWanted, EntryWanted, LabelEnd, RoutineWanted, RoutineEnd, ActualWanted, ActualEnd, ActualsEnd, GuardWanted, GuardEnd, part_of, part_at, labels, takes}
 use Rattle.mj_line.specs.Sentences.{Sentence}
 use Rattle.mj_line.specs.Machine.{args_rest, first, on_rested}
 use Rattle.mj_line.proofs.Tables.{part_taken, called_apart}
 use Rattle.mj_cmd.specs.Heads.{HasNoComma, HasNoOpen, HasNoCaret, HasNoLabel, StartsLabel, HasNoClose, HasNoName, HasNoColon}
 use Rattle.mj_cmd.specs.Parts.{MayBeGuarded}
-use Rattle.mj_cmd.specs.Reads.{AreWrittenActuals, IsWrittenCall, AreWrittenCalls}
-use Rattle.mj_cmd.proofs.Follow.{Untaken, Went, went_as, went_token, SignUntaken, untaken_by, no_sign, comma_untaken, comma_or, commas_more, kept_untaken_word, SameAt, went_same, name_neither, piece_neither, WentAs}
+use Rattle.mj_cmd.specs.Reads.{AreWrittenActuals, IsWrittenCall}
+use Rattle.mj_cmd.proofs.Follow.{Untaken, Went, went_as, went_token, SignUntaken, untaken_by, no_sign, kept_untaken_word, SameAt, went_same, name_neither, piece_neither, WentAs}
 
 -- IF, NEW and GOTO
-if_comma : comma_or IfEnd
-if_comma Comma = inr refl
-if_comma s = inl refl
-
-pub truth_untaken : (ks : List Token) → HasNoComma ks → Untaken IfEnd ks
-truth_untaken ks h = comma_untaken IfEnd ks refl (λ w. refl) refl if_comma h
-
 pub if_untaken : (first : Bool) (ks : List Token) → Untaken (IfWanted first) ks
 if_untaken first ks = untaken_by (IfWanted first) ks refl (λ w. refl) refl (no_sign (IfWanted first) ks (λ s. refl))
-
-new_comma : comma_or NewEnd
-new_comma Comma = inr refl
-new_comma s = inl refl
-
-pub new_untaken : (ks : List Token) → HasNoComma ks → Untaken NewEnd ks
-new_untaken ks h = comma_untaken NewEnd ks refl (λ w. refl) refl new_comma h
 
 pub renewed_untaken : (first : Bool) (ks : List Token) → HasNoOpen ks → HasNoName ks → Untaken (NewWanted first) ks
 renewed_untaken first [] h i = tt
@@ -49,99 +32,92 @@ renewed_untaken first (Signed Open ∷ ks) h i = absurd h
 renewed_untaken first (Signed s ∷ ks) h i = refl
 renewed_untaken first (t ∷ ks) h i = refl
 
-guard_comma : (call : Bool) → comma_or (GuardEnd call)
-guard_comma call Comma = inr refl
-guard_comma call s = inl refl
+pub guard_text_untaken : (mode : Mode) (ks : List Token) → Untaken (GuardWanted mode) ks
+guard_text_untaken mode ks = untaken_by (GuardWanted mode) ks refl (λ w. refl) refl (no_sign (GuardWanted mode) ks (λ s. refl))
 
-pub guard_untaken : (call : Bool) (ks : List Token) → HasNoComma ks → Untaken (GuardEnd call) ks
-guard_untaken call ks h = comma_untaken (GuardEnd call) ks refl (λ w. refl) refl (guard_comma call) h
-
-pub guard_text_untaken : (call : Bool) (ks : List Token) → Untaken (GuardWanted call) ks
-guard_text_untaken call ks = untaken_by (GuardWanted call) ks refl (λ w. refl) refl (no_sign (GuardWanted call) ks (λ s. refl))
-
-pub routine_untaken : (call : Bool) (ks : List Token) → HasNoName ks → Untaken (RoutineWanted call) ks
-routine_untaken call [] h = tt
-routine_untaken call (Word w ∷ ks) h = kept_untaken_word (RoutineWanted call) w (nat_le (length w) 31) refl h
-routine_untaken call (Called w ∷ ks) h = called_apart (RoutineWanted call) (callee_of w) (nat_le (length w) 31) refl
-routine_untaken call (Signed s ∷ ks) h = refl
-routine_untaken call (t ∷ ks) h = refl
+pub routine_untaken : (mode : Mode) (ks : List Token) → HasNoName ks → Untaken (RoutineWanted mode) ks
+routine_untaken mode [] h = tt
+routine_untaken mode (Word w ∷ ks) h = kept_untaken_word (RoutineWanted mode) w (nat_le (length w) 31) refl h
+routine_untaken mode (Called w ∷ ks) h = called_apart (RoutineWanted mode) (callee_of w) (nat_le (length w) 31) refl
+routine_untaken mode (Signed s ∷ ks) h = refl
+routine_untaken mode (t ∷ ks) h = refl
 
 label_long : (w : List ℕ) (n : ℕ) (q : Node) (b : Bool) → nat_le (length w) n ≡ b → (length w ≤ n → ⊥) → part_taken q (cond b (Some (Label w)) None) ≡ None
 label_long w n q true e h = absurd (h (grind (arith, nat_tests)))
 label_long w n q false e h = refl
 
-pub entry_untaken : (call first : Bool) (ks : List Token) → HasNoLabel ks → HasNoCaret ks → Untaken (EntryWanted call first) ks
-entry_untaken call first [] h i = tt
-entry_untaken call first (Word w ∷ ks) h i = label_long w 31 (EntryWanted call first) (nat_le (length w) 31) refl h
-entry_untaken call first (Digits d ∷ ks) h i = label_long d 32767 (EntryWanted call first) (nat_le (length d) 32767) refl h
-entry_untaken call first (Called w ∷ ks) h i = called_apart (EntryWanted call first) (callee_of w) (nat_le (length w) 31) refl
-entry_untaken call first (Signed Caret ∷ ks) h i = absurd i
-entry_untaken call first (Signed s ∷ ks) h i = refl
-entry_untaken call first (t ∷ ks) h i = refl
+pub entry_untaken : (mode : Mode) (first : Bool) (ks : List Token) → HasNoLabel ks → HasNoCaret ks → Untaken (EntryWanted mode first) ks
+entry_untaken mode first [] h i = tt
+entry_untaken mode first (Word w ∷ ks) h i = label_long w 31 (EntryWanted mode first) (nat_le (length w) 31) refl h
+entry_untaken mode first (Digits d ∷ ks) h i = label_long d 32767 (EntryWanted mode first) (nat_le (length d) 32767) refl h
+entry_untaken mode first (Called w ∷ ks) h i = called_apart (EntryWanted mode first) (callee_of w) (nat_le (length w) 31) refl
+entry_untaken mode first (Signed Caret ∷ ks) h i = absurd i
+entry_untaken mode first (Signed s ∷ ks) h i = refl
+entry_untaken mode first (t ∷ ks) h i = refl
 
 -- a label
-went_label_at : (limited : Bool) (m : Limits) (call first : Bool) (ls rest : List Lexeme) (ks : List Token) (w t : List ℕ) (o : Sentence) (condition : Option Expr) (k : Keyword) (done : List Part) → tokens_seen ls ≡ ks → StartsLabel ks w (tokens_seen rest) → t ≡ w → Went limited (Label t ∷ []) m ls (EntryWanted call first) rest (LabelEnd call) o condition k done
-went_label_at limited m call first ls rest (Word x ∷ ks) w t o condition k done l h e =
-    went_as limited (Label x ∷ []) (Label t ∷ []) m ls (EntryWanted call first) rest (LabelEnd call) o condition k done (ap (λ (z : List ℕ). Label z ∷ []) (sym (e ∙ h.0)))
-    (went_token limited (Word x) (Label x) m ls (EntryWanted call first) rest (LabelEnd call) o condition k done (l ∙ ap (λ (zs : List Token). Word x ∷ zs) h.1) (ap (λ (b : Bool). cond b (Some (Label x)) None) (let i = h.2 in let z : nat_le (length x) 31 ≡ true = grind (arith, nat_tests) in z)) refl)
-went_label_at limited m call first ls rest (Digits x ∷ ks) w t o condition k done l h e =
-    went_as limited (Label x ∷ []) (Label t ∷ []) m ls (EntryWanted call first) rest (LabelEnd call) o condition k done (ap (λ (z : List ℕ). Label z ∷ []) (sym (e ∙ h.0)))
-    (went_token limited (Digits x) (Label x) m ls (EntryWanted call first) rest (LabelEnd call) o condition k done (l ∙ ap (λ (zs : List Token). Digits x ∷ zs) h.1) (ap (λ (b : Bool). cond b (Some (Label x)) None) (let i = h.2 in let z : nat_le (length x) 32767 ≡ true = grind (arith, nat_tests) in z)) refl)
-went_label_at limited m call first ls rest ks w t o condition k done l h e = absurd h
+went_label_at : (limited : Bool) (m : Limits) (mode : Mode) (first : Bool) (ls rest : List Lexeme) (ks : List Token) (w t : List ℕ) (o : Sentence) (condition : Option Expr) (k : Keyword) (done : List Part) → tokens_seen ls ≡ ks → StartsLabel ks w (tokens_seen rest) → t ≡ w → Went limited (Label t ∷ []) m ls (EntryWanted mode first) rest (LabelEnd mode) o condition k done
+went_label_at limited m mode first ls rest (Word x ∷ ks) w t o condition k done l h e =
+    went_as limited (Label x ∷ []) (Label t ∷ []) m ls (EntryWanted mode first) rest (LabelEnd mode) o condition k done (ap (λ (z : List ℕ). Label z ∷ []) (sym (e ∙ h.0)))
+    (went_token limited (Word x) (Label x) m ls (EntryWanted mode first) rest (LabelEnd mode) o condition k done (l ∙ ap (λ (zs : List Token). Word x ∷ zs) h.1) (ap (λ (b : Bool). cond b (Some (Label x)) None) (let i = h.2 in let z : nat_le (length x) 31 ≡ true = grind (arith, nat_tests) in z)) refl)
+went_label_at limited m mode first ls rest (Digits x ∷ ks) w t o condition k done l h e =
+    went_as limited (Label x ∷ []) (Label t ∷ []) m ls (EntryWanted mode first) rest (LabelEnd mode) o condition k done (ap (λ (z : List ℕ). Label z ∷ []) (sym (e ∙ h.0)))
+    (went_token limited (Digits x) (Label x) m ls (EntryWanted mode first) rest (LabelEnd mode) o condition k done (l ∙ ap (λ (zs : List Token). Digits x ∷ zs) h.1) (ap (λ (b : Bool). cond b (Some (Label x)) None) (let i = h.2 in let z : nat_le (length x) 32767 ≡ true = grind (arith, nat_tests) in z)) refl)
+went_label_at limited m mode first ls rest ks w t o condition k done l h e = absurd h
 
-pub went_label : (limited : Bool) (m : Limits) (call first : Bool) (ls rest : List Lexeme) (w t : List ℕ) (o : Sentence) (condition : Option Expr) (k : Keyword) (done : List Part) → StartsLabel (tokens_seen ls) w (tokens_seen rest) → t ≡ w → Went limited (Label t ∷ []) m ls (EntryWanted call first) rest (LabelEnd call) o condition k done
-went_label limited m call first ls rest w t o condition k done h e = went_label_at limited m call first ls rest (tokens_seen ls) w t o condition k done refl h e
+pub went_label : (limited : Bool) (m : Limits) (mode : Mode) (first : Bool) (ls rest : List Lexeme) (w t : List ℕ) (o : Sentence) (condition : Option Expr) (k : Keyword) (done : List Part) → StartsLabel (tokens_seen ls) w (tokens_seen rest) → t ≡ w → Went limited (Label t ∷ []) m ls (EntryWanted mode first) rest (LabelEnd mode) o condition k done
+went_label limited m mode first ls rest w t o condition k done h e = went_label_at limited m mode first ls rest (tokens_seen ls) w t o condition k done refl h e
 
 -- behind a label where no routine follows
-label_same : (m : Limits) (call : Bool) (ks : List Token) → HasNoCaret ks → SameAt m (LabelEnd call) (RoutineEnd call) ks
-label_same m call [] h o condition k done = refl
-label_same m call (Word w ∷ ks) h o condition k done = name_neither m (LabelEnd call) (RoutineEnd call) w ks o condition k done (nat_le (length w) 31) (on_rested (Some (args_rest o condition k done)) (Word w)) refl refl
-label_same m call (Called w ∷ ks) h o condition k done = piece_neither m (LabelEnd call) (RoutineEnd call) w ks o condition k done (part_of (Called w)) (on_rested (Some (args_rest o condition k done)) (Called w)) (called_apart (LabelEnd call) (callee_of w) (nat_le (length w) 31) refl) (called_apart (RoutineEnd call) (callee_of w) (nat_le (length w) 31) refl)
-label_same m call (Signed Caret ∷ ks) h o condition k done = absurd h
-label_same m call (Signed s ∷ ks) h o condition k done = refl
-label_same m call (t ∷ ks) h o condition k done = refl
+label_same : (m : Limits) (mode : Mode) (ks : List Token) → HasNoCaret ks → SameAt m (LabelEnd mode) (RoutineEnd mode) ks
+label_same m mode [] h o condition k done = refl
+label_same m mode (Word w ∷ ks) h o condition k done = name_neither m (LabelEnd mode) (RoutineEnd mode) w ks o condition k done (nat_le (length w) 31) (on_rested (Some (args_rest o condition k done)) (Word w)) refl refl
+label_same m mode (Called w ∷ ks) h o condition k done = piece_neither m (LabelEnd mode) (RoutineEnd mode) w ks o condition k done (part_of (Called w)) (on_rested (Some (args_rest o condition k done)) (Called w)) (called_apart (LabelEnd mode) (callee_of w) (nat_le (length w) 31) refl) (called_apart (RoutineEnd mode) (callee_of w) (nat_le (length w) 31) refl)
+label_same m mode (Signed Caret ∷ ks) h o condition k done = absurd h
+label_same m mode (Signed s ∷ ks) h o condition k done = refl
+label_same m mode (t ∷ ks) h o condition k done = refl
 
-pub went_unnamed : (limited : Bool) (m : Limits) (call : Bool) (ls : List Lexeme) (o : Sentence) (condition : Option Expr) (k : Keyword) (done : List Part) → HasNoCaret (tokens_seen ls) → Went limited [] m ls (LabelEnd call) ls (RoutineEnd call) o condition k done
-went_unnamed limited m call ls o condition k done h = went_same limited m (LabelEnd call) (RoutineEnd call) ls o condition k done (label_same m call (tokens_seen ls) h)
+pub went_unnamed : (limited : Bool) (m : Limits) (mode : Mode) (ls : List Lexeme) (o : Sentence) (condition : Option Expr) (k : Keyword) (done : List Part) → HasNoCaret (tokens_seen ls) → Went limited [] m ls (LabelEnd mode) ls (RoutineEnd mode) o condition k done
+went_unnamed limited m mode ls o condition k done h = went_same limited m (LabelEnd mode) (RoutineEnd mode) ls o condition k done (label_same m mode (tokens_seen ls) h)
 
 -- where no condition follows
-routine_same : (m : Limits) (call : Bool) (ks : List Token) → (call ≡ false) ⊎ HasNoOpen ks → HasNoColon ks → SameAt m (RoutineEnd call) (GuardEnd call) ks
-routine_same m call [] h i o condition k done = refl
-routine_same m call (Word w ∷ ks) h i o condition k done = name_neither m (RoutineEnd call) (GuardEnd call) w ks o condition k done (nat_le (length w) 31) (on_rested (Some (args_rest o condition k done)) (Word w)) refl refl
-routine_same m call (Called w ∷ ks) h i o condition k done = piece_neither m (RoutineEnd call) (GuardEnd call) w ks o condition k done (part_of (Called w)) (on_rested (Some (args_rest o condition k done)) (Called w)) (called_apart (RoutineEnd call) (callee_of w) (nat_le (length w) 31) refl) (called_apart (GuardEnd call) (callee_of w) (nat_le (length w) 31) refl)
-routine_same m call (Signed Colon ∷ ks) h i o condition k done = absurd i
-routine_same m call (Signed Open ∷ ks) (inr h) i o condition k done = absurd h
-routine_same m false (Signed Open ∷ ks) (inl h) i o condition k done = refl
-routine_same m true (Signed Open ∷ ks) (inl h) i o condition k done = absurd (let f : true ≡ false = h in cc)
-routine_same m call (Signed s ∷ ks) h i o condition k done = refl
-routine_same m call (t ∷ ks) h i o condition k done = refl
+routine_same : (m : Limits) (mode : Mode) (ks : List Token) → (mode ≡ Jumps) ⊎ HasNoOpen ks → HasNoColon ks → SameAt m (RoutineEnd mode) (GuardEnd mode) ks
+routine_same m mode [] h i o condition k done = refl
+routine_same m mode (Word w ∷ ks) h i o condition k done = name_neither m (RoutineEnd mode) (GuardEnd mode) w ks o condition k done (nat_le (length w) 31) (on_rested (Some (args_rest o condition k done)) (Word w)) refl refl
+routine_same m mode (Called w ∷ ks) h i o condition k done = piece_neither m (RoutineEnd mode) (GuardEnd mode) w ks o condition k done (part_of (Called w)) (on_rested (Some (args_rest o condition k done)) (Called w)) (called_apart (RoutineEnd mode) (callee_of w) (nat_le (length w) 31) refl) (called_apart (GuardEnd mode) (callee_of w) (nat_le (length w) 31) refl)
+routine_same m mode (Signed Colon ∷ ks) h i o condition k done = absurd i
+routine_same m mode (Signed Open ∷ ks) (inr h) i o condition k done = absurd h
+routine_same m Jumps (Signed Open ∷ ks) (inl h) i o condition k done = refl
+routine_same m Calls (Signed Open ∷ ks) (inl h) i o condition k done = absurd (let f : Calls ≡ Jumps = h in cc)
+routine_same m mode (Signed s ∷ ks) h i o condition k done = refl
+routine_same m mode (t ∷ ks) h i o condition k done = refl
 
-actuals_same : (m : Limits) (ks : List Token) → HasNoColon ks → SameAt m ActualsEnd (GuardEnd true) ks
+actuals_same : (m : Limits) (ks : List Token) → HasNoColon ks → SameAt m ActualsEnd (GuardEnd Calls) ks
 actuals_same m [] i o condition k done = refl
-actuals_same m (Word w ∷ ks) i o condition k done = name_neither m ActualsEnd (GuardEnd true) w ks o condition k done (nat_le (length w) 31) (on_rested (Some (args_rest o condition k done)) (Word w)) refl refl
-actuals_same m (Called w ∷ ks) i o condition k done = piece_neither m ActualsEnd (GuardEnd true) w ks o condition k done (part_of (Called w)) (on_rested (Some (args_rest o condition k done)) (Called w)) (called_apart ActualsEnd (callee_of w) (nat_le (length w) 31) refl) (called_apart (GuardEnd true) (callee_of w) (nat_le (length w) 31) refl)
+actuals_same m (Word w ∷ ks) i o condition k done = name_neither m ActualsEnd (GuardEnd Calls) w ks o condition k done (nat_le (length w) 31) (on_rested (Some (args_rest o condition k done)) (Word w)) refl refl
+actuals_same m (Called w ∷ ks) i o condition k done = piece_neither m ActualsEnd (GuardEnd Calls) w ks o condition k done (part_of (Called w)) (on_rested (Some (args_rest o condition k done)) (Called w)) (called_apart ActualsEnd (callee_of w) (nat_le (length w) 31) refl) (called_apart (GuardEnd Calls) (callee_of w) (nat_le (length w) 31) refl)
 actuals_same m (Signed Colon ∷ ks) i o condition k done = absurd i
 actuals_same m (Signed s ∷ ks) i o condition k done = refl
 actuals_same m (t ∷ ks) i o condition k done = refl
 
-guarded_same : (m : Limits) (call : Bool) (n : Node) (ks : List Token) → MayBeGuarded call n ks → HasNoColon ks → SameAt m n (GuardEnd call) ks
-guarded_same m call n ks (inl h) i = let P : Node → Type 0 = λ x. SameAt m x (GuardEnd call) ks in subst P (sym h.0) (routine_same m call ks h.1 i)
-guarded_same m call n ks (inr h) i =
-    let P : Node → Type 0 = λ x. SameAt m x (GuardEnd call) ks in
-    let Q : Bool → Type 0 = λ b. SameAt m ActualsEnd (GuardEnd b) ks in
+guarded_same : (m : Limits) (mode : Mode) (n : Node) (ks : List Token) → MayBeGuarded mode n ks → HasNoColon ks → SameAt m n (GuardEnd mode) ks
+guarded_same m mode n ks (inl h) i = let P : Node → Type 0 = λ x. SameAt m x (GuardEnd mode) ks in subst P (sym h.0) (routine_same m mode ks h.1 i)
+guarded_same m mode n ks (inr h) i =
+    let P : Node → Type 0 = λ x. SameAt m x (GuardEnd mode) ks in
+    let Q : Mode → Type 0 = λ b. SameAt m ActualsEnd (GuardEnd b) ks in
     subst P (sym h.0) (subst Q (sym h.1) (actuals_same m ks i))
 
-pub went_unguarded : (limited : Bool) (m : Limits) (call : Bool) (n : Node) (ls : List Lexeme) (o : Sentence) (condition : Option Expr) (k : Keyword) (done : List Part) → MayBeGuarded call n (tokens_seen ls) → HasNoColon (tokens_seen ls) → Went limited [] m ls n ls (GuardEnd call) o condition k done
-went_unguarded limited m call n ls o condition k done h i = went_same limited m n (GuardEnd call) ls o condition k done (guarded_same m call n (tokens_seen ls) h i)
+pub went_unguarded : (limited : Bool) (m : Limits) (mode : Mode) (n : Node) (ls : List Lexeme) (o : Sentence) (condition : Option Expr) (k : Keyword) (done : List Part) → MayBeGuarded mode n (tokens_seen ls) → HasNoColon (tokens_seen ls) → Went limited [] m ls n ls (GuardEnd mode) o condition k done
+went_unguarded limited m mode n ls o condition k done h i = went_same limited m n (GuardEnd mode) ls o condition k done (guarded_same m mode n (tokens_seen ls) h i)
 
-colon_taken : (call : Bool) (n : Node) (ks : List Token) → MayBeGuarded call n ks → (part_at (labels n) (Signed Colon) ≡ Some (Put Colon)) × (takes n (Put Colon) ≡ Some (GuardWanted call))
-colon_taken call n ks (inl h) = let P : Node → Type 0 = λ x. (part_at (labels x) (Signed Colon) ≡ Some (Put Colon)) × (takes x (Put Colon) ≡ Some (GuardWanted call)) in subst P (sym h.0) (refl, refl)
-colon_taken call n ks (inr h) =
-    let P : Node → Type 0 = λ x. (part_at (labels x) (Signed Colon) ≡ Some (Put Colon)) × (takes x (Put Colon) ≡ Some (GuardWanted call)) in
-    subst P (sym h.0) (refl, ap (λ (b : Bool). Some (GuardWanted b)) (sym h.1))
+colon_taken : (mode : Mode) (n : Node) (ks : List Token) → MayBeGuarded mode n ks → (part_at (labels n) (Signed Colon) ≡ Some (Put Colon)) × (takes n (Put Colon) ≡ Some (GuardWanted mode))
+colon_taken mode n ks (inl h) = let P : Node → Type 0 = λ x. (part_at (labels x) (Signed Colon) ≡ Some (Put Colon)) × (takes x (Put Colon) ≡ Some (GuardWanted mode)) in subst P (sym h.0) (refl, refl)
+colon_taken mode n ks (inr h) =
+    let P : Node → Type 0 = λ x. (part_at (labels x) (Signed Colon) ≡ Some (Put Colon)) × (takes x (Put Colon) ≡ Some (GuardWanted mode)) in
+    subst P (sym h.0) (refl, ap (λ (b : Mode). Some (GuardWanted b)) (sym h.1))
 
-pub went_colon : (limited : Bool) (m : Limits) (call : Bool) (n : Node) (ls rest : List Lexeme) (o : Sentence) (condition : Option Expr) (k : Keyword) (done : List Part) → MayBeGuarded call n (tokens_seen ls) → tokens_seen ls ≡ Signed Colon ∷ tokens_seen rest → Went limited (Put Colon ∷ []) m ls n rest (GuardWanted call) o condition k done
-went_colon limited m call n ls rest o condition k done h l = let c = colon_taken call n (tokens_seen ls) h in went_token limited (Signed Colon) (Put Colon) m ls n rest (GuardWanted call) o condition k done l c.0 c.1
+pub went_colon : (limited : Bool) (m : Limits) (mode : Mode) (n : Node) (ls rest : List Lexeme) (o : Sentence) (condition : Option Expr) (k : Keyword) (done : List Part) → MayBeGuarded mode n (tokens_seen ls) → tokens_seen ls ≡ Signed Colon ∷ tokens_seen rest → Went limited (Put Colon ∷ []) m ls n rest (GuardWanted mode) o condition k done
+went_colon limited m mode n ls rest o condition k done h l = let c = colon_taken mode n (tokens_seen ls) h in went_token limited (Signed Colon) (Put Colon) m ls n rest (GuardWanted mode) o condition k done l c.0 c.1
 
 -- DO: an actual that is left out
 comma_same : (m : Limits) (ks : List Token) → SameAt m ActualWanted ActualEnd (Signed Comma ∷ ks)
@@ -177,19 +153,19 @@ pub passed_untaken : (ks : List Token) → HasNoComma ks → HasNoClose ks → U
 passed_untaken ks h i = untaken_by ActualEnd ks refl (λ w. refl) refl (passed_sign ks h i)
 
 -- where no actuals follow
-pub unpassed_same : (m : Limits) (ks : List Token) → HasNoOpen ks → SameAt m (RoutineEnd true) ActualsEnd ks
+pub unpassed_same : (m : Limits) (ks : List Token) → HasNoOpen ks → SameAt m (RoutineEnd Calls) ActualsEnd ks
 unpassed_same m [] i o condition k done = refl
-unpassed_same m (Word w ∷ ks) i o condition k done = name_neither m (RoutineEnd true) ActualsEnd w ks o condition k done (nat_le (length w) 31) (on_rested (Some (args_rest o condition k done)) (Word w)) refl refl
-unpassed_same m (Called w ∷ ks) i o condition k done = piece_neither m (RoutineEnd true) ActualsEnd w ks o condition k done (part_of (Called w)) (on_rested (Some (args_rest o condition k done)) (Called w)) (called_apart (RoutineEnd true) (callee_of w) (nat_le (length w) 31) refl) (called_apart ActualsEnd (callee_of w) (nat_le (length w) 31) refl)
+unpassed_same m (Word w ∷ ks) i o condition k done = name_neither m (RoutineEnd Calls) ActualsEnd w ks o condition k done (nat_le (length w) 31) (on_rested (Some (args_rest o condition k done)) (Word w)) refl refl
+unpassed_same m (Called w ∷ ks) i o condition k done = piece_neither m (RoutineEnd Calls) ActualsEnd w ks o condition k done (part_of (Called w)) (on_rested (Some (args_rest o condition k done)) (Called w)) (called_apart (RoutineEnd Calls) (callee_of w) (nat_le (length w) 31) refl) (called_apart ActualsEnd (callee_of w) (nat_le (length w) 31) refl)
 unpassed_same m (Signed Open ∷ ks) i o condition k done = absurd i
 unpassed_same m (Signed s ∷ ks) i o condition k done = refl
 unpassed_same m (t ∷ ks) i o condition k done = refl
 
 -- no actuals
 pub unpassed : (limited : Bool) (m : Limits) (ls : List Lexeme) (list : List (Option Expr)) (o : Sentence) (condition : Option Expr) (k : Keyword) (done : List Part) → HasNoOpen (tokens_seen ls) → list ≡ [] →
-    WentAs limited (λ ps. AreWrittenActuals ps list) m ls (RoutineEnd true) ls ActualsEnd o condition k done
+    WentAs limited (λ ps. AreWrittenActuals ps list) m ls (RoutineEnd Calls) ls ActualsEnd o condition k done
 unpassed limited m ls list o condition k done h e =
-    let a = went_same limited m (RoutineEnd true) ActualsEnd ls o condition k done (unpassed_same m (tokens_seen ls) h) in
+    let a = went_same limited m (RoutineEnd Calls) ActualsEnd ls o condition k done (unpassed_same m (tokens_seen ls) h) in
     (a.0, λ l. ([], a.1 l, sym e), a.2)
 
 -- actuals in their parentheses
@@ -209,20 +185,3 @@ call_written target list condition ps qs rs e h f = (
 )
 
 -- calls with commas between them
-pub first_call : (old new : List kept_call.Called) (x : kept_call.Called) (ps : List Part) → old ≡ [] → new ≡ old ++ x ∷ [] → IsWrittenCall ps (called_of x) → AreWrittenCalls ps (map called_of new)
-first_call old new x ps e h i = (
-  i.0 ∷ [],
-  i.1 ∙ sym (append-nil (called_parts i.0)),
-  ap (λ (y : Call). y ∷ []) i.2 ∙ sym (ap (λ (xs : List kept_call.Called). map called_of xs) (h ∙ ap (λ (xs : List kept_call.Called). xs ++ x ∷ []) e)),
-)
-
-pub more_call : (old new : List kept_call.Called) (x : kept_call.Called) (ps qs : List Part) → new ≡ old ++ x ∷ [] → 1 ≤ length old → AreWrittenCalls ps (map called_of old) → IsWrittenCall qs (called_of x) → AreWrittenCalls (ps ++ (Put Comma ∷ qs)) (map called_of new)
-more_call old new x ps qs h l i j =
-    let a = length-map old called_of in
-    let b = length-map i.0 plain_called in
-    let c = ap (length {A = Call}) i.2 in (
-      i.0 ++ j.0 ∷ [],
-      ap (λ (zs : List Part). zs ++ (Put Comma ∷ qs)) i.1 ∙ ap (λ (zs : List Part). with_commas called_parts i.0 ++ (Put Comma ∷ zs)) j.1 ∙ sym (commas_more called_parts i.0 j.0 (omega arith)),
-      map-append plain_called i.0 (j.0 ∷ []) ∙ ap (λ (ys : List Call). ys ++ plain_called j.0 ∷ []) i.2 ∙ ap (λ (y : Call). map called_of old ++ y ∷ []) j.2
-          ∙ sym (ap (λ (xs : List kept_call.Called). map called_of xs) h ∙ map-append called_of old (x ∷ [])),
-    )

@@ -6,3 +6,4 @@ pub mod Jumps
 pub mod Ranges
 pub mod Words
 pub mod Front
+pub mod Lists

@@ -21,46 +21,19 @@ use Rattle.mj_expr.specs.Machine.{Limits}
 use Rattle.mj_expr.specs.declared.stop.Stop.{Stop}
 use Rattle.mj_lex.specs.declared.token.Lexeme.{Lexeme}
 use Rattle.mj_lex.specs.Seen.{tokens_seen}
-use Rattle.mj_line.specs.Forms.{Node, SetTarget, PieceOpens, PieceVariable, PieceComma, PieceText, PieceBehind, SetBehind, SetValue, SetEnd, OutputWanted, OutputEnd, MarksEnd, KillWanted, NameWanted, NameBehind, KillEnd, MergeInto, MergeBehind, MergeFrom, MergeEnd, KeptWanted, KeptBehind, part_of, part_at, labels, piece_part, takes, wants, ends}
+use Rattle.mj_line.specs.Forms.{Node, SetTarget, PieceOpens, PieceVariable, PieceComma, PieceText, PieceBehind, SetBehind, SetValue, OutputWanted, OutputEnd, MarksEnd, KillWanted, NameWanted, NameBehind, MergeInto, MergeBehind, MergeFrom, KeptWanted, KeptBehind, part_of, part_at, labels, piece_part, takes, wants, ends}
 use Rattle.mj_line.specs.Sentences.{Sentence}
-use Rattle.mj_line.specs.Machine.{Behind, Args, At, args_rest, behind, refused, run, first}
+use Rattle.mj_line.specs.Machine.{Args, At, args_rest, behind, on_rested, run, first}
 use Rattle.mj_line.proofs.Tables.{part_taken, word_apart, called_apart}
-use Rattle.mj_cmd.specs.Heads.{HasNoComma, HasNoEquals, HasNoMark, HasNoOpen, HasNoClose, HasNoPiece, HasNoName, HasParted, HasOther}
+use Rattle.mj_cmd.specs.Heads.{HasNoComma, HasNoEquals, HasNoMark, HasNoOpen, HasNoClose, HasNoPiece, HasNoName}
 use Rattle.mj_cmd.specs.Parts.{piece_node, opened_parts, name_wanted, name_behind, name_end, NotListed}
-use Rattle.mj_cmd.specs.Reads.{Reads, EndsOutput}
-use Rattle.mj_cmd.proofs.Follow.{refuses_from, Untaken, here_stuck, token_run, Went, went_then, went_as, went_token, SignUntaken, untaken_by, no_sign, comma_untaken, comma_or, commas_more, kept_untaken_word, went_word, args_end}
-
-set_comma : comma_or SetEnd
-set_comma Comma = inr refl
-set_comma s = inl refl
-
-output_comma : comma_or OutputEnd
-output_comma Comma = inr refl
-output_comma s = inl refl
-
-kill_comma : comma_or KillEnd
-kill_comma Comma = inr refl
-kill_comma s = inl refl
-
-merge_comma : comma_or MergeEnd
-merge_comma Comma = inr refl
-merge_comma s = inl refl
+use Rattle.mj_cmd.specs.Lists.{comma_or}
+use Rattle.mj_cmd.specs.Reads.{Reads}
+use Rattle.mj_cmd.proofs.Follow.{refuses_from, Untaken, token_run, Went, went_then, went_as, went_token, SignUntaken, untaken_by, no_sign, comma_untaken, commas_more, kept_untaken_word, went_word, SameAt, name_neither, piece_neither}
 
 piece_comma : (listed : Bool) → comma_or (PieceComma listed)
 piece_comma listed Comma = inr refl
 piece_comma listed s = inl refl
-
-pub set_untaken : (ks : List Token) → HasNoComma ks → Untaken SetEnd ks
-set_untaken ks h = comma_untaken SetEnd ks refl (λ w. refl) refl set_comma h
-
-pub output_untaken : (ks : List Token) → HasNoComma ks → Untaken OutputEnd ks
-output_untaken ks h = comma_untaken OutputEnd ks refl (λ w. refl) refl output_comma h
-
-pub kill_untaken : (ks : List Token) → HasNoComma ks → Untaken KillEnd ks
-kill_untaken ks h = comma_untaken KillEnd ks refl (λ w. refl) refl kill_comma h
-
-pub merge_untaken : (ks : List Token) → HasNoComma ks → Untaken MergeEnd ks
-merge_untaken ks h = comma_untaken MergeEnd ks refl (λ w. refl) refl merge_comma h
 
 pub first_untaken : (listed : Bool) (ks : List Token) → HasNoComma ks → Untaken (PieceComma listed) ks
 first_untaken listed ks h = comma_untaken (PieceComma listed) ks refl (λ w. refl) refl (piece_comma listed) h
@@ -398,14 +371,12 @@ no_marks zero ks rest l e h = let P : List Token → Type 0 = λ zs. HasNoMark z
 no_marks (suc n) ks rest l e h = absurd (omega arith)
 
 -- where an argument of WRITE ends, a comma leads on, and else nothing does
-pub output_comma_goes : (m : Limits) (o : Sentence) (condition : Option Expr) (k : Keyword) (done : List Part) (n : Node) (ls ks : List Token) → EndsOutput n ls → ls ≡ Signed Comma ∷ ks → run m ls (At (Args o condition k done n)) ≡ run m ks (At (Args o condition k (done ++ Put Comma ∷ []) OutputWanted))
-output_comma_goes m o condition k done n ls ks (inl e) l = ap (λ (x : Node). run m ls (At (Args o condition k done x))) e ∙ token_run m o condition k done OutputEnd OutputWanted (Signed Comma) (Put Comma) ls ks l refl refl
-output_comma_goes m o condition k done n ls ks (inr e) l = ap (λ (x : Node). run m ls (At (Args o condition k done x))) e.0 ∙ token_run m o condition k done MarksEnd OutputWanted (Signed Comma) (Put Comma) ls ks l refl refl
 
-pub output_stuck : (m : Limits) (o : Sentence) (condition : Option Expr) (k : Keyword) (done : List Part) (n : Node) (ks : List Token) → EndsOutput n ks → HasNoComma ks → HasOther ks → run m ks (At (Args o condition k done n)) ≡ refused ks
-output_stuck m o condition k done n ks (inl e) c h = ap (λ (x : Node). run m ks (At (Args o condition k done x))) e ∙ here_stuck m o condition k done OutputEnd ks refl (output_untaken ks c) (inr h)
-output_stuck m o condition k done n ks (inr e) c h = ap (λ (x : Node). run m ks (At (Args o condition k done x))) e.0 ∙ here_stuck m o condition k done MarksEnd ks refl (marks_untaken ks c e.1) (inr h)
-
-pub output_end : (m : Limits) (o : Sentence) (condition : Option Expr) (k : Keyword) (done : List Part) (n : Node) (ks : List Token) → EndsOutput n ks → HasParted ks → run m ks (At (Args o condition k done n)) ≡ run m ks (At (Behind (args_rest o condition k done)))
-output_end m o condition k done n ks (inl e) h = args_end m o condition k done n ks (ap ends e) h
-output_end m o condition k done n ks (inr e) h = args_end m o condition k done n ks (ap ends e.0) h
+-- behind a run of them it is as behind an expression
+pub marks_same : (m : Limits) (ks : List Token) → HasNoMark ks → SameAt m MarksEnd OutputEnd ks
+marks_same m [] h o condition k done = refl
+marks_same m (Word w ∷ ks) h o condition k done = name_neither m MarksEnd OutputEnd w ks o condition k done (nat_le (length w) 31) (on_rested (Some (args_rest o condition k done)) (Word w)) refl refl
+marks_same m (Called w ∷ ks) h o condition k done = piece_neither m MarksEnd OutputEnd w ks o condition k done (part_of (Called w)) (on_rested (Some (args_rest o condition k done)) (Called w)) (called_apart MarksEnd (callee_of w) (nat_le (length w) 31) refl) (called_apart OutputEnd (callee_of w) (nat_le (length w) 31) refl)
+marks_same m (Signed Exclamation ∷ ks) h o condition k done = absurd h
+marks_same m (Signed s ∷ ks) h o condition k done = refl
+marks_same m (t ∷ ks) h o condition k done = refl

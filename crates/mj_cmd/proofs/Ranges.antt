@@ -1,6 +1,6 @@
 -- What the functions that read the argument of FOR follow.
 use Rattle.std.proofs.Common.{◌≡◌, ◌∙◌, List, [], ◌∷◌, length, refl, ap, Bool, true, false, Option, Some, nat_le, inl, inr}
-use Rattle.mj_ast.specs.declared.sign.Sign.TheVariants.{Equals, Comma, Colon}
+use Rattle.mj_ast.specs.declared.sign.Sign.TheVariants.{Equals, Colon}
 use Rattle.mj_ast.specs.declared.keyword.Keyword.{Keyword}
 use Rattle.mj_ast.specs.Syntax.{Expr, Variable}
 use Rattle.mj_ast.specs.Tokens.{Token, Word, Called, Signed}
@@ -15,9 +15,9 @@ use Rattle.mj_line.specs.Forms.{Node, ForWanted, ForBehind, RangeWanted, RangeEn
 use Rattle.mj_line.specs.Sentences.{Sentence}
 use Rattle.mj_line.specs.Machine.{Args, Argument, At, In, args_rest, expression_wanted, variable_wanted, behind, on_rested, run}
 use Rattle.mj_line.proofs.Tables.{called_apart}
-use Rattle.mj_cmd.specs.Heads.{HasNoComma, HasNoEquals, HasNoColon, HasNoCaret, HasOther}
+use Rattle.mj_cmd.specs.Heads.{HasNoEquals, HasNoColon, HasNoCaret, HasOther}
 use Rattle.mj_cmd.specs.Reads.{Refuses}
-use Rattle.mj_cmd.proofs.Follow.{Untaken, SignUntaken, Went, SameAt, sign_at, enter_here, went_then, went_token, went_text, went_same, fails_then, fails_enter, untaken_by, no_sign, comma_or, comma_untaken, name_neither, piece_neither}
+use Rattle.mj_cmd.proofs.Follow.{Untaken, SignUntaken, Went, SameAt, sign_at, enter_here, went_then, went_token, went_text, went_same, fails_then, fails_enter, untaken_by, no_sign, name_neither, piece_neither}
 
 -- ---- what is not taken
 
@@ -41,13 +41,6 @@ step_untaken ks = untaken_by StepWanted ks refl (λ w. refl) refl (no_sign StepW
 
 pub limit_untaken : (ks : List Token) → Untaken LimitWanted ks
 limit_untaken ks = untaken_by LimitWanted ks refl (λ w. refl) refl (no_sign LimitWanted ks (λ s. refl))
-
-limit_comma : comma_or LimitEnd
-limit_comma Comma = inr refl
-limit_comma s = inl refl
-
-pub ranges_untaken : (ks : List Token) → HasNoComma ks → Untaken LimitEnd ks
-ranges_untaken ks h = comma_untaken LimitEnd ks refl (λ w. refl) refl limit_comma h
 
 -- ---- the local
 

@@ -3,3 +3,4 @@ pub mod Heads
 pub mod Said
 pub mod Words
 pub mod Parts
+pub mod Lists

@@ -4,7 +4,7 @@ use Rattle.mj_ast.specs.declared.sign.Sign.TheVariants.{Open, Close}
 use Rattle.mj_ast.specs.Syntax.{Destination, Plain, Pieces}
 use Rattle.mj_ast.specs.Tokens.{Token}
 use Rattle.mj_ast.specs.Commands.{Part, Put, Place, more_parts}
-use Rattle.mj_line.specs.Forms.{Node, PieceComma, PieceBehind, NameWanted, NameBehind, KillEnd, KeptWanted, KeptBehind, NewEnd, RoutineEnd, ActualsEnd}
+use Rattle.mj_line.specs.Forms.{Mode, Calls, Jumps, Node, PieceComma, PieceBehind, NameWanted, NameBehind, KillEnd, KeptWanted, KeptBehind, NewEnd, RoutineEnd, ActualsEnd}
 use Rattle.mj_cmd.specs.Heads.{HasNoOpen}
 
 -- what stands behind the word of `$PIECE`
@@ -31,8 +31,8 @@ name_end true = NewEnd
 name_end false = KillEnd
 
 -- where the condition of an argument may stand: behind an entry, with no actuals there, or behind actuals
-abbrev pub MayBeGuarded : Bool → Node → List Token → Type 0
-MayBeGuarded call n ks = ((n ≡ RoutineEnd call) × ((call ≡ false) ⊎ HasNoOpen ks)) ⊎ ((n ≡ ActualsEnd) × (call ≡ true))
+abbrev pub MayBeGuarded : Mode → Node → List Token → Type 0
+MayBeGuarded mode n ks = ((n ≡ RoutineEnd mode) × ((mode ≡ Jumps) ⊎ HasNoOpen ks)) ⊎ ((n ≡ ActualsEnd) × (mode ≡ Calls))
 
 -- inside a list no other list begins
 abbrev pub NotListed : Bool → List Token → Type 0

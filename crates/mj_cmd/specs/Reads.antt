@@ -1,9 +1,8 @@
 -- What a function that reads a part of a line returns.
-use Rattle.std.specs.Prelude.{◌≡◌, ◌≤◌, ◌+◌, ◌⊎◌, Bool, true, false, List, ◌++◌, length, Option, map, Result, Ok, Err}
+use Rattle.std.specs.Prelude.{◌≡◌, ◌≤◌, ◌+◌, Bool, true, false, List, ◌++◌, length, Option, map, Result, Ok, Err}
 use Rattle.mj_ast.specs.Expressions.{depth_limit, width_limit}
 use Rattle.mj_ast.specs.declared.keyword.Keyword.{Keyword}
 use Rattle.mj_ast.specs.Syntax.{Expr, Called, Command, Step, Line}
-use Rattle.mj_ast.specs.Tokens.{Token}
 use Rattle.mj_ast.specs.Commands.{Part, actuals_parts, called_parts, command_parts, with_commas, plain, plain_actuals, plain_called, plain_step}
 use Rattle.mj_ast.specs.Lines.{plain_line}
 use Rattle.mj_lex.specs.declared.token.Lexeme.{Lexeme}
@@ -12,10 +11,9 @@ use Rattle.mj_expr.specs.Machine.{Limits}
 use Rattle.mj_expr.specs.Reads.{limits}
 use Rattle.mj_expr.specs.declared.stop.Stop.{Stop}
 use Rattle.mj_expr.specs.declared.stop.Stop.TheVariants as stop
-use Rattle.mj_line.specs.Forms.{Node, OutputWanted, OutputEnd, MarksEnd}
+use Rattle.mj_line.specs.Forms.{Node}
 use Rattle.mj_line.specs.Sentences.{Clause, Sentence, clause_of, sentence_of}
 use Rattle.mj_line.specs.Machine.{State, At, Args, Outcome, Accept, StuckAt, DeepAt, TooLong, run}
-use Rattle.mj_cmd.specs.Heads.{HasNoMark}
 
 -- where no tree is made
 abbrev pub no_tree : Unit {0}
@@ -89,17 +87,3 @@ abbrev pub PassesAs : {X : Type 0} → Bool → (List Part → X → Type 0) →
 PassesAs limited is rest r m ls n next =
     (o : Sentence) → (condition : Option Expr) → (k : Keyword) → (done : List Part) →
     ReadsAs limited is rest r m ls (At (Args o condition k done n)) (λ ps. At (Args o condition k (done ++ ps) next))
-
--- where an argument of WRITE ends: behind an expression, or behind format marks where no other one stands
-abbrev pub EndsOutput : Node → List Token → Type 0
-EndsOutput n ks = (n ≡ OutputEnd) ⊎ ((n ≡ MarksEnd) × HasNoMark ks)
-
--- The same of arguments of WRITE, up to where the last ends.
-abbrev pub Lists : {X : Type 0} → Bool → (X → List Part) → (X → List Lexeme) → Result X Stop → Limits → List Lexeme → Type 0
-Lists limited parts rest (Ok x) m ls =
-    (o : Sentence) → (condition : Option Expr) → (k : Keyword) → (done : List Part) →
-    (ps : List Part) × (n : Node) × (limited ≡ true → ps ≡ parts x) × EndsOutput n (tokens_seen (rest x))
-    × (run m (tokens_seen ls) (At (Args o condition k done OutputWanted)) ≡ run m (tokens_seen (rest x)) (At (Args o condition k (done ++ ps) n)))
-Lists limited parts rest (Err e) m ls =
-    (o : Sentence) → (condition : Option Expr) → (k : Keyword) → (done : List Part) →
-    Refuses limited e (run m (tokens_seen ls) (At (Args o condition k done OutputWanted)))

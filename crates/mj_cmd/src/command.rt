@@ -13,14 +13,10 @@ ghost use Rattle.mj_line.specs.Machine.{At, Bare, Worded, Behind, args_rest, wit
 ghost use Rattle.mj_cmd.specs.Heads.{HasOther, HasParted};
 ghost use Rattle.mj_cmd.specs.Reads.{HasRoom, IsWritten, IsWrittenStep, Reads, ReadsAs};
 
-use crate::call::calls;
-use crate::control::{jumps, renewals, truths};
-use crate::kill::{kills, merges};
+use crate::list::arguments;
 use crate::parts::{behind_blank, behind_colon, parted, stuck};
 use crate::phrase::Phrases;
 use crate::repeat::repeated;
-use crate::set::assignments;
-use crate::write::outputs;
 use mj_ast::{Command, Expr, Keyword, Step};
 use mj_expr::Stop;
 use mj_lex::Lexeme;
@@ -103,35 +99,35 @@ fn with_arguments<'a, 't>(
 {
     match keyword {
         Keyword::Set => {
-            let (arguments, rest) = assignments(phrases, behind)?;
+            let (arguments, rest) = arguments(phrases, behind)?;
             Ok((Command::Set(arguments), rest))
         }
         Keyword::Write => {
-            let (arguments, rest) = outputs(phrases, behind)?;
+            let (arguments, rest) = arguments(phrases, behind)?;
             Ok((Command::Write(arguments), rest))
         }
         Keyword::Kill => {
-            let (arguments, rest) = kills(phrases, behind)?;
+            let (arguments, rest) = arguments(phrases, behind)?;
             Ok((Command::Kill(arguments), rest))
         }
         Keyword::Merge => {
-            let (arguments, rest) = merges(phrases, behind)?;
+            let (arguments, rest) = arguments(phrases, behind)?;
             Ok((Command::Merge(arguments), rest))
         }
         Keyword::If => {
-            let (arguments, rest) = truths(phrases, behind)?;
+            let (arguments, rest) = arguments(phrases, behind)?;
             Ok((Command::If(arguments), rest))
         }
         Keyword::Do => {
-            let (arguments, rest) = calls(phrases, behind)?;
+            let (arguments, rest) = arguments(phrases, behind)?;
             Ok((Command::Do(arguments), rest))
         }
         Keyword::Goto => {
-            let (arguments, rest) = jumps(phrases, behind)?;
+            let (arguments, rest) = arguments(phrases, behind)?;
             Ok((Command::Goto(arguments), rest))
         }
         Keyword::New => {
-            let (arguments, rest) = renewals(phrases, behind)?;
+            let (arguments, rest) = arguments(phrases, behind)?;
             Ok((Command::New(arguments), rest))
         }
         Keyword::For => {

@@ -1,19 +1,19 @@
 // The arguments of IF, NEW and GOTO.
 
-ghost use Rattle.std.specs.Prelude.{◌≡◌, ◌⊎◌, ◌∷◌, ◌++◌, ◌≤◌, Bool, IfOk, [], false, length, map, option_map, true};
-ghost use Rattle.mj_ast.specs.Commands.{Named, condition_parts, guard_parts, jumped_parts, renewed_parts, target_parts, with_commas};
+ghost use Rattle.std.specs.Prelude.{◌≡◌, ◌⊎◌, ◌∷◌, ◌++◌, ◌≤◌, Bool, IfOk, [], false, length, option_map, refl, true};
+ghost use Rattle.mj_ast.specs.Commands.{Named, condition_parts, guard_parts, jumped_parts, renewed_parts, target_parts};
 ghost use Rattle.mj_ast.specs.Trees.{expr_of, jumped_of, renewed_of, target_of};
 ghost use Rattle.mj_expr.specs.Machine.{Limits};
 ghost use Rattle.mj_lex.specs.Seen.{tokens_seen};
-ghost use Rattle.mj_line.specs.Forms.{EntryWanted, GuardEnd, IfEnd, IfWanted, NewEnd, NewWanted, Node, RoutineEnd, RoutineWanted, ends};
-ghost use Rattle.mj_cmd.specs.Heads.{HasOther, HasParted};
+ghost use Rattle.mj_line.specs.Forms.{EntryWanted, GuardEnd, IfEnd, IfWanted, Jumps, Mode, NewEnd, NewWanted, Node, RoutineEnd, RoutineWanted, ends};
+ghost use Rattle.mj_cmd.specs.Heads.{HasOther};
 ghost use Rattle.mj_cmd.specs.Parts.{MayBeGuarded};
 ghost use Rattle.mj_cmd.specs.Reads.{HasRoom, Passes};
 
 use crate::kill::{names, word_text};
+use crate::list::{Argument, Item};
 use crate::parts::{
-    behind_caret, behind_colon, behind_comma, behind_entry_label, behind_name, behind_open, parted,
-    stuck,
+    behind_caret, behind_colon, behind_entry_label, behind_name, behind_open, stuck,
 };
 use crate::phrase::Phrases;
 use mj_ast::{Expr, Jumped, Renewed, Target};
@@ -33,26 +33,31 @@ fn truth<'a, 't>(
     Ok((truth, rest))
 }
 
-/// The arguments of IF, of which there is one at least, up to where the command ends.
-pub fn truths<'a, 't>(
-    phrases: Phrases,
-    tokens: &'t [Lexeme<'a>],
-) -> Result<(Vec<Expr>, &'t [Lexeme<'a>]), Stop>
-    requires { HasOther (tokens_seen tokens.now) }
-    ensures shorter { IfOk result (λ x. length x.1.now ≤ length tokens.now) }
-    ensures parted { IfOk result (λ x. HasParted (tokens_seen x.1.now)) }
-    ensures reads { (m : Limits) → HasRoom phrases.limited m tokens.now → Passes phrases.limited (λ x. with_commas condition_parts (map expr_of x.0.items)) (λ x. x.1.now) result m tokens.now (IfWanted true) IfEnd }
-{
-    let mut arguments = Vec::new(phrases.alloc);
-    let (first, mut rest) = truth(phrases, tokens)?;
-    arguments.push(first)?;
-    'commas: while let Some(behind) = behind_comma(rest) {
-        let (argument, behind) = truth(phrases, behind)?;
-        arguments.push(argument)?;
-        rest = behind;
+impl Item for Expr {
+    ghost first_at = { IfWanted true };
+
+    ghost more_at = { IfWanted false };
+
+    ghost behind_at = { IfEnd };
+
+    ghost begins = { HasOther };
+
+    ghost spells = { λ ps x. ps ≡ condition_parts (expr_of x) };
+
+    fn read<'a, 't>(
+        phrases: Phrases,
+        tokens: &'t [Lexeme<'a>],
+    ) -> Result<(Expr, &'t [Lexeme<'a>]), Stop> {
+        truth(phrases, tokens)
     }
-    let rest = parted(rest)?;
-    Ok((arguments, rest))
+
+    ghost comma = { refl };
+}
+
+impl Argument for Expr {
+    ghost use Rattle.mj_cmd.specs.Lists.{if_over};
+
+    ghost over = { if_over };
 }
 
 /// A name, or names in parentheses.
@@ -78,26 +83,31 @@ fn renewed<'a, 't>(
     }
 }
 
-/// The arguments of NEW, of which there is one at least, up to where the command ends.
-pub fn renewals<'a, 't>(
-    phrases: Phrases,
-    tokens: &'t [Lexeme<'a>],
-) -> Result<(Vec<Renewed>, &'t [Lexeme<'a>]), Stop>
-    requires { HasOther (tokens_seen tokens.now) }
-    ensures shorter { IfOk result (λ x. length x.1.now ≤ length tokens.now) }
-    ensures parted { IfOk result (λ x. HasParted (tokens_seen x.1.now)) }
-    ensures reads { (m : Limits) → HasRoom phrases.limited m tokens.now → Passes phrases.limited (λ x. with_commas renewed_parts (map renewed_of x.0.items)) (λ x. x.1.now) result m tokens.now (NewWanted true) NewEnd }
-{
-    let mut arguments = Vec::new(phrases.alloc);
-    let (first, mut rest) = renewed(phrases, tokens)?;
-    arguments.push(first)?;
-    'commas: while let Some(behind) = behind_comma(rest) {
-        let (argument, behind) = renewed(phrases, behind)?;
-        arguments.push(argument)?;
-        rest = behind;
+impl Item for Renewed {
+    ghost first_at = { NewWanted true };
+
+    ghost more_at = { NewWanted false };
+
+    ghost behind_at = { NewEnd };
+
+    ghost begins = { HasOther };
+
+    ghost spells = { λ ps x. ps ≡ renewed_parts (renewed_of x) };
+
+    fn read<'a, 't>(
+        phrases: Phrases,
+        tokens: &'t [Lexeme<'a>],
+    ) -> Result<(Renewed, &'t [Lexeme<'a>]), Stop> {
+        renewed(phrases, tokens)
     }
-    let rest = parted(rest)?;
-    Ok((arguments, rest))
+
+    ghost comma = { refl };
+}
+
+impl Argument for Renewed {
+    ghost use Rattle.mj_cmd.specs.Lists.{new_over};
+
+    ghost over = { new_over };
 }
 
 /// The name of a routine, behind a `^`.
@@ -106,7 +116,7 @@ fn routine<'a, 't>(
     tokens: &'t [Lexeme<'a>],
 ) -> Result<(Text, &'t [Lexeme<'a>]), Stop>
     ensures shorter { IfOk result (λ x. length x.1.now ≤ length tokens.now) }
-    ensures reads { (m : Limits) → (call : Bool) → Passes phrases.limited (λ x. Named x.0 ∷ []) (λ x. x.1.now) result m tokens.now (RoutineWanted call) (RoutineEnd call) }
+    ensures reads { (m : Limits) → (mode : Mode) → Passes phrases.limited (λ x. Named x.0 ∷ []) (λ x. x.1.now) result m tokens.now (RoutineWanted mode) (RoutineEnd mode) }
 {
     match behind_name(tokens) {
         None => Err(stuck(tokens)),
@@ -123,7 +133,7 @@ pub fn entry<'a, 't>(
     tokens: &'t [Lexeme<'a>],
 ) -> Result<(Target, &'t [Lexeme<'a>]), Stop>
     ensures shorter { IfOk result (λ x. length x.1.now ≤ length tokens.now) }
-    ensures reads { (m : Limits) → (call : Bool) → (first : Bool) → (ends (EntryWanted call first) ≡ false) ⊎ HasOther (tokens_seen tokens.now) → Passes phrases.limited (λ x. target_parts (target_of x.0)) (λ x. x.1.now) result m tokens.now (EntryWanted call first) (RoutineEnd call) }
+    ensures reads { (m : Limits) → (mode : Mode) → (first : Bool) → (ends (EntryWanted mode first) ≡ false) ⊎ HasOther (tokens_seen tokens.now) → Passes phrases.limited (λ x. target_parts (target_of x.0)) (λ x. x.1.now) result m tokens.now (EntryWanted mode first) (RoutineEnd mode) }
 {
     match behind_entry_label(tokens) {
         None => match behind_caret(tokens) {
@@ -166,7 +176,7 @@ pub fn guard<'a, 't>(
     tokens: &'t [Lexeme<'a>],
 ) -> Result<(Option<Expr>, &'t [Lexeme<'a>]), Stop>
     ensures shorter { IfOk result (λ x. length x.1.now ≤ length tokens.now) }
-    ensures reads { (m : Limits) → HasRoom phrases.limited m tokens.now → (call : Bool) → (n : Node) → MayBeGuarded call n (tokens_seen tokens.now) → Passes phrases.limited (λ x. guard_parts (option_map expr_of x.0)) (λ x. x.1.now) result m tokens.now n (GuardEnd call) }
+    ensures reads { (m : Limits) → HasRoom phrases.limited m tokens.now → (mode : Mode) → (n : Node) → MayBeGuarded mode n (tokens_seen tokens.now) → Passes phrases.limited (λ x. guard_parts (option_map expr_of x.0)) (λ x. x.1.now) result m tokens.now n (GuardEnd mode) }
 {
     match behind_colon(tokens) {
         None => Ok((None, tokens)),
@@ -183,30 +193,34 @@ fn jump<'a, 't>(
     tokens: &'t [Lexeme<'a>],
 ) -> Result<(Jumped, &'t [Lexeme<'a>]), Stop>
     ensures shorter { IfOk result (λ x. length x.1.now ≤ length tokens.now) }
-    ensures reads { (m : Limits) → HasRoom phrases.limited m tokens.now → (first : Bool) → Passes phrases.limited (λ x. jumped_parts (jumped_of x.0)) (λ x. x.1.now) result m tokens.now (EntryWanted false first) (GuardEnd false) }
+    ensures reads { (m : Limits) → HasRoom phrases.limited m tokens.now → (first : Bool) → Passes phrases.limited (λ x. jumped_parts (jumped_of x.0)) (λ x. x.1.now) result m tokens.now (EntryWanted Jumps first) (GuardEnd Jumps) }
 {
     let (target, rest) = entry(phrases, tokens)?;
     let (condition, rest) = guard(phrases, rest)?;
     Ok((Jumped { target, condition }, rest))
 }
 
-/// The arguments of GOTO, up to where the command ends.
-pub fn jumps<'a, 't>(
-    phrases: Phrases,
-    tokens: &'t [Lexeme<'a>],
-) -> Result<(Vec<Jumped>, &'t [Lexeme<'a>]), Stop>
-    ensures shorter { IfOk result (λ x. length x.1.now ≤ length tokens.now) }
-    ensures parted { IfOk result (λ x. HasParted (tokens_seen x.1.now)) }
-    ensures reads { (m : Limits) → HasRoom phrases.limited m tokens.now → Passes phrases.limited (λ x. with_commas jumped_parts (map jumped_of x.0.items)) (λ x. x.1.now) result m tokens.now (EntryWanted false true) (GuardEnd false) }
-{
-    let mut arguments = Vec::new(phrases.alloc);
-    let (first, mut rest) = jump(phrases, tokens)?;
-    arguments.push(first)?;
-    'commas: while let Some(behind) = behind_comma(rest) {
-        let (argument, behind) = jump(phrases, behind)?;
-        arguments.push(argument)?;
-        rest = behind;
+impl Item for Jumped {
+    ghost first_at = { EntryWanted Jumps true };
+
+    ghost more_at = { EntryWanted Jumps false };
+
+    ghost behind_at = { GuardEnd Jumps };
+
+    ghost spells = { λ ps x. ps ≡ jumped_parts (jumped_of x) };
+
+    fn read<'a, 't>(
+        phrases: Phrases,
+        tokens: &'t [Lexeme<'a>],
+    ) -> Result<(Jumped, &'t [Lexeme<'a>]), Stop> {
+        jump(phrases, tokens)
     }
-    let rest = parted(rest)?;
-    Ok((arguments, rest))
+
+    ghost comma = { refl };
+}
+
+impl Argument for Jumped {
+    ghost use Rattle.mj_cmd.specs.Lists.{guard_over};
+
+    ghost over = { guard_over Jumps };
 }

@@ -1,6 +1,6 @@
 // The arguments of KILL and MERGE.
 
-ghost use Rattle.std.specs.Prelude.{◌≡◌, ◌⊎◌, ◌∷◌, ◌++◌, ◌≤◌, Bool, IfErr, IfOk, [], false, length, map, true};
+ghost use Rattle.std.specs.Prelude.{◌≡◌, ◌⊎◌, ◌∷◌, ◌++◌, ◌≤◌, Bool, IfErr, IfOk, [], false, length, refl, true};
 ghost use Rattle.mj_ast.specs.Commands.{Put, killed_parts, merged_parts, name_parts, with_commas};
 ghost use Rattle.mj_ast.specs.Trees.{killed_of, merged_of};
 ghost use Rattle.mj_ast.specs.declared.sign.Sign.TheVariants.{Close};
@@ -8,13 +8,12 @@ ghost use Rattle.mj_expr.specs.Machine.{Limits};
 ghost use Rattle.mj_expr.specs.declared.stop.Stop.TheVariants.{Memory};
 ghost use Rattle.mj_lex.specs.Seen.{tokens_seen};
 ghost use Rattle.mj_line.specs.Forms.{KillEnd, KillWanted, MergeEnd, MergeInto};
-ghost use Rattle.mj_cmd.specs.Heads.{HasOther, HasParted};
+ghost use Rattle.mj_cmd.specs.Heads.{HasOther};
 ghost use Rattle.mj_cmd.specs.Parts.{name_end, name_wanted};
 ghost use Rattle.mj_cmd.specs.Reads.{HasRoom, Passes};
 
-use crate::parts::{
-    behind_close, behind_comma, behind_equals, behind_name, behind_open, parted, stuck,
-};
+use crate::list::{Argument, Item};
+use crate::parts::{behind_close, behind_comma, behind_equals, behind_name, behind_open, stuck};
 use crate::phrase::Phrases;
 use mj_ast::{Killed, Merged};
 use mj_expr::{Stop, added};
@@ -87,26 +86,31 @@ fn killed<'a, 't>(
     }
 }
 
-/// The arguments of KILL, of which there is one at least, up to where the command ends.
-pub fn kills<'a, 't>(
-    phrases: Phrases,
-    tokens: &'t [Lexeme<'a>],
-) -> Result<(Vec<Killed>, &'t [Lexeme<'a>]), Stop>
-    requires { HasOther (tokens_seen tokens.now) }
-    ensures shorter { IfOk result (λ x. length x.1.now ≤ length tokens.now) }
-    ensures parted { IfOk result (λ x. HasParted (tokens_seen x.1.now)) }
-    ensures reads { (m : Limits) → HasRoom phrases.limited m tokens.now → Passes phrases.limited (λ x. with_commas killed_parts (map killed_of x.0.items)) (λ x. x.1.now) result m tokens.now (KillWanted true) KillEnd }
-{
-    let mut arguments = Vec::new(phrases.alloc);
-    let (first, mut rest) = killed(phrases, tokens)?;
-    added(&mut arguments, first)?;
-    'commas: while let Some(behind) = behind_comma(rest) {
-        let (argument, behind) = killed(phrases, behind)?;
-        added(&mut arguments, argument)?;
-        rest = behind;
+impl Item for Killed {
+    ghost first_at = { KillWanted true };
+
+    ghost more_at = { KillWanted false };
+
+    ghost behind_at = { KillEnd };
+
+    ghost begins = { HasOther };
+
+    ghost spells = { λ ps x. ps ≡ killed_parts (killed_of x) };
+
+    fn read<'a, 't>(
+        phrases: Phrases,
+        tokens: &'t [Lexeme<'a>],
+    ) -> Result<(Killed, &'t [Lexeme<'a>]), Stop> {
+        killed(phrases, tokens)
     }
-    let rest = parted(rest)?;
-    Ok((arguments, rest))
+
+    ghost comma = { refl };
+}
+
+impl Argument for Killed {
+    ghost use Rattle.mj_cmd.specs.Lists.{kill_over};
+
+    ghost over = { kill_over };
 }
 
 /// A variable, `=` and the variable that is copied.
@@ -127,23 +131,27 @@ fn merged<'a, 't>(
     }
 }
 
-/// The arguments of MERGE, up to where the command ends.
-pub fn merges<'a, 't>(
-    phrases: Phrases,
-    tokens: &'t [Lexeme<'a>],
-) -> Result<(Vec<Merged>, &'t [Lexeme<'a>]), Stop>
-    ensures shorter { IfOk result (λ x. length x.1.now ≤ length tokens.now) }
-    ensures parted { IfOk result (λ x. HasParted (tokens_seen x.1.now)) }
-    ensures reads { (m : Limits) → HasRoom phrases.limited m tokens.now → Passes phrases.limited (λ x. with_commas merged_parts (map merged_of x.0.items)) (λ x. x.1.now) result m tokens.now MergeInto MergeEnd }
-{
-    let mut arguments = Vec::new(phrases.alloc);
-    let (first, mut rest) = merged(phrases, tokens)?;
-    added(&mut arguments, first)?;
-    'commas: while let Some(behind) = behind_comma(rest) {
-        let (argument, behind) = merged(phrases, behind)?;
-        added(&mut arguments, argument)?;
-        rest = behind;
+impl Item for Merged {
+    ghost first_at = { MergeInto };
+
+    ghost more_at = { MergeInto };
+
+    ghost behind_at = { MergeEnd };
+
+    ghost spells = { λ ps x. ps ≡ merged_parts (merged_of x) };
+
+    fn read<'a, 't>(
+        phrases: Phrases,
+        tokens: &'t [Lexeme<'a>],
+    ) -> Result<(Merged, &'t [Lexeme<'a>]), Stop> {
+        merged(phrases, tokens)
     }
-    let rest = parted(rest)?;
-    Ok((arguments, rest))
+
+    ghost comma = { refl };
+}
+
+impl Argument for Merged {
+    ghost use Rattle.mj_cmd.specs.Lists.{merge_over};
+
+    ghost over = { merge_over };
 }

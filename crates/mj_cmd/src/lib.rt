@@ -11,6 +11,7 @@ mod formals;
 mod keyword;
 mod kill;
 mod lines;
+mod list;
 mod parts;
 mod phrase;
 mod repeat;

@@ -1,7 +1,7 @@
 // The argument of FOR.
 
-ghost use Rattle.std.specs.Prelude.{◌≡◌, ◌∷◌, ◌++◌, ◌≤◌, IfOk, [], length, map};
-ghost use Rattle.mj_ast.specs.Commands.{Control, Put, command_parts, range_parts, with_commas};
+ghost use Rattle.std.specs.Prelude.{◌≡◌, ◌∷◌, ◌++◌, ◌≤◌, IfOk, [], length, map, refl};
+ghost use Rattle.mj_ast.specs.Commands.{Control, Put, command_parts, range_parts};
 ghost use Rattle.mj_ast.specs.Syntax.{For};
 ghost use Rattle.mj_ast.specs.Trees.{range_of, variable_of};
 ghost use Rattle.mj_ast.specs.declared.sign.Sign.TheVariants.{Equals};
@@ -11,10 +11,11 @@ ghost use Rattle.mj_line.specs.Forms.{ForWanted, LimitEnd, RangeWanted};
 ghost use Rattle.mj_cmd.specs.Heads.{HasOther, HasParted};
 ghost use Rattle.mj_cmd.specs.Reads.{HasRoom, Passes};
 
-use crate::parts::{behind_caret, behind_colon, behind_comma, behind_equals, parted, stuck};
+use crate::list::{Argument, Item, arguments};
+use crate::parts::{behind_caret, behind_colon, behind_equals, stuck};
 use crate::phrase::Phrases;
 use mj_ast::{Range, Variable};
-use mj_expr::{Stop, added};
+use mj_expr::Stop;
 use mj_lex::Lexeme;
 
 /// A value; or numbers, by the first, the step and perhaps the last, with colons between them.
@@ -41,25 +42,29 @@ fn range<'a, 't>(
     }
 }
 
-/// The ranges behind the `=`, of which there is one at least, up to where the command ends.
-fn ranges<'a, 't>(
-    phrases: Phrases,
-    tokens: &'t [Lexeme<'a>],
-) -> Result<(Vec<Range>, &'t [Lexeme<'a>]), Stop>
-    ensures shorter { IfOk result (λ x. length x.1.now ≤ length tokens.now) }
-    ensures parted { IfOk result (λ x. HasParted (tokens_seen x.1.now)) }
-    ensures reads { (m : Limits) → HasRoom phrases.limited m tokens.now → Passes phrases.limited (λ x. with_commas range_parts (map range_of x.0.items)) (λ x. x.1.now) result m tokens.now RangeWanted LimitEnd }
-{
-    let mut ranges = Vec::new(phrases.alloc);
-    let (first, mut rest) = range(phrases, tokens)?;
-    added(&mut ranges, first)?;
-    'commas: while let Some(behind) = behind_comma(rest) {
-        let (range, behind) = range(phrases, behind)?;
-        added(&mut ranges, range)?;
-        rest = behind;
+impl Item for Range {
+    ghost first_at = { RangeWanted };
+
+    ghost more_at = { RangeWanted };
+
+    ghost behind_at = { LimitEnd };
+
+    ghost spells = { λ ps x. ps ≡ range_parts (range_of x) };
+
+    fn read<'a, 't>(
+        phrases: Phrases,
+        tokens: &'t [Lexeme<'a>],
+    ) -> Result<(Range, &'t [Lexeme<'a>]), Stop> {
+        range(phrases, tokens)
     }
-    let rest = parted(rest)?;
-    Ok((ranges, rest))
+
+    ghost comma = { refl };
+}
+
+impl Argument for Range {
+    ghost use Rattle.mj_cmd.specs.Lists.{range_over};
+
+    ghost over = { range_over };
 }
 
 /// The local that is set at each pass, and the `=` behind it.
@@ -94,6 +99,6 @@ pub fn repeated<'a, 't>(
     ensures reads { (m : Limits) → HasRoom phrases.limited m tokens.now → Passes phrases.limited (λ x. command_parts (For (variable_of x.0) (map range_of x.1.items))) (λ x. x.2.now) result m tokens.now ForWanted LimitEnd }
 {
     let (counter, rest) = counter(phrases, tokens)?;
-    let (ranges, rest) = ranges(phrases, rest)?;
+    let (ranges, rest) = arguments(phrases, rest)?;
     Ok((counter, ranges, rest))
 }

@@ -1,20 +1,18 @@
 // The arguments of SET.
 
-ghost use Rattle.std.specs.Prelude.{◌≡◌, ◌<◌, ◌-◌, ◌∷◌, ◌++◌, ◌≤◌, Bool, IfOk, [], false, length, map, true};
-ghost use Rattle.mj_ast.specs.Commands.{PieceCall, Put, Text, assignment_parts, destination_parts, more_parts, targets_parts, with_commas};
+ghost use Rattle.std.specs.Prelude.{◌≡◌, ◌<◌, ◌-◌, ◌∷◌, ◌++◌, ◌≤◌, Bool, IfOk, [], false, length, refl, true};
+ghost use Rattle.mj_ast.specs.Commands.{PieceCall, Put, Text, assignment_parts, destination_parts, more_parts, targets_parts};
 ghost use Rattle.mj_ast.specs.Tokens.{Signed};
 ghost use Rattle.mj_ast.specs.Trees.{assignment_of, destination_of, expr_of, exprs_of, targets_of};
 ghost use Rattle.mj_ast.specs.declared.sign.Sign.TheVariants.{Close, Comma};
 ghost use Rattle.mj_expr.specs.Machine.{Limits};
 ghost use Rattle.mj_lex.specs.Seen.{tokens_seen};
 ghost use Rattle.mj_line.specs.Forms.{PieceBehind, PieceComma, PieceOpens, SetBehind, SetEnd, SetTarget};
-ghost use Rattle.mj_cmd.specs.Heads.{HasParted};
 ghost use Rattle.mj_cmd.specs.Parts.{NotListed, opened_parts, piece_node};
 ghost use Rattle.mj_cmd.specs.Reads.{HasRoom, Passes};
 
-use crate::parts::{
-    behind_close, behind_comma, behind_equals, behind_open, behind_piece, parted, stuck,
-};
+use crate::list::{Argument, Enclosed, Item, listed};
+use crate::parts::{behind_close, behind_comma, behind_equals, behind_open, behind_piece, stuck};
 use crate::phrase::Phrases;
 use mj_ast::{Assignment, Destination, Expr, Targets};
 use mj_expr::{Stop, added};
@@ -107,26 +105,33 @@ fn destination<'a, 't>(
     }
 }
 
-/// The destinations of a list behind its `(`, and the `)` that closes it.
-fn listed<'a, 't>(
-    phrases: Phrases,
-    tokens: &'t [Lexeme<'a>],
-) -> Result<(Vec<Destination>, &'t [Lexeme<'a>]), Stop>
-    ensures shorter { IfOk result (λ x. length x.1.now ≤ length tokens.now) }
-    ensures reads { (m : Limits) → HasRoom phrases.limited m tokens.now → Passes phrases.limited (λ x. with_commas destination_parts (map destination_of x.0.items) ++ Put Close ∷ []) (λ x. x.1.now) result m tokens.now (SetTarget true) (SetBehind false) }
-{
-    let mut destinations = Vec::new(phrases.alloc);
-    let (first, mut rest) = destination(phrases, tokens)?;
-    added(&mut destinations, first)?;
-    'commas: while let Some(behind) = behind_comma(rest) {
-        let (destination, behind) = destination(phrases, behind)?;
-        added(&mut destinations, destination)?;
-        rest = behind;
+impl Item for Destination {
+    ghost first_at = { SetTarget true };
+
+    ghost more_at = { SetTarget true };
+
+    ghost behind_at = { SetBehind true };
+
+    ghost spells = { λ ps x. ps ≡ destination_parts (destination_of x) };
+
+    fn read<'a, 't>(
+        phrases: Phrases,
+        tokens: &'t [Lexeme<'a>],
+    ) -> Result<(Destination, &'t [Lexeme<'a>]), Stop> {
+        destination(phrases, tokens)
     }
-    match behind_close(rest) {
-        None => Err(stuck(rest)),
-        Some(behind) => Ok((destinations, behind)),
-    }
+
+    ghost comma = { refl };
+}
+
+impl Enclosed for Destination {
+    ghost use Rattle.mj_cmd.specs.Lists.{targets_unclosed};
+
+    ghost closed_at = { SetBehind false };
+
+    ghost close = { refl };
+
+    ghost unclosed = { targets_unclosed };
 }
 
 /// One destination, or a list in parentheses.
@@ -167,23 +172,27 @@ fn assignment<'a, 't>(
     }
 }
 
-/// The arguments of SET, up to where the command ends.
-pub fn assignments<'a, 't>(
-    phrases: Phrases,
-    tokens: &'t [Lexeme<'a>],
-) -> Result<(Vec<Assignment>, &'t [Lexeme<'a>]), Stop>
-    ensures shorter { IfOk result (λ x. length x.1.now ≤ length tokens.now) }
-    ensures parted { IfOk result (λ x. HasParted (tokens_seen x.1.now)) }
-    ensures reads { (m : Limits) → HasRoom phrases.limited m tokens.now → Passes phrases.limited (λ x. with_commas assignment_parts (map assignment_of x.0.items)) (λ x. x.1.now) result m tokens.now (SetTarget false) SetEnd }
-{
-    let mut arguments = Vec::new(phrases.alloc);
-    let (first, mut rest) = assignment(phrases, tokens)?;
-    added(&mut arguments, first)?;
-    'commas: while let Some(behind) = behind_comma(rest) {
-        let (argument, behind) = assignment(phrases, behind)?;
-        added(&mut arguments, argument)?;
-        rest = behind;
+impl Item for Assignment {
+    ghost first_at = { SetTarget false };
+
+    ghost more_at = { SetTarget false };
+
+    ghost behind_at = { SetEnd };
+
+    ghost spells = { λ ps x. ps ≡ assignment_parts (assignment_of x) };
+
+    fn read<'a, 't>(
+        phrases: Phrases,
+        tokens: &'t [Lexeme<'a>],
+    ) -> Result<(Assignment, &'t [Lexeme<'a>]), Stop> {
+        assignment(phrases, tokens)
     }
-    let rest = parted(rest)?;
-    Ok((arguments, rest))
+
+    ghost comma = { refl };
+}
+
+impl Argument for Assignment {
+    ghost use Rattle.mj_cmd.specs.Lists.{set_over};
+
+    ghost over = { set_over };
 }

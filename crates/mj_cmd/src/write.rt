@@ -1,19 +1,21 @@
 // The arguments of WRITE.
 
-ghost use Rattle.std.specs.Prelude.{◌≡◌, ◌+◌, ◌++◌, ◌≤◌, IfOk, length, map, replicate};
-ghost use Rattle.mj_ast.specs.Commands.{output_parts, with_commas};
+ghost use Rattle.std.specs.Prelude.{◌≡◌, ◌+◌, ◌++◌, ◌≤◌, IfOk, length, refl, replicate};
+ghost use Rattle.mj_ast.specs.Commands.{output_parts};
 ghost use Rattle.mj_ast.specs.Tokens.{Signed};
 ghost use Rattle.mj_ast.specs.Trees.{output_of};
 ghost use Rattle.mj_ast.specs.declared.sign.Sign.TheVariants.{Exclamation};
 ghost use Rattle.mj_expr.specs.Machine.{Limits};
 ghost use Rattle.mj_lex.specs.Seen.{tokens_seen};
-ghost use Rattle.mj_cmd.specs.Heads.{HasNoMark, HasParted};
-ghost use Rattle.mj_cmd.specs.Reads.{HasRoom, Lists};
+ghost use Rattle.mj_line.specs.Forms.{OutputEnd, OutputWanted};
+ghost use Rattle.mj_cmd.specs.Heads.{HasNoMark};
+ghost use Rattle.mj_cmd.specs.Reads.{HasRoom, Passes};
 
-use crate::parts::{behind_comma, behind_mark, parted, stuck};
+use crate::list::{Argument, Item};
+use crate::parts::behind_mark;
 use crate::phrase::Phrases;
 use mj_ast::{Mark, Output};
-use mj_expr::{Stop, added};
+use mj_expr::Stop;
 use mj_lex::Lexeme;
 
 /// How many `!` stand in front, and what follows them.
@@ -42,7 +44,7 @@ fn output<'a, 't>(
     tokens: &'t [Lexeme<'a>],
 ) -> Result<(Output, &'t [Lexeme<'a>]), Stop>
     ensures shorter { IfOk result (λ x. length x.1.now ≤ length tokens.now) }
-    ensures reads { (m : Limits) → HasRoom phrases.limited m tokens.now → Lists phrases.limited (λ x. output_parts (output_of x.0)) (λ x. x.1.now) result m tokens.now }
+    ensures reads { (m : Limits) → HasRoom phrases.limited m tokens.now → Passes phrases.limited (λ x. output_parts (output_of x.0)) (λ x. x.1.now) result m tokens.now OutputWanted OutputEnd }
 {
     let (count, rest) = marks(tokens);
     if count > 0 {
@@ -53,23 +55,27 @@ fn output<'a, 't>(
     Ok((Output::Value(value), rest))
 }
 
-/// The arguments of WRITE, up to where the command ends.
-pub fn outputs<'a, 't>(
-    phrases: Phrases,
-    tokens: &'t [Lexeme<'a>],
-) -> Result<(Vec<Output>, &'t [Lexeme<'a>]), Stop>
-    ensures shorter { IfOk result (λ x. length x.1.now ≤ length tokens.now) }
-    ensures parted { IfOk result (λ x. HasParted (tokens_seen x.1.now)) }
-    ensures reads { (m : Limits) → HasRoom phrases.limited m tokens.now → Lists phrases.limited (λ x. with_commas output_parts (map output_of x.0.items)) (λ x. x.1.now) result m tokens.now }
-{
-    let mut arguments = Vec::new(phrases.alloc);
-    let (first, mut rest) = output(phrases, tokens)?;
-    added(&mut arguments, first)?;
-    'commas: while let Some(behind) = behind_comma(rest) {
-        let (argument, behind) = output(phrases, behind)?;
-        added(&mut arguments, argument)?;
-        rest = behind;
+impl Item for Output {
+    ghost first_at = { OutputWanted };
+
+    ghost more_at = { OutputWanted };
+
+    ghost behind_at = { OutputEnd };
+
+    ghost spells = { λ ps x. ps ≡ output_parts (output_of x) };
+
+    fn read<'a, 't>(
+        phrases: Phrases,
+        tokens: &'t [Lexeme<'a>],
+    ) -> Result<(Output, &'t [Lexeme<'a>]), Stop> {
+        output(phrases, tokens)
     }
-    let rest = parted(rest)?;
-    Ok((arguments, rest))
+
+    ghost comma = { refl };
+}
+
+impl Argument for Output {
+    ghost use Rattle.mj_cmd.specs.Lists.{output_over};
+
+    ghost over = { output_over };
 }

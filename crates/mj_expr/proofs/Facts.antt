@@ -4,7 +4,7 @@ use Rattle.std.specs.Prelude.{cond, not}
 use Rattle.std.proofs.lemmas.Bool.Decides.{nat_tests}
 use Rattle.mj_ast.specs.declared.sign.Sign.{Sign}
 use Rattle.mj_ast.specs.declared.function.Special as special
-use Rattle.mj_ast.specs.declared.sign.Sign.TheVariants.{Plus, Minus, Apostrophe, NegatedQuestion, Caret, Open, Close, Comma, Colon, Dot}
+use Rattle.mj_ast.specs.declared.sign.Sign.TheVariants.{Plus, Minus, Apostrophe, Question, NegatedQuestion, Caret, Open, Close, Comma, Colon, Dot}
 use Rattle.mj_oper.specs.declared.op.UnaryOp.{UnaryOp}
 use Rattle.mj_oper.specs.declared.op.Op.{Op}
 use Rattle.mj_ast.specs.declared.function.NameFunction.{NameFunction}
@@ -88,6 +88,7 @@ binary_back Comma op e = absurd (none_some op e)
 binary_back Colon op e = absurd (none_some op e)
 binary_back Dot op e = absurd (none_some op e)
 binary_back Apostrophe op e = absurd (none_some op e)
+binary_back Question op e = absurd (none_some op e)
 binary_back NegatedQuestion op e = absurd (none_some op e)
 binary_back s op e = ap binary_sign (some_same _ op e)
 

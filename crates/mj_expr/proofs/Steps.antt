@@ -3,7 +3,7 @@ use Rattle.std.proofs.Common.{◌≡◌, ℕ, ◌+◌, ◌<◌, ◌≤◌, List,
 use Rattle.std.proofs.lemmas.Bool.Decides.{nat_tests}
 use Rattle.std.specs.Prelude.{cond, not, ◌&&◌, ℤ}
 use Rattle.std.specs.Result.{IsErrAnd}
-use Rattle.mj_ast.specs.declared.sign.Sign.TheVariants.{Apostrophe, NegatedQuestion, Caret, Open, Close, Comma, Colon, Dot}
+use Rattle.mj_ast.specs.declared.sign.Sign.TheVariants.{Apostrophe, Question, NegatedQuestion, Caret, Open, Close, Comma, Colon, Dot}
 use Rattle.mj_ast.specs.declared.expr.Scope.{Scope}
 use Rattle.mj_oper.specs.declared.op.Op.{Op}
 use Rattle.mj_ast.specs.declared.function.NameFunction.{NameFunction}
@@ -172,6 +172,7 @@ held_refuses m (Mark Open ∷ ks) w before (Chain x r) b c d = refl
 held_refuses m (Mark Colon ∷ ks) w before (Chain x r) b c d = refl
 held_refuses m (Mark Dot ∷ ks) w before (Chain x r) b c d = refl
 held_refuses m (Mark Apostrophe ∷ ks) w before (Chain x r) b c d = refl
+held_refuses m (Mark Question ∷ ks) w before (Chain x r) b c d = refl
 held_refuses m (Mark NegatedQuestion ∷ ks) w before (Chain x r) b c d = refl
 held_refuses m (Mark s ∷ ks) w before (Chain x r) b c d = absurd (some_none _ b)
 
@@ -191,6 +192,7 @@ held_few m (Mark Open ∷ ks) w before (Chain x r) e b c = refl
 held_few m (Mark Colon ∷ ks) w before (Chain x r) e b c = refl
 held_few m (Mark Dot ∷ ks) w before (Chain x r) e b c = refl
 held_few m (Mark Apostrophe ∷ ks) w before (Chain x r) e b c = refl
+held_few m (Mark Question ∷ ks) w before (Chain x r) e b c = refl
 held_few m (Mark NegatedQuestion ∷ ks) w before (Chain x r) e b c = refl
 held_few m (Mark s ∷ ks) w before (Chain x r) e b c = absurd (some_none _ b)
 
@@ -252,6 +254,7 @@ condition_refuses m (Mark Open ∷ ks) ps (Chain x r) c b d = refl
 condition_refuses m (Mark Colon ∷ ks) ps (Chain x r) c b d = absurd d
 condition_refuses m (Mark Dot ∷ ks) ps (Chain x r) c b d = refl
 condition_refuses m (Mark Apostrophe ∷ ks) ps (Chain x r) c b d = refl
+condition_refuses m (Mark Question ∷ ks) ps (Chain x r) c b d = refl
 condition_refuses m (Mark NegatedQuestion ∷ ks) ps (Chain x r) c b d = refl
 condition_refuses m (Mark s ∷ ks) ps (Chain x r) c b d = absurd (some_none _ b)
 
@@ -270,6 +273,7 @@ choice_refuses m (Mark Open ∷ ks) ps a (Chain x r) c b d f = refl
 choice_refuses m (Mark Colon ∷ ks) ps a (Chain x r) c b d f = refl
 choice_refuses m (Mark Dot ∷ ks) ps a (Chain x r) c b d f = refl
 choice_refuses m (Mark Apostrophe ∷ ks) ps a (Chain x r) c b d f = refl
+choice_refuses m (Mark Question ∷ ks) ps a (Chain x r) c b d f = refl
 choice_refuses m (Mark NegatedQuestion ∷ ks) ps a (Chain x r) c b d f = refl
 choice_refuses m (Mark s ∷ ks) ps a (Chain x r) c b d f = absurd (some_none _ b)
 
@@ -370,6 +374,7 @@ other_refuses m (Mark Open ∷ ks) f v (Chain x r) c b d = refl
 other_refuses m (Mark Colon ∷ ks) f v (Chain x r) c b d = refl
 other_refuses m (Mark Dot ∷ ks) f v (Chain x r) c b d = refl
 other_refuses m (Mark Apostrophe ∷ ks) f v (Chain x r) c b d = refl
+other_refuses m (Mark Question ∷ ks) f v (Chain x r) c b d = refl
 other_refuses m (Mark NegatedQuestion ∷ ks) f v (Chain x r) c b d = refl
 other_refuses m (Mark s ∷ ks) f v (Chain x r) c b d = absurd (some_none _ b)
 
@@ -447,6 +452,7 @@ whole_done m (Chain x r) (Mark Open ∷ ks) h = refl
 whole_done m (Chain x r) (Mark Colon ∷ ks) h = refl
 whole_done m (Chain x r) (Mark Dot ∷ ks) h = refl
 whole_done m (Chain x r) (Mark Apostrophe ∷ ks) h = refl
+whole_done m (Chain x r) (Mark Question ∷ ks) h = refl
 whole_done m (Chain x r) (Mark NegatedQuestion ∷ ks) h = refl
 whole_done m (Chain x r) (Mark s ∷ ks) h = absurd (some_none _ h)
 

@@ -1,27 +1,21 @@
 -- The ends of lists.
-use Rattle.std.proofs.Common.{◌≡◌, ◌∙◌, refl, ap, ℕ, zero, suc, ◌+◌, List, [], ◌∷◌, length, take, drop, map, get_or, arith, Bool, false, ◌<◌, ◌==◌}
+use Rattle.std.proofs.Common.{◌≡◌, ◌∙◌, refl, ap, ℕ, zero, suc, ◌+◌, List, [], ◌∷◌, length, take, drop, map, get_or, arith, Bool, false, ◌<◌, ◌==◌, Some}
 use Rattle.mj_ast.specs.Tokens.{Token}
 use Rattle.mj_ast.specs.Trees.{step_of, command_of}
-use Rattle.mj_ast.specs.LeftOut.{quits, is_quit}
+use Rattle.mj_ast.specs.Commands.{keyword_for}
+use Rattle.mj_ast.specs.LeftOut.{last_keyword}
 use Rattle.mj_ast.specs.declared.routine.Step as kept_step
-use Rattle.mj_ast.specs.declared.routine.Command as kept_command
-use Rattle.mj_ast.specs.declared.routine.Command.TheVariants as command
 use Rattle.std.proofs.lemmas.Bool.Decides.{nat_tests}
 use Rattle.mj_lex.specs.declared.token.Lexeme.{Lexeme}
 use Rattle.mj_lex.specs.Seen.{token_seen, tokens_seen}
 
 -- the last command
-pub last_quits : (n : ℕ) (steps : List kept_step.Step) (d : kept_step.Step) → length steps ≡ n + 1 → quits (map step_of steps) ≡ is_quit (command_of (get_or steps n d).command)
-last_quits n [] d h = absurd (omega arith)
-last_quits zero (s ∷ []) d h = refl
-last_quits zero (s ∷ t ∷ steps) d h = absurd (omega arith)
-last_quits (suc n) (s ∷ []) d h = absurd (omega arith)
-last_quits (suc n) (s ∷ t ∷ steps) d h = last_quits n (t ∷ steps) d (omega arith)
-
--- another command
-pub no_quit : (x : kept_command.Command) → (x ≡ command.Quit → ⊥) → is_quit (command_of x) ≡ false
-no_quit command.Quit n = absurd (n refl)
-no_quit x n = refl
+pub last_at : (n : ℕ) (steps : List kept_step.Step) (d : kept_step.Step) → length steps ≡ n + 1 → last_keyword (map step_of steps) ≡ Some (keyword_for (command_of (get_or steps n d).command))
+last_at n [] d h = absurd (omega arith)
+last_at zero (s ∷ []) d h = refl
+last_at zero (s ∷ t ∷ steps) d h = absurd (omega arith)
+last_at (suc n) (s ∷ []) d h = absurd (omega arith)
+last_at (suc n) (s ∷ t ∷ steps) d h = last_at n (t ∷ steps) d (omega arith)
 
 pub not_empty : (n : ℕ) (b : Bool) → b ≡ (n == 0) → b ≡ false → 0 < n
 not_empty n b e h = grind (arith, nat_tests)

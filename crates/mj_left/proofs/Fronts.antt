@@ -1,12 +1,13 @@
 -- The tokens before the one at which a line is stuck, with another one behind them.
-use Rattle.std.proofs.Common.{◌≡◌, ◌==◌, ◌∙◌, ◌⊎◌, inl, inr, refl, sym, ap, subst, ℕ, zero, suc, ◌+◌, ◌≤◌, ◌<◌, List, [], ◌∷◌, ◌++◌, length, take, drop, append_assoc, append-nil, length-append, arith, Bool, true, false}
+use Rattle.std.proofs.Common.{◌≡◌, ◌==◌, ◌∙◌, ◌⊎◌, inl, inr, refl, sym, ap, subst, ℕ, zero, suc, ◌+◌, ◌≤◌, ◌<◌, List, [], ◌∷◌, ◌++◌, length, take, drop, append_assoc, append-nil, length-append, arith, Bool, true, false, Option, Some, None}
 use Rattle.std.proofs.lemmas.List.{take-append-drop, take-append-le, take_all}
 use Rattle.std.proofs.lemmas.Bool.Decides.{nat_tests}
 use Rattle.mj_ast.specs.declared.sign.Sign.TheVariants.{Comma}
 use Rattle.mj_ast.specs.Syntax.{Line}
 use Rattle.mj_ast.specs.Tokens.{Token, Word, Called, Special, Digits, Signed, Blank}
 use Rattle.mj_ast.specs.Lines.{SpellsLine, BeginsLine, BeginsLineWithin, IsStuck, IsDeep, IsOverlong, HasOverlong}
-use Rattle.mj_ast.specs.LeftOut.{EndsInQuit, IsBehindQuit, ends_in, is_blank_token, quits}
+use Rattle.mj_ast.specs.declared.keyword.Keyword.{Keyword}
+use Rattle.mj_ast.specs.LeftOut.{EndsInCommand, IsBehindCommand, IsLast, ends_in, is_blank_token, last_keyword}
 use Rattle.mj_expr.specs.declared.stop.Stop.{Stop}
 use Rattle.mj_expr.specs.declared.stop.Stop.TheVariants as stop
 use Rattle.mj_cmd.specs.Heads.{IsLabelShort}
@@ -165,7 +166,7 @@ none_spelled ks (stop.Deep left) l f r m s =
 pub no_line : (ks : List Token) (e g : Stop) (l : Line) → IsFront ks → e ≡ g → IsSpoken g → IsRefused ks e → SpellsLine ks l → ⊥
 no_line ks e g l f i m r s = let P : Stop → Type 0 = λ x. IsRefused ks x in none_spelled ks g l f (subst P i r) m s
 
--- ---- a line whose last command is QUIT
+-- ---- the command that stands last
 
 pub before_same : (xs ys : List Token) (a b : Token) → xs ++ a ∷ [] ≡ ys ++ b ∷ [] → xs ≡ ys
 before_same [] [] a b e = refl
@@ -174,15 +175,28 @@ before_same (x ∷ xs) [] a b e = absurd (nothing_behind xs a [] (sym (rest_same
 before_same (x ∷ xs) (y ∷ ys) a b e =
     ap (λ (k : Token). k ∷ xs) (first_same x y (xs ++ a ∷ []) (ys ++ b ∷ []) e) ∙ ap (λ (ks : List Token). y ∷ ks) (before_same xs ys a b (rest_same x y (xs ++ a ∷ []) (ys ++ b ∷ []) e))
 
-quit_said : (ks : List Token) (l : Line) (b : Bool) → b ≡ quits l.steps → ends_in is_blank_token ks ≡ false → IsRead ks l → Says b (EndsInQuit ks)
-quit_said ks l true e s r = record { single = s; line = l; spells = r.spells; last = sym e }
-quit_said ks l false e s r = λ q. false_true (e ∙ ap (λ (x : Line). quits x.steps) (sym (r.only q.line q.spells)) ∙ q.last)
+pub last_said : (ks : List Token) (l : Line) (last : Option Keyword) → last ≡ last_keyword l.steps → ends_in is_blank_token ks ≡ false → IsRead ks l → IsLast ks last
+last_said ks l last e s r = record {
+  found = λ k f. record { single = s; line = l; spells = r.spells; last = sym e ∙ f };
+  only = λ k q. e ∙ ap (λ (x : Line). last_keyword x.steps) (sym (r.only q.line q.spells)) ∙ q.last;
+}
 
-pub quit_says : (ks : List Token) (l : Line) (b : Bool) → b ≡ quits l.steps → ends_in is_blank_token ks ≡ false → IsRead ks l → Says b (EndsInQuit ks)
-quit_says ks l b e s r = quit_said ks l b e s r
+no_keyword : (k : Keyword) → None ≡ Some k → ⊥
+no_keyword k e = cc
 
-pub quit_on : (front before : List Token) → front ≡ before ++ Blank ∷ [] → EndsInQuit before → IsBehindQuit front
-quit_on front before e q = (before, e, q)
+pub last_none : (ks : List Token) → ((k : Keyword) → EndsInCommand k ks → ⊥) → IsLast ks None
+last_none ks n = record { found = λ k f. absurd (no_keyword k f); only = λ k q. absurd (n k q) }
 
-pub quit_off : (front before : List Token) → front ≡ before ++ Blank ∷ [] → IsBehindQuit front → EndsInQuit before
-quit_off front before e q = let P : List Token → Type 0 = λ ks. EndsInQuit ks in subst P (before_same q.0 before Blank Blank (sym q.1 ∙ e)) q.2
+pub blank_last : (ks : List Token) → ends_in is_blank_token ks ≡ true → IsLast ks None
+blank_last ks e = last_none ks (λ k q. false_true (sym q.single ∙ e))
+
+-- no line is read
+pub unread_last : (ks : List Token) (e g : Stop) → IsFront ks → e ≡ g → IsSpoken g → IsRefused ks e → IsLast ks None
+unread_last ks e g f i m r = last_none ks (λ k q. no_line ks e g q.line f i m r q.spells)
+
+-- one blank behind it
+pub behind_on : (k : Keyword) (front before : List Token) (last : Option Keyword) → front ≡ before ++ Blank ∷ [] → IsLast before last → last ≡ Some k → IsBehindCommand k front
+behind_on k front before last e h f = (before, e, h.found k f)
+
+pub behind_off : (k : Keyword) (front before : List Token) (last : Option Keyword) → front ≡ before ++ Blank ∷ [] → IsLast before last → IsBehindCommand k front → last ≡ Some k
+behind_off k front before last e h q = let P : List Token → Type 0 = λ ks. EndsInCommand k ks in h.only k (subst P (before_same q.0 before Blank Blank (sym q.1 ∙ e)) q.2)

@@ -69,6 +69,7 @@ fn named(
         Construct::Structured,
         Construct::ByReference,
         Construct::EntryOffset,
+        Construct::MnemonicSpace,
         Construct::SetExtract,
         Construct::JustifyDecimals,
         Construct::QueryBackward,

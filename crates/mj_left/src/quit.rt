@@ -1,15 +1,14 @@
 // An argument of QUIT.
 
-ghost use Rattle.std.specs.Prelude.{◌≡◌, IfOk, map};
-ghost use Rattle.mj_ast.specs.LeftOut.{EndsInQuit, IsBehindQuit, IsQuitArgument, begins_argument as the_argument, quits as the_quits};
-ghost use Rattle.mj_ast.specs.Trees.{step_of};
+ghost use Rattle.std.specs.Prelude.{◌≡◌, IfOk};
+ghost use Rattle.mj_ast.specs.LeftOut.{IsBehindCommand, IsQuitArgument, begins_argument as the_argument};
+ghost use Rattle.mj_ast.specs.declared.keyword.Keyword.TheVariants.{Quit};
 ghost use Rattle.mj_lex.specs.Seen.{token_seen, tokens_seen};
 ghost use Rattle.mj_left.specs.Fronts.{IsFront, Says};
 
-use crate::tokens::{ends_in_blank, last, starts_digits, starts_dollar};
-use mj_ast::{Command, Sign, Step};
-use mj_cmd::line;
-use mj_expr::Stop;
+use crate::last::last_command;
+use crate::tokens::{last, starts_digits, starts_dollar};
+use mj_ast::{Keyword, Sign};
 use mj_lex::{Lexeme, Token};
 use std::alloc::{AllocError, Global};
 
@@ -33,42 +32,25 @@ fn begins_argument(token: Token, behind: &[Lexeme]) -> bool
     }
 }
 
-/// Whether the last command is QUIT.
-fn quits(steps: &[Step]) -> bool
-    ensures { result ≡ the_quits (map step_of steps.now) }
+fn is_quit(last: Option<Keyword>) -> bool
+    ensures { Says result (last ≡ Some Quit) }
 {
-    if steps.is_empty() {
-        return false;
-    }
-    matches!(steps[steps.len() - 1].command, Command::Quit)
-}
-
-/// Whether the tokens are a line up to the end of its last command, and that is QUIT.
-fn ends_in_quit(alloc: Global, tokens: &[Lexeme]) -> Result<bool, AllocError>
-    requires { IsFront (tokens_seen tokens.now) }
-    ensures { IfOk result (λ b. Says b (EndsInQuit (tokens_seen tokens.now))) }
-{
-    if ends_in_blank(tokens) {
-        return Ok(false);
-    }
-    match line(alloc, tokens) {
-        Ok(line) => Ok(quits(&line.steps)),
-        Err(stop) => match stop {
-            Stop::Memory => Err(AllocError),
-            Stop::Stuck(_) => Ok(false),
-            Stop::Deep(_) => Ok(false),
-            Stop::Long => Ok(false),
-        },
+    match last {
+        Some(Keyword::Quit) => true,
+        _ => false,
     }
 }
 
-/// Whether one blank stands behind them.
+/// Whether the last command is QUIT, and one blank stands behind it.
 fn is_behind_quit(alloc: Global, front: &[Lexeme]) -> Result<bool, AllocError>
     requires { IsFront (tokens_seen front.now) }
-    ensures { IfOk result (λ b. Says b (IsBehindQuit (tokens_seen front.now))) }
+    ensures { IfOk result (λ b. Says b (IsBehindCommand Quit (tokens_seen front.now))) }
 {
     match last(front) {
-        Some((Token::Blank, before)) => ends_in_quit(alloc, before),
+        Some((Token::Blank, before)) => {
+            let last = last_command(alloc, before)?;
+            Ok(is_quit(last))
+        }
         _ => Ok(false),
     }
 }

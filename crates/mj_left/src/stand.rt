@@ -1,9 +1,9 @@
 // Where something may begin.
 
 ghost use Rattle.std.specs.Prelude.{◌≡◌, ◌⊎◌, IfOk, codes, true};
-ghost use Rattle.mj_ast.specs.declared.sign.Sign.TheVariants.{Caret, Close, Underscore};
+ghost use Rattle.mj_ast.specs.declared.sign.Sign.TheVariants.{Caret, Close, Exclamation, Underscore};
 ghost use Rattle.mj_ast.specs.Tokens.{Called, Signed, Special, Word};
-ghost use Rattle.mj_ast.specs.LeftOut.{IsBehindLabel, MayBeOperator, MayBeginActual, MayBeginCommand, MayBeginDestination, MayBeginName, MayBeginOperand, MayStand, is_in_formals as in_formals};
+ghost use Rattle.mj_ast.specs.LeftOut.{IsBehindLabel, MayBeOperator, MayBeginActual, MayBeginCommand, MayBeginDestination, MayBeginName, MayBeginOperand, MayBeginOutput, MayStand, is_in_formals as in_formals};
 ghost use Rattle.mj_lex.specs.Seen.{token_seen, tokens_seen};
 ghost use Rattle.mj_left.specs.Fronts.{IsFront, IsProbe, Says};
 
@@ -77,6 +77,17 @@ pub fn may_begin_actual(alloc: Global, front: &[Lexeme]) -> Result<bool, AllocEr
         return Ok(false);
     }
     may_stand(alloc, front, Token::Sign(Sign::Close))
+}
+
+/// Whether an argument of WRITE may begin.
+pub fn may_begin_output(alloc: Global, front: &[Lexeme]) -> Result<bool, AllocError>
+    requires { IsFront (tokens_seen front.now) }
+    ensures { IfOk result (λ b. Says b (MayBeginOutput (tokens_seen front.now))) }
+{
+    if !may_begin_operand(alloc, front)? {
+        return Ok(false);
+    }
+    may_stand(alloc, front, Token::Sign(Sign::Exclamation))
 }
 
 /// Whether the label of an entry was read.

@@ -9,7 +9,7 @@ use Rattle.std.proofs.lemmas.List.Sums.{take_while-cons, AllPass-from_list_all, 
 use Rattle.mj_oper.specs.declared.op.TruthOp.{TruthOp}
 use Rattle.mj_oper.specs.declared.op.TruthOp.TheVariants as truth
 use Rattle.mj_ast.specs.declared.sign.Sign.{Sign}
-use Rattle.mj_ast.specs.declared.sign.Sign.TheVariants.{Plus, Minus, Star, Backslash, Hash, Slash, Underscore, Equals, Less, Greater, OpenBracket, CloseBracket, CloseBrackets, Ampersand, Exclamation, Apostrophe, Negated, NegatedQuestion, Caret, Open, Close, Comma, Colon, Dot}
+use Rattle.mj_ast.specs.declared.sign.Sign.TheVariants.{Plus, Minus, Star, Backslash, Hash, Slash, Underscore, Equals, Less, Greater, OpenBracket, CloseBracket, CloseBrackets, Ampersand, Exclamation, Apostrophe, Negated, Question, NegatedQuestion, Caret, Open, Close, Comma, Colon, Dot}
 use Rattle.mj_ast.specs.Tokens.{Token, Word, Called, Special, Digits, Quoted, Signed, Blank, Comment, Unclosed, Stray, Class, AWord, ADollar, ADigit, AQuote, ABlank, AComment, ASign, Nothing, begins_word, continues_word, is_digit, is_blank, truth_bytes, sign_bytes, doubled, class_of, IsSpelledBy, opens, IsBefore, IsLongest, IsTokenisation, Quotation, quotation, behind_quote, with_byte, bracket_front, truth_front, bracket_sign, apostrophe_sign, longest_sign, dollar_word, dollar_front, front_of, first_lexemes, lexemes}
 use Rattle.mj_lex.proofs.Fronts.{front_taken}
 
@@ -43,8 +43,8 @@ says b =
     sign_if b 43 Plus _ refl (sign_if b 45 Minus _ refl (sign_if b 42 Star _ refl (sign_if b 92 Backslash _ refl (
     sign_if b 35 Hash _ refl (sign_if b 47 Slash _ refl (sign_if b 95 Underscore _ refl (sign_if b 61 Equals _ refl (
     sign_if b 60 Less _ refl (sign_if b 62 Greater _ refl (sign_if b 91 OpenBracket _ refl (sign_if b 93 CloseBracket _ refl (
-    sign_if b 38 Ampersand _ refl (sign_if b 33 Exclamation _ refl (sign_if b 39 Apostrophe _ refl (sign_if b 94 Caret _ refl (
-    sign_if b 40 Open _ refl (sign_if b 41 Close _ refl (sign_if b 44 Comma _ refl (sign_if b 58 Colon _ refl (sign_if b 46 Dot Nothing refl tt))))))))))))))))))))))))))
+    sign_if b 38 Ampersand _ refl (sign_if b 33 Exclamation _ refl (sign_if b 39 Apostrophe _ refl (sign_if b 63 Question _ refl (sign_if b 94 Caret _ refl (
+    sign_if b 40 Open _ refl (sign_if b 41 Close _ refl (sign_if b 44 Comma _ refl (sign_if b 58 Colon _ refl (sign_if b 46 Dot Nothing refl tt)))))))))))))))))))))))))))
 
 -- ---- the token at the front is spelled by its slice
 
@@ -283,6 +283,7 @@ negated_reach truth.Or rest = omega arith
 sign_reach : (s : Sign) (rest : List ℕ) → length (sign_bytes s) ≤ reach (sign_bytes s ++ rest)
 sign_reach CloseBrackets rest = omega arith
 sign_reach (Negated op) rest = negated_reach op rest
+sign_reach Question rest = omega arith
 sign_reach NegatedQuestion rest = omega arith
 sign_reach Plus rest = omega arith
 sign_reach Minus rest = omega arith

@@ -47,6 +47,7 @@ fn begun_by(byte: u8) -> Class
         b'&' => Class::Sign(Sign::Ampersand),
         b'!' => Class::Sign(Sign::Exclamation),
         b'\'' => Class::Sign(Sign::Apostrophe),
+        b'?' => Class::Sign(Sign::Question),
         b'^' => Class::Sign(Sign::Caret),
         b'(' => Class::Sign(Sign::Open),
         b')' => Class::Sign(Sign::Close),

@@ -1,7 +1,7 @@
 // Tokens, and what is read off them.
 
 ghost use Rattle.std.specs.Prelude.{IfSome, IsOkUnless, ◌≤◌, ◌+◌, ◌≡◌, ◌∷◌, [], IfOk, MatchOption};
-ghost use Rattle.std.specs.Prelude.{IfErr, ◌<◌, ◌↔◌, length};
+ghost use Rattle.std.specs.Prelude.{IfErr, ◌<◌, ◌↔◌, ◌⊎◌, length};
 ghost use Rattle.std.specs.List.{list_any};
 ghost use Rattle.mj_lex.specs.Seen.{is_quote, token_seen, tokens_seen, undoubled};
 ghost use Rattle.mj_text.specs.declared.fault.Failure.TheVariants as failure;
@@ -67,6 +67,7 @@ pub fn unquoted(alloc: Global, bytes: &[u8]) -> Result<Text, Failure>
     ensures ok { IfOk result (λ t. t ≡ undoubled bytes.now) }
     ensures long { (result ≡ Err (failure.Fault fault.Length)) → TEXT_LIMIT < length (undoubled bytes.now) }
     ensures within { length (undoubled bytes.now) ≤ TEXT_LIMIT → IsOkUnless result failure.Memory }
+    ensures above { TEXT_LIMIT < length (undoubled bytes.now) → (result ≡ Err (failure.Fault fault.Length)) ⊎ (result ≡ Err failure.Memory) }
 {
     if !has_quote(bytes) {
         return Text::from(alloc, bytes);

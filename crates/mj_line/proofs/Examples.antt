@@ -1,5 +1,5 @@
 -- Rows of the machine: what stands in front of the commands of a line.
-use Rattle.std.proofs.Common.{◌≡◌, List, ℕ, [], ◌∷◌, Some, None, refl, codes}
+use Rattle.std.proofs.Common.{◌≡◌, List, ℕ, [], ◌∷◌, None, refl, codes}
 use Rattle.mj_ast.specs.declared.keyword.Keyword.TheVariants as keyword
 use Rattle.mj_ast.specs.Tokens.{lexemes, tokens}
 use Rattle.mj_expr.specs.Reads.{limits}

@@ -10,7 +10,7 @@ use Rattle.mj_ast.specs.declared.keyword.Keyword.TheVariants as keyword
 use Rattle.mj_ast.specs.Syntax.{Expr, Exprs, No, More, Destination, Plain, Pieces, Targets, One, Several, Assignment, Killed, Gone, Spared, Merged, Output, Shown, Format, Called, Jumped, Range, Single, Endless, UpTo, Renewed, Fresh, Kept, Command, Set, Write, Halt, Kill, Merge, If, Else, For, Forever, Do, Goto, Quit, New}
 use Rattle.mj_ast.specs.Expressions.{count}
 use Rattle.mj_ast.specs.Commands.{Part, Put, Named, Label, PieceCall, Text, Place, behind_commas, condition_parts, entry_parts, target_parts, guard_parts, actual_parts, actuals_parts, called_parts, as_called, jumped_parts, range_parts, renewed_parts, is_local, is_bare, is_entry, is_called, is_jumped, is_renewed, more_parts, destination_parts, targets_parts, assignment_parts, mark_part, output_parts, name_parts, killed_parts, merged_parts, command_parts, keyword_for, every, is_destination, are_targets, is_assignment, is_output, is_killed, is_formed}
-use Rattle.mj_line.specs.Forms.{Node, SetTarget, PieceOpens, PieceVariable, PieceComma, PieceText, PieceBehind, SetBehind, SetValue, SetEnd, OutputWanted, OutputEnd, MarksEnd, KillWanted, NameWanted, NameBehind, KillEnd, MergeInto, MergeBehind, MergeFrom, MergeEnd, IfWanted, IfEnd, ForWanted, ForBehind, RangeWanted, RangeEnd, StepWanted, StepEnd, LimitWanted, LimitEnd, NewWanted, KeptWanted, KeptBehind, NewEnd, EntryWanted, LabelEnd, RoutineWanted, RoutineEnd, ActualWanted, ActualEnd, ActualsEnd, GuardWanted, GuardEnd, actuals_at, takes, ends, first_node, Fits, IsForm}
+use Rattle.mj_line.specs.Forms.{Mode, Calls, Jumps, Node, SetTarget, PieceOpens, PieceVariable, PieceComma, PieceText, PieceBehind, SetBehind, SetValue, SetEnd, OutputWanted, OutputEnd, MarksEnd, KillWanted, NameWanted, NameBehind, KillEnd, MergeInto, MergeBehind, MergeFrom, MergeEnd, IfWanted, IfEnd, ForWanted, ForBehind, RangeWanted, RangeEnd, StepWanted, StepEnd, LimitWanted, LimitEnd, NewWanted, KeptWanted, KeptBehind, NewEnd, EntryWanted, LabelEnd, RoutineWanted, RoutineEnd, ActualWanted, ActualEnd, ActualsEnd, GuardWanted, GuardEnd, actuals_at, takes, ends, first_node, Fits, IsForm}
 
 -- ---- tests
 
@@ -168,13 +168,13 @@ news_fit (x ∷ list) h = (NewWanted false, refl, renewed_fits false x (behind_c
 -- ---- calls and jumps
 
 -- jumps have no actuals
-abbrev pub Plainly : Bool → List Called → Type 0
-Plainly true xs = Unit {0}
-Plainly false xs = every (λ c. is_bare c.actuals) xs ≡ true
+abbrev pub Plainly : Mode → List Called → Type 0
+Plainly Calls xs = Unit {0}
+Plainly Jumps xs = every (λ c. is_bare c.actuals) xs ≡ true
 
-abbrev pub PlainOne : Bool → List (Option Expr) → Type 0
-PlainOne true list = Unit {0}
-PlainOne false list = is_bare list ≡ true
+abbrev pub PlainOne : Mode → List (Option Expr) → Type 0
+PlainOne Calls list = Unit {0}
+PlainOne Jumps list = is_bare list ≡ true
 
 pub called_cut : (c : Called) (r : List Part) → called_parts c ++ r ≡ target_parts c.target ++ (actuals_parts c.actuals ++ (guard_parts c.condition ++ r))
 called_cut c r =
@@ -186,17 +186,17 @@ pub three : (d b : List Part) (z : Part) (rest : List Part) → ((d ++ b) ++ z �
 three d b z rest = append_assoc (d ++ b) (z ∷ []) rest ∙ append_assoc d b (z ∷ rest)
 
 -- where an argument may end
-record Parting (call : Bool) (n : Node) : Type 0 where
+record Parting (mode : Mode) (n : Node) : Type 0 where
   ends_here : ends n ≡ true
-  comma : takes n (Put Comma) ≡ Some (EntryWanted call false)
+  comma : takes n (Put Comma) ≡ Some (EntryWanted mode false)
 
 -- what follows arguments, at each place where one may end
-abbrev Tail : Bool → List Part → Type 0
-Tail call rest = (n : Node) → Parting call n → Fits n rest
+abbrev Tail : Mode → List Part → Type 0
+Tail mode rest = (n : Node) → Parting mode n → Fits n rest
 
-guard_fits : (call : Bool) (n : Node) (c : Option Expr) (rest : List Part) → Parting call n → takes n (Put Colon) ≡ Some (GuardWanted call) → Tail call rest → Fits n (guard_parts c ++ rest)
-guard_fits call n None rest p e tail = tail n p
-guard_fits call n (Some x) rest p e tail = (GuardWanted call, e, (GuardEnd call, refl, tail (GuardEnd call) (record { ends_here = refl; comma = refl })))
+guard_fits : (mode : Mode) (n : Node) (c : Option Expr) (rest : List Part) → Parting mode n → takes n (Put Colon) ≡ Some (GuardWanted mode) → Tail mode rest → Fits n (guard_parts c ++ rest)
+guard_fits mode n None rest p e tail = tail n p
+guard_fits mode n (Some x) rest p e tail = (GuardWanted mode, e, (GuardEnd mode, refl, tail (GuardEnd mode) (record { ends_here = refl; comma = refl })))
 
 -- actuals behind one, and behind a comma
 record Actuals (list : List (Option Expr)) (rest : List Part) : Type 0 where
@@ -215,48 +215,48 @@ actuals_fit (a ∷ list) rest f =
     let h = subst P (sym (append_assoc (actual_parts a) (behind_commas actual_parts list) (Put Close ∷ rest))) (actual_fits a (behind_commas actual_parts list ++ Put Close ∷ rest) r.wanted r.ended) in
     record { wanted = (ActualWanted, refl, h); ended = (ActualWanted, refl, h) }
 
-acted_fits : (call : Bool) (n : Node) (list : List (Option Expr)) (c : Option Expr) (rest : List Part) → Parting call n → takes n (Put Colon) ≡ Some (GuardWanted call) → takes n (Put Open) ≡ actuals_at call → PlainOne call list → Tail call rest → Fits n (actuals_parts list ++ (guard_parts c ++ rest))
-acted_fits call n [] c rest p e o i tail = guard_fits call n c rest p e tail
-acted_fits false n (a ∷ list) c rest p e o i tail = false_true i
-acted_fits true n (a ∷ list) c rest p e o i tail =
+acted_fits : (mode : Mode) (n : Node) (list : List (Option Expr)) (c : Option Expr) (rest : List Part) → Parting mode n → takes n (Put Colon) ≡ Some (GuardWanted mode) → takes n (Put Open) ≡ actuals_at mode → PlainOne mode list → Tail mode rest → Fits n (actuals_parts list ++ (guard_parts c ++ rest))
+acted_fits mode n [] c rest p e o i tail = guard_fits mode n c rest p e tail
+acted_fits Jumps n (a ∷ list) c rest p e o i tail = false_true i
+acted_fits Calls n (a ∷ list) c rest p e o i tail =
     let x = guard_parts c ++ rest in
-    let r = actuals_fit list x (guard_fits true ActualsEnd c rest (record { ends_here = refl; comma = refl }) refl tail) in
+    let r = actuals_fit list x (guard_fits Calls ActualsEnd c rest (record { ends_here = refl; comma = refl }) refl tail) in
     let P : List Part → Type 0 = λ ps. Fits n (Put Open ∷ ps) in
     subst P (sym (three (actual_parts a) (behind_commas actual_parts list) (Put Close) x)) (ActualWanted, o, actual_fits a (behind_commas actual_parts list ++ Put Close ∷ x) r.wanted r.ended)
 
-entry_fits : (call first : Bool) (l r : Option (List ℕ)) (rest : List Part) → is_entry l r ≡ true → Fits (LabelEnd call) rest → Fits (RoutineEnd call) rest → Fits (EntryWanted call first) (entry_parts l r ++ rest)
-entry_fits call first None None rest h a b = false_true h
-entry_fits call first None (Some w) rest h a b = (RoutineWanted call, refl, (RoutineEnd call, refl, b))
-entry_fits call first (Some l) None rest h a b = (LabelEnd call, refl, a)
-entry_fits call first (Some l) (Some w) rest h a b = (LabelEnd call, refl, (RoutineWanted call, refl, (RoutineEnd call, refl, b)))
+entry_fits : (mode : Mode) (first : Bool) (l r : Option (List ℕ)) (rest : List Part) → is_entry l r ≡ true → Fits (LabelEnd mode) rest → Fits (RoutineEnd mode) rest → Fits (EntryWanted mode first) (entry_parts l r ++ rest)
+entry_fits mode first None None rest h a b = false_true h
+entry_fits mode first None (Some w) rest h a b = (RoutineWanted mode, refl, (RoutineEnd mode, refl, b))
+entry_fits mode first (Some l) None rest h a b = (LabelEnd mode, refl, a)
+entry_fits mode first (Some l) (Some w) rest h a b = (LabelEnd mode, refl, (RoutineWanted mode, refl, (RoutineEnd mode, refl, b)))
 
-called_fits : (call first : Bool) (x : Called) (rest : List Part) → is_called x ≡ true → PlainOne call x.actuals → Tail call rest → Fits (EntryWanted call first) (called_parts x ++ rest)
-called_fits call first x rest h i tail =
-    let P : List Part → Type 0 = λ ps. Fits (EntryWanted call first) ps in
-    let q : Parting call (LabelEnd call) = record { ends_here = refl; comma = refl } in
-    let p : Parting call (RoutineEnd call) = record { ends_here = refl; comma = refl } in
+called_fits : (mode : Mode) (first : Bool) (x : Called) (rest : List Part) → is_called x ≡ true → PlainOne mode x.actuals → Tail mode rest → Fits (EntryWanted mode first) (called_parts x ++ rest)
+called_fits mode first x rest h i tail =
+    let P : List Part → Type 0 = λ ps. Fits (EntryWanted mode first) ps in
+    let q : Parting mode (LabelEnd mode) = record { ends_here = refl; comma = refl } in
+    let p : Parting mode (RoutineEnd mode) = record { ends_here = refl; comma = refl } in
     subst P (sym (called_cut x rest))
-    (entry_fits call first x.target.label x.target.routine (actuals_parts x.actuals ++ (guard_parts x.condition ++ rest)) h
-    (acted_fits call (LabelEnd call) x.actuals x.condition rest q refl refl i tail)
-    (acted_fits call (RoutineEnd call) x.actuals x.condition rest p refl refl i tail))
+    (entry_fits mode first x.target.label x.target.routine (actuals_parts x.actuals ++ (guard_parts x.condition ++ rest)) h
+    (acted_fits mode (LabelEnd mode) x.actuals x.condition rest q refl refl i tail)
+    (acted_fits mode (RoutineEnd mode) x.actuals x.condition rest p refl refl i tail))
 
-plain_one : (call : Bool) (x : Called) (xs : List Called) → Plainly call (x ∷ xs) → PlainOne call x.actuals
-plain_one true x xs h = tt
-plain_one false x xs h = first_of (is_bare x.actuals) (every (λ c. is_bare c.actuals) xs) h
+plain_one : (mode : Mode) (x : Called) (xs : List Called) → Plainly mode (x ∷ xs) → PlainOne mode x.actuals
+plain_one Calls x xs h = tt
+plain_one Jumps x xs h = first_of (is_bare x.actuals) (every (λ c. is_bare c.actuals) xs) h
 
-plain_rest : (call : Bool) (x : Called) (xs : List Called) → Plainly call (x ∷ xs) → Plainly call xs
-plain_rest true x xs h = tt
-plain_rest false x xs h = second_of (is_bare x.actuals) (every (λ c. is_bare c.actuals) xs) h
+plain_rest : (mode : Mode) (x : Called) (xs : List Called) → Plainly mode (x ∷ xs) → Plainly mode xs
+plain_rest Calls x xs h = tt
+plain_rest Jumps x xs h = second_of (is_bare x.actuals) (every (λ c. is_bare c.actuals) xs) h
 
-calls_fit : (call : Bool) (xs : List Called) → every is_called xs ≡ true → Plainly call xs → Tail call (behind_commas called_parts xs)
-calls_fit call [] h i = λ n p. p.ends_here
-calls_fit call (x ∷ xs) h i =
-    let tail = calls_fit call xs (second_of (is_called x) (every is_called xs) h) (plain_rest call x xs i) in
-    λ n p. (EntryWanted call false, p.comma, called_fits call false x (behind_commas called_parts xs) (first_of (is_called x) (every is_called xs) h) (plain_one call x xs i) tail)
+calls_fit : (mode : Mode) (xs : List Called) → every is_called xs ≡ true → Plainly mode xs → Tail mode (behind_commas called_parts xs)
+calls_fit mode [] h i = λ n p. p.ends_here
+calls_fit mode (x ∷ xs) h i =
+    let tail = calls_fit mode xs (second_of (is_called x) (every is_called xs) h) (plain_rest mode x xs i) in
+    λ n p. (EntryWanted mode false, p.comma, called_fits mode false x (behind_commas called_parts xs) (first_of (is_called x) (every is_called xs) h) (plain_one mode x xs i) tail)
 
-first_called : (call : Bool) (x : Called) (xs : List Called) → every is_called (x ∷ xs) ≡ true → Plainly call (x ∷ xs) → Fits (EntryWanted call true) (called_parts x ++ behind_commas called_parts xs)
-first_called call x xs h i =
-    called_fits call true x (behind_commas called_parts xs) (first_of (is_called x) (every is_called xs) h) (plain_one call x xs i) (calls_fit call xs (second_of (is_called x) (every is_called xs) h) (plain_rest call x xs i))
+first_called : (mode : Mode) (x : Called) (xs : List Called) → every is_called (x ∷ xs) ≡ true → Plainly mode (x ∷ xs) → Fits (EntryWanted mode true) (called_parts x ++ behind_commas called_parts xs)
+first_called mode x xs h i =
+    called_fits mode true x (behind_commas called_parts xs) (first_of (is_called x) (every is_called xs) h) (plain_one mode x xs i) (calls_fit mode xs (second_of (is_called x) (every is_called xs) h) (plain_rest mode x xs i))
 
 -- jumps as calls
 pub jumps : (js : List Jumped) → behind_commas jumped_parts js ≡ behind_commas called_parts (map as_called js)
@@ -335,13 +335,13 @@ formed_form Forever h = refl
 formed_form (Do []) h = refl
 formed_form (Do (x ∷ list)) h =
     let s = called_some x (behind_commas called_parts list) in
-    as_form keyword.Do (EntryWanted true true) s.0 s.1 (called_parts x ++ behind_commas called_parts list) refl s.2 (first_called true x list h tt)
+    as_form keyword.Do (EntryWanted Calls true) s.0 s.1 (called_parts x ++ behind_commas called_parts list) refl s.2 (first_called Calls x list h tt)
 formed_form (Goto []) h = false_true h
 formed_form (Goto (x ∷ list)) h =
     let P : List Part → Type 0 = λ ps. IsForm keyword.Goto (jumped_parts x ++ ps) in
     let s = called_some (as_called x) (behind_commas called_parts (map as_called list)) in
     subst P (sym (jumps list))
-    (as_form keyword.Goto (EntryWanted false true) s.0 s.1 (called_parts (as_called x) ++ behind_commas called_parts (map as_called list)) refl s.2 (first_called false (as_called x) (map as_called list) (jumps_called (x ∷ list) h) (jumps_plain (x ∷ list))))
+    (as_form keyword.Goto (EntryWanted Jumps true) s.0 s.1 (called_parts (as_called x) ++ behind_commas called_parts (map as_called list)) refl s.2 (first_called Jumps (as_called x) (map as_called list) (jumps_called (x ∷ list) h) (jumps_plain (x ∷ list))))
 formed_form Quit h = refl
 formed_form (New []) h = refl
 formed_form (New (x ∷ list)) h =

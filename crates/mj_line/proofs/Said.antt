@@ -13,7 +13,7 @@ use Rattle.mj_expr.specs.Machine as phrase
 use Rattle.mj_expr.specs.Reads.{limits}
 use Rattle.mj_expr.proofs.Facts.{IsMore, deeper, wider}
 use Rattle.mj_line.specs.Sentences.{Clause, Sentence, SpellsSentence, sentence_of, IsWithin}
-use Rattle.mj_line.specs.Said.{IsRead, IsStuckWith, IsDeepWith}
+use Rattle.mj_line.specs.Said.{IsRead, IsStuckWith, IsTooDeepWith}
 use Rattle.mj_line.specs.Machine.{Rest, Spot, Begin, Labelled, FormalsOpened, FormalWanted, FormalBehind, FormalsEnd, Indented, Behind, Over, Worded, Asked, Bare, Args, Goal, State, At, In, Next, Go, Stuck, Deep, Long, behind, rested, step, Outcome, Accept, StuckAt, DeepAt, TooLong, refused, ended, ended_at, ended_spot, ended_behind, run, turn}
 use Rattle.mj_line.proofs.Leaves.{StateLeaves, Leads, Leaves, rested_leads, RestedLeads}
 use Rattle.mj_line.proofs.Good.{StateGood, SpotGood, state_goes, rested_good, RestGood}
@@ -502,7 +502,7 @@ said_stuck ks n e = stuck_as ks n (ends_as (limits 64) ks (StuckAt n) limits_roo
 
 -- ---- DEEP
 
-pub said_deep : (ks : List Token) (n : ℕ) → run (limits 64) ks (At Begin) ≡ DeepAt n → IsDeepWith ks n
+pub said_deep : (ks : List Token) (n : ℕ) → run (limits 64) ks (At Begin) ≡ DeepAt n → IsTooDeepWith ks n
 said_deep ks n e =
     let m = limits 64 in
     let h : Deepens m (At Begin) ks n = ends_as m ks (DeepAt n) limits_room e in

@@ -7,7 +7,7 @@ use Rattle.mj_ast.specs.declared.routine.Mark.{Mark}
 use Rattle.mj_ast.specs.Syntax.{Expr, Exprs, Variable, Destination, Plain, Pieces, Targets, One, Several, Assignment, Killed, Spared, Merged, Output, Called, Range, Renewed, Kept}
 use Rattle.mj_ast.specs.Expressions.{count}
 use Rattle.mj_ast.specs.Commands.{Part, Put, Named, PieceCall, Text, Place, Control, with_commas, behind_commas, condition_parts, routine_parts, entry_parts, guard_parts, actual_parts, actuals_parts, called_parts, range_parts, renewed_parts, is_local, is_bare, is_entry, is_called, is_renewed, more_parts, destination_parts, targets_parts, assignment_parts, mark_part, output_parts, name_parts, killed_parts, merged_parts, has_items, every, is_destination, are_targets, is_assignment, is_output, is_killed}
-use Rattle.mj_line.specs.Forms.{Node, SetTarget, PieceOpens, PieceVariable, PieceComma, PieceText, PieceBehind, SetBehind, SetValue, SetEnd, OutputWanted, OutputEnd, MarksEnd, KillWanted, NameWanted, NameBehind, KillEnd, MergeInto, MergeBehind, MergeFrom, MergeEnd, IfWanted, IfEnd, ForWanted, ForBehind, RangeWanted, RangeEnd, StepWanted, StepEnd, LimitWanted, LimitEnd, NewWanted, KeptWanted, KeptBehind, NewEnd, EntryWanted, LabelEnd, RoutineWanted, RoutineEnd, ActualWanted, ActualEnd, ActualsEnd, GuardWanted, GuardEnd, AnExpr, AVar, ALocal}
+use Rattle.mj_line.specs.Forms.{Mode, Calls, Jumps, is_optional, Node, SetTarget, PieceOpens, PieceVariable, PieceComma, PieceText, PieceBehind, SetBehind, SetValue, SetEnd, OutputWanted, OutputEnd, MarksEnd, KillWanted, NameWanted, NameBehind, KillEnd, MergeInto, MergeBehind, MergeFrom, MergeEnd, IfWanted, IfEnd, ForWanted, ForBehind, RangeWanted, RangeEnd, StepWanted, StepEnd, LimitWanted, LimitEnd, NewWanted, KeptWanted, KeptBehind, NewEnd, EntryWanted, LabelEnd, RoutineWanted, RoutineEnd, ActualWanted, ActualEnd, ActualsEnd, GuardWanted, GuardEnd, AnExpr, AVar, ALocal}
 use Rattle.mj_line.proofs.Tables.{some_same}
 use Rattle.mj_line.proofs.Formed.{Plainly, PlainOne, called_cut, three}
 
@@ -43,36 +43,36 @@ Aims false ps = (t : Targets) × (rest : List Part) × (targets_parts t ++ rest 
 Aims true ps = (d : Destination) × (rest : List Part) × (destination_parts d ++ rest ≡ ps) × (is_destination d ≡ true) × After true rest
 
 -- further calls or jumps
-pub record Others (call : Bool) (ps : List Part) : Type 0 where
+pub record Others (mode : Mode) (ps : List Part) : Type 0 where
   pub others : List Called
   pub are : behind_commas called_parts others ≡ ps
   pub formed : every is_called others ≡ true
-  pub plain : Plainly call others
+  pub plain : Plainly mode others
 
 -- a condition, if there is one, and they
-pub record Guarded (call : Bool) (ps : List Part) : Type 0 where
+pub record Guarded (mode : Mode) (ps : List Part) : Type 0 where
   pub condition : Option Expr
   pub others : List Called
   pub are : guard_parts condition ++ behind_commas called_parts others ≡ ps
   pub formed : every is_called others ≡ true
-  pub plain : Plainly call others
+  pub plain : Plainly mode others
 
 -- actuals, if there are some, and they
-pub record Acted (call : Bool) (ps : List Part) : Type 0 where
+pub record Acted (mode : Mode) (ps : List Part) : Type 0 where
   pub actuals : List (Option Expr)
   pub condition : Option Expr
   pub others : List Called
   pub are : actuals_parts actuals ++ (guard_parts condition ++ behind_commas called_parts others) ≡ ps
   pub formed : every is_called others ≡ true
-  pub plain : Plainly call others
-  pub bare : PlainOne call actuals
+  pub plain : Plainly mode others
+  pub bare : PlainOne mode actuals
 
 -- calls or jumps
-pub record Entries (call : Bool) (ps : List Part) : Type 0 where
+pub record Entries (mode : Mode) (ps : List Part) : Type 0 where
   pub list : List Called
   pub are : with_commas called_parts list ≡ ps
   pub formed : every is_called list ≡ true
-  pub plain : Plainly call list
+  pub plain : Plainly mode list
 
 -- what follows the step of a range: its end, if it has one, and further ranges
 abbrev pub limit_parts : Option Expr → List Part
@@ -119,15 +119,15 @@ Shape (NewWanted first) ps = (xs : List Renewed) × (with_commas renewed_parts x
 Shape KeptWanted ps = (w : List ℕ) × (ws : List (List ℕ)) × (xs : List Renewed) × (Named w ∷ (behind_commas name_parts ws ++ (Put Close ∷ behind_commas renewed_parts xs)) ≡ ps) × (every is_renewed xs ≡ true)
 Shape KeptBehind ps = (ws : List (List ℕ)) × (xs : List Renewed) × (behind_commas name_parts ws ++ (Put Close ∷ behind_commas renewed_parts xs) ≡ ps) × (every is_renewed xs ≡ true)
 Shape NewEnd ps = (xs : List Renewed) × (behind_commas renewed_parts xs ≡ ps) × (every is_renewed xs ≡ true)
-Shape (EntryWanted call first) ps = (x : Entries call ps) × (call && first ≡ false → has_items x.list ≡ true)
-Shape (LabelEnd call) ps = (r : Option (List ℕ)) × (qs : List Part) × (routine_parts r ++ qs ≡ ps) × Acted call qs
-Shape (RoutineWanted call) ps = (w : List ℕ) × (qs : List Part) × (Named w ∷ qs ≡ ps) × Acted call qs
-Shape (RoutineEnd call) ps = Acted call ps
-Shape ActualWanted ps = (a : Option Expr) × (list : List (Option Expr)) × (qs : List Part) × (actual_parts a ++ (behind_commas actual_parts list ++ Put Close ∷ qs) ≡ ps) × Guarded true qs
-Shape ActualEnd ps = (list : List (Option Expr)) × (qs : List Part) × (behind_commas actual_parts list ++ Put Close ∷ qs ≡ ps) × Guarded true qs
-Shape ActualsEnd ps = Guarded true ps
-Shape (GuardWanted call) ps = (e : Expr) × (qs : List Part) × (Text 0 e ∷ qs ≡ ps) × Others call qs
-Shape (GuardEnd call) ps = Others call ps
+Shape (EntryWanted mode first) ps = (x : Entries mode ps) × (is_optional mode && first ≡ false → has_items x.list ≡ true)
+Shape (LabelEnd mode) ps = (r : Option (List ℕ)) × (qs : List Part) × (routine_parts r ++ qs ≡ ps) × Acted mode qs
+Shape (RoutineWanted mode) ps = (w : List ℕ) × (qs : List Part) × (Named w ∷ qs ≡ ps) × Acted mode qs
+Shape (RoutineEnd mode) ps = Acted mode ps
+Shape ActualWanted ps = (a : Option Expr) × (list : List (Option Expr)) × (qs : List Part) × (actual_parts a ++ (behind_commas actual_parts list ++ Put Close ∷ qs) ≡ ps) × Guarded Calls qs
+Shape ActualEnd ps = (list : List (Option Expr)) × (qs : List Part) × (behind_commas actual_parts list ++ Put Close ∷ qs ≡ ps) × Guarded Calls qs
+Shape ActualsEnd ps = Guarded Calls ps
+Shape (GuardWanted mode) ps = (e : Expr) × (qs : List Part) × (Text 0 e ∷ qs ≡ ps) × Others mode qs
+Shape (GuardEnd mode) ps = Others mode ps
 
 pub at_node : (n m : Node) (ps : List Part) → Some n ≡ Some m → Shape m ps → Shape n ps
 at_node n m ps e h = let P : Node → Type 0 = λ x. Shape x ps in subst P (sym (some_same n m e)) h
@@ -243,36 +243,36 @@ kept_at w ws rest ps e = spared_at w ws rest ps e
 
 -- ---- calls and jumps
 
-pub plain_none : (call : Bool) → Plainly call []
-plain_none true = tt
-plain_none false = refl
+pub plain_none : (mode : Mode) → Plainly mode []
+plain_none Calls = tt
+plain_none Jumps = refl
 
-bare_none : (call : Bool) → PlainOne call []
-bare_none true = tt
-bare_none false = refl
+bare_none : (mode : Mode) → PlainOne mode []
+bare_none Calls = tt
+bare_none Jumps = refl
 
-plain_more : (call : Bool) (c : Called) (xs : List Called) → PlainOne call c.actuals → Plainly call xs → Plainly call (c ∷ xs)
-plain_more true c xs h i = tt
-plain_more false c xs h i = both (is_bare c.actuals) (every (λ c. is_bare c.actuals) xs) h i
+plain_more : (mode : Mode) (c : Called) (xs : List Called) → PlainOne mode c.actuals → Plainly mode xs → Plainly mode (c ∷ xs)
+plain_more Calls c xs h i = tt
+plain_more Jumps c xs h i = both (is_bare c.actuals) (every (λ c. is_bare c.actuals) xs) h i
 
-pub none_others : (call : Bool) → Others call []
-none_others call = record { others = []; are = refl; formed = refl; plain = plain_none call }
+pub none_others : (mode : Mode) → Others mode []
+none_others mode = record { others = []; are = refl; formed = refl; plain = plain_none mode }
 
-pub others_guard : (call : Bool) (ps : List Part) → Others call ps → Guarded call ps
-others_guard call ps h = record { condition = None; others = h.others; are = h.are; formed = h.formed; plain = h.plain }
+pub others_guard : (mode : Mode) (ps : List Part) → Others mode ps → Guarded mode ps
+others_guard mode ps h = record { condition = None; others = h.others; are = h.are; formed = h.formed; plain = h.plain }
 
-pub guard_acted : (call : Bool) (ps : List Part) → Guarded call ps → Acted call ps
-guard_acted call ps h = record { actuals = []; condition = h.condition; others = h.others; are = h.are; formed = h.formed; plain = h.plain; bare = bare_none call }
+pub guard_acted : (mode : Mode) (ps : List Part) → Guarded mode ps → Acted mode ps
+guard_acted mode ps h = record { actuals = []; condition = h.condition; others = h.others; are = h.are; formed = h.formed; plain = h.plain; bare = bare_none mode }
 
-and_false : (call : Bool) → call && false ≡ false
-and_false true = refl
-and_false false = refl
+and_false : (mode : Mode) → is_optional mode && false ≡ false
+and_false Calls = refl
+and_false Jumps = refl
 
-pub comma_others : (call : Bool) (ps : List Part) → Shape (EntryWanted call false) ps → Others call (Put Comma ∷ ps)
-comma_others call ps h = record { others = h.0.list; are = next_item called_parts ps h.0.list h.0.are (h.1 (and_false call)); formed = h.0.formed; plain = h.0.plain }
+pub comma_others : (mode : Mode) (ps : List Part) → Shape (EntryWanted mode false) ps → Others mode (Put Comma ∷ ps)
+comma_others mode ps h = record { others = h.0.list; are = next_item called_parts ps h.0.list h.0.are (h.1 (and_false mode)); formed = h.0.formed; plain = h.0.plain }
 
-pub colon_guard : (call : Bool) (ps : List Part) → Shape (GuardWanted call) ps → Guarded call (Put Colon ∷ ps)
-colon_guard call ps h = record {
+pub colon_guard : (mode : Mode) (ps : List Part) → Shape (GuardWanted mode) ps → Guarded mode (Put Colon ∷ ps)
+colon_guard mode ps h = record {
   condition = Some h.0;
   others = h.3.others;
   are = before (Put Colon) (Text 0 h.0 ∷ behind_commas called_parts h.3.others) ps (before (Text 0 h.0) (behind_commas called_parts h.3.others) h.1 h.3.are ∙ h.2);
@@ -280,7 +280,7 @@ colon_guard call ps h = record {
   plain = h.3.plain;
 }
 
-pub open_acted : (ps : List Part) → Shape ActualWanted ps → Acted true (Put Open ∷ ps)
+pub open_acted : (ps : List Part) → Shape ActualWanted ps → Acted Calls (Put Open ∷ ps)
 open_acted ps h =
     let g = h.4 in
     let x = guard_parts g.condition ++ behind_commas called_parts g.others in
@@ -295,14 +295,14 @@ open_acted ps h =
       bare = tt;
     }
 
-pub entries_at : (call : Bool) (l r : Option (List ℕ)) (qs ps : List Part) → entry_parts l r ++ qs ≡ ps → is_entry l r ≡ true → Acted call qs → (x : Entries call ps) × (has_items x.list ≡ true)
-entries_at call l r qs ps e i h =
+pub entries_at : (mode : Mode) (l r : Option (List ℕ)) (qs ps : List Part) → entry_parts l r ++ qs ≡ ps → is_entry l r ≡ true → Acted mode qs → (x : Entries mode ps) × (has_items x.list ≡ true)
+entries_at mode l r qs ps e i h =
     let c : Called = record { target = record { label = l; routine = r }; actuals = h.actuals; condition = h.condition } in (
       record {
         list = c ∷ h.others;
         are = called_cut c (behind_commas called_parts h.others) ∙ ap (λ (zs : List Part). entry_parts l r ++ zs) h.are ∙ e;
         formed = both (is_entry l r) (every is_called h.others) i h.formed;
-        plain = plain_more call c h.others h.bare h.plain;
+        plain = plain_more mode c h.others h.bare h.plain;
       },
       refl,
     )

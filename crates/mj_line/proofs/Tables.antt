@@ -16,7 +16,7 @@ use Rattle.mj_ast.specs.Tokens.{Token, Word, Called, Digits, Signed}
 use Rattle.mj_ast.specs.Expressions.{symbol, function_symbol, callee_of, Overlong, Mark, Spells, expressions}
 use Rattle.mj_ast.specs.Commands.{Part, Put, Named, Label, PieceCall, Text, Place, Control, SpellsPart, SpellsParts, greatest, part_nesting, part_width}
 use Rattle.mj_expr.specs.Machine as phrase
-use Rattle.mj_line.specs.Forms.{Node, SetTarget, PieceOpens, PieceVariable, PieceComma, PieceText, PieceBehind, SetBehind, SetValue, SetEnd, OutputWanted, OutputEnd, MarksEnd, KillWanted, NameWanted, NameBehind, KillEnd, MergeInto, MergeBehind, MergeFrom, MergeEnd, IfWanted, IfEnd, ForWanted, ForBehind, RangeWanted, RangeEnd, StepWanted, StepEnd, LimitWanted, LimitEnd, NewWanted, KeptWanted, KeptBehind, NewEnd, EntryWanted, LabelEnd, RoutineWanted, RoutineEnd, ActualWanted, ActualEnd, ActualsEnd, GuardWanted, GuardEnd, Want, AnExpr, AVar, ALocal, next_of, piece_part, part_of, part_at, labels, takes, wants, ends, first_node, may_be_bare, Goes, Fits}
+use Rattle.mj_line.specs.Forms.{Mode, Node, SetTarget, PieceOpens, PieceVariable, PieceComma, PieceText, PieceBehind, SetBehind, SetValue, SetEnd, OutputWanted, OutputEnd, MarksEnd, KillWanted, NameWanted, NameBehind, KillEnd, MergeInto, MergeBehind, MergeFrom, MergeEnd, IfWanted, IfEnd, ForWanted, ForBehind, RangeWanted, RangeEnd, StepWanted, StepEnd, LimitWanted, LimitEnd, NewWanted, KeptWanted, KeptBehind, NewEnd, EntryWanted, LabelEnd, RoutineWanted, RoutineEnd, ActualWanted, ActualEnd, ActualsEnd, GuardWanted, GuardEnd, Want, AnExpr, AVar, ALocal, next_of, piece_part, part_of, part_at, labels, takes, wants, ends, first_node, may_be_bare, Goes, Fits}
 use Rattle.mj_line.specs.Machine.{wanted, level_of}
 
 pub none_some : {A : Type 0} (x : A) → None ≡ Some x → ⊥
@@ -46,7 +46,7 @@ all_small RangeWanted = omega arith
 all_small StepWanted = omega arith
 all_small LimitWanted = omega arith
 all_small ActualWanted = omega arith
-all_small (GuardWanted call) = omega arith
+all_small (GuardWanted mode) = omega arith
 all_small n = tt
 
 -- a command opens one level at most
@@ -161,7 +161,7 @@ bare_none k e = let P : Option Node → Type 0 = λ q. IsBareThere k q in subst 
 
 -- a label is taken only where one is wanted, and a name only where none is
 pub label_wanted : (n next : Node) (l : List ℕ) → takes n (Label l) ≡ Some next → labels n ≡ true
-label_wanted (EntryWanted call first) next l e = refl
+label_wanted (EntryWanted mode first) next l e = refl
 label_wanted (SetTarget false) next l e = absurd (none_some next e)
 label_wanted (SetTarget true) next l e = absurd (none_some next e)
 label_wanted (PieceBehind listed zero) next l e = absurd (none_some next e)
@@ -171,7 +171,7 @@ label_wanted (SetBehind true) next l e = absurd (none_some next e)
 label_wanted n next l e = absurd (none_some next e)
 
 pub name_wanted : (n next : Node) (w : List ℕ) → takes n (Named w) ≡ Some next → labels n ≡ false
-name_wanted (EntryWanted call first) next w e = absurd (none_some next e)
+name_wanted (EntryWanted mode first) next w e = absurd (none_some next e)
 name_wanted n next w e = refl
 
 -- nor where a phrase is
@@ -194,7 +194,7 @@ all_unlabelled RangeWanted = refl
 all_unlabelled StepWanted = refl
 all_unlabelled LimitWanted = refl
 all_unlabelled ActualWanted = refl
-all_unlabelled (GuardWanted call) = refl
+all_unlabelled (GuardWanted mode) = refl
 all_unlabelled n = tt
 
 pub unlabelled : (n : Node) (w : Want) → wants n ≡ Some w → labels n ≡ false
@@ -299,10 +299,10 @@ actual_follows (Put Close) m e = tt
 actual_follows (Control v) m e = absurd (none_some _ e.0)
 actual_follows p m e = absurd (none_some _ e)
 
-guard_follows : (call : Bool) (p : Part) (m : Node) → Goes (GuardEnd call) p m → FollowsText p
-guard_follows call (Put Comma) m e = tt
-guard_follows call (Control v) m e = absurd (none_some _ e.0)
-guard_follows call p m e = absurd (none_some _ e)
+guard_follows : (mode : Mode) (p : Part) (m : Node) → Goes (GuardEnd mode) p m → FollowsText p
+guard_follows mode (Put Comma) m e = tt
+guard_follows mode (Control v) m e = absurd (none_some _ e.0)
+guard_follows mode p m e = absurd (none_some _ e)
 
 abbrev IsFollowed : Option Want → Type 0
 IsFollowed None = Unit {0}
@@ -323,7 +323,7 @@ all_followed RangeWanted = λ p m e. range_follows p m e
 all_followed StepWanted = λ p m e. step_follows p m e
 all_followed LimitWanted = λ p m e. limit_follows p m e
 all_followed ActualWanted = λ p m e. actual_follows p m e
-all_followed (GuardWanted call) = λ p m e. guard_follows call p m e
+all_followed (GuardWanted mode) = λ p m e. guard_follows mode p m e
 all_followed n = tt
 
 -- behind a phrase stands a sign that no such phrase goes on with
@@ -350,7 +350,7 @@ all_shut RangeWanted = refl
 all_shut StepWanted = refl
 all_shut LimitWanted = refl
 all_shut ActualWanted = refl
-all_shut (GuardWanted call) = refl
+all_shut (GuardWanted mode) = refl
 all_shut n = tt
 
 pub shut : (n : Node) (w : Want) → wants n ≡ Some w → wants (next_of w) ≡ None
@@ -466,7 +466,7 @@ all_apart m RangeWanted t = text_apart m RangeWanted 0 RangeEnd t (λ w. refl) r
 all_apart m StepWanted t = text_apart m StepWanted 0 StepEnd t (λ w. refl) refl (λ s. inr refl)
 all_apart m LimitWanted t = text_apart m LimitWanted 0 LimitEnd t (λ w. refl) refl (λ s. inr refl)
 all_apart m ActualWanted t = text_apart m ActualWanted 1 ActualEnd t (λ w. refl) refl (actual_sign m)
-all_apart m (GuardWanted call) t = text_apart m (GuardWanted call) 0 (GuardEnd call) t (λ w. refl) refl (λ s. inr refl)
+all_apart m (GuardWanted mode) t = text_apart m (GuardWanted mode) 0 (GuardEnd mode) t (λ w. refl) refl (λ s. inr refl)
 all_apart m n t = tt
 
 pub apart : (m : phrase.Limits) (n : Node) (t : Token) (w : Want) → wants n ≡ Some w → (phrase.step m (wanted w) (symbol t) ≡ phrase.Stuck) ⊎ (part_taken n (part_of t) ≡ None)
@@ -616,12 +616,12 @@ finish (NewWanted first) = token_before (NewWanted first) NewEnd (Word (65 ∷ [
 finish KeptWanted = token_before KeptWanted KeptBehind (Word (65 ∷ [])) (Named (65 ∷ [])) refl (record { spells = (refl, lit≤ tt); token = tt }) (sign_before KeptBehind NewEnd Close refl (at_end NewEnd refl))
 finish KeptBehind = sign_before KeptBehind NewEnd Close refl (at_end NewEnd refl)
 finish NewEnd = at_end NewEnd refl
-finish (EntryWanted call first) = token_before (EntryWanted call first) (LabelEnd call) (Word (65 ∷ [])) (Label (65 ∷ [])) refl (record { spells = inl (refl, lit≤ tt); token = tt }) (at_end (LabelEnd call) refl)
-finish (LabelEnd call) = at_end (LabelEnd call) refl
-finish (RoutineWanted call) = token_before (RoutineWanted call) (RoutineEnd call) (Word (65 ∷ [])) (Named (65 ∷ [])) refl (record { spells = (refl, lit≤ tt); token = tt }) (at_end (RoutineEnd call) refl)
-finish (RoutineEnd call) = at_end (RoutineEnd call) refl
+finish (EntryWanted mode first) = token_before (EntryWanted mode first) (LabelEnd mode) (Word (65 ∷ [])) (Label (65 ∷ [])) refl (record { spells = inl (refl, lit≤ tt); token = tt }) (at_end (LabelEnd mode) refl)
+finish (LabelEnd mode) = at_end (LabelEnd mode) refl
+finish (RoutineWanted mode) = token_before (RoutineWanted mode) (RoutineEnd mode) (Word (65 ∷ [])) (Named (65 ∷ [])) refl (record { spells = (refl, lit≤ tt); token = tt }) (at_end (RoutineEnd mode) refl)
+finish (RoutineEnd mode) = at_end (RoutineEnd mode) refl
 finish ActualWanted = sign_before ActualWanted ActualsEnd Close refl (at_end ActualsEnd refl)
 finish ActualEnd = sign_before ActualEnd ActualsEnd Close refl (at_end ActualsEnd refl)
 finish ActualsEnd = at_end ActualsEnd refl
-finish (GuardWanted call) = text_before (GuardWanted call) (GuardEnd call) 0 (omega arith) refl (at_end (GuardEnd call) refl)
-finish (GuardEnd call) = at_end (GuardEnd call) refl
+finish (GuardWanted mode) = text_before (GuardWanted mode) (GuardEnd mode) 0 (omega arith) refl (at_end (GuardEnd mode) refl)
+finish (GuardEnd mode) = at_end (GuardEnd mode) refl

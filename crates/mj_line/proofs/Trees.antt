@@ -6,7 +6,7 @@ use Rattle.mj_ast.specs.declared.keyword.Keyword.{Keyword}
 use Rattle.mj_ast.specs.declared.keyword.Keyword.TheVariants as keyword
 use Rattle.mj_ast.specs.Syntax.{Expr, No, More, Gone, Spared, Shown, Format, Called, Jumped, Range, Single, Endless, UpTo, Fresh, Kept, Command, Set, Write, Halt, Kill, Merge, If, Else, For, Forever, Do, Goto, Quit, New}
 use Rattle.mj_ast.specs.Commands.{Part, Put, Named, Label, PieceCall, Text, Place, Control, with_commas, behind_commas, condition_parts, routine_parts, actual_parts, called_parts, as_called, jumped_parts, range_parts, renewed_parts, is_local, is_bare, is_called, is_jumped, more_parts, targets_parts, assignment_parts, mark_part, output_parts, name_parts, killed_parts, merged_parts, command_parts, keyword_for, has_items, every, are_targets, is_assignment, is_output, is_formed}
-use Rattle.mj_line.specs.Forms.{Node, SetTarget, PieceOpens, PieceVariable, PieceComma, PieceText, PieceBehind, SetBehind, SetValue, SetEnd, OutputWanted, OutputEnd, MarksEnd, KillWanted, NameWanted, NameBehind, KillEnd, MergeInto, MergeBehind, MergeFrom, MergeEnd, IfWanted, IfEnd, ForWanted, ForBehind, RangeWanted, RangeEnd, StepWanted, StepEnd, LimitWanted, LimitEnd, NewWanted, KeptWanted, KeptBehind, NewEnd, EntryWanted, LabelEnd, RoutineWanted, RoutineEnd, ActualWanted, ActualEnd, ActualsEnd, GuardWanted, GuardEnd, actuals_at, ends, first_node, may_be_bare, Goes, Fits, IsForm}
+use Rattle.mj_line.specs.Forms.{Mode, Calls, Jumps, Node, SetTarget, PieceOpens, PieceVariable, PieceComma, PieceText, PieceBehind, SetBehind, SetValue, SetEnd, OutputWanted, OutputEnd, MarksEnd, KillWanted, NameWanted, NameBehind, KillEnd, MergeInto, MergeBehind, MergeFrom, MergeEnd, IfWanted, IfEnd, ForWanted, ForBehind, RangeWanted, RangeEnd, StepWanted, StepEnd, LimitWanted, LimitEnd, NewWanted, KeptWanted, KeptBehind, NewEnd, EntryWanted, LabelEnd, RoutineWanted, RoutineEnd, ActualWanted, ActualEnd, ActualsEnd, GuardWanted, GuardEnd, actuals_at, ends, first_node, may_be_bare, Goes, Fits, IsForm}
 use Rattle.mj_line.proofs.Tables.{none_some}
 use Rattle.mj_line.proofs.Formed.{Plainly, jumps}
 use Rattle.mj_line.proofs.Shapes.{true_false, false_true, both, first_of, second_of, Acted, limit_parts, step_parts, Shape, at_node, text_node, place_node, local_node, text_wrong, place_wrong, local_text, local_place, text_local, place_of_local, before, text_zero, text_one, place_zero, place_one, piece_aims, plain_aims, several_aims, more_aims, assignment_at, next_kill, spared_at, next_item, kept_at, plain_none, none_others, others_guard, guard_acted, comma_others, colon_guard, open_acted, entries_at}
@@ -28,11 +28,11 @@ shape_end StepEnd f = (None, [], refl)
 shape_end LimitEnd f = ([], refl)
 shape_end (NewWanted first) f = ([], refl, refl, λ e. true_false (sym f ∙ e))
 shape_end NewEnd f = ([], refl, refl)
-shape_end (EntryWanted call first) f = (record { list = []; are = refl; formed = refl; plain = plain_none call }, λ e. true_false (sym f ∙ e))
-shape_end (LabelEnd call) f = (None, [], refl, guard_acted call [] (others_guard call [] (none_others call)))
-shape_end (RoutineEnd call) f = guard_acted call [] (others_guard call [] (none_others call))
-shape_end ActualsEnd f = others_guard true [] (none_others true)
-shape_end (GuardEnd call) f = none_others call
+shape_end (EntryWanted mode first) f = (record { list = []; are = refl; formed = refl; plain = plain_none mode }, λ e. true_false (sym f ∙ e))
+shape_end (LabelEnd mode) f = (None, [], refl, guard_acted mode [] (others_guard mode [] (none_others mode)))
+shape_end (RoutineEnd mode) f = guard_acted mode [] (others_guard mode [] (none_others mode))
+shape_end ActualsEnd f = others_guard Calls [] (none_others Calls)
+shape_end (GuardEnd mode) f = none_others mode
 shape_end n f = false_true f
 
 target_part : (p : Part) (ps : List Part) (next : Node) → Goes (SetTarget false) p next → Shape next ps → Shape (SetTarget false) (p ∷ ps)
@@ -355,43 +355,43 @@ new_end (Put Comma) ps next e h =
 new_end (Control v) ps next e h = absurd (none_some _ e.0)
 new_end p ps next e h = absurd (none_some _ e)
 
-entry_part : (call first : Bool) (p : Part) (ps : List Part) (next : Node) → Goes (EntryWanted call first) p next → Shape next ps → Shape (EntryWanted call first) (p ∷ ps)
-entry_part call first (Label l) ps next e h =
-    let x = at_node (LabelEnd call) next ps e h in
-    let y = entries_at call (Some l) x.0 x.1 (Label l ∷ ps) (before (Label l) (routine_parts x.0 ++ x.1) ps x.2) refl x.3 in
+entry_part : (mode : Mode) (first : Bool) (p : Part) (ps : List Part) (next : Node) → Goes (EntryWanted mode first) p next → Shape next ps → Shape (EntryWanted mode first) (p ∷ ps)
+entry_part mode first (Label l) ps next e h =
+    let x = at_node (LabelEnd mode) next ps e h in
+    let y = entries_at mode (Some l) x.0 x.1 (Label l ∷ ps) (before (Label l) (routine_parts x.0 ++ x.1) ps x.2) refl x.3 in
     (y.0, λ z. y.1)
-entry_part call first (Put Caret) ps next e h =
-    let x = at_node (RoutineWanted call) next ps e h in
-    let y = entries_at call None (Some x.0) x.1 (Put Caret ∷ ps) (before (Put Caret) (Named x.0 ∷ x.1) ps x.2) refl x.3 in
+entry_part mode first (Put Caret) ps next e h =
+    let x = at_node (RoutineWanted mode) next ps e h in
+    let y = entries_at mode None (Some x.0) x.1 (Put Caret ∷ ps) (before (Put Caret) (Named x.0 ∷ x.1) ps x.2) refl x.3 in
     (y.0, λ z. y.1)
-entry_part call first (Control v) ps next e h = absurd (none_some _ e.0)
-entry_part call first p ps next e h = absurd (none_some _ e)
+entry_part mode first (Control v) ps next e h = absurd (none_some _ e.0)
+entry_part mode first p ps next e h = absurd (none_some _ e)
 
-actuals_open : (call : Bool) (ps : List Part) (next : Node) → actuals_at call ≡ Some next → Shape next ps → Acted call (Put Open ∷ ps)
-actuals_open true ps next e h = open_acted ps (at_node ActualWanted next ps e h)
-actuals_open false ps next e h = absurd (none_some _ e)
+actuals_open : (mode : Mode) (ps : List Part) (next : Node) → actuals_at mode ≡ Some next → Shape next ps → Acted mode (Put Open ∷ ps)
+actuals_open Calls ps next e h = open_acted ps (at_node ActualWanted next ps e h)
+actuals_open Jumps ps next e h = absurd (none_some _ e)
 
-routine_end : (call : Bool) (p : Part) (ps : List Part) (next : Node) → Goes (RoutineEnd call) p next → Shape next ps → Shape (RoutineEnd call) (p ∷ ps)
-routine_end call (Put Open) ps next e h = actuals_open call ps next e h
-routine_end call (Put Colon) ps next e h = guard_acted call (Put Colon ∷ ps) (colon_guard call ps (at_node (GuardWanted call) next ps e h))
-routine_end call (Put Comma) ps next e h = guard_acted call (Put Comma ∷ ps) (others_guard call (Put Comma ∷ ps) (comma_others call ps (at_node (EntryWanted call false) next ps e h)))
-routine_end call (Control v) ps next e h = absurd (none_some _ e.0)
-routine_end call p ps next e h = absurd (none_some _ e)
+routine_end : (mode : Mode) (p : Part) (ps : List Part) (next : Node) → Goes (RoutineEnd mode) p next → Shape next ps → Shape (RoutineEnd mode) (p ∷ ps)
+routine_end mode (Put Open) ps next e h = actuals_open mode ps next e h
+routine_end mode (Put Colon) ps next e h = guard_acted mode (Put Colon ∷ ps) (colon_guard mode ps (at_node (GuardWanted mode) next ps e h))
+routine_end mode (Put Comma) ps next e h = guard_acted mode (Put Comma ∷ ps) (others_guard mode (Put Comma ∷ ps) (comma_others mode ps (at_node (EntryWanted mode false) next ps e h)))
+routine_end mode (Control v) ps next e h = absurd (none_some _ e.0)
+routine_end mode p ps next e h = absurd (none_some _ e)
 
-label_end : (call : Bool) (p : Part) (ps : List Part) (next : Node) → Goes (LabelEnd call) p next → Shape next ps → Shape (LabelEnd call) (p ∷ ps)
-label_end call (Put Caret) ps next e h =
-    let x = at_node (RoutineWanted call) next ps e h in
+label_end : (mode : Mode) (p : Part) (ps : List Part) (next : Node) → Goes (LabelEnd mode) p next → Shape next ps → Shape (LabelEnd mode) (p ∷ ps)
+label_end mode (Put Caret) ps next e h =
+    let x = at_node (RoutineWanted mode) next ps e h in
     (Some x.0, x.1, before (Put Caret) (Named x.0 ∷ x.1) ps x.2, x.3)
-label_end call (Put Open) ps next e h = (None, Put Open ∷ ps, refl, actuals_open call ps next e h)
-label_end call (Put Colon) ps next e h = (None, Put Colon ∷ ps, refl, guard_acted call (Put Colon ∷ ps) (colon_guard call ps (at_node (GuardWanted call) next ps e h)))
-label_end call (Put Comma) ps next e h = (None, Put Comma ∷ ps, refl, guard_acted call (Put Comma ∷ ps) (others_guard call (Put Comma ∷ ps) (comma_others call ps (at_node (EntryWanted call false) next ps e h))))
-label_end call (Control v) ps next e h = absurd (none_some _ e.0)
-label_end call p ps next e h = absurd (none_some _ e)
+label_end mode (Put Open) ps next e h = (None, Put Open ∷ ps, refl, actuals_open mode ps next e h)
+label_end mode (Put Colon) ps next e h = (None, Put Colon ∷ ps, refl, guard_acted mode (Put Colon ∷ ps) (colon_guard mode ps (at_node (GuardWanted mode) next ps e h)))
+label_end mode (Put Comma) ps next e h = (None, Put Comma ∷ ps, refl, guard_acted mode (Put Comma ∷ ps) (others_guard mode (Put Comma ∷ ps) (comma_others mode ps (at_node (EntryWanted mode false) next ps e h))))
+label_end mode (Control v) ps next e h = absurd (none_some _ e.0)
+label_end mode p ps next e h = absurd (none_some _ e)
 
-routine_part : (call : Bool) (p : Part) (ps : List Part) (next : Node) → Goes (RoutineWanted call) p next → Shape next ps → Shape (RoutineWanted call) (p ∷ ps)
-routine_part call (Named w) ps next e h = (w, ps, refl, at_node (RoutineEnd call) next ps e h)
-routine_part call (Control v) ps next e h = absurd (none_some _ e.0)
-routine_part call p ps next e h = absurd (none_some _ e)
+routine_part : (mode : Mode) (p : Part) (ps : List Part) (next : Node) → Goes (RoutineWanted mode) p next → Shape next ps → Shape (RoutineWanted mode) (p ∷ ps)
+routine_part mode (Named w) ps next e h = (w, ps, refl, at_node (RoutineEnd mode) next ps e h)
+routine_part mode (Control v) ps next e h = absurd (none_some _ e.0)
+routine_part mode p ps next e h = absurd (none_some _ e)
 
 actual_part : (p : Part) (ps : List Part) (next : Node) → Goes ActualWanted p next → Shape next ps → Shape ActualWanted (p ∷ ps)
 actual_part (Text l v) ps next e h =
@@ -415,21 +415,21 @@ actual_end (Control v) ps next e h = absurd (none_some _ e.0)
 actual_end p ps next e h = absurd (none_some _ e)
 
 actuals_end : (p : Part) (ps : List Part) (next : Node) → Goes ActualsEnd p next → Shape next ps → Shape ActualsEnd (p ∷ ps)
-actuals_end (Put Colon) ps next e h = colon_guard true ps (at_node (GuardWanted true) next ps e h)
-actuals_end (Put Comma) ps next e h = others_guard true (Put Comma ∷ ps) (comma_others true ps (at_node (EntryWanted true false) next ps e h))
+actuals_end (Put Colon) ps next e h = colon_guard Calls ps (at_node (GuardWanted Calls) next ps e h)
+actuals_end (Put Comma) ps next e h = others_guard Calls (Put Comma ∷ ps) (comma_others Calls ps (at_node (EntryWanted Calls false) next ps e h))
 actuals_end (Control v) ps next e h = absurd (none_some _ e.0)
 actuals_end p ps next e h = absurd (none_some _ e)
 
-guard_part : (call : Bool) (p : Part) (ps : List Part) (next : Node) → Goes (GuardWanted call) p next → Shape next ps → Shape (GuardWanted call) (p ∷ ps)
-guard_part call (Text l v) ps next e h = let x = text_node 0 l (GuardEnd call) next ps e h in (v, ps, text_zero l v ps ps x.1 refl, x.0)
-guard_part call (Place l x) ps next e h = absurd (place_wrong e)
-guard_part call (Control v) ps next e h = absurd (local_text e.0)
-guard_part call p ps next e h = absurd (none_some _ e)
+guard_part : (mode : Mode) (p : Part) (ps : List Part) (next : Node) → Goes (GuardWanted mode) p next → Shape next ps → Shape (GuardWanted mode) (p ∷ ps)
+guard_part mode (Text l v) ps next e h = let x = text_node 0 l (GuardEnd mode) next ps e h in (v, ps, text_zero l v ps ps x.1 refl, x.0)
+guard_part mode (Place l x) ps next e h = absurd (place_wrong e)
+guard_part mode (Control v) ps next e h = absurd (local_text e.0)
+guard_part mode p ps next e h = absurd (none_some _ e)
 
-guard_end : (call : Bool) (p : Part) (ps : List Part) (next : Node) → Goes (GuardEnd call) p next → Shape next ps → Shape (GuardEnd call) (p ∷ ps)
-guard_end call (Put Comma) ps next e h = comma_others call ps (at_node (EntryWanted call false) next ps e h)
-guard_end call (Control v) ps next e h = absurd (none_some _ e.0)
-guard_end call p ps next e h = absurd (none_some _ e)
+guard_end : (mode : Mode) (p : Part) (ps : List Part) (next : Node) → Goes (GuardEnd mode) p next → Shape next ps → Shape (GuardEnd mode) (p ∷ ps)
+guard_end mode (Put Comma) ps next e h = comma_others mode ps (at_node (EntryWanted mode false) next ps e h)
+guard_end mode (Control v) ps next e h = absurd (none_some _ e.0)
+guard_end mode p ps next e h = absurd (none_some _ e)
 
 shape_part : (n : Node) (p : Part) (ps : List Part) (next : Node) → Goes n p next → Shape next ps → Shape n (p ∷ ps)
 shape_part (SetTarget false) p ps next e h = target_part p ps next e h
@@ -469,15 +469,15 @@ shape_part (NewWanted first) p ps next e h = new_part first p ps next e h
 shape_part KeptWanted p ps next e h = kept_part p ps next e h
 shape_part KeptBehind p ps next e h = kept_behind p ps next e h
 shape_part NewEnd p ps next e h = new_end p ps next e h
-shape_part (EntryWanted call first) p ps next e h = entry_part call first p ps next e h
-shape_part (LabelEnd call) p ps next e h = label_end call p ps next e h
-shape_part (RoutineWanted call) p ps next e h = routine_part call p ps next e h
-shape_part (RoutineEnd call) p ps next e h = routine_end call p ps next e h
+shape_part (EntryWanted mode first) p ps next e h = entry_part mode first p ps next e h
+shape_part (LabelEnd mode) p ps next e h = label_end mode p ps next e h
+shape_part (RoutineWanted mode) p ps next e h = routine_part mode p ps next e h
+shape_part (RoutineEnd mode) p ps next e h = routine_end mode p ps next e h
 shape_part ActualWanted p ps next e h = actual_part p ps next e h
 shape_part ActualEnd p ps next e h = actual_end p ps next e h
 shape_part ActualsEnd p ps next e h = actuals_end p ps next e h
-shape_part (GuardWanted call) p ps next e h = guard_part call p ps next e h
-shape_part (GuardEnd call) p ps next e h = guard_end call p ps next e h
+shape_part (GuardWanted mode) p ps next e h = guard_part mode p ps next e h
+shape_part (GuardEnd mode) p ps next e h = guard_end mode p ps next e h
 
 shape : (ps : List Part) (n : Node) → Fits n ps → Shape n ps
 shape [] n f = shape_end n f
@@ -506,7 +506,7 @@ bare_nil : (list : List (Option Expr)) → is_bare list ≡ true → [] ≡ list
 bare_nil [] h = refl
 bare_nil (a ∷ list) h = false_true h
 
-jumped_back : (xs : List Called) → Plainly false xs → map as_called (map as_jumped xs) ≡ xs
+jumped_back : (xs : List Called) → Plainly Jumps xs → map as_called (map as_jumped xs) ≡ xs
 jumped_back [] h = refl
 jumped_back (x ∷ xs) h =
     ap (λ (list : List (Option Expr)). let c : Called = record { target = x.target; actuals = list; condition = x.condition } in c ∷ map as_called (map as_jumped xs)) (bare_nil x.actuals (first_of (is_bare x.actuals) (every (λ c. is_bare c.actuals) xs) h))
@@ -554,10 +554,10 @@ some_made keyword.If ps n e h =
 some_made keyword.Else ps n e h = absurd (none_some n e)
 some_made keyword.For ps n e h = for_made ps (at_node ForWanted n ps e h)
 some_made keyword.Do ps n e h =
-    let x = at_node (EntryWanted true true) n ps e h in
+    let x = at_node (EntryWanted Calls true) n ps e h in
     record { command = Do x.0.list; formed = x.0.formed; named = refl; parts = x.0.are }
 some_made keyword.Goto ps n e h =
-    let x = at_node (EntryWanted false true) n ps e h in
+    let x = at_node (EntryWanted Jumps true) n ps e h in
     let js = map as_jumped x.0.list in
     record {
       command = Goto js;

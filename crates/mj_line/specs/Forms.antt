@@ -12,6 +12,11 @@ use Rattle.mj_ast.specs.Commands.{Part, Put, Named, Label, PieceCall, Text, Plac
 
 -- ---- places
 
+-- what entries are named for: to be called, with actuals, or to be jumped to
+pub data Mode : Type 0 where
+  Calls : Mode
+  Jumps : Mode
+
 pub data Node : Type 0 where
   -- SET: a destination is wanted, inside a list in parentheses or not
   SetTarget : (listed : Bool) → Node
@@ -57,19 +62,19 @@ pub data Node : Type 0 where
   KeptWanted : Node
   KeptBehind : Node
   NewEnd : Node
-  -- DO, which calls, and GOTO: an entry is wanted, the first or another; its label was read; the name of its routine is wanted;
+  -- DO and GOTO, by what entries are named for: an entry is wanted, the first or another; its label was read; the name of its routine is wanted;
   -- the entry was read
-  EntryWanted : (call first : Bool) → Node
-  LabelEnd : (call : Bool) → Node
-  RoutineWanted : (call : Bool) → Node
-  RoutineEnd : (call : Bool) → Node
+  EntryWanted : (mode : Mode) (first : Bool) → Node
+  LabelEnd : (mode : Mode) → Node
+  RoutineWanted : (mode : Mode) → Node
+  RoutineEnd : (mode : Mode) → Node
   -- DO: an actual may stand there; it was read; the actuals were read
   ActualWanted : Node
   ActualEnd : Node
   ActualsEnd : Node
   -- the condition of an argument is wanted; it was read
-  GuardWanted : (call : Bool) → Node
-  GuardEnd : (call : Bool) → Node
+  GuardWanted : (mode : Mode) → Node
+  GuardEnd : (mode : Mode) → Node
 
 -- ---- what goes on
 
@@ -86,7 +91,7 @@ part_of _ = None
 
 -- a label is wanted here, a name or digits
 abbrev pub labels : Node → Bool
-labels (EntryWanted call first) = true
+labels (EntryWanted mode first) = true
 labels n = false
 
 -- the part that a token alone is where a label is wanted, or isn't
@@ -96,9 +101,9 @@ part_at true (Digits d) = if nat_le (length d) text_limit then Some (Label d) el
 part_at label t = part_of t
 
 -- where actuals may stand
-abbrev pub actuals_at : Bool → Option Node
-actuals_at true = Some ActualWanted
-actuals_at false = None
+abbrev pub actuals_at : Mode → Option Node
+actuals_at Calls = Some ActualWanted
+actuals_at Jumps = None
 
 -- the place behind a part of one token, if it may stand here
 abbrev pub takes : Node → Part → Option Node
@@ -136,23 +141,23 @@ takes KeptWanted (Named w) = Some KeptBehind
 takes KeptBehind (Put Comma) = Some KeptWanted
 takes KeptBehind (Put Close) = Some NewEnd
 takes NewEnd (Put Comma) = Some (NewWanted false)
-takes (EntryWanted call first) (Label l) = Some (LabelEnd call)
-takes (EntryWanted call first) (Put Caret) = Some (RoutineWanted call)
-takes (LabelEnd call) (Put Caret) = Some (RoutineWanted call)
-takes (LabelEnd call) (Put Open) = actuals_at call
-takes (LabelEnd call) (Put Colon) = Some (GuardWanted call)
-takes (LabelEnd call) (Put Comma) = Some (EntryWanted call false)
-takes (RoutineWanted call) (Named w) = Some (RoutineEnd call)
-takes (RoutineEnd call) (Put Open) = actuals_at call
-takes (RoutineEnd call) (Put Colon) = Some (GuardWanted call)
-takes (RoutineEnd call) (Put Comma) = Some (EntryWanted call false)
+takes (EntryWanted mode first) (Label l) = Some (LabelEnd mode)
+takes (EntryWanted mode first) (Put Caret) = Some (RoutineWanted mode)
+takes (LabelEnd mode) (Put Caret) = Some (RoutineWanted mode)
+takes (LabelEnd mode) (Put Open) = actuals_at mode
+takes (LabelEnd mode) (Put Colon) = Some (GuardWanted mode)
+takes (LabelEnd mode) (Put Comma) = Some (EntryWanted mode false)
+takes (RoutineWanted mode) (Named w) = Some (RoutineEnd mode)
+takes (RoutineEnd mode) (Put Open) = actuals_at mode
+takes (RoutineEnd mode) (Put Colon) = Some (GuardWanted mode)
+takes (RoutineEnd mode) (Put Comma) = Some (EntryWanted mode false)
 takes ActualWanted (Put Comma) = Some ActualWanted
 takes ActualWanted (Put Close) = Some ActualsEnd
 takes ActualEnd (Put Comma) = Some ActualWanted
 takes ActualEnd (Put Close) = Some ActualsEnd
-takes ActualsEnd (Put Colon) = Some (GuardWanted true)
-takes ActualsEnd (Put Comma) = Some (EntryWanted true false)
-takes (GuardEnd call) (Put Comma) = Some (EntryWanted call false)
+takes ActualsEnd (Put Colon) = Some (GuardWanted Calls)
+takes ActualsEnd (Put Comma) = Some (EntryWanted Calls false)
+takes (GuardEnd mode) (Put Comma) = Some (EntryWanted mode false)
 takes _ _ = None
 
 -- an expression or a variable, inside so many levels that the command opens, or a variable that is a local, and the place behind it
@@ -182,8 +187,13 @@ wants RangeWanted = Some (AnExpr 0 RangeEnd)
 wants StepWanted = Some (AnExpr 0 StepEnd)
 wants LimitWanted = Some (AnExpr 0 LimitEnd)
 wants ActualWanted = Some (AnExpr 1 ActualEnd)
-wants (GuardWanted call) = Some (AnExpr 0 (GuardEnd call))
+wants (GuardWanted mode) = Some (AnExpr 0 (GuardEnd mode))
 wants _ = None
+
+-- there may be no entry at all
+abbrev pub is_optional : Mode → Bool
+is_optional Calls = true
+is_optional Jumps = false
 
 -- the arguments may end here
 abbrev pub ends : Node → Bool
@@ -201,11 +211,11 @@ ends StepEnd = true
 ends LimitEnd = true
 ends (NewWanted first) = first
 ends NewEnd = true
-ends (EntryWanted call first) = call && first
-ends (LabelEnd call) = true
-ends (RoutineEnd call) = true
+ends (EntryWanted mode first) = is_optional mode && first
+ends (LabelEnd mode) = true
+ends (RoutineEnd mode) = true
 ends ActualsEnd = true
-ends (GuardEnd call) = true
+ends (GuardEnd mode) = true
 ends _ = false
 
 -- ---- commands
@@ -220,8 +230,8 @@ first_node keyword.Merge = Some MergeInto
 first_node keyword.If = Some (IfWanted true)
 first_node keyword.Else = None
 first_node keyword.For = Some ForWanted
-first_node keyword.Do = Some (EntryWanted true true)
-first_node keyword.Goto = Some (EntryWanted false true)
+first_node keyword.Do = Some (EntryWanted Calls true)
+first_node keyword.Goto = Some (EntryWanted Jumps true)
 first_node keyword.Quit = None
 first_node keyword.New = Some (NewWanted true)
 

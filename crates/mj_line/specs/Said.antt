@@ -20,7 +20,7 @@ pub record IsStuckWith (ks : List Token) (left : ℕ) : Type 0 where
   pub short : HasOverlong ks → ⊥
 
 -- A level too many opens where so many tokens are left.
-pub record IsDeepWith (ks : List Token) (left : ℕ) : Type 0 where
+pub record IsTooDeepWith (ks : List Token) (left : ℕ) : Type 0 where
   pub place : ℕ
   pub left_is : place + left ≡ length ks
   pub deep : IsDeep ks place

@@ -9,6 +9,8 @@ mod control;
 #[cfg(test)]
 mod functions;
 #[cfg(test)]
+mod grammar;
+#[cfg(test)]
 mod locals;
 #[cfg(test)]
 mod names;

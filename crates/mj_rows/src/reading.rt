@@ -4,7 +4,7 @@ use mj_rou::read;
 use std::alloc::{AllocError, Global};
 
 /// What reading gives: `ok`, or the refusal's text.
-fn outcome(alloc: Global, bytes: &[u8]) -> Result<String, AllocError> {
+pub fn outcome(alloc: Global, bytes: &[u8]) -> Result<String, AllocError> {
     let given = read(alloc, b"R", bytes);
     if let Err(refusal) = &given {
         return format!(in alloc; "{refusal}");
@@ -128,7 +128,7 @@ fn values_that_are_left_out_are_named(rt: HostRuntime) {
 
 #[test]
 fn calls_that_are_left_out_are_named(rt: HostRuntime) {
-    let rows: [(&[u8], &str); 42] = [
+    let rows: [(&[u8], &str); 47] = [
         (b" D A(.X)", "L7 R:1:6 by reference"),
         (b" D A(1,.%X)", "L7 R:1:8 by reference"),
         (b" D A(-.X)", "L2 R:1:7"),
@@ -138,6 +138,11 @@ fn calls_that_are_left_out_are_named(rt: HostRuntime) {
         (b" G 5+1^R", "L7 R:1:5 entry offset"),
         (b" D +1", "L2 R:1:4"),
         (b" D A^R+1", "L2 R:1:7"),
+        (b" W /X", "L7 R:1:4 mnemonic space"),
+        (b" W 1,/X", "L7 R:1:6 mnemonic space"),
+        (b" W !,/X", "L7 R:1:6 mnemonic space"),
+        (b" W !/X", "L2 R:1:5"),
+        (b" S X=/Y", "L2 R:1:6"),
         (b" S $E(X,1)=2", "L7 R:1:4 set extract"),
         (b" S (X,$extract(Y,1))=2", "L7 R:1:7 set extract"),
         (b" S $L(X)=2", "L2 R:1:4"),

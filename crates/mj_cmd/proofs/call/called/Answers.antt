@@ -1,7 +1,7 @@
-use Rattle.std.proofs.Common.{◌≡◌, List, ◌++◌, refl, sym, subst, inr, arith, true, map, option_map}
+use Rattle.std.proofs.Common.{◌≡◌, List, ◌++◌, refl, sym, subst, inr, arith, map, option_map}
 use Rattle.mj_ast.specs.Commands.{Part, target_parts, guard_parts}
 use Rattle.mj_ast.specs.Trees.{expr_of, target_of}
-use Rattle.mj_line.specs.Forms.{EntryWanted, RoutineEnd, ActualsEnd, GuardEnd}
+use Rattle.mj_line.specs.Forms.{Calls, EntryWanted, RoutineEnd, ActualsEnd, GuardEnd}
 use Rattle.mj_cmd.specs.Reads.{AreWrittenActuals, IsWrittenCall}
 use Rattle.mj_cmd.proofs.Follow.{reads_as_err, room_for, joined, fails_then, fails_behind}
 use Rattle.mj_cmd.proofs.Jumps.{call_of, call_written}
@@ -10,28 +10,28 @@ use Rattle.mj_cmd.proofs.call.called.Goals as goal
 pub returns-in_err-target-clause-reads : goal.returns-in_err-target-clause-reads
 returns-in_err-target-clause-reads c = λ m r first u o condition k done.
     reads_as_err c.args.phrases.limited _ _ c.from_residual.result c.in_err-target.field-0.0 m c.args.tokens.now _ _ c.from_residual.ensures.1
-    (c.in_err-target.ensures.reads m true first u o condition k done)
+    (c.in_err-target.ensures.reads m Calls first u o condition k done)
 
 pub returns-in_err-actuals-clause-reads : goal.returns-in_err-actuals-clause-reads
 returns-in_err-actuals-clause-reads c = λ m r first u o condition k done.
     reads_as_err c.args.phrases.limited _ _ c.from_residual-in_err-actuals.result c.in_err-actuals.field-0.0 m c.args.tokens.now _ _ c.from_residual-in_err-actuals.ensures.1
-    (fails_then c.args.phrases.limited (target_parts (target_of c.in_ok-target.target)) c.in_err-actuals.field-0.0 m c.args.tokens.now (EntryWanted true first) c.in_ok-target.rest.now (RoutineEnd true) o condition k done (c.in_ok-target.ensures.reads m true first u o condition k done)
+    (fails_then c.args.phrases.limited (target_parts (target_of c.in_ok-target.target)) c.in_err-actuals.field-0.0 m c.args.tokens.now (EntryWanted Calls first) c.in_ok-target.rest.now (RoutineEnd Calls) o condition k done (c.in_ok-target.ensures.reads m Calls first u o condition k done)
     (λ d. c.in_err-actuals.ensures.reads m (room_for c.args.phrases.limited m c.args.tokens.now c.in_ok-target.rest.now c.in_ok-target.ensures.shorter r) o condition k d))
 
 pub returns-in_err-condition-clause-reads : goal.returns-in_err-condition-clause-reads
 returns-in_err-condition-clause-reads c = λ m r first u o condition k done.
     reads_as_err c.args.phrases.limited _ _ c.from_residual-in_err-condition.result c.in_err-condition.field-0.0 m c.args.tokens.now _ _ c.from_residual-in_err-condition.ensures.1
-    (fails_then c.args.phrases.limited (target_parts (target_of c.in_ok-target.target)) c.in_err-condition.field-0.0 m c.args.tokens.now (EntryWanted true first) c.in_ok-target.rest.now (RoutineEnd true) o condition k done (c.in_ok-target.ensures.reads m true first u o condition k done)
-    (λ d. fails_behind c.args.phrases.limited (λ ps. AreWrittenActuals ps (map (option_map expr_of) c.in_ok-actuals.actuals.items)) c.in_err-condition.field-0.0 m c.in_ok-target.rest.now (RoutineEnd true) c.in_ok-actuals.rest.now ActualsEnd o condition k d (c.in_ok-actuals.ensures.reads m (room_for c.args.phrases.limited m c.args.tokens.now c.in_ok-target.rest.now c.in_ok-target.ensures.shorter r) o condition k d)
-    (λ e. c.in_err-condition.ensures.reads m (room_for c.args.phrases.limited m c.args.tokens.now c.in_ok-actuals.rest.now (omega (arith, c.in_ok-target.ensures.shorter, c.in_ok-actuals.ensures.shorter)) r) true ActualsEnd (inr (refl, refl)) o condition k e)))
+    (fails_then c.args.phrases.limited (target_parts (target_of c.in_ok-target.target)) c.in_err-condition.field-0.0 m c.args.tokens.now (EntryWanted Calls first) c.in_ok-target.rest.now (RoutineEnd Calls) o condition k done (c.in_ok-target.ensures.reads m Calls first u o condition k done)
+    (λ d. fails_behind c.args.phrases.limited (λ ps. AreWrittenActuals ps (map (option_map expr_of) c.in_ok-actuals.actuals.items)) c.in_err-condition.field-0.0 m c.in_ok-target.rest.now (RoutineEnd Calls) c.in_ok-actuals.rest.now ActualsEnd o condition k d (c.in_ok-actuals.ensures.reads m (room_for c.args.phrases.limited m c.args.tokens.now c.in_ok-target.rest.now c.in_ok-target.ensures.shorter r) o condition k d)
+    (λ e. c.in_err-condition.ensures.reads m (room_for c.args.phrases.limited m c.args.tokens.now c.in_ok-actuals.rest.now (omega (arith, c.in_ok-target.ensures.shorter, c.in_ok-actuals.ensures.shorter)) r) Calls ActualsEnd (inr (refl, refl)) o condition k e)))
 
 pub returns-clause-reads : goal.returns-clause-reads
 returns-clause-reads c = λ m r first u o condition k done.
-    joined c.args.phrases.limited (λ ps. ps ≡ target_parts (target_of c.in_ok-target.target)) (λ ps. (fs : List Part) × (bs : List Part) × (ps ≡ fs ++ bs) × AreWrittenActuals fs (map (option_map expr_of) c.in_ok-actuals.actuals.items) × (bs ≡ guard_parts (option_map expr_of c.in_ok-condition.condition))) (λ ps. IsWrittenCall ps (call_of (target_of c.in_ok-target.target) (map (option_map expr_of) c.in_ok-actuals.actuals.items) (option_map expr_of c.in_ok-condition.condition))) m c.args.tokens.now (EntryWanted true first) c.in_ok-target.rest.now (RoutineEnd true) c.in_ok-condition.rest.now (GuardEnd true) o condition k done
+    joined c.args.phrases.limited (λ ps. ps ≡ target_parts (target_of c.in_ok-target.target)) (λ ps. (fs : List Part) × (bs : List Part) × (ps ≡ fs ++ bs) × AreWrittenActuals fs (map (option_map expr_of) c.in_ok-actuals.actuals.items) × (bs ≡ guard_parts (option_map expr_of c.in_ok-condition.condition))) (λ ps. IsWrittenCall ps (call_of (target_of c.in_ok-target.target) (map (option_map expr_of) c.in_ok-actuals.actuals.items) (option_map expr_of c.in_ok-condition.condition))) m c.args.tokens.now (EntryWanted Calls first) c.in_ok-target.rest.now (RoutineEnd Calls) c.in_ok-condition.rest.now (GuardEnd Calls) o condition k done
     (λ ps qs e h. let P : List Part → Type 0 = λ zs. IsWrittenCall (ps ++ zs) (call_of (target_of c.in_ok-target.target) (map (option_map expr_of) c.in_ok-actuals.actuals.items) (option_map expr_of c.in_ok-condition.condition)) in
     subst P (sym h.2) (call_written (target_of c.in_ok-target.target) (map (option_map expr_of) c.in_ok-actuals.actuals.items) (option_map expr_of c.in_ok-condition.condition) ps h.0 h.1 e h.3 h.4))
-    (c.in_ok-target.ensures.reads m true first u o condition k done)
-    (λ d. joined c.args.phrases.limited (λ ps. AreWrittenActuals ps (map (option_map expr_of) c.in_ok-actuals.actuals.items)) (λ ps. ps ≡ guard_parts (option_map expr_of c.in_ok-condition.condition)) (λ ps. (fs : List Part) × (bs : List Part) × (ps ≡ fs ++ bs) × AreWrittenActuals fs (map (option_map expr_of) c.in_ok-actuals.actuals.items) × (bs ≡ guard_parts (option_map expr_of c.in_ok-condition.condition))) m c.in_ok-target.rest.now (RoutineEnd true) c.in_ok-actuals.rest.now ActualsEnd c.in_ok-condition.rest.now (GuardEnd true) o condition k d
+    (c.in_ok-target.ensures.reads m Calls first u o condition k done)
+    (λ d. joined c.args.phrases.limited (λ ps. AreWrittenActuals ps (map (option_map expr_of) c.in_ok-actuals.actuals.items)) (λ ps. ps ≡ guard_parts (option_map expr_of c.in_ok-condition.condition)) (λ ps. (fs : List Part) × (bs : List Part) × (ps ≡ fs ++ bs) × AreWrittenActuals fs (map (option_map expr_of) c.in_ok-actuals.actuals.items) × (bs ≡ guard_parts (option_map expr_of c.in_ok-condition.condition))) m c.in_ok-target.rest.now (RoutineEnd Calls) c.in_ok-actuals.rest.now ActualsEnd c.in_ok-condition.rest.now (GuardEnd Calls) o condition k d
     (λ ps qs i e. (ps, qs, refl, i, e))
     (c.in_ok-actuals.ensures.reads m (room_for c.args.phrases.limited m c.args.tokens.now c.in_ok-target.rest.now c.in_ok-target.ensures.shorter r) o condition k d)
-    (λ e. c.in_ok-condition.ensures.reads m (room_for c.args.phrases.limited m c.args.tokens.now c.in_ok-actuals.rest.now (omega (arith, c.in_ok-target.ensures.shorter, c.in_ok-actuals.ensures.shorter)) r) true ActualsEnd (inr (refl, refl)) o condition k e))
+    (λ e. c.in_ok-condition.ensures.reads m (room_for c.args.phrases.limited m c.args.tokens.now c.in_ok-actuals.rest.now (omega (arith, c.in_ok-target.ensures.shorter, c.in_ok-actuals.ensures.shorter)) r) Calls ActualsEnd (inr (refl, refl)) o condition k e))

@@ -1,4 +1,4 @@
-use Rattle.std.proofs.Common.{◌≡◌, ◌≤◌, ◌<◌, ◌∙◌, IfOk, List, ℕ, false, length, subst, sym}
+use Rattle.std.proofs.Common.{◌≡◌, ◌≤◌, ◌<◌, ◌∙◌, IfOk, List, ℕ, inl, false, length, subst, sym}
 use Rattle.std.specs.List.{list_any}
 use Rattle.mj_text.specs.declared.text.TheConstants.{TEXT_LIMIT}
 use Rattle.mj_lex.specs.Seen.{is_quote}
@@ -19,3 +19,8 @@ pub returns-then-not-has_quote-clause-within : goal.returns-then-not-has_quote-c
 returns-then-not-has_quote-clause-within c = λ few.
     let none : list_any is_quote c.args.bytes.now ≡ false = sym c.has_quote.ensures ∙ c.if-not-has_quote.true in
     c.from.ensures.within (subst (λ (bs : List ℕ). length bs ≤ TEXT_LIMIT) (undoubled-plain c.args.bytes.now none) few)
+
+pub returns-then-not-has_quote-clause-above : goal.returns-then-not-has_quote-clause-above
+returns-then-not-has_quote-clause-above c = λ many.
+    let none : list_any is_quote c.args.bytes.now ≡ false = sym c.has_quote.ensures ∙ c.if-not-has_quote.true in
+    inl (c.from.ensures.long.1 (subst (λ (bs : List ℕ). TEXT_LIMIT < length bs) (undoubled-plain c.args.bytes.now none) many))

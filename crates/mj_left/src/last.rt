@@ -1,0 +1,65 @@
+// The command that stands last.
+
+ghost use Rattle.std.specs.Prelude.{◌≡◌, IfOk, map};
+ghost use Rattle.mj_ast.specs.Commands.{keyword_for as the_keyword};
+ghost use Rattle.mj_ast.specs.LeftOut.{IsLast, last_keyword as the_last};
+ghost use Rattle.mj_ast.specs.Trees.{command_of, step_of};
+ghost use Rattle.mj_lex.specs.Seen.{tokens_seen};
+ghost use Rattle.mj_left.specs.Fronts.{IsFront};
+
+use crate::tokens::ends_in_blank;
+use mj_ast::{Command, Keyword, Step};
+use mj_cmd::line;
+use mj_expr::Stop;
+use mj_lex::Lexeme;
+use std::alloc::{AllocError, Global};
+
+/// The word of a command.
+fn keyword_for(command: &Command) -> Keyword
+    ensures { result ≡ the_keyword (command_of command.now) }
+{
+    match command {
+        Command::Set(_) => Keyword::Set,
+        Command::Write(_) => Keyword::Write,
+        Command::Halt => Keyword::Halt,
+        Command::Kill(_) => Keyword::Kill,
+        Command::Merge(_) => Keyword::Merge,
+        Command::If(_) => Keyword::If,
+        Command::Else => Keyword::Else,
+        Command::For(_, _) => Keyword::For,
+        Command::Forever => Keyword::For,
+        Command::Do(_) => Keyword::Do,
+        Command::Goto(_) => Keyword::Goto,
+        Command::Quit => Keyword::Quit,
+        Command::New(_) => Keyword::New,
+    }
+}
+
+/// The last command, by its word.
+fn last_keyword(steps: &[Step]) -> Option<Keyword>
+    ensures { result ≡ the_last (map step_of steps.now) }
+{
+    if steps.is_empty() {
+        return None;
+    }
+    Some(keyword_for(&steps[steps.len() - 1].command))
+}
+
+/// The command that stands last in the tokens, if they are a line up to its end.
+pub fn last_command(alloc: Global, tokens: &[Lexeme]) -> Result<Option<Keyword>, AllocError>
+    requires { IsFront (tokens_seen tokens.now) }
+    ensures { IfOk result (λ k. IsLast (tokens_seen tokens.now) k) }
+{
+    if ends_in_blank(tokens) {
+        return Ok(None);
+    }
+    match line(alloc, tokens) {
+        Ok(line) => Ok(last_keyword(&line.steps)),
+        Err(stop) => match stop {
+            Stop::Memory => Err(AllocError),
+            Stop::Stuck(_) => Ok(None),
+            Stop::Deep(_) => Ok(None),
+            Stop::Long => Ok(None),
+        },
+    }
+}
