@@ -1,5 +1,5 @@
 -- where the first element that passes a test stands
-use Rattle.std.proofs.Common.{ℕ, Bool, true, false, List, Option, Some, None, ◌≡◌, ◌≤◌, length, cond, nat_lt, refl, sym, arith}
+use Rattle.std.proofs.Common.{ℕ, Bool, true, false, List, Some, None, ◌≡◌, ◌≤◌, length, cond, nat_lt, refl, arith}
 use Rattle.std.specs.List.{position, position_or_len}
 use Rattle.std.proofs.lemmas.List.Sums.{prefix_len-le-length}
 use borrow.Author.Tests.{ltb-false}

@@ -1,11 +1,10 @@
 -- What a change at the place that a search found does to the rows of a pool.
-use Rattle.std.proofs.Common.{ℕ, zero, suc, ◌<◌, ◌≤◌, ◌+◌, Bool, true, false, not, cond, List, [], ◌∷◌, ◌++◌, Option, Some, None, Result, Ok, Err, ◌≡◌, length, get_or, refl, sym, ap, ◌∙◌, arith, take, drop}
+use Rattle.std.proofs.Common.{ℕ, zero, suc, ◌<◌, ◌+◌, Bool, true, false, not, cond, List, [], ◌∷◌, Option, Some, None, Result, Ok, Err, ◌≡◌, length, get_or, refl, sym, ap, ◌∙◌, arith}
 use Rattle.std.specs.List.{find, insert, position_or_len, position}
 use Rattle.std.proofs.Math.ListN.{set}
 use Rattle.std.specs.Str.{bytes_eq}
 use Rattle.std.specs.Ordering.{nat_cmp, is_lt, is_eq, match_ordering, ordering_reverse}
 use Rattle.std.specs.Cmp.Lexicographic.{slice_cmp}
-use Rattle.std.specs.declared.cmp.Ordering.{Ordering}
 use Rattle.std.specs.declared.cmp.Ordering.TheVariants.{Less, Equal, Greater}
 use Rattle.std.proofs.lemmas.Cmp.{nat_list_cmp_total}
 use Rattle.std.proofs.lemmas.Map.Text.{is_eq-slice_cmp}
@@ -14,7 +13,7 @@ use Rattle.std.proofs.lemmas.List.Quantifiers.{position-Some}
 use Rattle.std.specs.Option.{IfSome, IfNone}
 use Rattle.std.specs.Result.{OnOk, OnErr}
 use Rattle.mj_dev.proofs.Places.{position_or_len-none, position_or_len-some}
-use Rattle.mj_dev.specs.Shelves.{Shelf, with_first, is_named, is_before, is_behind, left_of, taken_of, IsThere, Belongs, new_shelf, one_more, one_taken, added, after_take, IsBelow, AreRising}
+use Rattle.mj_dev.specs.Shelves.{Shelf, with_first, is_named, is_behind, left_of, taken_of, IsThere, Belongs, new_shelf, one_more, one_taken, added, after_take, IsBelow, AreRising}
 
 -- where the search for the place of a name ends
 abbrev pub place_for : List ℕ → List Shelf → ℕ

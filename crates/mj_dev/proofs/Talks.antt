@@ -1,6 +1,5 @@
 -- What a talk writes, and that it obeys the protocol.
-use Rattle.std.proofs.Common.{ℕ, List, [], ◌∷◌, ◌++◌, Option, Some, None, ◌≡◌, ◌≤◌, length, refl, sym, ap, subst, ◌∙◌, append_assoc, append-nil}
-use Rattle.mj_text.specs.declared.text.TheConstants.{TEXT_LIMIT}
+use Rattle.std.proofs.Common.{ℕ, List, [], ◌∷◌, ◌++◌, Option, Some, None, ◌≡◌, refl, sym, ap, subst, ◌∙◌, append_assoc, append-nil}
 use Rattle.mj_dev.specs.declared.device.Did.{Did}
 use Rattle.mj_dev.specs.declared.device.Did.TheVariants as did
 use Rattle.mj_dev.specs.declared.device.Input.{Input}

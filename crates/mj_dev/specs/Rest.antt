@@ -1,6 +1,5 @@
 -- What is left of a line that was begun.
 use Rattle.std.specs.Prelude.{ℕ, ◌≤◌, ◌≡◌, List, [], ◌∷◌, Option, Some, None, length, drop}
-use Rattle.mj_text.specs.declared.text.TheConstants.{TEXT_LIMIT}
 use Rattle.mj_dev.specs.declared.device.Input.{Input}
 use Rattle.mj_dev.specs.declared.device.Input.TheVariants as input
 use Rattle.mj_dev.specs.declared.talk.Code.{Code}

@@ -1,5 +1,5 @@
 -- The devices of a pool, by name.
-use Rattle.std.specs.Prelude.{ℕ, ◌+◌, ◌-◌, ◌<◌, ◌≤◌, ◌≡◌, Bool, not, cond, List, [], ◌∷◌, Option, Some, None, map, length, slice_set, slice_index_or}
+use Rattle.std.specs.Prelude.{ℕ, ◌+◌, ◌-◌, ◌<◌, ◌≤◌, ◌≡◌, Bool, not, cond, List, [], ◌∷◌, Some, None, length, slice_set, slice_index_or}
 use Rattle.std.specs.List.{find, insert}
 use Rattle.std.specs.Str.{bytes_eq}
 use Rattle.std.specs.Ordering.{nat_cmp, is_lt, match_ordering}

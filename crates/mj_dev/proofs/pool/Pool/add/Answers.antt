@@ -1,4 +1,3 @@
-use Rattle.std.proofs.Common.{sym, ◌∙◌, ap}
 use Rattle.mj_dev.specs.Shelves.{IsThere, Belongs}
 use Rattle.mj_dev.proofs.Shelves.{rising-added, AreRising-added}
 use Rattle.mj_dev.proofs.pool.Pool.add.Goals as goal

@@ -1,4 +1,3 @@
-use Rattle.std.proofs.Common.{rules}
 use Rattle.mj_dev.proofs.Talks.{Talks-go, Talks-obey}
 use Rattle.mj_dev.proofs.session.Session.state.Goals as goal
 
