@@ -37,6 +37,8 @@ answered_by image start from machine log now given pending left spent ask reply 
     let P : Option Ask → Type 0 = λ p. IsRunAfter routines start code turns (run log p spent (standing machine (given_of given log))) in
     let Q : Option Reply → Type 0 = λ g. IsRunAfter routines start code 0 (run with None 0 (standing machine g)) in
     let R : Option Ask → Type 0 = λ p. IsRunAfter routines start code 0 (run with p 0 (standing machine (last_reply with))) in
-    let S : Log → Type 0 = λ l. IsRunAfter routines start code 0 (run l left 0 (standing machine (last_reply l))) in
-    (0, subst S (sym is) (subst R (sym none) (subst Q (sym (last_with log ask reply))
-    (answered routines start code log spent turns ask reply (standing machine (given_of given log)) (fits_it pending ask reply e f) (subst P e r)))))
+    let S : Log → Type 0 = λ l. IsRunAfter routines start code 0 (run l left 0 (standing machine (last_reply l))) in (
+      0,
+      subst S (sym is) (subst R (sym none) (subst Q (sym (last_with log ask reply))
+          (answered routines start code log spent turns ask reply (standing machine (given_of given log)) (fits_it pending ask reply e f) (subst P e r)))),
+    )

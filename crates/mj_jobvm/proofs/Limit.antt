@@ -169,7 +169,6 @@ ask_by x rest k false n h s replies a locals at b le e = (fault_keeps faults.Ste
 pub ask_keeps : (x : Ask) (rest : Reply → Timed) → ((r : Reply) → Keeps (rest r)) → Keeps (ask x rest)
 ask_keeps x rest k = record { by = λ n h s replies a locals at le e. ask_by x rest k (nat_lt s.replied steps_limit) n h s replies a locals at refl le e }
 
-
 pub if_keeps : (b : Bool) (t u : Timed) → Keeps t → Keeps u → Keeps (if b then t else u)
 if_keeps true t u k l = k
 if_keeps false t u k l = l
@@ -560,7 +559,6 @@ module _ (image : List Routine) where
         for_quit = λ t e. quits_for t (turn ways.line_end) (turn_keeps ways.line_end k.1.line_end) e;
         leave = k.1.leave;
       })
-
   points_keep (suc d) (Started rest) k = record {
     by = λ n h s replies a locals at le e. k.by n (until n (turn (points_of image d (Started rest))) h) s replies a locals at le e;
   }
@@ -588,7 +586,19 @@ in_time k a (inl lt) = omega (arith, lt)
 in_time k (asks.DeviceBegin device) (inr e) = absurd e
 in_time k (asks.DeviceWrite device bytes) (inr e) = let le = e.0 in omega (arith, le)
 in_time k (asks.DeviceEnd device) (inr e) = omega (arith, e)
+in_time k (asks.DeviceLine device timeout) (inr e) = absurd e
+in_time k (asks.DeviceByte device timeout) (inr e) = absurd e
 in_time k (asks.Access x) (inr e) = absurd e
+in_time k (asks.Try names timeout) (inr e) = absurd e
+in_time k (asks.Unlock names) (inr e) = absurd e
+in_time k asks.UnlockAll (inr e) = absurd e
+in_time k (asks.Begin kind) (inr e) = absurd e
+in_time k asks.Commit (inr e) = absurd e
+in_time k asks.Rollback (inr e) = absurd e
+in_time k (asks.Open device timeout) (inr e) = absurd e
+in_time k (asks.Close device) (inr e) = absurd e
+in_time k (asks.Start start timeout) (inr e) = absurd e
+in_time k (asks.Rest time) (inr e) = absurd e
 in_time k (asks.Halt fault) (inr e) = e
 
 module _ (image : List Routine) (start : Start) where

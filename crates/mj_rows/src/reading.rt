@@ -2,6 +2,7 @@
 
 use mj_rou::read;
 use std::alloc::{AllocError, Global};
+use std::test::Fail;
 
 /// What reading gives: `ok`, or the refusal's text.
 pub fn outcome(alloc: Global, bytes: &[u8]) -> Result<String, AllocError> {
@@ -10,6 +11,29 @@ pub fn outcome(alloc: Global, bytes: &[u8]) -> Result<String, AllocError> {
         return format!(in alloc; "{refusal}");
     }
     format!(in alloc; "ok")
+}
+
+/// The rows of a table whose text isn't read as they want, each with what it gives. A row is a line: a file's text, in which `~` stands for
+/// the end of a line, ` => `, and what is wanted. A table is one text, since a list of as many pairs takes the prover far longer.
+pub fn wrong_rows(alloc: Global, rows: &str) -> Result<String, AllocError> {
+    let mut wrong = String::new(alloc);
+    for row in rows.lines() {
+        let (text, wanted) = row.split_once(" => ").unwrap_or((row, "no row"));
+        let given = outcome(alloc, &with_ends(alloc, text)?)?;
+        if given.as_str() != wanted {
+            wrong = format!(in alloc; "{wrong}{row} ({given}) ")?;
+        }
+    }
+    Ok(wrong)
+}
+
+/// The bytes of a text, with a line's end for each `~`.
+fn with_ends(alloc: Global, text: &str) -> Result<Vec<u8>, AllocError> {
+    let mut bytes = Vec::new(alloc);
+    for byte in text.bytes() {
+        bytes.push(if byte == b'~' { b'\n' } else { byte })?;
+    }
+    Ok(bytes)
 }
 
 /// `front`, then `middle` so many times, then `back`.
@@ -29,274 +53,259 @@ fn around(
 }
 
 #[test]
-fn control_is_read_or_refused(rt: HostRuntime) {
-    let rows: [(&[u8], &str); 24] = [
-        (b" I 1,X=2 Q", "ok"),
-        (b" I  W 1", "ok"),
-        (b" I:1  Q", "L2 R:1:3"),
-        (b" E  W 1", "ok"),
-        (b" E W 1", "L2 R:1:4"),
-        (b" else", "ok"),
-        (b" D", "ok"),
-        (b" do  W 1", "ok"),
-        (b" D W 1", "L2 R:1:6"),
-        (b" D:X A^R(1,,X):Y,^R(),5(,)", "ok"),
-        (b" D A(1", "L2 R:1:7"),
-        (b" D A(1))", "L2 R:1:8"),
-        (b" D A:X(1)(2)", "L2 R:1:10"),
-        (b" D (1)", "L2 R:1:4"),
-        (b" G A^R:X,^R,5", "ok"),
-        (b" G", "L2 R:1:3"),
-        (b" G A()", "L2 R:1:5"),
-        (b" G:X A:$T=1", "ok"),
-        (b" N", "ok"),
-        (b" N A,(B,C),D W A", "ok"),
-        (b" N ()", "L2 R:1:5"),
-        (b" N A(1)", "L2 R:1:5"),
-        (b" Q:$test'=1  W $T", "ok"),
-        (b" Q X", "L7 R:1:4 extrinsic"),
-    ];
-    for (bytes, wanted) in rows {
-        let given = outcome(rt.alloc(), bytes).expect(&rt, "memory");
-        assert_eq!(rt; given.as_str(), wanted, "{wanted}");
-    }
+fn control_is_read_or_refused(rt: HostRuntime) -> Result<(), Fail> {
+    let rows = " I 1,X=2 Q => ok
+ I  W 1 => ok
+ I:1  Q => L2 R:1:3
+ E  W 1 => ok
+ E W 1 => L2 R:1:4
+ else => ok
+ D => ok
+ do  W 1 => ok
+ D W 1 => L2 R:1:6
+ D:X A^R(1,,X):Y,^R(),5(,) => ok
+ D A(1 => L2 R:1:7
+ D A(1)) => L2 R:1:8
+ D A:X(1)(2) => L2 R:1:10
+ D (1) => L2 R:1:4
+ G A^R:X,^R,5 => ok
+ G => L2 R:1:3
+ G A() => L2 R:1:5
+ G:X A:$T=1 => ok
+ N => ok
+ N A,(B,C),D W A => ok
+ N () => L2 R:1:5
+ N A(1) => L2 R:1:5
+ Q:$test'=1  W $T => ok
+ Q X => L7 R:1:4 extrinsic
+";
+    let wrong = wrong_rows(rt.alloc(), rows)?;
+    assert_eq!(rt; wrong.as_str(), "");
+    Ok(())
 }
 
 #[test]
-fn values_that_are_left_out_are_named(rt: HostRuntime) {
-    let rows: [(&[u8], &str); 54] = [
-        (b" SET @X=1", "L7 R:1:6 indirection"),
-        (b" W @X", "L7 R:1:4 indirection"),
-        (b"@A W 1", "L7 R:1:1 indirection"),
-        (b" D @A", "L7 R:1:4 indirection"),
-        (b" D A^@X", "L7 R:1:6 indirection"),
-        (b" K (A,@B)", "L7 R:1:7 indirection"),
-        (b" N @X", "L7 R:1:4 indirection"),
-        (b" W:@X 1", "L7 R:1:4 indirection"),
-        (b" W X@Y", "L2 R:1:5"),
-        (b" H @X", "L2 R:1:4"),
-        (b" W 1 @X", "L2 R:1:6"),
-        (b" W $@X", "L2 R:1:4"),
-        (b" W 1.5", "L7 R:1:5 fraction"),
-        (b" W .5", "L7 R:1:4 fraction"),
-        (b" W 1.", "L7 R:1:5 fraction"),
-        (b" W 1.A", "L7 R:1:5 fraction"),
-        (b" D A(.5)", "L7 R:1:6 fraction"),
-        (b"1.5 W 1", "L7 R:1:2 fraction"),
-        (b" D 1.5", "L7 R:1:5 fraction"),
-        (b" W .X", "L2 R:1:4"),
-        (b" S .5=1", "L2 R:1:4"),
-        (b" W 1E5", "L7 R:1:5 exponent"),
-        (b" W 1EX", "L7 R:1:5 exponent"),
-        (b"1E W 1", "L7 R:1:2 exponent"),
-        (b" W 1e5", "L2 R:1:5"),
-        (b" W 1F5", "L2 R:1:5"),
-        (b" W 2**3", "L7 R:1:6 power"),
-        (b" W **3", "L2 R:1:4"),
-        (b" I X?1N", "L7 R:1:5 pattern"),
-        (b" W X'?1N", "L7 R:1:5 pattern"),
-        (b" W X'?", "L7 R:1:5 pattern"),
-        (b" W X=1'?1N", "L7 R:1:7 pattern"),
-        (b" W $L(X'?1N)", "L7 R:1:8 pattern"),
-        (b" S X=Y'?1N", "L7 R:1:7 pattern"),
-        (b" W 1?1N", "L7 R:1:5 pattern"),
-        (b" W ?1N", "L2 R:1:4"),
-        (b" W '?1N", "L2 R:1:4"),
-        (b" W ''?1N", "L2 R:1:5"),
-        (b" W X''?1N", "L2 R:1:5"),
-        (b" W X'=?1N", "L2 R:1:7"),
-        (b" S X'?1N=1", "L2 R:1:5"),
-        (b" Q '?1N", "L2 R:1:4"),
-        (b" Q 'X", "L7 R:1:4 extrinsic"),
-        (b" I X]?1", "L2 R:1:6"),
-        (b" W X'Y", "L2 R:1:5"),
-        (b" W ^(1)", "L7 R:1:5 naked"),
-        (b" D ^(1)", "L7 R:1:5 naked"),
-        (b" D (1)", "L2 R:1:4"),
-        (b" W ^[\"a\"]X", "L7 R:1:5 environment"),
-        (b" W ^|\"a\"|X", "L7 R:1:5 environment"),
-        (b" W |1", "L2 R:1:4"),
-        (b" W ^$J", "L7 R:1:5 structured"),
-        (b" W ^$J(1)", "L7 R:1:5 structured"),
-        (b" W ^$5", "L7 R:1:5 structured"),
-    ];
-    for (bytes, wanted) in rows {
-        let given = outcome(rt.alloc(), bytes).expect(&rt, "memory");
-        assert_eq!(rt; given.as_str(), wanted, "{wanted}");
-    }
+fn values_that_are_left_out_are_named(rt: HostRuntime) -> Result<(), Fail> {
+    let rows = " SET @X=1 => L7 R:1:6 indirection
+ W @X => L7 R:1:4 indirection
+@A W 1 => L7 R:1:1 indirection
+ D @A => L7 R:1:4 indirection
+ D A^@X => L7 R:1:6 indirection
+ K (A,@B) => L7 R:1:7 indirection
+ N @X => L7 R:1:4 indirection
+ W:@X 1 => L7 R:1:4 indirection
+ W X@Y => L2 R:1:5
+ H @X => L2 R:1:4
+ W 1 @X => L2 R:1:6
+ W $@X => L2 R:1:4
+ W 1.5 => L7 R:1:5 fraction
+ W .5 => L7 R:1:4 fraction
+ W 1. => L7 R:1:5 fraction
+ W 1.A => L7 R:1:5 fraction
+ D A(.5) => L7 R:1:6 fraction
+1.5 W 1 => L7 R:1:2 fraction
+ D 1.5 => L7 R:1:5 fraction
+ W .X => L2 R:1:4
+ S .5=1 => L2 R:1:4
+ W 1E5 => L7 R:1:5 exponent
+ W 1EX => L7 R:1:5 exponent
+1E W 1 => L7 R:1:2 exponent
+ W 1e5 => L2 R:1:5
+ W 1F5 => L2 R:1:5
+ W 2**3 => L7 R:1:6 power
+ W **3 => L2 R:1:4
+ I X?1N => L7 R:1:5 pattern
+ W X'?1N => L7 R:1:5 pattern
+ W X'? => L7 R:1:5 pattern
+ W X=1'?1N => L7 R:1:7 pattern
+ W $L(X'?1N) => L7 R:1:8 pattern
+ S X=Y'?1N => L7 R:1:7 pattern
+ W 1?1N => L7 R:1:5 pattern
+ W ?1N => L2 R:1:4
+ W '?1N => L2 R:1:4
+ W ''?1N => L2 R:1:5
+ W X''?1N => L2 R:1:5
+ W X'=?1N => L2 R:1:7
+ S X'?1N=1 => L2 R:1:5
+ Q '?1N => L2 R:1:4
+ Q 'X => L7 R:1:4 extrinsic
+ I X]?1 => L2 R:1:6
+ W X'Y => L2 R:1:5
+ W ^(1) => L7 R:1:5 naked
+ D ^(1) => L7 R:1:5 naked
+ D (1) => L2 R:1:4
+ W ^[\"a\"]X => L7 R:1:5 environment
+ W ^|\"a\"|X => L7 R:1:5 environment
+ W |1 => L2 R:1:4
+ W ^$J => L7 R:1:5 structured
+ W ^$J(1) => L7 R:1:5 structured
+ W ^$5 => L7 R:1:5 structured
+";
+    let wrong = wrong_rows(rt.alloc(), rows)?;
+    assert_eq!(rt; wrong.as_str(), "");
+    Ok(())
 }
 
 #[test]
-fn calls_that_are_left_out_are_named(rt: HostRuntime) {
-    let rows: [(&[u8], &str); 47] = [
-        (b" D A(.X)", "L7 R:1:6 by reference"),
-        (b" D A(1,.%X)", "L7 R:1:8 by reference"),
-        (b" D A(-.X)", "L2 R:1:7"),
-        (b" D A(.)", "L2 R:1:6"),
-        (b" W $L(.X)", "L2 R:1:7"),
-        (b" D A+1", "L7 R:1:5 entry offset"),
-        (b" G 5+1^R", "L7 R:1:5 entry offset"),
-        (b" D +1", "L2 R:1:4"),
-        (b" D A^R+1", "L2 R:1:7"),
-        (b" W /X", "L7 R:1:4 mnemonic space"),
-        (b" W 1,/X", "L7 R:1:6 mnemonic space"),
-        (b" W !,/X", "L7 R:1:6 mnemonic space"),
-        (b" W !/X", "L2 R:1:5"),
-        (b" S X=/Y", "L2 R:1:6"),
-        (b" S $E(X,1)=2", "L7 R:1:4 set extract"),
-        (b" S (X,$extract(Y,1))=2", "L7 R:1:7 set extract"),
-        (b" S $L(X)=2", "L2 R:1:4"),
-        (b" M $E(X)=Y", "L2 R:1:4"),
-        (b" W $J(1,2,3)", "L7 R:1:10 justify decimals"),
-        (b" W $J(X(1,2),$L(1,2),3)", "L7 R:1:21 justify decimals"),
-        (b" W $J(1,,3)", "L7 R:1:9 justify decimals"),
-        (b" W $J(,2)", "L2 R:1:7"),
-        (b" W $L(1,2,3)", "L2 R:1:10"),
-        (b" W $Q(X,-1)", "L7 R:1:8 query backward"),
-        (b" W $QUERY(^X(1,2),-1)", "L7 R:1:18 query backward"),
-        (b" W $NA(X,1)", "L7 R:1:9 name depth"),
-        (b" W $D(X,1)", "L2 R:1:8"),
-        (b" W $O(X)", "L7 R:1:8 order names"),
-        (b" W $O(^X,1)", "L7 R:1:9 order names"),
-        (b" W $O(X_1)", "L2 R:1:8"),
-        (b" W $O(X(1),1,2)", "L2 R:1:13"),
-        (b" W $ZX(1)", "L7 R:1:4 function"),
-        (b" W $X(1)", "L7 R:1:4 function"),
-        (b" W $T(1)", "L7 R:1:4 function"),
-        (b" W $H", "L7 R:1:4 variable"),
-        (b" W $L", "L7 R:1:4 variable"),
-        (b" S $H=1", "L7 R:1:4 variable"),
-        (b" W X$H", "L7 R:1:5 variable"),
-        (b" $H", "L7 R:1:2 variable"),
-        (b" S $X=1", "L2 R:1:4"),
-        (b" W $", "L2 R:1:4"),
-        (b" XECUTE \"x\"", "L7 R:1:2 command"),
-        (b" S X=1 Y=2", "L7 R:1:8 command"),
-        (b" W 1 ZW", "L7 R:1:6 command"),
-        (b" H X", "L2 R:1:4"),
-        (b" tstart ()", "L2 R:1:2"),
-        (b" W 1J 2", "L2 R:1:5"),
-    ];
-    for (bytes, wanted) in rows {
-        let given = outcome(rt.alloc(), bytes).expect(&rt, "memory");
-        assert_eq!(rt; given.as_str(), wanted, "{wanted}");
-    }
+fn calls_that_are_left_out_are_named(rt: HostRuntime) -> Result<(), Fail> {
+    let rows = " D A(.X) => L7 R:1:6 by reference
+ D A(1,.%X) => L7 R:1:8 by reference
+ D A(-.X) => L2 R:1:7
+ D A(.) => L2 R:1:6
+ W $L(.X) => L2 R:1:7
+ D A+1 => L7 R:1:5 entry offset
+ G 5+1^R => L7 R:1:5 entry offset
+ D +1 => L2 R:1:4
+ D A^R+1 => L2 R:1:7
+ W /X => L7 R:1:4 mnemonic space
+ W 1,/X => L7 R:1:6 mnemonic space
+ W !,/X => L7 R:1:6 mnemonic space
+ W !/X => L2 R:1:5
+ S X=/Y => L2 R:1:6
+ S $E(X,1)=2 => L7 R:1:4 set extract
+ S (X,$extract(Y,1))=2 => L7 R:1:7 set extract
+ S $L(X)=2 => L2 R:1:4
+ M $E(X)=Y => L2 R:1:4
+ W $J(1,2,3) => L7 R:1:10 justify decimals
+ W $J(X(1,2),$L(1,2),3) => L7 R:1:21 justify decimals
+ W $J(1,,3) => L7 R:1:9 justify decimals
+ W $J(,2) => L2 R:1:7
+ W $L(1,2,3) => L2 R:1:10
+ W $Q(X,-1) => L7 R:1:8 query backward
+ W $QUERY(^X(1,2),-1) => L7 R:1:18 query backward
+ W $NA(X,1) => L7 R:1:9 name depth
+ W $D(X,1) => L2 R:1:8
+ W $O(X) => L7 R:1:8 order names
+ W $O(^X,1) => L7 R:1:9 order names
+ W $O(X_1) => L2 R:1:8
+ W $O(X(1),1,2) => L2 R:1:13
+ W $ZX(1) => L7 R:1:4 function
+ W $X(1) => L7 R:1:4 function
+ W $T(1) => L7 R:1:4 function
+ W $H => L7 R:1:4 variable
+ W $L => L7 R:1:4 variable
+ S $H=1 => L7 R:1:4 variable
+ W X$H => L7 R:1:5 variable
+ $H => L7 R:1:2 variable
+ S $X=1 => L2 R:1:4
+ W $ => L2 R:1:4
+ XECUTE \"x\" => L7 R:1:2 command
+ S X=1 Y=2 => L7 R:1:8 command
+ W 1 ZW => L7 R:1:6 command
+ H X => L2 R:1:4
+ tstart () => L2 R:1:2
+ W 1J 2 => L2 R:1:5
+";
+    let wrong = wrong_rows(rt.alloc(), rows)?;
+    assert_eq!(rt; wrong.as_str(), "");
+    Ok(())
 }
 
 #[test]
-fn values_of_quit_are_left_out(rt: HostRuntime) {
-    let rows: [(&[u8], &str); 26] = [
-        (b" W $$A", "L7 R:1:4 extrinsic"),
-        (b" W $$^R", "L7 R:1:4 extrinsic"),
-        (b" SET $$A=1", "L7 R:1:6 extrinsic"),
-        (b" D $$A", "L7 R:1:4 extrinsic"),
-        (b" Q 1", "L7 R:1:4 extrinsic"),
-        (b" Q SET X=1", "L7 R:1:4 extrinsic"),
-        (b" W 1 Q:X @Y", "L7 R:1:10 extrinsic"),
-        (b" Q $H", "L7 R:1:4 extrinsic"),
-        (b" Q $$A", "L7 R:1:4 extrinsic"),
-        (b" Q .5", "L7 R:1:4 extrinsic"),
-        (b" Q ^X", "L7 R:1:4 extrinsic"),
-        (b" Q -X", "L7 R:1:4 extrinsic"),
-        (b" Q \"a\"", "L7 R:1:4 extrinsic"),
-        (b" Q .X", "L2 R:1:4"),
-        (b" Q $", "L2 R:1:4"),
-        (b" Q )", "L2 R:1:4"),
-        (b" Q =", "L2 R:1:4"),
-        (b" Q \"a", "L2 R:1:4"),
-        (b" Q  X", "L7 R:1:5 command"),
-        (b" Q  1", "L2 R:1:5"),
-        (b" Q W 1 Q 1", "L7 R:1:4 extrinsic"),
-        (b" H 1", "L2 R:1:4"),
-        (b"A W 1\nA W @X", "L3 R:2"),
-        (
-            b" W @X S X=ABCDEFGHIJKLMNOPQRSTUVWXYZABCDEF",
-            "L7 R:1:4 indirection",
-        ),
-        (b" W $ABCDEFGHIJKLMNOPQRSTUVWXYZABCDEF", "L5 R:1"),
-        (b" W 1EABCDEFGHIJKLMNOPQRSTUVWXYZABCDE", "L5 R:1"),
-    ];
-    for (bytes, wanted) in rows {
-        let given = outcome(rt.alloc(), bytes).expect(&rt, "memory");
-        assert_eq!(rt; given.as_str(), wanted, "{wanted}");
-    }
+fn values_of_quit_are_left_out(rt: HostRuntime) -> Result<(), Fail> {
+    let rows = " W $$A => L7 R:1:4 extrinsic
+ W $$^R => L7 R:1:4 extrinsic
+ SET $$A=1 => L7 R:1:6 extrinsic
+ D $$A => L7 R:1:4 extrinsic
+ Q 1 => L7 R:1:4 extrinsic
+ Q SET X=1 => L7 R:1:4 extrinsic
+ W 1 Q:X @Y => L7 R:1:10 extrinsic
+ Q $H => L7 R:1:4 extrinsic
+ Q $$A => L7 R:1:4 extrinsic
+ Q .5 => L7 R:1:4 extrinsic
+ Q ^X => L7 R:1:4 extrinsic
+ Q -X => L7 R:1:4 extrinsic
+ Q \"a\" => L7 R:1:4 extrinsic
+ Q .X => L2 R:1:4
+ Q $ => L2 R:1:4
+ Q ) => L2 R:1:4
+ Q = => L2 R:1:4
+ Q \"a => L2 R:1:4
+ Q  X => L7 R:1:5 command
+ Q  1 => L2 R:1:5
+ Q W 1 Q 1 => L7 R:1:4 extrinsic
+ H 1 => L2 R:1:4
+A W 1~A W @X => L3 R:2
+ W @X S X=ABCDEFGHIJKLMNOPQRSTUVWXYZABCDEF => L7 R:1:4 indirection
+ W $ABCDEFGHIJKLMNOPQRSTUVWXYZABCDEF => L5 R:1
+ W 1EABCDEFGHIJKLMNOPQRSTUVWXYZABCDE => L5 R:1
+";
+    let wrong = wrong_rows(rt.alloc(), rows)?;
+    assert_eq!(rt; wrong.as_str(), "");
+    Ok(())
 }
 
 #[test]
-fn loops_are_read_or_refused(rt: HostRuntime) {
-    let rows: [(&[u8], &str); 16] = [
-        (b" FOR", "ok"),
-        (b" f  W 1", "ok"),
-        (b" For I=1:1:3,\"x\",5:1 W I", "ok"),
-        (b" F A(^B,J)=1:1:2;c", "ok"),
-        (b" F I=1,J=2", "ok"),
-        (b" F:1  Q", "L2 R:1:3"),
-        (b" F ^I=1", "L2 R:1:4"),
-        (b" F (I)=1", "L2 R:1:4"),
-        (b" F I", "L2 R:1:5"),
-        (b" F W 1", "L2 R:1:5"),
-        (b" F I=", "L2 R:1:6"),
-        (b" F I=,1", "L2 R:1:6"),
-        (b" F I=1,", "L2 R:1:8"),
-        (b" F I=1:,2", "L2 R:1:8"),
-        (b" F I=1:1:", "L2 R:1:10"),
-        (b" F I=1:1:3:4", "L2 R:1:11"),
-    ];
-    for (bytes, wanted) in rows {
-        let given = outcome(rt.alloc(), bytes).expect(&rt, "memory");
-        assert_eq!(rt; given.as_str(), wanted, "{wanted}");
-    }
+fn loops_are_read_or_refused(rt: HostRuntime) -> Result<(), Fail> {
+    let rows = " FOR => ok
+ f  W 1 => ok
+ For I=1:1:3,\"x\",5:1 W I => ok
+ F A(^B,J)=1:1:2;c => ok
+ F I=1,J=2 => ok
+ F:1  Q => L2 R:1:3
+ F ^I=1 => L2 R:1:4
+ F (I)=1 => L2 R:1:4
+ F I => L2 R:1:5
+ F W 1 => L2 R:1:5
+ F I= => L2 R:1:6
+ F I=,1 => L2 R:1:6
+ F I=1, => L2 R:1:8
+ F I=1:,2 => L2 R:1:8
+ F I=1:1: => L2 R:1:10
+ F I=1:1:3:4 => L2 R:1:11
+";
+    let wrong = wrong_rows(rt.alloc(), rows)?;
+    assert_eq!(rt; wrong.as_str(), "");
+    Ok(())
 }
 
 #[test]
-fn formals_and_dots_are_read_or_refused(rt: HostRuntime) {
-    let rows: [(&[u8], &str); 41] = [
-        (b"A(X,Y)", "ok"),
-        (b"A(X) S X=1", "ok"),
-        (b"1(%X,Y1)\tQ ;c", "ok"),
-        (b"A()", "ok"),
-        (b"A() ;c", "ok"),
-        (b"A(X,X)", "L2 R:1:5"),
-        (b"A(X,Y,X) W (", "L2 R:1:7"),
-        (b"A(X,x,XX)", "ok"),
-        (b"A(A)", "ok"),
-        (b"A(", "L2 R:1:3"),
-        (b"A(X", "L2 R:1:4"),
-        (b"A(,X)", "L2 R:1:3"),
-        (b"A(X,)", "L2 R:1:5"),
-        (b"A(X,,Y)", "L2 R:1:5"),
-        (b"A(1)", "L2 R:1:3"),
-        (b"A(X(1))", "L2 R:1:4"),
-        (b"A( X)", "L2 R:1:3"),
-        (b"A(X ,Y)", "L2 R:1:4"),
-        (b"A (X)", "L2 R:1:3"),
-        (b"A(X)(Y)", "L2 R:1:5"),
-        (b"A(X)W 1", "L2 R:1:5"),
-        (b"A(X);c", "L2 R:1:5"),
-        (b"(X)", "L2 R:1:1"),
-        (b"A(X) Q\nA Q", "L3 R:2"),
-        (b"A(ABCDEFGHIJKLMNOPQRSTUVWXYZABCDE) Q", "ok"),
-        (b"A(X,ABCDEFGHIJKLMNOPQRSTUVWXYZABCDEF", "L5 R:1"),
-        (b"A(X,X,ABCDEFGHIJKLMNOPQRSTUVWXYZABCDEF", "L2 R:1:5"),
-        (b" .S X=1", "ok"),
-        (b"A . . W 1", "ok"),
-        (b"A(X) ..\tW 1", "ok"),
-        (b"A\t. .. D  W 1 ;c", "ok"),
-        (b" .", "ok"),
-        (b" . . ", "ok"),
-        (b" .;c", "ok"),
-        (b".", "L2 R:1:1"),
-        (b"A.", "L2 R:1:2"),
-        (b"A(X).", "L2 R:1:5"),
-        (b" .A", "L7 R:1:3 command"),
-        (b" .W 1 .", "L2 R:1:7"),
-        (b" .(", "L2 R:1:3"),
-        (b" ;.", "ok"),
-    ];
-    for (bytes, wanted) in rows {
-        let given = outcome(rt.alloc(), bytes).expect(&rt, "memory");
-        assert_eq!(rt; given.as_str(), wanted, "{wanted}");
-    }
+fn formals_and_dots_are_read_or_refused(rt: HostRuntime) -> Result<(), Fail> {
+    let rows = "A(X,Y) => ok
+A(X) S X=1 => ok
+1(%X,Y1)\tQ ;c => ok
+A() => ok
+A() ;c => ok
+A(X,X) => L2 R:1:5
+A(X,Y,X) W ( => L2 R:1:7
+A(X,x,XX) => ok
+A(A) => ok
+A( => L2 R:1:3
+A(X => L2 R:1:4
+A(,X) => L2 R:1:3
+A(X,) => L2 R:1:5
+A(X,,Y) => L2 R:1:5
+A(1) => L2 R:1:3
+A(X(1)) => L2 R:1:4
+A( X) => L2 R:1:3
+A(X ,Y) => L2 R:1:4
+A (X) => L2 R:1:3
+A(X)(Y) => L2 R:1:5
+A(X)W 1 => L2 R:1:5
+A(X);c => L2 R:1:5
+(X) => L2 R:1:1
+A(X) Q~A Q => L3 R:2
+A(ABCDEFGHIJKLMNOPQRSTUVWXYZABCDE) Q => ok
+A(X,ABCDEFGHIJKLMNOPQRSTUVWXYZABCDEF => L5 R:1
+A(X,X,ABCDEFGHIJKLMNOPQRSTUVWXYZABCDEF => L2 R:1:5
+ .S X=1 => ok
+A . . W 1 => ok
+A(X) ..\tW 1 => ok
+A\t. .. D  W 1 ;c => ok
+ . => ok
+ . .  => ok
+ .;c => ok
+. => L2 R:1:1
+A. => L2 R:1:2
+A(X). => L2 R:1:5
+ .A => L7 R:1:3 command
+ .W 1 . => L2 R:1:7
+ .( => L2 R:1:3
+ ;. => ok
+";
+    let wrong = wrong_rows(rt.alloc(), rows)?;
+    assert_eq!(rt; wrong.as_str(), "");
+    Ok(())
 }
 
 /// The level of a line, and how many formals it has.
@@ -330,50 +339,48 @@ fn levels_and_formals_are_kept(rt: HostRuntime) {
 }
 
 #[test]
-fn lines_are_read_or_refused(rt: HostRuntime) {
-    let rows: [(&[u8], &str); 37] = [
-        (b"", "ok"),
-        (b" SET ^A=2+3*4 WRITE ^A,! HALT", "ok"),
-        (b" SET X=1,X(2)=X+1 WRITE X(2)_X,Y", "ok"),
-        (b" WRITE \"abc", "L2 R:1:8"),
-        (b" WRITE \"abc\"\"\"", "ok"),
-        (b" SET  X=1", "L2 R:1:6"),
-        (b" W ^5", "L2 R:1:5"),
-        (b" W 1 +2", "L2 R:1:6"),
-        (b" W 1,\tH", "L2 R:1:6"),
-        (b" W X(1", "L2 R:1:7"),
-        (b" W", "L2 R:1:3"),
-        (b" W ", "L2 R:1:4"),
-        (b" W 1W 2", "L2 R:1:5"),
-        (b" W 1;c", "ok"),
-        (b" H;c", "L2 R:1:3"),
-        (b" H ;c", "ok"),
-        (b" H W 1", "L2 R:1:4"),
-        (b" H  W 1", "ok"),
-        (b" H 5", "L2 R:1:4"),
-        (b" HANG 5", "L2 R:1:2"),
-        (b" h:X=1  w:)X 1", "L2 R:1:11"),
-        (b" h:X=1  w:X 1", "ok"),
-        (b"A", "ok"),
-        (b"A;c", "L2 R:1:2"),
-        (b"A ;c", "ok"),
-        (b";c", "ok"),
-        (b" \t ", "ok"),
-        (b"A W 1\nB W 1\nA W (", "L3 R:3"),
-        (b"1 W 1\r\n01 W 1\r\n", "ok"),
-        (b"W W 1\n W 2\n W )\n W )", "L2 R:3:4"),
-        (b" W 1\r", "L2 R:1:5"),
-        (b" W 999999999999999999,0001000000000000000000", "L2 R:1:23"),
-        (b" W !!,-+X,(1)_\"a\"", "ok"),
-        (b" W !1", "L2 R:1:5"),
-        (b" S X=ABCDEFGHIJKLMNOPQRSTUVWXYZABCDE", "ok"),
-        (b" S X=ABCDEFGHIJKLMNOPQRSTUVWXYZABCDEF", "L5 R:1"),
-        (b"A W 1\nA S X=1ABCDEFGHIJKLMNOPQRSTUVWXYZABCDEF", "L5 R:2"),
-    ];
-    for (bytes, wanted) in rows {
-        let given = outcome(rt.alloc(), bytes).expect(&rt, "memory");
-        assert_eq!(rt; given.as_str(), wanted, "{wanted}");
-    }
+fn lines_are_read_or_refused(rt: HostRuntime) -> Result<(), Fail> {
+    let rows = " => ok
+ SET ^A=2+3*4 WRITE ^A,! HALT => ok
+ SET X=1,X(2)=X+1 WRITE X(2)_X,Y => ok
+ WRITE \"abc => L2 R:1:8
+ WRITE \"abc\"\"\" => ok
+ SET  X=1 => L2 R:1:6
+ W ^5 => L2 R:1:5
+ W 1 +2 => L2 R:1:6
+ W 1,\tH => L2 R:1:6
+ W X(1 => L2 R:1:7
+ W => L2 R:1:3
+ W  => L2 R:1:4
+ W 1W 2 => L2 R:1:5
+ W 1;c => ok
+ H;c => L2 R:1:3
+ H ;c => ok
+ H W 1 => L2 R:1:4
+ H  W 1 => ok
+ H 5 => L2 R:1:4
+ HANG 5 => L2 R:1:2
+ h:X=1  w:)X 1 => L2 R:1:11
+ h:X=1  w:X 1 => ok
+A => ok
+A;c => L2 R:1:2
+A ;c => ok
+;c => ok
+ \t  => ok
+A W 1~B W 1~A W ( => L3 R:3
+1 W 1\r~01 W 1\r~ => ok
+W W 1~ W 2~ W )~ W ) => L2 R:3:4
+ W 1\r => L2 R:1:5
+ W 999999999999999999,0001000000000000000000 => L2 R:1:23
+ W !!,-+X,(1)_\"a\" => ok
+ W !1 => L2 R:1:5
+ S X=ABCDEFGHIJKLMNOPQRSTUVWXYZABCDE => ok
+ S X=ABCDEFGHIJKLMNOPQRSTUVWXYZABCDEF => L5 R:1
+A W 1~A S X=1ABCDEFGHIJKLMNOPQRSTUVWXYZABCDEF => L5 R:2
+";
+    let wrong = wrong_rows(rt.alloc(), rows)?;
+    assert_eq!(rt; wrong.as_str(), "");
+    Ok(())
 }
 
 #[test]

@@ -1,4 +1,6 @@
-use Rattle.std.proofs.Common.{◌≡◌, ◌+◌, arith}
+use Rattle.std.proofs.Common.{◌≡◌, ◌+◌, ℕ, List, Option, ap, subst, arith}
+use Rattle.mj_semantics.specs.Job.{Start}
+use Rattle.mj_jobvm.specs.Jobs.{IsRunOf}
 use Rattle.mj_main.specs.Alone.{first_job}
 use Rattle.mj_main.proofs.Calls.{spent_ran, spent_asks, spent_ended}
 use Rattle.mj_main.proofs.Logs.{stands_first, stands_as, stands_on, stands_ran, waits, alone_is, ended_is, stopped_is}
@@ -7,7 +9,10 @@ use Rattle.mj_main.proofs.alone.one.Goals as goal
 
 pub calls-init : goal.calls-init
 calls-init c =
-    stands_first c.args.image.now (first_job c.args.entry) c.start-job.result c.new-globals.result ? ? ? c.new-globals.ensures
+    let j = c.start-job.ensures in
+    let at : List (Option (List ℕ)) → Start = λ l. record { job = 1; entry = c.args.entry; values = l } in
+    let run : IsRunOf c.args.image.now (first_job c.args.entry) c.start-job.result = subst (λ l. IsRunOf c.args.image.now (at l) c.start-job.result) c.new.ensures.items (0, j.run) in
+    stands_first c.args.image.now (first_job c.args.entry) c.start-job.result c.new-globals.result run (ap (λ r. r.run.log) j.opening) (ap (λ r. r.run.spent) j.opening) c.new-globals.ensures
 
 pub returns-in-Ended : goal.returns-in-Ended
 returns-in-Ended c =

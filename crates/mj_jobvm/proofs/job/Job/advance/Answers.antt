@@ -38,7 +38,7 @@ turns-preserved c =
           let k : turns + c.turns.done + 1 ≡ turns + (c.turns.done + 1) = omega arith in
           subst (λ t. P t (c.args.self.now.run.spent + (c.turns.done + 1))) k (subst (P (turns + c.turns.done + 1)) e
           (went_on c.args.image.now start (start_of s.start) (turns + c.turns.done) c.units-units.result.now s.log.items c.deref.result.now i.code c.deref.ensures.value
-    (c.args.self.now.run.spent + c.turns.done) s.machine c.go_on.new.machine s.given c.go_on.new.given c.in-Ok.went c.in-Ok.ensures.ok c.go_on.ensures.sound (i.run start turns is) c.in-On.is));
+          (c.args.self.now.run.spent + c.turns.done) s.machine c.go_on.new.machine s.given c.go_on.new.given c.in-Ok.went c.in-Ok.ensures.ok c.go_on.ensures.sound (i.run start turns is) c.in-On.is));
       code = i.code;
       small = i.small;
       checked = i.checked;
@@ -53,84 +53,96 @@ turns-preserved c =
 pub returns-in-Err-clause-forward : goal.returns-in-Err-clause-forward
 returns-in-Err-clause-forward c = λ start turns is.
     let i = c.turns.invariant in
-    let s = c.turns.self-inside in
-    (turns + c.turns.done, omega arith, 
-    let same : standing c.go_on.new.machine (given_of c.go_on.new.given s.log.items) ≡ standing s.machine (given_of s.given s.log.items) =
-    subst (λ l. standing c.go_on.new.machine (given_of c.go_on.new.given l) ≡ standing s.machine (given_of s.given l)) c.deref.ensures.value c.in-Err.ensures.err in
-    let P : Standing → Type 0 = λ x. IsRunAfter (routines_of c.args.image.now) start (code_in c.args.image.now (start_of s.start)) (turns + c.turns.done) (run s.log.items s.pending s.spent x) in
-    subst P (sym same)
-    (counted_as (routines_of c.args.image.now) start (code_in c.args.image.now (start_of s.start)) (turns + c.turns.done) s.log.items None s.pending (c.args.self.now.run.spent + c.turns.done) s.spent (standing s.machine (given_of s.given s.log.items)) i.pending
-    (let e = i.spent in omega (arith, e)) (i.run start turns is)))
+    let s = c.turns.self-inside in (
+      turns + c.turns.done,
+      omega arith,
+      let same : standing c.go_on.new.machine (given_of c.go_on.new.given s.log.items) ≡ standing s.machine (given_of s.given s.log.items) =
+          subst (λ l. standing c.go_on.new.machine (given_of c.go_on.new.given l) ≡ standing s.machine (given_of s.given l)) c.deref.ensures.value c.in-Err.ensures.err in
+          let P : Standing → Type 0 = λ x. IsRunAfter (routines_of c.args.image.now) start (code_in c.args.image.now (start_of s.start)) (turns + c.turns.done) (run s.log.items s.pending s.spent x) in
+          subst P (sym same)
+          (counted_as (routines_of c.args.image.now) start (code_in c.args.image.now (start_of s.start)) (turns + c.turns.done) s.log.items None s.pending (c.args.self.now.run.spent + c.turns.done) s.spent (standing s.machine (given_of s.given s.log.items)) i.pending
+          (let e = i.spent in omega (arith, e)) (i.run start turns is)),
+    )
 
 pub returns-in-Err-clause-run : goal.returns-in-Err-clause-run
 returns-in-Err-clause-run c = λ start (turns, is).
     let i = c.turns.invariant in
-    let s = c.turns.self-inside in
-    (turns + c.turns.done, 
-    let same : standing c.go_on.new.machine (given_of c.go_on.new.given s.log.items) ≡ standing s.machine (given_of s.given s.log.items) =
-    subst (λ l. standing c.go_on.new.machine (given_of c.go_on.new.given l) ≡ standing s.machine (given_of s.given l)) c.deref.ensures.value c.in-Err.ensures.err in
-    let P : Standing → Type 0 = λ x. IsRunAfter (routines_of c.args.image.now) start (code_in c.args.image.now (start_of s.start)) (turns + c.turns.done) (run s.log.items s.pending s.spent x) in
-    subst P (sym same)
-    (counted_as (routines_of c.args.image.now) start (code_in c.args.image.now (start_of s.start)) (turns + c.turns.done) s.log.items None s.pending (c.args.self.now.run.spent + c.turns.done) s.spent (standing s.machine (given_of s.given s.log.items)) i.pending
-    (let e = i.spent in omega (arith, e)) (i.run start turns is)))
+    let s = c.turns.self-inside in (
+      turns + c.turns.done,
+      let same : standing c.go_on.new.machine (given_of c.go_on.new.given s.log.items) ≡ standing s.machine (given_of s.given s.log.items) =
+          subst (λ l. standing c.go_on.new.machine (given_of c.go_on.new.given l) ≡ standing s.machine (given_of s.given l)) c.deref.ensures.value c.in-Err.ensures.err in
+          let P : Standing → Type 0 = λ x. IsRunAfter (routines_of c.args.image.now) start (code_in c.args.image.now (start_of s.start)) (turns + c.turns.done) (run s.log.items s.pending s.spent x) in
+          subst P (sym same)
+          (counted_as (routines_of c.args.image.now) start (code_in c.args.image.now (start_of s.start)) (turns + c.turns.done) s.log.items None s.pending (c.args.self.now.run.spent + c.turns.done) s.spent (standing s.machine (given_of s.given s.log.items)) i.pending
+          (let e = i.spent in omega (arith, e)) (i.run start turns is)),
+    )
 
 pub returns-in-Asks-clause-forward : goal.returns-in-Asks-clause-forward
 returns-in-Asks-clause-forward c = λ start turns is.
     let i = c.turns.invariant in
-    let s = c.turns.self-inside in
-    (turns + c.turns.done, omega arith, 
-    counted_as (routines_of c.args.image.now) start (code_in c.args.image.now (start_of s.start)) (turns + c.turns.done) s.log.items (Some c.in-Asks.ask.value) (Some c.into_inner.result) (c.args.self.now.run.spent + c.turns.done) s.spent (standing c.go_on.new.machine (given_of c.go_on.new.given s.log.items)) (ap Some c.into_inner.ensures)
-    (let e = i.spent in omega (arith, e))
-    (went_asks c.args.image.now start (start_of s.start) (turns + c.turns.done) c.units-units.result.now s.log.items c.deref.result.now i.code c.deref.ensures.value
-    (c.args.self.now.run.spent + c.turns.done) s.machine c.go_on.new.machine s.given c.go_on.new.given c.in-Ok.went c.in-Ok.ensures.ok c.go_on.ensures.sound (i.run start turns is) c.in-Asks.ask c.in-Asks.is))
+    let s = c.turns.self-inside in (
+      turns + c.turns.done,
+      omega arith,
+      counted_as (routines_of c.args.image.now) start (code_in c.args.image.now (start_of s.start)) (turns + c.turns.done) s.log.items (Some c.in-Asks.ask.value) (Some c.into_inner.result) (c.args.self.now.run.spent + c.turns.done) s.spent (standing c.go_on.new.machine (given_of c.go_on.new.given s.log.items)) (ap Some c.into_inner.ensures)
+          (let e = i.spent in omega (arith, e))
+          (went_asks c.args.image.now start (start_of s.start) (turns + c.turns.done) c.units-units.result.now s.log.items c.deref.result.now i.code c.deref.ensures.value
+          (c.args.self.now.run.spent + c.turns.done) s.machine c.go_on.new.machine s.given c.go_on.new.given c.in-Ok.went c.in-Ok.ensures.ok c.go_on.ensures.sound (i.run start turns is) c.in-Asks.ask c.in-Asks.is),
+    )
 
 pub returns-in-Asks-clause-run : goal.returns-in-Asks-clause-run
 returns-in-Asks-clause-run c = λ start (turns, is).
     let i = c.turns.invariant in
-    let s = c.turns.self-inside in
-    (turns + c.turns.done, 
-    counted_as (routines_of c.args.image.now) start (code_in c.args.image.now (start_of s.start)) (turns + c.turns.done) s.log.items (Some c.in-Asks.ask.value) (Some c.into_inner.result) (c.args.self.now.run.spent + c.turns.done) s.spent (standing c.go_on.new.machine (given_of c.go_on.new.given s.log.items)) (ap Some c.into_inner.ensures)
-    (let e = i.spent in omega (arith, e))
-    (went_asks c.args.image.now start (start_of s.start) (turns + c.turns.done) c.units-units.result.now s.log.items c.deref.result.now i.code c.deref.ensures.value
-    (c.args.self.now.run.spent + c.turns.done) s.machine c.go_on.new.machine s.given c.go_on.new.given c.in-Ok.went c.in-Ok.ensures.ok c.go_on.ensures.sound (i.run start turns is) c.in-Asks.ask c.in-Asks.is))
+    let s = c.turns.self-inside in (
+      turns + c.turns.done,
+      counted_as (routines_of c.args.image.now) start (code_in c.args.image.now (start_of s.start)) (turns + c.turns.done) s.log.items (Some c.in-Asks.ask.value) (Some c.into_inner.result) (c.args.self.now.run.spent + c.turns.done) s.spent (standing c.go_on.new.machine (given_of c.go_on.new.given s.log.items)) (ap Some c.into_inner.ensures)
+          (let e = i.spent in omega (arith, e))
+          (went_asks c.args.image.now start (start_of s.start) (turns + c.turns.done) c.units-units.result.now s.log.items c.deref.result.now i.code c.deref.ensures.value
+          (c.args.self.now.run.spent + c.turns.done) s.machine c.go_on.new.machine s.given c.go_on.new.given c.in-Ok.went c.in-Ok.ensures.ok c.go_on.ensures.sound (i.run start turns is) c.in-Asks.ask c.in-Asks.is),
+    )
 
 pub returns-in-Over-clause-forward : goal.returns-in-Over-clause-forward
 returns-in-Over-clause-forward c = λ start turns is.
     let i = c.turns.invariant in
-    let s = c.turns.self-inside in
-    (turns + c.turns.done, omega arith, 
-    counted_as (routines_of c.args.image.now) start (code_in c.args.image.now (start_of s.start)) (turns + c.turns.done) s.log.items None s.pending (c.args.self.now.run.spent + c.turns.done) s.spent
-    (standing c.go_on.new.machine (given_of c.go_on.new.given s.log.items)) i.pending (let e = i.spent in omega (arith, e))
-    (went_over c.args.image.now start (start_of s.start) (turns + c.turns.done) c.units-units.result.now s.log.items c.deref.result.now i.code c.deref.ensures.value
-    (c.args.self.now.run.spent + c.turns.done) s.machine c.go_on.new.machine s.given c.go_on.new.given c.in-Ok.went c.in-Ok.ensures.ok c.go_on.ensures.sound (i.run start turns is) c.in-Over.is))
+    let s = c.turns.self-inside in (
+      turns + c.turns.done,
+      omega arith,
+      counted_as (routines_of c.args.image.now) start (code_in c.args.image.now (start_of s.start)) (turns + c.turns.done) s.log.items None s.pending (c.args.self.now.run.spent + c.turns.done) s.spent
+          (standing c.go_on.new.machine (given_of c.go_on.new.given s.log.items)) i.pending (let e = i.spent in omega (arith, e))
+          (went_over c.args.image.now start (start_of s.start) (turns + c.turns.done) c.units-units.result.now s.log.items c.deref.result.now i.code c.deref.ensures.value
+          (c.args.self.now.run.spent + c.turns.done) s.machine c.go_on.new.machine s.given c.go_on.new.given c.in-Ok.went c.in-Ok.ensures.ok c.go_on.ensures.sound (i.run start turns is) c.in-Over.is),
+    )
 
 pub returns-in-Over-clause-run : goal.returns-in-Over-clause-run
 returns-in-Over-clause-run c = λ start (turns, is).
     let i = c.turns.invariant in
-    let s = c.turns.self-inside in
-    (turns + c.turns.done, 
-    counted_as (routines_of c.args.image.now) start (code_in c.args.image.now (start_of s.start)) (turns + c.turns.done) s.log.items None s.pending (c.args.self.now.run.spent + c.turns.done) s.spent
-    (standing c.go_on.new.machine (given_of c.go_on.new.given s.log.items)) i.pending (let e = i.spent in omega (arith, e))
-    (went_over c.args.image.now start (start_of s.start) (turns + c.turns.done) c.units-units.result.now s.log.items c.deref.result.now i.code c.deref.ensures.value
-    (c.args.self.now.run.spent + c.turns.done) s.machine c.go_on.new.machine s.given c.go_on.new.given c.in-Ok.went c.in-Ok.ensures.ok c.go_on.ensures.sound (i.run start turns is) c.in-Over.is))
+    let s = c.turns.self-inside in (
+      turns + c.turns.done,
+      counted_as (routines_of c.args.image.now) start (code_in c.args.image.now (start_of s.start)) (turns + c.turns.done) s.log.items None s.pending (c.args.self.now.run.spent + c.turns.done) s.spent
+          (standing c.go_on.new.machine (given_of c.go_on.new.given s.log.items)) i.pending (let e = i.spent in omega (arith, e))
+          (went_over c.args.image.now start (start_of s.start) (turns + c.turns.done) c.units-units.result.now s.log.items c.deref.result.now i.code c.deref.ensures.value
+          (c.args.self.now.run.spent + c.turns.done) s.machine c.go_on.new.machine s.given c.go_on.new.given c.in-Ok.went c.in-Ok.ensures.ok c.go_on.ensures.sound (i.run start turns is) c.in-Over.is),
+    )
 
 pub returns-clause-forward : goal.returns-clause-forward
 returns-clause-forward c = λ start turns is.
     let i = c.turns.invariant in
-    let s = c.turns.self-inside in
-    (turns + c.turns.done, omega arith, 
-    counted_as (routines_of c.args.image.now) start (code_in c.args.image.now (start_of s.start)) (turns + c.turns.done) s.log.items None s.pending (c.args.self.now.run.spent + c.turns.done) c.min-self-inside.result
-    (standing s.machine (given_of s.given s.log.items)) i.pending
-    (let a = c.min-self-inside.ensures in let b = c.saturating_add.ensures in let d = c.turns-test.false in let e = i.spent in omega (arith, a, b, d, e)) (i.run start turns is))
+    let s = c.turns.self-inside in (
+      turns + c.turns.done,
+      omega arith,
+      counted_as (routines_of c.args.image.now) start (code_in c.args.image.now (start_of s.start)) (turns + c.turns.done) s.log.items None s.pending (c.args.self.now.run.spent + c.turns.done) c.min-self-inside.result
+          (standing s.machine (given_of s.given s.log.items)) i.pending
+          (let a = c.min-self-inside.ensures in let b = c.saturating_add.ensures in let d = c.turns-test.false in let e = i.spent in omega (arith, a, b, d, e)) (i.run start turns is),
+    )
 
 pub returns-clause-run : goal.returns-clause-run
 returns-clause-run c = λ start (turns, is).
     let i = c.turns.invariant in
-    let s = c.turns.self-inside in
-    (turns + c.turns.done, 
-    counted_as (routines_of c.args.image.now) start (code_in c.args.image.now (start_of s.start)) (turns + c.turns.done) s.log.items None s.pending (c.args.self.now.run.spent + c.turns.done) c.min-self-inside.result
-    (standing s.machine (given_of s.given s.log.items)) i.pending
-    (let a = c.min-self-inside.ensures in let b = c.saturating_add.ensures in let d = c.turns-test.false in let e = i.spent in omega (arith, a, b, d, e)) (i.run start turns is))
+    let s = c.turns.self-inside in (
+      turns + c.turns.done,
+      counted_as (routines_of c.args.image.now) start (code_in c.args.image.now (start_of s.start)) (turns + c.turns.done) s.log.items None s.pending (c.args.self.now.run.spent + c.turns.done) c.min-self-inside.result
+          (standing s.machine (given_of s.given s.log.items)) i.pending
+          (let a = c.min-self-inside.ensures in let b = c.saturating_add.ensures in let d = c.turns-test.false in let e = i.spent in omega (arith, a, b, d, e)) (i.run start turns is),
+    )
 
 pub returns-in-Asks-clause-told : goal.returns-in-Asks-clause-told
 returns-in-Asks-clause-told c = λ start (turns, is).
@@ -138,10 +150,12 @@ returns-in-Asks-clause-told c = λ start (turns, is).
     let s = c.turns.self-inside in
     let spent = c.args.self.now.run.spent + c.turns.done in
     let at : Standing = standing c.go_on.new.machine (given_of c.go_on.new.given s.log.items) in
-    told_asks (routines_of c.args.image.now) start (code_in c.args.image.now (start_of s.start)) s.log.items spent c.into_inner.result at
-    (turns + c.turns.done, counted_as (routines_of c.args.image.now) start (code_in c.args.image.now (start_of s.start)) (turns + c.turns.done) s.log.items (Some c.in-Asks.ask.value) (Some c.into_inner.result) spent spent at (ap Some c.into_inner.ensures) (omega arith)
-    (went_asks c.args.image.now start (start_of s.start) (turns + c.turns.done) c.units-units.result.now s.log.items c.deref.result.now i.code c.deref.ensures.value
-    (c.args.self.now.run.spent + c.turns.done) s.machine c.go_on.new.machine s.given c.go_on.new.given c.in-Ok.went c.in-Ok.ensures.ok c.go_on.ensures.sound (i.run start turns is) c.in-Asks.ask c.in-Asks.is))
+    told_asks (routines_of c.args.image.now) start (code_in c.args.image.now (start_of s.start)) s.log.items spent c.into_inner.result at (
+      turns + c.turns.done,
+      counted_as (routines_of c.args.image.now) start (code_in c.args.image.now (start_of s.start)) (turns + c.turns.done) s.log.items (Some c.in-Asks.ask.value) (Some c.into_inner.result) spent spent at (ap Some c.into_inner.ensures) (omega arith)
+          (went_asks c.args.image.now start (start_of s.start) (turns + c.turns.done) c.units-units.result.now s.log.items c.deref.result.now i.code c.deref.ensures.value
+          (c.args.self.now.run.spent + c.turns.done) s.machine c.go_on.new.machine s.given c.go_on.new.given c.in-Ok.went c.in-Ok.ensures.ok c.go_on.ensures.sound (i.run start turns is) c.in-Asks.ask c.in-Asks.is),
+    )
 
 pub returns-in-Over-clause-told : goal.returns-in-Over-clause-told
 returns-in-Over-clause-told c = λ start (turns, is).
@@ -154,7 +168,9 @@ pub returns-clause-told : goal.returns-clause-told
 returns-clause-told c = λ start (turns, is).
     let i = c.turns.invariant in
     let s = c.turns.self-inside in
-    told_ran (routines_of c.args.image.now) start (code_in c.args.image.now (start_of s.start)) s.log.items s.pending c.min-self-inside.result (standing s.machine (given_of s.given s.log.items))
-    (turns + c.turns.done, counted_as (routines_of c.args.image.now) start (code_in c.args.image.now (start_of s.start)) (turns + c.turns.done) s.log.items None s.pending (c.args.self.now.run.spent + c.turns.done) c.min-self-inside.result
-    (standing s.machine (given_of s.given s.log.items)) i.pending
-    (let a = c.min-self-inside.ensures in let b = c.saturating_add.ensures in let d = c.turns-test.false in let e = i.spent in omega (arith, a, b, d, e)) (i.run start turns is))
+    told_ran (routines_of c.args.image.now) start (code_in c.args.image.now (start_of s.start)) s.log.items s.pending c.min-self-inside.result (standing s.machine (given_of s.given s.log.items)) (
+      turns + c.turns.done,
+      counted_as (routines_of c.args.image.now) start (code_in c.args.image.now (start_of s.start)) (turns + c.turns.done) s.log.items None s.pending (c.args.self.now.run.spent + c.turns.done) c.min-self-inside.result
+          (standing s.machine (given_of s.given s.log.items)) i.pending
+          (let a = c.min-self-inside.ensures in let b = c.saturating_add.ensures in let d = c.turns-test.false in let e = i.spent in omega (arith, a, b, d, e)) (i.run start turns is),
+    )
