@@ -1,5 +1,5 @@
 -- The table of asks: which reply fits which ask, and who serves it.
-use Rattle.std.specs.Prelude.{ℕ, ℤ, ◌==◌, Option, Some, None, Bool, true, false, not, ◌&&◌, ◌||◌}
+use Rattle.std.specs.Prelude.{ℕ, ℤ, ◌==◌, Option, None, Bool, true, false, not, ◌&&◌, ◌||◌}
 use Rattle.std.specs.Option.{is_some}
 use Rattle.mj_store.specs.declared.access.Access.{Access}
 use Rattle.mj_store.specs.declared.access.Access.TheVariants as accesses
@@ -9,21 +9,20 @@ use Rattle.mj_ask.specs.declared.ask.Ask.{Ask}
 use Rattle.mj_ask.specs.declared.ask.Ask.TheVariants as asks
 use Rattle.mj_ask.specs.declared.ask.Reply.{Reply}
 use Rattle.mj_ask.specs.declared.ask.Reply.TheVariants as replies
-use Rattle.mj_ask.specs.Formed.{is_filled, is_global_name, is_subtree, is_clash}
 
 -- a number that `$DATA` gives
 abbrev pub is_data : ℕ → Bool
 is_data d = d == 0 || d == 1 || d == 10 || d == 11
 
--- The answer is one to this access: a text or none; a number of `$DATA`; a subscript that isn't empty, or none; a global's name or
--- none; nodes; that it is done. A limit may be passed by any.
+-- The answer is one to this access: a text or none; a number of `$DATA`; a subscript or none; a name or none; nodes; that it is done. A
+-- limit may be passed by any.
 abbrev pub answers : Access → Answer → Bool
 answers a answers_are.Limit = true
 answers (accesses.Value n) (answers_are.Value v) = true
 answers (accesses.Data n) (answers_are.Data d) = is_data d
-answers (accesses.Order n way) (answers_are.Order s) = elim s [ None ↦ true | Some t ↦ is_filled t ]
-answers (accesses.Query n) (answers_are.Query m) = elim m [ None ↦ true | Some l ↦ is_global_name l ]
-answers (accesses.Subtree n) (answers_are.Subtree nodes) = is_subtree nodes
+answers (accesses.Order n way) (answers_are.Order s) = true
+answers (accesses.Query n) (answers_are.Query m) = true
+answers (accesses.Subtree n) (answers_are.Subtree nodes) = true
 answers (accesses.Set n v) answers_are.Done = true
 answers (accesses.Kill n) answers_are.Done = true
 answers (accesses.Put n nodes) answers_are.Done = true
@@ -55,7 +54,7 @@ is_reply_to asks.UnlockAll replies.Done = true
 is_reply_to asks.UnlockAll replies.Limit = true
 is_reply_to (asks.Begin kind) replies.Done = true
 is_reply_to asks.Commit replies.Done = true
-is_reply_to asks.Commit (replies.Clash clash) = is_clash clash
+is_reply_to asks.Commit (replies.Clash clash) = true
 is_reply_to asks.Rollback replies.Done = true
 is_reply_to (asks.Open device timeout) replies.Got = true
 is_reply_to (asks.Open device timeout) replies.Late = true

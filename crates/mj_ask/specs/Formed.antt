@@ -1,19 +1,24 @@
 -- Which asks and parts of replies are formed: they hold what can be written, each in one way, so that what is written is read back.
-use Rattle.std.specs.Prelude.{ℕ, Bool, true, false, not, ◌&&◌, List, [], ◌∷◌, length, nat_lt, nat_le}
+use Rattle.std.specs.Prelude.{ℕ, Some, None, Bool, true, not, ◌&&◌, List, [], ◌∷◌, length, nat_lt, nat_le}
 use Rattle.std.specs.List.{list_all}
 use Rattle.std.specs.FinMap.{is_sorted}
+use Rattle.std.specs.Ordering.{is_lt}
 use Rattle.mj_subs.specs.Name.{Name, is_word}
 use Rattle.mj_subs.specs.Collation.{subscripts_cmp}
 use Rattle.mj_store.specs.Nodes.{is_empty}
 use Rattle.mj_store.specs.Questions.{Subtree}
 use Rattle.mj_store.specs.declared.access.Access.{Access}
 use Rattle.mj_store.specs.declared.access.Access.TheVariants as accesses
+use Rattle.mj_store.specs.declared.access.Answer.{Answer}
+use Rattle.mj_store.specs.declared.access.Answer.TheVariants as answers_are
 use Rattle.mj_ask.specs.Written.{is_entry}
 use Rattle.mj_ask.specs.declared.clash.Kept.{Kept}
 use Rattle.mj_ask.specs.declared.clash.Kept.TheVariants as kepts
 use Rattle.mj_ask.specs.declared.clash.Clash.{Clash}
 use Rattle.mj_ask.specs.declared.ask.Ask.{Ask}
 use Rattle.mj_ask.specs.declared.ask.Ask.TheVariants as asks
+use Rattle.mj_ask.specs.declared.ask.Reply.{Reply}
+use Rattle.mj_ask.specs.declared.ask.Reply.TheVariants as replies
 
 -- the subscript has a byte
 abbrev pub is_filled : List ℕ → Bool
@@ -45,6 +50,11 @@ is_search_name n = n.global && is_word n.word && nat_le (length n.subscripts) 31
 abbrev pub is_subtree : Subtree → Bool
 is_subtree nodes = is_sorted subscripts_cmp nodes && list_all (λ e. are_filled e.0) nodes
 
+-- the nodes start after these subscripts, if there are any
+abbrev pub starts_after : List (List ℕ) → Subtree → Bool
+starts_after p [] = true
+starts_after p (e ∷ es) = is_lt (subscripts_cmp p e.0)
+
 -- an access is to a global, and the empty subscript is one to search from alone
 abbrev pub is_access : Access → Bool
 is_access (accesses.Value n) = is_global_name n
@@ -58,8 +68,7 @@ is_access (accesses.Put n nodes) = is_global_name n && is_subtree nodes
 
 -- names of a lock, of which there is one at least
 abbrev pub are_names : List Name → Bool
-are_names [] = false
-are_names (n ∷ ns) = list_all is_name (n ∷ ns)
+are_names names = nat_lt 0 (length names) && list_all is_name names
 
 -- an ask that can be written
 abbrev pub is_ask : Ask → Bool
@@ -78,3 +87,16 @@ is_kept _ = true
 -- a clash: accesses are numbered from 1
 abbrev pub is_clash : Clash → Bool
 is_clash clash = nat_lt 0 clash.place && is_kept clash.then && is_kept clash.now
+
+-- an answer: a subscript that isn't empty, the name of a global, nodes in order
+abbrev pub is_answer : Answer → Bool
+is_answer (answers_are.Order s) = elim s [ None ↦ true | Some t ↦ is_filled t ]
+is_answer (answers_are.Query m) = elim m [ None ↦ true | Some n ↦ is_global_name n ]
+is_answer (answers_are.Subtree nodes) = is_subtree nodes
+is_answer _ = true
+
+-- a reply that can be written
+abbrev pub is_reply : Reply → Bool
+is_reply (replies.Answer x) = is_answer x
+is_reply (replies.Clash clash) = is_clash clash
+is_reply _ = true

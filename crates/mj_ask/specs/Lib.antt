@@ -3,3 +3,4 @@ pub mod Started
 pub mod Formed
 pub mod Fits
 pub mod Keeping
+pub mod Fitting

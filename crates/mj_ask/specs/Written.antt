@@ -1,5 +1,5 @@
 -- Entries as they are written (this profile): `label^ROUTINE`, or `^ROUTINE` for the routine's first line.
-use Rattle.std.specs.Prelude.{ℕ, ◌==◌, ◌+◌, List, [], ◌∷◌, ◌++◌, Option, Some, None, Bool, true, false, ◌&&◌, ◌||◌, length, nat_le, take, drop, position, if◌then◌else◌}
+use Rattle.std.specs.Prelude.{◌↔◌, ◌≡◌, ℕ, ◌==◌, ◌+◌, List, [], ◌∷◌, ◌++◌, Option, Some, None, Bool, true, false, ◌&&◌, ◌||◌, length, nat_le, take, drop, position, if◌then◌else◌}
 use Rattle.std.specs.List.{list_all}
 use Rattle.std.specs.Char.{is_ascii_digit}
 use Rattle.mj_subs.specs.Name.{is_word}
@@ -30,3 +30,7 @@ entry_from (b ∷ label) routine =
 -- the entry that is written so, if one is
 abbrev pub entry_of : List ℕ → Option Entry
 entry_of bytes = elim (position is_caret bytes) [ None ↦ None | Some i ↦ entry_from (take i bytes) (drop (i + 1) bytes) ]
+
+-- r is the entry that the bytes spell: it is some entry exactly where the bytes are how that entry is written, and it can be written
+pub record IsReading (bytes : List ℕ) (r : Option Entry) : Type 0 where
+  pub spells : (e : Entry) → (r ≡ Some e) ↔ ((bytes ≡ entry_text e) × (is_entry e ≡ true))

@@ -1,11 +1,9 @@
 // Questions and replies.
 
 ghost use Rattle.std.specs.Prelude.{◌≡◌, IfOk};
-ghost use Rattle.mj_ask.specs.Formed.{is_filled, is_global_name};
 ghost use Rattle.mj_ask.specs.Fits.{fits, is_reply_to, is_late, is_shared, timeout_of, answers, is_data};
 
 use crate::clash::Clash;
-use crate::formed::{is_clash, is_filled, is_global_name, is_subtree};
 use crate::names::Names;
 use crate::start::Start;
 use mj_num::Num;
@@ -125,11 +123,7 @@ impl Ask {
             },
             Ask::Try(_, _) => matches!(reply, Reply::Got | Reply::Late | Reply::Limit),
             Ask::Unlock(_) | Ask::UnlockAll => matches!(reply, Reply::Done | Reply::Limit),
-            Ask::Commit => match reply {
-                Reply::Done => true,
-                Reply::Clash(clash) => is_clash(clash),
-                _ => false,
-            },
+            Ask::Commit => matches!(reply, Reply::Done | Reply::Clash(_)),
             Ask::Open(_, _) => matches!(reply, Reply::Got | Reply::Late | Reply::NoSession),
             Ask::Start(_, _) => matches!(reply, Reply::Job(_) | Reply::Limit),
             Ask::Begin(_) | Ask::Rollback | Ask::Close(_) | Ask::Rest(_) | Ask::Halt(_) => {
@@ -166,9 +160,59 @@ impl Ask {
             _ => None,
         }
     }
+
+    /// The same ask once more.
+    pub fn try_clone(&self) -> Result<Ask, AllocError>
+        ensures { IfOk result (λ ask. ask ≡ self.now) }
+    {
+        Ok(match self {
+            Ask::DeviceBegin(device) => Ask::DeviceBegin(device.try_clone()?),
+            Ask::DeviceWrite(device, bytes) => Ask::DeviceWrite(
+                device.try_clone()?,
+                bytes.try_clone()?,
+            ),
+            Ask::DeviceLine(device, timeout) => Ask::DeviceLine(device.try_clone()?, *timeout),
+            Ask::DeviceByte(device, timeout) => Ask::DeviceByte(device.try_clone()?, *timeout),
+            Ask::DeviceEnd(device) => Ask::DeviceEnd(device.try_clone()?),
+            Ask::Access(access) => Ask::Access(access.try_clone()?),
+            Ask::Try(names, timeout) => Ask::Try(names.try_clone()?, *timeout),
+            Ask::Unlock(names) => Ask::Unlock(names.try_clone()?),
+            Ask::UnlockAll => Ask::UnlockAll,
+            Ask::Begin(kind) => Ask::Begin(*kind),
+            Ask::Commit => Ask::Commit,
+            Ask::Rollback => Ask::Rollback,
+            Ask::Open(device, timeout) => Ask::Open(device.try_clone()?, *timeout),
+            Ask::Close(device) => Ask::Close(device.try_clone()?),
+            Ask::Start(start, timeout) => Ask::Start(start.try_clone()?, *timeout),
+            Ask::Rest(time) => Ask::Rest(*time),
+            Ask::Halt(fault) => Ask::Halt(*fault),
+        })
+    }
 }
 
-// Whether it is an answer to the access at all: one of its kind and formed, or that a limit is passed.
+impl Reply {
+    /// The same reply once more.
+    pub fn try_clone(&self) -> Result<Reply, AllocError>
+        ensures { IfOk result (λ reply. reply ≡ self.now) }
+    {
+        Ok(match self {
+            Reply::Done => Reply::Done,
+            Reply::Answer(answer) => Reply::Answer(answer.try_clone()?),
+            Reply::Limit => Reply::Limit,
+            Reply::Got => Reply::Got,
+            Reply::Late => Reply::Late,
+            Reply::NoSession => Reply::NoSession,
+            Reply::Failed => Reply::Failed,
+            Reply::End => Reply::End,
+            Reply::Line(text) => Reply::Line(text.try_clone()?),
+            Reply::Byte(code) => Reply::Byte(*code),
+            Reply::Job(number) => Reply::Job(*number),
+            Reply::Clash(clash) => Reply::Clash(clash.try_clone()?),
+        })
+    }
+}
+
+// Whether it is an answer to the access at all: one of its kind, or that a limit is passed.
 fn answers(access: &Access, answer: &Answer) -> bool
     ensures { result ≡ answers access.now answer.now }
 {
@@ -176,21 +220,9 @@ fn answers(access: &Access, answer: &Answer) -> bool
         Answer::Limit => true,
         Answer::Value(_) => matches!(access, Access::Value(_)),
         Answer::Data(data) => matches!(access, Access::Data(_)) && is_data(*data),
-        Answer::Order(next) => {
-            matches!(access, Access::Order(_, _))
-                && match next {
-                    None => true,
-                    Some(sub) => is_filled(sub)
-                }
-        }
-        Answer::Query(next) => {
-            matches!(access, Access::Query(_))
-                && match next {
-                    None => true,
-                    Some(name) => is_global_name(name)
-                }
-        }
-        Answer::Subtree(nodes) => { matches!(access, Access::Subtree(_)) && is_subtree(nodes) }
+        Answer::Order(_) => matches!(access, Access::Order(_, _)),
+        Answer::Query(_) => matches!(access, Access::Query(_)),
+        Answer::Subtree(_) => matches!(access, Access::Subtree(_)),
         Answer::Done => matches!(
             access,
             Access::Set(_, _) | Access::Kill(_) | Access::Put(_, _)

@@ -1,7 +1,8 @@
 // Why a commit isn't done.
 
-ghost use Rattle.std.specs.Prelude.{◌≡◌, IfOk};
-ghost use Rattle.mj_ask.specs.Keeping.{kept_subscript, kept_of};
+ghost use Rattle.std.specs.Prelude.{◌≡◌, IfOk, pos};
+ghost use Rattle.mj_ask.specs.declared.clash.Kept.TheVariants as kepts;
+ghost use Rattle.mj_ask.specs.Keeping.{kept_subscript, kept_of, Keeps};
 
 use mj_num::Num;
 use mj_store::{Answer, Nodes};
@@ -24,6 +25,65 @@ pub enum Kept {
     Subtree(Nodes),
 }
 
+impl Kept {
+    /// What is kept of an answer. It tells the answers to one question apart.
+    pub fn of(answer: Answer) -> Kept
+        ensures value { result ≡ kept_of answer }
+        ensures kept { Keeps answer result }
+    {
+        Kept::made(answer)
+    }
+
+    fn made(answer: Answer) -> Kept
+        ensures { result ≡ kept_of answer }
+    {
+        match answer {
+            Answer::Value(Some(text)) => Kept::Text(text),
+            Answer::Data(data) => Kept::number(data),
+            Answer::Order(Some(next)) => Kept::subscript(next),
+            Answer::Query(Some(name)) => Kept::Name(name),
+            Answer::Subtree(nodes) => Kept::Subtree(nodes),
+            Answer::Value(None)
+            | Answer::Order(None)
+            | Answer::Query(None)
+            | Answer::Done
+            | Answer::Limit => Kept::Nothing,
+        }
+    }
+
+    fn number(number: u8) -> Kept
+        ensures { result ≡ kepts.Number (pos number) }
+    {
+        match Num::new(i64::from(number)) {
+            Ok(number) => Kept::Number(number),
+            // a byte is within the range of numbers
+            Err(_) => unreachable!(),
+        }
+    }
+
+    fn subscript(sub: Sub) -> Kept
+        ensures { result ≡ kept_subscript sub }
+    {
+        match sub.number() {
+            Some(number) => Kept::Number(number),
+            None => Kept::Text(sub.to_text()),
+        }
+    }
+
+    /// The same once more.
+    pub fn try_clone(&self) -> Result<Kept, AllocError>
+        ensures { IfOk result (λ kept. kept ≡ self.now) }
+    {
+        Ok(match self {
+            Kept::Nothing => Kept::Nothing,
+            Kept::Text(text) => Kept::Text(text.try_clone()?),
+            Kept::Number(number) => Kept::Number(*number),
+            Kept::Name(name) => Kept::Name(name.try_clone()?),
+            Kept::Subtree(nodes) => Kept::Subtree(nodes.try_clone()?),
+        })
+    }
+}
+
 /// The least access of a transaction that is answered otherwise by now.
 #[derive(Drop)]
 pub struct Clash {
@@ -33,4 +93,17 @@ pub struct Clash {
     pub then: Kept,
     /// what it would be answered now
     pub now: Kept,
+}
+
+impl Clash {
+    /// The same clash once more.
+    pub fn try_clone(&self) -> Result<Clash, AllocError>
+        ensures { IfOk result (λ clash. clash ≡ self.entry.now) }
+    {
+        Ok(Clash {
+            place: self.place,
+            then: self.then.try_clone()?,
+            now: self.now.try_clone()?,
+        })
+    }
 }

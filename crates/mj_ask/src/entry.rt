@@ -4,7 +4,7 @@ ghost use Rattle.std.specs.Prelude.{◌≡◌, ◌<◌, ◌≤◌, length, true,
 ghost use Rattle.std.specs.Char.{is_ascii_digit};
 ghost use Rattle.std.specs.List.{list_all};
 ghost use Rattle.mj_subs.specs.Name.{is_word};
-ghost use Rattle.mj_ask.specs.Written.{is_label, is_entry, is_caret, entry_text, entry_of};
+ghost use Rattle.mj_ask.specs.Written.{is_label, is_entry, is_caret, entry_text, entry_of, IsReading};
 
 use mj_subs::is_word;
 use mj_text::{Digits, TEXT_LIMIT, Text};
@@ -20,22 +20,10 @@ pub struct Entry {
 impl Entry {
     /// The entry that is written so: `label^ROUTINE`, or `^ROUTINE` for the routine's first line. None is written in another way.
     pub fn read(alloc: Global, bytes: &[u8]) -> Result<Option<Entry>, AllocError>
-        ensures { IfOk result (λ r. r ≡ entry_of bytes.now) }
+        ensures value { IfOk result (λ r. r ≡ entry_of bytes.now) }
+        ensures spelled { IfOk result (λ r. IsReading bytes.now r) }
     {
-        let Some(at) = caret(bytes) else {
-            return Ok(None);
-        };
-        let (label, routine) = (&bytes[..at], &bytes[at + 1..]);
-        if !is_word(routine) {
-            return Ok(None);
-        }
-        let label = match label {
-            [] => None,
-            _ if is_label(label) => Some(text(alloc, label)?),
-            _ => return Ok(None),
-        };
-        let routine = text(alloc, routine)?;
-        Ok(Some(Entry { label, routine }))
+        read(alloc, bytes)
     }
 
     /// Whether it can be written: its label is one, if it has any, and its routine is a word.
@@ -72,6 +60,26 @@ impl Entry {
         bytes.extend_from_slice(self.routine.bytes(&mut digits))?;
         Ok(bytes)
     }
+}
+
+// The entry that is written so.
+fn read(alloc: Global, bytes: &[u8]) -> Result<Option<Entry>, AllocError>
+    ensures { IfOk result (λ r. r ≡ entry_of bytes.now) }
+{
+    let Some(at) = caret(bytes) else {
+        return Ok(None);
+    };
+    let (label, routine) = (&bytes[..at], &bytes[at + 1..]);
+    if !is_word(routine) {
+        return Ok(None);
+    }
+    let label = match label {
+        [] => None,
+        _ if is_label(label) => Some(text(alloc, label)?),
+        _ => return Ok(None),
+    };
+    let routine = text(alloc, routine)?;
+    Ok(Some(Entry { label, routine }))
 }
 
 /// Where the first caret is.

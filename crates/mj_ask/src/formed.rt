@@ -1,14 +1,17 @@
 // Which asks and parts of replies hold what can be written, each in one way.
 
-ghost use Rattle.std.specs.Prelude.{◌≡◌};
+ghost use Rattle.std.specs.Prelude.{◌≡◌, true};
+ghost use Rattle.std.specs.List.{list_all};
 ghost use Rattle.std.specs.FinMap.{is_sorted};
+ghost use Rattle.mj_subs.specs.Name.{is_word};
 ghost use Rattle.mj_subs.specs.Collation.{subscripts_cmp};
-ghost use Rattle.mj_ask.specs.Formed.{is_filled, are_filled, are_filled_before_last, is_name, is_global_name, is_search_name, is_subtree, is_access, are_names, is_ask, is_kept, is_clash};
+ghost use Rattle.mj_ask.specs.Formed.{is_filled, are_filled, are_filled_before_last, is_name, is_global_name, is_search_name, is_subtree, starts_after, is_access, are_names, is_ask, is_kept, is_clash, is_answer, is_reply};
+ghost use Rattle.mj_ask.specs.Fitting.{IsAnswered, IsServed};
 
-use crate::ask::Ask;
+use crate::ask::{Ask, Reply};
 use crate::clash::{Clash, Kept};
 use crate::entry::Entry;
-use mj_store::{Access, Nodes};
+use mj_store::{Access, Answer, Nodes};
 use mj_subs::{Name, Sub, Subs, is_word};
 use mj_text::{Digits, Text};
 
@@ -29,8 +32,11 @@ fn are_filled_before_last(subs: &[Sub]) -> bool
     ensures { result ≡ are_filled_before_last subs.now }
 {
     match subs {
-        [] | [_] => true,
-        [first, rest @ ..] => is_filled(first) && are_filled_before_last(rest),
+        [] => true,
+        [first, rest @ ..] => match rest {
+            [] => true,
+            [_, ..] => is_filled(first) && are_filled_before_last(rest),
+        },
     }
 }
 
@@ -67,25 +73,51 @@ pub fn is_search_name(name: &Name) -> bool
 pub fn is_subtree(nodes: &Nodes) -> bool
     ensures { result ≡ is_subtree nodes.now }
 {
-    rise(nodes.as_slice())
-        && nodes
-            .as_slice()
-            .iter()
-            .all(|node| are_filled(node.0.as_slice()))
+    let nodes = nodes.as_slice();
+    rise(nodes) && are_nodes_filled(nodes)
 }
 
-// Whether each list of subscripts stands before the next.
+fn are_nodes_filled(nodes: &[(Subs, Text)]) -> bool
+    ensures { result ≡ list_all (λ e. are_filled e.0) nodes.now }
+{
+    nodes.iter().all(|node| are_filled(node.0.as_slice()))
+}
+
+// Whether the lists of subscripts rise: each stands before the next.
+#[tactic(auto, using(crate::proofs::Rising::rise_step))]
 fn rise(nodes: &[(Subs, Text)]) -> bool
     ensures { result ≡ is_sorted subscripts_cmp nodes.now }
 {
+    let mut rest = nodes;
+    while let Some((first, tail)) = rest.split_first() {
+        if !starts_after(&first.0, tail) {
+            return false;
+        }
+        rest = tail;
+    }
+    true
+}
+
+fn starts_after(subs: &Subs, nodes: &[(Subs, Text)]) -> bool
+    ensures { result ≡ starts_after subs.now nodes.now }
+{
     match nodes {
-        [] | [_] => true,
-        [first, rest @ ..] => first.0.cmp(&rest[0].0).is_lt() && rise(rest),
+        [] => true,
+        [first, ..] => subs.cmp(&first.0).is_lt(),
     }
 }
 
-/// Whether the access can be written: it is to a global, and the empty subscript is one to search from alone.
+/// Whether the access can be written: it is to a global, and the empty subscript is one to search from alone. Whatever it is answered on a
+/// content fits it; and one that can be written is answered on a content of globals what can be written too.
 pub fn is_access(access: &Access) -> bool
+    ensures value { result ≡ is_access access.now }
+    ensures answered { IsAnswered access.now }
+    ensures served { result ≡ true → IsServed access.now }
+{
+    is_to_global(access)
+}
+
+fn is_to_global(access: &Access) -> bool
     ensures { result ≡ is_access access.now }
 {
     match access {
@@ -102,7 +134,13 @@ pub fn is_access(access: &Access) -> bool
 fn are_names(names: &[Name]) -> bool
     ensures { result ≡ are_names names.now }
 {
-    !names.is_empty() && names.iter().all(|name| is_name(name))
+    0 < names.len() && are_all_names(names)
+}
+
+fn are_all_names(names: &[Name]) -> bool
+    ensures { result ≡ list_all is_name names.now }
+{
+    names.iter().all(|name| is_name(name))
 }
 
 /// Whether the ask can be written.
@@ -129,7 +167,29 @@ fn is_kept(kept: &Kept) -> bool
 
 /// Whether the clash can be written: accesses are numbered from 1.
 pub fn is_clash(clash: &Clash) -> bool
-    ensures { result ≡ is_clash clash.now }
+    ensures { result ≡ is_clash clash.entry.now }
 {
     0 < clash.place && is_kept(&clash.then) && is_kept(&clash.now)
+}
+
+/// Whether the reply can be written: a subscript isn't empty, a name is that of a global, nodes are in order.
+pub fn is_reply(reply: &Reply) -> bool
+    ensures { result ≡ is_reply reply.now }
+{
+    match reply {
+        Reply::Answer(answer) => is_answer(answer),
+        Reply::Clash(clash) => is_clash(clash),
+        _ => true,
+    }
+}
+
+fn is_answer(answer: &Answer) -> bool
+    ensures { result ≡ is_answer answer.now }
+{
+    match answer {
+        Answer::Order(Some(next)) => is_filled(next),
+        Answer::Query(Some(name)) => is_global_name(name),
+        Answer::Subtree(nodes) => is_subtree(nodes),
+        _ => true,
+    }
 }

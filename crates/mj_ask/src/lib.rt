@@ -1,4 +1,7 @@
 // What a job may ask, what it may be told, and what it starts with: plain data.
+//
+// `Ask::fits` is the table of asks. A contract sees a list of names as a list, a start as a record, and every other type by its fields. What
+// an ask or a reply can hold beyond what can be written, as a name whose word is none, is told by the tests of `formed`.
 #![tactic(auto)]
 
 mod ask;
@@ -11,5 +14,8 @@ mod start;
 pub use ask::{Ask, Kind, Reply};
 pub use clash::{Clash, Kept};
 pub use entry::Entry;
+pub use formed::{
+    is_access, is_ask, is_clash, is_global_name, is_name, is_reply, is_search_name, is_subtree,
+};
 pub use names::Names;
 pub use start::Start;

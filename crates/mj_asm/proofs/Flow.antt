@@ -12,8 +12,8 @@ use Rattle.mj_semantics.specs.State.{State, Place, level_of, may_go, set_test, p
 use Rattle.mj_semantics.specs.Outcome.{Timed, turn, look, change, given, fault, end}
 use Rattle.mj_semantics.specs.Lines.{Here, place_at, next_line, entry_of, entered, levels_of}
 use Rattle.mj_semantics.specs.Evaluation.{when, name_of, ev_actuals, ev_local}
-use Rattle.mj_semantics.specs.Points.{Ways, Once as PassesOnce, Always as PassesAlways, By as PassesBy, Points, AtLine, Called as CalledAt, Jumped as JumpedAt, Pass}
-use Rattle.mj_semantics.specs.Commands.{again, if_test, ifs, if_all, ranges, calls, block, do_all, jumps, assign_all, output_all, kill_all, merge_all, new_all, obey, obey_all}
+use Rattle.mj_semantics.specs.Points.{Leave, Ways, Once as PassesOnce, Always as PassesAlways, By as PassesBy, Points, AtLine, Called as CalledAt, Jumped as JumpedAt, Pass}
+use Rattle.mj_semantics.specs.Commands.{again, if_test, ifs, if_all, ranges, calls, block, do_all, jumps, quit_frame, assign_all, output_all, kill_all, merge_all, new_all, obey, obey_all}
 use Rattle.mj_semantics.specs.Job.{points_of, jump, in_pass}
 use Rattle.mj_pcode.specs.declared.instr.Span.TheVariants as span
 use Rattle.mj_pcode.specs.declared.instr.Instr.{Instr}
@@ -25,20 +25,28 @@ use Rattle.mj_pcode.specs.Machine as machine
 use Rattle.mj_pcode.specs.Machine.{Stack, Next, exec, returns, operands, spread, given_count, place_in, with_passes}
 use Rattle.mj_asm.specs.Code.{reference, expr_code, subscripts_code, actuals_code, shape_of, code_if, call_code, calls_code, do_code, jump_code, jumps_code, quit_code, ifs_code, if_code, range_code, ranges_code, body_code, for_code, command_code, and_then, obey_code, steps_code}
 use Rattle.mj_asm.specs.Correct.{Agree, next_of, DoLines, IsFound, LeadAlike}
-use Rattle.mj_asm.specs.Laws.{after_one, same_place, at_found, call_follows}
-use Rattle.mj_pcode.proofs.Agree.{if_at, look_at, change_at, deeper_at, given_at, store_at, if_test_at, again_at, first_at, reading_two_at}
+use Rattle.mj_asm.specs.Laws.{after_one, Leaves, same_place, at_found, call_follows}
+use Rattle.mj_pcode.proofs.Agree.{if_at, look_at, change_at, deeper_at, quit_frame_at, given_at, store_at, if_test_at, again_at, first_at, reading_two_at}
 use Rattle.mj_asm.proofs.Follows.{HasAt, has_front, has_back, from, acts, one, moved, expr_follows, onto, operands_are, rest_below, assigns_follow, outputs_follow, kill_all_follows, merges_follow, new_all_follows, actuals_follow, local_follows, when_follows}
 
 -- what holds for so many turns holds for fewer
 pub fewer_turns : (b m : ℕ) (f g : Timed) → m ≤ b → Agree b f g → Agree m f g
 fewer_turns b m f g le h = record { by = λ n le'. h.by n (omega arith) }
 
-pub returns_same : (units : List unit.Unit) (n : ℕ) (below : List Call) → returns (after_one units n) below n ≡ returns (next_of units) below n
-returns_same units n [] = refl
-returns_same units n (k ∷ ks) = refl
+pub fewer_leaves : (units : List unit.Unit) (b m : ℕ) (below : List Call) (leave : Leave) → m ≤ b → Leaves units b below leave → Leaves units m below leave
+fewer_leaves units b m below leave le h v = fewer_turns b m (returns (next_of units) below v) (leave v) le (h v)
+
+pub returns_same : (units : List unit.Unit) (n : ℕ) (below : List Call) (v : List ℕ) → returns (after_one units n) below v n ≡ returns (next_of units) below v n
+returns_same units n [] v = refl
+returns_same units n (k ∷ ks) v = refl
+
+-- a QUIT of the frame
+pub quits_same : (units : List unit.Unit) (n : ℕ) (below : List Call) (leave : Leave) → Leaves units n below leave → machine.quits (after_one units n) below n ≡ quit_frame (leave []) n
+quits_same units n below leave h =
+    quit_frame_at n (returns (after_one units n) below []) (leave []) (returns_same units n below [] ∙ (h []).by n (omega arith))
 
 module _ (image : List Routine) (units : List unit.Unit) (alike : LeadAlike image units) where
-  jump_follows : (d n : ℕ) (o : Option (Here × Line)) (f : Option Found) (below : List Call) (leave : Timed) → n ≤ d → IsFound image units o f → DoLines image units n → Agree n (returns (next_of units) below) leave
+  jump_follows : (d n : ℕ) (o : Option (Here × Line)) (f : Option Found) (below : List Call) (leave : Leave) → n ≤ d → IsFound image units o f → DoLines image units n → Leaves units n below leave
       → machine.jumps f below (after_one units n) n ≡ jump image (points_of image d) o leave n
   jump_follows d n None None below leave le is lines k = refl
   jump_follows d n None (Some f) below leave le is lines k = absurd is
@@ -57,12 +65,12 @@ module _ (image : List Routine) (units : List unit.Unit) (alike : LeadAlike imag
       ∙ ap (λ l. whole (place_at to.0) l (levels_in f.unit) line n) (sym level)
       ∙ ap (λ ls. whole (place_at to.0) to.1.level ls line n) (sym levels)
 
-  called_at : (d n : ℕ) (entry : Entry) (vs : List (Option (List ℕ))) (below : List Call) (leave : Timed) → n < d → DoLines image units n → Agree n (returns (next_of units) below) leave
-      → machine.calls (found units entry) vs below (after_one units n) n ≡ points_of image d (CalledAt entry vs leave) n
-  called_at zero n entry vs below leave lt lines q = absurd (omega (arith, lt))
-  called_at (suc d) n entry vs below leave lt lines q = call_follows image units d n (entered image entry) (found units entry) vs below leave (omega arith) (alike entry) lines q
+  called_at : (function : Bool) (d n : ℕ) (entry : Entry) (vs : List (Option (List ℕ))) (below : List Call) (leave : Leave) → n < d → DoLines image units n → Leaves units n below leave
+      → machine.calls function (found units entry) vs below (after_one units n) n ≡ points_of image d (CalledAt function entry vs leave) n
+  called_at function zero n entry vs below leave lt lines q = absurd (omega (arith, lt))
+  called_at function (suc d) n entry vs below leave lt lines q = call_follows image units function d n (entered image entry) (found units entry) vs below leave (omega arith) (alike entry) lines q
 
-  jumped_at : (d n : ℕ) (entry : Entry) (below : List Call) (leave : Timed) → n < d → DoLines image units n → Agree n (returns (next_of units) below) leave
+  jumped_at : (d n : ℕ) (entry : Entry) (below : List Call) (leave : Leave) → n < d → DoLines image units n → Leaves units n below leave
       → machine.jumps (found units entry) below (after_one units n) n ≡ points_of image d (JumpedAt entry leave) n
   jumped_at zero n entry below leave lt lines q = absurd (omega (arith, lt))
   jumped_at (suc d) n entry below leave lt lines q = jump_follows d n (entered image entry) (found units entry) below leave (omega arith) (alike entry) lines q
@@ -96,8 +104,8 @@ module _ (image : List Routine) (units : List unit.Unit) (alike : LeadAlike imag
     seam' pc a c = omega (arith, length-append a c)
 
     -- the frame below goes on behind a DO
-    goes_on : (b n pc : ℕ) (loops : List Loop) (rest : Timed) → n ≤ b → Agree b (there loops pc) rest → Agree n (returns (next_of units) (suspended (in_frame loops) pc)) (change popped rest)
-    goes_on b n pc loops rest le h =
+    goes_on : (b n pc : ℕ) (loops : List Loop) (rest : Timed) → n ≤ b → Agree b (there loops pc) rest → Leaves units n (suspended (in_frame loops) pc) (λ v. change popped rest)
+    goes_on b n pc loops rest le h v =
         record { by = λ m le'. change_at m popped (λ q. exec units q (in_frame loops) pc []) rest (h.by m (omega arith)) }
 
     module _ (b d : ℕ) (deep : b ≤ d) (lines : (m : ℕ) → m < b → DoLines image units m) (loops : List Loop) where
@@ -112,16 +120,16 @@ module _ (image : List Routine) (units : List unit.Unit) (alike : LeadAlike imag
 
       -- one call
       call_one : (c : Called) (pc : ℕ) (rest : Timed) → HasAt code_here pc (call_code here c pc) → follows_from (pc + length (call_code here c pc)) rest
-          → follows_from pc (ev_actuals c.actuals (λ vs. turn (points_of image d (CalledAt (entry_of here c.target) vs (change popped rest)))))
+          → follows_from pc (ev_actuals (points_of image d) here c.actuals (λ vs. turn (points_of image d (CalledAt false (entry_of here c.target) vs (λ v. change popped rest)))))
       call_one c pc rest has h =
           let ca = actuals_code pc c.actuals in
           let i = instr.Do (entry_of here c.target) (shape_of c.actuals) in
           let len : pc + length ca + 1 ≡ pc + length (ca ++ i ∷ []) = omega (arith, length-append ca (i ∷ [])) in
           let after : follows_from (pc + length ca + 1) rest = moved units u ctx at b _ _ [] rest len h in
-          actuals_follow units u ctx at b c.actuals pc [] _ (has_front code_here pc ca _ has) (λ vs many.
+          actuals_follow units u ctx at b (points_of image d) here c.actuals pc [] _ (has_front code_here pc ca _ has) (λ vs many.
           one units u ctx at b (pc + length ca) (onto vs []) i _ (has_back code_here pc ca _ has).0 (λ n lt.
-          ap (λ l. machine.calls (found units (entry_of here c.target)) (spread (shape_of c.actuals) l) (suspended ctx (pc + length ca + 1)) (after_one units n) n) (operands_are vs [] _ many)
-          ∙ called_at d n (entry_of here c.target) (spread (shape_of c.actuals) vs) (suspended ctx (pc + length ca + 1)) (change popped rest) (omega arith) (lines n lt)
+          ap (λ l. machine.calls false (found units (entry_of here c.target)) (spread (shape_of c.actuals) l) (suspended ctx (pc + length ca + 1)) (after_one units n) n) (operands_are vs [] _ many)
+          ∙ called_at false d n (entry_of here c.target) (spread (shape_of c.actuals) vs) (suspended ctx (pc + length ca + 1)) (λ v. change popped rest) (omega arith) (lines n lt)
           (goes_on b n (pc + length ca + 1) loops rest (omega arith) after)))
 
       calls_follow : (list : List Called) (pc : ℕ) (rest : Timed) → HasAt code_here pc (calls_code here pc list) → follows_from (pc + length (calls_code here pc list)) rest → follows_from pc (calls (points_of image d) here list rest)
@@ -129,7 +137,7 @@ module _ (image : List Routine) (units : List unit.Unit) (alike : LeadAlike imag
       calls_follow (c ∷ list) pc rest has h =
           let cc = code_if pc c.condition (call_code here c) in
           let later : Timed = calls (points_of image d) here list rest in
-          when_follows units u ctx at b c.condition (call_code here c) (ev_actuals c.actuals (λ vs. turn (points_of image d (CalledAt (entry_of here c.target) vs (change popped later))))) later pc []
+          when_follows units u ctx at b (points_of image d) here c.condition (call_code here c) (ev_actuals (points_of image d) here c.actuals (λ vs. turn (points_of image d (CalledAt false (entry_of here c.target) vs (λ v. change popped later))))) later pc []
           (has_front code_here pc cc _ has) (λ p has' after. call_one c p later has' after)
           (calls_follow list (pc + length cc) rest (has_back code_here pc cc _ has) (moved units u ctx at b _ _ [] rest (seam' pc cc (calls_code here (pc + length cc) list)) h))
 
@@ -137,40 +145,40 @@ module _ (image : List Routine) (units : List unit.Unit) (alike : LeadAlike imag
       block_follows pc rest has h =
           one units u ctx at b pc [] (instr.Block k) _ has (λ n lt.
           let there' : Timed = λ q. exec units n (at_unit j (suspended ctx (pc + 1))) (start_of u (k + 1)) [] in
-          let line : Timed = turn (points_of image d (AtLine (next_line here) (change popped rest))) in
-          let enters : State → State → State = λ s. pushed (place_in u k) (level_of s + 1) (Some s.test) in
+          let line : Timed = turn (points_of image d (AtLine (next_line here) (λ v. change popped rest))) in
+          let enters : State → State → State = λ s. pushed (place_in u k) (level_of s + 1) false (Some s.test) in
           deeper_at n (look (λ s. change (enters s) there')) (look (λ s. change (enters s) line))
           (look_at n (λ s. change (enters s) there') (λ s. change (enters s) line) (λ s. change_at n (enters s) there' line
-          ((lines n lt j u at (k + 1) (omega arith) (omega arith) (suspended ctx (pc + 1)) (change popped rest) (goes_on b n (pc + 1) loops rest (omega arith) h) d (omega arith)).by n (omega arith)))))
+          ((lines n lt j u at (k + 1) (omega arith) (omega arith) (suspended ctx (pc + 1)) (λ v. change popped rest) (goes_on b n (pc + 1) loops rest (omega arith) h) d (omega arith)).by n (omega arith)))))
 
       do_follows : (list : List Called) (pc : ℕ) (rest : Timed) → HasAt code_here pc (do_code here pc list) → follows_from (pc + length (do_code here pc list)) rest → follows_from pc (do_all (points_of image d) here list rest)
       do_follows [] pc rest has h = block_follows pc rest has.0 h
       do_follows (c ∷ list) pc rest has h = calls_follow (c ∷ list) pc rest has h
 
-      jump_one : (y : Jumped) (pc : ℕ) (leave : Timed) → HasAt code_here pc (jump_code here y pc) → Agree b (returns (next_of units) below) leave → follows_from pc (turn (points_of image d (JumpedAt (entry_of here y.target) leave)))
+      jump_one : (y : Jumped) (pc : ℕ) (leave : Leave) → HasAt code_here pc (jump_code here y pc) → Leaves units b below leave → follows_from pc (turn (points_of image d (JumpedAt (entry_of here y.target) leave)))
       jump_one y pc leave has q =
           one units u ctx at b pc [] (instr.Goto (entry_of here y.target)) _ has.0 (λ n lt.
-          jumped_at d n (entry_of here y.target) below leave (omega arith) (lines n lt) (fewer_turns b n (returns (next_of units) below) leave (omega arith) q))
+          jumped_at d n (entry_of here y.target) below leave (omega arith) (lines n lt) (fewer_leaves units b n below leave (omega arith) q))
 
-      jumps_follow : (list : List Jumped) (pc : ℕ) (leave rest : Timed) → HasAt code_here pc (jumps_code here pc list) → Agree b (returns (next_of units) below) leave → follows_from (pc + length (jumps_code here pc list)) rest → follows_from pc (jumps (points_of image d) here list leave rest)
+      jumps_follow : (list : List Jumped) (pc : ℕ) (leave : Leave) (rest : Timed) → HasAt code_here pc (jumps_code here pc list) → Leaves units b below leave → follows_from (pc + length (jumps_code here pc list)) rest → follows_from pc (jumps (points_of image d) here list leave rest)
       jumps_follow [] pc leave rest has q h = moved units u ctx at b pc (pc + 0) [] rest (omega arith) h
       jumps_follow (y ∷ list) pc leave rest has q h =
           let cc = code_if pc y.condition (jump_code here y) in
           let later : Timed = jumps (points_of image d) here list leave rest in
-          when_follows units u ctx at b y.condition (jump_code here y) (turn (points_of image d (JumpedAt (entry_of here y.target) leave))) later pc []
+          when_follows units u ctx at b (points_of image d) here y.condition (jump_code here y) (turn (points_of image d (JumpedAt (entry_of here y.target) leave))) later pc []
           (has_front code_here pc cc _ has) (λ p has' after. jump_one y p leave has' q)
           (jumps_follow list (pc + length cc) leave rest (has_back code_here pc cc _ has) q (moved units u ctx at b _ _ [] rest (seam' pc cc (jumps_code here (pc + length cc) list)) h))
 
-      quit_follows : (out : Option ℕ) (quit : Option Timed) (leave : Timed) (pc : ℕ) → HasAt code_here pc (quit_code out) → QuitsFor b loops out quit → Agree b (returns (next_of units) below) leave → follows_from pc (turn (elim quit [ None ↦ leave | Some t ↦ t ]))
+      quit_follows : (out : Option ℕ) (quit : Option Timed) (leave : Leave) (pc : ℕ) → HasAt code_here pc (quit_code out) → QuitsFor b loops out quit → Leaves units b below leave → follows_from pc (turn (elim quit [ None ↦ quit_frame (leave []) | Some t ↦ t ]))
       quit_follows None None leave pc has q h =
-          one units u ctx at b pc [] instr.Quit leave has.0 (λ n lt. ap (λ f. f) (returns_same units n below) ∙ h.by n (omega arith))
+          one units u ctx at b pc [] instr.Quit (quit_frame (leave [])) has.0 (λ n lt. quits_same units n below leave (fewer_leaves units b n below leave (omega arith) h))
       quit_follows None (Some t) leave pc has q h = absurd q
       quit_follows (Some c) None leave pc has q h = absurd q
       quit_follows (Some c) (Some t) leave pc has q h = one units u ctx at b pc [] (instr.Jump c) t has.0 (λ n lt. q.by n (omega arith))
 
       ifs_follow : (es : List Expr) (rest : ℕ → List Instr) (line_end done : Timed) (pc : ℕ) → HasAt code_here pc (ifs_code pc es rest)
           → ((p : ℕ) → HasAt code_here p (rest p) → follows_from (p + length (rest p)) line_end → follows_from p done)
-          → follows_from (pc + length (ifs_code pc es rest)) line_end → follows_from pc (ifs es line_end done)
+          → follows_from (pc + length (ifs_code pc es rest)) line_end → follows_from pc (ifs (points_of image d) here es line_end done)
       ifs_follow [] rest line_end done pc has f h = f pc has h
       ifs_follow (e ∷ es) rest line_end done pc has f h =
           let ce = expr_code pc e in
@@ -180,11 +188,11 @@ module _ (image : List Routine) (units : List unit.Unit) (alike : LeadAlike imag
           let back = has_back code_here pc ce (instr.Decide target ∷ cr) has in
           let len : target ≡ pc + length (ce ++ instr.Decide target ∷ cr) = omega (arith, length-append ce (instr.Decide target ∷ cr)) in
           let after = moved units u ctx at b target _ [] line_end len h in
-          expr_follows units u ctx at b e pc [] _ (has_front code_here pc ce _ has) (λ v.
+          expr_follows units u ctx at b (points_of image d) here e pc [] _ (has_front code_here pc ce _ has) (λ v.
           one units u ctx at b (pc + length ce) (v ∷ []) (instr.Decide target) _ back.0 (λ n lt.
           given_at n (truth_value v) _ _ (λ t q.
-          change_at n (set_test t) (if t then (λ m. exec units n ctx behind []) else (λ m. exec units n ctx target [])) (if t then ifs es line_end done else line_end)
-          (if_at n t (λ m. exec units n ctx behind []) (ifs es line_end done) (λ m. exec units n ctx target []) line_end
+          change_at n (set_test t) (if t then (λ m. exec units n ctx behind []) else (λ m. exec units n ctx target [])) (if t then ifs (points_of image d) here es line_end done else line_end)
+          (if_at n t (λ m. exec units n ctx behind []) (ifs (points_of image d) here es line_end done) (λ m. exec units n ctx target []) line_end
           ((ifs_follow es rest line_end done behind back.1 f after).by n (omega arith))
           (after.by n (omega arith))))))
 
@@ -212,7 +220,7 @@ module _ (image : List Routine) (units : List unit.Unit) (alike : LeadAlike imag
     Follows steps =
         (b d : ℕ) → b ≤ d → ((m : ℕ) → m < b → DoLines image units m) → (loops : List Loop) (out : Option ℕ) (ways : Ways) (pc : ℕ)
         → HasAt code_here pc (steps_code here pc out steps) → Agree b (there loops (pc + length (steps_code here pc out steps))) ways.line_end
-        → QuitsFor b loops out ways.for_quit → Agree b (returns (next_of units) below) ways.leave
+        → QuitsFor b loops out ways.for_quit → Leaves units b below ways.leave
         → Agree b (there loops pc) (obey_all (points_of image d) here steps ways)
 
     module _ (steps : List Step) (follows : Follows steps) (ls : List Loop) (close : ℕ) (ways : Ways) where
@@ -228,7 +236,7 @@ module _ (image : List Routine) (units : List unit.Unit) (alike : LeadAlike imag
       PassAt d n l after = exec units n (in_frame (l ∷ ls)) l.body [] ≡ points_of image d (Pass here (passes_of l) steps after ways) n
 
       pass_after : (b d : ℕ) → b ≤ d → ((m : ℕ) → m < b → DoLines image units m) → (l : Loop) → Stands l → (after : Timed)
-          → Agree b (there (l ∷ ls) l.resume) after → Agree b (there (l ∷ ls) close) (turn ways.line_end) → Agree b (returns (next_of units) below) ways.leave
+          → Agree b (there (l ∷ ls) l.resume) after → Agree b (there (l ∷ ls) close) (turn ways.line_end) → Leaves units b below ways.leave
           → ((n : ℕ) → n < b → PassAt d n l after)
           → Agree b (there (l ∷ ls) l.body) (points_of image (suc d) (Pass here (passes_of l) steps after ways))
       pass_after b d deep lines l stands after resumes closes leaves next =
@@ -241,23 +249,23 @@ module _ (image : List Routine) (units : List unit.Unit) (alike : LeadAlike imag
           record { by = λ n le. (follows b d deep lines (l ∷ ls) (Some close) (in_pass (passes_of l) after pass ways) l.body stands.body ended closes leaves).by n le }
 
       pass_follows : (d b : ℕ) → b ≤ d → ((m : ℕ) → m < b → DoLines image units m) → (l : Loop) → Stands l → (after : Timed)
-          → Agree b (there (l ∷ ls) l.resume) after → Agree b (there (l ∷ ls) close) (turn ways.line_end) → Agree b (returns (next_of units) below) ways.leave
+          → Agree b (there (l ∷ ls) l.resume) after → Agree b (there (l ∷ ls) close) (turn ways.line_end) → Leaves units b below ways.leave
           → Agree b (there (l ∷ ls) l.body) (points_of image (suc d) (Pass here (passes_of l) steps after ways))
       pass_follows zero b deep lines l stands after resumes closes leaves =
           pass_after b zero deep lines l stands after resumes closes leaves (λ n lt. absurd (omega (arith, lt, deep)))
       pass_follows (suc d) b deep lines l stands after resumes closes leaves =
           pass_after b (suc d) deep lines l stands after resumes closes leaves (λ n lt.
           (pass_follows d n (omega arith) (λ m lt'. lines m (omega arith)) l stands after (fewer_turns b n (there (l ∷ ls) l.resume) after (omega arith) resumes)
-          (fewer_turns b n (there (l ∷ ls) close) (turn ways.line_end) (omega arith) closes) (fewer_turns b n (returns (next_of units) below) ways.leave (omega arith) leaves)).by n (omega arith))
+          (fewer_turns b n (there (l ∷ ls) close) (turn ways.line_end) (omega arith) closes) (fewer_leaves units b n below ways.leave (omega arith) leaves)).by n (omega arith))
 
-      module _ (b d : ℕ) (deep : b ≤ d) (lines : (m : ℕ) → m < b → DoLines image units m) (closes : (l : Loop) → Agree b (there (l ∷ ls) close) (turn ways.line_end)) (leaves : Agree b (returns (next_of units) below) ways.leave) where
+      module _ (b d : ℕ) (deep : b ≤ d) (lines : (m : ℕ) → m < b → DoLines image units m) (closes : (l : Loop) → Agree b (there (l ∷ ls) close) (turn ways.line_end)) (leaves : Leaves units b below ways.leave) where
         -- the first pass of a range, and what comes after the range
         begun : (d n : ℕ) (l : Loop) → Stands l → (after : Timed) → n < b → n < d → Agree b (there (l ∷ ls) l.resume) after
             → exec units n (in_frame (l ∷ ls)) l.body [] ≡ points_of image d (Pass here (passes_of l) steps after ways) n
         begun zero n l stands after lt lt' r = absurd (omega (arith, lt'))
         begun (suc d') n l stands after lt lt' r =
             (pass_follows d' n (omega arith) (λ m lt''. lines m (omega arith)) l stands after (fewer_turns b n (there (l ∷ ls) l.resume) after (omega arith) r)
-            (fewer_turns b n (there (l ∷ ls) close) (turn ways.line_end) (omega arith) (closes l)) (fewer_turns b n (returns (next_of units) below) ways.leave (omega arith) leaves)).by n (omega arith)
+            (fewer_turns b n (there (l ∷ ls) close) (turn ways.line_end) (omega arith) (closes l)) (fewer_leaves units b n below ways.leave (omega arith) leaves)).by n (omega arith)
 
         ranges_follow : (rs : List Range) (l : Loop) (pc : ℕ) → Stands l → HasAt code_here pc (ranges_code pc rs) → pc + length (ranges_code pc rs) ≡ close
             → Agree b (there (l ∷ ls) pc) (ranges (points_of image d) here l.name rs steps ways)
@@ -275,7 +283,7 @@ module _ (image : List Routine) (units : List unit.Unit) (alike : LeadAlike imag
             let after : Timed = ranges (points_of image d) here l.name rs steps ways in
             let later : Agree b (there (l' ∷ ls) behind) after =
             moved units u (in_frame (l' ∷ ls)) at b behind (pc + length cr) [] after (sym len) (ranges_follow rs l' (pc + length cr) (kept l l'.passes l'.resume stands) (has_back code_here pc cr _ has) whole) in
-            expr_follows units u c at b a pc [] _ (has_front code_here pc ca _ front) (λ v.
+            expr_follows units u c at b (points_of image d) here a pc [] _ (has_front code_here pc ca _ front) (λ v.
             one units u c at b (pc + length ca) (v ∷ []) i _ (has_back code_here pc ca _ front).0 (λ n lt.
             store_at n l.name v (λ m. exec units n (in_frame (l' ∷ ls)) l.body []) (points_of image d (Pass here PassesOnce steps after ways)) (begun d n l' (kept l l'.passes l'.resume stands) after lt (omega arith) later)))
         ranges_follow (Endless a a2 ∷ rs) l pc stands has e =
@@ -291,8 +299,8 @@ module _ (image : List Routine) (units : List unit.Unit) (alike : LeadAlike imag
             let len : pc + length cr ≡ last + 1 = omega (arith, length-append ca (c2 ++ i ∷ []), length-append c2 (i ∷ [])) in
             let whole : pc + length cr + length (ranges_code (pc + length cr) rs) ≡ close = omega (arith, e, length-append cr (ranges_code (pc + length cr) rs)) in
             let after : Timed = ranges (points_of image d) here l.name rs steps ways in
-            expr_follows units u c at b a pc [] _ (has_front code_here pc ca _ front) (λ v.
-            expr_follows units u c at b a2 second (v ∷ []) _ (has_front code_here second c2 _ back) (λ w.
+            expr_follows units u c at b (points_of image d) here a pc [] _ (has_front code_here pc ca _ front) (λ v.
+            expr_follows units u c at b (points_of image d) here a2 second (v ∷ []) _ (has_front code_here second c2 _ back) (λ w.
             one units u c at b last (w ∷ v ∷ []) i _ (has_back code_here second c2 _ back).0 (λ n lt.
             reading_two_at n v w _ _ (λ x step.
             let l' : Loop = with_passes l (By step None) (last + 1) in
@@ -316,9 +324,9 @@ module _ (image : List Routine) (units : List unit.Unit) (alike : LeadAlike imag
             let len : pc + length cr ≡ last + 1 = omega (arith, length-append ca (c2 ++ (c3 ++ i ∷ [])), length-append c2 (c3 ++ i ∷ []), length-append c3 (i ∷ [])) in
             let whole : pc + length cr + length (ranges_code (pc + length cr) rs) ≡ close = omega (arith, e, length-append cr (ranges_code (pc + length cr) rs)) in
             let after : Timed = ranges (points_of image d) here l.name rs steps ways in
-            expr_follows units u c at b a pc [] _ (has_front code_here pc ca _ front) (λ v.
-            expr_follows units u c at b a2 second (v ∷ []) _ (has_front code_here second c2 _ back) (λ w.
-            expr_follows units u c at b a3 third (w ∷ v ∷ []) _ (has_front code_here third c3 _ back') (λ z.
+            expr_follows units u c at b (points_of image d) here a pc [] _ (has_front code_here pc ca _ front) (λ v.
+            expr_follows units u c at b (points_of image d) here a2 second (v ∷ []) _ (has_front code_here second c2 _ back) (λ w.
+            expr_follows units u c at b (points_of image d) here a3 third (w ∷ v ∷ []) _ (has_front code_here third c3 _ back') (λ z.
             one units u c at b last (z ∷ w ∷ v ∷ []) i _ (has_back code_here third c3 _ back').0 (λ n lt.
             reading_two_at n v w _ _ (λ x step.
             given_at n (reading z) _ _ (λ end ok.
@@ -347,8 +355,8 @@ module _ (image : List Routine) (units : List unit.Unit) (alike : LeadAlike imag
 
     for_follows : (steps : List Step) → Follows steps → (b d : ℕ) → b ≤ d → ((m : ℕ) → m < b → DoLines image units m) → (loops : List Loop) (ways : Ways) (v : Variable) (rs : List Range) (pc : ℕ)
         → HasAt code_here pc (for_code pc v rs (λ p o. steps_code here p o steps)) → Agree b (there loops (pc + length (for_code pc v rs (λ p o. steps_code here p o steps)))) ways.line_end
-        → Agree b (returns (next_of units) below) ways.leave
-        → Agree b (there loops pc) (ev_local v (λ x. ranges (points_of image d) here x rs steps ways))
+        → Leaves units b below ways.leave
+        → Agree b (there loops pc) (ev_local (points_of image d) here v (λ x. ranges (points_of image d) here x rs steps ways))
     for_follows steps follows b d deep lines loops ways v rs pc has h leaves =
         let c = in_frame loops in
         let cs = subscripts_code pc v in
@@ -361,7 +369,7 @@ module _ (image : List Routine) (units : List unit.Unit) (alike : LeadAlike imag
         let has_body = has_back code_here first cr cb back.1 in
         let len : close + length cb ≡ pc + length (cs ++ i ∷ (cr ++ cb)) = omega (arith, length-append cs (i ∷ (cr ++ cb)), length-append cr cb) in
         let behind : Agree b (there loops (close + length cb)) ways.line_end = moved units u c at b _ _ [] ways.line_end len h in
-        local_follows units u c at b v i pc [] (λ x. ranges (points_of image d) here x rs steps ways) (has_front code_here pc cs _ has) back.0 (λ ss n lt many.
+        local_follows units u c at b (points_of image d) here v i pc [] (λ x. ranges (points_of image d) here x rs steps ways) (has_front code_here pc cs _ has) back.0 (λ ss n lt many.
         let opened : List (List ℕ) → Stack → Name → Timed = λ l st x m. exec units n (in_frame (record { name = x; passes = Once; body = close + 1; resume = first } ∷ loops)) first st in
         ap (λ l. given (name_of Local (reference v).word l) (λ x m. exec units n (in_frame (record { name = x; passes = Once; body = close + 1; resume = first } ∷ loops)) first (drop (reference v).count (onto ss []))) n) (operands_are ss [] _ many)
         ∙ ap (λ st. given (name_of Local (reference v).word ss) (λ x m. exec units n (in_frame (record { name = x; passes = Once; body = close + 1; resume = first } ∷ loops)) first st) n) (rest_below ss [] _ many)
@@ -372,7 +380,7 @@ module _ (image : List Routine) (units : List unit.Unit) (alike : LeadAlike imag
 
     forever_follows : (steps : List Step) → Follows steps → (b d : ℕ) → b ≤ d → ((m : ℕ) → m < b → DoLines image units m) → (loops : List Loop) (ways : Ways) (pc : ℕ)
         → HasAt code_here pc (instr.Forever ∷ body_code (pc + 1) (λ p o. steps_code here p o steps)) → Agree b (there loops (pc + length (instr.Forever ∷ body_code (pc + 1) (λ p o. steps_code here p o steps)))) ways.line_end
-        → Agree b (returns (next_of units) below) ways.leave
+        → Leaves units b below ways.leave
         → Agree b (there loops pc) (turn (points_of image d (Pass here PassesAlways steps (turn ways.line_end) ways)))
     forever_follows steps follows b d deep lines loops ways pc has h leaves =
         let c = in_frame loops in
@@ -389,36 +397,36 @@ module _ (image : List Routine) (units : List unit.Unit) (alike : LeadAlike imag
     -- a command behind its postcondition, and the rest of its line
     rest_follows : (command : Command) (c : Option Expr) (done : Timed) (steps : List Step) → Follows steps → (b d : ℕ) → b ≤ d → ((m : ℕ) → m < b → DoLines image units m) → (loops : List Loop) (out : Option ℕ) (ways : Ways) (pc : ℕ)
         → HasAt code_here pc (and_then here pc out c command (λ p o. steps_code here p o steps)) → Agree b (there loops (pc + length (and_then here pc out c command (λ p o. steps_code here p o steps)))) ways.line_end
-        → QuitsFor b loops out ways.for_quit → Agree b (returns (next_of units) below) ways.leave
+        → QuitsFor b loops out ways.for_quit → Leaves units b below ways.leave
         → ((p : ℕ) → HasAt code_here p (command_code here p out command) → Agree b (there loops (p + length (command_code here p out command))) (obey_all (points_of image d) here steps ways) → Agree b (there loops p) done)
-        → Agree b (there loops pc) (when c done (obey_all (points_of image d) here steps ways))
+        → Agree b (there loops pc) (when (points_of image d) here c done (obey_all (points_of image d) here steps ways))
     rest_follows command c done steps f b d deep lines loops out ways pc has h quits leaves made =
         let cc = code_if pc c (λ p. command_code here p out command) in
         let cs = steps_code here (pc + length cc) out steps in
-        when_follows units u (in_frame loops) at b c (λ p. command_code here p out command) done (obey_all (points_of image d) here steps ways) pc []
+        when_follows units u (in_frame loops) at b (points_of image d) here c (λ p. command_code here p out command) done (obey_all (points_of image d) here steps ways) pc []
         (has_front code_here pc cc cs has) made
         (f b d deep lines loops out ways (pc + length cc) (has_back code_here pc cc cs has) (moved units u (in_frame loops) at b _ _ [] ways.line_end (seam' pc cc cs) h) quits leaves)
 
     -- a command with its postcondition, and the rest of its line
     step_follows : (command : Command) (c : Option Expr) (steps : List Step) → Follows steps → (b d : ℕ) → b ≤ d → ((m : ℕ) → m < b → DoLines image units m) → (loops : List Loop) (out : Option ℕ) (ways : Ways) (pc : ℕ)
         → HasAt code_here pc (obey_code here pc out command c (λ p o. steps_code here p o steps)) → Agree b (there loops (pc + length (obey_code here pc out command c (λ p o. steps_code here p o steps)))) ways.line_end
-        → QuitsFor b loops out ways.for_quit → Agree b (returns (next_of units) below) ways.leave
+        → QuitsFor b loops out ways.for_quit → Leaves units b below ways.leave
         → Agree b (there loops pc) (obey (points_of image d) here command c steps ways (obey_all (points_of image d) here steps ways))
     step_follows (Set list) c steps f b d deep lines loops out ways pc has h quits leaves =
-        rest_follows (Set list) c (assign_all list (obey_all (points_of image d) here steps ways)) steps f b d deep lines loops out ways pc has h quits leaves
-        (λ p has' after. assigns_follow units u (in_frame loops) at b list p [] _ has' after)
+        rest_follows (Set list) c (assign_all (points_of image d) here list (obey_all (points_of image d) here steps ways)) steps f b d deep lines loops out ways pc has h quits leaves
+        (λ p has' after. assigns_follow units u (in_frame loops) at b (points_of image d) here list p [] _ has' after)
     step_follows (Write list) c steps f b d deep lines loops out ways pc has h quits leaves =
-        rest_follows (Write list) c (output_all list (obey_all (points_of image d) here steps ways)) steps f b d deep lines loops out ways pc has h quits leaves
-        (λ p has' after. outputs_follow units u (in_frame loops) at b list p [] _ has' after)
+        rest_follows (Write list) c (output_all (points_of image d) here list (obey_all (points_of image d) here steps ways)) steps f b d deep lines loops out ways pc has h quits leaves
+        (λ p has' after. outputs_follow units u (in_frame loops) at b (points_of image d) here list p [] _ has' after)
     step_follows Halt c steps f b d deep lines loops out ways pc has h quits leaves =
         rest_follows Halt c (turn (end None)) steps f b d deep lines loops out ways pc has h quits leaves
         (λ p has' after. one units u (in_frame loops) at b p [] instr.Halt _ has'.0 (λ n lt. refl))
     step_follows (Kill list) c steps f b d deep lines loops out ways pc has h quits leaves =
-        rest_follows (Kill list) c (kill_all list (obey_all (points_of image d) here steps ways)) steps f b d deep lines loops out ways pc has h quits leaves
-        (λ p has' after. kill_all_follows units u (in_frame loops) at b list p [] _ has' after)
+        rest_follows (Kill list) c (kill_all (points_of image d) here list (obey_all (points_of image d) here steps ways)) steps f b d deep lines loops out ways pc has h quits leaves
+        (λ p has' after. kill_all_follows units u (in_frame loops) at b (points_of image d) here list p [] _ has' after)
     step_follows (Merge list) c steps f b d deep lines loops out ways pc has h quits leaves =
-        rest_follows (Merge list) c (merge_all list (obey_all (points_of image d) here steps ways)) steps f b d deep lines loops out ways pc has h quits leaves
-        (λ p has' after. merges_follow units u (in_frame loops) at b list p [] _ has' after)
+        rest_follows (Merge list) c (merge_all (points_of image d) here list (obey_all (points_of image d) here steps ways)) steps f b d deep lines loops out ways pc has h quits leaves
+        (λ p has' after. merges_follow units u (in_frame loops) at b (points_of image d) here list p [] _ has' after)
     step_follows (If es) c steps f b d deep lines loops out ways pc has h quits leaves =
         if_follows b d deep lines loops es (λ p. steps_code here p out steps) ways.line_end (obey_all (points_of image d) here steps ways) pc has
         (λ p has' after. f b d deep lines loops out ways p has' after quits leaves) h
@@ -434,11 +442,11 @@ module _ (image : List Routine) (units : List unit.Unit) (alike : LeadAlike imag
         rest_follows (Goto list) c (jumps (points_of image d) here list ways.leave (obey_all (points_of image d) here steps ways)) steps f b d deep lines loops out ways pc has h quits leaves
         (λ p has' after. jumps_follow b d deep lines loops list p ways.leave _ has' leaves after)
     step_follows Quit c steps f b d deep lines loops out ways pc has h quits leaves =
-        rest_follows Quit c (turn (elim ways.for_quit [ None ↦ ways.leave | Some t ↦ t ])) steps f b d deep lines loops out ways pc has h quits leaves
+        rest_follows Quit c (turn (elim ways.for_quit [ None ↦ quit_frame (ways.leave []) | Some t ↦ t ])) steps f b d deep lines loops out ways pc has h quits leaves
         (λ p has' after. quit_follows b d deep lines loops out ways.for_quit ways.leave p has' quits leaves)
     step_follows (New list) c steps f b d deep lines loops out ways pc has h quits leaves =
         rest_follows (New list) c (new_all list (obey_all (points_of image d) here steps ways)) steps f b d deep lines loops out ways pc has h quits leaves
-        (λ p has' after. new_all_follows units u (in_frame loops) at b list p [] _ has' after)
+        (λ p has' after. new_all_follows units u (in_frame loops) at b (points_of image d) here list p [] _ has' after)
 
     pub steps_follow : (steps : List Step) → Follows steps
     steps_follow [] b d deep lines loops out ways pc has h quits leaves = moved units u (in_frame loops) at b pc (pc + 0) [] ways.line_end (omega arith) h

@@ -10,6 +10,8 @@ use Rattle.mj_ast.specs.Syntax.{Expr, Chain, Tails, Done, Then, Operand, Literal
 use Rattle.mj_semantics.specs.Functions.{call_value, optional}
 use Rattle.mj_semantics.specs.State.{Only, AllBut, spare, newed, special_value}
 use Rattle.mj_semantics.specs.Outcome.{Timed, turn, given, fault}
+use Rattle.mj_semantics.specs.Lines.{Here}
+use Rattle.mj_semantics.specs.Points.{Points}
 use Rattle.mj_semantics.specs.Evaluation.{ev, ev_tails, ev_operand, ev_choices, ev_name, ev_all, name_of, read, when, ev_named, ev_local, ev_actuals, named_for, about}
 use Rattle.mj_ast.specs.declared.function.NameFunction.{NameFunction}
 use Rattle.mj_ast.specs.declared.expr.Scope.TheVariants.{Local}
@@ -143,406 +145,408 @@ module _ (units : List unit.Unit) (u : unit.Unit) (ctx : Context) (there : slice
     seam : (pc : ℕ) (a c : List Instr) → pc + length a + length c ≡ pc + length (a ++ c)
     seam pc a c = omega (arith, length-append a c)
 
-    mutual
-      pub expr_follows : (e : Expr) (pc : ℕ) (stack : Stack) (rest : List ℕ → Timed) → HasAt code pc (expr_code pc e) → ((v : List ℕ) → Agree b (from (pc + length (expr_code pc e)) (v ∷ stack)) (rest v)) → Agree b (from pc stack) (ev e rest)
-      expr_follows (Chain x ts) pc stack rest has k =
-          let cx = operand_code pc x in
-          operand_follows x pc stack _ (has_front code pc cx _ has) (λ v.
-          tails_follow ts (pc + length cx) v stack rest (has_back code pc cx _ has) (λ w.
-          moved _ _ (w ∷ stack) (rest w) (seam pc cx (tails_code (pc + length cx) ts)) (k w)))
+    -- what stands in a line, whatever points lead to
+    module _ (points : Points) (here : Here) where
+      mutual
+        pub expr_follows : (e : Expr) (pc : ℕ) (stack : Stack) (rest : List ℕ → Timed) → HasAt code pc (expr_code pc e) → ((v : List ℕ) → Agree b (from (pc + length (expr_code pc e)) (v ∷ stack)) (rest v)) → Agree b (from pc stack) (ev points here e rest)
+        expr_follows (Chain x ts) pc stack rest has k =
+            let cx = operand_code pc x in
+            operand_follows x pc stack _ (has_front code pc cx _ has) (λ v.
+            tails_follow ts (pc + length cx) v stack rest (has_back code pc cx _ has) (λ w.
+            moved _ _ (w ∷ stack) (rest w) (seam pc cx (tails_code (pc + length cx) ts)) (k w)))
 
-      tails_follow : (ts : Tails) (pc : ℕ) (v : List ℕ) (stack : Stack) (rest : List ℕ → Timed) → HasAt code pc (tails_code pc ts) → ((w : List ℕ) → Agree b (from (pc + length (tails_code pc ts)) (w ∷ stack)) (rest w)) → Agree b (from pc (v ∷ stack)) (ev_tails v ts rest)
-      tails_follow Done pc v stack rest has k = moved pc (pc + 0) (v ∷ stack) (rest v) (omega arith) (k v)
-      tails_follow (Then op x ts) pc v stack rest has k =
-          let cx = operand_code pc x in
-          let i = instr.Binary op in
-          let ct = tails_code (pc + length cx + 1) ts in
-          let back = has_back code pc cx (i ∷ ct) has in
-          let len : pc + length cx + 1 + length ct ≡ pc + length (cx ++ i ∷ ct) = omega (arith, length-append cx (i ∷ ct)) in
-          operand_follows x pc (v ∷ stack) _ (has_front code pc cx _ has) (λ w.
-          one (pc + length cx) (w ∷ v ∷ stack) i _ back.0 (λ n lt.
-          given_at n (binary_value op v w) _ _ (λ r e.
-          (tails_follow ts (pc + length cx + 1) r stack rest back.1 (λ q. moved _ _ (q ∷ stack) (rest q) len (k q))).by n (omega arith))))
+        tails_follow : (ts : Tails) (pc : ℕ) (v : List ℕ) (stack : Stack) (rest : List ℕ → Timed) → HasAt code pc (tails_code pc ts) → ((w : List ℕ) → Agree b (from (pc + length (tails_code pc ts)) (w ∷ stack)) (rest w)) → Agree b (from pc (v ∷ stack)) (ev_tails points here v ts rest)
+        tails_follow Done pc v stack rest has k = moved pc (pc + 0) (v ∷ stack) (rest v) (omega arith) (k v)
+        tails_follow (Then op x ts) pc v stack rest has k =
+            let cx = operand_code pc x in
+            let i = instr.Binary op in
+            let ct = tails_code (pc + length cx + 1) ts in
+            let back = has_back code pc cx (i ∷ ct) has in
+            let len : pc + length cx + 1 + length ct ≡ pc + length (cx ++ i ∷ ct) = omega (arith, length-append cx (i ∷ ct)) in
+            operand_follows x pc (v ∷ stack) _ (has_front code pc cx _ has) (λ w.
+            one (pc + length cx) (w ∷ v ∷ stack) i _ back.0 (λ n lt.
+            given_at n (binary_value op v w) _ _ (λ r e.
+            (tails_follow ts (pc + length cx + 1) r stack rest back.1 (λ q. moved _ _ (q ∷ stack) (rest q) len (k q))).by n (omega arith))))
 
-      operand_follows : (x : Operand) (pc : ℕ) (stack : Stack) (rest : List ℕ → Timed) → HasAt code pc (operand_code pc x) → ((v : List ℕ) → Agree b (from (pc + length (operand_code pc x)) (v ∷ stack)) (rest v)) → Agree b (from pc stack) (ev_operand x rest)
-      operand_follows (Literal t) pc stack rest has k = one pc stack (instr.Push t) _ has.0 (λ n lt. (k t).by n (omega arith))
-      operand_follows (Value v) pc stack rest has k =
-          let cs = subscripts_code pc v in
-          let i = instr.Load (reference v) in
-          name_follows v i pc stack _ (has_front code pc cs _ has) (has_back code pc cs _ has).0 (λ ss n lt many.
-          ap (λ l. given (name_of (reference v).scope (reference v).word l) (λ x. read x (λ w m. exec units n ctx (pc + length cs + 1) (w ∷ drop (reference v).count (onto ss stack)))) n) (operands_are ss stack _ many)
-          ∙ ap (λ st. given (name_of (reference v).scope (reference v).word ss) (λ x. read x (λ w m. exec units n ctx (pc + length cs + 1) (w ∷ st))) n) (rest_below ss stack _ many)
-          ∙ given_at n (name_of (reference v).scope (reference v).word ss) _ _ (λ x e.
-          read_at n x _ _ (λ w. (moved _ _ (w ∷ stack) (rest w) (end_of pc cs i) (k w)).by n (omega arith))))
-      operand_follows (Intrinsic v) pc stack rest has k =
-          one pc stack (instr.Special v) _ has.0 (λ n lt.
-          look_at n (λ s. λ m. exec units n ctx (pc + 1) (special_value v s ∷ stack)) (λ s. rest (special_value v s)) (λ s. (k (special_value v s)).by n (omega arith)))
-      operand_follows (Unary op x) pc stack rest has k =
-          let cx = operand_code pc x in
-          let i = instr.Unary op in
-          operand_follows x pc stack _ (has_front code pc cx _ has) (λ v.
-          one (pc + length cx) (v ∷ stack) i _ (has_back code pc cx _ has).0 (λ n lt.
-          given_at n (unary_value op v) _ _ (λ r e. (moved _ _ (r ∷ stack) (rest r) (end_of pc cx i) (k r)).by n (omega arith))))
-      operand_follows (Group e) pc stack rest has k = expr_follows e pc stack rest has k
-      operand_follows (Call f es) pc stack rest has k =
-          let ce = exprs_code pc es in
-          let i = instr.Call f (count es) in
-          all_follow es pc stack _ (has_front code pc ce _ has) (λ vs many.
-          one (pc + length ce) (onto vs stack) i _ (has_back code pc ce _ has).0 (λ n lt.
-          ap (λ l. given (call_value f l) (λ w m. exec units n ctx (pc + length ce + 1) (w ∷ drop (count es) (onto vs stack))) n) (operands_are vs stack _ many)
-          ∙ ap (λ st. given (call_value f vs) (λ w m. exec units n ctx (pc + length ce + 1) (w ∷ st)) n) (rest_below vs stack _ many)
-          ∙ given_at n (call_value f vs) _ _ (λ r e. (moved _ _ (r ∷ stack) (rest r) (end_of pc ce i) (k r)).by n (omega arith))))
-      operand_follows (About f v es) pc stack rest has k =
+        operand_follows : (x : Operand) (pc : ℕ) (stack : Stack) (rest : List ℕ → Timed) → HasAt code pc (operand_code pc x) → ((v : List ℕ) → Agree b (from (pc + length (operand_code pc x)) (v ∷ stack)) (rest v)) → Agree b (from pc stack) (ev_operand points here x rest)
+        operand_follows (Literal t) pc stack rest has k = one pc stack (instr.Push t) _ has.0 (λ n lt. (k t).by n (omega arith))
+        operand_follows (Value v) pc stack rest has k =
+            let cs = subscripts_code pc v in
+            let i = instr.Load (reference v) in
+            name_follows v i pc stack _ (has_front code pc cs _ has) (has_back code pc cs _ has).0 (λ ss n lt many.
+            ap (λ l. given (name_of (reference v).scope (reference v).word l) (λ x. read x (λ w m. exec units n ctx (pc + length cs + 1) (w ∷ drop (reference v).count (onto ss stack)))) n) (operands_are ss stack _ many)
+            ∙ ap (λ st. given (name_of (reference v).scope (reference v).word ss) (λ x. read x (λ w m. exec units n ctx (pc + length cs + 1) (w ∷ st))) n) (rest_below ss stack _ many)
+            ∙ given_at n (name_of (reference v).scope (reference v).word ss) _ _ (λ x e.
+            read_at n x _ _ (λ w. (moved _ _ (w ∷ stack) (rest w) (end_of pc cs i) (k w)).by n (omega arith))))
+        operand_follows (Intrinsic v) pc stack rest has k =
+            one pc stack (instr.Special v) _ has.0 (λ n lt.
+            look_at n (λ s. λ m. exec units n ctx (pc + 1) (special_value v s ∷ stack)) (λ s. rest (special_value v s)) (λ s. (k (special_value v s)).by n (omega arith)))
+        operand_follows (Unary op x) pc stack rest has k =
+            let cx = operand_code pc x in
+            let i = instr.Unary op in
+            operand_follows x pc stack _ (has_front code pc cx _ has) (λ v.
+            one (pc + length cx) (v ∷ stack) i _ (has_back code pc cx _ has).0 (λ n lt.
+            given_at n (unary_value op v) _ _ (λ r e. (moved _ _ (r ∷ stack) (rest r) (end_of pc cx i) (k r)).by n (omega arith))))
+        operand_follows (Group e) pc stack rest has k = expr_follows e pc stack rest has k
+        operand_follows (Call f es) pc stack rest has k =
+            let ce = exprs_code pc es in
+            let i = instr.Call f (count es) in
+            all_follow es pc stack _ (has_front code pc ce _ has) (λ vs many.
+            one (pc + length ce) (onto vs stack) i _ (has_back code pc ce _ has).0 (λ n lt.
+            ap (λ l. given (call_value f l) (λ w m. exec units n ctx (pc + length ce + 1) (w ∷ drop (count es) (onto vs stack))) n) (operands_are vs stack _ many)
+            ∙ ap (λ st. given (call_value f vs) (λ w m. exec units n ctx (pc + length ce + 1) (w ∷ st)) n) (rest_below vs stack _ many)
+            ∙ given_at n (call_value f vs) _ _ (λ r e. (moved _ _ (r ∷ stack) (rest r) (end_of pc ce i) (k r)).by n (omega arith))))
+        operand_follows (About f v es) pc stack rest has k =
+            let r = reference v in
+            let total = r.count + count es in
+            let cs = subscripts_code pc v in
+            let pv = pc + length cs + 1 in
+            let ce = exprs_code pv es in
+            let i = instr.About f r total in
+            let back = has_back code pc cs (instr.Named f r ∷ (ce ++ i ∷ [])) has in
+            let len : pv + length ce + 1 ≡ pc + length (cs ++ instr.Named f r ∷ (ce ++ i ∷ [])) = omega (arith, length-append cs (instr.Named f r ∷ (ce ++ i ∷ [])), length-append ce (i ∷ [])) in
+            let few : total - r.count ≡ count es = omega arith in
+            named_follows f v (instr.Named f r) pc stack _ (has_front code pc cs _ has) back.0 (λ ss n lt many.
+            ap (λ l. given (named_for f r.scope r.word l) (λ x m. exec units n ctx pv (onto ss stack)) n) (operands_are ss stack _ many)
+            ∙ given_at n (named_for f r.scope r.word ss) _ _ (λ x e.
+            (all_follow es pv (onto ss stack) (λ vs. turn (about f x (optional 0 vs) rest)) (has_front code pv ce _ back.1) (λ vs some.
+            let st = onto vs (onto ss stack) in
+            one (pv + length ce) st i _ (has_back code pv ce _ back.1).0 (λ m lt'.
+            ap (λ j. given (named_for f r.scope r.word (operands r.count (drop j st))) (λ y. about f y (optional 0 (operands j st)) (λ w q. exec units m ctx (pv + length ce + 1) (w ∷ drop total st))) m) few
+            ∙ ap (λ l. given (named_for f r.scope r.word (operands r.count l)) (λ y. about f y (optional 0 (operands (count es) st)) (λ w q. exec units m ctx (pv + length ce + 1) (w ∷ drop total st))) m) (rest_below vs (onto ss stack) _ some)
+            ∙ ap (λ l. given (named_for f r.scope r.word l) (λ y. about f y (optional 0 (operands (count es) st)) (λ w q. exec units m ctx (pv + length ce + 1) (w ∷ drop total st))) m) (operands_are ss stack _ many)
+            ∙ ap (λ l. given (named_for f r.scope r.word ss) (λ y. about f y (optional 0 l) (λ w q. exec units m ctx (pv + length ce + 1) (w ∷ drop total st))) m) (operands_are vs (onto ss stack) _ some)
+            ∙ ap (λ l. given (named_for f r.scope r.word ss) (λ y. about f y (optional 0 vs) (λ w q. exec units m ctx (pv + length ce + 1) (w ∷ l))) m) (both_below ss vs stack total (omega (arith, many, some)))
+            ∙ ap (λ o. given o (λ y. about f y (optional 0 vs) (λ w q. exec units m ctx (pv + length ce + 1) (w ∷ stack))) m) e
+            ∙ about_at m f x (optional 0 vs) (λ w q. exec units m ctx (pv + length ce + 1) (w ∷ stack)) rest (λ w. (moved _ _ (w ∷ stack) (rest w) len (k w)).by m (omega arith))))).by n (omega arith)))
+        operand_follows (Select choices) pc stack rest has k = choices_follow choices pc stack rest has k
+
+        choices_follow : (x : Choices) (pc : ℕ) (stack : Stack) (rest : List ℕ → Timed) → HasAt code pc (choices_code pc x) → ((v : List ℕ) → Agree b (from (pc + length (choices_code pc x)) (v ∷ stack)) (rest v)) → Agree b (from pc stack) (ev_choices points here x rest)
+        choices_follow (Last c e) pc stack rest has k =
+            let cc' = expr_code pc c in
+            let value = pc + length cc' + 1 in
+            let ce = expr_code value e in
+            let others = value + length ce + 1 in
+            let j = instr.Jump (others + 1) in
+            let i = instr.Unless others in
+            let back = has_back code pc cc' (i ∷ (ce ++ j ∷ instr.NoneTrue ∷ [])) has in
+            let back' = has_back code value ce (j ∷ instr.NoneTrue ∷ []) back.1 in
+            let end : others + 1 ≡ pc + length (cc' ++ i ∷ (ce ++ j ∷ instr.NoneTrue ∷ [])) = omega (arith, length-append cc' (i ∷ (ce ++ j ∷ instr.NoneTrue ∷ [])), length-append ce (j ∷ instr.NoneTrue ∷ [])) in
+            expr_follows c pc stack _ (has_front code pc cc' _ has) (λ v.
+            one (pc + length cc') (v ∷ stack) i _ back.0 (λ n lt.
+            given_at n (truth_value v) _ _ (λ t q.
+            if_at n t (λ m. exec units n ctx value stack) _ (λ m. exec units n ctx others stack) _
+            ((expr_follows e value stack (λ w. turn (rest w)) (has_front code value ce _ back.1) (λ w.
+            one (value + length ce) (w ∷ stack) j (rest w) back'.0 (λ m lt'. (moved _ _ (w ∷ stack) (rest w) end (k w)).by m (omega arith)))).by n (omega arith))
+            ((one others stack instr.NoneTrue (fault NoTrue) back'.1.0 (λ m lt'. refl)).by n (omega arith)))))
+        choices_follow (Before c e x) pc stack rest has k =
+            let cc' = expr_code pc c in
+            let value = pc + length cc' + 1 in
+            let ce = expr_code value e in
+            let others = value + length ce + 1 in
+            let co = choices_code others x in
+            let j = instr.Jump (others + length co) in
+            let i = instr.Unless others in
+            let back = has_back code pc cc' (i ∷ (ce ++ j ∷ co)) has in
+            let back' = has_back code value ce (j ∷ co) back.1 in
+            let end : others + length co ≡ pc + length (cc' ++ i ∷ (ce ++ j ∷ co)) = omega (arith, length-append cc' (i ∷ (ce ++ j ∷ co)), length-append ce (j ∷ co)) in
+            expr_follows c pc stack _ (has_front code pc cc' _ has) (λ v.
+            one (pc + length cc') (v ∷ stack) i _ back.0 (λ n lt.
+            given_at n (truth_value v) _ _ (λ t q.
+            if_at n t (λ m. exec units n ctx value stack) _ (λ m. exec units n ctx others stack) _
+            ((expr_follows e value stack (λ w. turn (rest w)) (has_front code value ce _ back.1) (λ w.
+            one (value + length ce) (w ∷ stack) j (rest w) back'.0 (λ m lt'. (moved _ _ (w ∷ stack) (rest w) end (k w)).by m (omega arith)))).by n (omega arith))
+            ((choices_follow x others stack rest back'.1 (λ w. moved _ _ (w ∷ stack) (rest w) end (k w))).by n (omega arith)))))
+
+        -- a variable's subscripts, and an instruction that takes its name
+        name_follows : (v : Variable) (i : Instr) (pc : ℕ) (stack : Stack) (rest : Name → Timed) → HasAt code pc (subscripts_code pc v) → slice_get code (pc + length (subscripts_code pc v)) ≡ Some i → ((ss : List (List ℕ)) (n : ℕ) → n < b → length ss ≡ (reference v).count → acts i (pc + length (subscripts_code pc v)) (onto ss stack) n n ≡ given (name_of (reference v).scope (reference v).word ss) rest n) → Agree b (from pc stack) (ev_name points here v rest)
+        name_follows (Var scope word es) i pc stack rest has at k =
+            all_follow es pc stack _ has (λ ss many. one _ (onto ss stack) i _ at (λ n lt. k ss n lt many))
+
+        -- and one that takes the name for a function
+        named_follows : (f : NameFunction) (v : Variable) (i : Instr) (pc : ℕ) (stack : Stack) (rest : Name → Timed) → HasAt code pc (subscripts_code pc v) → slice_get code (pc + length (subscripts_code pc v)) ≡ Some i → ((ss : List (List ℕ)) (n : ℕ) → n < b → length ss ≡ (reference v).count → acts i (pc + length (subscripts_code pc v)) (onto ss stack) n n ≡ given (named_for f (reference v).scope (reference v).word ss) rest n) → Agree b (from pc stack) (ev_named points here f v rest)
+        named_follows f (Var scope word es) i pc stack rest has at k =
+            all_follow es pc stack _ has (λ ss many. one _ (onto ss stack) i _ at (λ n lt. k ss n lt many))
+
+        all_follow : (es : Exprs) (pc : ℕ) (stack : Stack) (rest : List (List ℕ) → Timed) → HasAt code pc (exprs_code pc es) → ((vs : List (List ℕ)) → length vs ≡ count es → Agree b (from (pc + length (exprs_code pc es)) (onto vs stack)) (rest vs)) → Agree b (from pc stack) (ev_all points here es rest)
+        all_follow No pc stack rest has k = moved pc (pc + 0) stack (rest []) (omega arith) (k [] refl)
+        all_follow (More e es) pc stack rest has k =
+            let ce = expr_code pc e in
+            let cr = exprs_code (pc + length ce) es in
+            expr_follows e pc stack _ (has_front code pc ce _ has) (λ v.
+            all_follow es (pc + length ce) (v ∷ stack) _ (has_back code pc ce _ has) (λ vs many.
+            moved _ _ (onto vs (v ∷ stack)) (rest (v ∷ vs)) (seam pc ce cr) (k (v ∷ vs) (omega (arith, many)))))
+
+      -- a name that is looked at, and then what comes behind it
+      checked : (v : Variable) (pc : ℕ) (stack : Stack) (rest : Name → Timed) → HasAt code pc (subscripts_code pc v) → slice_get code (pc + length (subscripts_code pc v)) ≡ Some (instr.Check (reference v))
+          → ((x : Name) (ss : List (List ℕ)) → length ss ≡ (reference v).count → name_of (reference v).scope (reference v).word ss ≡ Ok x → Agree b (from (pc + length (subscripts_code pc v) + 1) (onto ss stack)) (rest x))
+          → Agree b (from pc stack) (ev_name points here v rest)
+      checked v pc stack rest has at k =
           let r = reference v in
-          let total = r.count + count es in
+          let behind = pc + length (subscripts_code pc v) + 1 in
+          name_follows v (instr.Check r) pc stack rest has at (λ ss n lt many.
+          ap (λ l. given (name_of r.scope r.word l) (λ x m. exec units n ctx behind (onto ss stack)) n) (operands_are ss stack _ many)
+          ∙ given_at n (name_of r.scope r.word ss) (λ x m. exec units n ctx behind (onto ss stack)) rest (λ x e. (k x ss many e).by n (omega arith)))
+
+      destination_follows : (d : Destination) (pc : ℕ) (stack : Stack) (rest : Aim → Timed) → HasAt code pc (destination_code pc d)
+          → ((t : Aim) (st : Stack) → Lies d t st stack → Agree b (from (pc + length (destination_code pc d)) st) (rest t))
+          → Agree b (from pc stack) (ev_destination points here d rest)
+      destination_follows (Plain v) pc stack rest has k =
           let cs = subscripts_code pc v in
-          let pv = pc + length cs + 1 in
-          let ce = exprs_code pv es in
-          let i = instr.About f r total in
-          let back = has_back code pc cs (instr.Named f r ∷ (ce ++ i ∷ [])) has in
-          let len : pv + length ce + 1 ≡ pc + length (cs ++ instr.Named f r ∷ (ce ++ i ∷ [])) = omega (arith, length-append cs (instr.Named f r ∷ (ce ++ i ∷ [])), length-append ce (i ∷ [])) in
-          let few : total - r.count ≡ count es = omega arith in
-          named_follows f v (instr.Named f r) pc stack _ (has_front code pc cs _ has) back.0 (λ ss n lt many.
-          ap (λ l. given (named_for f r.scope r.word l) (λ x m. exec units n ctx pv (onto ss stack)) n) (operands_are ss stack _ many)
-          ∙ given_at n (named_for f r.scope r.word ss) _ _ (λ x e.
-          (all_follow es pv (onto ss stack) (λ vs. turn (about f x (optional 0 vs) rest)) (has_front code pv ce _ back.1) (λ vs some.
-          let st = onto vs (onto ss stack) in
-          one (pv + length ce) st i _ (has_back code pv ce _ back.1).0 (λ m lt'.
-          ap (λ j. given (named_for f r.scope r.word (operands r.count (drop j st))) (λ y. about f y (optional 0 (operands j st)) (λ w q. exec units m ctx (pv + length ce + 1) (w ∷ drop total st))) m) few
-          ∙ ap (λ l. given (named_for f r.scope r.word (operands r.count l)) (λ y. about f y (optional 0 (operands (count es) st)) (λ w q. exec units m ctx (pv + length ce + 1) (w ∷ drop total st))) m) (rest_below vs (onto ss stack) _ some)
-          ∙ ap (λ l. given (named_for f r.scope r.word l) (λ y. about f y (optional 0 (operands (count es) st)) (λ w q. exec units m ctx (pv + length ce + 1) (w ∷ drop total st))) m) (operands_are ss stack _ many)
-          ∙ ap (λ l. given (named_for f r.scope r.word ss) (λ y. about f y (optional 0 l) (λ w q. exec units m ctx (pv + length ce + 1) (w ∷ drop total st))) m) (operands_are vs (onto ss stack) _ some)
-          ∙ ap (λ l. given (named_for f r.scope r.word ss) (λ y. about f y (optional 0 vs) (λ w q. exec units m ctx (pv + length ce + 1) (w ∷ l))) m) (both_below ss vs stack total (omega (arith, many, some)))
-          ∙ ap (λ o. given o (λ y. about f y (optional 0 vs) (λ w q. exec units m ctx (pv + length ce + 1) (w ∷ stack))) m) e
-          ∙ about_at m f x (optional 0 vs) (λ w q. exec units m ctx (pv + length ce + 1) (w ∷ stack)) rest (λ w. (moved _ _ (w ∷ stack) (rest w) len (k w)).by m (omega arith))))).by n (omega arith)))
-      operand_follows (Select choices) pc stack rest has k = choices_follow choices pc stack rest has k
+          let i = instr.Check (reference v) in
+          checked v pc stack _ (has_front code pc cs _ has) (has_back code pc cs _ has).0 (λ x ss many e.
+          moved _ _ (onto ss stack) (rest (Whole x)) (end_of pc cs i) (k (Whole x) (onto ss stack) (ss, many, e, refl)))
+      destination_follows (Pieces v es) pc stack rest has k =
+          let cs = subscripts_code pc v in
+          let i = instr.Check (reference v) in
+          let ce = exprs_code (pc + length cs + 1) es in
+          let len : pc + length cs + 1 + length ce ≡ pc + length (cs ++ i ∷ ce) = omega (arith, length-append cs (i ∷ ce)) in
+          let back = has_back code pc cs (i ∷ ce) has in
+          checked v pc stack _ (has_front code pc cs _ has) back.0 (λ x ss many e.
+          all_follow es (pc + length cs + 1) (onto ss stack) _ back.1 (λ ts many'.
+          moved _ _ (onto ts (onto ss stack)) (rest (Part x ts)) len (k (Part x ts) (onto ts (onto ss stack)) (ss, many, e, many', refl))))
 
-      choices_follow : (x : Choices) (pc : ℕ) (stack : Stack) (rest : List ℕ → Timed) → HasAt code pc (choices_code pc x) → ((v : List ℕ) → Agree b (from (pc + length (choices_code pc x)) (v ∷ stack)) (rest v)) → Agree b (from pc stack) (ev_choices x rest)
-      choices_follow (Last c e) pc stack rest has k =
-          let cc' = expr_code pc c in
-          let value = pc + length cc' + 1 in
-          let ce = expr_code value e in
-          let others = value + length ce + 1 in
-          let j = instr.Jump (others + 1) in
-          let i = instr.Unless others in
-          let back = has_back code pc cc' (i ∷ (ce ++ j ∷ instr.NoneTrue ∷ [])) has in
-          let back' = has_back code value ce (j ∷ instr.NoneTrue ∷ []) back.1 in
-          let end : others + 1 ≡ pc + length (cc' ++ i ∷ (ce ++ j ∷ instr.NoneTrue ∷ [])) = omega (arith, length-append cc' (i ∷ (ce ++ j ∷ instr.NoneTrue ∷ [])), length-append ce (j ∷ instr.NoneTrue ∷ [])) in
-          expr_follows c pc stack _ (has_front code pc cc' _ has) (λ v.
-          one (pc + length cc') (v ∷ stack) i _ back.0 (λ n lt.
-          given_at n (truth_value v) _ _ (λ t q.
-          if_at n t (λ m. exec units n ctx value stack) _ (λ m. exec units n ctx others stack) _
-          ((expr_follows e value stack (λ w. turn (rest w)) (has_front code value ce _ back.1) (λ w.
-          one (value + length ce) (w ∷ stack) j (rest w) back'.0 (λ m lt'. (moved _ _ (w ∷ stack) (rest w) end (k w)).by m (omega arith)))).by n (omega arith))
-          ((one others stack instr.NoneTrue (fault NoTrue) back'.1.0 (λ m lt'. refl)).by n (omega arith)))))
-      choices_follow (Before c e x) pc stack rest has k =
-          let cc' = expr_code pc c in
-          let value = pc + length cc' + 1 in
-          let ce = expr_code value e in
-          let others = value + length ce + 1 in
-          let co = choices_code others x in
-          let j = instr.Jump (others + length co) in
-          let i = instr.Unless others in
-          let back = has_back code pc cc' (i ∷ (ce ++ j ∷ co)) has in
-          let back' = has_back code value ce (j ∷ co) back.1 in
-          let end : others + length co ≡ pc + length (cc' ++ i ∷ (ce ++ j ∷ co)) = omega (arith, length-append cc' (i ∷ (ce ++ j ∷ co)), length-append ce (j ∷ co)) in
-          expr_follows c pc stack _ (has_front code pc cc' _ has) (λ v.
-          one (pc + length cc') (v ∷ stack) i _ back.0 (λ n lt.
-          given_at n (truth_value v) _ _ (λ t q.
-          if_at n t (λ m. exec units n ctx value stack) _ (λ m. exec units n ctx others stack) _
-          ((expr_follows e value stack (λ w. turn (rest w)) (has_front code value ce _ back.1) (λ w.
-          one (value + length ce) (w ∷ stack) j (rest w) back'.0 (λ m lt'. (moved _ _ (w ∷ stack) (rest w) end (k w)).by m (omega arith)))).by n (omega arith))
-          ((choices_follow x others stack rest back'.1 (λ w. moved _ _ (w ∷ stack) (rest w) end (k w))).by n (omega arith)))))
+      destinations_follow : (list : List Destination) (pc : ℕ) (stack : Stack) (rest : List Aim → Timed) → HasAt code pc (destinations_code pc list)
+          → ((ts : List Aim) (st : Stack) → LieAll list ts st stack → Agree b (from (pc + length (destinations_code pc list)) st) (rest ts))
+          → Agree b (from pc stack) (ev_destinations points here list rest)
+      destinations_follow [] pc stack rest has k = moved pc (pc + 0) stack (rest []) (omega arith) (k [] stack refl)
+      destinations_follow (d ∷ list) pc stack rest has k =
+          let cd = destination_code pc d in
+          destination_follows d pc stack _ (has_front code pc cd _ has) (λ t mid l.
+          destinations_follow list (pc + length cd) mid _ (has_back code pc cd _ has) (λ ts st ls.
+          moved _ _ st (rest (t ∷ ts)) (seam pc cd (destinations_code (pc + length cd) list)) (k (t ∷ ts) st (mid, l, ls))))
 
-      -- a variable's subscripts, and an instruction that takes its name
-      name_follows : (v : Variable) (i : Instr) (pc : ℕ) (stack : Stack) (rest : Name → Timed) → HasAt code pc (subscripts_code pc v) → slice_get code (pc + length (subscripts_code pc v)) ≡ Some i → ((ss : List (List ℕ)) (n : ℕ) → n < b → length ss ≡ (reference v).count → acts i (pc + length (subscripts_code pc v)) (onto ss stack) n n ≡ given (name_of (reference v).scope (reference v).word ss) rest n) → Agree b (from pc stack) (ev_name v rest)
-      name_follows (Var scope word es) i pc stack rest has at k =
-          all_follow es pc stack _ has (λ ss many. one _ (onto ss stack) i _ at (λ n lt. k ss n lt many))
+      -- the topmost operand is assigned to a name whose subscripts lie at a depth
+      stored : (r : Reference) (depth : Depth) (x : Name) (ss : List (List ℕ)) (pc : ℕ) (stack base : Stack) (rest : Timed)
+          → length ss ≡ r.count → name_of r.scope r.word ss ≡ Ok x → drop depth.above stack ≡ onto ss base
+          → slice_get code pc ≡ Some (instr.Store r depth) → Agree b (from (pc + 1) (drop depth.taken stack)) rest
+          → Agree b (from pc stack) (turn (store x (top stack) rest))
+      stored r depth x ss pc stack base rest many e under at k =
+          one pc stack (instr.Store r depth) _ at (λ n lt.
+          ap (λ l. given (name_of r.scope r.word (operands r.count l)) (λ y. store y (top stack) (λ q. exec units n ctx (pc + 1) (drop depth.taken stack))) n) under
+          ∙ ap (λ l. given (name_of r.scope r.word l) (λ y. store y (top stack) (λ q. exec units n ctx (pc + 1) (drop depth.taken stack))) n) (operands_are ss base r.count many)
+          ∙ ap (λ o. given o (λ y. store y (top stack) (λ q. exec units n ctx (pc + 1) (drop depth.taken stack))) n) e
+          ∙ store_at n x (top stack) (λ q. exec units n ctx (pc + 1) (drop depth.taken stack)) rest (k.by n (omega arith)))
 
-      -- and one that takes the name for a function
-      named_follows : (f : NameFunction) (v : Variable) (i : Instr) (pc : ℕ) (stack : Stack) (rest : Name → Timed) → HasAt code pc (subscripts_code pc v) → slice_get code (pc + length (subscripts_code pc v)) ≡ Some i → ((ss : List (List ℕ)) (n : ℕ) → n < b → length ss ≡ (reference v).count → acts i (pc + length (subscripts_code pc v)) (onto ss stack) n n ≡ given (named_for f (reference v).scope (reference v).word ss) rest n) → Agree b (from pc stack) (ev_named f v rest)
-      named_follows f (Var scope word es) i pc stack rest has at k =
-          all_follow es pc stack _ has (λ ss many. one _ (onto ss stack) i _ at (λ n lt. k ss n lt many))
+      store_follows : (d : Destination) (t : Aim) (depth : Depth) (pc : ℕ) (stack base : Stack) (rest : Timed)
+          → Lies d t (drop depth.above stack) base → HasAt code pc (store_code d depth)
+          → Agree b (from (pc + length (store_code d depth)) (drop depth.taken stack)) rest
+          → Agree b (from pc stack) (turn (put t (top stack) rest))
+      store_follows (Plain v) (Whole x) depth pc stack base rest l has k =
+          stored (reference v) depth x l.0 pc stack base rest l.1 l.2 l.3 has.0 k
+      store_follows (Plain v) (Part x ts) depth pc stack base rest l has k = absurd l
+      store_follows (Pieces v es) (Whole x) depth pc stack base rest l has k = absurd l
+      store_follows (Pieces v es) (Part x ts) depth pc stack base rest l has k =
+          let r = reference v in
+          let n = count es in
+          let behind : ℕ → List ℕ → Timed = λ m w q. exec units m ctx (pc + 1) (w ∷ stack) in
+          let past : ℕ → Timed = λ m q. exec units m ctx (pc + 2) (drop depth.taken stack) in
+          let under : drop n (drop depth.above stack) ≡ onto l.0 base = ap (drop n) l.4 ∙ rest_below ts (onto l.0 base) n l.3 in
+          let args : operands n (drop depth.above stack) ≡ ts = ap (operands n) l.4 ∙ operands_are ts (onto l.0 base) n l.3 in
+          let deeper : (w : List ℕ) → drop (depth.above + n + 1) (w ∷ stack) ≡ onto l.0 base = λ w. drop_more (depth.above + n) w stack ∙ sym (drop-drop n depth.above stack) ∙ under in
+          one pc stack (instr.Renew r n depth) _ has.0 (λ m lt.
+          ap (λ st. given (name_of r.scope r.word (operands r.count st)) (λ y. renew y (operands n (drop depth.above stack)) (top stack) (past m) (behind m)) m) under
+          ∙ ap (λ ss. given (name_of r.scope r.word ss) (λ y. renew y (operands n (drop depth.above stack)) (top stack) (past m) (behind m)) m) (operands_are l.0 base r.count l.1)
+          ∙ ap (λ o. given o (λ y. renew y (operands n (drop depth.above stack)) (top stack) (past m) (behind m)) m) l.2
+          ∙ ap (λ l. renew x l (top stack) (past m) (behind m) m) args
+          ∙ renew_at m x ts (top stack) (past m) rest (behind m) (λ w. turn (store x w rest)) ((moved (pc + 2) _ _ rest (omega arith) k).by m (omega arith))
+          (λ w. (stored r (record { above = depth.above + n + 1; taken = depth.taken + 1 }) x l.0 (pc + 1) (w ∷ stack) base rest l.1 l.2 (deeper w) has.1.0
+          (over (pc + 1 + 1) (drop (depth.taken + 1) (w ∷ stack)) (drop depth.taken stack) rest (drop_more depth.taken w stack) (moved (pc + 1 + 1) _ _ rest (omega arith) k))).by m (omega arith)))
 
-      all_follow : (es : Exprs) (pc : ℕ) (stack : Stack) (rest : List (List ℕ) → Timed) → HasAt code pc (exprs_code pc es) → ((vs : List (List ℕ)) → length vs ≡ count es → Agree b (from (pc + length (exprs_code pc es)) (onto vs stack)) (rest vs)) → Agree b (from pc stack) (ev_all es rest)
-      all_follow No pc stack rest has k = moved pc (pc + 0) stack (rest []) (omega arith) (k [] refl)
-      all_follow (More e es) pc stack rest has k =
+      stores_follow : (list : List Destination) (ts : List Aim) (pc : ℕ) (e : List ℕ) (full base : Stack) (rest : Timed)
+          → LieAll list ts full base → HasAt code pc (stores_code list)
+          → Agree b (from (pc + length (stores_code list)) (e ∷ full)) rest → Agree b (from pc (e ∷ full)) (put_all ts e rest)
+      stores_follow [] [] pc e full base rest l has k = moved pc (pc + 0) (e ∷ full) rest (omega arith) k
+      stores_follow [] (t ∷ ts) pc e full base rest l has k = absurd l
+      stores_follow (d ∷ list) [] pc e full base rest l has k = absurd l
+      stores_follow (d ∷ list) (t ∷ ts) pc e full base rest l has k =
+          let depth : Depth = record { above = sizes list + 1; taken = 0 } in
+          let cs = store_code d depth in
+          let under : drop (sizes list + 1) (e ∷ full) ≡ l.0 = drop_more (sizes list) e full ∙ below_all list ts full l.0 l.2 in
+          store_follows d t depth pc (e ∷ full) base (put_all ts e rest) (subst (λ st. Lies d t st base) (sym under) l.1) (has_front code pc cs _ has)
+          (stores_follow list ts (pc + length cs) e full l.0 rest l.2 (has_back code pc cs _ has) (moved _ _ (e ∷ full) rest (seam pc cs (stores_code list)) k))
+
+      targets_follow : (targets : Targets) (e : Expr) (pc : ℕ) (stack : Stack) (rest : Timed) → HasAt code pc (targets_code pc targets e) → Agree b (from (pc + length (targets_code pc targets e)) stack) rest → Agree b (from pc stack) (assign_to points here targets e rest)
+      targets_follow (One d) e pc stack rest has k =
+          let depth : Depth = record { above = 1; taken = size d + 1 } in
+          let cd = destination_code pc d in
+          let ce = expr_code (pc + length cd) e in
+          let cs = store_code d depth in
+          let back = has_back code pc cd (ce ++ cs) has in
+          let len : pc + length cd + length ce + length cs ≡ pc + length (cd ++ (ce ++ cs)) = omega (arith, length-append cd (ce ++ cs), length-append ce cs) in
+          destination_follows d pc stack _ (has_front code pc cd _ has) (λ t st l.
+          expr_follows e (pc + length cd) st (λ v. turn (put t v rest)) (has_front code (pc + length cd) ce _ back) (λ v.
+          store_follows d t depth (pc + length cd + length ce) (v ∷ st) stack rest l (has_back code (pc + length cd) ce _ back)
+          (over _ (drop (size d + 1) (v ∷ st)) stack rest (drop_more (size d) v st ∙ below_one d t st stack l) (moved _ _ stack rest len k))))
+      targets_follow (Several list) e pc stack rest has k =
+          let i = instr.Discard (sizes list + 1) in
+          let cd = destinations_code pc list in
+          let ce = expr_code (pc + length cd) e in
+          let cs = stores_code list in
+          let back = has_back code pc cd (ce ++ (cs ++ i ∷ [])) has in
+          let back' = has_back code (pc + length cd) ce (cs ++ i ∷ []) back in
+          let at = pc + length cd + length ce in
+          let len : at + length cs + 1 ≡ pc + length (cd ++ (ce ++ (cs ++ i ∷ []))) = omega (arith, length-append cd (ce ++ (cs ++ i ∷ [])), length-append ce (cs ++ i ∷ []), length-append cs (i ∷ [])) in
+          destinations_follow list pc stack _ (has_front code pc cd _ has) (λ ts st l.
+          expr_follows e (pc + length cd) st (λ v. put_all ts v (turn rest)) (has_front code (pc + length cd) ce _ back) (λ v.
+          stores_follow list ts at v st stack (turn rest) l (has_front code at cs _ back')
+          (one (at + length cs) (v ∷ st) i rest (has_back code at cs _ back').0 (λ n lt.
+          (over (at + length cs + 1) (drop (sizes list + 1) (v ∷ st)) stack rest (drop_more (sizes list) v st ∙ below_all list ts st stack l) (moved _ _ stack rest len k)).by n (omega arith)))))
+
+      assign_follows : (a : Assignment) (pc : ℕ) (stack : Stack) (rest : Timed) → HasAt code pc (assignment_code pc a) → Agree b (from (pc + length (assignment_code pc a)) stack) rest → Agree b (from pc stack) (assign points here a rest)
+      assign_follows a pc stack rest has k = targets_follow a.targets a.value pc stack rest has k
+
+      pub assigns_follow : (list : List Assignment) (pc : ℕ) (stack : Stack) (rest : Timed) → HasAt code pc (assignments_code pc list) → Agree b (from (pc + length (assignments_code pc list)) stack) rest → Agree b (from pc stack) (assign_all points here list rest)
+      assigns_follow [] pc stack rest has k = moved pc (pc + 0) stack rest (omega arith) k
+      assigns_follow (a ∷ list) pc stack rest has k =
+          let ca = assignment_code pc a in
+          assign_follows a pc stack _ (has_front code pc ca _ has)
+          (assigns_follow list (pc + length ca) stack rest (has_back code pc ca _ has) (moved _ _ stack rest (seam pc ca (assignments_code (pc + length ca) list)) k))
+
+      names_follow : (words : List (List ℕ)) (pc : ℕ) (stack : Stack) (rest : Timed) → HasAt code pc (names_code words) → Agree b (from (pc + length (names_code words)) stack) rest → Agree b (from pc stack) (named words rest)
+      names_follow [] pc stack rest has k = moved pc (pc + 0) stack rest (omega arith) k
+      names_follow (word ∷ words) pc stack rest has k =
+          let len : pc + 1 + length (names_code words) ≡ pc + length (names_code (word ∷ words)) = omega arith in
+          one pc stack (instr.Discard 0) _ has.0 (λ n lt. (names_follow words (pc + 1) stack rest has.1 (moved _ _ stack rest len k)).by n (omega arith))
+
+      kill_follows : (x : Killed) (pc : ℕ) (stack : Stack) (rest : Timed) → HasAt code pc (kill_code pc x) → Agree b (from (pc + length (kill_code pc x)) stack) rest → Agree b (from pc stack) (kill points here x rest)
+      kill_follows (Gone v) pc stack rest has k =
+          let r = reference v in
+          let cs = subscripts_code pc v in
+          let i = instr.Check r in
+          let j = instr.Kill r in
+          let behind = pc + length cs + 1 in
+          let back = has_back code pc cs (i ∷ j ∷ []) has in
+          let len : behind + 1 ≡ pc + length (cs ++ i ∷ j ∷ []) = omega (arith, length-append cs (i ∷ j ∷ [])) in
+          checked v pc stack _ (has_front code pc cs _ has) back.0 (λ x ss many e.
+          one behind (onto ss stack) j _ back.1.0 (λ n lt.
+          ap (λ l. given (name_of r.scope r.word l) (λ y. remove y (λ q. exec units n ctx (behind + 1) (drop r.count (onto ss stack)))) n) (operands_are ss stack _ many)
+          ∙ ap (λ o. given o (λ y. remove y (λ q. exec units n ctx (behind + 1) (drop r.count (onto ss stack)))) n) e
+          ∙ remove_at n x (λ q. exec units n ctx (behind + 1) (drop r.count (onto ss stack))) rest
+          ((over (behind + 1) (drop r.count (onto ss stack)) stack rest (rest_below ss stack _ many) (moved _ _ stack rest len k)).by n (omega arith))))
+      kill_follows (Spared words) pc stack rest has k =
+          let cn = names_code words in
+          names_follow words pc stack _ (has_front code pc cn _ has)
+          (one (pc + length cn) stack (instr.Spare words) _ (has_back code pc cn _ has).0 (λ n lt.
+          change_at n (spare words) (λ q. exec units n ctx (pc + length cn + 1) stack) rest ((moved _ _ stack rest (end_of pc cn (instr.Spare words)) k).by n (omega arith))))
+
+      kills_follow : (list : List Killed) (pc : ℕ) (stack : Stack) (rest : Timed) → HasAt code pc (kills_code pc list) → Agree b (from (pc + length (kills_code pc list)) stack) rest → Agree b (from pc stack) (kill_list points here list rest)
+      kills_follow [] pc stack rest has k = moved pc (pc + 0) stack rest (omega arith) k
+      kills_follow (x ∷ list) pc stack rest has k =
+          let cx = kill_code pc x in
+          kill_follows x pc stack _ (has_front code pc cx _ has)
+          (kills_follow list (pc + length cx) stack rest (has_back code pc cx _ has) (moved _ _ stack rest (seam pc cx (kills_code (pc + length cx) list)) k))
+
+      pub kill_all_follows : (list : List Killed) (pc : ℕ) (stack : Stack) (rest : Timed) → HasAt code pc (kill_all_code pc list) → Agree b (from (pc + length (kill_all_code pc list)) stack) rest → Agree b (from pc stack) (kill_all points here list rest)
+      kill_all_follows [] pc stack rest has k =
+          one pc stack (instr.Spare []) _ has.0 (λ n lt. change_at n (spare []) (λ q. exec units n ctx (pc + 1) stack) rest (k.by n (omega arith)))
+      kill_all_follows (x ∷ list) pc stack rest has k = kills_follow (x ∷ list) pc stack rest has k
+
+      merge_follows : (m : Merged) (pc : ℕ) (stack : Stack) (rest : Timed) → HasAt code pc (merge_code pc m) → Agree b (from (pc + length (merge_code pc m)) stack) rest → Agree b (from pc stack) (merge points here m rest)
+      merge_follows m pc stack rest has k =
+          let a = reference m.into in
+          let f = reference m.from in
+          let ca = subscripts_code pc m.into in
+          let behind = pc + length ca + 1 in
+          let cf = subscripts_code behind m.from in
+          let i = instr.Check a in
+          let j = instr.Take a f in
+          let p = instr.Put a in
+          let at = behind + length cf in
+          let back = has_back code pc ca (i ∷ (cf ++ j ∷ p ∷ [])) has in
+          let back' = has_back code behind cf (j ∷ p ∷ []) back.1 in
+          let len : at + 1 + 1 ≡ pc + length (ca ++ i ∷ (cf ++ j ∷ p ∷ [])) = omega (arith, length-append ca (i ∷ (cf ++ j ∷ p ∷ [])), length-append cf (j ∷ p ∷ [])) in
+          checked m.into pc stack _ (has_front code pc ca _ has) back.0 (λ x ss many e.
+          name_follows m.from j behind (onto ss stack) _ (has_front code behind cf _ back.1) back'.0 (λ qs n lt many'.
+          ap (λ l. given (name_of f.scope f.word l) (λ y. given (name_of a.scope a.word (operands a.count (drop f.count (onto qs (onto ss stack))))) (λ z. take_nodes z y (λ q. exec units n ctx (at + 1) (drop f.count (onto qs (onto ss stack)))))) n) (operands_are qs (onto ss stack) _ many')
+          ∙ ap (λ st. given (name_of f.scope f.word qs) (λ y. given (name_of a.scope a.word (operands a.count st)) (λ z. take_nodes z y (λ q. exec units n ctx (at + 1) st))) n) (rest_below qs (onto ss stack) _ many')
+          ∙ given_at n (name_of f.scope f.word qs) (λ y. given (name_of a.scope a.word (operands a.count (onto ss stack))) (λ z. take_nodes z y (λ q. exec units n ctx (at + 1) (onto ss stack)))) (λ y. take_nodes x y (turn (put_nodes x rest))) (λ y e'.
+          ap (λ l. given (name_of a.scope a.word l) (λ z. take_nodes z y (λ q. exec units n ctx (at + 1) (onto ss stack))) n) (operands_are ss stack _ many)
+          ∙ ap (λ o. given o (λ z. take_nodes z y (λ q. exec units n ctx (at + 1) (onto ss stack))) n) e
+          ∙ take_nodes_at n x y (λ q. exec units n ctx (at + 1) (onto ss stack)) (turn (put_nodes x rest))
+          ((one (at + 1) (onto ss stack) p (put_nodes x rest) back'.1.0 (λ o lt'.
+          ap (λ l. given (name_of a.scope a.word l) (λ z. put_nodes z (λ q. exec units o ctx (at + 1 + 1) (drop a.count (onto ss stack)))) o) (operands_are ss stack _ many)
+          ∙ ap (λ r. given r (λ z. put_nodes z (λ q. exec units o ctx (at + 1 + 1) (drop a.count (onto ss stack)))) o) e
+          ∙ put_nodes_at o x (λ q. exec units o ctx (at + 1 + 1) (drop a.count (onto ss stack))) rest
+          ((over (at + 1 + 1) (drop a.count (onto ss stack)) stack rest (rest_below ss stack _ many) (moved _ _ stack rest len k)).by o (omega arith)))).by n (omega arith)))))
+
+      pub merges_follow : (list : List Merged) (pc : ℕ) (stack : Stack) (rest : Timed) → HasAt code pc (merges_code pc list) → Agree b (from (pc + length (merges_code pc list)) stack) rest → Agree b (from pc stack) (merge_all points here list rest)
+      merges_follow [] pc stack rest has k = moved pc (pc + 0) stack rest (omega arith) k
+      merges_follow (m ∷ list) pc stack rest has k =
+          let cm = merge_code pc m in
+          merge_follows m pc stack _ (has_front code pc cm _ has)
+          (merges_follow list (pc + length cm) stack rest (has_back code pc cm _ has) (moved _ _ stack rest (seam pc cm (merges_code (pc + length cm) list)) k))
+
+      output_follows : (o : Output) (pc : ℕ) (stack : Stack) (rest : Timed) → HasAt code pc (output_code pc o) → Agree b (from (pc + length (output_code pc o)) stack) rest → Agree b (from pc stack) (output points here o rest)
+      output_follows (Shown e) pc stack rest has k =
           let ce = expr_code pc e in
-          let cr = exprs_code (pc + length ce) es in
           expr_follows e pc stack _ (has_front code pc ce _ has) (λ v.
-          all_follow es (pc + length ce) (v ∷ stack) _ (has_back code pc ce _ has) (λ vs many.
-          moved _ _ (onto vs (v ∷ stack)) (rest (v ∷ vs)) (seam pc ce cr) (k (v ∷ vs) (omega (arith, many)))))
+          one (pc + length ce) (v ∷ stack) instr.Write _ (has_back code pc ce _ has).0 (λ n lt.
+          write_at n v (λ q. exec units n ctx (pc + length ce + 1) stack) rest ((moved _ _ stack rest (end_of pc ce instr.Write) k).by n (omega arith))))
+      output_follows (Format marks) pc stack rest has k =
+          one pc stack (instr.Format marks) _ has.0 (λ n lt. write_at n (map mark_byte marks) (λ q. exec units n ctx (pc + 1) stack) rest (k.by n (omega arith)))
 
-    -- a name that is looked at, and then what comes behind it
-    checked : (v : Variable) (pc : ℕ) (stack : Stack) (rest : Name → Timed) → HasAt code pc (subscripts_code pc v) → slice_get code (pc + length (subscripts_code pc v)) ≡ Some (instr.Check (reference v))
-        → ((x : Name) (ss : List (List ℕ)) → length ss ≡ (reference v).count → name_of (reference v).scope (reference v).word ss ≡ Ok x → Agree b (from (pc + length (subscripts_code pc v) + 1) (onto ss stack)) (rest x))
-        → Agree b (from pc stack) (ev_name v rest)
-    checked v pc stack rest has at k =
-        let r = reference v in
-        let behind = pc + length (subscripts_code pc v) + 1 in
-        name_follows v (instr.Check r) pc stack rest has at (λ ss n lt many.
-        ap (λ l. given (name_of r.scope r.word l) (λ x m. exec units n ctx behind (onto ss stack)) n) (operands_are ss stack _ many)
-        ∙ given_at n (name_of r.scope r.word ss) (λ x m. exec units n ctx behind (onto ss stack)) rest (λ x e. (k x ss many e).by n (omega arith)))
+      pub outputs_follow : (list : List Output) (pc : ℕ) (stack : Stack) (rest : Timed) → HasAt code pc (outputs_code pc list) → Agree b (from (pc + length (outputs_code pc list)) stack) rest → Agree b (from pc stack) (output_all points here list rest)
+      outputs_follow [] pc stack rest has k = moved pc (pc + 0) stack rest (omega arith) k
+      outputs_follow (o ∷ list) pc stack rest has k =
+          let co = output_code pc o in
+          output_follows o pc stack _ (has_front code pc co _ has)
+          (outputs_follow list (pc + length co) stack rest (has_back code pc co _ has) (moved _ _ stack rest (seam pc co (outputs_code (pc + length co) list)) k))
 
-    destination_follows : (d : Destination) (pc : ℕ) (stack : Stack) (rest : Aim → Timed) → HasAt code pc (destination_code pc d)
-        → ((t : Aim) (st : Stack) → Lies d t st stack → Agree b (from (pc + length (destination_code pc d)) st) (rest t))
-        → Agree b (from pc stack) (ev_destination d rest)
-    destination_follows (Plain v) pc stack rest has k =
-        let cs = subscripts_code pc v in
-        let i = instr.Check (reference v) in
-        checked v pc stack _ (has_front code pc cs _ has) (has_back code pc cs _ has).0 (λ x ss many e.
-        moved _ _ (onto ss stack) (rest (Whole x)) (end_of pc cs i) (k (Whole x) (onto ss stack) (ss, many, e, refl)))
-    destination_follows (Pieces v es) pc stack rest has k =
-        let cs = subscripts_code pc v in
-        let i = instr.Check (reference v) in
-        let ce = exprs_code (pc + length cs + 1) es in
-        let len : pc + length cs + 1 + length ce ≡ pc + length (cs ++ i ∷ ce) = omega (arith, length-append cs (i ∷ ce)) in
-        let back = has_back code pc cs (i ∷ ce) has in
-        checked v pc stack _ (has_front code pc cs _ has) back.0 (λ x ss many e.
-        all_follow es (pc + length cs + 1) (onto ss stack) _ back.1 (λ ts many'.
-        moved _ _ (onto ts (onto ss stack)) (rest (Part x ts)) len (k (Part x ts) (onto ts (onto ss stack)) (ss, many, e, many', refl))))
+      renewal_follows : (x : Renewed) (pc : ℕ) (stack : Stack) (rest : Timed) → HasAt code pc (renewed_code x) → Agree b (from (pc + length (renewed_code x)) stack) rest → Agree b (from pc stack) (renewal x rest)
+      renewal_follows (Fresh word) pc stack rest has k =
+          one pc stack (instr.New (word ∷ [])) _ has.0 (λ n lt. change_at n (newed (Only (word ∷ []))) (λ q. exec units n ctx (pc + 1) stack) rest (k.by n (omega arith)))
+      renewal_follows (Kept words) pc stack rest has k =
+          let cn = names_code words in
+          names_follow words pc stack _ (has_front code pc cn _ has)
+          (one (pc + length cn) stack (instr.NewExcept words) _ (has_back code pc cn _ has).0 (λ n lt.
+          change_at n (newed (AllBut words)) (λ q. exec units n ctx (pc + length cn + 1) stack) rest ((moved _ _ stack rest (end_of pc cn (instr.NewExcept words)) k).by n (omega arith))))
 
-    destinations_follow : (list : List Destination) (pc : ℕ) (stack : Stack) (rest : List Aim → Timed) → HasAt code pc (destinations_code pc list)
-        → ((ts : List Aim) (st : Stack) → LieAll list ts st stack → Agree b (from (pc + length (destinations_code pc list)) st) (rest ts))
-        → Agree b (from pc stack) (ev_destinations list rest)
-    destinations_follow [] pc stack rest has k = moved pc (pc + 0) stack (rest []) (omega arith) (k [] stack refl)
-    destinations_follow (d ∷ list) pc stack rest has k =
-        let cd = destination_code pc d in
-        destination_follows d pc stack _ (has_front code pc cd _ has) (λ t mid l.
-        destinations_follow list (pc + length cd) mid _ (has_back code pc cd _ has) (λ ts st ls.
-        moved _ _ st (rest (t ∷ ts)) (seam pc cd (destinations_code (pc + length cd) list)) (k (t ∷ ts) st (mid, l, ls))))
+      news_follow : (list : List Renewed) (pc : ℕ) (stack : Stack) (rest : Timed) → HasAt code pc (news_code list) → Agree b (from (pc + length (news_code list)) stack) rest → Agree b (from pc stack) (new_list list rest)
+      news_follow [] pc stack rest has k = moved pc (pc + 0) stack rest (omega arith) k
+      news_follow (x ∷ list) pc stack rest has k =
+          let cx = renewed_code x in
+          renewal_follows x pc stack _ (has_front code pc cx _ has)
+          (news_follow list (pc + length cx) stack rest (has_back code pc cx _ has) (moved _ _ stack rest (seam pc cx (news_code list)) k))
 
-    -- the topmost operand is assigned to a name whose subscripts lie at a depth
-    stored : (r : Reference) (depth : Depth) (x : Name) (ss : List (List ℕ)) (pc : ℕ) (stack base : Stack) (rest : Timed)
-        → length ss ≡ r.count → name_of r.scope r.word ss ≡ Ok x → drop depth.above stack ≡ onto ss base
-        → slice_get code pc ≡ Some (instr.Store r depth) → Agree b (from (pc + 1) (drop depth.taken stack)) rest
-        → Agree b (from pc stack) (turn (store x (top stack) rest))
-    stored r depth x ss pc stack base rest many e under at k =
-        one pc stack (instr.Store r depth) _ at (λ n lt.
-        ap (λ l. given (name_of r.scope r.word (operands r.count l)) (λ y. store y (top stack) (λ q. exec units n ctx (pc + 1) (drop depth.taken stack))) n) under
-        ∙ ap (λ l. given (name_of r.scope r.word l) (λ y. store y (top stack) (λ q. exec units n ctx (pc + 1) (drop depth.taken stack))) n) (operands_are ss base r.count many)
-        ∙ ap (λ o. given o (λ y. store y (top stack) (λ q. exec units n ctx (pc + 1) (drop depth.taken stack))) n) e
-        ∙ store_at n x (top stack) (λ q. exec units n ctx (pc + 1) (drop depth.taken stack)) rest (k.by n (omega arith)))
+      pub new_all_follows : (list : List Renewed) (pc : ℕ) (stack : Stack) (rest : Timed) → HasAt code pc (new_all_code list) → Agree b (from (pc + length (new_all_code list)) stack) rest → Agree b (from pc stack) (new_all list rest)
+      new_all_follows [] pc stack rest has k =
+          one pc stack (instr.NewExcept []) _ has.0 (λ n lt. change_at n (newed (AllBut [])) (λ q. exec units n ctx (pc + 1) stack) rest (k.by n (omega arith)))
+      new_all_follows (x ∷ list) pc stack rest has k = news_follow (x ∷ list) pc stack rest has k
 
-    store_follows : (d : Destination) (t : Aim) (depth : Depth) (pc : ℕ) (stack base : Stack) (rest : Timed)
-        → Lies d t (drop depth.above stack) base → HasAt code pc (store_code d depth)
-        → Agree b (from (pc + length (store_code d depth)) (drop depth.taken stack)) rest
-        → Agree b (from pc stack) (turn (put t (top stack) rest))
-    store_follows (Plain v) (Whole x) depth pc stack base rest l has k =
-        stored (reference v) depth x l.0 pc stack base rest l.1 l.2 l.3 has.0 k
-    store_follows (Plain v) (Part x ts) depth pc stack base rest l has k = absurd l
-    store_follows (Pieces v es) (Whole x) depth pc stack base rest l has k = absurd l
-    store_follows (Pieces v es) (Part x ts) depth pc stack base rest l has k =
-        let r = reference v in
-        let n = count es in
-        let behind : ℕ → List ℕ → Timed = λ m w q. exec units m ctx (pc + 1) (w ∷ stack) in
-        let past : ℕ → Timed = λ m q. exec units m ctx (pc + 2) (drop depth.taken stack) in
-        let under : drop n (drop depth.above stack) ≡ onto l.0 base = ap (drop n) l.4 ∙ rest_below ts (onto l.0 base) n l.3 in
-        let args : operands n (drop depth.above stack) ≡ ts = ap (operands n) l.4 ∙ operands_are ts (onto l.0 base) n l.3 in
-        let deeper : (w : List ℕ) → drop (depth.above + n + 1) (w ∷ stack) ≡ onto l.0 base = λ w. drop_more (depth.above + n) w stack ∙ sym (drop-drop n depth.above stack) ∙ under in
-        one pc stack (instr.Renew r n depth) _ has.0 (λ m lt.
-        ap (λ st. given (name_of r.scope r.word (operands r.count st)) (λ y. renew y (operands n (drop depth.above stack)) (top stack) (past m) (behind m)) m) under
-        ∙ ap (λ ss. given (name_of r.scope r.word ss) (λ y. renew y (operands n (drop depth.above stack)) (top stack) (past m) (behind m)) m) (operands_are l.0 base r.count l.1)
-        ∙ ap (λ o. given o (λ y. renew y (operands n (drop depth.above stack)) (top stack) (past m) (behind m)) m) l.2
-        ∙ ap (λ l. renew x l (top stack) (past m) (behind m) m) args
-        ∙ renew_at m x ts (top stack) (past m) rest (behind m) (λ w. turn (store x w rest)) ((moved (pc + 2) _ _ rest (omega arith) k).by m (omega arith))
-        (λ w. (stored r (record { above = depth.above + n + 1; taken = depth.taken + 1 }) x l.0 (pc + 1) (w ∷ stack) base rest l.1 l.2 (deeper w) has.1.0
-        (over (pc + 1 + 1) (drop (depth.taken + 1) (w ∷ stack)) (drop depth.taken stack) rest (drop_more depth.taken w stack) (moved (pc + 1 + 1) _ _ rest (omega arith) k))).by m (omega arith)))
+      -- actuals, of which those that are given come onto the stack
+      pub actuals_follow : (es : List (Option Expr)) (pc : ℕ) (stack : Stack) (rest : List (Option (List ℕ)) → Timed) → HasAt code pc (actuals_code pc es)
+          → ((vs : List (List ℕ)) → length vs ≡ given_count (shape_of es) → Agree b (from (pc + length (actuals_code pc es)) (onto vs stack)) (rest (spread (shape_of es) vs)))
+          → Agree b (from pc stack) (ev_actuals points here es rest)
+      actuals_follow [] pc stack rest has k = moved pc (pc + 0) stack (rest []) (omega arith) (k [] refl)
+      actuals_follow (None ∷ es) pc stack rest has k = actuals_follow es pc stack (λ vs. rest (None ∷ vs)) has k
+      actuals_follow (Some e ∷ es) pc stack rest has k =
+          let ce = expr_code pc e in
+          let cr = actuals_code (pc + length ce) es in
+          expr_follows e pc stack _ (has_front code pc ce _ has) (λ v.
+          actuals_follow es (pc + length ce) (v ∷ stack) (λ vs. rest (Some v ∷ vs)) (has_back code pc ce _ has) (λ vs many.
+          moved _ _ (onto vs (v ∷ stack)) (rest (Some v ∷ spread (shape_of es) vs)) (seam pc ce cr) (k (v ∷ vs) (omega (arith, many)))))
 
-    stores_follow : (list : List Destination) (ts : List Aim) (pc : ℕ) (e : List ℕ) (full base : Stack) (rest : Timed)
-        → LieAll list ts full base → HasAt code pc (stores_code list)
-        → Agree b (from (pc + length (stores_code list)) (e ∷ full)) rest → Agree b (from pc (e ∷ full)) (put_all ts e rest)
-    stores_follow [] [] pc e full base rest l has k = moved pc (pc + 0) (e ∷ full) rest (omega arith) k
-    stores_follow [] (t ∷ ts) pc e full base rest l has k = absurd l
-    stores_follow (d ∷ list) [] pc e full base rest l has k = absurd l
-    stores_follow (d ∷ list) (t ∷ ts) pc e full base rest l has k =
-        let depth : Depth = record { above = sizes list + 1; taken = 0 } in
-        let cs = store_code d depth in
-        let under : drop (sizes list + 1) (e ∷ full) ≡ l.0 = drop_more (sizes list) e full ∙ below_all list ts full l.0 l.2 in
-        store_follows d t depth pc (e ∷ full) base (put_all ts e rest) (subst (λ st. Lies d t st base) (sym under) l.1) (has_front code pc cs _ has)
-        (stores_follow list ts (pc + length cs) e full l.0 rest l.2 (has_back code pc cs _ has) (moved _ _ (e ∷ full) rest (seam pc cs (stores_code list)) k))
+      -- the subscripts of a FOR's local, and the instruction that takes its name
+      pub local_follows : (v : Variable) (i : Instr) (pc : ℕ) (stack : Stack) (rest : Name → Timed) → HasAt code pc (subscripts_code pc v) → slice_get code (pc + length (subscripts_code pc v)) ≡ Some i → ((ss : List (List ℕ)) (n : ℕ) → n < b → length ss ≡ (reference v).count → acts i (pc + length (subscripts_code pc v)) (onto ss stack) n n ≡ given (name_of Local (reference v).word ss) rest n) → Agree b (from pc stack) (ev_local points here v rest)
+      local_follows (Var scope word es) i pc stack rest has at k =
+          all_follow es pc stack _ has (λ ss many. one _ (onto ss stack) i _ at (λ n lt. k ss n lt many))
 
-    targets_follow : (targets : Targets) (e : Expr) (pc : ℕ) (stack : Stack) (rest : Timed) → HasAt code pc (targets_code pc targets e) → Agree b (from (pc + length (targets_code pc targets e)) stack) rest → Agree b (from pc stack) (assign_to targets e rest)
-    targets_follow (One d) e pc stack rest has k =
-        let depth : Depth = record { above = 1; taken = size d + 1 } in
-        let cd = destination_code pc d in
-        let ce = expr_code (pc + length cd) e in
-        let cs = store_code d depth in
-        let back = has_back code pc cd (ce ++ cs) has in
-        let len : pc + length cd + length ce + length cs ≡ pc + length (cd ++ (ce ++ cs)) = omega (arith, length-append cd (ce ++ cs), length-append ce cs) in
-        destination_follows d pc stack _ (has_front code pc cd _ has) (λ t st l.
-        expr_follows e (pc + length cd) st (λ v. turn (put t v rest)) (has_front code (pc + length cd) ce _ back) (λ v.
-        store_follows d t depth (pc + length cd + length ce) (v ∷ st) stack rest l (has_back code (pc + length cd) ce _ back)
-        (over _ (drop (size d + 1) (v ∷ st)) stack rest (drop_more (size d) v st ∙ below_one d t st stack l) (moved _ _ stack rest len k))))
-    targets_follow (Several list) e pc stack rest has k =
-        let i = instr.Discard (sizes list + 1) in
-        let cd = destinations_code pc list in
-        let ce = expr_code (pc + length cd) e in
-        let cs = stores_code list in
-        let back = has_back code pc cd (ce ++ (cs ++ i ∷ [])) has in
-        let back' = has_back code (pc + length cd) ce (cs ++ i ∷ []) back in
-        let at = pc + length cd + length ce in
-        let len : at + length cs + 1 ≡ pc + length (cd ++ (ce ++ (cs ++ i ∷ []))) = omega (arith, length-append cd (ce ++ (cs ++ i ∷ [])), length-append ce (cs ++ i ∷ []), length-append cs (i ∷ [])) in
-        destinations_follow list pc stack _ (has_front code pc cd _ has) (λ ts st l.
-        expr_follows e (pc + length cd) st (λ v. put_all ts v (turn rest)) (has_front code (pc + length cd) ce _ back) (λ v.
-        stores_follow list ts at v st stack (turn rest) l (has_front code at cs _ back')
-        (one (at + length cs) (v ∷ st) i rest (has_back code at cs _ back').0 (λ n lt.
-        (over (at + length cs + 1) (drop (sizes list + 1) (v ∷ st)) stack rest (drop_more (sizes list) v st ∙ below_all list ts st stack l) (moved _ _ stack rest len k)).by n (omega arith)))))
-
-    assign_follows : (a : Assignment) (pc : ℕ) (stack : Stack) (rest : Timed) → HasAt code pc (assignment_code pc a) → Agree b (from (pc + length (assignment_code pc a)) stack) rest → Agree b (from pc stack) (assign a rest)
-    assign_follows a pc stack rest has k = targets_follow a.targets a.value pc stack rest has k
-
-    pub assigns_follow : (list : List Assignment) (pc : ℕ) (stack : Stack) (rest : Timed) → HasAt code pc (assignments_code pc list) → Agree b (from (pc + length (assignments_code pc list)) stack) rest → Agree b (from pc stack) (assign_all list rest)
-    assigns_follow [] pc stack rest has k = moved pc (pc + 0) stack rest (omega arith) k
-    assigns_follow (a ∷ list) pc stack rest has k =
-        let ca = assignment_code pc a in
-        assign_follows a pc stack _ (has_front code pc ca _ has)
-        (assigns_follow list (pc + length ca) stack rest (has_back code pc ca _ has) (moved _ _ stack rest (seam pc ca (assignments_code (pc + length ca) list)) k))
-
-    names_follow : (words : List (List ℕ)) (pc : ℕ) (stack : Stack) (rest : Timed) → HasAt code pc (names_code words) → Agree b (from (pc + length (names_code words)) stack) rest → Agree b (from pc stack) (named words rest)
-    names_follow [] pc stack rest has k = moved pc (pc + 0) stack rest (omega arith) k
-    names_follow (word ∷ words) pc stack rest has k =
-        let len : pc + 1 + length (names_code words) ≡ pc + length (names_code (word ∷ words)) = omega arith in
-        one pc stack (instr.Discard 0) _ has.0 (λ n lt. (names_follow words (pc + 1) stack rest has.1 (moved _ _ stack rest len k)).by n (omega arith))
-
-    kill_follows : (x : Killed) (pc : ℕ) (stack : Stack) (rest : Timed) → HasAt code pc (kill_code pc x) → Agree b (from (pc + length (kill_code pc x)) stack) rest → Agree b (from pc stack) (kill x rest)
-    kill_follows (Gone v) pc stack rest has k =
-        let r = reference v in
-        let cs = subscripts_code pc v in
-        let i = instr.Check r in
-        let j = instr.Kill r in
-        let behind = pc + length cs + 1 in
-        let back = has_back code pc cs (i ∷ j ∷ []) has in
-        let len : behind + 1 ≡ pc + length (cs ++ i ∷ j ∷ []) = omega (arith, length-append cs (i ∷ j ∷ [])) in
-        checked v pc stack _ (has_front code pc cs _ has) back.0 (λ x ss many e.
-        one behind (onto ss stack) j _ back.1.0 (λ n lt.
-        ap (λ l. given (name_of r.scope r.word l) (λ y. remove y (λ q. exec units n ctx (behind + 1) (drop r.count (onto ss stack)))) n) (operands_are ss stack _ many)
-        ∙ ap (λ o. given o (λ y. remove y (λ q. exec units n ctx (behind + 1) (drop r.count (onto ss stack)))) n) e
-        ∙ remove_at n x (λ q. exec units n ctx (behind + 1) (drop r.count (onto ss stack))) rest
-        ((over (behind + 1) (drop r.count (onto ss stack)) stack rest (rest_below ss stack _ many) (moved _ _ stack rest len k)).by n (omega arith))))
-    kill_follows (Spared words) pc stack rest has k =
-        let cn = names_code words in
-        names_follow words pc stack _ (has_front code pc cn _ has)
-        (one (pc + length cn) stack (instr.Spare words) _ (has_back code pc cn _ has).0 (λ n lt.
-        change_at n (spare words) (λ q. exec units n ctx (pc + length cn + 1) stack) rest ((moved _ _ stack rest (end_of pc cn (instr.Spare words)) k).by n (omega arith))))
-
-    kills_follow : (list : List Killed) (pc : ℕ) (stack : Stack) (rest : Timed) → HasAt code pc (kills_code pc list) → Agree b (from (pc + length (kills_code pc list)) stack) rest → Agree b (from pc stack) (kill_list list rest)
-    kills_follow [] pc stack rest has k = moved pc (pc + 0) stack rest (omega arith) k
-    kills_follow (x ∷ list) pc stack rest has k =
-        let cx = kill_code pc x in
-        kill_follows x pc stack _ (has_front code pc cx _ has)
-        (kills_follow list (pc + length cx) stack rest (has_back code pc cx _ has) (moved _ _ stack rest (seam pc cx (kills_code (pc + length cx) list)) k))
-
-    pub kill_all_follows : (list : List Killed) (pc : ℕ) (stack : Stack) (rest : Timed) → HasAt code pc (kill_all_code pc list) → Agree b (from (pc + length (kill_all_code pc list)) stack) rest → Agree b (from pc stack) (kill_all list rest)
-    kill_all_follows [] pc stack rest has k =
-        one pc stack (instr.Spare []) _ has.0 (λ n lt. change_at n (spare []) (λ q. exec units n ctx (pc + 1) stack) rest (k.by n (omega arith)))
-    kill_all_follows (x ∷ list) pc stack rest has k = kills_follow (x ∷ list) pc stack rest has k
-
-    merge_follows : (m : Merged) (pc : ℕ) (stack : Stack) (rest : Timed) → HasAt code pc (merge_code pc m) → Agree b (from (pc + length (merge_code pc m)) stack) rest → Agree b (from pc stack) (merge m rest)
-    merge_follows m pc stack rest has k =
-        let a = reference m.into in
-        let f = reference m.from in
-        let ca = subscripts_code pc m.into in
-        let behind = pc + length ca + 1 in
-        let cf = subscripts_code behind m.from in
-        let i = instr.Check a in
-        let j = instr.Take a f in
-        let p = instr.Put a in
-        let at = behind + length cf in
-        let back = has_back code pc ca (i ∷ (cf ++ j ∷ p ∷ [])) has in
-        let back' = has_back code behind cf (j ∷ p ∷ []) back.1 in
-        let len : at + 1 + 1 ≡ pc + length (ca ++ i ∷ (cf ++ j ∷ p ∷ [])) = omega (arith, length-append ca (i ∷ (cf ++ j ∷ p ∷ [])), length-append cf (j ∷ p ∷ [])) in
-        checked m.into pc stack _ (has_front code pc ca _ has) back.0 (λ x ss many e.
-        name_follows m.from j behind (onto ss stack) _ (has_front code behind cf _ back.1) back'.0 (λ qs n lt many'.
-        ap (λ l. given (name_of f.scope f.word l) (λ y. given (name_of a.scope a.word (operands a.count (drop f.count (onto qs (onto ss stack))))) (λ z. take_nodes z y (λ q. exec units n ctx (at + 1) (drop f.count (onto qs (onto ss stack)))))) n) (operands_are qs (onto ss stack) _ many')
-        ∙ ap (λ st. given (name_of f.scope f.word qs) (λ y. given (name_of a.scope a.word (operands a.count st)) (λ z. take_nodes z y (λ q. exec units n ctx (at + 1) st))) n) (rest_below qs (onto ss stack) _ many')
-        ∙ given_at n (name_of f.scope f.word qs) (λ y. given (name_of a.scope a.word (operands a.count (onto ss stack))) (λ z. take_nodes z y (λ q. exec units n ctx (at + 1) (onto ss stack)))) (λ y. take_nodes x y (turn (put_nodes x rest))) (λ y e'.
-        ap (λ l. given (name_of a.scope a.word l) (λ z. take_nodes z y (λ q. exec units n ctx (at + 1) (onto ss stack))) n) (operands_are ss stack _ many)
-        ∙ ap (λ o. given o (λ z. take_nodes z y (λ q. exec units n ctx (at + 1) (onto ss stack))) n) e
-        ∙ take_nodes_at n x y (λ q. exec units n ctx (at + 1) (onto ss stack)) (turn (put_nodes x rest))
-        ((one (at + 1) (onto ss stack) p (put_nodes x rest) back'.1.0 (λ o lt'.
-        ap (λ l. given (name_of a.scope a.word l) (λ z. put_nodes z (λ q. exec units o ctx (at + 1 + 1) (drop a.count (onto ss stack)))) o) (operands_are ss stack _ many)
-        ∙ ap (λ r. given r (λ z. put_nodes z (λ q. exec units o ctx (at + 1 + 1) (drop a.count (onto ss stack)))) o) e
-        ∙ put_nodes_at o x (λ q. exec units o ctx (at + 1 + 1) (drop a.count (onto ss stack))) rest
-        ((over (at + 1 + 1) (drop a.count (onto ss stack)) stack rest (rest_below ss stack _ many) (moved _ _ stack rest len k)).by o (omega arith)))).by n (omega arith)))))
-
-    pub merges_follow : (list : List Merged) (pc : ℕ) (stack : Stack) (rest : Timed) → HasAt code pc (merges_code pc list) → Agree b (from (pc + length (merges_code pc list)) stack) rest → Agree b (from pc stack) (merge_all list rest)
-    merges_follow [] pc stack rest has k = moved pc (pc + 0) stack rest (omega arith) k
-    merges_follow (m ∷ list) pc stack rest has k =
-        let cm = merge_code pc m in
-        merge_follows m pc stack _ (has_front code pc cm _ has)
-        (merges_follow list (pc + length cm) stack rest (has_back code pc cm _ has) (moved _ _ stack rest (seam pc cm (merges_code (pc + length cm) list)) k))
-
-    output_follows : (o : Output) (pc : ℕ) (stack : Stack) (rest : Timed) → HasAt code pc (output_code pc o) → Agree b (from (pc + length (output_code pc o)) stack) rest → Agree b (from pc stack) (output o rest)
-    output_follows (Shown e) pc stack rest has k =
-        let ce = expr_code pc e in
-        expr_follows e pc stack _ (has_front code pc ce _ has) (λ v.
-        one (pc + length ce) (v ∷ stack) instr.Write _ (has_back code pc ce _ has).0 (λ n lt.
-        write_at n v (λ q. exec units n ctx (pc + length ce + 1) stack) rest ((moved _ _ stack rest (end_of pc ce instr.Write) k).by n (omega arith))))
-    output_follows (Format marks) pc stack rest has k =
-        one pc stack (instr.Format marks) _ has.0 (λ n lt. write_at n (map mark_byte marks) (λ q. exec units n ctx (pc + 1) stack) rest (k.by n (omega arith)))
-
-    pub outputs_follow : (list : List Output) (pc : ℕ) (stack : Stack) (rest : Timed) → HasAt code pc (outputs_code pc list) → Agree b (from (pc + length (outputs_code pc list)) stack) rest → Agree b (from pc stack) (output_all list rest)
-    outputs_follow [] pc stack rest has k = moved pc (pc + 0) stack rest (omega arith) k
-    outputs_follow (o ∷ list) pc stack rest has k =
-        let co = output_code pc o in
-        output_follows o pc stack _ (has_front code pc co _ has)
-        (outputs_follow list (pc + length co) stack rest (has_back code pc co _ has) (moved _ _ stack rest (seam pc co (outputs_code (pc + length co) list)) k))
-
-    renewal_follows : (x : Renewed) (pc : ℕ) (stack : Stack) (rest : Timed) → HasAt code pc (renewed_code x) → Agree b (from (pc + length (renewed_code x)) stack) rest → Agree b (from pc stack) (renewal x rest)
-    renewal_follows (Fresh word) pc stack rest has k =
-        one pc stack (instr.New (word ∷ [])) _ has.0 (λ n lt. change_at n (newed (Only (word ∷ []))) (λ q. exec units n ctx (pc + 1) stack) rest (k.by n (omega arith)))
-    renewal_follows (Kept words) pc stack rest has k =
-        let cn = names_code words in
-        names_follow words pc stack _ (has_front code pc cn _ has)
-        (one (pc + length cn) stack (instr.NewExcept words) _ (has_back code pc cn _ has).0 (λ n lt.
-        change_at n (newed (AllBut words)) (λ q. exec units n ctx (pc + length cn + 1) stack) rest ((moved _ _ stack rest (end_of pc cn (instr.NewExcept words)) k).by n (omega arith))))
-
-    news_follow : (list : List Renewed) (pc : ℕ) (stack : Stack) (rest : Timed) → HasAt code pc (news_code list) → Agree b (from (pc + length (news_code list)) stack) rest → Agree b (from pc stack) (new_list list rest)
-    news_follow [] pc stack rest has k = moved pc (pc + 0) stack rest (omega arith) k
-    news_follow (x ∷ list) pc stack rest has k =
-        let cx = renewed_code x in
-        renewal_follows x pc stack _ (has_front code pc cx _ has)
-        (news_follow list (pc + length cx) stack rest (has_back code pc cx _ has) (moved _ _ stack rest (seam pc cx (news_code list)) k))
-
-    pub new_all_follows : (list : List Renewed) (pc : ℕ) (stack : Stack) (rest : Timed) → HasAt code pc (new_all_code list) → Agree b (from (pc + length (new_all_code list)) stack) rest → Agree b (from pc stack) (new_all list rest)
-    new_all_follows [] pc stack rest has k =
-        one pc stack (instr.NewExcept []) _ has.0 (λ n lt. change_at n (newed (AllBut [])) (λ q. exec units n ctx (pc + 1) stack) rest (k.by n (omega arith)))
-    new_all_follows (x ∷ list) pc stack rest has k = news_follow (x ∷ list) pc stack rest has k
-
-    -- actuals, of which those that are given come onto the stack
-    pub actuals_follow : (es : List (Option Expr)) (pc : ℕ) (stack : Stack) (rest : List (Option (List ℕ)) → Timed) → HasAt code pc (actuals_code pc es)
-        → ((vs : List (List ℕ)) → length vs ≡ given_count (shape_of es) → Agree b (from (pc + length (actuals_code pc es)) (onto vs stack)) (rest (spread (shape_of es) vs)))
-        → Agree b (from pc stack) (ev_actuals es rest)
-    actuals_follow [] pc stack rest has k = moved pc (pc + 0) stack (rest []) (omega arith) (k [] refl)
-    actuals_follow (None ∷ es) pc stack rest has k = actuals_follow es pc stack (λ vs. rest (None ∷ vs)) has k
-    actuals_follow (Some e ∷ es) pc stack rest has k =
-        let ce = expr_code pc e in
-        let cr = actuals_code (pc + length ce) es in
-        expr_follows e pc stack _ (has_front code pc ce _ has) (λ v.
-        actuals_follow es (pc + length ce) (v ∷ stack) (λ vs. rest (Some v ∷ vs)) (has_back code pc ce _ has) (λ vs many.
-        moved _ _ (onto vs (v ∷ stack)) (rest (Some v ∷ spread (shape_of es) vs)) (seam pc ce cr) (k (v ∷ vs) (omega (arith, many)))))
-
-    -- the subscripts of a FOR's local, and the instruction that takes its name
-    pub local_follows : (v : Variable) (i : Instr) (pc : ℕ) (stack : Stack) (rest : Name → Timed) → HasAt code pc (subscripts_code pc v) → slice_get code (pc + length (subscripts_code pc v)) ≡ Some i → ((ss : List (List ℕ)) (n : ℕ) → n < b → length ss ≡ (reference v).count → acts i (pc + length (subscripts_code pc v)) (onto ss stack) n n ≡ given (name_of Local (reference v).word ss) rest n) → Agree b (from pc stack) (ev_local v rest)
-    local_follows (Var scope word es) i pc stack rest has at k =
-        all_follow es pc stack _ has (λ ss many. one _ (onto ss stack) i _ at (λ n lt. k ss n lt many))
-
-    -- code behind a postcondition, and what comes after it
-    pub when_follows : (o : Option Expr) (made : ℕ → List Instr) (done rest : Timed) (pc : ℕ) (stack : Stack) → HasAt code pc (code_if pc o made)
-        → ((p : ℕ) → HasAt code p (made p) → Agree b (from (p + length (made p)) stack) rest → Agree b (from p stack) done)
-        → Agree b (from (pc + length (code_if pc o made)) stack) rest → Agree b (from pc stack) (when o done rest)
-    when_follows None made done rest pc stack has f k = f pc has k
-    when_follows (Some e) made done rest pc stack has f k =
-        let ce = expr_code pc e in
-        let behind = pc + length ce + 1 in
-        let past = behind + length (made behind) in
-        let back = has_back code pc ce (instr.Unless past ∷ made behind) has in
-        let len : past ≡ pc + length (ce ++ instr.Unless past ∷ made behind) = omega (arith, length-append ce (instr.Unless past ∷ made behind)) in
-        let after = moved past _ stack rest len k in
-        expr_follows e pc stack _ (has_front code pc ce _ has) (λ v.
-        one (pc + length ce) (v ∷ stack) (instr.Unless past) _ back.0 (λ n lt.
-        given_at n (truth_value v) _ _ (λ t q.
-        if_at n t (λ m. exec units n ctx behind stack) done (λ m. exec units n ctx past stack) rest
-        ((f behind back.1 after).by n (omega arith))
-        (after.by n (omega arith)))))
+      -- code behind a postcondition, and what comes after it
+      pub when_follows : (o : Option Expr) (made : ℕ → List Instr) (done rest : Timed) (pc : ℕ) (stack : Stack) → HasAt code pc (code_if pc o made)
+          → ((p : ℕ) → HasAt code p (made p) → Agree b (from (p + length (made p)) stack) rest → Agree b (from p stack) done)
+          → Agree b (from (pc + length (code_if pc o made)) stack) rest → Agree b (from pc stack) (when points here o done rest)
+      when_follows None made done rest pc stack has f k = f pc has k
+      when_follows (Some e) made done rest pc stack has f k =
+          let ce = expr_code pc e in
+          let behind = pc + length ce + 1 in
+          let past = behind + length (made behind) in
+          let back = has_back code pc ce (instr.Unless past ∷ made behind) has in
+          let len : past ≡ pc + length (ce ++ instr.Unless past ∷ made behind) = omega (arith, length-append ce (instr.Unless past ∷ made behind)) in
+          let after = moved past _ stack rest len k in
+          expr_follows e pc stack _ (has_front code pc ce _ has) (λ v.
+          one (pc + length ce) (v ∷ stack) (instr.Unless past) _ back.0 (λ n lt.
+          given_at n (truth_value v) _ _ (λ t q.
+          if_at n t (λ m. exec units n ctx behind stack) done (λ m. exec units n ctx past stack) rest
+          ((f behind back.1 after).by n (omega arith))
+          (after.by n (omega arith)))))

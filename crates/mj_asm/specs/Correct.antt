@@ -4,7 +4,7 @@ use Rattle.mj_ask.specs.declared.entry.Entry.{Entry}
 use Rattle.mj_ast.specs.Syntax.{Line, Routine}
 use Rattle.mj_semantics.specs.Outcome.{Timed, turn}
 use Rattle.mj_semantics.specs.Lines.{Here, lines_of, labelled, entered, levels_of}
-use Rattle.mj_semantics.specs.Points.{AtLine}
+use Rattle.mj_semantics.specs.Points.{Leave, AtLine}
 use Rattle.mj_semantics.specs.Job.{points_of}
 use Rattle.mj_pcode.specs.declared.instr.LineStart.{LineStart}
 use Rattle.mj_pcode.specs.declared.instr.Instr.TheVariants as instr
@@ -36,11 +36,11 @@ abbrev pub next_of : List unit.Unit → Next
 next_of units c pc stack n = exec units n c pc stack
 
 -- From line k of the unit at place j on, or from its end, the machine does what the routines do from that line on, for at most b
--- turns: whatever the frames below are to do that the frame's QUIT leads to, if it is the same for as many turns, and as soon as
--- points lead to points as deep as there are turns.
+-- turns: whatever the frames below are to do that the frame's QUIT leads to, with whatever value, if it is the same for as many turns,
+-- and as soon as points lead to points as deep as there are turns. It is so whatever a restart is to do.
 abbrev pub DoesLine : List Routine → List unit.Unit → ℕ → ℕ → unit.Unit → ℕ → Type 0
 DoesLine image units b j u k =
-    (calls : List Call) (leave : Timed) → Agree b (returns (next_of units) calls) leave → (depth : ℕ) → b ≤ depth
+    (calls : List Call) (leave : Leave) → ((v : List ℕ) → Agree b (returns (next_of units) calls v) (leave v)) → (depth : ℕ) → b ≤ depth
     → Agree b (from_there units (at_unit j calls) (start_of u k)) (turn (points_of image depth (AtLine (record { routine = u.name; line = k }) leave)))
 
 -- and so does each unit of some, from each of its lines on

@@ -79,31 +79,38 @@ pub struct Sample {
 impl Sample {
     /// A text of this many bytes, and what goes with it.
     pub fn new(alloc: Global, size: u32) -> Result<Sample, Failure> {
-        let mut bytes: Vec<u8> = Vec::new(alloc);
-        let mut pieces = 1_u32;
-        for place in 0..size {
-            if place % 7 == 6 {
-                pieces = pieces.saturating_add(1);
-            }
-            bytes.push(byte_at(place))?;
-        }
-        let mut all: Vec<u8> = Vec::new(alloc);
-        for byte in 0..=255_u8 {
-            all.push(byte)?;
-        }
+        // What may be refused comes first: the fewer values there are then, the less there is to drop, and to prove.
         Ok(Sample {
-            text: Text::from(alloc, &bytes)?,
-            size: number(alloc, size),
-            last: number(alloc, pieces),
-            one: Text::from_number(alloc, 65),
-            two: Text::from_number(alloc, 2),
+            text: text_of(alloc, size)?,
+            all: every_byte(alloc)?,
             comma: Text::from(alloc, b",")?,
             part: Text::from(alloc, b"end")?,
-            empty: Text::new(alloc),
             some: Text::from(alloc, b"ab")?,
-            all: Text::from(alloc, &all)?,
+            size: number(alloc, size),
+            last: number(alloc, size / 7 + 1),
+            one: Text::from_number(alloc, 65),
+            two: Text::from_number(alloc, 2),
+            empty: Text::new(alloc),
         })
     }
+}
+
+// A text of this many bytes: one piece more than there are commas in it.
+fn text_of(alloc: Global, size: u32) -> Result<Text, Failure> {
+    let mut bytes: Vec<u8> = Vec::new(alloc);
+    for place in 0..size {
+        bytes.push(byte_at(place))?;
+    }
+    Text::from(alloc, &bytes)
+}
+
+// A text with each byte once.
+fn every_byte(alloc: Global) -> Result<Text, Failure> {
+    let mut bytes: Vec<u8> = Vec::new(alloc);
+    for byte in 0..=255_u8 {
+        bytes.push(byte)?;
+    }
+    Text::from(alloc, &bytes)
 }
 
 // A number as a text.

@@ -9,7 +9,7 @@ abbrev pub place_of : kept.Place → Place
 place_of p = record { routine = p.routine; line = p.line }
 
 abbrev pub frame_of : frames.Frame → Frame
-frame_of f = record { place = place_of f.place; level = f.level; test = f.test; height = f.height }
+frame_of f = record { place = place_of f.place; level = f.level; function = f.function; test = f.test; height = f.height }
 
 -- frames that lie in a list with the innermost last, the innermost first
 abbrev pub frames_of : List frames.Frame → List Frame

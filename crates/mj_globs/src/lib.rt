@@ -10,8 +10,6 @@ mod all;
 mod change;
 mod globals;
 mod keep;
-#[cfg(test)]
-mod tests;
 mod words;
 
 pub use change::Change;

@@ -3,19 +3,18 @@ use Rattle.std.specs.Prelude.{◌≡◌, ℕ, ◌+◌, ◌<◌, ◌≤◌, [], �
 use Rattle.mj_text.specs.declared.fault.Fault.{Fault}
 use Rattle.mj_ask.specs.declared.ask.Ask.{Ask}
 use Rattle.mj_ask.specs.declared.ask.Ask.TheVariants as asks
-use Rattle.mj_semantics.specs.State.{State}
-use Rattle.mj_semantics.specs.Outcome.{principal, fault_bytes, steps_limit}
+use Rattle.mj_semantics.specs.State.{State, principal, devices_limit}
+use Rattle.mj_semantics.specs.Outcome.{fault_bytes, steps_limit}
 use Rattle.mj_jobvm.specs.Run.{Log}
 
--- an ask of a job's ending, behind so many others: first the line of its fault, if it has one, then the end of its session,
--- and then its own
+-- an ask of a job's ending, behind so many others: first the line of its fault, if it has one, then the ends of its sessions, the
+-- principal one's among them, and then its own
 abbrev pub IsOfEnding : ℕ → Ask → Type 0
-IsOfEnding k (asks.DeviceBegin device) = ⊥
 IsOfEnding k (asks.DeviceWrite device bytes) =
     (k ≤ steps_limit) × (device ≡ principal) × ((fault : Fault) × (s : State) × (bytes ≡ fault_bytes fault s))
-IsOfEnding k (asks.DeviceEnd device) = (k ≤ steps_limit + 1) × (device ≡ principal)
-IsOfEnding k (asks.Access a) = ⊥
-IsOfEnding k (asks.Halt fault) = k ≤ steps_limit + 2
+IsOfEnding k (asks.DeviceEnd device) = k ≤ steps_limit + 1 + devices_limit
+IsOfEnding k (asks.Halt fault) = k ≤ steps_limit + 2 + devices_limit
+IsOfEnding k _ = ⊥
 
 -- an ask behind so many others is one of the 1,000,000 that a job may make, or it is of its ending
 abbrev pub IsAllowed : ℕ → Ask → Type 0
@@ -26,7 +25,7 @@ abbrev pub AreAllowed : ℕ → Log → Type 0
 AreAllowed k [] = ⊤
 AreAllowed k (e ∷ log) = IsAllowed k e.0 × AreAllowed (k + 1) log
 
--- at most 1,000,000 entries, but for those of the ending, of which there are at most three
+-- at most 1,000,000 entries, but for those of the ending: a line, the ends of 17 sessions at most, and its own
 pub record IsLimited (log : Log) : Type 0 where
   pub allowed : AreAllowed 0 log
-  pub short : length log ≤ steps_limit + 3
+  pub short : length log ≤ steps_limit + 3 + devices_limit

@@ -1,11 +1,10 @@
 -- What a call of `advance` tells.
 use Rattle.std.specs.Prelude.{◌≡◌, ℕ, ◌+◌, ◌^◌, min, List, Some, Result, Ok, Err}
 use Rattle.mj_ask.specs.declared.ask.Ask.{Ask}
-use Rattle.mj_ask.specs.declared.entry.Entry.{Entry}
 use Rattle.mj_ast.specs.Syntax.{Routine}
 use Rattle.mj_semantics.specs.State.{places}
 use Rattle.mj_semantics.specs.Outcome as outcomes
-use Rattle.mj_semantics.specs.Job.{next}
+use Rattle.mj_semantics.specs.Job.{Start, next}
 use Rattle.mj_jobvm.specs.declared.job.Turn.{Turn}
 use Rattle.mj_jobvm.specs.declared.job.Turn.TheVariants.{Asks, Ran, Ended}
 use Rattle.mj_jobvm.specs.declared.job.Went.{Went}
@@ -16,11 +15,11 @@ use Rattle.mj_jobvm.specs.Run.{Run, replies_of, GoesOn, HasEnded}
 -- it asks only what the run over its log needs, and its locals and its frames are those that stand beside it; it has ended
 -- only where the run has; and only where the run is still going after the turns before the last reply was taken, and those
 -- that it counted since, it ran as far as it was let
-abbrev pub Told : List Routine → Entry → Turn → Run → Type 0
-Told routines entry Asks job =
-    (a : Ask) × (job.pending ≡ Some a) × ((n : ℕ) × (next routines entry n (replies_of job.log) ≡ outcomes.Needs a job.at.state.locals (places job.at.state)))
-Told routines entry Ran job = GoesOn routines entry job.log job.spent
-Told routines entry Ended job = HasEnded routines entry job.log
+abbrev pub Told : List Routine → Start → Turn → Run → Type 0
+Told routines start Asks job =
+    (a : Ask) × (job.pending ≡ Some a) × ((n : ℕ) × (next routines start n (replies_of job.log) ≡ outcomes.Needs a job.at.state.locals (places job.at.state)))
+Told routines start Ran job = GoesOn routines start job.log job.spent
+Told routines start Ended job = HasEnded routines start job.log
 
 -- the turns that are counted since the last reply: its fuel, where it ran as far as it was let, up to 2 ^ 63
 abbrev pub spent_after : {E : Type 0} → Result Turn E → ℕ → ℕ → ℕ

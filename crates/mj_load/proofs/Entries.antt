@@ -15,12 +15,12 @@ use Rattle.mj_semantics.specs.Lines.{Here, has_label, labelled, lines_of, entere
 use Rattle.mj_pcode.specs.declared.instr.Head.{Head}
 use Rattle.mj_pcode.specs.declared.instr.Unit as unit
 use Rattle.mj_pcode.specs.Found.{Found, found, found_in, found_from, line_in, start_of, levels_in}
-use Rattle.mj_pcode.specs.Machine.{calls, tallies, returns, place_in}
+use Rattle.mj_pcode.specs.Machine.{calls, tallies, place_in}
 use Rattle.mj_pcode.specs.Checked.{IsChecked}
 use Rattle.mj_pcode.specs.Sound.{AreChecked}
-use Rattle.mj_asm.specs.Correct.{Agree, next_of, DoLines, IsFound, LeadAlike, IsUnitOf}
+use Rattle.mj_asm.specs.Correct.{next_of, DoLines, IsFound, LeadAlike, IsUnitOf}
 use Rattle.mj_pcode.proofs.Agree.{if_at, change_at, deeper_at}
-use Rattle.mj_asm.specs.Laws.{call_follows, after_one}
+use Rattle.mj_asm.specs.Laws.{Leaves, call_follows, after_one}
 use Rattle.mj_semantics.specs.State.{State, passed, pushed}
 use Rattle.mj_semantics.specs.Commands.{deeper}
 use Rattle.mj_pcode.specs.Context.{at_unit}
@@ -255,13 +255,13 @@ module _ (rs : List Routine) (us : List unit.Unit) (h : AreUnits rs us) (apart :
   all_below zero m lt = absurd (omega (arith, lt))
   all_below (suc b) m lt = do_lines m (λ q lt'. all_below b q (omega (arith, lt, lt')))
 
-  same_leave : (n : ℕ) → Agree n (returns (next_of us) []) (end None)
-  same_leave n = record { by = λ m le. refl }
+  same_leave : (n : ℕ) → Leaves us n [] (λ v. end None)
+  same_leave n v = record { by = λ m le. refl }
 
-  calls_same : (n : ℕ) (f : Option Found) (vs : List (Option (List ℕ))) → calls f vs [] (next_of us) n ≡ calls f vs [] (after_one us n) n
+  calls_same : (n : ℕ) (f : Option Found) (vs : List (Option (List ℕ))) → calls false f vs [] (next_of us) n ≡ calls false f vs [] (after_one us n) n
   calls_same n None vs = refl
   calls_same n (Some to) vs =
-      let enters : State → State = λ s. passed to.head.formals vs (pushed (place_in to.unit to.line) 1 None s) in
+      let enters : State → State = λ s. passed to.head.formals vs (pushed (place_in to.unit to.line) 1 false None s) in
       let f : Timed = next_of us (at_unit to.at []) to.head.start (tallies (length to.head.formals)) in
       let g : Timed = after_one us n (at_unit to.at []) to.head.start (tallies (length to.head.formals)) in
       if_at n (nat_eq to.head.level 1)
@@ -275,7 +275,7 @@ module _ (rs : List Routine) (us : List unit.Unit) (h : AreUnits rs us) (apart :
   pub does_entries : DoesEntries (record { routines = rs; units = us })
   does_entries entry vs depth n le =
       calls_same n (found us entry) vs ∙
-      call_follows (map routine_of rs) us depth n (entered (map routine_of rs) entry) (found us entry) vs [] (end None) le (lead_alike rs us h checked entry)
+      call_follows (map routine_of rs) us false depth n (entered (map routine_of rs) entry) (found us entry) vs [] (λ v. end None) le (lead_alike rs us h checked entry)
       (all_below (suc n) n (omega arith)) (same_leave n)
 
 pub are_checked : (us : List unit.Unit) → All IsChecked us → AreChecked us

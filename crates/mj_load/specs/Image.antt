@@ -1,5 +1,5 @@
 -- What an image is.
-use Rattle.std.specs.Prelude.{◌≡◌, ℕ, suc, ◌≤◌, ◌<◌, ◌^◌, List, [], ◌∷◌, ◌++◌, Option, Some, None, length, map, All, if◌then◌else◌}
+use Rattle.std.specs.Prelude.{◌≡◌, ℕ, suc, ◌≤◌, ◌<◌, ◌^◌, List, [], ◌∷◌, ◌++◌, Option, Some, None, false, length, map, All, if◌then◌else◌}
 use Rattle.std.specs.List.{list_any}
 use Rattle.std.specs.Str.{bytes_eq}
 use Rattle.mj_ask.specs.declared.entry.Entry.{Entry}
@@ -54,7 +54,8 @@ pub record IsSmall (u : unit.Unit) : Type 0 where
 abbrev pub DoesEntries : Loaded → Type 0
 DoesEntries image =
     (entry : Entry) (vs : List (Option (List ℕ))) (depth n : ℕ) → n ≤ depth
-    → calls (found image.units entry) vs [] (next_of image.units) n ≡ points_of (routines_of image) (suc depth) (Called entry vs (end None)) n
+    → calls false (found image.units entry) vs [] (next_of image.units) n
+    ≡ points_of (routines_of image) (suc depth) (Called false entry vs (λ v. end None)) n
 
 -- no two routines have one name, each has its code, the units do what the routines do, and none lacks an operand or a FOR or leads out of
 -- its code

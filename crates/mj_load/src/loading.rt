@@ -1,6 +1,6 @@
 // Loading.
 
-ghost use Rattle.std.specs.Prelude.{◌≡◌, ◌<◌, ◌↔◌, ℕ, [], List, Option, Some, Err, All, IfOk, MatchOption, length, slice_index_or};
+ghost use Rattle.std.specs.Prelude.{◌≡◌, ◌<◌, ◌↔◌, ℕ, [], List, Option, Some, Err, ⊤, All, IfOk, IfErr, MatchOption, length, slice_index_or};
 ghost use Rattle.std.specs.List.{list_any};
 ghost use Rattle.std.specs.Str.{bytes_eq};
 ghost use Rattle.mj_ast.specs.declared.routine.Routine.{Routine};
@@ -15,23 +15,12 @@ use mj_text::Text;
 use std::alloc::{AllocError, Global};
 
 /// Why routines are not loaded.
-#[derive(Debug, Drop)]
+#[derive(Drop)]
 pub enum LoadError {
     /// an earlier routine has this one's name
     Twice { name: Text },
-    /// an allocation was refused
-    Memory,
-}
-
-impl From<AllocError> for LoadError {
-    ghost use Rattle.std.specs.Prelude.{◌≡◌};
-    ghost use Rattle.mj_load.specs.declared.loading.LoadError.TheVariants.{Memory};
-
-    ghost from_gives = { λ _ e. e ≡ Memory };
-
-    fn from(_e: AllocError) -> LoadError {
-        LoadError::Memory
-    }
+    /// an allocation was refused: the routines come back
+    Memory { routines: Vec<Routine> },
 }
 
 /// An image of these routines.
@@ -39,13 +28,16 @@ pub fn load(alloc: Global, mut routines: Vec<Routine>) -> Result<Image, LoadErro
     requires { All IsWithinLimits routines.items }
     ensures ok { IfOk result (λ image. image.routines ≡ routines.items) }
     ensures twice { (name : List ℕ) → (result ≡ Err (LoadError.Twice name)) ↔ (repeated [] (names_of routines.items) ≡ Some name) }
+    ensures memory { IfErr result (λ e. elim e [ LoadError.Twice name ↦ ⊤ | LoadError.Memory back ↦ back.items ≡ routines.items ]) }
 {
     if let Some(k) = second(&routines) {
         let routine = routines.swap_remove(k);
         return Err(LoadError::Twice { name: routine.name });
     }
-    let units = units_of(alloc, &routines)?;
-    Ok(make_image(routines, units))
+    match units_of(alloc, &routines) {
+        Ok(made) => Ok(make_image(routines, made)),
+        Err(_) => Err(LoadError::Memory { routines }),
+    }
 }
 
 // The place of the first routine whose name an earlier one has.

@@ -9,8 +9,6 @@ mod access;
 mod locals;
 mod news;
 mod table;
-#[cfg(test)]
-mod tests;
 mod trail;
 
 pub use access::perform;

@@ -20,7 +20,7 @@ pub fn loaded<'a, R: Files + AllocGlobal>(rt: &R, files: &[&'a str]) -> Result<I
     }
     match load(rt.alloc(), routines) {
         Ok(image) => Ok(image),
-        Err(mj_load::LoadError::Memory) => Err(Stop::Memory),
+        Err(mj_load::LoadError::Memory { .. }) => Err(Stop::Memory),
         Err(mj_load::LoadError::Twice { name }) => Err(Stop::Twice(Word { name })),
     }
 }

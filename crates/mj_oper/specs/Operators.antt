@@ -5,6 +5,7 @@ use Rattle.std.specs.Str.{bytes_eq}
 use Rattle.std.specs.Ordering.{is_gt, nat_cmp}
 use Rattle.std.specs.Cmp.Lexicographic.{slice_cmp}
 use Rattle.std.specs.Option.{is_some}
+use Rattle.mj_text.specs.declared.text.TheConstants.{TEXT_LIMIT}
 use Rattle.mj_text.specs.declared.fault.Fault.{Fault}
 use Rattle.mj_text.specs.declared.fault.Fault.TheVariants.{Length}
 use Rattle.mj_text.specs.Failing.{then_value}
@@ -28,7 +29,7 @@ number_text r = then_value r (λ z. Ok (canonic_text z))
 
 -- `_`: the bytes of both, one after the other; more than a text holds are LENGTH
 abbrev pub joined : List ℕ → List ℕ → Result (List ℕ) Fault
-joined a b = if nat_le (length (a ++ b)) 32767 then Ok (a ++ b) else Err Length
+joined a b = if nat_le (length (a ++ b)) TEXT_LIMIT then Ok (a ++ b) else Err Length
 
 -- whether what a truth operator says holds: `[` where b stands somewhere in a; `]` where a comes after b by bytes, a proper
 -- front coming first. `&` and `!` read both sides, whatever the first one is.

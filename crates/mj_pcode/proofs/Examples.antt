@@ -1,11 +1,11 @@
 -- Rows of what code holds, of what is not checked, and of the turns of a call.
 use Rattle.std.proofs.Common.{arith, ap, ◌∙◌}
 use Rattle.std.proofs.lemmas.Option.{none-some}
-use Rattle.std.specs.Prelude.{◌≡◌, refl, ℕ, suc, List, [], ◌∷◌, Some, None, codes, slice_get}
+use Rattle.std.specs.Prelude.{◌≡◌, refl, ℕ, suc, List, [], ◌∷◌, Some, None, false, codes, slice_get}
 use Rattle.mj_ask.specs.declared.ask.Ask.TheVariants.{DeviceEnd}
 use Rattle.mj_oper.specs.declared.op.Op.TheVariants.{Add}
-use Rattle.mj_semantics.specs.State.{State, passed, pushed, places}
-use Rattle.mj_semantics.specs.Outcome.{Outcome, Needs, More, principal, end}
+use Rattle.mj_semantics.specs.State.{State, principal, passed, pushed, places}
+use Rattle.mj_semantics.specs.Outcome.{Outcome, Needs, More, end}
 use Rattle.mj_semantics.specs.Job.{no_restart, opening}
 use Rattle.mj_pcode.specs.declared.instr.Span.TheVariants as span
 use Rattle.mj_pcode.specs.declared.instr.Instr.{Instr}
@@ -65,10 +65,10 @@ module _ (u : Unit) (is_line : slice_get u.instrs.items 0 ≡ Some (line 2)) (is
 
   -- with n turns
   abbrev run : ℕ → Outcome
-  run n = calls (Some first_line) [] [] (next n) n no_restart opening []
+  run n = calls false (Some first_line) [] [] (next n) n no_restart (opening 1) []
 
   abbrev begun : State
-  begun = passed (codes "X" ∷ codes "Y" ∷ []) [] (pushed (place_in u 1) 1 None opening)
+  begun = passed (codes "X" ∷ codes "Y" ∷ []) [] (pushed (place_in u 1) 1 false None (opening 1))
 
   abbrev from : ℕ → Stack → ℕ → Outcome
   from pc stack n = exec (u ∷ []) n c pc stack no_restart begun []

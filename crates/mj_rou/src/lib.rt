@@ -8,8 +8,6 @@
 mod error;
 mod file;
 mod routine;
-#[cfg(test)]
-mod tests;
 
 pub use error::{LoadError, RoutineName};
 pub use routine::{LINE_LIMIT, ROUTINE_LIMIT, read};

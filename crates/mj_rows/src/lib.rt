@@ -1,5 +1,5 @@
-// Rows: runs of the whole program, from the words of the command line to what it prints and its exit status. Their expected values
-// were written down before the program ran.
+// Rows: runs of the whole program, from the words of the command line to what it prints and its exit status, and what the crates below it
+// give by themselves. Their expected values were written down before the program ran. A crate with tests is proved twice, so they stand here.
 #![tactic(auto)]
 
 #[cfg(test)]
@@ -9,8 +9,16 @@ mod control;
 #[cfg(test)]
 mod functions;
 #[cfg(test)]
+mod locals;
+#[cfg(test)]
 mod names;
 #[cfg(test)]
 mod operators;
 #[cfg(test)]
+mod reading;
+#[cfg(test)]
 mod runs;
+#[cfg(test)]
+mod texts;
+#[cfg(test)]
+mod trees;

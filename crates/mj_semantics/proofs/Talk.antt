@@ -1,6 +1,6 @@
 -- What a job asks in a whole run, to state examples with, and short ways to write routines.
 use Prim.Native.String.{String}
-use Rattle.std.specs.Prelude.{ℕ, zero, suc, List, [], ◌∷◌, ◌++◌, ◌-◌, Option, Some, None, true, map, codes, replicate}
+use Rattle.std.specs.Prelude.{ℕ, zero, suc, List, [], ◌∷◌, ◌++◌, ◌-◌, Option, Some, None, true, false, map, codes, replicate}
 use Rattle.mj_ask.specs.declared.ask.Ask.TheVariants as ask_kinds
 use Rattle.mj_ask.specs.declared.entry.Entry.{Entry}
 use Rattle.mj_ask.specs.declared.ask.Reply.TheVariants as reply_kinds
@@ -14,7 +14,7 @@ use Rattle.mj_ast.specs.Syntax.{Expr, Chain, Done, Operand, Literal, Value, Intr
 use Rattle.mj_semantics.specs.Outcome.{Outcome, Needs, Ended, More, end}
 use Rattle.mj_semantics.specs.State.{Frame, Place}
 use Rattle.mj_semantics.specs.Points.{AtLine}
-use Rattle.mj_semantics.specs.Job.{next, points_of, opening, no_restart}
+use Rattle.mj_semantics.specs.Job.{Start, next, points_of, opening, no_restart}
 
 abbrev asked : Outcome → List Ask
 asked (Needs a locals places) = a ∷ []
@@ -26,10 +26,18 @@ abbrev talk : (List Reply → Outcome) → List Reply → List Reply → List As
 talk run told [] = asked (run told)
 talk run told (r ∷ replies) = asked (run told) ++ talk run (told ++ r ∷ []) replies
 
+-- the first job, which starts at an entry, without values
+abbrev pub first_job : Entry → Start
+first_job entry = record { job = 1; entry = entry; values = [] }
+
+-- at the first line of a routine
+abbrev pub first_at : List ℕ → Start
+first_at routine = first_job (record { label = None; routine = routine })
+
 -- the asks of a job that starts at the first line of the routine R, within 1,000 turns
 abbrev pub asks : List Line → List Reply → List Ask
 asks lines replies =
-    talk (next (record { name = codes "R"; lines = lines } ∷ []) (record { label = None; routine = codes "R" }) 1000) [] replies
+    talk (next (record { name = codes "R"; lines = lines } ∷ []) (first_at (codes "R")) 1000) [] replies
 
 abbrev pub cmd : Command → Step
 cmd c = record { condition = None; command = c }
@@ -164,7 +172,7 @@ image_of list = map (λ r. record { name = codes r.0; lines = r.1 }) list
 
 -- what a job writes that starts at an entry of some routines, where it is over within 40 asks and so many turns; none where it isn't
 abbrev pub says_within : ℕ → List (String × List Line) → Entry → Option (List ℕ)
-says_within turns routines entry = heard (next (image_of routines) entry turns) 40 0 []
+says_within turns routines entry = heard (next (image_of routines) (first_job entry) turns) 40 0 []
 
 -- what a job writes that starts at the first line of R
 abbrev pub says_with : List (String × List Line) → Option (List ℕ)
@@ -177,13 +185,13 @@ says lines = says_with (("R", lines) ∷ [])
 -- A job that has so many frames: it stands at the first line of R, and the first asks of the line's commands follow.
 
 abbrev frame : Frame
-frame = record { place = record { routine = codes "R"; line = 9 }; level = 1; test = None; height = 0 }
+frame = record { place = record { routine = codes "R"; line = 9 }; level = 1; function = false; test = None; height = 0 }
 
 -- what a job writes first that comes with so many frames to the first line of R
 abbrev pub says_deep : ℕ → List Line → List ℕ
 says_deep frames lines =
-    elim (points_of (image_of (("R", lines) ∷ [])) 40 (AtLine (record { routine = codes "R"; line = 1 }) (end None)) 40 no_restart
-    (record opening { frames = replicate frames frame }) []) [
+    elim (points_of (image_of (("R", lines) ∷ [])) 40 (AtLine (record { routine = codes "R"; line = 1 }) (λ v. end None)) 40 no_restart
+    (record (opening 1) { frames = replicate frames frame }) []) [
       | Needs a locals places ↦ written a
       | Ended ↦ []
       | More ↦ []
@@ -191,13 +199,13 @@ says_deep frames lines =
 
 -- how a job stops that starts at the first line of R, at the ask after so many to which the reply is that it is done
 abbrev pub stands : List Line → ℕ → Outcome
-stands lines told = next (image_of (("R", lines) ∷ [])) (record { label = None; routine = codes "R" }) 400 (replicate told reply_kinds.Done)
+stands lines told = next (image_of (("R", lines) ∷ [])) (first_at (codes "R")) 400 (replicate told reply_kinds.Done)
 
 -- how a job stops that starts at the first line of R, after one turn less than so many, and after so many, where the reply to its first
 -- ask is that it is done
 abbrev pub turns : List Line → ℕ → Outcome × Outcome
 turns lines n =
-    let run : ℕ → Outcome = (λ k. next (image_of (("R", lines) ∷ [])) (record { label = None; routine = codes "R" }) k (reply_kinds.Done ∷ [])) in
+    let run : ℕ → Outcome = (λ k. next (image_of (("R", lines) ∷ [])) (first_at (codes "R")) k (reply_kinds.Done ∷ [])) in
     (run (n - 1), run n)
 
 -- line k of R

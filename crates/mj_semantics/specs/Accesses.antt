@@ -16,8 +16,8 @@ use Rattle.mj_semantics.specs.Outcome.{Timed, look, change, ask, given}
 
 -- the answer that a reply brings
 abbrev pub answer_told : Reply → Answer
-answer_told replies.Done = answers.Done
 answer_told (replies.Answer a) = a
+answer_told _ = answers.Done
 
 -- an answer; that a limit is passed is LIMIT
 abbrev pub answered : Answer → Result Answer Fault

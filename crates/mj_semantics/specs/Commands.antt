@@ -1,6 +1,7 @@
 -- What the commands of a line do (ISO/IEC 11756:1999, 8.2).
 use Rattle.std.specs.Prelude.{ℕ, ◌+◌, ℤ, int_le, ◌+ℤ◌, pos, negsuc, List, [], ◌∷◌, Option, Some, None, Bool, true, false, length, map, nat_lt, if◌then◌else◌}
-use Rattle.mj_text.specs.declared.fault.Fault.TheVariants.{Length, Overlap, ForIndex, Depth}
+use Rattle.mj_text.specs.declared.text.TheConstants.{TEXT_LIMIT}
+use Rattle.mj_text.specs.declared.fault.Fault.TheVariants.{QuitInTransaction, Length, Overlap, ForIndex, Depth}
 use Rattle.mj_num.specs.Number.{reading, sum_of, canonic_text}
 use Rattle.mj_oper.specs.Operators.{truth_value}
 use Rattle.mj_subs.specs.Name.{Name, overlaps}
@@ -11,10 +12,10 @@ use Rattle.mj_ast.specs.declared.routine.Mark.{Mark}
 use Rattle.mj_ast.specs.declared.routine.Mark.TheVariants.{NewLine}
 use Rattle.mj_ast.specs.Syntax.{Expr, Destination, Plain, Pieces, Targets, One, Several, Assignment, Killed, Gone, Spared, Merged, Output, Shown, Format, Called, Jumped, Range, Single, Endless, UpTo, Renewed, Fresh, Kept, Command, Set, Write, Halt, Kill, Merge, If, Else, For, Forever, Do, Goto, Quit, New, Step}
 use Rattle.mj_strfn.specs.Functions.{assigned_pieces, set_piece_value}
-use Rattle.mj_semantics.specs.State.{Only, AllBut, wrote, spare, hold, level_of, set_test, newed, pushed, popped}
-use Rattle.mj_semantics.specs.Outcome.{Timed, turn, look, change, tell, need, given, end, fault, principal}
+use Rattle.mj_semantics.specs.State.{Only, AllBut, wrote, spare, hold, level_of, is_at_mark, set_test, newed, pushed, popped}
+use Rattle.mj_semantics.specs.Outcome.{Timed, turn, look, change, to_device, need, given, end, fault}
 use Rattle.mj_semantics.specs.Lines.{Here, place_at, next_line, entry_of}
-use Rattle.mj_semantics.specs.Points.{Ways, Loop, Once, Always, By, Points, AtLine, Called as CalledAt, Jumped as JumpedAt, Pass}
+use Rattle.mj_semantics.specs.Points.{Leave, Ways, Loop, Once, Always, By, Points, AtLine, Called as CalledAt, Jumped as JumpedAt, Pass}
 use Rattle.mj_semantics.specs.Accesses.{access, value_told, nodes_told}
 use Rattle.mj_semantics.specs.Functions.{needed, optional}
 use Rattle.mj_semantics.specs.Evaluation.{ev, ev_all, ev_name, ev_local, ev_actuals, when}
@@ -26,15 +27,6 @@ use Rattle.mj_semantics.specs.Evaluation.{ev, ev_all, ev_name, ev_local, ev_actu
 pub data Aim : Type 0 where
   Whole : (x : Name) → Aim
   Part : (x : Name) (arguments : List (List ℕ)) → Aim
-
--- a destination: the name, and then of pieces the separator and the places
-abbrev pub ev_destination : Destination → (Aim → Timed) → Timed
-ev_destination (Plain v) rest = ev_name v (λ x. rest (Whole x))
-ev_destination (Pieces v es) rest = ev_name v (λ x. ev_all es (λ ts. rest (Part x ts)))
-
-abbrev pub ev_destinations : List Destination → (List Aim → Timed) → Timed
-ev_destinations [] rest = rest []
-ev_destinations (d ∷ list) rest = ev_destination d (λ t. ev_destinations list (λ ts. rest (t ∷ ts)))
 
 -- a name gets a value
 abbrev pub store : Name → List ℕ → Timed → Timed
@@ -67,18 +59,6 @@ abbrev pub put_all : List Aim → List ℕ → Timed → Timed
 put_all [] v rest = rest
 put_all (t ∷ list) v rest = turn (put t v (put_all list v rest))
 
--- an argument: the destinations from left to right, then the value, then the assignments from left to right
-abbrev pub assign_to : Targets → Expr → Timed → Timed
-assign_to (One d) e rest = ev_destination d (λ t. ev e (λ v. turn (put t v rest)))
-assign_to (Several list) e rest = ev_destinations list (λ ts. ev e (λ v. put_all ts v (turn rest)))
-
-abbrev pub assign : Assignment → Timed → Timed
-assign a rest = assign_to a.targets a.value rest
-
-abbrev pub assign_all : List Assignment → Timed → Timed
-assign_all [] rest = rest
-assign_all (a ∷ list) rest = assign a (assign_all list rest)
-
 -- KILL (8.2.11).
 
 -- a name goes, with all that is below it
@@ -89,19 +69,6 @@ remove x rest = access (accesses.Kill x) (λ a. rest)
 abbrev pub named : List (List ℕ) → Timed → Timed
 named [] rest = rest
 named (word ∷ words) rest = turn (named words rest)
-
-abbrev pub kill : Killed → Timed → Timed
-kill (Gone v) rest = ev_name v (λ x. turn (remove x rest))
-kill (Spared words) rest = named words (turn (change (spare words) rest))
-
-abbrev pub kill_list : List Killed → Timed → Timed
-kill_list [] rest = rest
-kill_list (k ∷ list) rest = kill k (kill_list list rest)
-
--- without arguments all locals go
-abbrev pub kill_all : List Killed → Timed → Timed
-kill_all [] rest = turn (change (spare []) rest)
-kill_all (k ∷ list) rest = kill_list (k ∷ list) rest
 
 -- MERGE (8.2.13).
 
@@ -118,14 +85,6 @@ put_these x (e ∷ nodes) rest = access (accesses.Put x (e ∷ nodes)) (λ a. ch
 
 abbrev pub put_nodes : Name → Timed → Timed
 put_nodes x rest = look (λ s. put_these x s.held rest)
-
--- the name that nodes go to, then the name that they stand at, with which they are taken; in a turn of its own they are put
-abbrev pub merge : Merged → Timed → Timed
-merge m rest = ev_name m.into (λ x. ev_name m.from (λ y. take_nodes x y (turn (put_nodes x rest))))
-
-abbrev pub merge_all : List Merged → Timed → Timed
-merge_all [] rest = rest
-merge_all (m ∷ list) rest = merge m (merge_all list rest)
 
 -- NEW (8.2.14).
 
@@ -149,38 +108,28 @@ new_all (r ∷ list) rest = new_list (r ∷ list) rest
 abbrev pub frames_limit : ℕ
 frames_limit = 512
 
+-- the QUIT of a frame; that of the frame of the outermost TSTART is TXQUIT (this profile)
+abbrev pub quit_frame : Timed → Timed
+quit_frame rest = look (λ s. if is_at_mark s then fault QuitInTransaction else rest)
+
 -- the rest with a new frame, if there may be one more; else DEPTH
 abbrev pub deeper : Timed → Timed
 deeper rest = look (λ s. if nat_lt (length s.frames) frames_limit then rest else fault Depth)
 
 -- WRITE (8.2.25).
 
--- bytes go to the principal device by one ask, and none where there are none; more than a text holds are LENGTH
+-- bytes go to the current device by one ask, and none where there are none; more than a text holds are LENGTH
 abbrev pub write : List ℕ → Timed → Timed
 write [] rest = rest
 write (b ∷ bytes) rest =
-    if nat_lt 32767 (length (b ∷ bytes)) then fault Length
-    else tell (asks.DeviceWrite principal (b ∷ bytes)) (change (wrote (b ∷ bytes)) rest)
+    if nat_lt TEXT_LIMIT (length (b ∷ bytes)) then fault Length
+    else look (λ s. to_device s.current (asks.DeviceWrite s.current (b ∷ bytes)) (change (wrote (b ∷ bytes)) rest))
 
 -- the byte that a format mark writes
 abbrev pub mark_byte : Mark → ℕ
 mark_byte NewLine = 10
 
-abbrev pub output : Output → Timed → Timed
-output (Shown e) rest = ev e (λ v. turn (write v rest))
-output (Format marks) rest = turn (write (map mark_byte marks) rest)
-
-abbrev pub output_all : List Output → Timed → Timed
-output_all [] rest = rest
-output_all (o ∷ list) rest = output o (output_all list rest)
-
 -- IF (8.2.9) and ELSE (8.2.4).
-
--- the conditions in order, of which each sets `$TEST`; a false one leads to the line's end
-abbrev pub ifs : List Expr → Timed → Timed → Timed
-ifs [] line_end rest = rest
-ifs (e ∷ es) line_end rest =
-    ev e (λ v. turn (given (truth_value v) (λ b. change (set_test b) (if b then ifs es line_end rest else line_end))))
 
 -- the rest where `$TEST` is so, else the line's end
 abbrev pub if_test : Bool → Timed → Timed → Timed
@@ -215,17 +164,87 @@ first x i step (Some end) after pass = store x (canonic_text i) (if is_within st
 abbrev pub reading_two : List ℕ → List ℕ → (ℤ → ℤ → Timed) → Timed
 reading_two v w rest = given (reading v) (λ i. given (reading w) (λ j. rest i j))
 
+-- What evaluates: the commands of a line that stands here.
+
 module _ (points : Points) (here : Here) where
+  -- SET.
+
+  -- a destination: the name, and then of pieces the separator and the places
+  abbrev pub ev_destination : Destination → (Aim → Timed) → Timed
+  ev_destination (Plain v) rest = ev_name points here v (λ x. rest (Whole x))
+  ev_destination (Pieces v es) rest = ev_name points here v (λ x. ev_all points here es (λ ts. rest (Part x ts)))
+
+  abbrev pub ev_destinations : List Destination → (List Aim → Timed) → Timed
+  ev_destinations [] rest = rest []
+  ev_destinations (d ∷ list) rest = ev_destination d (λ t. ev_destinations list (λ ts. rest (t ∷ ts)))
+
+  -- an argument: the destinations from left to right, then the value, then the assignments from left to right
+  abbrev pub assign_to : Targets → Expr → Timed → Timed
+  assign_to (One d) e rest = ev_destination d (λ t. ev points here e (λ v. turn (put t v rest)))
+  assign_to (Several list) e rest = ev_destinations list (λ ts. ev points here e (λ v. put_all ts v (turn rest)))
+
+  abbrev pub assign : Assignment → Timed → Timed
+  assign a rest = assign_to a.targets a.value rest
+
+  abbrev pub assign_all : List Assignment → Timed → Timed
+  assign_all [] rest = rest
+  assign_all (a ∷ list) rest = assign a (assign_all list rest)
+
+  -- KILL.
+
+  abbrev pub kill : Killed → Timed → Timed
+  kill (Gone v) rest = ev_name points here v (λ x. turn (remove x rest))
+  kill (Spared words) rest = named words (turn (change (spare words) rest))
+
+  abbrev pub kill_list : List Killed → Timed → Timed
+  kill_list [] rest = rest
+  kill_list (k ∷ list) rest = kill k (kill_list list rest)
+
+  -- without arguments all locals go
+  abbrev pub kill_all : List Killed → Timed → Timed
+  kill_all [] rest = turn (change (spare []) rest)
+  kill_all (k ∷ list) rest = kill_list (k ∷ list) rest
+
+  -- MERGE.
+
+  -- the name that nodes go to, then the name that they stand at, with which they are taken; in a turn of its own they are put
+  abbrev pub merge : Merged → Timed → Timed
+  merge m rest = ev_name points here m.into (λ x. ev_name points here m.from (λ y. take_nodes x y (turn (put_nodes x rest))))
+
+  abbrev pub merge_all : List Merged → Timed → Timed
+  merge_all [] rest = rest
+  merge_all (m ∷ list) rest = merge m (merge_all list rest)
+
+  -- WRITE.
+
+  abbrev pub output : Output → Timed → Timed
+  output (Shown e) rest = ev points here e (λ v. turn (write v rest))
+  output (Format marks) rest = turn (write (map mark_byte marks) rest)
+
+  abbrev pub output_all : List Output → Timed → Timed
+  output_all [] rest = rest
+  output_all (o ∷ list) rest = output o (output_all list rest)
+
+  -- IF.
+
+  -- the conditions in order, of which each sets `$TEST`; a false one leads to the line's end
+  abbrev pub ifs : List Expr → Timed → Timed → Timed
+  ifs [] line_end rest = rest
+  ifs (e ∷ es) line_end rest =
+      ev points here e (λ v. turn (given (truth_value v) (λ b. change (set_test b) (if b then ifs es line_end rest else line_end))))
+
+  -- FOR.
+
   -- what a FOR goes through, in order, each evaluated when it is reached; behind the last one the line's end, in a turn of its own
   abbrev pub ranges : Name → List Range → List Step → Ways → Timed
   ranges x [] body ways = turn ways.line_end
   ranges x (Single a ∷ rs) body ways =
-      ev a (λ v. turn (store x v (points (Pass here Once body (ranges x rs body ways) ways))))
+      ev points here a (λ v. turn (store x v (points (Pass here Once body (ranges x rs body ways) ways))))
   ranges x (Endless a b ∷ rs) body ways =
-      ev a (λ v. ev b (λ w. turn (reading_two v w (λ i step.
+      ev points here a (λ v. ev points here b (λ w. turn (reading_two v w (λ i step.
       first x i step None (ranges x rs body ways) (points (Pass here (By x step None) body (ranges x rs body ways) ways))))))
   ranges x (UpTo a b c ∷ rs) body ways =
-      ev a (λ v. ev b (λ w. ev c (λ u. turn (reading_two v w (λ i step. given (reading u) (λ end.
+      ev points here a (λ v. ev points here b (λ w. ev points here c (λ u. turn (reading_two v w (λ i step. given (reading u) (λ end.
       first x i step (Some end) (ranges x rs body ways) (points (Pass here (By x step (Some end)) body (ranges x rs body ways) ways))))))))
 
   -- DO (8.2.3).
@@ -234,20 +253,20 @@ module _ (points : Points) (here : Here) where
   abbrev pub calls : List Called → Timed → Timed
   calls [] rest = rest
   calls (c ∷ list) rest =
-      when c.condition
-      (ev_actuals c.actuals (λ vs. turn (points (CalledAt (entry_of here c.target) vs (change popped (calls list rest))))))
+      when points here c.condition
+      (ev_actuals points here c.actuals (λ vs. turn (points (CalledAt false (entry_of here c.target) vs (λ v. change popped (calls list rest))))))
       (calls list rest)
 
   -- the block behind this line, in a frame of its own, which restores `$TEST`
   abbrev pub block : Timed → Timed
   block rest =
-      deeper (look (λ s. change (pushed (place_at here) (level_of s + 1) (Some s.test))
-      (turn (points (AtLine (next_line here) (change popped rest))))))
+      deeper (look (λ s. change (pushed (place_at here) (level_of s + 1) false (Some s.test))
+      (turn (points (AtLine (next_line here) (λ v. change popped rest))))))
 
   -- GOTO (8.2.6): the first argument whose condition is true
-  abbrev pub jumps : List Jumped → Timed → Timed → Timed
+  abbrev pub jumps : List Jumped → Leave → Timed → Timed
   jumps [] leave rest = rest
-  jumps (j ∷ list) leave rest = when j.condition (turn (points (JumpedAt (entry_of here j.target) leave))) (jumps list leave rest)
+  jumps (j ∷ list) leave rest = when points here j.condition (turn (points (JumpedAt (entry_of here j.target) leave))) (jumps list leave rest)
 
   -- DO without arguments is that of the block
   abbrev pub do_all : List Called → Timed → Timed
@@ -262,19 +281,19 @@ module _ (points : Points) (here : Here) where
   -- a command with its postcondition, where these are the commands behind it in its line, and then the rest. HALT (8.2.7) has none.
   -- IF, ELSE and FOR have no postcondition
   abbrev pub obey : Command → Option Expr → List Step → Ways → Timed → Timed
-  obey (Set list) c steps ways rest = when c (assign_all list rest) rest
-  obey (Write list) c steps ways rest = when c (output_all list rest) rest
-  obey Halt c steps ways rest = when c (turn (end None)) rest
-  obey (Kill list) c steps ways rest = when c (kill_all list rest) rest
-  obey (Merge list) c steps ways rest = when c (merge_all list rest) rest
+  obey (Set list) c steps ways rest = when points here c (assign_all list rest) rest
+  obey (Write list) c steps ways rest = when points here c (output_all list rest) rest
+  obey Halt c steps ways rest = when points here c (turn (end None)) rest
+  obey (Kill list) c steps ways rest = when points here c (kill_all list rest) rest
+  obey (Merge list) c steps ways rest = when points here c (merge_all list rest) rest
   obey (If es) c steps ways rest = if_all es ways.line_end rest
   obey Else c steps ways rest = turn (if_test false ways.line_end rest)
-  obey (For v rs) c steps ways rest = ev_local v (λ x. ranges x rs steps ways)
+  obey (For v rs) c steps ways rest = ev_local points here v (λ x. ranges x rs steps ways)
   obey Forever c steps ways rest = turn (points (Pass here Always steps (turn ways.line_end) ways))
-  obey (Do list) c steps ways rest = when c (do_all list rest) rest
-  obey (Goto list) c steps ways rest = when c (jumps list ways.leave rest) rest
-  obey Quit c steps ways rest = when c (turn (elim ways.for_quit [ None ↦ ways.leave | Some out ↦ out ])) rest
-  obey (New list) c steps ways rest = when c (new_all list rest) rest
+  obey (Do list) c steps ways rest = when points here c (do_all list rest) rest
+  obey (Goto list) c steps ways rest = when points here c (jumps list ways.leave rest) rest
+  obey Quit c steps ways rest = when points here c (turn (elim ways.for_quit [ None ↦ quit_frame (ways.leave []) | Some out ↦ out ])) rest
+  obey (New list) c steps ways rest = when points here c (new_all list rest) rest
 
   -- commands in order, up to the end of their line
   abbrev pub obey_all : List Step → Ways → Timed

@@ -14,6 +14,8 @@ use Rattle.mj_semantics.specs.Functions.{call_value, optional}
 use Rattle.mj_semantics.specs.Names.{spelled, asks, question, told}
 use Rattle.mj_semantics.specs.State.{special_value}
 use Rattle.mj_semantics.specs.Outcome.{Timed, turn, look, need, given, fault}
+use Rattle.mj_semantics.specs.Lines.{Here}
+use Rattle.mj_semantics.specs.Points.{Points}
 use Rattle.mj_semantics.specs.Accesses.{access, value_told}
 
 -- whether a list of subscripts has an empty one
@@ -66,62 +68,64 @@ about f x other rest =
     if asks f then given (question f x other) (λ a. access a (λ r. given (told f other r) rest))
     else given (spelled x) rest
 
-abbrev mutual
-  -- the value of an expression, and then the rest with it (7.2): each operator is applied once its right side has its
-  -- value, to all that stands left of it
-  pub ev : Expr → (List ℕ → Timed) → Timed
-  ev (Chain x ts) rest = ev_operand x (λ v. ev_tails v ts rest)
+-- where an expression stands is known, and what points lead to, since a call in it goes to a line
+module _ (points : Points) (here : Here) where
+  abbrev mutual
+    -- the value of an expression, and then the rest with it (7.2): each operator is applied once its right side has its
+    -- value, to all that stands left of it
+    pub ev : Expr → (List ℕ → Timed) → Timed
+    ev (Chain x ts) rest = ev_operand x (λ v. ev_tails v ts rest)
 
-  pub ev_tails : List ℕ → Tails → (List ℕ → Timed) → Timed
-  ev_tails v Done rest = rest v
-  ev_tails v (Then op x ts) rest =
-      ev_operand x (λ w. turn (given (binary_value op v w) (λ u. ev_tails u ts rest)))
+    pub ev_tails : List ℕ → Tails → (List ℕ → Timed) → Timed
+    ev_tails v Done rest = rest v
+    ev_tails v (Then op x ts) rest =
+        ev_operand x (λ w. turn (given (binary_value op v w) (λ u. ev_tails u ts rest)))
 
-  -- 7.1: a literal, a variable, a special variable, an operator with its operand, an expression in parentheses, a function with its arguments, of
-  -- which the first may be a variable. That one's name is complete before the others have their values, and the function asks once
-  -- they have (this profile).
-  pub ev_operand : Operand → (List ℕ → Timed) → Timed
-  ev_operand (Literal t) rest = turn (rest t)
-  ev_operand (Value v) rest = ev_name v (λ x. read x rest)
-  ev_operand (Intrinsic v) rest = turn (look (λ s. rest (special_value v s)))
-  ev_operand (Unary op x) rest = ev_operand x (λ v. turn (given (unary_value op v) rest))
-  ev_operand (Group e) rest = ev e rest
-  ev_operand (Call f es) rest = ev_all es (λ vs. turn (given (call_value f vs) rest))
-  ev_operand (About f v es) rest = ev_named f v (λ x. ev_all es (λ vs. turn (about f x (optional 0 vs) rest)))
-  ev_operand (Select choices) rest = ev_choices choices rest
+    -- 7.1: a literal, a variable, a special variable, an operator with its operand, an expression in parentheses, a function with its arguments, of
+    -- which the first may be a variable. That one's name is complete before the others have their values, and the function asks once
+    -- they have (this profile).
+    pub ev_operand : Operand → (List ℕ → Timed) → Timed
+    ev_operand (Literal t) rest = turn (rest t)
+    ev_operand (Value v) rest = ev_name v (λ x. read x rest)
+    ev_operand (Intrinsic v) rest = turn (look (λ s. rest (special_value v s)))
+    ev_operand (Unary op x) rest = ev_operand x (λ v. turn (given (unary_value op v) rest))
+    ev_operand (Group e) rest = ev e rest
+    ev_operand (Call f es) rest = ev_all es (λ vs. turn (given (call_value f vs) rest))
+    ev_operand (About f v es) rest = ev_named f v (λ x. ev_all es (λ vs. turn (about f x (optional 0 vs) rest)))
+    ev_operand (Select choices) rest = ev_choices choices rest
 
-  -- `$SELECT` (7.1.5.17): the value of the first true condition; later ones aren't looked at. Where none is true it is SELECT.
-  -- A condition is tested in a turn of its own (this profile).
-  pub ev_choices : Choices → (List ℕ → Timed) → Timed
-  ev_choices (Last c e) rest =
-      ev c (λ v. turn (given (truth_value v) (λ b. if b then ev e (λ w. turn (rest w)) else turn (fault NoneTrue))))
-  ev_choices (Before c e others) rest =
-      ev c (λ v. turn (given (truth_value v) (λ b. if b then ev e (λ w. turn (rest w)) else ev_choices others rest)))
+    -- `$SELECT` (7.1.5.17): the value of the first true condition; later ones aren't looked at. Where none is true it is SELECT.
+    -- A condition is tested in a turn of its own (this profile).
+    pub ev_choices : Choices → (List ℕ → Timed) → Timed
+    ev_choices (Last c e) rest =
+        ev c (λ v. turn (given (truth_value v) (λ b. if b then ev e (λ w. turn (rest w)) else turn (fault NoneTrue))))
+    ev_choices (Before c e others) rest =
+        ev c (λ v. turn (given (truth_value v) (λ b. if b then ev e (λ w. turn (rest w)) else ev_choices others rest)))
 
-  -- the name that a variable is: its subscripts in order, and then the whole
-  pub ev_name : Variable → (Name → Timed) → Timed
-  ev_name (Var scope word es) rest = ev_all es (λ ss. turn (given (name_of scope word ss) rest))
+    -- the name that a variable is: its subscripts in order, and then the whole
+    pub ev_name : Variable → (Name → Timed) → Timed
+    ev_name (Var scope word es) rest = ev_all es (λ ss. turn (given (name_of scope word ss) rest))
 
-  -- the name that a function is about, in the same way
-  pub ev_named : NameFunction → Variable → (Name → Timed) → Timed
-  ev_named f (Var scope word es) rest = ev_all es (λ ss. turn (given (named_for f scope word ss) rest))
+    -- the name that a function is about, in the same way
+    pub ev_named : NameFunction → Variable → (Name → Timed) → Timed
+    ev_named f (Var scope word es) rest = ev_all es (λ ss. turn (given (named_for f scope word ss) rest))
 
-  -- the values of expressions, in order
-  pub ev_all : Exprs → (List (List ℕ) → Timed) → Timed
-  ev_all No rest = rest []
-  ev_all (More e es) rest = ev e (λ v. ev_all es (λ vs. rest (v ∷ vs)))
+    -- the values of expressions, in order
+    pub ev_all : Exprs → (List (List ℕ) → Timed) → Timed
+    ev_all No rest = rest []
+    ev_all (More e es) rest = ev e (λ v. ev_all es (λ vs. rest (v ∷ vs)))
 
--- the values of actuals, in order; one that is left out has none, and takes no turn (this profile)
-abbrev pub ev_actuals : List (Option Expr) → (List (Option (List ℕ)) → Timed) → Timed
-ev_actuals [] rest = rest []
-ev_actuals (None ∷ es) rest = ev_actuals es (λ vs. rest (None ∷ vs))
-ev_actuals (Some e ∷ es) rest = ev e (λ v. ev_actuals es (λ vs. rest (Some v ∷ vs)))
+  -- the values of actuals, in order; one that is left out has none, and takes no turn (this profile)
+  abbrev pub ev_actuals : List (Option Expr) → (List (Option (List ℕ)) → Timed) → Timed
+  ev_actuals [] rest = rest []
+  ev_actuals (None ∷ es) rest = ev_actuals es (λ vs. rest (None ∷ vs))
+  ev_actuals (Some e ∷ es) rest = ev e (λ v. ev_actuals es (λ vs. rest (Some v ∷ vs)))
 
--- the name of the local of a FOR
-abbrev pub ev_local : Variable → (Name → Timed) → Timed
-ev_local (Var scope word es) rest = ev_all es (λ ss. turn (given (name_of scopes.Local word ss) rest))
+  -- the name of the local of a FOR
+  abbrev pub ev_local : Variable → (Name → Timed) → Timed
+  ev_local (Var scope word es) rest = ev_all es (λ ss. turn (given (name_of scopes.Local word ss) rest))
 
--- one of two rests, by a postcondition (8.1.4), which is tested in a turn of its own
-abbrev pub when : Option Expr → Timed → Timed → Timed
-when None done skipped = done
-when (Some e) done skipped = ev e (λ v. turn (given (truth_value v) (λ b. if b then done else skipped)))
+  -- one of two rests, by a postcondition (8.1.4), which is tested in a turn of its own
+  abbrev pub when : Option Expr → Timed → Timed → Timed
+  when None done skipped = done
+  when (Some e) done skipped = ev e (λ v. turn (given (truth_value v) (λ b. if b then done else skipped)))

@@ -1,22 +1,22 @@
 -- Lines and frames, and what a job does from its start.
-use Rattle.std.specs.Prelude.{ℕ, zero, suc, List, [], Option, Some, None, false, length, nat_lt, nat_eq, if◌then◌else◌}
+use Rattle.std.specs.Prelude.{ℕ, zero, suc, List, [], ◌∷◌, Option, Some, None, Bool, false, length, nat_lt, nat_eq, if◌then◌else◌}
 use Rattle.mj_text.specs.declared.fault.Fault.TheVariants.{NoLine, Params}
 use Rattle.mj_ask.specs.declared.ask.Ask.TheVariants.{DeviceBegin}
 use Rattle.mj_ask.specs.declared.ask.Reply.{Reply}
 use Rattle.mj_ask.specs.declared.entry.Entry.{Entry}
 use Rattle.mj_ast.specs.Syntax.{Line, Routine}
-use Rattle.mj_semantics.specs.State.{State, level_of, may_go, pushed, passed, at_place}
-use Rattle.mj_semantics.specs.Outcome.{Outcome, More, Handler, Timed, turn, turns, look, change, tell, end, fault, principal}
+use Rattle.mj_semantics.specs.State.{State, principal, untouched, level_of, may_go, pushed, passed, at_place}
+use Rattle.mj_semantics.specs.Outcome.{Outcome, More, Handler, Timed, turn, turns, look, change, restartable, to_device, end, fault}
 use Rattle.mj_semantics.specs.Lines.{Here, place_at, next_line, line_before, line_at, levels_of, entered}
-use Rattle.mj_semantics.specs.Points.{Ways, Loop, AtLine, Called, Jumped, Pass, Points}
-use Rattle.mj_semantics.specs.Commands.{again, deeper, obey_all}
+use Rattle.mj_semantics.specs.Points.{Leave, Ways, Loop, AtLine, Called, Jumped, Pass, Started, Points}
+use Rattle.mj_semantics.specs.Commands.{quit_frame, again, deeper, obey_all}
 
 -- the end of a routine or of a block is a QUIT of its frame, at the line before it
-abbrev pub quit_before : Here → Timed → Timed
-quit_before here leave = change (at_place (place_at (line_before here))) leave
+abbrev pub quit_before : Here → Leave → Timed
+quit_before here leave = change (at_place (place_at (line_before here))) (quit_frame (leave []))
 
 -- a line: one that is deeper than its frame is passed over, and one that is less deep stands behind the block
-abbrev pub obey_line : Points → Here → Option Line → Timed → Timed
+abbrev pub obey_line : Points → Here → Option Line → Leave → Timed
 obey_line points here None leave = quit_before here leave
 obey_line points here (Some line) leave = look (λ s.
     let next : Timed = turn (points (AtLine (next_line here) leave)) in
@@ -24,20 +24,20 @@ obey_line points here (Some line) leave = look (λ s.
     else if nat_lt (level_of s) line.level then next
     else change (at_place (place_at here)) (obey_all points here line.steps (record { line_end = next; for_quit = None; leave = leave })))
 
--- a new frame at the line that an entry names, which is of level 1, with no more values than the line has formals. Each formal takes a
--- turn, before that of the line
-abbrev pub call : Points → Option (Here × Line) → List (Option (List ℕ)) → Timed → Timed
-call points None vs leave = fault NoLine
-call points (Some to) vs leave =
+-- a new frame, a function's or not, at the line that an entry names, which is of level 1, with no more values than the line has
+-- formals. Each formal takes a turn, before that of the line. A function's restores `$TEST`
+abbrev pub call : Points → Bool → Option (Here × Line) → List (Option (List ℕ)) → Leave → Timed
+call points function None vs leave = fault NoLine
+call points function (Some to) vs leave =
     if nat_eq to.1.level 1
     then if nat_lt (length to.1.formals) (length vs) then fault Params
     else deeper
-    (change (λ s. passed to.1.formals vs (pushed (place_at to.0) 1 None s))
+    (change (λ s. passed to.1.formals vs (pushed (place_at to.0) 1 function (if function then Some s.test else None) s))
     (turns (length to.1.formals) (turn (points (AtLine to.0 leave)))))
     else fault NoLine
 
 -- a GOTO of the line that an entry names
-abbrev pub jump : List Routine → Points → Option (Here × Line) → Timed → Timed
+abbrev pub jump : List Routine → Points → Option (Here × Line) → Leave → Timed
 jump image points None leave = fault NoLine
 jump image points (Some to) leave = look (λ s.
     if may_go s (place_at to.0) to.1.level (levels_of image to.0.routine) then turn (points (AtLine to.0 leave)) else fault NoLine)
@@ -49,10 +49,11 @@ in_pass loop after pass ways = record { line_end = turn (again loop after pass);
 
 abbrev pub at_point : List Routine → Points → Points
 at_point image points (AtLine here leave) = obey_line points here (line_at image here) leave
-at_point image points (Called entry vs leave) = call points (entered image entry) vs leave
+at_point image points (Called function entry vs leave) = call points function (entered image entry) vs leave
 at_point image points (Jumped entry leave) = jump image points (entered image entry) leave
 at_point image points (Pass here loop body after ways) =
     obey_all points here body (in_pass loop after (points (Pass here loop body after ways)) ways)
+at_point image points (Started rest) = restartable (turn (points (Started rest))) rest
 
 -- where one point leads to another, at most so deep: each takes a turn, so that a depth above the number of turns is
 -- deep enough
@@ -60,22 +61,43 @@ abbrev pub points_of : List Routine → ℕ → Points
 points_of image zero point = λ n h s replies. More
 points_of image (suc d) point = λ n h s replies. at_point image (points_of image d) point n h s replies
 
--- a job before its first ask
-abbrev pub opening : State
-opening = record { locals = []; saved = []; test = false; frames = []; column = 0; replied = 0; held = [] }
+-- how a job starts: its number, the entry where it begins, and the values for the formals of that line, of which one that is left
+-- out has none
+pub record Start : Type 0 where
+  pub job : ℕ
+  pub entry : Entry
+  pub values : List (Option (List ℕ))
+
+-- a job before its first ask: only its principal device is open
+abbrev pub opening : ℕ → State
+opening job = record {
+  job = job;
+  locals = [];
+  saved = [];
+  test = false;
+  frames = [];
+  devices = untouched ∷ [];
+  current = principal;
+  level = 0;
+  restarts = 0;
+  mark = None;
+  replied = 0;
+  held = [];
+}
 
 -- what a job does from its start, where points lead to points at most so deep: its principal session begins, in a
 -- turn, and then the line that its entry names; the QUIT of its first frame ends it
-abbrev pub start : List Routine → Entry → ℕ → Timed
-start image entry depth = turn (tell (DeviceBegin principal) (points_of image depth (Called entry [] (end None))))
+abbrev pub start : List Routine → Start → ℕ → Timed
+start image job depth =
+    turn (to_device principal (DeviceBegin principal) (points_of image depth (Called false job.entry job.values (λ v. end None))))
 
 -- outside a transaction nothing goes back
 abbrev pub no_restart : Handler
 no_restart = λ n s replies. More
 
-abbrev pub run : List Routine → Entry → ℕ → ℕ → List Reply → Outcome
-run image entry depth n replies = start image entry depth n no_restart opening replies
+abbrev pub run : List Routine → Start → ℕ → ℕ → List Reply → Outcome
+run image job depth n replies = start image job depth n no_restart (opening job.job) replies
 
 -- a job from its start, for at most n turns, fed with these replies: the private run
-abbrev pub next : List Routine → Entry → ℕ → List Reply → Outcome
-next image entry n replies = run image entry (suc n) n replies
+abbrev pub next : List Routine → Start → ℕ → List Reply → Outcome
+next image job n replies = run image job (suc n) n replies

@@ -9,3 +9,4 @@ pub mod Lines
 pub mod Points
 pub mod Commands
 pub mod Job
+pub mod Laws

@@ -1,11 +1,12 @@
 -- How a run that is fed with replies stops, and the words that the rows of the language are written in.
-use Rattle.std.specs.Prelude.{ℕ, zero, suc, ◌==◌, List, [], ◌∷◌, ◌++◌, Option, Some, None, Result, Ok, Err, nat_lt, if◌then◌else◌}
+use Rattle.std.specs.Prelude.{ℕ, zero, suc, ◌==◌, List, [], ◌∷◌, ◌++◌, Option, Some, None, Bool, true, false, Result, Ok, Err, nat_lt, nat_le, if◌then◌else◌}
 use Rattle.mj_text.specs.declared.fault.Fault.{Fault}
-use Rattle.mj_text.specs.declared.fault.Fault.TheVariants.{Steps}
+use Rattle.mj_text.specs.declared.fault.Fault.TheVariants.{Steps, Device}
 use Rattle.mj_ask.specs.declared.ask.Ask.{Ask}
 use Rattle.mj_ask.specs.declared.ask.Ask.TheVariants.{DeviceWrite, DeviceEnd, Halt}
 use Rattle.mj_ask.specs.declared.ask.Reply.{Reply}
-use Rattle.mj_semantics.specs.State.{State, Locals, Place, places, place_of, counted}
+use Rattle.mj_ask.specs.declared.ask.Reply.TheVariants as replies_are
+use Rattle.mj_semantics.specs.State.{State, Locals, Place, places, place_of, principal, column_at, has_failed, ending_order, broke, counted}
 use Rattle.mj_semantics.specs.Faults.{fault_line}
 
 -- the replies are used up at an ask, with the locals and the frames' places there, the innermost first; or the run is
@@ -50,24 +51,38 @@ asking a rest n h s (r ∷ replies) = rest r n h s replies
 abbrev pub over : Timed
 over = turn (λ n h s replies. Ended)
 
--- the name of the principal device: `0`
-abbrev pub principal : List ℕ
-principal = 48 ∷ []
+-- the rest, in which a restart goes on as said, for no more turns than are left
+abbrev pub until : ℕ → Timed → Handler → Handler
+until n again h m = if nat_le m n then again m h else λ s replies. More
 
--- the last asks of a job, each in a turn: its sessions end, and then the job (8.2.7, HALT)
+abbrev pub restartable : Timed → Timed → Timed
+restartable again rest n h = rest n (until n again h)
+
+-- behind the outermost TSTART again
+abbrev pub go_back : Timed
+go_back n h = h n
+
+-- the last asks of a job, each in a turn: its sessions end, the principal one last, and then the job (8.2.7, HALT). Whether a session
+-- ends well changes nothing
 abbrev pub halt : Option Fault → Timed
 halt f = turn (asking (Halt f) (λ r. over))
 
+abbrev pub ends : List (List ℕ) → Option Fault → Timed
+ends [] f = halt f
+ends (name ∷ names) f = turn (asking (DeviceEnd name) (λ r. ends names f))
+
 abbrev pub end : Option Fault → Timed
-end f = turn (asking (DeviceEnd principal) (λ r. halt f))
+end f = look (λ s. ends (ending_order s.devices) f)
 
--- what a fault writes (this profile): its line, at the beginning of a line of the device
+-- what a fault writes (this profile): its line, at the beginning of a line of the principal device
 abbrev pub fault_bytes : Fault → State → List ℕ
-fault_bytes f s = (if s.column == 0 then [] else 10 ∷ []) ++ fault_line f (place_of s) ++ 10 ∷ []
+fault_bytes f s = (if column_at principal s == 0 then [] else 10 ∷ []) ++ fault_line f (place_of s) ++ 10 ∷ []
 
--- a fault writes its line, in a turn, and ends the job
+-- a fault takes a turn and ends the job. Its line is written first, but to a principal device that failed; whether the write is done
+-- changes nothing
 abbrev pub fault : Fault → Timed
-fault f = turn (look (λ s. asking (DeviceWrite principal (fault_bytes f s)) (λ r. end (Some f))))
+fault f = turn (look (λ s.
+    if has_failed principal s then end (Some f) else asking (DeviceWrite principal (fault_bytes f s)) (λ r. end (Some f))))
 
 -- how many asks a job may make before its ending (this profile)
 abbrev pub steps_limit : ℕ
@@ -81,6 +96,15 @@ ask a rest = look (λ s.
 -- an ask of which the reply changes nothing
 abbrev pub tell : Ask → Timed → Timed
 tell a rest = ask a (λ r. rest)
+
+-- the device failed
+abbrev pub is_failed : Reply → Bool
+is_failed replies_are.Failed = true
+is_failed _ = false
+
+-- an ask to the session of a device, and then the rest; where the device failed it is DEVICE
+abbrev pub to_device : List ℕ → Ask → Timed → Timed
+to_device name a rest = ask a (λ r. if is_failed r then change (broke name) (fault Device) else rest)
 
 -- the rest with a value, or the fault where there is none
 abbrev pub need : {A : Type 0} → Fault → Option A → (A → Timed) → Timed

@@ -1,5 +1,5 @@
 -- What a job holds for itself, and what changes it.
-use Rattle.std.specs.Prelude.{ℕ, ◌+◌, ◌-◌, ◌==◌, List, [], ◌∷◌, length, take, drop, Option, Some, None, Bool, false, not, ◌&&◌, ◌||◌, nat_lt, max, min, map, if◌then◌else◌}
+use Rattle.std.specs.Prelude.{ℕ, ◌+◌, ◌-◌, ◌==◌, List, [], ◌∷◌, ◌++◌, length, take, drop, Option, Some, None, Bool, true, false, not, ◌&&◌, ◌||◌, nat_lt, max, min, map, if◌then◌else◌}
 use Rattle.std.specs.List.{filter, fold, list_any}
 use Rattle.std.specs.Option.{unwrap_or}
 use Rattle.std.specs.Str.{bytes_eq}
@@ -30,24 +30,62 @@ pub record Saved : Type 0 where
   pub words : Words
   pub locals : Locals
 
--- a frame: the line where it stands, the level of its lines, the `$TEST` that its QUIT restores, if it restores one, and how many
--- NEWs had saved locals before it began
+-- a frame: the line where it stands, the level of its lines, whether it is a function's, whose QUIT gives a value, the `$TEST` that
+-- its QUIT restores, if it restores one, and how many NEWs had saved locals before it began
 pub record Frame : Type 0 where
   pub place : Place
   pub level : ℕ
+  pub function : Bool
   pub test : Option Bool
   pub height : ℕ
 
--- the locals; what NEWs saved, the newest first; `$TEST`; the frames, the innermost first; the column of the principal device,
--- `$X` (8.2.25, WRITE); how many asks were replied to; and what a MERGE has read and not put yet
-pub record State : Type 0 where
+-- a device that the job has open: its name, `$X` and `$Y` there (7.1.4.10), and whether a call of its session failed, after which
+-- the session can only be ended
+pub record OpenDevice : Type 0 where
+  pub name : List ℕ
+  pub column : ℕ
+  pub row : ℕ
+  pub failed : Bool
+
+-- the outermost TSTART (8.2.22): which locals a restart restores, if it can be restarted; whether it is SERIAL; and what stood there:
+-- the locals, what NEWs had saved, `$TEST` and the frames
+pub record Mark : Type 0 where
+  pub restored : Option Words
+  pub serial : Bool
   pub locals : Locals
   pub saved : List Saved
   pub test : Bool
   pub frames : List Frame
-  pub column : ℕ
+
+-- the job's number, `$JOB`; the locals; what NEWs saved, the newest first; `$TEST`; the frames, the innermost first; the open
+-- devices in order of opening, of which the principal one is the first; the name of the current one, `$IO`; `$TLEVEL`, `$TRESTART`
+-- and the mark of the outermost TSTART, if a transaction is open; how many asks were replied to; and what a MERGE has read and not
+-- put yet
+pub record State : Type 0 where
+  pub job : ℕ
+  pub locals : Locals
+  pub saved : List Saved
+  pub test : Bool
+  pub frames : List Frame
+  pub devices : List OpenDevice
+  pub current : List ℕ
+  pub level : ℕ
+  pub restarts : ℕ
+  pub mark : Option Mark
   pub replied : ℕ
   pub held : Subtree
+
+-- the name of the principal device: `0`
+abbrev pub principal : List ℕ
+principal = 48 ∷ []
+
+-- how many devices a job may have open beside the principal one (this profile)
+abbrev pub devices_limit : ℕ
+devices_limit = 16
+
+-- the principal device, as a job finds it
+abbrev pub untouched : OpenDevice
+untouched = record { name = principal; column = 0; row = 0; failed = false }
 
 -- Questions.
 
@@ -61,6 +99,29 @@ place_of s = elim s.frames [ [] ↦ None | f ∷ fs ↦ Some f.place ]
 -- the level of the innermost frame's lines
 abbrev pub level_of : State → ℕ
 level_of s = elim s.frames [ [] ↦ 1 | f ∷ fs ↦ f.level ]
+
+-- whether the frame of the outermost TSTART is the innermost one
+abbrev pub is_at_mark : State → Bool
+is_at_mark s = elim s.mark [ None ↦ false | Some m ↦ length m.frames == length s.frames ]
+
+-- an open device by its name
+abbrev pub device_at : List ℕ → List OpenDevice → Option OpenDevice
+device_at name [] = None
+device_at name (d ∷ devices) = if bytes_eq d.name name then Some d else device_at name devices
+
+-- the column of an open device
+abbrev pub column_at : List ℕ → State → ℕ
+column_at name s = elim (device_at name s.devices) [ None ↦ 0 | Some d ↦ d.column ]
+
+-- whether a call of an open device's session failed
+abbrev pub has_failed : List ℕ → State → Bool
+has_failed name s = elim (device_at name s.devices) [ None ↦ false | Some d ↦ d.failed ]
+
+-- the open devices in the order in which a job's end ends them: that of opening, but the principal one last (8.2.7, HALT; this
+-- profile)
+abbrev pub ending_order : List OpenDevice → List (List ℕ)
+ending_order [] = []
+ending_order (p ∷ others) = map (λ d. d.name) others ++ p.name ∷ []
 
 -- the value of a special variable
 abbrev pub special_value : Special → State → List ℕ
@@ -100,9 +161,11 @@ spare words s = record s { locals = spared words s.locals }
 abbrev pub hold : Subtree → State → State
 hold nodes s = record s { held = nodes }
 
--- a frame begins, at a place and a level, whose QUIT restores `$TEST` or not
-abbrev pub pushed : Place → ℕ → Option Bool → State → State
-pushed place level test s = record s { frames = record { place = place; level = level; test = test; height = length s.saved } ∷ s.frames }
+-- a frame begins, at a place and a level, a function's or not, whose QUIT restores `$TEST` or not
+abbrev pub pushed : Place → ℕ → Bool → Option Bool → State → State
+pushed place level function test s = record s {
+  frames = record { place = place; level = level; function = function; test = test; height = length s.saved } ∷ s.frames;
+}
 
 abbrev pub at_place : Place → State → State
 at_place p s = record s { frames = elim s.frames [ [] ↦ [] | f ∷ fs ↦ record f { place = p } ∷ fs ] }
@@ -167,6 +230,27 @@ abbrev pub column_after : ℕ → List ℕ → ℕ
 column_after column [] = column
 column_after column (b ∷ bytes) = column_after (column_after_byte column b) bytes
 
--- these bytes were written to the principal device
+-- the row after a byte (this profile): a line feed leads to the next one, a form feed to the first
+abbrev pub row_after_byte : ℕ → ℕ → ℕ
+row_after_byte row b = if b == 10 then row + 1 else if b == 12 then 0 else row
+
+abbrev pub row_after : ℕ → List ℕ → ℕ
+row_after row [] = row
+row_after row (b ∷ bytes) = row_after (row_after_byte row b) bytes
+
+-- a device, as these bytes leave it
+abbrev pub moved : List ℕ → OpenDevice → OpenDevice
+moved bytes d = record d { column = column_after d.column bytes; row = row_after d.row bytes }
+
+-- a change of the open device of a name
+abbrev pub on_device : List ℕ → (OpenDevice → OpenDevice) → List OpenDevice → List OpenDevice
+on_device name f [] = []
+on_device name f (d ∷ devices) = if bytes_eq d.name name then f d ∷ devices else d ∷ on_device name f devices
+
+-- these bytes were written to the current device
 abbrev pub wrote : List ℕ → State → State
-wrote bytes s = record s { column = column_after s.column bytes }
+wrote bytes s = record s { devices = on_device s.current (moved bytes) s.devices }
+
+-- a call of a device's session failed
+abbrev pub broke : List ℕ → State → State
+broke name s = record s { devices = on_device name (λ d. record d { failed = true }) s.devices }

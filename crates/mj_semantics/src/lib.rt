@@ -1,6 +1,10 @@
-// What routines mean: definitions and laws alone, with no code.
+// What routines mean: definitions and laws, with nothing to run.
 //
 // `specs/State.antt` has what a job holds, `specs/Outcome.antt` the words that the rows are written in,
 // `specs/Evaluation.antt` a row for each form of expression, `specs/Commands.antt` one for each command,
 // `specs/Lines.antt` where lines stand, and `specs/Job.antt` what a job does from its start: `next`.
 #![tactic(auto)]
+
+mod laws;
+
+pub use laws::{deep_enough, steady};

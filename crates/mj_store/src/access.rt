@@ -46,6 +46,22 @@ impl Access {
             | Access::Put(name, _) => name,
         }
     }
+
+    /// The same access once more.
+    pub fn try_clone(&self) -> Result<Access, AllocError>
+        ensures { IfOk result (λ access. access ≡ self.now) }
+    {
+        Ok(match self {
+            Access::Value(name) => Access::Value(name.try_clone()?),
+            Access::Data(name) => Access::Data(name.try_clone()?),
+            Access::Order(name, direction) => Access::Order(name.try_clone()?, *direction),
+            Access::Query(name) => Access::Query(name.try_clone()?),
+            Access::Subtree(name) => Access::Subtree(name.try_clone()?),
+            Access::Set(name, text) => Access::Set(name.try_clone()?, text.try_clone()?),
+            Access::Kill(name) => Access::Kill(name.try_clone()?),
+            Access::Put(name, nodes) => Access::Put(name.try_clone()?, nodes.try_clone()?),
+        })
+    }
 }
 
 /// What an access is answered.
@@ -65,6 +81,23 @@ pub enum Answer {
     Done,
     /// a change would give a name too many subscripts, and isn't done
     Limit,
+}
+
+impl Answer {
+    /// The same answer once more.
+    pub fn try_clone(&self) -> Result<Answer, AllocError>
+        ensures { IfOk result (λ answer. answer ≡ self.now) }
+    {
+        Ok(match self {
+            Answer::Value(text) => Answer::Value(text.clone()?),
+            Answer::Data(data) => Answer::Data(*data),
+            Answer::Order(next) => Answer::Order(next.clone()?),
+            Answer::Query(next) => Answer::Query(next.clone()?),
+            Answer::Subtree(nodes) => Answer::Subtree(nodes.try_clone()?),
+            Answer::Done => Answer::Done,
+            Answer::Limit => Answer::Limit,
+        })
+    }
 }
 
 /// Makes the accesses in order, and gives the answer to each. After want of memory a front of them has been made.

@@ -45,4 +45,13 @@ impl Nodes {
         self.list.push((subscripts, text))?;
         Ok(())
     }
+
+    /// The same nodes once more.
+    pub fn try_clone(&self) -> Result<Nodes, AllocError>
+        ensures { IfOk result (λ nodes. nodes ≡ self.now) }
+    {
+        Ok(Nodes {
+            list: self.list.clone()?,
+        })
+    }
 }

@@ -3,6 +3,7 @@
 -- ISO/IEC 11756:1999, 7.1.5 (functions) and 8.2.18 (SET); the limits, the faults and the edge cases are this profile's.
 use Rattle.std.specs.Prelude.{◌≡◌, ℕ, zero, suc, ◌+◌, ◌-◌, ◌==◌, max, nat_le, nat_lt, Bool, true, ◌||◌, List, [], ◌∷◌, ◌++◌, length, take, drop, reverse, replicate, ℤ, pos, negsuc, int_lt, Option, Some, None, Result, Ok, Err, ⊤, if◌then◌else◌}
 use Rattle.std.specs.List.{flat_map}
+use Rattle.mj_text.specs.declared.text.TheConstants.{TEXT_LIMIT}
 use Rattle.mj_text.specs.declared.fault.Fault.{Fault}
 use Rattle.mj_text.specs.declared.fault.Fault.TheVariants.{Length, Char}
 use Rattle.mj_text.specs.declared.fault.Failure.{Failure}
@@ -40,7 +41,7 @@ AnswersOrMemory value (Err Memory) = ⊤
 
 -- a text, unless it has more bytes than a text may
 abbrev pub within_limit : List ℕ → Result (List ℕ) Fault
-within_limit s = if nat_le (length s) 32767 then Ok s else Err Length
+within_limit s = if nat_le (length s) TEXT_LIMIT then Ok s else Err Length
 
 -- a number as a text
 abbrev pub number_text : ℕ → List ℕ

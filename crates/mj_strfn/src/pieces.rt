@@ -144,9 +144,9 @@ fn replaced(
     requires some { 0 < length_of separator.now }
     requires from_one { 0 < first }
     requires in_order { first ≤ last }
-    requires old_limit { length_of old.now ≤ 32767 }
-    requires separator_limit { length_of separator.now ≤ 32767 }
-    requires value_limit { length_of value.now ≤ 32767 }
+    requires old_limit { length_of old.now ≤ TEXT_LIMIT }
+    requires separator_limit { length_of separator.now ≤ TEXT_LIMIT }
+    requires value_limit { length_of value.now ≤ TEXT_LIMIT }
     ensures { Answers (within_limit (with_pieces old.now separator.now (first, last) value.now)) result }
 {
     let Some(rest) = behind(old, separator, first - 1) else {
@@ -173,10 +173,10 @@ fn assembled(
     back: &[u8],
 ) -> Result<Text, Failure>
     requires some { 0 < length_of filling.now }
-    requires front_limit { length_of front.now ≤ 32767 }
-    requires filling_limit { length_of filling.now ≤ 32767 }
-    requires middle_limit { length_of middle.now ≤ 32767 }
-    requires back_limit { length_of back.now ≤ 32767 }
+    requires front_limit { length_of front.now ≤ TEXT_LIMIT }
+    requires filling_limit { length_of filling.now ≤ TEXT_LIMIT }
+    requires middle_limit { length_of middle.now ≤ TEXT_LIMIT }
+    requires back_limit { length_of back.now ≤ TEXT_LIMIT }
     ensures { Answers (within_limit (front.now ++ repeat times filling.now ++ middle.now ++ back.now)) result }
 {
     let others = front.len() + middle.len() + back.len();
@@ -196,9 +196,9 @@ fn assembled(
 /// Whether a text has room for so many bytes and a filling of so many more, so many times.
 fn has_room(others: usize, filling: usize, times: u64) -> bool
     requires some { 0 < filling }
-    requires others_limit { others ≤ 98301 }
-    requires filling_limit { filling ≤ 32767 }
-    ensures { IsTrue result ↔ (others + times * filling ≤ 32767) }
+    requires others_limit { others ≤ 3 * TEXT_LIMIT }
+    requires filling_limit { filling ≤ TEXT_LIMIT }
+    ensures { IsTrue result ↔ (others + times * filling ≤ TEXT_LIMIT) }
 {
     times <= TEXT_LIMIT as u64 && others + times as usize * filling <= TEXT_LIMIT
 }

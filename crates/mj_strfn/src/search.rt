@@ -4,11 +4,12 @@ ghost use Rattle.std.specs.Prelude.{◌≡◌, ◌≤◌, ◌<◌, ◌+◌, leng
 ghost use Rattle.mj_strfn.specs.Pieces.{pieces, joined, IsBehind, IsBehindFirst};
 
 use memchr::memmem::Finder;
+use mj_text::TEXT_LIMIT;
 
 /// How many pieces there are.
 pub(crate) fn count(bytes: &[u8], separator: &[u8]) -> usize
     requires some { 0 < length separator.now }
-    requires limit { length bytes.now ≤ 32767 }
+    requires limit { length bytes.now ≤ TEXT_LIMIT }
     ensures value { result ≡ length (pieces separator.now bytes.now) }
     ensures limit { result ≤ length bytes.now + 1 }
 {

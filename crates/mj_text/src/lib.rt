@@ -7,8 +7,6 @@
 
 mod fault;
 mod short;
-#[cfg(test)]
-mod tests;
 mod text;
 
 pub use fault::{Failure, Fault};

@@ -17,6 +17,15 @@ pub fn read_words<'a, S: AsStr>(alloc: Global, words: &'a [S]) -> Result<Order<'
 // What the words ask for.
 fn order<'a, S: AsStr>(alloc: Global, words: &'a [S]) -> Result<Order<'a>, Error> {
     let mut command = command(alloc)?;
+    ordered(alloc, &mut command, words)
+}
+
+// What they ask of this command. What owns a command does little else, since each way out of such a function drops it.
+fn ordered<'a, S: AsStr>(
+    alloc: Global,
+    command: &mut Command<'a>,
+    words: &'a [S],
+) -> Result<Order<'a>, Error> {
     let matches = command.try_get_matches_from_mut(words)?;
     match matches.subcommand() {
         Some(("run", found)) => Ok(run_order(alloc, found)?),
@@ -56,20 +65,26 @@ fn command<'a>(alloc: Global) -> Result<Command<'a>, AllocError> {
 }
 
 fn run_command<'a>(alloc: Global) -> Result<Command<'a>, AllocError> {
-    let start = Arg::new(alloc, "start")
+    Command::new(alloc, "run")
+        .about("Runs routines, and prints what they write")
+        .arg(start(alloc))?
+        .arg(routines(alloc))
+}
+
+fn start<'a>(alloc: Global) -> Arg<'a> {
+    Arg::new(alloc, "start")
         .long("start")
         .value_name("ENTRY")
         .help("Where the job starts: label^ROUTINE or ^ROUTINE")
         .action(ArgAction::Set)
-        .required(true);
-    let routines = Arg::new(alloc, "routines")
+        .required(true)
+}
+
+fn routines<'a>(alloc: Global) -> Arg<'a> {
+    Arg::new(alloc, "routines")
         .value_name("ROUTINE")
         .help("The files of the routines")
         .action(ArgAction::Append)
         .num_args(1..)
-        .required(true);
-    Command::new(alloc, "run")
-        .about("Runs routines, and prints what they write")
-        .arg(start)?
-        .arg(routines)
+        .required(true)
 }

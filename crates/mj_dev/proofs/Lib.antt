@@ -1,0 +1,3 @@
+pub mod Talks
+mod Places
+mod Shelves

@@ -1,0 +1,6 @@
+use Rattle.std.proofs.Common.{rules}
+use Rattle.mj_dev.proofs.Talks.{Talks-go}
+use Rattle.mj_dev.proofs.session.Session.state.Goals as goal
+
+pub returns-clause-protocol : goal.returns-clause-protocol
+returns-clause-protocol g c = λ old talk e. Talks-go old _ talk e

@@ -1,0 +1,7 @@
+pub mod Entries
+pub mod Order
+pub mod Counts
+pub mod Limits
+pub mod Places
+pub mod Apart
+pub mod Kept

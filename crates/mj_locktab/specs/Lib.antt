@@ -1,0 +1,4 @@
+pub mod Locks
+pub mod Changes
+pub mod Places
+pub mod Tries

@@ -1,0 +1,103 @@
+// The table of locks.
+
+ghost use Rattle.std.specs.Prelude.{◌≡◌, [], map, IfOk, OnOk, OnErr};
+ghost use Rattle.mj_locktab.specs.Locks.{count_of, job_of, name_of, IsKept};
+ghost use Rattle.mj_locktab.specs.Changes.{after_give, after_give_all, FallsBy, IsWithout};
+ghost use Rattle.mj_locktab.specs.Tries.{outcome_of, after_try, Tells};
+
+use crate::held;
+use crate::hold::Hold;
+use crate::taken::Taken;
+use mj_subs::Name;
+use std::alloc::{AllocError, Global};
+use std::marker::Model;
+
+/// The names that jobs hold, each with its count. Names of different jobs never overlap.
+#[derive(Drop)]
+pub struct LockTable {
+    held: Vec<(Hold, u32)>,
+}
+
+impl Model for LockTable {
+    ghost use Rattle.mj_locktab.specs.Locks.{Locks, IsKept};
+
+    ghost Value = { Locks };
+
+    ghost view = { λ t. t.held.items };
+
+    ghost invariant = { λ t. IsKept t.held.items };
+}
+
+impl LockTable {
+    /// A table in which nothing is held.
+    pub fn new(alloc: Global) -> LockTable
+        ensures { result ≡ [] }
+    {
+        LockTable {
+            held: Vec::new(alloc),
+        }
+    }
+
+    /// Takes each name once more for each of its places in the list, or none of them. A name counts as often as it stands there. Of several holds
+    /// that are in the way, that of the first such name is told, of the lowest job, and of its names the least.
+    pub fn try_take(&mut self, job: u32, names: &[Name]) -> Result<Taken, AllocError>
+        ensures answer { IfOk result (λ taken. taken ≡ outcome_of self.old job names.now) }
+        ensures after { OnOk result (self.new ≡ after_try self.old job names.now) }
+        ensures meaning { IfOk result (λ taken. Tells self.old job names.now taken self.new) }
+        ensures err { OnErr result (self.new ≡ self.old) }
+    {
+        match held::conflict_of(&self.held, job, names) {
+            Some(entry) => {
+                let name = entry.0.name.try_clone()?;
+                Ok(Taken::Busy {
+                    holder: entry.0.job,
+                    name,
+                })
+            }
+            None => {
+                if !held::take_each(&mut self.held, job, names)? {
+                    return Ok(Taken::Limit);
+                }
+                Ok(Taken::Got)
+            }
+        }
+    }
+
+    /// Gives each name up once for each of its places in the list. Of a name that the job doesn't hold nothing changes.
+    pub fn give(&mut self, job: u32, names: &[Name])
+        ensures after { self.new ≡ after_give self.old job names.now }
+        ensures counts { FallsBy self.old job names.now self.new }
+    {
+        held::give_each(&mut self.held, job, names);
+    }
+
+    /// Gives all names of the job up, whatever their counts.
+    pub fn give_all(&mut self, job: u32)
+        ensures after { self.new ≡ after_give_all self.old job }
+        ensures counts { IsWithout self.old job self.new }
+    {
+        held::give_all(&mut self.held, job);
+    }
+
+    /// How often the job holds the name.
+    pub fn count(&self, job: u32, name: &Name) -> u32
+        ensures { result ≡ count_of self.now job name.now }
+    {
+        held::count(&self.held, job, name)
+    }
+
+    /// Each job with each name that it holds and its count: by job, then globals before locals, then by word and subscripts.
+    pub fn held(&self, alloc: Global) -> Result<Vec<(u32, Name, u32)>, AllocError>
+        ensures each { IfOk result (λ list. list.items ≡ map (λ e. (job_of e.0, name_of e.0, e.1)) self.now) }
+        ensures kept { IsKept self.now }
+    {
+        held::list(alloc, &self.held)
+    }
+
+    /// That this table keeps what each does. Nothing is done.
+    pub fn keeps(&self)
+        ensures { IsKept self.now }
+    {
+        let _held = &self.held;
+    }
+}

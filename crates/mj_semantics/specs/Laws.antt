@@ -1,0 +1,18 @@
+-- What holds of every job.
+use Rattle.std.specs.Prelude.{◌≡◌, ℕ, ◌+◌, ◌<◌, List, ◌⊎◌}
+use Rattle.mj_ask.specs.declared.ask.Reply.{Reply}
+use Rattle.mj_ast.specs.Syntax.{Routine}
+use Rattle.mj_semantics.specs.Outcome.{More}
+use Rattle.mj_semantics.specs.Job.{Start, run, next}
+
+-- `next` looks as deep as any run of its turns comes
+abbrev pub IsDeepEnough : Type 0
+IsDeepEnough =
+    (image : List Routine) (start : Start) (depth n : ℕ) (replies : List Reply) → n < depth
+    → run image start depth n replies ≡ next image start n replies
+
+-- what a job comes to with some turns, but for using them up, it comes to with more
+abbrev pub IsSteady : Type 0
+IsSteady =
+    (image : List Routine) (start : Start) (n k : ℕ) (replies : List Reply)
+    → (next image start n replies ≡ More) ⊎ (next image start (n + k) replies ≡ next image start n replies)

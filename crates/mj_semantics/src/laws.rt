@@ -1,0 +1,13 @@
+// Laws of every job: each function has nothing to do, and its contract is the law.
+
+ghost use Rattle.mj_semantics.specs.Laws.{IsDeepEnough, IsSteady};
+
+/// The depth to which `next` follows the points of a run is deep enough for its turns.
+pub fn deep_enough()
+    ensures { IsDeepEnough }
+{}
+
+/// More turns keep what a job comes to.
+pub fn steady()
+    ensures { IsSteady }
+{}

@@ -1,0 +1,5 @@
+pub mod Fronts
+pub mod Alike
+pub mod Sorted
+pub mod Looks
+pub mod Same

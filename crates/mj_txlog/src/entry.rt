@@ -1,0 +1,58 @@
+// What stands in the list of a transaction's accesses.
+
+ghost use Rattle.std.specs.Prelude.{◌≡◌};
+ghost use Rattle.mj_store.specs.Changes.{is_too_deep as too_deep};
+ghost use Rattle.mj_txlog.specs.Accesses.{is_refused, is_write};
+
+use crate::names::NameList;
+use mj_store::{Access, Answer};
+use mj_subs::{Name, SUBSCRIPT_LIMIT, Subs};
+use mj_text::Text;
+
+/// An unlock that waits for the commit.
+#[derive(Drop)]
+pub enum Unlock {
+    /// one less for each place of the list
+    Names(NameList),
+    /// all names are free
+    All,
+}
+
+/// An access of a transaction.
+#[derive(Drop)]
+pub enum Entry {
+    /// a read or a write of globals, with its answer
+    Access(Access, Answer),
+    /// an unlock
+    Unlock(Unlock),
+}
+
+/// Whether it is a change.
+pub fn is_write(access: &Access) -> bool
+    ensures { result ≡ is_write access.now }
+{
+    matches!(
+        access,
+        Access::Set(_, _) | Access::Kill(_) | Access::Put(_, _)
+    )
+}
+
+/// Whether it would give a name more subscripts than it can have, and so is done nowhere.
+pub fn is_refused(access: &Access) -> bool
+    ensures { result ≡ is_refused access.now }
+{
+    match access {
+        Access::Put(name, nodes) => is_too_deep(name, nodes.as_slice()),
+        _ => false,
+    }
+}
+
+// Whether a list would follow the name with more subscripts than a name can have.
+fn is_too_deep(name: &Name, nodes: &[(Subs, Text)]) -> bool
+    ensures { result ≡ too_deep name.now nodes.now }
+{
+    let above = name.subscripts().len();
+    nodes
+        .iter()
+        .any(|node| SUBSCRIPT_LIMIT < above + node.0.len())
+}

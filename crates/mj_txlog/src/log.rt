@@ -1,0 +1,140 @@
+// The list of a transaction's accesses.
+
+ghost use Rattle.std.specs.Prelude.{◌≡◌, ◌≤◌, [], true, length, IfOk, OnOk, OnErr};
+ghost use Rattle.mj_txlog.specs.Accesses.{is_write, is_full, reply_in, with_reply, with_unlock, unlock_reply, with_gained};
+
+use crate::answers::copy_of;
+use crate::entry::{Entry, Unlock, is_refused, is_write};
+use crate::sight::answer;
+use mj_globs::Globals;
+use mj_store::{Access, Answer};
+use mj_subs::Name;
+use std::alloc::{AllocError, Global};
+use std::marker::Model;
+
+/// The most accesses that a transaction has.
+pub const ACCESS_LIMIT: usize = 65_536;
+
+/// An open transaction.
+#[derive(Drop)]
+pub struct TxLog {
+    alloc: Global,
+    serial: bool,
+    entries: Vec<Entry>,
+    gained: Vec<Name>,
+}
+
+impl Model for TxLog {
+    ghost use Rattle.std.specs.Prelude.{◌≤◌, length};
+    ghost use Rattle.mj_txlog.specs.Accesses.{Transaction};
+
+    ghost Value = { Transaction };
+
+    ghost view = { λ t. record { serial = t.serial; accesses = t.entries.items; gained = t.gained.items } };
+
+    ghost invariant = { λ t. length t.entries.items ≤ 65536 };
+}
+
+impl TxLog {
+    /// A transaction that has just begun.
+    pub fn new(alloc: Global, serial: bool) -> TxLog
+        ensures { result ≡ record { serial = serial; accesses = []; gained = [] } }
+    {
+        TxLog {
+            alloc,
+            serial,
+            entries: Vec::new(alloc),
+            gained: Vec::new(alloc),
+        }
+    }
+
+    /// Where its memory comes from.
+    pub fn allocator(&self) -> Global {
+        self.alloc
+    }
+
+    /// Whether it is SERIAL.
+    pub fn is_serial(&self) -> bool
+        ensures { result ≡ self.now.serial }
+    {
+        self.serial
+    }
+
+    /// Its accesses, in order.
+    pub fn entries(&self) -> &[Entry]
+        ensures value { result.now ≡ self.now.accesses }
+        ensures limit { length result.now ≤ ACCESS_LIMIT }
+    {
+        &self.entries
+    }
+
+    /// The names of the locks that were gained since it began, one for each count.
+    pub fn gained(&self) -> &[Name]
+        ensures { result.now ≡ self.now.gained }
+    {
+        &self.gained
+    }
+
+    /// Makes an access in the transaction. A read is answered on the globals as they are, with the own writes made on them. A write is
+    /// done. Both are appended, with their answers. An access past the limit, and a write that would give a name too many subscripts, is
+    /// answered that it passes a limit, and isn't appended.
+    pub fn see(&mut self, globals: &Globals, access: Access) -> Result<Answer, AllocError>
+        ensures answer { IfOk result (λ a. a ≡ reply_in self.old globals.now access) }
+        ensures appended { OnOk result (self.new ≡ with_reply self.old access (reply_in self.old globals.now access)) }
+        ensures unchanged { OnErr result (self.new ≡ self.old) }
+    {
+        if is_write(&access) {
+            return self.write(access);
+        }
+        if self.is_full() {
+            return Ok(Answer::Limit);
+        }
+        let answer = answer(self.alloc, globals, &self.entries, &access)?;
+        let kept = copy_of(self.alloc, &answer)?;
+        self.entries.push(Entry::Access(access, kept))?;
+        Ok(answer)
+    }
+
+    /// Makes a write in the transaction, as `see` does, for which no globals are wanted.
+    pub fn write(&mut self, access: Access) -> Result<Answer, AllocError>
+        requires { is_write access ≡ true }
+        ensures answer { IfOk result (λ a. a ≡ reply_in self.old [] access) }
+        ensures appended { OnOk result (self.new ≡ with_reply self.old access (reply_in self.old [] access)) }
+        ensures unchanged { OnErr result (self.new ≡ self.old) }
+    {
+        if self.is_full() || is_refused(&access) {
+            return Ok(Answer::Limit);
+        }
+        self.entries.push(Entry::Access(access, Answer::Done))?;
+        Ok(Answer::Done)
+    }
+
+    /// An unlock, which waits for the commit. Past the limit it is answered that it passes one, and isn't appended.
+    pub fn unlock(&mut self, unlock: Unlock) -> Result<Answer, AllocError>
+        ensures answer { IfOk result (λ a. a ≡ unlock_reply self.old) }
+        ensures appended { OnOk result (self.new ≡ with_unlock self.old unlock) }
+        ensures unchanged { OnErr result (self.new ≡ self.old) }
+    {
+        if self.is_full() {
+            return Ok(Answer::Limit);
+        }
+        self.entries.push(Entry::Unlock(unlock))?;
+        Ok(Answer::Done)
+    }
+
+    /// One count more of a lock, that a rollback gives back.
+    pub fn gain(&mut self, name: Name) -> Result<(), AllocError>
+        ensures gained { OnOk result (self.new ≡ with_gained self.old name) }
+        ensures unchanged { OnErr result (self.new ≡ self.old) }
+    {
+        self.gained.push(name)?;
+        Ok(())
+    }
+
+    /// Whether it has as many accesses as it can have.
+    pub fn is_full(&self) -> bool
+        ensures { result ≡ is_full self.now }
+    {
+        ACCESS_LIMIT <= self.entries.len()
+    }
+}

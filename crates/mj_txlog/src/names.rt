@@ -1,0 +1,48 @@
+// Lists of names.
+
+ghost use Rattle.std.specs.Prelude.{◌≡◌, ◌++◌, ◌∷◌, [], if◌then◌else◌, is_ok};
+
+use mj_subs::Name;
+use std::alloc::{AllocError, Global};
+use std::marker::Model;
+
+/// Names in order, in which one may stand more than once.
+#[derive(Drop)]
+pub struct NameList {
+    list: Vec<Name>,
+}
+
+impl Model for NameList {
+    ghost use Rattle.std.specs.Prelude.{List};
+    ghost use Rattle.mj_subs.specs.Name.{Name as Seen};
+
+    ghost Value = { List Seen };
+
+    ghost view = { λ n. n.list.items };
+}
+
+impl NameList {
+    /// No names.
+    pub fn new(alloc: Global) -> NameList
+        ensures { result ≡ [] }
+    {
+        NameList {
+            list: Vec::new(alloc),
+        }
+    }
+
+    /// The names, in order.
+    pub fn as_slice(&self) -> &[Name]
+        ensures { result.now ≡ self.now }
+    {
+        &self.list
+    }
+
+    /// One more, at the end.
+    pub fn push(&mut self, name: Name) -> Result<(), AllocError>
+        ensures { self.new ≡ (if is_ok result then self.old ++ name ∷ [] else self.old) }
+    {
+        self.list.push(name)?;
+        Ok(())
+    }
+}

@@ -1,0 +1,159 @@
+// What a transaction sees.
+//
+// A read depends on what stands at one name and below it: at the name itself for a text, `$DATA` and a subtree, one level above it for
+// `$ORDER`, and on the whole word for `$QUERY`.
+
+ghost use Rattle.std.specs.Prelude.{◌≡◌, ◌∷◌, [], false, cond, IfOk, OnOk};
+ghost use Rattle.std.specs.List.{list_any};
+ghost use Rattle.mj_store.specs.Questions.{with_subscripts};
+ghost use Rattle.mj_store.specs.Runs.{answer_of};
+ghost use Rattle.mj_txlog.specs.Accesses.{is_write, seen, front_of};
+ghost use Rattle.mj_txlog.specs.Sight.{reach_of, meets, AreAlike};
+
+use crate::entry::{Entry, is_write};
+use mj_globs::Globals;
+use mj_store::{Access, Answer, Store, perform};
+use mj_subs::{Name, Sub, Subs};
+use std::alloc::{AllocError, Global};
+
+/// The answer to a read on the globals as they are, with the writes among these accesses made on them.
+pub fn answer(
+    alloc: Global,
+    globals: &Globals,
+    earlier: &[Entry],
+    read: &Access,
+) -> Result<Answer, AllocError>
+    requires { is_write read.now ≡ false }
+    ensures { IfOk result (λ a. a ≡ answer_of read.now (seen globals.now earlier.now)) }
+{
+    globals.rises();
+    let reach = reach_of(alloc, read)?;
+    if !is_any_meeting(earlier, &reach) {
+        let found = look(globals, read)?;
+        return Ok(found);
+    }
+    let below = seen_below(alloc, globals, earlier, &reach)?;
+    below.rises();
+    let found_below = look(&below, read)?;
+    Ok(found_below)
+}
+
+// The answer to a read.
+fn look(globals: &Globals, read: &Access) -> Result<Answer, AllocError>
+    requires { is_write read.now ≡ false }
+    ensures { IfOk result (λ a. a ≡ answer_of read.now globals.now) }
+{
+    Ok(match read {
+        Access::Value(name) => match globals.value(name) {
+            None => Answer::Value(None),
+            Some(text) => Answer::Value(Some(text.try_clone()?)),
+        },
+        Access::Data(name) => Answer::Data(globals.data(name)),
+        Access::Order(name, direction) => match globals.order(name, *direction) {
+            None => Answer::Order(None),
+            Some(next) => Answer::Order(Some(next.try_clone()?)),
+        },
+        Access::Query(name) => Answer::Query(globals.query(name)?),
+        Access::Subtree(name) => Answer::Subtree(globals.subtree(name)?),
+        Access::Set(_, _) | Access::Kill(_) | Access::Put(_, _) => unreachable!(),
+    })
+}
+
+// The name on which, and on what stands below which, a read depends.
+fn reach_of(alloc: Global, read: &Access) -> Result<Name, AllocError>
+    ensures { IfOk result (λ n. n ≡ reach_of read.now) }
+{
+    match read {
+        Access::Order(name, _) => cut_to(alloc, name, front_of(name.subscripts().as_slice())),
+        Access::Query(name) => cut_to(alloc, name, &[]),
+        _ => read.name().try_clone(),
+    }
+}
+
+// All subscripts but the last.
+fn front_of<'a>(list: &'a [Sub]) -> &'a [Sub]
+    ensures { result.now ≡ front_of list.now }
+{
+    match list {
+        [] => list,
+        [front @ .., _] => front,
+    }
+}
+
+// The name with these subscripts, of which there are no more than a name can have, in place of its own.
+fn cut_to(alloc: Global, name: &Name, list: &[Sub]) -> Result<Name, AllocError>
+    ensures { IfOk result (λ n. n ≡ with_subscripts name.now list.now) }
+{
+    let word = name.word().try_clone()?;
+    let subscripts = subs_of(alloc, list)?;
+    Ok(if name.is_global() {
+        Name::global(word, subscripts)
+    } else {
+        Name::local(word, subscripts)
+    })
+}
+
+// A list of these subscripts, of which there are no more than a list can have.
+fn subs_of(alloc: Global, list: &[Sub]) -> Result<Subs, AllocError>
+    ensures { IfOk result (λ s. s ≡ list.now) }
+{
+    let mut subs = Subs::new(alloc);
+    for sub in list {
+        if subs.push(sub.try_clone()?).is_err() {
+            return Err(AllocError);
+        }
+    }
+    Ok(subs)
+}
+
+// Whether a write among the accesses is to the name, to one above it or to one below it.
+fn is_any_meeting(entries: &[Entry], name: &Name) -> bool
+    ensures { result ≡ list_any (meets name.now) entries.now }
+{
+    entries.iter().any(|entry| meets(entry, name))
+}
+
+// Whether it is a write to the name, to one above it or to one below it.
+fn meets(entry: &Entry, name: &Name) -> bool
+    ensures { result ≡ meets name.now entry.now }
+{
+    match entry {
+        Entry::Access(access, _) => is_write(access) && access.name().overlap(name),
+        Entry::Unlock(_) => false,
+    }
+}
+
+// A store that is as the globals with the writes made on them, at the name and below it.
+fn seen_below(
+    alloc: Global,
+    globals: &Globals,
+    entries: &[Entry],
+    name: &Name,
+) -> Result<Globals, AllocError>
+    ensures { IfOk result (λ below. AreAlike name.now below (seen globals.now entries.now)) }
+{
+    globals.rises();
+    let mut below = Globals::new(alloc);
+    let nodes = globals.subtree(name)?;
+    match below.put(name, &nodes) {
+        Ok(()) => {}
+        Err(_) => return Err(AllocError),
+    }
+    for entry in entries {
+        write_over(&mut below, entry, name)?;
+    }
+    Ok(below)
+}
+
+// Makes a write on the store, if it meets the name.
+fn write_over(below: &mut Globals, entry: &Entry, name: &Name) -> Result<(), AllocError>
+    ensures { OnOk result (below.new ≡ cond (meets name.now entry.now) (seen below.old (entry.now ∷ [])) below.old) }
+{
+    match entry {
+        Entry::Access(access, _) if meets(entry, name) => {
+            let _answer = perform(below, access)?;
+        }
+        _ => {}
+    }
+    Ok(())
+}

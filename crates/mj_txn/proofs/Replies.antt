@@ -1,0 +1,97 @@
+-- One access more, and the changes that accesses make.
+use Rattle.std.proofs.Common.{◌≡◌, ◌≢◌, ℕ, ◌+◌, ◌<◌, true, false, cond, ◌||◌, List, [], ◌∷◌, ◌++◌, length, get_or, take, drop, Option, Some, None, refl, sym, ap, ◌∙◌, subst, append_assoc, arith}
+use Rattle.std.proofs.lemmas.List.{take_more, take-append-drop, drop_more}
+use Rattle.std.specs.Option.{MatchOption}
+use Rattle.std.specs.List.{fold, list_any, cons_option}
+use Rattle.mj_store.specs.Questions.{Content}
+use Rattle.mj_store.specs.Changes.{is_too_deep, after_put}
+use Rattle.mj_store.specs.Runs.{after_access}
+use Rattle.mj_store.specs.declared.access.Access.{Access}
+use Rattle.mj_store.specs.declared.access.Access.TheVariants as access
+use Rattle.mj_store.specs.declared.access.Answer.{Answer}
+use Rattle.mj_globs.specs.declared.change.Change.{Change}
+use Rattle.mj_globs.specs.declared.change.Change.TheVariants as change
+use Rattle.mj_globs.specs.Changes.{after_change, after_changes, goes_too_deep}
+use Rattle.mj_txlog.specs.declared.entry.Entry.{Entry}
+use Rattle.mj_txlog.specs.declared.entry.Entry.TheVariants as entry
+use Rattle.mj_txlog.specs.Accesses.{Accesses, is_write, seen}
+use Rattle.mj_txn.specs.Commits.{HoldsNow, Hold, DiffersNow, Differs, change_of, changes_of}
+
+-- what is told of an option that is there, or isn't
+pub told_some : {A : Type 0} (P : Type 0) (Q : A → Type 0) (r : Option A) (x : A) → MatchOption r P Q → r ≡ Some x → Q x
+told_some P Q None x h e = absurd cc
+told_some P Q (Some y) x h e = let same : y ≡ x = cc in subst Q same h
+
+pub told_none : {A : Type 0} (P : Type 0) (Q : A → Type 0) (r : Option A) → MatchOption r P Q → r ≡ None → P
+told_none P Q None h e = h
+told_none P Q (Some y) h e = absurd cc
+
+append_nil : {A : Type 0} (xs : List A) → xs ++ [] ≡ xs
+append_nil [] = refl
+append_nil (x ∷ xs) = ap (λ ys. x ∷ ys) (append_nil xs)
+
+hold_more : (g : Content) (front xs : Accesses) (e : Entry) → Hold g front xs → HoldsNow g (front ++ xs) e → Hold g front (xs ++ e ∷ [])
+hold_more g front [] e h n = (subst (λ (f : Accesses). HoldsNow g f e) (append_nil front) n, tt)
+hold_more g front (x ∷ xs) e h n =
+    (h.0, hold_more g (front ++ x ∷ []) xs e h.1 (subst (λ (f : Accesses). HoldsNow g f e) (sym (append_assoc front (x ∷ []) xs)) n))
+
+-- the reads so far hold, and so does the next
+pub hold_next : (g : Content) (es : Accesses) (i : ℕ) (e : Entry) → i < length es → e ≡ get_or es i e → Hold g [] (take i es) → HoldsNow g (take i es) e → Hold g [] (take (i + 1) es)
+hold_next g es i e lt here h n =
+    subst (λ (xs : Accesses). Hold g [] xs) (ap (λ (y : Entry). take i es ++ y ∷ []) here ∙ sym (take_more es i e lt)) (hold_more g [] (take i es) e h n)
+
+-- what the list is at a place
+split_at : (es : Accesses) (i : ℕ) (e : Entry) → i < length es → e ≡ get_or es i e → es ≡ take i es ++ e ∷ drop (i + 1) es
+split_at es i e lt here = sym (take-append-drop i es) ∙ ap (λ (r : Accesses). take i es ++ r) (drop_more es i e lt ∙ ap (λ (y : Entry). y ∷ drop (i + 1) es) (sym here))
+
+pub differs_at : (g : Content) (es : Accesses) (i : ℕ) (e : Entry) (k : ℕ) (old new : Answer) → i < length es → e ≡ get_or es i e → Hold g [] (take i es) → DiffersNow g (take i es) e k old new → Differs g es k old new
+differs_at g es i e k old new lt here h d = record { earlier = take i es; e = e; later = drop (i + 1) es; is = split_at es i e lt here; hold = h; differs = d }
+
+-- ---- changes
+
+changes_more : (xs : Accesses) (e : Entry) → changes_of (xs ++ e ∷ []) ≡ changes_of xs ++ changes_of (e ∷ [])
+changes_more [] e = refl
+changes_more (entry.Unlock u ∷ xs) e = changes_more xs e
+changes_more (entry.Access a r ∷ xs) e =
+    elim (change_of a) as (λ c. cons_option c (changes_of (xs ++ e ∷ [])) ≡ cons_option c (changes_of xs) ++ changes_of (e ∷ [])) [
+      | None ↦ changes_more xs e
+      | Some c ↦ ap (λ (cs : List Change). c ∷ cs) (changes_more xs e)
+    ]
+
+pub changes_next : (es : Accesses) (i : ℕ) (e : Entry) → i < length es → e ≡ get_or es i e → changes_of (take (i + 1) es) ≡ changes_of (take i es) ++ changes_of (e ∷ [])
+changes_next es i e lt here =
+    ap changes_of (take_more es i e lt ∙ ap (λ (y : Entry). take i es ++ y ∷ []) (sym here)) ∙ changes_more (take i es) e
+
+-- the changes leave what is seen
+pub changes_seen : (es : Accesses) (g : Content) → after_changes g (changes_of es) ≡ seen g es
+changes_seen [] g = refl
+changes_seen (entry.Unlock u ∷ es) g = changes_seen es g
+changes_seen (entry.Access (access.Value n) r ∷ es) g = changes_seen es g
+changes_seen (entry.Access (access.Data n) r ∷ es) g = changes_seen es g
+changes_seen (entry.Access (access.Order n way) r ∷ es) g = changes_seen es g
+changes_seen (entry.Access (access.Query n) r ∷ es) g = changes_seen es g
+changes_seen (entry.Access (access.Subtree n) r ∷ es) g = changes_seen es g
+changes_seen (entry.Access (access.Set n v) r ∷ es) g = changes_seen es (after_access (access.Set n v) g)
+changes_seen (entry.Access (access.Kill n) r ∷ es) g = changes_seen es (after_access (access.Kill n) g)
+changes_seen (entry.Access (access.Put n nodes) r ∷ es) g =
+    elim (is_too_deep n nodes) as (λ b. after_changes g (cons_option (cond b None (Some (change.Put n nodes))) (changes_of es)) ≡ seen (cond b g (after_put g n nodes)) es) [
+      | true ↦ changes_seen es g
+      | false ↦ changes_seen es (after_put g n nodes)
+    ]
+
+-- none of them gives a name too many subscripts
+pub none_deep : (es : Accesses) → list_any goes_too_deep (changes_of es) ≡ false
+none_deep [] = refl
+none_deep (entry.Unlock u ∷ es) = none_deep es
+none_deep (entry.Access (access.Value n) r ∷ es) = none_deep es
+none_deep (entry.Access (access.Data n) r ∷ es) = none_deep es
+none_deep (entry.Access (access.Order n way) r ∷ es) = none_deep es
+none_deep (entry.Access (access.Query n) r ∷ es) = none_deep es
+none_deep (entry.Access (access.Subtree n) r ∷ es) = none_deep es
+none_deep (entry.Access (access.Set n v) r ∷ es) = none_deep es
+none_deep (entry.Access (access.Kill n) r ∷ es) = none_deep es
+none_deep (entry.Access (access.Put n nodes) r ∷ es) =
+    elim (is_too_deep n nodes) as (λ b. is_too_deep n nodes ≡ b → list_any goes_too_deep (cons_option (cond b None (Some (change.Put n nodes))) (changes_of es)) ≡ false) [
+      | true ↦ λ q. none_deep es
+      | false ↦ λ q. ap (λ b. b || list_any goes_too_deep (changes_of es)) q ∙ none_deep es
+    ] refl

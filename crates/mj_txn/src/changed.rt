@@ -1,0 +1,86 @@
+// The first read of a transaction that has another answer now.
+
+ghost use Rattle.std.specs.Prelude.{◌≡◌, ◌<◌, ◌≤◌, [], false, length, IfOk, MatchOption};
+ghost use Rattle.mj_store.specs.Runs.{answer_of};
+ghost use Rattle.mj_txlog.specs.Accesses.{is_write, seen};
+ghost use Rattle.mj_txn.specs.Commits.{HoldsNow, Hold, IsOther, DiffersNow, Differs};
+
+use mj_globs::Globals;
+use mj_store::{Access, Answer};
+use mj_txlog::{ACCESS_LIMIT, Entry, answer, copy_of, is_same, is_write};
+use std::alloc::{AllocError, Global};
+
+/// A read that has another answer now.
+#[derive(Drop)]
+pub struct Changed {
+    /// the place of the read among the accesses, from 1 on
+    pub place: u32,
+    /// the answer that it had
+    pub then: Answer,
+    /// the answer that it has now
+    pub now: Answer,
+}
+
+/// The first read that has another answer now, if there is one: each read is asked on the globals as they are, with the own writes before
+/// it made on them.
+pub fn first_changed(
+    alloc: Global,
+    globals: &Globals,
+    entries: &[Entry],
+) -> Result<Option<Changed>, AllocError>
+    requires { length entries.now ≤ ACCESS_LIMIT }
+    ensures { IfOk result (λ r. MatchOption r (Hold globals.now [] entries.now) (λ c. Differs globals.now entries.now c.place c.then c.now)) }
+{
+    for (i, entry) in entries.iter().enumerate() {
+        match changed_now(alloc, globals, &entries[..i], entry) {
+            Ok(None) => {}
+            Ok(Some(changed)) => return Ok(Some(changed)),
+            Err(refused) => return Err(refused),
+        }
+    }
+    Ok(None)
+}
+
+// Whether an access after these is a read that has another answer now.
+fn changed_now(
+    alloc: Global,
+    globals: &Globals,
+    earlier: &[Entry],
+    entry: &Entry,
+) -> Result<Option<Changed>, AllocError>
+    requires { length earlier.now < ACCESS_LIMIT }
+    ensures { IfOk result (λ r. MatchOption r (HoldsNow globals.now earlier.now entry.now) (λ c. DiffersNow globals.now earlier.now entry.now c.place c.then c.now)) }
+{
+    match entry {
+        Entry::Access(access, then) => {
+            if is_write(access) {
+                return Ok(None);
+            }
+            changed_read(alloc, globals, earlier, access, then)
+        }
+        Entry::Unlock(_) => Ok(None),
+    }
+}
+
+// The read, where it has another answer now.
+fn changed_read(
+    alloc: Global,
+    globals: &Globals,
+    earlier: &[Entry],
+    read: &Access,
+    then: &Answer,
+) -> Result<Option<Changed>, AllocError>
+    requires room { length earlier.now < ACCESS_LIMIT }
+    requires read { is_write read.now ≡ false }
+    ensures { IfOk result (λ r. MatchOption r (answer_of read.now (seen globals.now earlier.now) ≡ then.now) (λ c. IsOther globals.now earlier.now read.now then.now c.place c.then c.now)) }
+{
+    let now = answer(alloc, globals, earlier, read)?;
+    if is_same(&now, then) {
+        return Ok(None);
+    }
+    Ok(Some(Changed {
+        place: earlier.len() as u32 + 1,
+        then: copy_of(alloc, then)?,
+        now,
+    }))
+}

@@ -1,0 +1,41 @@
+// A commit.
+
+ghost use Rattle.std.specs.Prelude.{◌≡◌, IfOk, OnErr};
+ghost use Rattle.mj_txn.specs.Commits.{CommitsAs, after_commit};
+
+use crate::changed::{Changed, first_changed};
+use crate::writes::changes_of;
+use mj_globs::Globals;
+use mj_text::Failure;
+use mj_txlog::TxLog;
+use std::alloc::AllocError;
+
+/// What comes of a commit.
+#[derive(Drop)]
+pub enum Outcome {
+    /// the writes are made
+    Done,
+    /// a read of a SERIAL transaction has another answer now, and nothing is made
+    Clash(Changed),
+}
+
+/// Commits the transaction. A SERIAL one is done exactly where each of its reads, asked now on the globals with its own writes before that
+/// read, has the answer that it had, and otherwise the first read that has another answer is named. Where it is done all writes are made,
+/// and else none. The transaction itself stays as it is: what waits for its commit, and what a rollback gives back, is the caller's to do.
+pub fn commit(log: &TxLog, globals: &mut Globals) -> Result<Outcome, AllocError>
+    ensures outcome { IfOk result (λ r. CommitsAs log.now globals.old r) }
+    ensures globals { IfOk result (λ r. globals.new ≡ after_commit log.now globals.old r) }
+    ensures unchanged { OnErr result (globals.new ≡ globals.old) }
+{
+    if log.is_serial() {
+        if let Some(changed) = first_changed(log.allocator(), globals, log.entries())? {
+            return Ok(Outcome::Clash(changed));
+        }
+    }
+    let changes = changes_of(log.allocator(), log.entries())?;
+    match globals.apply(&changes) {
+        Ok(()) => Ok(Outcome::Done),
+        Err(Failure::Memory) => Err(AllocError),
+        Err(Failure::Fault(_)) => unreachable!(),
+    }
+}
