@@ -5,7 +5,8 @@ ghost use Rattle.std.specs.List.{list_all};
 ghost use Rattle.std.specs.FinMap.{is_sorted};
 ghost use Rattle.mj_subs.specs.Name.{is_word};
 ghost use Rattle.mj_subs.specs.Collation.{subscripts_cmp};
-ghost use Rattle.mj_ask.specs.Formed.{is_filled, are_filled, are_filled_before_last, is_name, is_global_name, is_search_name, is_subtree, starts_after, is_access, are_names, is_ask, is_kept, is_clash, is_answer, is_reply};
+ghost use Rattle.mj_ask.specs.Formed.{is_filled, are_filled, are_filled_before_last, is_name, is_global_name, is_search_name, is_subtree, starts_after};
+ghost use Rattle.mj_ask.specs.Formed.{is_access, are_names, is_ask, is_kept, is_clash, is_answer, is_reply};
 ghost use Rattle.mj_ask.specs.Fitting.{IsAnswered, IsServed};
 
 use crate::ask::{Ask, Reply};

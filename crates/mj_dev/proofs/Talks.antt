@@ -1,6 +1,7 @@
 -- What a talk writes, and that it obeys the protocol.
 use Rattle.std.proofs.Common.{ℕ, List, [], ◌∷◌, ◌++◌, Option, Some, None, ◌≡◌, ◌≤◌, length, refl, sym, ap, subst, ◌∙◌, append_assoc, append-nil}
 use Rattle.mj_text.specs.declared.text.TheConstants.{TEXT_LIMIT}
+use Rattle.mj_dev.specs.declared.device.Did.{Did}
 use Rattle.mj_dev.specs.declared.device.Did.TheVariants as did
 use Rattle.mj_dev.specs.declared.device.Input.{Input}
 use Rattle.mj_dev.specs.declared.device.Input.TheVariants as input
@@ -8,9 +9,10 @@ use Rattle.mj_dev.specs.declared.talk.State.{State}
 use Rattle.mj_dev.specs.declared.talk.State.TheVariants as states
 use Rattle.mj_dev.specs.declared.talk.Code.{Code}
 use Rattle.mj_dev.specs.declared.talk.Code.TheVariants as codes
+use Rattle.mj_dev.specs.Did.{IsAnswered}
 use Rattle.mj_dev.specs.Rest.{TakesOne}
-use Rattle.mj_dev.specs.Heard.{Heard, Lines, Bytes, Firsts, IsNew, after_line}
-use Rattle.mj_dev.specs.Talk.{Exchange, Begun, Written, LineRead, ByteRead, Ended, written_by, output_of, Exchanges, Talks, Stand, stand_of, AllowsOpen, AllowsLine, AllowsByte, Allows, Goes}
+use Rattle.mj_dev.specs.Heard.{Heard, Lines, Bytes, Firsts, IsNew, IsFew, after_line}
+use Rattle.mj_dev.specs.Talk.{Exchange, Begun, Written, LineRead, ByteRead, Ended, written_by, output_of, Exchanges, Talks, Stand, stand_of, AllowsOpen, AllowsLine, AllowsByte, Allows, Goes, beginning, BeginsOnce, IsTalk}
 
 -- reading a line writes nothing
 Lines-taken : (old new : Heard) (rest : Option (List ℕ)) (read : Input) → Lines old rest read new → new.taken ≡ old.taken
@@ -39,7 +41,7 @@ Bytes-taken old new None codes.Memory e = ap (λ (h : Heard). h.taken) e
 Bytes-taken old new (Some rest) code e = Firsts-taken old new rest code e
 
 -- what one call writes
-Exchanges-taken : (old new : Heard) (exchange : Exchange) → Exchanges old exchange new → new.taken ≡ old.taken ++ written_by exchange
+pub Exchanges-taken : (old new : Heard) (exchange : Exchange) → Exchanges old exchange new → new.taken ≡ old.taken ++ written_by exchange
 Exchanges-taken old new (Begun did.Done) e = ap (λ (h : Heard). h.taken) e ∙ sym (append-nil old.taken)
 Exchanges-taken old new (Begun did.Failed) e = ap (λ (h : Heard). h.taken) e ∙ sym (append-nil old.taken)
 Exchanges-taken old new (Begun did.Memory) e = ap (λ (h : Heard). h.taken) e ∙ sym (append-nil old.taken)
@@ -100,7 +102,7 @@ Exchanges-open old new (ByteRead code) e = Bytes-allowed old new old.rest code e
 Exchanges-open old new (Ended answer) e = absurd e
 
 -- each call to a session is one that the protocol allows
-Exchanges-allowed : (old new : Heard) (exchange : Exchange) → old.state ≡ states.Open → Exchanges old exchange new → Allows (stand_of old) old.state exchange (stand_of new)
+pub Exchanges-allowed : (old new : Heard) (exchange : Exchange) → old.state ≡ states.Open → Exchanges old exchange new → Allows (stand_of old) old.state exchange (stand_of new)
 Exchanges-allowed old new exchange usable e =
     let P : State → Type 0 = λ state. Allows (stand_of old) state exchange (stand_of new) in
     subst P (sym usable) (Exchanges-open old new exchange e)
@@ -109,3 +111,39 @@ Exchanges-allowed old new exchange usable e =
 pub Talks-go : (old new : Heard) (talk : List Exchange) → Talks old talk new → Goes (stand_of old) talk (stand_of new)
 Talks-go old new [] e = ap stand_of e
 Talks-go old new (exchange ∷ talk) e = (stand_of e.0, Exchanges-allowed old e.0 exchange e.1 e.2, Talks-go e.0 new talk e.3)
+
+-- ---- talks that follow one another
+
+pub output_of-append : (talk later : List Exchange) → output_of (talk ++ later) ≡ output_of talk ++ output_of later
+output_of-append [] later = refl
+output_of-append (exchange ∷ talk) later =
+    ap (λ bytes. written_by exchange ++ bytes) (output_of-append talk later) ∙ sym (append_assoc (written_by exchange) (output_of talk) (output_of later))
+
+pub Talks-append : (old between new : Heard) (talk later : List Exchange) → Talks old talk between → Talks between later new → Talks old (talk ++ later) new
+Talks-append old between new [] later e f = let P : Heard → Type 0 = λ session. Talks session later new in subst P e f
+Talks-append old between new (exchange ∷ talk) later e f = (e.0, e.1, e.2, Talks-append e.0 between new talk later e.3 f)
+
+pub Goes-append : (old between new : Stand) (talk later : List Exchange) → Goes old talk between → Goes between later new → Goes old (talk ++ later) new
+Goes-append old between new [] later e f = let P : Stand → Type 0 = λ stand. Goes stand later new in subst P e f
+Goes-append old between new (exchange ∷ talk) later e f = (e.0, e.1, Goes-append e.0 between new talk later e.2 f)
+
+-- an end may follow wherever a session stands
+end-allowed : (stand : Stand) (state : State) (failures : ℕ) (answer : Did) → IsFew state failures → IsAnswered answer → Allows stand state (Ended answer) (record stand { state = states.Ended })
+end-allowed stand states.Open failures answer few answered = (answered, refl)
+end-allowed stand states.Failed failures answer few answered = (answered, refl)
+end-allowed stand states.Ended failures answer few answered = absurd few
+
+-- a session's whole talk, with its end
+pub Talks-end : (old new : Heard) (talk : List Exchange) (answer : Did) → IsFew new.state new.failures → IsAnswered answer → Talks old talk new → Goes (stand_of old) (talk ++ Ended answer ∷ []) (record { rest = new.rest; state = states.Ended })
+Talks-end old new talk answer few answered e =
+    Goes-append (stand_of old) (stand_of new) (record { rest = new.rest; state = states.Ended }) talk (Ended answer ∷ []) (Talks-go old new talk e)
+    (record { rest = new.rest; state = states.Ended }, end-allowed (stand_of new) new.state new.failures answer few answered, refl)
+
+-- a new session's talk obeys the protocol, if its device is begun first and once
+pub Talks-obey : (old new : Heard) (talk : List Exchange) → IsNew old → BeginsOnce talk → Talks old talk new → IsTalk talk
+Talks-obey old new talk fresh begins e =
+    let with_rest : Option (List ℕ) → Stand = λ rest. record { rest = rest; state = old.state } in
+    let with_state : State → Stand = λ state. record { rest = None; state = state } in
+    let from : stand_of old ≡ beginning = ap with_rest fresh.rest ∙ ap with_state fresh.state in
+    let P : Stand → Type 0 = λ stand. Goes stand talk (stand_of new) in
+    (begins, stand_of new, subst P from (Talks-go old new talk e))

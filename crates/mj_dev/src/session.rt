@@ -1,9 +1,9 @@
 // A session with a device.
 
-ghost use Rattle.std.specs.Prelude.{◌≡◌, List};
+ghost use Rattle.std.specs.Prelude.{◌≡◌, ◌++◌, ◌∷◌, [], List};
 ghost use Rattle.mj_dev.specs.Did.{IsAnswered};
 ghost use Rattle.mj_dev.specs.Heard.{Heard, IsNew, IsFresh, Begins, Writes, Lines, Bytes, Ends};
-ghost use Rattle.mj_dev.specs.Talk.{Exchange, Talks, Goes, output_of, stand_of};
+ghost use Rattle.mj_dev.specs.Talk.{Exchange, Ended, Talks, Goes, BeginsOnce, IsTalk, output_of, stand_of};
 
 use crate::device::{Device, Did, Input};
 use crate::rest::Rest;
@@ -62,6 +62,7 @@ impl<D: Device> Session<D> {
     pub fn state(&self) -> State
         ensures state { result ≡ self.now.state }
         ensures protocol { (old : Heard) → (talk : List Exchange) → Talks old talk self.now → Goes (stand_of old) talk (stand_of self.now) }
+        ensures talk { (old : Heard) → (talk : List Exchange) → IsNew old → BeginsOnce talk → Talks old talk self.now → IsTalk talk }
     {
         self.state
     }
@@ -153,6 +154,7 @@ impl<D: Device> Session<D> {
     /// Ends and drops the device, which has one failure more exactly where the end failed.
     pub fn end(self) -> Did
         ensures answered { IsAnswered result }
+        ensures protocol { (old : Heard) → (talk : List Exchange) → Talks old talk self → Goes (stand_of old) (talk ++ Ended result ∷ []) (record { rest = self.rest; state = State.Ended }) }
         ensures device { (last : D) × Ends self result (D.failures last) (D.taken last) (D.given last) }
     {
         let Session { mut device, .. } = self;

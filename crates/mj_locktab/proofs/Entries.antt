@@ -50,64 +50,74 @@ one_or_other false b Q e p q = q e
 module _ {K : Type 0} (R : K → K → Ordering) where
   -- ---- how many keys pass
 
-  counted : (g : K → Bool) (e : K × ℕ) (es : List (K × ℕ)) → count_by (λ (x : K × ℕ). g x.0) (e ∷ es) ≡ cond (g e.0) 1 0 + count_by (λ (x : K × ℕ). g x.0) es
+  -- how many keys pass, whether a count does, and the entries of other keys
+  abbrev pub keys_passing : (K → Bool) → List (K × ℕ) → ℕ
+  keys_passing g es = count_by (λ e. g e.0) es
+
+  abbrev pub any_count : (ℕ → Bool) → List (K × ℕ) → Bool
+  any_count p es = list_any (λ e. p e.1) es
+
+  abbrev pub others : K → List (K × ℕ) → List (K × ℕ)
+  others k es = filter (λ e. not (eq_by_cmp R k e.0)) es
+
+  counted : (g : K → Bool) (e : K × ℕ) (es : List (K × ℕ)) → keys_passing g (e ∷ es) ≡ cond (g e.0) 1 0 + keys_passing g es
   counted g e es = sum_by-cons (λ (x : K × ℕ). cond (g x.0) 1 0) e es
 
   -- a key of another kind changes nothing
-  pub count-put_other : (g : K → Bool) (k : K) (v : ℕ) (es : List (K × ℕ)) → g k ≡ false → count_by (λ (x : K × ℕ). g x.0) (put R k v es) ≡ count_by (λ (x : K × ℕ). g x.0) es
+  pub count-put_other : (g : K → Bool) (k : K) (v : ℕ) (es : List (K × ℕ)) → g k ≡ false → keys_passing g (put R k v es) ≡ keys_passing g es
   count-put_other g k v [] fails = counted g (k, v) [] ∙ ap (λ b. cond b 1 0 + 0) fails
   count-put_other g k v (e ∷ es) fails =
-      elim (R k e.0) as (λ o. count_by (λ (x : K × ℕ). g x.0) (by_order o ((k, v) ∷ e ∷ es) ((e.0, v) ∷ es) (e ∷ put R k v es)) ≡ count_by (λ (x : K × ℕ). g x.0) (e ∷ es)) [
-        | Less ↦ counted g (k, v) (e ∷ es) ∙ ap (λ b. cond b 1 0 + count_by (λ (x : K × ℕ). g x.0) (e ∷ es)) fails ∙ omega arith
+      elim (R k e.0) as (λ o. keys_passing g (by_order o ((k, v) ∷ e ∷ es) ((e.0, v) ∷ es) (e ∷ put R k v es)) ≡ keys_passing g (e ∷ es)) [
+        | Less ↦ counted g (k, v) (e ∷ es) ∙ ap (λ b. cond b 1 0 + keys_passing g (e ∷ es)) fails ∙ omega arith
         | Equal ↦ counted g (e.0, v) es ∙ sym (counted g e es)
         | Greater ↦ counted g e (put R k v es) ∙ ap (λ n. cond (g e.0) 1 0 + n) (count-put_other g k v es fails) ∙ sym (counted g e es)
       ]
 
   -- no key goes
-  pub count-le-put : (g : K → Bool) (k : K) (v : ℕ) (es : List (K × ℕ)) → count_by (λ (x : K × ℕ). g x.0) es ≤ count_by (λ (x : K × ℕ). g x.0) (put R k v es)
+  pub count-le-put : (g : K → Bool) (k : K) (v : ℕ) (es : List (K × ℕ)) → keys_passing g es ≤ keys_passing g (put R k v es)
   count-le-put g k v [] = omega arith
   count-le-put g k v (e ∷ es) =
-      elim (R k e.0) as (λ o. count_by (λ (x : K × ℕ). g x.0) (e ∷ es) ≤ count_by (λ (x : K × ℕ). g x.0) (by_order o ((k, v) ∷ e ∷ es) ((e.0, v) ∷ es) (e ∷ put R k v es))) [
+      elim (R k e.0) as (λ o. keys_passing g (e ∷ es) ≤ keys_passing g (by_order o ((k, v) ∷ e ∷ es) ((e.0, v) ∷ es) (e ∷ put R k v es))) [
         | Less ↦ omega (arith, counted g (k, v) (e ∷ es))
         | Equal ↦ omega (arith, counted g (e.0, v) es, counted g e es)
         | Greater ↦ omega (arith, counted g e (put R k v es), count-le-put g k v es, counted g e es)
       ]
 
   -- a new key is one more
-  pub count-put_new : (g : K → Bool) (k : K) (v : ℕ) (es : List (K × ℕ)) → g k ≡ true → find R k es ≡ None → count_by (λ (x : K × ℕ). g x.0) (put R k v es) ≡ count_by (λ (x : K × ℕ). g x.0) es + 1
+  pub count-put_new : (g : K → Bool) (k : K) (v : ℕ) (es : List (K × ℕ)) → g k ≡ true → find R k es ≡ None → keys_passing g (put R k v es) ≡ keys_passing g es + 1
   count-put_new g k v [] passes none = counted g (k, v) [] ∙ ap (λ b. cond b 1 0 + 0) passes
   count-put_new g k v (e ∷ es) passes none =
-      elim (R k e.0) as (λ o. cond (is_eq o) (Some e.1) (find R k es) ≡ None → count_by (λ (x : K × ℕ). g x.0) (by_order o ((k, v) ∷ e ∷ es) ((e.0, v) ∷ es) (e ∷ put R k v es)) ≡ count_by (λ (x : K × ℕ). g x.0) (e ∷ es) + 1) [
-        | Less ↦ λ n. counted g (k, v) (e ∷ es) ∙ ap (λ b. cond b 1 0 + count_by (λ (x : K × ℕ). g x.0) (e ∷ es)) passes ∙ omega arith
+      elim (R k e.0) as (λ o. cond (is_eq o) (Some e.1) (find R k es) ≡ None → keys_passing g (by_order o ((k, v) ∷ e ∷ es) ((e.0, v) ∷ es) (e ∷ put R k v es)) ≡ keys_passing g (e ∷ es) + 1) [
+        | Less ↦ λ n. counted g (k, v) (e ∷ es) ∙ ap (λ b. cond b 1 0 + keys_passing g (e ∷ es)) passes ∙ omega arith
         | Equal ↦ λ n. absurd (let never : ⊥ = cc in never)
         | Greater ↦ λ n. omega (arith, counted g e (put R k v es), count-put_new g k v es passes n, counted g e es)
       ] none
 
   -- a filter adds none
-  pub count-filter : (g : K → Bool) (t : K × ℕ → Bool) (es : List (K × ℕ)) → count_by (λ (x : K × ℕ). g x.0) (filter t es) ≤ count_by (λ (x : K × ℕ). g x.0) es
+  pub count-filter : (g : K → Bool) (t : K × ℕ → Bool) (es : List (K × ℕ)) → keys_passing g (filter t es) ≤ keys_passing g es
   count-filter g t [] = omega arith
   count-filter g t (e ∷ es) =
-      elim (t e) as (λ b. count_by (λ (x : K × ℕ). g x.0) (cond b (e ∷ filter t es) (filter t es)) ≤ count_by (λ (x : K × ℕ). g x.0) (e ∷ es)) [
+      elim (t e) as (λ b. keys_passing g (cond b (e ∷ filter t es) (filter t es)) ≤ keys_passing g (e ∷ es)) [
         | true ↦ omega (arith, counted g e (filter t es), count-filter g t es, counted g e es)
         | false ↦ omega (arith, count-filter g t es, counted g e es)
       ]
 
   -- ---- whether a count passes
 
-  pub any-put_yes : (p : ℕ → Bool) (k : K) (v : ℕ) (es : List (K × ℕ)) → p v ≡ true → list_any (λ (x : K × ℕ). p x.1) (put R k v es) ≡ true
+  pub any-put_yes : (p : ℕ → Bool) (k : K) (v : ℕ) (es : List (K × ℕ)) → p v ≡ true → any_count p (put R k v es) ≡ true
   any-put_yes p k v [] passes = or_left (p v) false passes
   any-put_yes p k v (e ∷ es) passes =
-      elim (R k e.0) as (λ o. list_any (λ (x : K × ℕ). p x.1) (by_order o ((k, v) ∷ e ∷ es) ((e.0, v) ∷ es) (e ∷ put R k v es)) ≡ true) [
+      elim (R k e.0) as (λ o. any_count p (by_order o ((k, v) ∷ e ∷ es) ((e.0, v) ∷ es) (e ∷ put R k v es)) ≡ true) [
         | Less ↦ or_left (p v) _ passes
         | Equal ↦ or_left (p v) _ passes
         | Greater ↦ or_right (p e.1) _ (any-put_yes p k v es passes)
       ]
 
-  pub any-put_no : (p : ℕ → Bool) (k : K) (v : ℕ) (es : List (K × ℕ)) → p v ≡ false → list_any (λ (x : K × ℕ). p x.1) es ≡ false → list_any (λ (x : K × ℕ). p x.1) (put R k v es) ≡ false
+  pub any-put_no : (p : ℕ → Bool) (k : K) (v : ℕ) (es : List (K × ℕ)) → p v ≡ false → any_count p es ≡ false → any_count p (put R k v es) ≡ false
   any-put_no p k v [] fails none = nor (p v) false fails refl
   any-put_no p k v (e ∷ es) fails none =
       let n = neither (p e.1) _ none in
-      elim (R k e.0) as (λ o. list_any (λ (x : K × ℕ). p x.1) (by_order o ((k, v) ∷ e ∷ es) ((e.0, v) ∷ es) (e ∷ put R k v es)) ≡ false) [
+      elim (R k e.0) as (λ o. any_count p (by_order o ((k, v) ∷ e ∷ es) ((e.0, v) ∷ es) (e ∷ put R k v es)) ≡ false) [
         | Less ↦ nor (p v) _ fails none
         | Equal ↦ nor (p v) _ fails n.1
         | Greater ↦ nor (p e.1) _ n.0 (any-put_no p k v es fails n.1)
@@ -115,26 +125,26 @@ module _ {K : Type 0} (R : K → K → Ordering) where
 
   -- an entry that passes still does, where the new count passes if the old one did
   pub any-put_stays : (p : ℕ → Bool) (k : K) (v : ℕ) (es : List (K × ℕ)) → ((w : ℕ) → find R k es ≡ Some w → p w ≡ true → p v ≡ true)
-      → list_any (λ (x : K × ℕ). p x.1) es ≡ true → list_any (λ (x : K × ℕ). p x.1) (put R k v es) ≡ true
+      → any_count p es ≡ true → any_count p (put R k v es) ≡ true
   any-put_stays p k v [] stays some = absurd (let never : ⊥ = cc in never)
   any-put_stays p k v (e ∷ es) stays some =
-      elim (R k e.0) as (λ o. ((w : ℕ) → cond (is_eq o) (Some e.1) (find R k es) ≡ Some w → p w ≡ true → p v ≡ true) → list_any (λ (x : K × ℕ). p x.1) (by_order o ((k, v) ∷ e ∷ es) ((e.0, v) ∷ es) (e ∷ put R k v es)) ≡ true) [
+      elim (R k e.0) as (λ o. ((w : ℕ) → cond (is_eq o) (Some e.1) (find R k es) ≡ Some w → p w ≡ true → p v ≡ true) → any_count p (by_order o ((k, v) ∷ e ∷ es) ((e.0, v) ∷ es) (e ∷ put R k v es)) ≡ true) [
         | Less ↦ λ s. or_right (p v) _ some
         | Equal ↦ λ s. one_or_other (p e.1) _ _ some (λ y. or_left (p v) _ (s e.1 refl y)) (λ y. or_right (p v) _ y)
         | Greater ↦ λ s. one_or_other (p e.1) _ _ some (λ y. or_left (p e.1) _ y) (λ y. or_right (p e.1) _ (any-put_stays p k v es s y))
       ] stays
 
-  pub any-filter : (p : ℕ → Bool) (t : K × ℕ → Bool) (es : List (K × ℕ)) → list_any (λ (x : K × ℕ). p x.1) es ≡ false → list_any (λ (x : K × ℕ). p x.1) (filter t es) ≡ false
+  pub any-filter : (p : ℕ → Bool) (t : K × ℕ → Bool) (es : List (K × ℕ)) → any_count p es ≡ false → any_count p (filter t es) ≡ false
   any-filter p t [] none = refl
   any-filter p t (e ∷ es) none =
       let n = neither (p e.1) _ none in
-      elim (t e) as (λ b. list_any (λ (x : K × ℕ). p x.1) (cond b (e ∷ filter t es) (filter t es)) ≡ false) [
+      elim (t e) as (λ b. any_count p (cond b (e ∷ filter t es) (filter t es)) ≡ false) [
         | true ↦ nor (p e.1) _ n.0 (any-filter p t es n.1)
         | false ↦ any-filter p t es n.1
       ]
 
   -- what is found doesn't pass where none does
-  pub found_no : (p : ℕ → Bool) (k : K) (w : ℕ) (es : List (K × ℕ)) → list_any (λ (x : K × ℕ). p x.1) es ≡ false → find R k es ≡ Some w → p w ≡ false
+  pub found_no : (p : ℕ → Bool) (k : K) (w : ℕ) (es : List (K × ℕ)) → any_count p es ≡ false → find R k es ≡ Some w → p w ≡ false
   found_no p k w [] none f = absurd (let never : ⊥ = cc in never)
   found_no p k w (e ∷ es) none f =
       let n = neither (p e.1) _ none in
@@ -144,10 +154,10 @@ module _ {K : Type 0} (R : K → K → Ordering) where
       ] f
 
   -- a key that isn't found is not there to be filtered out
-  pub filter_absent : (k : K) (es : List (K × ℕ)) → find R k es ≡ None → filter (λ (x : K × ℕ). not (eq_by_cmp R k x.0)) es ≡ es
+  pub filter_absent : (k : K) (es : List (K × ℕ)) → find R k es ≡ None → others k es ≡ es
   filter_absent k [] none = refl
   filter_absent k (e ∷ es) none =
-      elim (eq_by_cmp R k e.0) as (λ b. cond b (Some e.1) (find R k es) ≡ None → cond (not b) (e ∷ filter (λ (x : K × ℕ). not (eq_by_cmp R k x.0)) es) (filter (λ (x : K × ℕ). not (eq_by_cmp R k x.0)) es) ≡ e ∷ es) [
+      elim (eq_by_cmp R k e.0) as (λ b. cond b (Some e.1) (find R k es) ≡ None → cond (not b) (e ∷ others k es) (others k es) ≡ e ∷ es) [
         | true ↦ λ n. absurd (let never : ⊥ = cc in never)
         | false ↦ λ n. ap (λ l. e ∷ l) (filter_absent k es n)
       ] none
@@ -169,10 +179,10 @@ module _ {K : Type 0} (R : K → K → Ordering) where
     before_tied x y (e ∷ es) p h = both _ _ (subst (λ r. T (is_lt r)) (sym (o.congr x y e.0 p)) (first _ _ h)) (before_tied x y es p (second _ _ h))
 
     -- a key that is there is no new one
-    pub count-put_found : (g : K → Bool) (k : K) (v w : ℕ) (es : List (K × ℕ)) → T (is_sorted R es) → find R k es ≡ Some w → count_by (λ (x : K × ℕ). g x.0) (put R k v es) ≡ count_by (λ (x : K × ℕ). g x.0) es
+    pub count-put_found : (g : K → Bool) (k : K) (v w : ℕ) (es : List (K × ℕ)) → T (is_sorted R es) → find R k es ≡ Some w → keys_passing g (put R k v es) ≡ keys_passing g es
     count-put_found g k v w [] h f = absurd (let never : ⊥ = cc in never)
     count-put_found g k v w (e ∷ es) h f =
-        elim (R k e.0) as (λ r. R k e.0 ≡ r → cond (is_eq r) (Some e.1) (find R k es) ≡ Some w → count_by (λ (x : K × ℕ). g x.0) (by_order r ((k, v) ∷ e ∷ es) ((e.0, v) ∷ es) (e ∷ put R k v es)) ≡ count_by (λ (x : K × ℕ). g x.0) (e ∷ es)) [
+        elim (R k e.0) as (λ r. R k e.0 ≡ r → cond (is_eq r) (Some e.1) (find R k es) ≡ Some w → keys_passing g (by_order r ((k, v) ∷ e ∷ es) ((e.0, v) ∷ es) (e ∷ put R k v es)) ≡ keys_passing g (e ∷ es)) [
           | Less ↦ λ p f'. absurd (let none = find_before k es (before_less k e.0 es p (first _ _ h)) in let never : ⊥ = cc in never)
           | Equal ↦ λ p f'. counted g (e.0, v) es ∙ sym (counted g e es)
           | Greater ↦ λ p f'. counted g e (put R k v es) ∙ ap (λ n. cond (g e.0) 1 0 + n) (count-put_found g k v w es (second _ _ h) f') ∙ sym (counted g e es)

@@ -14,7 +14,7 @@ use Rattle.mj_locktab.specs.declared.hold.Hold.{Hold}
 use Rattle.mj_locktab.specs.Locks.{Locks, hold_cmp, IsInOrder}
 use Rattle.mj_locktab.specs.Places.{IsAt, IsGapFor}
 use Rattle.mj_locktab.proofs.Order.{hold_cmp_total, hold_cmp-IsAntisymmetric}
-use Rattle.mj_locktab.proofs.Entries.{first, second, is_less, filter_absent, find_before, before_tied}
+use Rattle.mj_locktab.proofs.Entries.{others, first, second, is_less, filter_absent, find_before, before_tied}
 
 module _ {K : Type 0} (R : K → K → Ordering) (o : IsTotalOrder R) where
   -- ---- a key that stands at place i
@@ -47,13 +47,13 @@ module _ {K : Type 0} (R : K → K → Ordering) (o : IsTotalOrder R) where
       ap (λ r. by_order r ((k, v) ∷ e ∷ es) ((e.0, v) ∷ es) (e ∷ put R k v es)) (after_head k e d es i (omega arith) (first _ _ h) ties)
       ∙ ap (λ l. e ∷ l) (put_at k v es i d (omega arith) (second _ _ h) ties)
 
-  pub gone_at : (k : K) (es : List (K × ℕ)) (i : ℕ) (d : K × ℕ) → i < length es → T (is_sorted R es) → R (get_or es i d).0 k ≡ Equal → filter (λ (x : K × ℕ). not (eq_by_cmp R k x.0)) es ≡ remove es i
+  pub gone_at : (k : K) (es : List (K × ℕ)) (i : ℕ) (d : K × ℕ) → i < length es → T (is_sorted R es) → R (get_or es i d).0 k ≡ Equal → others R k es ≡ remove es i
   gone_at k [] i d lt h ties = absurd (omega arith)
   gone_at k (e ∷ es) zero d lt h ties =
-      ap (λ r. cond (not (is_eq r)) (e ∷ filter (λ (x : K × ℕ). not (eq_by_cmp R k x.0)) es) (filter (λ (x : K × ℕ). not (eq_by_cmp R k x.0)) es)) (tied_back e.0 k ties)
+      ap (λ r. cond (not (is_eq r)) (e ∷ others R k es) (others R k es)) (tied_back e.0 k ties)
       ∙ filter_absent R k es (find_before R o k es (before_tied R o k e.0 es (tied_back e.0 k ties) (first _ _ h)))
   gone_at k (e ∷ es) (suc i) d lt h ties =
-      ap (λ r. cond (not (is_eq r)) (e ∷ filter (λ (x : K × ℕ). not (eq_by_cmp R k x.0)) es) (filter (λ (x : K × ℕ). not (eq_by_cmp R k x.0)) es)) (after_head k e d es i (omega arith) (first _ _ h) ties)
+      ap (λ r. cond (not (is_eq r)) (e ∷ others R k es) (others R k es)) (after_head k e d es i (omega arith) (first _ _ h) ties)
       ∙ ap (λ l. e ∷ l) (gone_at k es i d (omega arith) (second _ _ h) ties)
 
   -- ---- a key that would go at place i

@@ -38,8 +38,9 @@ impl LockTable {
         }
     }
 
-    /// Takes each name once more for each of its places in the list, or none of them. A name counts as often as it stands there. Of several holds
-    /// that are in the way, that of the first such name is told, of the lowest job, and of its names the least.
+    /// Takes each name once more for each of its places in the list, or none of them. Of several holds that are in the way the one is told
+    /// that the first such name of the list meets: the lowest job's, and of its names the least. The time goes with the names that are held,
+    /// once for each name of the list.
     pub fn try_take(&mut self, job: u32, names: &[Name]) -> Result<Taken, AllocError>
         ensures answer { IfOk result (λ taken. taken ≡ outcome_of self.old job names.now) }
         ensures after { OnOk result (self.new ≡ after_try self.old job names.now) }

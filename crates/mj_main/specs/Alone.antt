@@ -2,6 +2,7 @@
 use Rattle.std.specs.Prelude.{◌≡◌, ℕ, List, [], ◌∷◌, Bool, false, is_some, reverse}
 use Rattle.mj_ask.specs.declared.ask.Ask.{Ask}
 use Rattle.mj_ask.specs.declared.ask.Ask.TheVariants as asks
+use Rattle.mj_semantics.specs.Job.{Start}
 use Rattle.mj_ask.specs.declared.entry.Entry.{Entry}
 use Rattle.mj_ast.specs.Syntax.{Routine}
 use Rattle.mj_store.specs.Questions.{Content}
@@ -19,27 +20,28 @@ pub record Shown : Type 0 where
   pub output : List ℕ
 
 -- where a job stands that runs alone, after so many calls of `advance` that let it go on, and the globals there
-pub record Stands (image : Loaded) (entry : Entry) (calls : ℕ) (job : Running) (globals : Content) : Type 0 where
-  pub run : IsRunOf image entry job
+pub record Stands (image : Loaded) (start : Start) (calls : ℕ) (job : Running) (globals : Content) : Type 0 where
+  pub run : IsRunOf image start job
   pub served : Served [] job.run.log
   pub left : globals ≡ globals_of [] job.run.log
-  pub made : Made (routines_of image) entry job.run calls
+  pub made : Made (routines_of image) start job.run calls
 
--- it ran the routines from the entry, over no globals: its log is a trace, each of its replies is the service's, the globals
+-- it ran the routines from its start, over no globals: its log is a trace, each of its replies is the service's, the globals
 -- are those after its asks, and the bytes are the output of its log
-pub record IsAlone (routines : List Routine) (entry : Entry) (one : Shown) : Type 0 where
-  pub trace : IsTrace routines entry one.log
+pub record IsAlone (routines : List Routine) (start : Start) (one : Shown) : Type 0 where
+  pub trace : IsTrace routines start one.log
   pub served : Served [] one.log
   pub globals : one.globals ≡ globals_of [] one.log
   pub output : one.output ≡ output_of one.log
 
 -- the job ended by a fault
 abbrev pub is_fault : Ask → Bool
-is_fault (asks.DeviceBegin device) = false
-is_fault (asks.DeviceWrite device bytes) = false
-is_fault (asks.DeviceEnd device) = false
-is_fault (asks.Access a) = false
 is_fault (asks.Halt fault) = is_some fault
+is_fault _ = false
+
+-- the first job, which starts at an entry, without values
+abbrev pub first_job : Entry → Start
+first_job entry = record { job = 1; entry = entry; values = [] }
 
 -- the last ask of the log is the end of a job that faulted
 abbrev pub has_faulted : Log → Bool

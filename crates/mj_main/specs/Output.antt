@@ -13,12 +13,8 @@ principal = 48 ∷ []
 
 -- the bytes that the principal device took by an ask with its reply: those of a write that is done
 abbrev pub taken : Ask → Reply → List ℕ
-taken (asks.DeviceBegin device) reply = []
 taken (asks.DeviceWrite device bytes) replies.Done = if bytes_eq device principal then bytes else []
-taken (asks.DeviceWrite device bytes) (replies.Answer a) = []
-taken (asks.DeviceEnd device) reply = []
-taken (asks.Access a) reply = []
-taken (asks.Halt fault) reply = []
+taken _ _ = []
 
 -- the bytes that the principal device took, in order
 abbrev pub output_of : Log → List ℕ

@@ -16,19 +16,13 @@ seen globals a = if (name_of a).global then globals else []
 
 -- the reply to an ask: what the globals say, and that all else is done
 abbrev pub reply_to : Content → Ask → Reply
-reply_to globals (asks.DeviceBegin device) = replies.Done
-reply_to globals (asks.DeviceWrite device bytes) = replies.Done
-reply_to globals (asks.DeviceEnd device) = replies.Done
 reply_to globals (asks.Access a) = replies.Answer (answer_of a (seen globals a))
-reply_to globals (asks.Halt fault) = replies.Done
+reply_to globals _ = replies.Done
 
 -- the globals after an ask
 abbrev pub globals_after : Content → Ask → Content
-globals_after globals (asks.DeviceBegin device) = globals
-globals_after globals (asks.DeviceWrite device bytes) = globals
-globals_after globals (asks.DeviceEnd device) = globals
 globals_after globals (asks.Access a) = if (name_of a).global then after_access a globals else globals
-globals_after globals (asks.Halt fault) = globals
+globals_after globals _ = globals
 
 -- the globals after all asks of a log
 abbrev pub globals_of : Content → Log → Content

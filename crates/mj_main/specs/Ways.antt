@@ -1,6 +1,6 @@
 -- How a call ends that lets one job run alone.
 use Rattle.std.specs.Prelude.{ℕ, List}
-use Rattle.mj_ask.specs.declared.entry.Entry.{Entry}
+use Rattle.mj_semantics.specs.Job.{Start}
 use Rattle.mj_ast.specs.Syntax.{Routine}
 use Rattle.mj_jobvm.specs.Run.{HasEnded}
 use Rattle.mj_main.specs.declared.ended.Alone.{Alone}
@@ -9,6 +9,6 @@ use Rattle.mj_main.specs.Alone.{IsAlone}
 use Rattle.mj_main.specs.Calls.{TakesCalls}
 
 -- a job that ended; or one that was stopped, since as many calls as it was allowed were made of it, and each let it go on
-abbrev pub Went : List Routine → Entry → ℕ → Alone → Type 0
-Went routines entry calls (Ended one) = IsAlone routines entry one × HasEnded routines entry one.log
-Went routines entry calls (Stopped one) = IsAlone routines entry one × TakesCalls routines entry one.log calls
+abbrev pub Went : List Routine → Start → ℕ → Alone → Type 0
+Went routines start calls (Ended one) = IsAlone routines start one × HasEnded routines start one.log
+Went routines start calls (Stopped one) = IsAlone routines start one × TakesCalls routines start one.log calls

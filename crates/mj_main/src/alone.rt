@@ -1,9 +1,9 @@
 // One job that runs alone.
 
 ghost use Rattle.std.specs.Prelude.{◌≡◌, ℕ, ◌+◌, IsSome, IfOk, OnOk};
-ghost use Rattle.mj_ask.specs.declared.entry.Entry as entries;
+ghost use Rattle.mj_semantics.specs.Job.{Start};
 ghost use Rattle.mj_load.specs.Image.{Loaded, routines_of};
-ghost use Rattle.mj_main.specs.Alone.{Stands};
+ghost use Rattle.mj_main.specs.Alone.{Stands, first_job};
 ghost use Rattle.mj_main.specs.Output.{output_of};
 ghost use Rattle.mj_main.specs.Ways.{Went};
 
@@ -22,9 +22,9 @@ const FUEL: u64 = 10_000;
 /// Runs one job alone that starts at this entry, over no globals and a device that takes every byte, up to its end or to
 /// the end of so many calls of `advance`, each of which asked or used its turns up.
 pub fn one(alloc: Global, image: &Image, entry: Entry, calls: u64) -> Result<Alone, AllocError>
-    ensures { IfOk result (Went (routines_of image.now) entry calls) }
+    ensures { IfOk result (Went (routines_of image.now) (first_job entry) calls) }
 {
-    let mut job = Job::start(alloc, image, entry)?;
+    let mut job = Job::start(alloc, image, 1, entry, Vec::new(alloc));
     let mut globals = Globals::new(alloc);
     'calls: for done in 0..calls {
         match job.advance(image, FUEL)? {
@@ -50,7 +50,7 @@ fn shown(alloc: Global, job: Job, globals: Globals) -> Result<One, AllocError>
 
 // Answers what the job asks, which ends a call.
 fn answer(job: &mut Job, globals: &mut Globals) -> Result<(), AllocError>
-    ensures { OnOk result ((image : Loaded) (entry : entries.Entry) (calls : ℕ) → IsSome job.old.run.pending → Stands image entry calls job.old globals.old → Stands image entry (calls + 1) job.new globals.new) }
+    ensures { OnOk result ((image : Loaded) (start : Start) (calls : ℕ) → IsSome job.old.run.pending → Stands image start calls job.old globals.old → Stands image start (calls + 1) job.new globals.new) }
 {
     let Some(ask) = job.ask() else {
         return Ok(());

@@ -1,19 +1,19 @@
 -- Rows of what code holds, of what is not checked, and of the turns of a call.
 use Rattle.std.proofs.Common.{arith, ap, ◌∙◌}
 use Rattle.std.proofs.lemmas.Option.{none-some}
-use Rattle.std.specs.Prelude.{◌≡◌, refl, ℕ, suc, List, [], ◌∷◌, Some, None, false, codes, slice_get}
+use Rattle.std.specs.Prelude.{◌≡◌, refl, ℕ, suc, List, [], ◌∷◌, Some, None, Bool, true, false, codes, slice_get}
 use Rattle.mj_ask.specs.declared.ask.Ask.TheVariants.{DeviceEnd}
 use Rattle.mj_oper.specs.declared.op.Op.TheVariants.{Add}
-use Rattle.mj_semantics.specs.State.{State, principal, passed, pushed, places}
-use Rattle.mj_semantics.specs.Outcome.{Outcome, Needs, More, end}
+use Rattle.mj_semantics.specs.State.{State, principal, passed, pushed, popped, places}
+use Rattle.mj_semantics.specs.Outcome.{Outcome, Needs, More, change, end}
 use Rattle.mj_semantics.specs.Job.{no_restart, opening}
 use Rattle.mj_pcode.specs.declared.instr.Span.TheVariants as span
 use Rattle.mj_pcode.specs.declared.instr.Instr.{Instr}
 use Rattle.mj_pcode.specs.declared.instr.Instr.TheVariants.{Line, Push, Binary, Write, Unless, Jump, NoneTrue, Open, Begin, Close, Again, Quit}
 use Rattle.mj_pcode.specs.declared.instr.Unit.{Unit}
 use Rattle.mj_pcode.specs.Found.{Found}
-use Rattle.mj_pcode.specs.Context.{Context, at_unit}
-use Rattle.mj_pcode.specs.Machine.{Stack, Next, act, calls, exec, place_in}
+use Rattle.mj_pcode.specs.Context.{Call, Context, at_unit}
+use Rattle.mj_pcode.specs.Machine.{Stack, Next, returns, act, calls, exec, place_in}
 use Rattle.mj_pcode.specs.Checked.{footing, bare, footings, IsEnough, Leads}
 
 abbrev text : List ℕ
@@ -88,3 +88,14 @@ module _ (u : Unit) (is_line : slice_get u.instrs.items 0 ≡ Some (line 2)) (is
 
   five_turns : run 5 ≡ Needs (DeviceEnd principal) begun.locals (places begun)
   five_turns = counted [] ([] ∷ []) 4 ∙ counted [] [] 3 ∙ entered 2 ∙ over 1
+
+-- A frame is over whose caller waits for the value of a function, with an operand that was kept, and one whose caller waits for none.
+module _ (next : Next) (v : List ℕ) where
+  abbrev caller : Bool → List (List ℕ) → Call
+  caller function kept = record { unit = 0; pc = 3; loops = []; operands = kept; function = function }
+
+  value_upon_operands : returns next (caller true (text ∷ []) ∷ []) v ≡ change popped (next (at_unit 0 []) 3 (v ∷ text ∷ []))
+  value_upon_operands = refl
+
+  no_value : returns next (caller false [] ∷ []) v ≡ change popped (next (at_unit 0 []) 3 [])
+  no_value = refl

@@ -1,5 +1,6 @@
 -- Where points lead to points as deep as there are turns, a run keeps what it comes to: with more turns, and at another such depth.
-use Rattle.std.proofs.Common.{◌≡◌, ◌⊎◌, inl, inr, ℕ, zero, suc, ◌+◌, ◌<◌, ◌≤◌, List, [], ◌∷◌, length, map, Bool, true, false, Option, Some, None, refl, arith}
+use Rattle.std.proofs.Common.{◌≡◌, ◌⊎◌, inl, inr, ℕ, zero, suc, ◌+◌, ◌-◌, ◌<◌, ◌≤◌, List, [], ◌∷◌, length, map, Bool, true, false, Option, Some, None, refl, sym, subst, arith}
+use Rattle.std.proofs.lemmas.Bool.{cases_lt}
 use Rattle.std.specs.Prelude.{nat_lt, nat_eq, if◌then◌else◌}
 use Rattle.mj_oper.specs.Operators.{binary_value, unary_value, truth_value}
 use Rattle.mj_num.specs.Number.{reading}
@@ -281,3 +282,21 @@ or_more same = inr refl
 
 pub steady : (image : List Routine) (job : Start) (n k : ℕ) (replies : List Reply) → (next image job n replies ≡ More) ⊎ (next image job (n + k) replies ≡ next image job n replies)
 steady image job n k replies = or_more (runs_keep image job (suc n) (suc (n + k)) n (n + k) replies (omega arith) (omega arith) (omega arith))
+
+-- so there is one answer, however many turns it takes
+pub one_answer : (image : List Routine) (job : Start) (n m : ℕ) (replies : List Reply) → (next image job n replies ≡ More) ⊎ ((next image job m replies ≡ More) ⊎ (next image job n replies ≡ next image job m replies))
+one_answer image job n m replies = by (cases_lt n m)
+  where
+    later : (i j : ℕ) → i ≤ j → (next image job i replies ≡ More) ⊎ (next image job j replies ≡ next image job i replies)
+    later i j le =
+        let e : i + (j - i) ≡ j = omega (arith, le) in
+        subst (λ q. (next image job i replies ≡ More) ⊎ (next image job q replies ≡ next image job i replies)) e (steady image job i (j - i) replies)
+
+    before : (next image job n replies ≡ More) ⊎ (next image job m replies ≡ next image job n replies)
+        → (next image job n replies ≡ More) ⊎ ((next image job m replies ≡ More) ⊎ (next image job n replies ≡ next image job m replies))
+    before (inl e) = inl e
+    before (inr e) = inr (inr (sym e))
+
+    by : (n < m) ⊎ (m ≤ n) → (next image job n replies ≡ More) ⊎ ((next image job m replies ≡ More) ⊎ (next image job n replies ≡ next image job m replies))
+    by (inl lt) = before (later n m (omega (arith, lt)))
+    by (inr le) = inr (later m n le)

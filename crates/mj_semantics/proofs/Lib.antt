@@ -2,6 +2,6 @@ pub mod Talk
 pub mod Examples
 pub mod Controls
 pub mod Loops
-mod Words
-mod Depth
-mod Devices
+pub mod Words
+pub mod Depth
+pub mod Devices

@@ -1,9 +1,9 @@
 -- Contents that are alike at a name and below it stay so.
-use Rattle.std.proofs.Common.{◌≡◌, ℕ, ◌+◌, ◌<◌, Bool, true, false, cond, ◌&&◌, ◌||◌, List, [], ◌∷◌, ◌++◌, length, get_or, take, Option, Some, None, refl, sym, ap, ◌∙◌, subst}
+use Rattle.std.proofs.Common.{◌≡◌, ℕ, ◌+◌, ◌<◌, true, false, cond, ◌&&◌, ◌||◌, List, [], ◌∷◌, ◌++◌, length, get_or, take, Option, Some, None, refl, sym, ap, ◌∙◌}
 use Rattle.std.specs.Prelude.{T}
-use Rattle.std.specs.declared.cmp.Ordering.{Ordering}
 use Rattle.std.specs.declared.cmp.Ordering.TheVariants.{Less, Equal, Greater}
 use Rattle.std.specs.Ordering.{is_eq, eq_by_cmp}
+use Rattle.std.specs.Cmp.{tied_itself}
 use Rattle.std.specs.FinMap.{find, is_sorted}
 use Rattle.std.specs.FinMap.Entries.{find-put, find-where_key, below_all}
 use Rattle.std.specs.List.{list_any, cons_option}
@@ -159,24 +159,37 @@ module _ (n : Name) where
   start_alike g new h is = at_each (λ m b e. ap (find name_cmp m) is ∙ filled_alone m n b e g h)
 
   -- one access more on both
-  step_alike : (e : Entry) (c d : Content) → AreAlike n c d → AreAlike n (cond (meets n e) (seen c (e ∷ [])) c) (seen d (e ∷ []))
-  step_alike (entry.Unlock u) c d h = h
-  step_alike (entry.Access a r) c d h =
-      at_each (λ m b below.
-      let is : find name_cmp m c ≡ find name_cmp m d = h m (ap is_some below) in
+  step_one : (m : Name) (b : List (List ℕ)) → rest_of n m ≡ Some b → (e : Entry) (c d : Content) → find name_cmp m c ≡ find name_cmp m d → find name_cmp m (cond (meets n e) (seen c (e ∷ [])) c) ≡ find name_cmp m (seen d (e ∷ []))
+  step_one m b below (entry.Unlock u) c d is = is
+  step_one m b below (entry.Access a r) c d is =
       elim (is_write a) as (λ w. find name_cmp m (cond (w && overlaps (name_of a) n) (after_accesses (cond w (a ∷ []) []) c) c) ≡ find name_cmp m (after_accesses (cond w (a ∷ []) []) d)) [
         | false ↦ is
         | true ↦ elim (overlaps (name_of a) n) as (λ o. overlaps (name_of a) n ≡ o → find name_cmp m (cond o (after_access a c) c) ≡ find name_cmp m (after_access a d)) [
           | true ↦ λ q. same_access m a c d is
           | false ↦ λ q. is ∙ sym (unmet m n b below a d q)
         ] refl
-      ])
+      ]
+
+  step_alike : (e : Entry) (c d : Content) → AreAlike n c d → AreAlike n (cond (meets n e) (seen c (e ∷ [])) c) (seen d (e ∷ []))
+  step_alike e c d h = at_each (λ m b below. step_one m b below e c d (h m (ap is_some below)))
+
+  seen_next : (m : Name) (g : Content) (es : Accesses) (i : ℕ) (e : Entry) → i < length es → e ≡ get_or es i e → find name_cmp m (seen (seen g (take i es)) (e ∷ [])) ≡ find name_cmp m (seen g (take (i + 1) es))
+  seen_next m g es i e lt here =
+      ap (find name_cmp m) (sym (seen_more g (take i es) e) ∙ ap (λ (ys : Accesses). seen g ys) (ap (λ (y : Entry). take i es ++ y ∷ []) here ∙ sym (take_more es i e lt)))
+
+  -- the text of n itself
+  pub next_text : (g : Content) (es : Accesses) (i : ℕ) (e : Entry) (now next : Content) → i < length es → e ≡ get_or es i e → find name_cmp n now ≡ find name_cmp n (seen g (take i es)) → next ≡ cond (meets n e) (seen now (e ∷ [])) now → find name_cmp n next ≡ find name_cmp n (seen g (take (i + 1) es))
+  next_text g es i e now next lt here h is =
+      ap (find name_cmp n) is ∙ step_one n [] (rest_itself n) e now (seen g (take i es)) h ∙ seen_next n g es i e lt here
+
+  pub text_set : (c : Content) (v : List ℕ) → find name_cmp n (after_set c n v) ≡ Some v
+  text_set c v = find_set n c n v ∙ ap (λ r. cond (is_eq r) (Some v) (find name_cmp n c)) (tied_itself name_cmp_total n)
 
   pub next_alike : (g : Content) (es : Accesses) (i : ℕ) (e : Entry) (now next : Content) → i < length es → e ≡ get_or es i e → AreAlike n now (seen g (take i es)) → next ≡ cond (meets n e) (seen now (e ∷ [])) now → AreAlike n next (seen g (take (i + 1) es))
   next_alike g es i e now next lt here h is m at =
       ap (find name_cmp m) is
       ∙ step_alike e now (seen g (take i es)) h m at
-      ∙ ap (find name_cmp m) (sym (seen_more g (take i es) e) ∙ ap (λ (ys : Accesses). seen g ys) (ap (λ (y : Entry). take i es ++ y ∷ []) here ∙ sym (take_more es i e lt)))
+      ∙ seen_next m g es i e lt here
 
   -- writes that don't meet n leave all as it was there
   pub unmet_alike : (g : Content) (es : Accesses) → list_any (meets n) es ≡ false → AreAlike n g (seen g es)

@@ -1,5 +1,5 @@
 -- The names of what is seen rise.
-use Rattle.std.proofs.Common.{◌≡◌, ℕ, Bool, true, false, cond, List, [], ◌∷◌, ◌++◌}
+use Rattle.std.proofs.Common.{true, false, cond, List, [], ◌∷◌}
 use Rattle.std.specs.Prelude.{T}
 use Rattle.std.specs.FinMap.{is_sorted}
 use Rattle.std.specs.FinMap.Entries.{is_sorted-put, is_sorted-where_key}
@@ -8,7 +8,7 @@ use Rattle.mj_subs.specs.Name.{Name}
 use Rattle.mj_subs.specs.Collation.{name_cmp}
 use Rattle.mj_subs.specs.Laws.Total.{name_cmp_total}
 use Rattle.mj_store.specs.Questions.{Content, Subtree, rest_of}
-use Rattle.mj_store.specs.Changes.{after_set, after_kill, after_put, followed_by, is_too_deep}
+use Rattle.mj_store.specs.Changes.{after_set, after_put, followed_by, is_too_deep}
 use Rattle.mj_store.specs.Runs.{after_access, after_accesses}
 use Rattle.mj_store.specs.declared.access.Access.{Access}
 use Rattle.mj_store.specs.declared.access.Access.TheVariants as access

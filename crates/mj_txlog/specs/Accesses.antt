@@ -1,5 +1,5 @@
 -- An open transaction, and what an access in it is answered.
-use Rattle.std.specs.Prelude.{ℕ, Bool, true, false, cond, ◌||◌, not, nat_lt, List, [], ◌∷◌, ◌++◌, length}
+use Rattle.std.specs.Prelude.{ℕ, Bool, true, false, cond, not, nat_lt, List, [], ◌∷◌, ◌++◌, length}
 use Rattle.mj_subs.specs.Name.{Name}
 use Rattle.mj_store.specs.Nodes.{but_last}
 use Rattle.mj_store.specs.Questions.{Content}

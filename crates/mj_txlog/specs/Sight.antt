@@ -1,5 +1,5 @@
 -- What a read depends on.
-use Rattle.std.specs.Prelude.{◌≡◌, ℕ, Bool, true, false, ◌&&◌, List, []}
+use Rattle.std.specs.Prelude.{◌≡◌, Bool, true, false, ◌&&◌, []}
 use Rattle.std.specs.FinMap.{find}
 use Rattle.std.specs.Option.{is_some}
 use Rattle.mj_subs.specs.Name.{Name, overlaps}

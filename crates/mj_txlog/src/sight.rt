@@ -5,7 +5,7 @@
 
 ghost use Rattle.std.specs.Prelude.{◌≡◌, ◌∷◌, [], false, cond, IfOk, OnOk};
 ghost use Rattle.std.specs.List.{list_any};
-ghost use Rattle.mj_store.specs.Questions.{with_subscripts};
+ghost use Rattle.mj_store.specs.Questions.{with_subscripts, value_at};
 ghost use Rattle.mj_store.specs.Runs.{answer_of};
 ghost use Rattle.mj_txlog.specs.Accesses.{is_write, seen, front_of};
 ghost use Rattle.mj_txlog.specs.Sight.{reach_of, meets, AreAlike};
@@ -14,10 +14,30 @@ use crate::entry::{Entry, is_write};
 use mj_globs::Globals;
 use mj_store::{Access, Answer, Store, perform};
 use mj_subs::{Name, Sub, Subs};
+use mj_text::Text;
 use std::alloc::{AllocError, Global};
 
 /// The answer to a read on the globals as they are, with the writes among these accesses made on them.
 pub fn answer(
+    alloc: Global,
+    globals: &Globals,
+    earlier: &[Entry],
+    read: &Access,
+) -> Result<Answer, AllocError>
+    requires { is_write read.now ≡ false }
+    ensures { IfOk result (λ a. a ≡ answer_of read.now (seen globals.now earlier.now)) }
+{
+    match read {
+        Access::Value(name) => {
+            let text = seen_text(alloc, globals, earlier, name)?;
+            Ok(Answer::Value(text))
+        }
+        _ => seen_answer(alloc, globals, earlier, read),
+    }
+}
+
+// The answer to a read, by what stands at the name on which it depends and below it.
+fn seen_answer(
     alloc: Global,
     globals: &Globals,
     earlier: &[Entry],
@@ -44,10 +64,7 @@ fn look(globals: &Globals, read: &Access) -> Result<Answer, AllocError>
     ensures { IfOk result (λ a. a ≡ answer_of read.now globals.now) }
 {
     Ok(match read {
-        Access::Value(name) => match globals.value(name) {
-            None => Answer::Value(None),
-            Some(text) => Answer::Value(Some(text.try_clone()?)),
-        },
+        Access::Value(name) => Answer::Value(text_of(globals, name)?),
         Access::Data(name) => Answer::Data(globals.data(name)),
         Access::Order(name, direction) => match globals.order(name, *direction) {
             None => Answer::Order(None),
@@ -121,6 +138,46 @@ fn meets(entry: &Entry, name: &Name) -> bool
         Entry::Access(access, _) => is_write(access) && access.name().overlap(name),
         Entry::Unlock(_) => false,
     }
+}
+
+// The text of a name, with the writes made.
+fn seen_text(
+    alloc: Global,
+    globals: &Globals,
+    entries: &[Entry],
+    name: &Name,
+) -> Result<Option<Text>, AllocError>
+    ensures { IfOk result (λ text. text ≡ value_at (seen globals.now entries.now) name.now) }
+{
+    let mut alone = text_alone(alloc, globals, name)?;
+    for entry in entries {
+        write_over(&mut alone, entry, name)?;
+    }
+    text_of(&alone, name)
+}
+
+// A store that has the text that the name has, and no other.
+fn text_alone(alloc: Global, globals: &Globals, name: &Name) -> Result<Globals, AllocError>
+    ensures { IfOk result (λ alone. value_at alone name.now ≡ value_at globals.now name.now) }
+{
+    let mut alone = Globals::new(alloc);
+    match globals.value(name) {
+        None => Ok(alone),
+        Some(text) => {
+            alone.set(name, text)?;
+            Ok(alone)
+        }
+    }
+}
+
+// The text of a name, for keeps.
+fn text_of(globals: &Globals, name: &Name) -> Result<Option<Text>, AllocError>
+    ensures { IfOk result (λ text. text ≡ value_at globals.now name.now) }
+{
+    Ok(match globals.value(name) {
+        None => None,
+        Some(text) => Some(text.try_clone()?),
+    })
 }
 
 // A store that is as the globals with the writes made on them, at the name and below it.

@@ -1,21 +1,22 @@
 -- One access more, and the changes that accesses make.
-use Rattle.std.proofs.Common.{◌≡◌, ◌≢◌, ℕ, ◌+◌, ◌<◌, true, false, cond, ◌||◌, List, [], ◌∷◌, ◌++◌, length, get_or, take, drop, Option, Some, None, refl, sym, ap, ◌∙◌, subst, append_assoc, arith}
+use Rattle.std.proofs.Common.{◌≡◌, ◌↔◌, ℕ, ◌+◌, ◌<◌, true, false, cond, ◌||◌, List, [], ◌∷◌, ◌++◌, length, get_or, take, drop, Option, Some, None, refl, sym, ap, ◌∙◌, subst, append_assoc}
 use Rattle.std.proofs.lemmas.List.{take_more, take-append-drop, drop_more}
 use Rattle.std.specs.Option.{MatchOption}
-use Rattle.std.specs.List.{fold, list_any, cons_option}
+use Rattle.std.specs.List.{list_any, cons_option}
 use Rattle.mj_store.specs.Questions.{Content}
 use Rattle.mj_store.specs.Changes.{is_too_deep, after_put}
 use Rattle.mj_store.specs.Runs.{after_access}
-use Rattle.mj_store.specs.declared.access.Access.{Access}
 use Rattle.mj_store.specs.declared.access.Access.TheVariants as access
 use Rattle.mj_store.specs.declared.access.Answer.{Answer}
 use Rattle.mj_globs.specs.declared.change.Change.{Change}
 use Rattle.mj_globs.specs.declared.change.Change.TheVariants as change
-use Rattle.mj_globs.specs.Changes.{after_change, after_changes, goes_too_deep}
+use Rattle.mj_globs.specs.Changes.{after_changes, goes_too_deep}
 use Rattle.mj_txlog.specs.declared.entry.Entry.{Entry}
 use Rattle.mj_txlog.specs.declared.entry.Entry.TheVariants as entry
-use Rattle.mj_txlog.specs.Accesses.{Accesses, is_write, seen}
-use Rattle.mj_txn.specs.Commits.{HoldsNow, Hold, DiffersNow, Differs, change_of, changes_of}
+use Rattle.mj_txlog.specs.Accesses.{Accesses, Transaction, seen}
+use Rattle.mj_txn.specs.Commits.{HoldsNow, Hold, DiffersNow, Differs, CommitsAs, change_of, changes_of}
+use Rattle.mj_txn.specs.declared.committing.Outcome.{Outcome}
+use Rattle.mj_txn.specs.declared.committing.Outcome.TheVariants as outcome
 
 -- what is told of an option that is there, or isn't
 pub told_some : {A : Type 0} (P : Type 0) (Q : A → Type 0) (r : Option A) (x : A) → MatchOption r P Q → r ≡ Some x → Q x
@@ -46,6 +47,21 @@ split_at es i e lt here = sym (take-append-drop i es) ∙ ap (λ (r : Accesses).
 
 pub differs_at : (g : Content) (es : Accesses) (i : ℕ) (e : Entry) (k : ℕ) (old new : Answer) → i < length es → e ≡ get_or es i e → Hold g [] (take i es) → DiffersNow g (take i es) e k old new → Differs g es k old new
 differs_at g es i e k old new lt here h d = record { earlier = take i es; e = e; later = drop (i + 1) es; is = split_at es i e lt here; hold = h; differs = d }
+
+hold_at : (g : Content) (front xs : Accesses) (e : Entry) (later : Accesses) → Hold g front (xs ++ e ∷ later) → HoldsNow g (front ++ xs) e
+hold_at g front [] e later h = subst (λ (f : Accesses). HoldsNow g f e) (sym (append_nil front)) h.0
+hold_at g front (x ∷ xs) e later h = subst (λ (f : Accesses). HoldsNow g f e) (append_assoc front (x ∷ []) xs) (hold_at g (front ++ x ∷ []) xs e later h.1)
+
+unheld : (g : Content) (earlier : Accesses) (e : Entry) (k : ℕ) (old new : Answer) → DiffersNow g earlier e k old new → HoldsNow g earlier e → ⊥
+unheld g earlier (entry.Access a r) k old new d h = d.1.differ (d.1.now ∙ h d.0 ∙ sym d.1.then)
+unheld g earlier (entry.Unlock u) k old new d h = d
+
+-- a clash comes only where a read doesn't hold
+pub exact : (t : Transaction) (g : Content) (r : Outcome) → CommitsAs t g r → (r ≡ outcome.Done) ↔ (t.serial ≡ true → Hold g [] t.accesses)
+exact t g outcome.Done h = (λ e. h, λ f. refl)
+exact t g (outcome.Clash c) h =
+    let d : Differs g t.accesses c.place c.then c.now = h.1 in
+    (λ e. absurd cc, λ f. absurd (unheld g d.earlier d.e c.place c.then c.now d.differs (hold_at g [] d.earlier d.e d.later (subst (λ (xs : Accesses). Hold g [] xs) d.is (f h.0)))))
 
 -- ---- changes
 

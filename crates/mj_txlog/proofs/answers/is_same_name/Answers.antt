@@ -1,4 +1,4 @@
-use Rattle.std.proofs.Common.{rules, sym, ◌∙◌}
+use Rattle.std.proofs.Common.{sym, ◌∙◌}
 use Rattle.mj_subs.specs.Laws.Tests.{names_eq-Decides}
 use Rattle.mj_txlog.proofs.answers.is_same_name.Goals as goal
 

@@ -1,6 +1,6 @@
 use Rattle.std.proofs.Common.{sym}
 use Rattle.mj_txlog.proofs.Looks.{answer_below, answer_unmet}
-use Rattle.mj_txlog.proofs.sight.answer.Goals as goal
+use Rattle.mj_txlog.proofs.sight.seen_answer.Goals as goal
 
 pub returns-then-not-is_any_meeting : goal.returns-then-not-is_any_meeting
 returns-then-not-is_any_meeting c =
