@@ -1,5 +1,5 @@
 -- The rows of jobs: how each starts, and whether it has ended.
-use Rattle.std.specs.Prelude.{◌≡◌, ℕ, zero, suc, ◌≤◌, List, [], ◌∷◌, ◌++◌, map, length, slice_get, slice_set, Bool, true, false, Option, Some, None}
+use Rattle.std.specs.Prelude.{◌≡◌, ℕ, zero, suc, ◌≤◌, List, length, slice_get, slice_set, Bool, true, false, Option, Some, None}
 use Rattle.mj_ask.specs.Started.{Started}
 
 -- a job's row: where it starts and with what, and whether it has ended
