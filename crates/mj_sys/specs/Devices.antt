@@ -1,5 +1,5 @@
 -- Which job has which device (ISO/IEC 11756:1999, 8.2.15: OPEN; 8.2.2: CLOSE).
-use Rattle.std.specs.Prelude.{ℕ, ◌+◌, ◌==◌, List, [], ◌∷◌, map, Bool, true, false, not, ◌&&◌, Option, Some, None, if◌then◌else◌}
+use Rattle.std.specs.Prelude.{ℕ, ◌+◌, ◌==◌, List, [], ◌∷◌, map, Bool, false, Option, Some, None, if◌then◌else◌}
 use Rattle.std.specs.Str.{bytes_eq}
 
 -- a device name: how many sessions it has in all, how many of them were taken, and the job that holds the name, if one does

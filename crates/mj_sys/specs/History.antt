@@ -1,5 +1,6 @@
 -- Histories of what was served, and what they leave.
-use Rattle.std.specs.Prelude.{◌≡◌, ℕ, ◌==◌, List, [], ◌∷◌, Bool, true, Option, Some, None, ⊤, count_by, filter_map, if◌then◌else◌}
+use Rattle.std.specs.Prelude.{◌≡◌, ℕ, ◌==◌, List, [], ◌∷◌, Bool, true, Option, Some, None, ⊤, count_by, if◌then◌else◌}
+use Rattle.mj_ask.specs.Fits.{is_shared}
 use Rattle.mj_ask.specs.declared.ask.Ask.{Ask}
 use Rattle.mj_ask.specs.declared.ask.Reply.{Reply}
 use Rattle.mj_jobs.specs.Rows.{IsLive}
@@ -23,9 +24,10 @@ abbrev pub state_of : Shared → History → Shared
 state_of s [] = s
 state_of s (e ∷ history) = state_of (after s e) history
 
--- the event is one that is served: its job has a row that hasn't ended, and its reply is what the job is told
+-- the event is one that is served: its job has a row that hasn't ended, its ask is one that is served here, and its reply is what the job is
+-- told
 abbrev pub IsServed : Shared → Event → Type 0
-IsServed s e = IsLive s.rows e.job × ((late : Bool) × (served s e.job e.ask late ≡ Some (e.reply, after s e)))
+IsServed s e = IsLive s.rows e.job × (is_shared e.ask ≡ true) × ((late : Bool) × (served s e.job e.ask late ≡ Some (e.reply, after s e)))
 
 -- each event of the history is served, after those before it. So no job has an event before its row is there, or after its halt
 abbrev pub AreServed : Shared → History → Type 0

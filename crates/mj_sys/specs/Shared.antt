@@ -1,5 +1,5 @@
 -- What all jobs share, and how it answers.
-use Rattle.std.specs.Prelude.{◌≡◌, ℕ, ◌+◌, ℤ, int_le, pos, nat_lt, ◌==◌, List, [], ◌∷◌, ◌++◌, Bool, true, false, ◌&&◌, ◌||◌, Option, Some, None, length, if◌then◌else◌}
+use Rattle.std.specs.Prelude.{ℕ, ◌+◌, ℤ, int_le, pos, nat_lt, ◌==◌, List, [], ◌∷◌, ◌++◌, Bool, false, ◌&&◌, ◌||◌, Option, Some, None, length, if◌then◌else◌}
 use Rattle.std.specs.Str.{bytes_eq}
 use Rattle.mj_store.specs.Questions.{Content}
 use Rattle.mj_store.specs.Runs.{name_of, answer_of, after_access}
@@ -15,7 +15,7 @@ use Rattle.mj_locktab.specs.Locks.{Locks}
 use Rattle.mj_locktab.specs.Changes.{after_give, after_give_all}
 use Rattle.mj_locktab.specs.Tries.{outcome_of, after_try}
 use Rattle.mj_jobs.specs.Rows.{Row, rows_limit, opened, with_ended}
-use Rattle.mj_sys.specs.Devices.{Device, Devices, principal, device_at, sessions_of, is_held_by, with_device, opened_by, closed_by, freed}
+use Rattle.mj_sys.specs.Devices.{Device, Devices, principal, device_at, sessions_of, with_device, opened_by, closed_by, freed}
 
 -- the globals, which job holds which names and which devices, and a row for each job
 pub record Shared : Type 0 where
@@ -61,8 +61,8 @@ open_known s job name timeout late d = elim d.holder [
 ]
 
 -- OPEN of a name. Each job has its principal device
-abbrev pub open : Shared → ℕ → List ℕ → Option ℤ → Bool → Option (Reply × Shared)
-open s job name timeout late =
+abbrev pub open_named : Shared → ℕ → List ℕ → Option ℤ → Bool → Option (Reply × Shared)
+open_named s job name timeout late =
     if bytes_eq name principal then Some (replies.Got, s)
     else elim (device_at s.devices name) [ None ↦ Some (replies.NoSession, s) | Some d ↦ open_known s job name timeout late d ]
 
@@ -81,13 +81,15 @@ started s start =
 abbrev pub halted : Shared → ℕ → Shared
 halted s job = record s { locks = after_give_all s.locks job; devices = freed s.devices job; rows = with_ended s.rows job }
 
--- What a job's ask is told, and what is shared then; none where it is busy. A busy ask with a timeout may be told that it is late.
+-- What a job's ask is told, and what is shared then; none where it is busy. A busy ask with a timeout may be told that it is late. There
+-- are no transactions yet: to begin, commit or roll back is done and changes nothing. (What a device session or none serves, `is_shared`
+-- keeps from here.)
 abbrev pub served : Shared → ℕ → Ask → Bool → Option (Reply × Shared)
 served s job (asks.Access a) late = Some (accessed s a)
 served s job (asks.Try names timeout) late = tried s job timeout late (outcome_of s.locks job names) (after_try s.locks job names)
 served s job (asks.Unlock names) late = Some (replies.Done, record s { locks = after_give s.locks job names })
 served s job asks.UnlockAll late = Some (replies.Done, record s { locks = after_give_all s.locks job })
-served s job (asks.Open name timeout) late = open s job name timeout late
+served s job (asks.Open name timeout) late = open_named s job name timeout late
 served s job (asks.Close name) late = Some (replies.Done, record s { devices = with_device s.devices name (closed_by job) })
 served s job (asks.Start start timeout) late = Some (started s start)
 served s job (asks.Halt fault) late = Some (replies.Done, halted s job)

@@ -1,5 +1,5 @@
 -- What a call of `serve` tells.
-use Rattle.std.specs.Prelude.{◌≡◌, ℕ, ◌+◌, ◌≤◌, length, [], ◌∷◌, ◌++◌, Bool, Some, None}
+use Rattle.std.specs.Prelude.{◌≡◌, ℕ, ◌+◌, ◌<◌, ◌≤◌, length, [], ◌∷◌, ◌++◌, Bool, Some, None}
 use Rattle.mj_ask.specs.declared.ask.Ask.{Ask}
 use Rattle.mj_ask.specs.declared.ask.Reply.{Reply}
 use Rattle.mj_jobs.specs.Rows.{IsLive}
@@ -27,22 +27,24 @@ pub record IsTurn (opening : Shared) (old : Recorded) (claim : Claimed) : Type 0
 abbrev pub recorded : Recorded → ℕ → Ask → Reply → Recorded
 recorded old job ask reply = record { history = old.history ++ record { job = job; ask = ask; reply = reply } ∷ []; claimed = old.claimed }
 
--- What a served ask is told. A reply is one event more, the one that was served, and one more of the claim; where it is busy,
--- nothing changes.
+-- What a served ask is told, where it is the claim's turn and the history has room. A reply is one event more, the one that was served,
+-- and one more of the claim; where it is busy, nothing changes.
 abbrev pub Serves : Shared → Recorded → Claimed → Ask → Bool → Outcome → Recorded → Claimed → Type 0
 Serves opening old claim ask late (outcomes.Told reply) new claim' =
     IsTurn opening old claim
+    × (length old.history < history_limit)
     × Tells (state_of opening old.history) claim.job ask late (outcomes.Told reply) (state_of opening new.history)
     × (new ≡ recorded old claim.job ask reply)
     × (claim' ≡ record claim { events = claim.events + 1 })
 Serves opening old claim ask late (outcomes.Busy holder held) new claim' =
     IsTurn opening old claim
+    × (length old.history < history_limit)
     × Tells (state_of opening old.history) claim.job ask late (outcomes.Busy holder held) (state_of opening new.history)
     × (new ≡ old)
     × (claim' ≡ claim)
 
--- When each refusal comes: it isn't the claim's turn, the history is full, or memory was wanting. Turns are looked at first.
+-- When each refusal comes: it isn't the claim's turn, the history is full, or memory was wanting. The turn is looked at first, then the room.
 abbrev pub IsRefused : Shared → Recorded → Claimed → Refused → Type 0
 IsRefused opening old claim (refusals.Turn expected) = (expected ≡ events_of claim.job old.history) × (IsTurn opening old claim → ⊥)
 IsRefused opening old claim refusals.Full = IsTurn opening old claim × (length old.history ≡ history_limit)
-IsRefused opening old claim refusals.Memory = IsTurn opening old claim × ((length old.history ≡ history_limit) → ⊥)
+IsRefused opening old claim refusals.Memory = IsTurn opening old claim × (length old.history < history_limit)

@@ -1,19 +1,13 @@
 // What all jobs share, and the history of what they asked and were told.
 //
-// `Shared` is the globals, the locks, who has which device, and a row for each job: it answers an ask as the definition of service has it
-// (`specs/Shared.antt`), or tells what keeps it busy. `System` is that beside the history: its type keeps that what is shared is what the history
-// leaves of the opening, each event of it served, and that no name of one job overlaps a name of another. So this is still known of a system that
-// lay under a lock.
+// So far the crate has definitions and types; the code that keeps to them comes next. `specs/Shared.antt` has what is shared, the globals, the
+// locks, who has which device and a row for each job, and how an ask is answered on it (`served`). `specs/History.antt` has what a history of
+// events leaves of it, and when each event of one was served; `specs/System.antt` what the type of the system is to keep; `specs/Told.antt` what a
+// call is to tell. `proofs/Examples.antt` has worked examples of `served`.
 #![tactic(auto)]
 
 mod busy;
-mod devices;
 mod event;
-mod shared;
-mod system;
 
 pub use busy::{Held, Outcome, Refused};
-pub use devices::{Devices, PRINCIPAL};
 pub use event::Event;
-pub use shared::Shared;
-pub use system::{Claim, HISTORY_LIMIT, Opening, System};
