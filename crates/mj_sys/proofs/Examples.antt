@@ -13,7 +13,8 @@ use Rattle.mj_locktab.specs.Locks.{count_of}
 use Rattle.mj_jobs.specs.Rows.{Row}
 use Rattle.mj_sys.specs.Devices.{Device, principal, holder_of}
 use Rattle.mj_sys.specs.Shared.{Shared, served}
-use Rattle.mj_sys.specs.History.{left_by}
+use Rattle.mj_sys.specs.declared.event.Event.{Event}
+use Rattle.mj_sys.specs.History.{History, left_by, state_of, AreServed, log_of, events_of}
 
 -- a global of the word w with subscripts p
 abbrev global : List ℕ → List (List ℕ) → Name
@@ -197,3 +198,22 @@ read_by_another = refl
 -- a local name has no place in what is shared
 local_changes_nothing : then first 1 (asks.Access (accesses.Set x (codes "1"))) ≡ first
 local_changes_nothing = refl
+
+abbrev event : ℕ → Ask → Reply → Event
+event job ask reply = record { job = job; ask = ask; reply = reply }
+
+-- job 1 locks ^A, job 2 tries ^A(1) and is late, job 1 halts, and job 2 gets it
+abbrev story : History
+story = event 1 (lock a None) replies.Got ∷ event 2 (lock a1 at_once) replies.Late ∷ event 1 (asks.Halt None) replies.Done ∷ event 2 (lock a1 None) replies.Got ∷ []
+
+story_served : AreServed first story
+story_served = (((running, refl, refl), refl, (false, refl)), (((running, refl, refl), refl, (false, refl)), (((running, refl, refl), refl, (false, refl)), (((running, refl, refl), refl, (false, refl)), tt))))
+
+story_left : count_of (state_of first story).locks 2 a1 ∷ count_of (state_of first story).locks 1 a ∷ [] ≡ 1 ∷ 0 ∷ []
+story_left = refl
+
+story_told : log_of 2 story ≡ (lock a1 at_once, replies.Late) ∷ (lock a1 None, replies.Got) ∷ []
+story_told = refl
+
+story_counted : events_of 1 story ≡ 2
+story_counted = refl
