@@ -1,0 +1,219 @@
+-- What asks of two jobs are told, and what they leave.
+use Rattle.std.proofs.Common.{◌≡◌, ℕ, zero, suc, Bool, true, false, List, [], ◌∷◌, Option, Some, None, refl}
+use Rattle.std.specs.Prelude.{ℤ, pos, codes}
+use Rattle.mj_subs.specs.Name.{Name}
+use Rattle.mj_store.specs.declared.access.Access.TheVariants as accesses
+use Rattle.mj_store.specs.declared.access.Answer.TheVariants as answers
+use Rattle.mj_ask.specs.Started.{Started}
+use Rattle.mj_ask.specs.declared.ask.Ask.{Ask}
+use Rattle.mj_ask.specs.declared.ask.Ask.TheVariants as asks
+use Rattle.mj_ask.specs.declared.ask.Reply.{Reply}
+use Rattle.mj_ask.specs.declared.ask.Reply.TheVariants as replies
+use Rattle.mj_locktab.specs.Locks.{count_of}
+use Rattle.mj_jobs.specs.Rows.{Row}
+use Rattle.mj_sys.specs.Devices.{Device, principal, holder_of}
+use Rattle.mj_sys.specs.Shared.{Shared, served}
+use Rattle.mj_sys.specs.declared.event.Event.{Event}
+use Rattle.mj_sys.specs.History.{History, left_by, state_of, AreServed, log_of, events_of}
+
+-- a global of the word w with subscripts p
+abbrev global : List ℕ → List (List ℕ) → Name
+global w p = record { global = true; word = w; subscripts = p }
+
+abbrev a : Name
+a = global (codes "A") []
+
+abbrev a1 : Name
+a1 = global (codes "A") (codes "1" ∷ [])
+
+abbrev b : Name
+b = global (codes "B") []
+
+abbrev x : Name
+x = record { global = false; word = codes "X"; subscripts = [] }
+
+-- a job that starts at the first line of MAIN
+abbrev main : Started
+main = record { entry = record { label = None; routine = codes "MAIN" }; values = [] }
+
+abbrev running : Row
+running = record { start = main; ended = false }
+
+abbrev device : List ℕ → ℕ → Device
+device name sessions = record { name = name; sessions = sessions; taken = 0; holder = None }
+
+-- two jobs, three principal sessions, and two sessions of a device
+abbrev first : Shared
+first = record { globals = []; locks = []; devices = device principal 3 ∷ device (codes "9") 2 ∷ []; rows = running ∷ running ∷ [] }
+
+-- what a job is told
+abbrev told : Shared → ℕ → Ask → Bool → Option Reply
+told s job ask late = elim (served s job ask late) [ None ↦ None | Some r ↦ Some r.0 ]
+
+-- what is left where the ask comes late
+abbrev then : Shared → ℕ → Ask → Shared
+then s job ask = left_by s (served s job ask true)
+
+abbrev lock : Name → Option ℤ → Ask
+lock n timeout = asks.Try (n ∷ []) timeout
+
+abbrev unlock : Name → Ask
+unlock n = asks.Unlock (n ∷ [])
+
+abbrev at_once : Option ℤ
+at_once = Some (pos 0)
+
+abbrev nine : Option ℤ
+nine = Some (pos 9)
+
+-- job 1 holds ^A
+abbrev locked : Shared
+locked = then first 1 (lock a None)
+
+is_locked : count_of locked.locks 1 a ≡ 1
+is_locked = refl
+
+-- a timeout of 0 is over at once
+late_at_once : told locked 2 (lock a1 at_once) false ≡ Some replies.Late
+late_at_once = refl
+
+waits : served locked 2 (lock a1 nine) false ≡ None
+waits = refl
+
+late_after : told locked 2 (lock a1 nine) true ≡ Some replies.Late
+late_after = refl
+
+waits_for_ever : served locked 2 (lock a1 None) true ≡ None
+waits_for_ever = refl
+
+-- a name that doesn't overlap is got, even late
+another : told locked 2 (lock b at_once) true ≡ Some replies.Got
+another = refl
+
+-- the holder itself takes it again, and a name below it
+again : told locked 1 (lock a1 at_once) true ≡ Some replies.Got
+again = refl
+
+-- LOCK +^A,+^A LOCK -^A
+twice_and_back : count_of (then (then locked 1 (lock a None)) 1 (unlock a)).locks 1 a ≡ 1
+twice_and_back = refl
+
+-- and once more: job 2 gets the name below it
+freed_by_unlock : told (then locked 1 (unlock a)) 2 (lock a1 at_once) true ≡ Some replies.Got
+freed_by_unlock = refl
+
+-- giving up a name that isn't held
+not_held : served locked 2 (unlock a) false ≡ Some (replies.Done, locked)
+not_held = refl
+
+abbrev open_9 : Option ℤ → Ask
+open_9 timeout = asks.Open (codes "9") timeout
+
+-- job 1 has the device
+abbrev taken : Shared
+taken = then first 1 (open_9 None)
+
+device_got : told first 1 (open_9 at_once) true ≡ Some replies.Got
+device_got = refl
+
+device_waits : served taken 2 (open_9 nine) false ≡ None
+device_waits = refl
+
+device_late : told taken 2 (open_9 at_once) false ≡ Some replies.Late
+device_late = refl
+
+-- its holder gets it once more, without a session
+device_again : served taken 1 (open_9 None) false ≡ Some (replies.Got, taken)
+device_again = refl
+
+device_unknown : served first 1 (asks.Open (codes "8") None) false ≡ Some (replies.NoSession, first)
+device_unknown = refl
+
+device_principal : served taken 2 (asks.Open principal None) false ≡ Some (replies.Got, taken)
+device_principal = refl
+
+-- CLOSE frees it, and the next OPEN takes the next session
+abbrev passed : Shared
+passed = then (then taken 1 (asks.Close (codes "9"))) 2 (open_9 None)
+
+device_passed : passed.devices ≡ device principal 3 ∷ record { name = codes "9"; sessions = 2; taken = 2; holder = Some 2 } ∷ []
+device_passed = refl
+
+-- a CLOSE by another job changes nothing
+close_of_another : served taken 2 (asks.Close (codes "9")) false ≡ Some (replies.Done, taken)
+close_of_another = refl
+
+-- where all sessions were taken there is none, also for the job that had the last
+device_used_up : told (then passed 2 (asks.Close (codes "9"))) 2 (open_9 None) false ≡ Some replies.NoSession
+device_used_up = refl
+
+-- a third job starts, and has no principal session left after it
+abbrev started : Shared
+started = then first 1 (asks.Start main None)
+
+third : told first 1 (asks.Start main None) false ≡ Some (replies.Job 3)
+third = refl
+
+no_session_for_a_job : served started 1 (asks.Start main None) false ≡ Some (replies.Limit, started)
+no_session_for_a_job = refl
+
+-- rows of so many jobs
+abbrev many : ℕ → List Row
+many zero = []
+many (suc n) = running ∷ many n
+
+-- there are 255 jobs, and sessions for more
+abbrev crowd : ℕ → Shared
+crowd n = record { globals = []; locks = []; devices = device principal 300 ∷ []; rows = many n }
+
+last_job : told (crowd 254) 1 (asks.Start main None) false ≡ Some (replies.Job 255)
+last_job = refl
+
+too_many_jobs : told (crowd 255) 1 (asks.Start main None) false ≡ Some replies.Limit
+too_many_jobs = refl
+
+-- a halt gives all up and ends the row
+abbrev halted_both : Shared
+halted_both = then (then locked 1 (open_9 None)) 1 (asks.Halt None)
+
+halt_ends : halted_both.rows ≡ record { start = main; ended = true } ∷ running ∷ []
+halt_ends = refl
+
+halt_unlocks : halted_both.locks ≡ []
+halt_unlocks = refl
+
+halt_closes : holder_of halted_both.devices (codes "9") ≡ None
+halt_closes = refl
+
+-- SET ^A=1, read by the other job
+abbrev written : Shared
+written = then first 1 (asks.Access (accesses.Set a (codes "1")))
+
+write_done : told first 1 (asks.Access (accesses.Set a (codes "1"))) false ≡ Some (replies.Answer answers.Done)
+write_done = refl
+
+read_by_another : served written 2 (asks.Access (accesses.Value a)) false ≡ Some (replies.Answer (answers.Value (Some (codes "1"))), written)
+read_by_another = refl
+
+-- a local name has no place in what is shared
+local_changes_nothing : then first 1 (asks.Access (accesses.Set x (codes "1"))) ≡ first
+local_changes_nothing = refl
+
+abbrev event : ℕ → Ask → Reply → Event
+event job ask reply = record { job = job; ask = ask; reply = reply }
+
+-- job 1 locks ^A, job 2 tries ^A(1) and is late, job 1 halts, and job 2 gets it
+abbrev story : History
+story = event 1 (lock a None) replies.Got ∷ event 2 (lock a1 at_once) replies.Late ∷ event 1 (asks.Halt None) replies.Done ∷ event 2 (lock a1 None) replies.Got ∷ []
+
+story_served : AreServed first story
+story_served = (((running, refl, refl), refl, (false, refl)), (((running, refl, refl), refl, (false, refl)), (((running, refl, refl), refl, (false, refl)), (((running, refl, refl), refl, (false, refl)), tt))))
+
+story_left : count_of (state_of first story).locks 2 a1 ∷ count_of (state_of first story).locks 1 a ∷ [] ≡ 1 ∷ 0 ∷ []
+story_left = refl
+
+story_told : log_of 2 story ≡ (lock a1 at_once, replies.Late) ∷ (lock a1 None, replies.Got) ∷ []
+story_told = refl
+
+story_counted : events_of 1 story ≡ 2
+story_counted = refl

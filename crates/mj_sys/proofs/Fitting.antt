@@ -1,0 +1,96 @@
+-- What is told fits what was asked.
+use Rattle.std.proofs.Common.{◌≡◌, ℕ, Bool, true, false, ◌||◌, cond, List, Option, Some, None, refl}
+use Rattle.std.specs.Prelude.{⊤, ℤ, pos, int_le, nat_lt, ◌==◌}
+use Rattle.mj_ask.specs.Started.{Started}
+use Rattle.mj_ask.specs.declared.ask.Ask.{Ask}
+use Rattle.mj_ask.specs.declared.ask.Ask.TheVariants as asks
+use Rattle.mj_ask.specs.declared.ask.Reply.{Reply}
+use Rattle.mj_ask.specs.declared.ask.Reply.TheVariants as replies
+use Rattle.std.specs.Str.{bytes_eq}
+use Rattle.mj_store.specs.declared.access.Access.{Access}
+use Rattle.mj_ask.specs.Fitting.{IsAnswered}
+use Rattle.mj_ask.specs.Fits.{fits, is_shared}
+use Rattle.mj_locktab.specs.Tries.{outcome_of, after_try}
+use Rattle.mj_subs.specs.Name.{Name}
+use Rattle.mj_locktab.specs.Locks.{Locks}
+use Rattle.mj_locktab.specs.declared.taken.Taken.{Taken}
+use Rattle.mj_locktab.specs.declared.taken.Taken.TheVariants as takes
+use Rattle.mj_sys.specs.Devices.{Device, principal, device_at}
+use Rattle.mj_sys.specs.Shared.{Shared, tried, busy, has_room, started, open_free, open_known, served}
+
+-- a reply of some service fits
+abbrev Fit : Ask → Option (Reply × Shared) → Type 0
+Fit ask None = ⊤
+Fit ask (Some r) = fits ask r.0 ≡ true
+
+try_busy : (s : Shared) (names : List Name) (timeout : Option ℤ) (late : Bool) → Fit (asks.Try names timeout) (busy s timeout late)
+try_busy s names None late = tt
+try_busy s names (Some t) late = over (late || int_le t (pos 0)) where
+  over : (b : Bool) → Fit (asks.Try names (Some t)) (cond b (Some (replies.Late, s)) None)
+  over true = refl
+  over false = tt
+
+try_fits : (s : Shared) (job : ℕ) (names : List Name) (timeout : Option ℤ) (late : Bool) (taken : Taken) (locks : Locks)
+    → Fit (asks.Try names timeout) (tried s job timeout late taken locks)
+try_fits s job names timeout late takes.Got locks = refl
+try_fits s job names timeout late (takes.Busy holder name) locks = try_busy s names timeout late
+try_fits s job names timeout late takes.Limit locks = refl
+
+start_fits : (s : Shared) (start : Started) (timeout : Option ℤ) → Fit (asks.Start start timeout) (Some (started s start))
+start_fits s start timeout = over (has_room s) refl where
+  over : (b : Bool) → has_room s ≡ b → Fit (asks.Start start timeout) (Some (started s start))
+  over true is = rw is refl
+  over false is = rw is refl
+
+free_fits : (s : Shared) (job : ℕ) (name : List ℕ) (timeout : Option ℤ) (d : Device) → Fit (asks.Open name timeout) (Some (open_free s job name d))
+free_fits s job name timeout d = over (nat_lt d.taken d.sessions) refl where
+  over : (b : Bool) → nat_lt d.taken d.sessions ≡ b → Fit (asks.Open name timeout) (Some (open_free s job name d))
+  over true is = rw is refl
+  over false is = rw is refl
+
+open_busy : (s : Shared) (name : List ℕ) (timeout : Option ℤ) (late : Bool) → Fit (asks.Open name timeout) (busy s timeout late)
+open_busy s name None late = tt
+open_busy s name (Some t) late = over (late || int_le t (pos 0)) where
+  over : (b : Bool) → Fit (asks.Open name (Some t)) (cond b (Some (replies.Late, s)) None)
+  over true = refl
+  over false = tt
+
+held_fits : (s : Shared) (job : ℕ) (name : List ℕ) (timeout : Option ℤ) (late : Bool) (b : Bool)
+    → Fit (asks.Open name timeout) (cond b (Some (replies.Got, s)) (busy s timeout late))
+held_fits s job name timeout late true = refl
+held_fits s job name timeout late false = open_busy s name timeout late
+
+known_fits : (s : Shared) (job : ℕ) (name : List ℕ) (timeout : Option ℤ) (late : Bool) (d : Device) (holder : Option ℕ)
+    → Fit (asks.Open name timeout) (elim holder [ None ↦ Some (open_free s job name d) | Some h ↦ cond (h == job) (Some (replies.Got, s)) (busy s timeout late) ])
+known_fits s job name timeout late d None = free_fits s job name timeout d
+known_fits s job name timeout late d (Some h) = held_fits s job name timeout late (h == job)
+
+found_fits : (s : Shared) (job : ℕ) (name : List ℕ) (timeout : Option ℤ) (late : Bool) (found : Option Device)
+    → Fit (asks.Open name timeout) (elim found [ None ↦ Some (replies.NoSession, s) | Some d ↦ open_known s job name timeout late d ])
+found_fits s job name timeout late None = refl
+found_fits s job name timeout late (Some d) = known_fits s job name timeout late d d.holder
+
+open_fits : (s : Shared) (job : ℕ) (name : List ℕ) (timeout : Option ℤ) (late b : Bool)
+    → Fit (asks.Open name timeout) (cond b (Some (replies.Got, s)) (elim (device_at s.devices name) [ None ↦ Some (replies.NoSession, s) | Some d ↦ open_known s job name timeout late d ]))
+open_fits s job name timeout late true = refl
+open_fits s job name timeout late false = found_fits s job name timeout late (device_at s.devices name)
+
+-- what is told fits what was asked, where each answer to an access fits it
+pub served_fits : ((a : Access) → IsAnswered a) → (s : Shared) (job : ℕ) (ask : Ask) (late : Bool) → is_shared ask ≡ true → Fit ask (served s job ask late)
+served_fits answered s job (asks.Access a) late h = answered a s.globals
+served_fits answered s job (asks.Try names timeout) late h = try_fits s job names timeout late (outcome_of s.locks job names) (after_try s.locks job names)
+served_fits answered s job (asks.Unlock names) late h = refl
+served_fits answered s job asks.UnlockAll late h = refl
+served_fits answered s job (asks.Begin kind) late h = refl
+served_fits answered s job asks.Commit late h = refl
+served_fits answered s job asks.Rollback late h = refl
+served_fits answered s job (asks.Open name timeout) late h = open_fits s job name timeout late (bytes_eq name principal)
+served_fits answered s job (asks.Close name) late h = refl
+served_fits answered s job (asks.Start start timeout) late h = start_fits s start timeout
+served_fits answered s job (asks.Halt fault) late h = refl
+served_fits answered s job (asks.DeviceBegin device) late h = refl
+served_fits answered s job (asks.DeviceWrite device bytes) late h = refl
+served_fits answered s job (asks.DeviceLine device timeout) late h = absurd (let no : ⊥ = cc in no)
+served_fits answered s job (asks.DeviceByte device timeout) late h = absurd (let no : ⊥ = cc in no)
+served_fits answered s job (asks.DeviceEnd device) late h = refl
+served_fits answered s job (asks.Rest time) late h = refl

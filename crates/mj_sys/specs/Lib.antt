@@ -1,0 +1,5 @@
+pub mod Devices
+pub mod Shared
+pub mod History
+pub mod System
+pub mod Told
