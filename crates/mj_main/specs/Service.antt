@@ -14,9 +14,15 @@ use Rattle.mj_jobvm.specs.Run.{Log}
 abbrev pub seen : Content → Access → Content
 seen globals a = if (name_of a).global then globals else []
 
--- the reply to an ask: what the globals say, and that all else is done
+-- the reply to an ask: what the globals say; there is no input, nobody else holds a name, there is no other device, and no room for another
+-- job; all else is done
 abbrev pub reply_to : Content → Ask → Reply
 reply_to globals (asks.Access a) = replies.Answer (answer_of a (seen globals a))
+reply_to globals (asks.DeviceLine device timeout) = replies.End
+reply_to globals (asks.DeviceByte device timeout) = replies.End
+reply_to globals (asks.Try names timeout) = replies.Got
+reply_to globals (asks.Open device timeout) = replies.NoSession
+reply_to globals (asks.Start start timeout) = replies.Limit
 reply_to globals _ = replies.Done
 
 -- the globals after an ask

@@ -10,7 +10,7 @@ use mj_globs::Globals;
 use mj_store::{Access, Answer, perform};
 use std::alloc::AllocError;
 
-/// Serves an ask over these globals. Devices take every byte.
+/// Serves an ask over these globals. Devices take every byte and give none; there is no other job, and no device beside the job's own.
 pub fn serve(globals: &mut Globals, ask: &Ask) -> Result<Reply, AllocError>
     ensures reply { IfOk result (λ r. r ≡ reply_to globals.old ask.now) }
     ensures fits { IfOk result (λ r. fits ask.now r ≡ true) }
@@ -19,7 +19,21 @@ pub fn serve(globals: &mut Globals, ask: &Ask) -> Result<Reply, AllocError>
 {
     match ask {
         Ask::Access(access) => Ok(Reply::Answer(accessed(globals, access)?)),
-        _ => Ok(Reply::Done),
+        Ask::DeviceLine(_, _) | Ask::DeviceByte(_, _) => Ok(Reply::End),
+        Ask::Try(_, _) => Ok(Reply::Got),
+        Ask::Open(_, _) => Ok(Reply::NoSession),
+        Ask::Start(_, _) => Ok(Reply::Limit),
+        Ask::DeviceBegin(_)
+        | Ask::DeviceWrite(_, _)
+        | Ask::DeviceEnd(_)
+        | Ask::Unlock(_)
+        | Ask::UnlockAll
+        | Ask::Begin(_)
+        | Ask::Commit
+        | Ask::Rollback
+        | Ask::Close(_)
+        | Ask::Rest(_)
+        | Ask::Halt(_) => Ok(Reply::Done),
     }
 }
 
