@@ -93,7 +93,7 @@ module _ (image : Loaded) (start : Start) (calls : ℕ) (job : Running) (globals
   pub alone_is : (one : Shown) → one ≡ record { log = job.run.log; globals = globals; output = output_of job.run.log } → IsAlone (routines_of image) start one
   alone_is one e =
       let P : Shown → Type 0 = λ o. IsAlone (routines_of image) start o in
-      subst P (sym e) (record { trace = s.run.trace; served = s.served; globals = s.left; output = refl })
+      subst P (sym e) (record { trace = s.run.1.trace; served = s.served; globals = s.left; output = refl })
 
   pub ended_is : (one : Shown) → one ≡ record { log = job.run.log; globals = globals; output = output_of job.run.log }
       → (turn : Turn) → turn ≡ Ended → Told (routines_of image) start turn job.run → HasEnded (routines_of image) start one.log

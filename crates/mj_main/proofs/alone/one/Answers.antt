@@ -34,17 +34,17 @@ calls-preserved c =
     let a = c.in_ok-advance.ensures in
     let old = c.calls.job.run.spent in
     let new = c.advance.new.self.run.spent in
-    elim c.match-branch-3.branch [
+    elim c.match-branch-2.branch [
       | in-Ran w ↦
           let there = stands_ran image entry c.calls.done c.calls.job c.calls.globals s c.advance.new.self (a.run entry s.run) a.log
           (spent_ran c.advance.result c.in_ok-advance.field-0 old new c.in_ok-advance.was c.advance.ensures.spent w.in-Ran.is) in
-          stands_as image entry (c.calls.done + 1) c.advance.new.self c.calls.globals there c.match-branch-3.job c.match-branch-3.globals w.job-is w.globals-is
+          stands_as image entry (c.calls.done + 1) c.advance.new.self c.calls.globals there c.match-branch-2.job c.match-branch-2.globals w.job-is w.globals-is
       | in-Asks+in_ok-answer-in-Asks w ↦
           let there = stands_on image entry c.calls.done c.calls.job c.calls.globals s c.advance.new.self (a.run entry s.run) a.log
           (spent_asks c.advance.result c.in_ok-advance.field-0 old new c.in_ok-advance.was c.advance.ensures.spent w.in-Asks.is) in
           let some = waits image entry c.advance.new.self c.in_ok-advance.field-0 w.in-Asks.is (a.told entry s.run) in
           stands_as image entry (c.calls.done + 1) w.answer.new.job w.answer.new.globals (w.in_ok-answer-in-Asks.ensures image entry c.calls.done some there)
-          c.match-branch-3.job c.match-branch-3.globals w.job-is w.globals-is
+          c.match-branch-2.job c.match-branch-2.globals w.job-is w.globals-is
     ]
 
 pub returns : goal.returns
