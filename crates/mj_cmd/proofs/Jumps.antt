@@ -11,7 +11,7 @@ use Rattle.mj_ast.specs.Commands.{Part, Put, Label, with_commas, target_parts, a
 use Rattle.mj_expr.specs.Machine.{Limits}
 use Rattle.mj_lex.specs.declared.token.Lexeme.{Lexeme}
 use Rattle.mj_lex.specs.Seen.{tokens_seen}
-use Rattle.mj_line.specs.Forms.{Mode, Calls, Jumps, Node, IfWanted, NewWanted, EntryWanted, LabelEnd, RoutineWanted, RoutineEnd, ActualWanted, ActualEnd, ActualsEnd, GuardWanted, GuardEnd, part_of, part_at, labels, takes}
+use Rattle.mj_line.specs.Forms.{Mode, Calls, Jumps, Node, ValueWanted, NewWanted, EntryWanted, LabelEnd, RoutineWanted, RoutineEnd, ActualWanted, ActualEnd, ActualsEnd, GuardWanted, GuardEnd, part_of, part_at, labels, takes}
 use Rattle.mj_line.specs.Sentences.{Sentence}
 use Rattle.mj_line.specs.Machine.{args_rest, first, on_rested}
 use Rattle.mj_line.proofs.Tables.{part_taken, called_apart}
@@ -21,8 +21,8 @@ use Rattle.mj_cmd.specs.Reads.{AreWrittenActuals, IsWrittenCall}
 use Rattle.mj_cmd.proofs.Follow.{Untaken, Went, went_as, went_token, SignUntaken, untaken_by, no_sign, kept_untaken_word, SameAt, went_same, name_neither, piece_neither, WentAs}
 
 -- IF, NEW and GOTO
-pub if_untaken : (first : Bool) (ks : List Token) → Untaken (IfWanted first) ks
-if_untaken first ks = untaken_by (IfWanted first) ks refl (λ w. refl) refl (no_sign (IfWanted first) ks (λ s. refl))
+pub if_untaken : (first : Bool) (ks : List Token) → Untaken (ValueWanted first) ks
+if_untaken first ks = untaken_by (ValueWanted first) ks refl (λ w. refl) refl (no_sign (ValueWanted first) ks (λ s. refl))
 
 pub renewed_untaken : (first : Bool) (ks : List Token) → HasNoOpen ks → HasNoName ks → Untaken (NewWanted first) ks
 renewed_untaken first [] h i = tt

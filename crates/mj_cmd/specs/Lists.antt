@@ -4,7 +4,7 @@ use Rattle.std.proofs.Common.{inl, inr}
 use Rattle.mj_ast.specs.declared.sign.Sign.{Sign}
 use Rattle.mj_ast.specs.declared.sign.Sign.TheVariants.{Close, Comma}
 use Rattle.mj_ast.specs.Commands.{Part, Put, Named, PieceCall}
-use Rattle.mj_line.specs.Forms.{Mode, Node, SetBehind, SetEnd, OutputEnd, KillEnd, MergeEnd, IfEnd, LimitEnd, NewEnd, GuardEnd, ActualEnd, labels, takes, wants, ends}
+use Rattle.mj_line.specs.Forms.{Mode, Node, SetBehind, SetEnd, OutputEnd, KillEnd, MergeEnd, ValueEnd, LimitEnd, NewEnd, GuardEnd, ActualEnd, labels, takes, wants, ends}
 
 -- Items with commas between them, the parts of each such.
 abbrev pub AreItems : {X : Type 0} → (List Part → X → Type 0) → List Part → List X → Type 0
@@ -56,7 +56,7 @@ merge_comma : comma_or MergeEnd
 merge_comma Comma = inr refl
 merge_comma s = inl refl
 
-if_comma : comma_or IfEnd
+if_comma : comma_or ValueEnd
 if_comma Comma = inr refl
 if_comma s = inl refl
 
@@ -94,7 +94,7 @@ kill_over = record { shut = record { unlabelled = refl; unnamed = λ w. refl; pi
 pub merge_over : IsOver MergeEnd
 merge_over = record { shut = record { unlabelled = refl; unnamed = λ w. refl; pieceless = refl; alone = refl }; comma = merge_comma }
 
-pub if_over : IsOver IfEnd
+pub if_over : IsOver ValueEnd
 if_over = record { shut = record { unlabelled = refl; unnamed = λ w. refl; pieceless = refl; alone = refl }; comma = if_comma }
 
 pub range_over : IsOver LimitEnd

@@ -1,11 +1,11 @@
 // The arguments of IF, NEW and GOTO.
 
 ghost use Rattle.std.specs.Prelude.{◌≡◌, ◌⊎◌, ◌∷◌, ◌++◌, ◌≤◌, Bool, IfOk, [], false, length, option_map, refl, true};
-ghost use Rattle.mj_ast.specs.Commands.{Named, condition_parts, guard_parts, jumped_parts, renewed_parts, target_parts};
+ghost use Rattle.mj_ast.specs.Commands.{Named, value_parts, guard_parts, jumped_parts, renewed_parts, target_parts};
 ghost use Rattle.mj_ast.specs.Trees.{expr_of, jumped_of, renewed_of, target_of};
 ghost use Rattle.mj_expr.specs.Machine.{Limits};
 ghost use Rattle.mj_lex.specs.Seen.{tokens_seen};
-ghost use Rattle.mj_line.specs.Forms.{EntryWanted, GuardEnd, IfEnd, IfWanted, Jumps, Mode, NewEnd, NewWanted, Node, RoutineEnd, RoutineWanted, ends};
+ghost use Rattle.mj_line.specs.Forms.{EntryWanted, GuardEnd, ValueEnd, ValueWanted, Jumps, Mode, NewEnd, NewWanted, Node, RoutineEnd, RoutineWanted, ends};
 ghost use Rattle.mj_cmd.specs.Heads.{HasOther};
 ghost use Rattle.mj_cmd.specs.Parts.{MayBeGuarded};
 ghost use Rattle.mj_cmd.specs.Reads.{HasRoom, Passes};
@@ -27,22 +27,22 @@ fn truth<'a, 't>(
     tokens: &'t [Lexeme<'a>],
 ) -> Result<(Expr, &'t [Lexeme<'a>]), Stop>
     ensures shorter { IfOk result (λ x. length x.1.now ≤ length tokens.now) }
-    ensures reads { (m : Limits) → HasRoom phrases.limited m tokens.now → (first : Bool) → (first ≡ false) ⊎ HasOther (tokens_seen tokens.now) → Passes phrases.limited (λ x. condition_parts (expr_of x.0)) (λ x. x.1.now) result m tokens.now (IfWanted first) IfEnd }
+    ensures reads { (m : Limits) → HasRoom phrases.limited m tokens.now → (first : Bool) → (first ≡ false) ⊎ HasOther (tokens_seen tokens.now) → Passes phrases.limited (λ x. value_parts (expr_of x.0)) (λ x. x.1.now) result m tokens.now (ValueWanted first) ValueEnd }
 {
     let (truth, rest) = phrases.expression(0, tokens)?;
     Ok((truth, rest))
 }
 
 impl Item for Expr {
-    ghost first_at = { IfWanted true };
+    ghost first_at = { ValueWanted true };
 
-    ghost more_at = { IfWanted false };
+    ghost more_at = { ValueWanted false };
 
-    ghost behind_at = { IfEnd };
+    ghost behind_at = { ValueEnd };
 
     ghost begins = { HasOther };
 
-    ghost spells = { λ ps x. ps ≡ condition_parts (expr_of x) };
+    ghost spells = { λ ps x. ps ≡ value_parts (expr_of x) };
 
     fn read<'a, 't>(
         phrases: Phrases,

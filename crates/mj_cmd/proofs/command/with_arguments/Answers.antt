@@ -2,10 +2,10 @@ use Rattle.std.proofs.Common.{◌∙◌, [], map, refl, ap, sym, true, false}
 use Rattle.mj_ast.specs.declared.keyword.Keyword.{Keyword}
 use Rattle.mj_ast.specs.declared.keyword.Keyword.TheVariants as keyword
 use Rattle.mj_ast.specs.Syntax.{Set, Write, Kill, Merge, If, For, Do, Goto, New}
-use Rattle.mj_ast.specs.Commands.{assignment_parts, output_parts, killed_parts, merged_parts, condition_parts, jumped_parts, renewed_parts}
+use Rattle.mj_ast.specs.Commands.{assignment_parts, output_parts, killed_parts, merged_parts, value_parts, jumped_parts, renewed_parts}
 use Rattle.mj_ast.specs.Trees.{assignment_of, output_of, killed_of, merged_of, expr_of, variable_of, range_of, called_of, jumped_of, renewed_of}
 use Rattle.mj_lex.specs.Seen.{tokens_seen}
-use Rattle.mj_line.specs.Forms.{Calls, Jumps, SetTarget, SetEnd, OutputWanted, OutputEnd, KillWanted, KillEnd, MergeInto, MergeEnd, IfWanted, IfEnd, ForWanted, LimitEnd, EntryWanted, GuardEnd, NewWanted, NewEnd, may_be_bare}
+use Rattle.mj_line.specs.Forms.{Calls, Jumps, SetTarget, SetEnd, OutputWanted, OutputEnd, KillWanted, KillEnd, MergeInto, MergeEnd, ValueWanted, ValueEnd, ForWanted, LimitEnd, EntryWanted, GuardEnd, NewWanted, NewEnd, may_be_bare}
 use Rattle.mj_line.specs.Machine.{Behind, At, args_rest, run}
 use Rattle.mj_cmd.proofs.Follow.{room_for, args_end, blank_opens, at_keyword}
 use Rattle.mj_cmd.proofs.Lists.{items_calls, items_parts}
@@ -68,11 +68,11 @@ returns-in_ok-arguments-in-If-clause-reads c = λ m r o condition.
     let a = c.in_ok-arguments-in-If.ensures.reads m (room_for c.args.phrases.limited m c.args.tokens.now c.args.behind.now c.requires.room r) (c.requires.other (ap may_be_bare c.in-If.is)) o condition keyword.If [] in
     let kw = ap (λ (k : Keyword). run m (tokens_seen c.in_ok-arguments-in-If.rest.now) (At (Behind (args_rest o condition k a.0)))) (sym c.in-If.is) in (
       a.0,
-      λ l. (If (map expr_of c.in_ok-arguments-in-If.arguments.items), items_parts expr_of condition_parts c.in_ok-arguments-in-If.arguments.items a.0 (a.1 l), refl),
+      λ l. (If (map expr_of c.in_ok-arguments-in-If.arguments.items), items_parts expr_of value_parts c.in_ok-arguments-in-If.arguments.items a.0 (a.1 l), refl),
       at_keyword m o condition c.args.keyword keyword.If (tokens_seen c.args.tokens.now) c.in-If.is
-          ∙ blank_opens m o condition keyword.If (IfWanted true) (tokens_seen c.args.tokens.now) (tokens_seen c.args.behind.now) c.requires.blank refl
+          ∙ blank_opens m o condition keyword.If (ValueWanted true) (tokens_seen c.args.tokens.now) (tokens_seen c.args.behind.now) c.requires.blank refl
           ∙ a.2
-          ∙ args_end m o condition keyword.If a.0 IfEnd (tokens_seen c.in_ok-arguments-in-If.rest.now) refl c.in_ok-arguments-in-If.ensures.parted
+          ∙ args_end m o condition keyword.If a.0 ValueEnd (tokens_seen c.in_ok-arguments-in-If.rest.now) refl c.in_ok-arguments-in-If.ensures.parted
           ∙ kw,
     )
 
