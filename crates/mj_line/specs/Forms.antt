@@ -1,5 +1,6 @@
 -- The arguments of commands as a table: the places in them, and what goes on at each.
 use Rattle.std.specs.Prelude.{◌≡◌, ℕ, suc, nat_le, if◌then◌else◌, Bool, true, false, ◌&&◌, List, [], ◌∷◌, length, Option, Some, None}
+use Rattle.mj_text.specs.declared.text.TheConstants.{TEXT_LIMIT}
 use Rattle.mj_ast.specs.declared.sign.Sign.TheVariants.{Equals, Comma, Colon, Exclamation, Caret, Open, Close}
 use Rattle.mj_ast.specs.declared.function.Function.TheVariants.{Piece}
 use Rattle.mj_ast.specs.declared.function.Callee.{Callee}
@@ -7,7 +8,7 @@ use Rattle.mj_ast.specs.declared.function.Callee.TheVariants.{Texts}
 use Rattle.mj_ast.specs.declared.keyword.Keyword.{Keyword}
 use Rattle.mj_ast.specs.declared.keyword.Keyword.TheVariants as keyword
 use Rattle.mj_ast.specs.Tokens.{Token, Word, Called, Digits, Signed}
-use Rattle.mj_ast.specs.Expressions.{callee_of, name_limit, text_limit}
+use Rattle.mj_ast.specs.Expressions.{callee_of, name_limit}
 use Rattle.mj_ast.specs.Commands.{Part, Put, Named, Label, PieceCall, Text, Place, Control, is_local}
 
 -- ---- places
@@ -97,7 +98,7 @@ labels n = false
 -- the part that a token alone is where a label is wanted, or isn't
 abbrev pub part_at : Bool → Token → Option Part
 part_at true (Word w) = if nat_le (length w) name_limit then Some (Label w) else None
-part_at true (Digits d) = if nat_le (length d) text_limit then Some (Label d) else None
+part_at true (Digits d) = if nat_le (length d) TEXT_LIMIT then Some (Label d) else None
 part_at label t = part_of t
 
 -- where actuals may stand
