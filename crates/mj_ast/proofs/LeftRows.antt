@@ -1,5 +1,4 @@
 -- Rows of the table of what is left out: a token that stands for a construct by its row, and one that doesn't.
--- `mj_line/proofs/Rows.antt` has more of those where something may stand.
 use Rattle.std.proofs.Common.{◌≡◌, ◌∷◌, [], None, true, false, inl, lit≤, refl, codes}
 use Rattle.mj_ast.specs.declared.construct.Construct.TheVariants as construct
 use Rattle.mj_ast.specs.declared.sign.Sign.TheVariants.{Star, Slash, OpenBracket, Exclamation, Open, Close, Comma, Dot}
