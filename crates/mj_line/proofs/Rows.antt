@@ -189,16 +189,13 @@ refused_twice = (not_long (codes "A H") (lit≤ tt) read_halts.short, (codes "A"
 not_refused_twice : IsRefused [] (codes "A H") Twice → ⊥
 not_refused_twice h = no_label (tokens (codes "A H")) h.1
 
--- ` W =5` is stuck at the `=`, which stands for nothing that has a name
-refused_stuck : IsRefused [] (codes " W =5") (StuckAt 4)
-unfolding lexemes
+-- ` W 1+` is stuck at its end, where nothing stands
+refused_stuck : IsRefused [] (codes " W 1+") (StuckAt 6)
+unfolding lexemes digits
 refused_stuck = (
-  not_long (codes " W =5") (lit≤ tt) (said_stuck (tokens (codes " W =5")) 2 refl).short,
-  no_label (tokens (codes " W =5")),
-  (
-    record { place = 3; stuck = stuck_at (tokens (codes " W =5")) 2 3 refl refl; column_is = refl },
-    inr ((λ h. wrong h.0), inr ((λ h. wrong h.0), inr ((λ h. wrong h.0), inr ((λ h. wrong h), inr ((λ h. wrong h), inr ((λ h. wrong h.0), inr ((λ h. wrong h), inr ((λ h. wrong h), inr ((λ h. wrong h), inr ((λ h. wrong h.0), inr ((λ h. wrong h.0), inr ((λ h. wrong h.0), inr ((λ h. wrong h.0), inr ((λ h. wrong h), inr ((λ h. wrong h), inr ((λ h. wrong h), inr ((λ h. wrong h), inr ((λ h. wrong h), inr ((λ h. wrong h), inr ((λ h. wrong h.0), inr ((λ h. wrong h), refl))))))))))))))))))))),
-  ),
+  not_long (codes " W 1+") (lit≤ tt) (said_stuck (tokens (codes " W 1+")) 0 refl).short,
+  no_label (tokens (codes " W 1+")),
+  (record { place = 5; stuck = stuck_at (tokens (codes " W 1+")) 0 5 refl refl; column_is = refl }, refl),
 )
 
 not_refused_stuck : (c : ℕ) → IsRefused [] (codes "A H") (StuckAt c) → ⊥
