@@ -27,6 +27,7 @@
 --
 -- IF, ELSE and FOR have no ":" expression behind their word. The word `H` is HALT without arguments, and HANG with some.
 use Rattle.std.specs.Prelude.{◌≡◌, ◌⊎◌, ℕ, ◌+◌, ◌-◌, ◌≤◌, nat_le, Bool, true, false, ◌&&◌, if◌then◌else◌, List, [], ◌∷◌, ◌++◌, length, map, max, Option, Some, None, bytes_eq, codes}
+use Rattle.mj_text.specs.declared.text.TheConstants.{TEXT_LIMIT}
 use Rattle.mj_ast.specs.declared.sign.Sign.{Sign}
 use Rattle.mj_ast.specs.declared.sign.Sign.TheVariants.{Plus, Minus, Equals, Comma, Colon, Exclamation, Caret, Open, Close}
 use Rattle.mj_ast.specs.declared.expr.Scope.TheVariants.{Local, Global}
@@ -42,7 +43,7 @@ use Rattle.mj_ast.specs.declared.keyword.Verb.{Verb}
 use Rattle.mj_ast.specs.declared.keyword.Verb.TheVariants.{Of, HaltOrHang}
 use Rattle.mj_ast.specs.Syntax.{Expr, Exprs, No, More, Variable, Var, Destination, Plain, Pieces, Targets, One, Several, Assignment, Killed, Gone, Spared, Merged, Output, Shown, Format, Target, Called, Jumped, Started, LockNames, Lone, Together, Locked, Range, Single, Endless, UpTo, Renewed, Fresh, Kept, Command, Set, Write, Halt, Hang, Job, Lock, Kill, Merge, If, Else, For, Forever, Do, Goto, Quit, New, Step}
 use Rattle.mj_ast.specs.Tokens.{Token, Word, Called as CalledWord, Digits, Signed, Blank}
-use Rattle.mj_ast.specs.Expressions.{Spells, expressions, variables, callee_of, name_limit, text_limit, count, expr_nesting, variable_nesting, expr_width, variable_width}
+use Rattle.mj_ast.specs.Expressions.{Spells, expressions, variables, callee_of, name_limit, count, expr_nesting, variable_nesting, expr_width, variable_width}
 
 -- ---- the words of commands
 
@@ -377,7 +378,7 @@ plain_step s = record { condition = s.condition; command = plain s.command }
 abbrev pub SpellsPart : List Token → Part → Type 0
 SpellsPart ks (Put s) = ks ≡ Signed s ∷ []
 SpellsPart ks (Named word) = (ks ≡ Word word ∷ []) × (length word ≤ name_limit)
-SpellsPart ks (Label label) = ((ks ≡ Word label ∷ []) × (length label ≤ name_limit)) ⊎ ((ks ≡ Digits label ∷ []) × (length label ≤ text_limit))
+SpellsPart ks (Label label) = ((ks ≡ Word label ∷ []) × (length label ≤ name_limit)) ⊎ ((ks ≡ Digits label ∷ []) × (length label ≤ TEXT_LIMIT))
 SpellsPart ks PieceCall = (word : List ℕ) × (ks ≡ CalledWord word ∷ []) × (length word ≤ name_limit) × (callee_of word ≡ Some (Texts Piece))
 SpellsPart ks (Text level e) = Spells expressions ks e
 SpellsPart ks (Place level v) = Spells variables ks v

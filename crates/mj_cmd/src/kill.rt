@@ -18,12 +18,12 @@ use crate::phrase::Phrases;
 use mj_ast::{Killed, Merged};
 use mj_expr::{Stop, added};
 use mj_lex::Lexeme;
-use mj_text::Text;
+use mj_text::{TEXT_LIMIT, Text};
 use std::alloc::Global;
 
 /// A word as a text.
 pub fn word_text(alloc: Global, bytes: &[u8]) -> Result<Text, Stop>
-    requires { length bytes.now ≤ 32767 }
+    requires { length bytes.now ≤ TEXT_LIMIT }
     ensures ok { IfOk result (λ t. t ≡ bytes.now) }
     ensures memory { IfErr result (λ e. e ≡ Memory) }
 {

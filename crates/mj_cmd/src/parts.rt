@@ -69,7 +69,7 @@ pub fn behind_name<'a, 't>(tokens: &'t [Lexeme<'a>]) -> Option<(&'a [u8], &'t [L
 
 /// The label in front, a name or digits, and what follows it.
 pub fn behind_entry_label<'a, 't>(tokens: &'t [Lexeme<'a>]) -> Option<(&'a [u8], &'t [Lexeme<'a>])>
-    ensures { MatchOption result (HasNoLabel (tokens_seen tokens.now)) (λ x. StartsLabel (tokens_seen tokens.now) x.0.now (tokens_seen x.1.now) × (length x.0.now ≤ 32767) × (length x.1.now < length tokens.now)) }
+    ensures { MatchOption result (HasNoLabel (tokens_seen tokens.now)) (λ x. StartsLabel (tokens_seen tokens.now) x.0.now (tokens_seen x.1.now) × (length x.0.now ≤ TEXT_LIMIT) × (length x.1.now < length tokens.now)) }
 {
     match next(tokens) {
         Some((Token::Word(name), rest)) => {

@@ -8,7 +8,8 @@ use Rattle.mj_ast.specs.declared.keyword.Keyword.TheVariants as keyword
 use Rattle.mj_ast.specs.declared.keyword.Verb.{Verb}
 use Rattle.mj_ast.specs.declared.keyword.Verb.TheVariants.{Of, HaltOrHang}
 use Rattle.mj_ast.specs.Tokens.{Token, Word, Called, Digits, Signed}
-use Rattle.mj_ast.specs.Expressions.{callee_of, name_limit, text_limit}
+use Rattle.mj_ast.specs.Expressions.{callee_of, name_limit}
+use Rattle.mj_text.specs.declared.text.TheConstants.{TEXT_LIMIT}
 use Rattle.mj_ast.specs.Commands.{Part, Put, Named, Label, PieceCall, Text, Place, Control, is_local}
 
 -- ---- places
@@ -110,7 +111,7 @@ labels n = false
 -- the part that a token alone is where a label is wanted, or isn't
 abbrev pub part_at : Bool → Token → Option Part
 part_at true (Word w) = if nat_le (length w) name_limit then Some (Label w) else None
-part_at true (Digits d) = if nat_le (length d) text_limit then Some (Label d) else None
+part_at true (Digits d) = if nat_le (length d) TEXT_LIMIT then Some (Label d) else None
 part_at label t = part_of t
 
 -- where actuals may stand
