@@ -1,0 +1,12 @@
+// Listings of globals: a text of lines, one for each name that has a text, by which globals come in and go out.
+//
+// There is one listing for each set of globals: `write` writes it, `listing_of` of `specs/Spelling.antt`, and `read` reads it back. What
+// else it is given it refuses, by the first line that is none: `reading_of` of `specs/Listing.antt`. The fields of a line, names and texts
+// in listing quotes, are read and written by calls of their own.
+#![tactic(auto)]
+
+mod error;
+mod field;
+
+pub use error::ReadError;
+pub use field::Field;
