@@ -7,6 +7,11 @@
 
 mod error;
 mod field;
+mod writing;
 
 pub use error::ReadError;
 pub use field::Field;
+pub use writing::{put_name, put_nodes, put_subscript, put_subscripts, put_text, write};
+
+// The first line, without its byte 10.
+const HEADER: &[u8] = b"mj-globals 1";
