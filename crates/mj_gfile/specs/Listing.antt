@@ -22,9 +22,17 @@ use Rattle.mj_gfile.specs.Reading.{is_any_word, text_at, name_at, line_of}
 abbrev pub is_short : List ℕ → Bool
 is_short t = nat_le (length t) 32767
 
--- a name is within the limits: of its word, of its list of subscripts, and of each subscript
+-- a list of subscripts is within its limit, and each of them is
+abbrev pub are_small : List (List ℕ) → Bool
+are_small ss = nat_le (length ss) 31 && list_all is_short ss
+
+-- the name of this kind with this word and these subscripts
+abbrev pub name : Bool → List ℕ → List (List ℕ) → Name
+name g w ss = record { global = g; word = w; subscripts = ss }
+
+-- a name is within the limits: its word is, and its subscripts are
 abbrev pub is_small : Name → Bool
-is_small n = nat_le (length n.word) 31 && nat_le (length n.subscripts) 31 && list_all is_short n.subscripts
+is_small n = nat_le (length n.word) 31 && are_small n.subscripts
 
 -- a name and its text are within the limits
 abbrev pub is_small_node : Name × List ℕ → Bool
@@ -39,9 +47,21 @@ limited false x = Over
 abbrev pub text_field : Option (List ℕ × List ℕ) → Option (Field (List ℕ) × List ℕ)
 text_field o = option_map (λ p. (limited (is_short p.0) p.0, p.1)) o
 
+-- what is read of a subscript that stands at the front, with its comma or parenthesis
+abbrev pub item_field : Option (List ℕ × Bool × List ℕ) → Option (Field (List ℕ) × Bool × List ℕ)
+item_field o = option_map (λ p. (limited (is_short p.0) p.0, p.1, p.2)) o
+
+-- what is read of a list of subscripts that stands at the front
+abbrev pub subscripts_field : Option (List (List ℕ) × List ℕ) → Option (Field (List (List ℕ)) × List ℕ)
+subscripts_field o = option_map (λ p. (limited (are_small p.0) p.0, p.1)) o
+
 -- what is read of a name that stands at the front
 abbrev pub name_field : Option (Name × List ℕ) → Option (Field Name × List ℕ)
 name_field o = option_map (λ p. (limited (is_small p.0) p.0, p.1)) o
+
+-- what is read of a line
+abbrev pub node_field : Option (Name × List ℕ) → Option (Field (Name × List ℕ))
+node_field o = option_map (λ e. limited (is_small_node e) e) o
 
 -- ---- lines
 

@@ -89,15 +89,20 @@ abbrev pub subscript_at : List ℕ → Option (List ℕ × List ℕ)
 subscript_at [] = None
 subscript_at (c ∷ cs) = if c == 34 then plain_only (quoted_at Whole cs) else number_at (c ∷ cs)
 
--- the subscript s, where the bytes that follow it are given: with true behind a comma, where more of the list follow, and with false
--- behind the parenthesis that closes the list
-abbrev pub marked : List ℕ → List ℕ → Option (List ℕ × Bool × List ℕ)
-marked s [] = None
-marked s (c ∷ cs) = if c == 44 then Some (s, true, cs) else (if c == 41 then Some (s, false, cs) else None)
+-- the mark at the front, and what follows it: true for a comma, behind which more of a list follow, and false for the parenthesis that
+-- closes the list
+abbrev pub mark_at : List ℕ → Option (Bool × List ℕ)
+mark_at [] = None
+mark_at (c ∷ cs) = if c == 44 then Some (true, cs) else (if c == 41 then Some (false, cs) else None)
+
+-- the subscript s with its mark
+abbrev pub marked : List ℕ → Option (Bool × List ℕ) → Option (List ℕ × Bool × List ℕ)
+marked s None = None
+marked s (Some m) = Some (s, m.0, m.1)
 
 abbrev pub with_mark : Option (List ℕ × List ℕ) → Option (List ℕ × Bool × List ℕ)
 with_mark None = None
-with_mark (Some p) = marked p.0 p.1
+with_mark (Some p) = marked p.0 (mark_at p.1)
 
 -- the subscript at the front, whether more of the list follow, and what follows its comma or parenthesis
 abbrev pub item_at : List ℕ → Option (List ℕ × Bool × List ℕ)
@@ -172,10 +177,12 @@ abbrev pub assigned : Name → List ℕ → Option (Name × List ℕ)
 assigned n [] = None
 assigned n (c ∷ cs) = if c == 61 then with_text n (text_at cs) else None
 
-abbrev pub global_only : Option (Name × List ℕ) → Option (Name × List ℕ)
-global_only None = None
-global_only (Some p) = if p.0.global then assigned p.0 p.1 else None
+-- the same, where the name that was read is given
+abbrev pub assigned_by : Option (Name × List ℕ) → Option (Name × List ℕ)
+assigned_by None = None
+assigned_by (Some p) = assigned p.0 p.1
 
 -- the name of a global and the text that a line spells, of any size. A line is given without the byte 10 that ends it
 abbrev pub line_of : List ℕ → Option (Name × List ℕ)
-line_of bs = global_only (name_at bs)
+line_of [] = None
+line_of (c ∷ cs) = if c == 94 then assigned_by (name_in true cs) else None
