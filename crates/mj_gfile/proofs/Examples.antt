@@ -1,12 +1,11 @@
 -- Worked rows of the definitions.
-use Rattle.std.proofs.Common.{◌≡◌, ◌++◌, ℕ, Bool, true, false, List, [], ◌∷◌, Some, None, Result, Ok, Err, refl}
+use Rattle.std.proofs.Common.{◌≡◌, ◌++◌, ℕ, true, List, [], ◌∷◌, Some, None, Ok, Err, refl}
 use Rattle.std.specs.Prelude.{codes}
 use Rattle.mj_subs.specs.Name.{Name}
-use Rattle.mj_store.specs.Questions.{Content}
 use Rattle.mj_gfile.specs.declared.error.ReadError.TheVariants as error
 use Rattle.mj_gfile.specs.Spelling.{listed_text, listed_name, listing_of}
-use Rattle.mj_gfile.specs.Reading.{subscripts_of, text_at, name_at, line_of}
-use Rattle.mj_gfile.specs.Listing.{lines_of, reading_of}
+use Rattle.mj_gfile.specs.Reading.{subscripts_of, text_at, name_at}
+use Rattle.mj_gfile.specs.Listing.{reading_of}
 
 -- a line of a listing, with the byte 10 that ends it
 abbrev line : List ℕ → List ℕ

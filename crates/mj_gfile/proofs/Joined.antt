@@ -1,10 +1,10 @@
 -- What was read so far, before what is still read.
-use Rattle.std.proofs.Common.{◌≡◌, ◌<◌, ◌∙◌, zero, suc, ℕ, Bool, true, false, List, [], ◌∷◌, ◌++◌, length, Option, Some, None, refl, sym, ap, append_assoc, append-nil}
+use Rattle.std.proofs.Common.{◌≡◌, ◌∙◌, suc, ℕ, Bool, true, false, List, [], ◌∷◌, ◌++◌, Option, Some, None, refl, sym, ap, append_assoc, append-nil}
 use Rattle.std.specs.Option.{option_map}
 use Rattle.mj_gfile.specs.Reading.{Whole, preceded, quoted_at, listed, mark_at, marked, with_mark, item_at, continued_by, subscripts_of}
 use Rattle.mj_gfile.specs.declared.field.Field.{Field}
 use Rattle.mj_gfile.specs.Listing.{limited, is_short, are_small, text_field, item_field, subscripts_field}
-use Rattle.mj_gfile.specs.Units.{IsUnit, IsUnitOf}
+use Rattle.mj_gfile.specs.Units.{IsUnit}
 
 -- the bytes v before those of what is read
 abbrev pub joined : List ℕ → Option (List ℕ × List ℕ) → Option (List ℕ × List ℕ)

@@ -1,2 +1,5 @@
 pub mod Examples
 pub mod Joined
+pub mod Lines
+pub mod Nodes
+pub mod InOrder

@@ -13,8 +13,8 @@ use Rattle.mj_gfile.specs.declared.field.Field.{Field}
 use Rattle.mj_gfile.specs.declared.field.Field.TheVariants.{Within, Over}
 use Rattle.mj_gfile.specs.declared.error.ReadError.{ReadError}
 use Rattle.mj_gfile.specs.declared.error.ReadError.TheVariants as error
-use Rattle.mj_gfile.specs.Spelling.{header, listing_of, listed_name, listed_text, listed_line}
-use Rattle.mj_gfile.specs.Reading.{is_any_word, text_at, name_at, line_of}
+use Rattle.mj_gfile.specs.Spelling.{header, listing_of}
+use Rattle.mj_gfile.specs.Reading.{line_of}
 
 -- ---- limits
 
@@ -59,6 +59,10 @@ subscripts_field o = option_map (λ p. (limited (are_small p.0) p.0, p.1)) o
 abbrev pub name_field : Option (Name × List ℕ) → Option (Field Name × List ℕ)
 name_field o = option_map (λ p. (limited (is_small p.0) p.0, p.1)) o
 
+-- what is read of a text that stands behind a name
+abbrev pub value_field : Option (List ℕ) → Option (Field (List ℕ))
+value_field o = option_map (λ t. limited (is_short t) t) o
+
 -- what is read of a line
 abbrev pub node_field : Option (Name × List ℕ) → Option (Field (Name × List ℕ))
 node_field o = option_map (λ e. limited (is_small_node e) e) o
@@ -74,6 +78,11 @@ begun_by c (l ∷ ls) = (c ∷ l.0, l.1) ∷ ls
 abbrev pub lines_of : List ℕ → List (List ℕ × Bool)
 lines_of [] = []
 lines_of (c ∷ cs) = if c == 10 then ([], true) ∷ lines_of cs else begun_by c (lines_of cs)
+
+-- the one line of bytes that no byte 10 ends, if there are any
+abbrev pub unended : List ℕ → List (List ℕ × Bool)
+unended [] = []
+unended (c ∷ cs) = (c ∷ cs, false) ∷ []
 
 -- ---- reading
 

@@ -163,26 +163,42 @@ name_at (c ∷ cs) = if c == 94 then name_in true cs else name_in false (c ∷ c
 
 -- ---- lines
 
--- the name and the text, where nothing follows them
-abbrev pub closed : Name → List ℕ → List ℕ → Option (Name × List ℕ)
-closed n t [] = Some (n, t)
-closed n t (c ∷ cs) = None
+-- the text t, where nothing follows it
+abbrev pub whole : List ℕ → List ℕ → Option (List ℕ)
+whole t [] = Some t
+whole t (c ∷ cs) = None
 
-abbrev pub with_text : Name → Option (List ℕ × List ℕ) → Option (Name × List ℕ)
-with_text n None = None
-with_text n (Some p) = closed n p.0 p.1
+abbrev pub whole_only : Option (List ℕ × List ℕ) → Option (List ℕ)
+whole_only None = None
+whole_only (Some p) = whole p.0 p.1
 
--- the name with its text, where the bytes that follow the name are given
-abbrev pub assigned : Name → List ℕ → Option (Name × List ℕ)
-assigned n [] = None
-assigned n (c ∷ cs) = if c == 61 then with_text n (text_at cs) else None
+-- what follows the byte b at the front
+abbrev pub behind : ℕ → List ℕ → Option (List ℕ)
+behind b [] = None
+behind b (c ∷ cs) = if c == b then Some cs else None
 
--- the same, where the name that was read is given
-abbrev pub assigned_by : Option (Name × List ℕ) → Option (Name × List ℕ)
-assigned_by None = None
-assigned_by (Some p) = assigned p.0 p.1
+abbrev pub assigned : Option (List ℕ) → Option (List ℕ)
+assigned None = None
+assigned (Some cs) = whole_only (text_at cs)
 
--- the name of a global and the text that a line spells, of any size. A line is given without the byte 10 that ends it
+-- the text in listing quotes that stands behind `=` and is followed by nothing, where the bytes behind a name are given
+abbrev pub value_of : List ℕ → Option (List ℕ)
+value_of bs = assigned (behind 61 bs)
+
+-- the name n with its text
+abbrev pub with_value : Name → Option (List ℕ) → Option (Name × List ℕ)
+with_value n None = None
+with_value n (Some t) = Some (n, t)
+
+abbrev pub valued : Option (Name × List ℕ) → Option (Name × List ℕ)
+valued None = None
+valued (Some p) = with_value p.0 (value_of p.1)
+
+abbrev pub globally : Option (List ℕ) → Option (Name × List ℕ)
+globally None = None
+globally (Some cs) = valued (name_in true cs)
+
+-- the name of a global, which begins with `^`, and the text that a line spells, of any size. A line is given without the byte 10 that
+-- ends it
 abbrev pub line_of : List ℕ → Option (Name × List ℕ)
-line_of [] = None
-line_of (c ∷ cs) = if c == 94 then assigned_by (name_in true cs) else None
+line_of bs = globally (behind 94 bs)

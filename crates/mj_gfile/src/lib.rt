@@ -7,14 +7,17 @@
 
 mod error;
 mod field;
+mod line;
 mod name;
 mod quoted;
+mod reading;
 mod writing;
 
 pub use error::ReadError;
 pub use field::Field;
 pub use name::{read_name, read_subscript, read_subscripts};
 pub use quoted::read_text;
+pub use reading::read;
 pub use writing::{put_name, put_nodes, put_subscript, put_subscripts, put_text, write};
 
 // The first line, without its byte 10.
