@@ -3,3 +3,5 @@ pub mod Joined
 pub mod Lines
 pub mod Nodes
 pub mod InOrder
+pub mod QuotedTexts
+pub mod NameFields
