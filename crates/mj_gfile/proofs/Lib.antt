@@ -5,3 +5,4 @@ pub mod Nodes
 pub mod InOrder
 pub mod QuotedTexts
 pub mod NameFields
+pub mod Listings

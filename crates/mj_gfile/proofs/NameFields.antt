@@ -46,7 +46,7 @@ module _ (p : ℕ → Bool) where
       let q = both_true (p c) (list_all p s) h in ap (λ b. cond b (rest_by p (s ++ r)) (c ∷ (s ++ r))) q.0 ∙ rest_by-all s r q.1 m
 
 -- what one test passes, another passes
-more_pass : (p q : ℕ → Bool) → ((c : ℕ) → p c ≡ true → q c ≡ true) → (s : List ℕ) → list_all p s ≡ true → list_all q s ≡ true
+pub more_pass : (p q : ℕ → Bool) → ((c : ℕ) → p c ≡ true → q c ≡ true) → (s : List ℕ) → list_all p s ≡ true → list_all q s ≡ true
 more_pass p q f [] h = refl
 more_pass p q f (c ∷ s) h = let k = both_true (p c) (list_all p s) h in λ i. f c k.0 i && more_pass p q f s k.1 i
 
