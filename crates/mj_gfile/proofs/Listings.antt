@@ -1,6 +1,6 @@
 -- A listing is read as the globals that it lists, and nothing else is read.
-use Rattle.std.proofs.Common.{◌≡◌, ◌↔◌, ◌∙◌, ◌+◌, ◌/◌, ◌%◌, ◌<◌, ◌≤◌, suc, ℕ, Bool, true, false, not, cond, ◌&&◌, ◌||◌, eqb, eqb-true, ne_eqb, List, [], ◌∷◌, ◌++◌, length, Option, Some, None, Result, Ok, Err, refl, sym, ap, subst, append_assoc, append-nil, arith}
-use Rattle.std.specs.Prelude.{T, nat_lt, nat_le, codes}
+use Rattle.std.proofs.Common.{◌≡◌, ◌↔◌, ◌⊎◌, inl, inr, ◌∙◌, ◌+◌, ◌/◌, ◌%◌, ◌<◌, ◌≤◌, suc, ℕ, Bool, true, false, not, cond, ◌&&◌, ◌||◌, eqb, eqb-true, ne_eqb, List, [], ◌∷◌, ◌++◌, length, Option, Some, None, Result, Ok, Err, refl, sym, ap, subst, append_assoc, append-nil, arith}
+use Rattle.std.specs.Prelude.{T, IfOk, IfErr, nat_lt, nat_le, codes}
 use Rattle.std.specs.List.{list_all}
 use Rattle.std.specs.Char.{is_ascii_alphabetic, is_ascii_alphanumeric}
 use Rattle.std.specs.Str.{bytes_eq}
@@ -381,3 +381,17 @@ reading_of-IsListing bs = subst (λ x. IsListing x (reading_of bs)) (bytes-lines
 -- bytes are read as some globals exactly where they are the listing of these
 pub reading : (bs : List ℕ) → IsReading bs (reading_of bs)
 reading bs = record { lists = λ content. (λ e. subst (IsListing bs) e (reading_of-IsListing bs), λ h. ap reading_of h.0 ∙ reading_of-listing content h.1) }
+
+-- ---- what a call gives that reads so
+
+pub lists_them : (bs : List ℕ) (r : Result Content ReadError) → IfOk r (λ g. reading_of bs ≡ Ok g) → IfOk r (λ g. (bs ≡ listing_of g) × AreGlobals g)
+lists_them bs (Ok g) h = ((reading bs).lists g).0 h
+lists_them bs (Err e) h = tt
+
+pub lists_all : (bs : List ℕ) (r : Result Content ReadError) → IfErr r (λ e. (e ≡ error.Memory) ⊎ (reading_of bs ≡ Err e)) → (content : Content) → bs ≡ listing_of content → AreGlobals content → IfErr r (λ e. e ≡ error.Memory)
+lists_all bs (Ok g) h content is are = tt
+lists_all bs (Err e) h content is are = by h (((reading bs).lists content).1 (is, are))
+  where
+    by : (e ≡ error.Memory) ⊎ (reading_of bs ≡ Err e) → reading_of bs ≡ Ok content → e ≡ error.Memory
+    by (inl m) ok = m
+    by (inr x) ok = absurd cc
