@@ -8,6 +8,7 @@ ghost use Rattle.mj_asm.specs.Code as code_spec;
 use mj_ast::{Choice, Expr, Operand, Tail, Variable};
 use mj_pcode::{Instr, Reference};
 use std::alloc::AllocError;
+use std::mem::replace;
 
 /// One more instruction.
 pub fn put(code: &mut Vec<Instr>, instr: Instr) -> Result<(), AllocError>
@@ -22,7 +23,8 @@ pub fn change(code: &mut Vec<Instr>, at: usize, instr: Instr)
     requires { at < length code.old.items }
     ensures { code.new.items ≡ slice_set code.old.items at instr }
 {
-    code[at] = instr;
+    // by an assignment the one before would end here, which makes a long proof
+    drop(replace(&mut code[at], instr));
 }
 
 /// The test at this place leads to the end of the code where it fails.
@@ -31,7 +33,7 @@ pub fn aim(code: &mut Vec<Instr>, at: usize)
     ensures { code.new.items ≡ slice_set code.old.items at (Instr.Unless (length code.old.items)) }
 {
     let target = code.len();
-    code[at] = Instr::Unless(target);
+    change(code, at, Instr::Unless(target));
 }
 
 // The jump at this place leads to the end of the code.
@@ -40,7 +42,7 @@ fn aim_jump(code: &mut Vec<Instr>, at: usize)
     ensures { code.new.items ≡ slice_set code.old.items at (Instr.Jump (length code.old.items)) }
 {
     let target = code.len();
-    code[at] = Instr::Jump(target);
+    change(code, at, Instr::Jump(target));
 }
 
 /// An expression, whose value comes onto the stack.
