@@ -193,7 +193,8 @@ fn calls_that_are_left_out_are_named(rt: HostRuntime) -> Result<(), Fail> {
  XECUTE \"x\" => L7 R:1:2 command
  S X=1 Y=2 => L7 R:1:8 command
  W 1 ZW => L7 R:1:6 command
- H X => L2 R:1:4
+ HALT X => L2 R:1:7
+ H X => ok
  tstart () => L2 R:1:2
  W 1J 2 => L2 R:1:5
 ";
