@@ -134,7 +134,7 @@ fn each_refusal_is_given(rt: HostRuntime) -> Result<(), Fail> {
  JOB A+1 => L7 R:1:7 entry offset
  JOB A:X => L7 R:1:8 process parameters
  JOB A(1):(X) => L7 R:1:11 process parameters
- J ^R: W 1 => L7 R:1:8 process parameters
+ J ^R: W 1 => L7 R:1:7 process parameters
  J A:;c => L7 R:1:6 process parameters
  J A:$H => L7 R:1:6 process parameters
  J A:@X => L7 R:1:6 process parameters

@@ -95,7 +95,8 @@ fn values_that_are_left_out_are_named(rt: HostRuntime) -> Result<(), Fail> {
  N @X => L7 R:1:4 indirection
  W:@X 1 => L7 R:1:4 indirection
  W X@Y => L2 R:1:5
- H @X => L2 R:1:4
+ HALT @X => L2 R:1:7
+ H @X => L7 R:1:4 indirection
  W 1 @X => L2 R:1:6
  W $@X => L2 R:1:4
  W 1.5 => L7 R:1:5 fraction
@@ -192,7 +193,8 @@ fn calls_that_are_left_out_are_named(rt: HostRuntime) -> Result<(), Fail> {
  XECUTE \"x\" => L7 R:1:2 command
  S X=1 Y=2 => L7 R:1:8 command
  W 1 ZW => L7 R:1:6 command
- H X => L2 R:1:4
+ HALT X => L2 R:1:7
+ H X => ok
  tstart () => L2 R:1:2
  W 1J 2 => L2 R:1:5
 ";
@@ -224,7 +226,7 @@ fn values_of_quit_are_left_out(rt: HostRuntime) -> Result<(), Fail> {
  Q  X => L7 R:1:5 command
  Q  1 => L2 R:1:5
  Q W 1 Q 1 => L7 R:1:4 extrinsic
- H 1 => L2 R:1:4
+ HALT 1 => L2 R:1:7
 A W 1~A W @X => L3 R:2
  W @X S X=ABCDEFGHIJKLMNOPQRSTUVWXYZABCDEF => L7 R:1:4 indirection
  W $ABCDEFGHIJKLMNOPQRSTUVWXYZABCDEF => L5 R:1
