@@ -65,7 +65,7 @@ callee_of w =
 
 -- the special variable that a `$` word names, if none may stand behind it
 abbrev pub special_of : List ℕ → Option special.Special
-special_of w = if is_named w (codes "TEST") (codes "T") then Some specials.Test else None
+special_of w = if is_named w (codes "JOB") (codes "J") then Some specials.Job else if is_named w (codes "TEST") (codes "T") then Some specials.Test else None
 
 -- the least number of arguments
 abbrev pub least : Function → ℕ

@@ -6,7 +6,7 @@ use Rattle.mj_ast.specs.Commands.{PieceCall}
 use Rattle.mj_line.specs.Forms.{part_of}
 use Rattle.mj_line.specs.Sentences.{Sentence}
 use Rattle.mj_line.specs.Machine.{Spot, Begin, Labelled, FormalsEnd, empty_line, headed}
-use Rattle.mj_ast.specs.declared.sign.Sign.TheVariants.{Equals, Comma, Colon, Exclamation, Caret, Open, Close, Dot}
+use Rattle.mj_ast.specs.declared.sign.Sign.TheVariants.{Plus, Minus, Equals, Comma, Colon, Exclamation, Caret, Open, Close, Dot}
 use Rattle.mj_ast.specs.Tokens.{Token, Word, Digits, Signed, Blank, Comment}
 
 -- such a token doesn't
@@ -21,6 +21,14 @@ HasNoEquals ks = Unit {0}
 abbrev pub HasNoColon : List Token → Type 0
 HasNoColon (Signed Colon ∷ ks) = ⊥
 HasNoColon ks = Unit {0}
+
+abbrev pub HasNoPlus : List Token → Type 0
+HasNoPlus (Signed Plus ∷ ks) = ⊥
+HasNoPlus ks = Unit {0}
+
+abbrev pub HasNoMinus : List Token → Type 0
+HasNoMinus (Signed Minus ∷ ks) = ⊥
+HasNoMinus ks = Unit {0}
 
 abbrev pub HasNoOpen : List Token → Type 0
 HasNoOpen (Signed Open ∷ ks) = ⊥
