@@ -1,6 +1,7 @@
 // Functions of variables.
 
-ghost use Rattle.std.specs.Prelude.{◌≡◌, ◌+◌, ◌<◌, ◌^◌, true, false, IfOk, OnErr, ◌≤◌, length};
+ghost use Rattle.std.specs.Prelude.{◌≡◌, ◌+◌, ◌<◌, ◌^◌, true, false, option_copied, IfOk, OnErr, ◌≤◌, length};
+ghost use Rattle.mj_strfn.specs.Functions.{AnswersOrMemory};
 ghost use Rattle.mj_store.specs.Runs as runs;
 ghost use Rattle.mj_store.specs.Questions.{Content};
 ghost use Rattle.mj_semantics.specs.Functions.{optional};
@@ -9,19 +10,19 @@ ghost use Rattle.mj_pcode.specs.declared.instr.Instr.TheVariants as instrs;
 ghost use Rattle.mj_access.specs.Asked as asked;
 ghost use Rattle.mj_machine.specs.Kept.{Does, DoesAlone, Obeys, ObeysAlone, Stays, with_value, replied};
 
+use crate::globals::{ask, at_hand};
 use crate::names::name_for;
 use crate::tellings::{asks, question, spelled, told_by, told_of};
-use mj_ask::{Ask, Reply};
+use mj_ask::Reply;
 use mj_ast::NameFunction;
 use mj_locals::perform;
-use mj_machine::asking::wait;
 use mj_machine::quiet::fail;
 use mj_machine::values::{put_told, put_value};
-use mj_machine::{Control, Machine, STEPS_LIMIT, Step, stack};
+use mj_machine::{Control, Machine, Step, stack};
 use mj_pcode::Reference;
 use mj_store::{Access, Answer};
 use mj_subs::Name;
-use mj_text::{Failure, Fault, Text};
+use mj_text::{Failure, Text};
 use std::alloc::{AllocError, Global};
 
 /// The subscripts on the stack make a name that the function may be about, or fail.
@@ -74,7 +75,16 @@ pub fn about(
         Err(fault) => return Ok(fail(fault, machine)),
     };
     let other = first(stack::topmost(&machine.stack, others))?;
-    inquire(alloc, pc, function, count, name, other, machine, given)
+    inquire(
+        alloc,
+        pc,
+        function,
+        count,
+        name,
+        other.as_ref(),
+        machine,
+        given,
+    )
 }
 
 /// The first text, if there is one.
@@ -94,13 +104,13 @@ fn inquire(
     function: NameFunction,
     count: usize,
     name: Name,
-    other: Option<Text>,
+    other: Option<&Text>,
     machine: &mut Machine,
     given: Option<&Reply>,
 ) -> Result<Step, AllocError>
     requires next { pc + 1 < 2 ^ 64 }
     requires enough { count ≤ length machine.old.stack.items }
-    ensures ok { IfOk result (λ step. Does (λ next. evaluation.about function name other (with_value machine.old pc count next)) machine.old (replied given.entry) step machine.new) }
+    ensures ok { IfOk result (λ step. Does (λ next. evaluation.about function name (option_copied other.entry) (with_value machine.old pc count next)) machine.old (replied given.entry) step machine.new) }
     ensures err { OnErr result (Stays machine.old machine.new) }
 {
     if !asks(function) {
@@ -108,14 +118,16 @@ fn inquire(
         put_value(pc, count, text, machine)?;
         return Ok(Step::Next);
     }
-    let access = match question(function, name, other.as_ref()) {
+    let access = match question(function, name, other) {
         Ok(access) => access,
         Err(fault) => return Ok(fail(fault, machine)),
     };
     if access.name().is_global() {
         return ask_global(alloc, pc, function, count, access, other, machine, given);
     }
-    ask_local(alloc, pc, function, count, access, other, machine)
+    let step = ask_local(alloc, pc, function, count, &access, other, machine);
+    drop(access);
+    step
 }
 
 /// What the job's own variables answer to a question, which changes nothing.
@@ -128,25 +140,41 @@ fn look_up(access: &Access, machine: &mut Machine) -> Result<Answer, AllocError>
     perform(&mut machine.locals, access)
 }
 
+/// What the function gives by the job's own variables.
+fn told_here(
+    alloc: Global,
+    function: NameFunction,
+    access: &Access,
+    other: Option<&Text>,
+    machine: &mut Machine,
+) -> Result<Text, Failure>
+    requires local { (runs.name_of access.now).global ≡ false }
+    requires question { (content : Content) → runs.after_access access.now content ≡ content }
+    ensures value { AnswersOrMemory (asked.made_of function (option_copied other.entry) (runs.answer_of access.now machine.old.locals.now)) result }
+    ensures same { Stays machine.old machine.new }
+{
+    let answer = look_up(access, machine)?;
+    told_of(alloc, function, other, &answer)
+}
+
 /// A question to the job's own variables.
 fn ask_local(
     alloc: Global,
     pc: usize,
     function: NameFunction,
     count: usize,
-    access: Access,
-    other: Option<Text>,
+    access: &Access,
+    other: Option<&Text>,
     machine: &mut Machine,
 ) -> Result<Step, AllocError>
     requires next { pc + 1 < 2 ^ 64 }
-    requires local { (runs.name_of access).global ≡ false }
-    requires question { (content : Content) → runs.after_access access content ≡ content }
+    requires local { (runs.name_of access.now).global ≡ false }
+    requires question { (content : Content) → runs.after_access access.now content ≡ content }
     requires enough { count ≤ length machine.old.stack.items }
-    ensures ok { IfOk result (λ step. DoesAlone (λ next. asked.asked function other access (with_value machine.old pc count next)) machine.old step machine.new) }
+    ensures ok { IfOk result (λ step. DoesAlone (λ next. asked.asked function (option_copied other.entry) access.now (with_value machine.old pc count next)) machine.old step machine.new) }
     ensures err { OnErr result (Stays machine.old machine.new) }
 {
-    let answer = look_up(&access, machine)?;
-    let value = told_of(alloc, function, other.as_ref(), &answer);
+    let value = told_here(alloc, function, access, other, machine);
     put_value(pc, count, value, machine)?;
     Ok(Step::Next)
 }
@@ -159,23 +187,21 @@ fn ask_global(
     function: NameFunction,
     count: usize,
     access: Access,
-    other: Option<Text>,
+    other: Option<&Text>,
     machine: &mut Machine,
     given: Option<&Reply>,
 ) -> Result<Step, AllocError>
     requires next { pc + 1 < 2 ^ 64 }
     requires global { (runs.name_of access).global ≡ true }
     requires enough { count ≤ length machine.old.stack.items }
-    ensures ok { IfOk result (λ step. Does (λ next. asked.asked function other access (with_value machine.old pc count next)) machine.old (replied given.entry) step machine.new) }
+    ensures ok { IfOk result (λ step. Does (λ next. asked.asked function (option_copied other.entry) access (with_value machine.old pc count next)) machine.old (replied given.entry) step machine.new) }
     ensures err { OnErr result (Stays machine.old machine.new) }
 {
-    if machine.replied >= STEPS_LIMIT {
-        return Ok(fail(Fault::Steps, machine));
-    }
-    match given {
-        None => wait(alloc, Ask::Access(access)),
+    match at_hand(machine, given) {
+        None => ask(alloc, access, machine),
         Some(reply) => {
-            let value = told_by(alloc, function, other.as_ref(), reply);
+            drop(access);
+            let value = told_by(alloc, function, other, reply);
             put_told(pc, count, value, machine)
         }
     }

@@ -12,13 +12,13 @@ ghost use Rattle.mj_pcode.specs.declared.instr.Instr.TheVariants as instrs;
 ghost use Rattle.mj_pcode.specs.Machine.{top};
 ghost use Rattle.mj_machine.specs.Kept.{stack_of, DidAlone, Does, DoesAlone, Obeys, Stays, without, replied};
 
+use crate::globals::{ask, at_hand};
 use crate::names::name_below;
 use crate::variables::is_plain_local;
-use mj_ask::{Ask, Reply};
+use mj_ask::Reply;
 use mj_locals::perform;
-use mj_machine::asking::wait;
 use mj_machine::quiet::fail;
-use mj_machine::{Control, Machine, STEPS_LIMIT, Step, stack};
+use mj_machine::{Control, Machine, Step, stack};
 use mj_pcode::{Depth, Reference};
 use mj_store::{Access, Answer};
 use mj_text::{Fault, Text};
@@ -143,7 +143,9 @@ pub(crate) fn change(
     if access.name().is_global() {
         return change_global(alloc, pc, taken, access, machine, given);
     }
-    change_local(pc, taken, &access, machine)
+    let step = change_local(pc, taken, &access, machine);
+    drop(access);
+    step
 }
 
 // Goes on with `taken` operands less behind a change that is done, or fails.
@@ -193,12 +195,10 @@ fn change_global(
     ensures ok { IfOk result (λ step. Does (λ next. accesses.access access (λ a. without machine.old pc taken next)) machine.old (replied given.entry) step machine.new) }
     ensures err { OnErr result (Stays machine.old machine.new) }
 {
-    if machine.replied >= STEPS_LIMIT {
-        return Ok(fail(Fault::Steps, machine));
-    }
-    match given {
-        None => wait(alloc, Ask::Access(access)),
+    match at_hand(machine, given) {
+        None => ask(alloc, access, machine),
         Some(reply) => {
+            drop(access);
             machine.replied += 1;
             settle(pc, taken, reply_done(reply), machine);
             Ok(Step::Took)

@@ -10,6 +10,7 @@
 
 pub mod about;
 pub mod changes;
+mod globals;
 pub mod merges;
 pub mod names;
 pub mod pieces;

@@ -10,11 +10,11 @@ ghost use Rattle.mj_pcode.specs.declared.instr.Instr.TheVariants as instrs;
 ghost use Rattle.mj_machine.specs.Kept.{DidAlone, Does, DoesAlone, Obeys, Stays, without, replied};
 
 use crate::changes::reply_done;
+use crate::globals::{ask, at_hand};
 use crate::names::name_below;
-use mj_ask::{Ask, Reply};
-use mj_machine::asking::wait;
+use mj_ask::Reply;
 use mj_machine::quiet::fail;
-use mj_machine::{Control, Machine, STEPS_LIMIT, Step, stack};
+use mj_machine::{Control, Machine, Step, stack};
 use mj_pcode::Reference;
 use mj_store::{Access, Answer, Nodes};
 use mj_subs::Name;
@@ -118,11 +118,8 @@ fn take_global(
     ensures ok { IfOk result (λ step. Does (λ next. access (accesses.Subtree name) (λ a. told.change (hold (nodes_told a)) (without machine.old pc count next))) machine.old (replied given.entry) step machine.new) }
     ensures err { OnErr result (Stays machine.old machine.new) }
 {
-    if machine.replied >= STEPS_LIMIT {
-        return Ok(fail(Fault::Steps, machine));
-    }
-    match given {
-        None => wait(alloc, Ask::Access(Access::Subtree(name))),
+    match at_hand(machine, given) {
+        None => ask(alloc, Access::Subtree(name), machine),
         Some(reply) => {
             let nodes = nodes_of(alloc, reply)?;
             machine.replied += 1;
@@ -227,13 +224,10 @@ fn put_global(
     ensures ok { IfOk result (λ step. Does (λ next. access (accesses.Put name machine.old.held) (λ a. told.change (hold []) (without machine.old pc count next))) machine.old (replied given.entry) step machine.new) }
     ensures err { OnErr result (Stays machine.old machine.new) }
 {
-    if machine.replied >= STEPS_LIMIT {
-        return Ok(fail(Fault::Steps, machine));
-    }
-    match given {
+    match at_hand(machine, given) {
         None => {
             let nodes = copied(alloc, &machine.held)?;
-            wait(alloc, Ask::Access(Access::Put(name, nodes)))
+            ask(alloc, Access::Put(name, nodes), machine)
         }
         Some(reply) => {
             machine.replied += 1;

@@ -11,13 +11,13 @@ ghost use Rattle.mj_pcode.specs.declared.instr.Instr.TheVariants as instrs;
 ghost use Rattle.mj_pcode.specs.Machine.{top};
 ghost use Rattle.mj_machine.specs.Kept.{stack_of, Does, DoesAlone, Obeys, Stays, with_value, replied};
 
+use crate::globals::{ask, at_hand};
 use crate::names::name_below;
-use mj_ask::{Ask, Reply};
-use mj_machine::asking::wait;
+use mj_ask::Reply;
 use mj_machine::calls::{needed, optional};
 use mj_machine::quiet::fail;
 use mj_machine::values::{put_told, put_value};
-use mj_machine::{Control, Machine, STEPS_LIMIT, Step, stack};
+use mj_machine::{Control, Machine, Step, stack};
 use mj_pcode::{Depth, Reference};
 use mj_store::{Access, Answer};
 use mj_strfn::{PieceRange, assigned_pieces, set_piece};
@@ -136,11 +136,8 @@ fn renew_global(
     ensures ok { IfOk result (λ step. Does (λ next. commands.renewed name separator.now range (top (stack_of machine.old)) (with_value machine.old pc 0 next)) machine.old (replied given.entry) step machine.new) }
     ensures err { OnErr result (Stays machine.old machine.new) }
 {
-    if machine.replied >= STEPS_LIMIT {
-        return Ok(fail(Fault::Steps, machine));
-    }
-    match given {
-        None => wait(alloc, Ask::Access(Access::Value(name))),
+    match at_hand(machine, given) {
+        None => ask(alloc, Access::Value(name), machine),
         Some(reply) => {
             let value = stack::top(&machine.stack);
             let renewed = renewed(alloc, reply, separator, range, value);

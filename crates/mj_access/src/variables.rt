@@ -10,13 +10,13 @@ ghost use Rattle.mj_access.specs.Answers as answers;
 ghost use Rattle.mj_pcode.specs.declared.instr.Instr.TheVariants as instrs;
 ghost use Rattle.mj_machine.specs.Kept.{Does, DoesAlone, Obeys, ObeysAlone, Stays, with_value, replied};
 
+use crate::globals::{ask, at_hand};
 use crate::names::name_of;
-use mj_ask::{Ask, Reply};
+use mj_ask::Reply;
 use mj_ast::Scope;
-use mj_machine::asking::wait;
 use mj_machine::quiet::fail;
 use mj_machine::values::put_told;
-use mj_machine::{Control, Machine, STEPS_LIMIT, Step, stack};
+use mj_machine::{Control, Machine, Step, stack};
 use mj_pcode::Reference;
 use mj_store::{Access, Answer};
 use mj_subs::Name;
@@ -137,11 +137,8 @@ fn read_global(
     ensures ok { IfOk result (λ step. Does (λ next. evaluation.read name (with_value machine.old pc count next)) machine.old (replied given.entry) step machine.new) }
     ensures err { OnErr result (Stays machine.old machine.new) }
 {
-    if machine.replied >= STEPS_LIMIT {
-        return Ok(fail(Fault::Steps, machine));
-    }
-    match given {
-        None => wait(alloc, Ask::Access(Access::Value(name))),
+    match at_hand(machine, given) {
+        None => ask(alloc, Access::Value(name), machine),
         Some(reply) => put_told(pc, count, value_read(reply), machine),
     }
 }

@@ -1,5 +1,5 @@
 use Rattle.std.proofs.Common.{◌≡◌, ◌+◌, ◌-◌, ◌∷◌, drop, sym, ap, ◌∙◌, ℕ, List, reverse}
-use Rattle.std.specs.Prelude.{Ok, Err}
+use Rattle.std.specs.Prelude.{Ok, Err, option_copied}
 use Rattle.std.proofs.lemmas.Result.{IfOk-weaker}
 use Rattle.mj_subs.specs.Name.{Name}
 use Rattle.mj_semantics.specs.Functions.{optional}
@@ -40,11 +40,13 @@ returns-clause-ok c =
     ∙ ap (operands r.count) (c.under.ensures ∙ ap (λ l. drop k (reverse l)) c.deref.ensures.value) in
     let is : named_for f r.scope r.word (operands r.count (drop k (stack_of old))) ≡ Ok x =
     sym (c.in_ok-name.ensures ∙ ap (named_for f r.scope r.word) under) ∙ c.in-Ok.is in
-    let same : c.in_ok-other.other ≡ optional 0 (operands k (stack_of old)) =
-    c.in_ok-other.ensures
+    let o = option_copied c.as_ref.result in
+    let same : o ≡ optional 0 (operands k (stack_of old)) =
+    c.as_ref.ensures.value
+    ∙ c.in_ok-other.ensures
     ∙ ap (optional 0) (c.topmost.ensures ∙ ap (λ l. operands k (reverse l)) c.deref-2.ensures.value) in
     IfOk-weaker c.inquire.result _ _
-    (λ step d all u. does_as (λ next. given (named_for f r.scope r.word (operands r.count (drop k (stack_of old)))) (whole next)) (λ next. about f x c.in_ok-other.other (rest next))
+    (λ step d all u. does_as (λ next. given (named_for f r.scope r.word (operands r.count (drop k (stack_of old)))) (whole next)) (λ next. about f x o (rest next))
     old (replied c.args.given) step _
     (λ next n back replies. given_is (named_for f r.scope r.word (operands r.count (drop k (stack_of old)))) (Ok x) (whole next) n back (state_of old) replies is
     ∙ ap (λ t. about f x t (rest next) n back (state_of old) replies) (sym same)) d)

@@ -1,5 +1,5 @@
-use Rattle.std.proofs.Common.{◌≡◌, ◌∙◌, ℕ, List, ap, sym}
-use Rattle.std.specs.Prelude.{true, false, Ok, Err}
+use Rattle.std.proofs.Common.{◌≡◌, ◌∙◌, ℕ, List, sym}
+use Rattle.std.specs.Prelude.{true, false, Ok, Err, option_copied}
 use Rattle.std.proofs.lemmas.Result.{IfOk-weaker}
 use Rattle.mj_semantics.specs.Outcome.{Timed, fault, given}
 use Rattle.mj_semantics.specs.Evaluation.{about}
@@ -17,7 +17,7 @@ returns-then-not-asks-clause-ok c =
     let old = c.args.machine.now in
     let f = c.args.function in
     let x = c.args.name in
-    let o = c.args.other in
+    let o = option_copied c.args.other in
     let rest : Next → List ℕ → Timed = with_value old c.args.pc c.args.count in
     let no : asks f ≡ false = sym c.asks.ensures ∙ c.if-not-asks.true in
     does_as (λ next. about f x o (rest next)) (λ next. given (spelled x) (rest next)) old (replied c.args.given) steps.Next c.put_value.new.machine
@@ -29,10 +29,10 @@ returns-in-Err-clause-ok c =
     let old = c.args.machine.now in
     let f = c.args.function in
     let x = c.args.name in
-    let o = c.args.other in
+    let o = option_copied c.args.other in
     let rest : Next → List ℕ → Timed = with_value old c.args.pc c.args.count in
     let yes : asks f ≡ true = sym c.asks.ensures ∙ c.if-not-asks.false in
-    let q : question f x o ≡ Err c.in-Err.fault = ap (question f x) (sym c.as_ref.ensures.value) ∙ sym c.question.ensures ∙ c.in-Err.is in
+    let q : question f x o ≡ Err c.in-Err.fault = sym c.question.ensures ∙ c.in-Err.is in
     does_as (λ next. about f x o (rest next)) (λ next. fault c.in-Err.fault) old (replied c.args.given) c.fail.result c.fail.new.machine
     (λ next n back replies. about_asks f x o (rest next) n back (state_of old) replies (Err c.in-Err.fault) yes q) (c.fail.ensures (replied c.args.given))
 
@@ -41,10 +41,10 @@ returns-then-is_global-clause-ok c =
     let old = c.args.machine.now in
     let f = c.args.function in
     let x = c.args.name in
-    let o = c.args.other in
+    let o = option_copied c.args.other in
     let rest : Next → List ℕ → Timed = with_value old c.args.pc c.args.count in
     let yes : asks f ≡ true = sym c.asks.ensures ∙ c.if-not-asks.false in
-    let q : question f x o ≡ Ok c.in-Ok.access = ap (question f x) (sym c.as_ref.ensures.value) ∙ sym c.question.ensures ∙ c.in-Ok.is in
+    let q : question f x o ≡ Ok c.in-Ok.access = sym c.question.ensures ∙ c.in-Ok.is in
     IfOk-weaker c.ask_global.result _ _
     (λ step d. does_as (λ next. about f x o (rest next)) (λ next. asked f o c.in-Ok.access (rest next)) old (replied c.args.given) step _
     (λ next n back replies. about_asks f x o (rest next) n back (state_of old) replies (Ok c.in-Ok.access) yes q) d)
@@ -55,11 +55,11 @@ returns-clause-ok c =
     let old = c.args.machine.now in
     let f = c.args.function in
     let x = c.args.name in
-    let o = c.args.other in
+    let o = option_copied c.args.other in
     let rest : Next → List ℕ → Timed = with_value old c.args.pc c.args.count in
     let yes : asks f ≡ true = sym c.asks.ensures ∙ c.if-not-asks.false in
-    let q : question f x o ≡ Ok c.in-Ok.access = ap (question f x) (sym c.as_ref.ensures.value) ∙ sym c.question.ensures ∙ c.in-Ok.is in
-    IfOk-weaker c.ask_local.result _ _
+    let q : question f x o ≡ Ok c.in-Ok.access = sym c.question.ensures ∙ c.in-Ok.is in
+    IfOk-weaker c.ask_local-step.result _ _
     (λ step d. does_as (λ next. about f x o (rest next)) (λ next. asked f o c.in-Ok.access (rest next)) old (replied c.args.given) step _
     (λ next n back replies. about_asks f x o (rest next) n back (state_of old) replies (Ok c.in-Ok.access) yes q) (d (replied c.args.given)))
-    c.ask_local.ensures.ok
+    c.ask_local-step.ensures.ok
