@@ -1,5 +1,5 @@
 -- A line has one tokenisation.
-use Rattle.std.proofs.Common.{◌≡◌, ℕ, ◌+◌, ◌≤◌, Bool, true, false, List, [], ◌∷◌, ◌++◌, length, take, drop, take_while, refl, ap, sym, ◌∙◌, subst, arith, append-nil, ◌⊎◌, inl, inr}
+use Rattle.std.proofs.Common.{◌≡◌, ℕ, ◌+◌, Bool, true, false, List, [], ◌∷◌, ◌++◌, length, take, drop, take_while, refl, ap, sym, ◌∙◌, subst, arith, append-nil, ◌⊎◌, inl, inr}
 use Rattle.std.specs.Prelude.{◌==◌, cond}
 use Rattle.std.specs.List.{list_all}
 use Rattle.std.proofs.Math.Seq.{take-append_seam, drop-append_seam, drop-length}
@@ -177,7 +177,7 @@ once line (l ∷ ls) (m ∷ ms) h i =
     let q = i.4.longest l.token l.slice h.0 h.1 h.2 in
     let s = same_front l.slice m.slice h.0 i.0 (sym h.1 ∙ i.1) (omega arith) in
     let token : l.token ≡ m.token =
-        sym (token_told l.token l.slice h.0 h.2 h.3) ∙ ap (λ (xs : List ℕ). told xs h.0) s.0 ∙ ap (λ (xs : List ℕ). told m.slice xs) s.1
-        ∙ token_told m.token m.slice i.0 i.2 i.3 in
+    sym (token_told l.token l.slice h.0 h.2 h.3) ∙ ap (λ (xs : List ℕ). told xs h.0) s.0 ∙ ap (λ (xs : List ℕ). told m.slice xs) s.1
+    ∙ token_told m.token m.slice i.0 i.2 i.3 in
     let P : List ℕ → Type 0 = λ xs. IsTokenisation xs ls in
     ap (λ (x : Lexeme). x ∷ ls) (same_lexeme l m token s.0) ∙ ap (λ (xs : List Lexeme). m ∷ xs) (once i.0 ls ms (subst P s.1 h.5) i.5)

@@ -3,3 +3,4 @@ pub mod Columns
 pub mod Labels
 pub mod Routines
 pub mod Once
+pub mod Words

@@ -1,9 +1,11 @@
--- What holds of every file: it is a routine's or it is refused, not both, and it is refused for one reason.
+-- What holds of every file: it is a routine's or it is refused, not both, and it is refused for one reason. The names in a routine
+-- are words.
 use Rattle.std.specs.Prelude.{ℕ, ◌≡◌, List}
 use Rattle.mj_ast.specs.Syntax.{Routine}
 use Rattle.mj_ast.specs.Routines.{IsName}
 use Rattle.mj_ast.specs.Routines as grammar
 use Rattle.mj_rou.specs.Read.{IsRoutineRead, IsRoutineRefused}
+use Rattle.mj_rou.specs.Words.{IsRoutineWorded}
 use Rattle.mj_rou.specs.declared.error.LoadError.{LoadError}
 use Rattle.mj_rou.specs.declared.error.LoadError.TheVariants as load
 
@@ -33,3 +35,7 @@ abbrev pub HasOneReason : Type 0
 HasOneReason =
     (name bytes : List ℕ) (e f : LoadError) → (e ≡ load.Memory → ⊥) → (f ≡ load.Memory → ⊥)
     → IsRoutineRefused name bytes e → IsRoutineRefused name bytes f → told e ≡ told f
+
+-- where names stand in a routine that is read, there are words
+abbrev pub HasWords : Type 0
+HasWords = (name bytes : List ℕ) (r : Routine) → IsName name → IsRoutineRead name bytes r → IsRoutineWorded r

@@ -1,3 +1,4 @@
 pub mod File
 pub mod Read
+pub mod Words
 pub mod Laws

@@ -1,6 +1,6 @@
 // Laws of every file: each function has nothing to do, and its contract is the law.
 
-ghost use Rattle.mj_rou.specs.Laws.{HasOneReason, IsReadOrRefused};
+ghost use Rattle.mj_rou.specs.Laws.{HasOneReason, HasWords, IsReadOrRefused};
 
 /// No file is both read as a routine and refused.
 pub fn read_or_refused()
@@ -10,4 +10,9 @@ pub fn read_or_refused()
 /// A file is refused for one reason at one place.
 pub fn one_reason()
     ensures { HasOneReason }
+{}
+
+/// The names in a routine that is read are words.
+pub fn has_words()
+    ensures { HasWords }
 {}

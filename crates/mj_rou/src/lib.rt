@@ -11,5 +11,5 @@ mod laws;
 mod routine;
 
 pub use error::{LoadError, RoutineName};
-pub use laws::{one_reason, read_or_refused};
+pub use laws::{has_words, one_reason, read_or_refused};
 pub use routine::{LINE_LIMIT, ROUTINE_LIMIT, read};
