@@ -53,6 +53,24 @@ impl Jobs {
         }
     }
 
+    /// A row for each of the starts, in order. They come back where memory is refused.
+    pub fn of(alloc: Global, starts: Vec<Start>) -> Result<Jobs, Vec<Start>>
+        requires { length starts.items ≤ rows_limit }
+        ensures ok { IfOk result (λ jobs. jobs ≡ record { rows = map opened starts.items; claimed = 0 }) }
+        ensures err { IfErr result (λ back. back.items ≡ starts.items) }
+    {
+        let Ok(mut rows) = Vec::with_capacity(alloc, starts.len()) else {
+            return Err(starts);
+        };
+        for start in starts {
+            rows.push_reserved(Kept {
+                start,
+                ended: false,
+            });
+        }
+        Ok(Jobs { rows, claimed: 0 })
+    }
+
     /// How many rows there are.
     pub fn len(&self) -> usize
         ensures value { result ≡ length self.now.rows }
