@@ -2,6 +2,7 @@
 
 ghost use Rattle.std.specs.Prelude.{◌≡◌, ◌+◌, ◌<◌, ◌≤◌, ◌↔◌, ◌++◌, ◌∷◌, [], length, map, Some, IfOk, IfErr, OnOk, OnErr, IfSome, IfNone, IsTrue};
 ghost use Rattle.mj_jobs.specs.Rows.{Row, Rows, rows_limit, row_at, opened, with_ended, IsLive};
+ghost use Rattle.mj_jobs.specs.Kept.{row_of};
 
 use mj_ask::Start;
 use std::alloc::{AllocError, Global};
@@ -63,10 +64,7 @@ impl Jobs {
             return Err(starts);
         };
         for start in starts {
-            rows.push_reserved(Kept {
-                start,
-                ended: false,
-            });
+            rows.push_reserved(open(start));
         }
         Ok(Jobs { rows, claimed: 0 })
     }
@@ -109,10 +107,7 @@ impl Jobs {
         if let Err(error) = self.rows.reserve(1) {
             return Err((error, start));
         }
-        self.rows.push_reserved(Kept {
-            start,
-            ended: false,
-        });
+        self.rows.push_reserved(open(start));
         Ok(self.rows.len() as u32)
     }
 
@@ -145,5 +140,15 @@ impl Jobs {
         if let Some(row) = self.rows.get_mut(at as usize) {
             row.ended = true;
         }
+    }
+}
+
+// The row of a job that begins.
+fn open(start: Start) -> Kept
+    ensures { row_of result ≡ opened start }
+{
+    Kept {
+        start,
+        ended: false,
     }
 }
