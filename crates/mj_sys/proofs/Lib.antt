@@ -1,2 +1,6 @@
 pub mod Examples
 mod Fitting
+mod Each
+mod Opens
+mod Placed
+mod Together

@@ -1,8 +1,7 @@
 -- What is shared, as it is kept.
-use Rattle.std.specs.Prelude.{◌≡◌, ℕ, ℤ, ◌+◌, ◌≤◌, List, [], ◌∷◌, length, Bool, true, false, Option, Some, None}
-use Rattle.mj_subs.specs.Name.{Name}
+use Rattle.std.specs.Prelude.{◌≡◌, ℕ, ◌+◌, ◌≤◌, ◌==◌, if◌then◌else◌, List, [], ◌∷◌, length, Bool, true, false, Option, Some, None}
 use Rattle.mj_ask.specs.declared.ask.Ask.{Ask}
-use Rattle.mj_ask.specs.declared.ask.Ask.TheVariants as asks
+
 use Rattle.mj_ask.specs.declared.ask.Reply.TheVariants as replies
 use Rattle.mj_dev.specs.Heard.{Heard, IsNew}
 use Rattle.mj_dev.specs.Shelves.{Shelf, principal, left_of}
@@ -47,3 +46,8 @@ Comes old job ask late (outcomes.Opened session) new =
     × IsNew session
     × (new.claimed ≡ old.claimed)
 Comes old job ask late (outcomes.Busy holder held) new = (served old.state job ask late ≡ None) × Keeps old.state job ask holder held × (new ≡ old)
+
+-- who holds a name once the job's hold of it ends
+abbrev pub without : ℕ → Option ℕ → Option ℕ
+without job None = None
+without job (Some holder) = if holder == job then None else Some holder

@@ -11,10 +11,12 @@ use Rattle.mj_sys.specs.Shared.{Shared}
 -- The device that a name of the pool is. Of the name `0` there are so many sessions as jobs may have; a job has its own from the claim of its
 -- row on, so none is taken by an ask
 abbrev pub device_of : ℕ → Shelf → Option ℕ → Device
-device_of principals shelf holder =
-    if bytes_eq shelf.name principal
-    then record { name = shelf.name; sessions = principals; taken = 0; holder = holder }
-    else record { name = shelf.name; sessions = shelf.left + shelf.taken; taken = shelf.taken; holder = holder }
+device_of principals shelf holder = record {
+  name = shelf.name;
+  sessions = if bytes_eq shelf.name principal then principals else shelf.left + shelf.taken;
+  taken = if bytes_eq shelf.name principal then 0 else shelf.taken;
+  holder = holder;
+}
 
 -- the devices of a pool that no job holds
 abbrev pub free_devices : ℕ → List Shelf → Devices

@@ -1,8 +1,9 @@
 // Accesses to globals.
 
-ghost use Rattle.std.specs.Prelude.{◌≡◌, IfOk, OnOk, OnErr};
+ghost use Rattle.std.specs.Prelude.{◌≡◌, not, IfOk, OnOk, OnErr};
 ghost use Rattle.mj_store.specs.Runs.{answer_of};
 ghost use Rattle.mj_store.specs.Changes.{is_too_deep};
+ghost use Rattle.mj_store.specs.declared.access.Access.TheVariants as accesses;
 ghost use Rattle.mj_ask.specs.declared.ask.Reply.TheVariants as replies;
 ghost use Rattle.mj_sys.specs.Shared.{changed};
 

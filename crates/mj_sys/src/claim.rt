@@ -1,6 +1,6 @@
 // Claims.
 
-ghost use Rattle.std.specs.Prelude.{◌≡◌, ◌≤◌};
+ghost use Rattle.std.specs.Prelude.{◌≡◌, ◌≤◌, ◌<◌, ◌+◌, ◌-◌, ◌^◌};
 
 use mj_ask::Start;
 use std::marker::Model;

@@ -1,15 +1,18 @@
 // What all jobs share.
 
-ghost use Rattle.std.specs.Prelude.{◌≡◌, ◌+◌, ◌≤◌, ◌↔◌, ℤ, length, Some, IfOk, IfErr, OnErr, IfSome, IfNone, IsTrue};
+ghost use Rattle.std.specs.Prelude.{◌≡◌, ◌+◌, ◌≤◌, ◌↔◌, ℤ, length, map, replicate, true, None, Some, if◌then◌else◌, IfOk, IfErr, OnErr, IfSome, IfNone, IsTrue};
 ghost use Rattle.mj_ask.specs.Fits.{is_shared};
 ghost use Rattle.mj_ask.specs.declared.ask.Ask.TheVariants as asks;
 ghost use Rattle.mj_dev.specs.Heard.{IsNew};
 ghost use Rattle.mj_dev.specs.Shelves.{principal, left_of};
 ghost use Rattle.mj_jobs.specs.Rows.{Row, row_at, IsLive};
 ghost use Rattle.mj_locktab.specs.Locks.{LocksApart};
-ghost use Rattle.mj_sys.specs.Shared.{is_over, has_room, halted};
+ghost use Rattle.mj_ask.specs.declared.ask.Reply.TheVariants as replies;
+ghost use Rattle.mj_sys.specs.Devices.{with_device, closed_by};
+ghost use Rattle.mj_sys.specs.Shared.{is_over, halted};
+ghost use Rattle.mj_sys.specs.declared.shared.Outcome.TheVariants as outcomes;
 ghost use Rattle.mj_sys.specs.Opening.{opening_of};
-ghost use Rattle.mj_sys.specs.Kept.{Comes};
+ghost use Rattle.mj_sys.specs.Kept.{Comes, without};
 
 use crate::accessed::answer;
 use crate::opening::Unmade;
@@ -182,7 +185,7 @@ impl<D: Device> Shared<D> {
                 let (reply, copy) = answer(&mut self.globals, access)?;
                 Ok(Outcome::Told(reply, copy))
             }
-            Ask::Try(names, timeout) => try_take(&mut self.locks, job, names, *timeout, late),
+            Ask::Try(names, timeout) => self.try_take(job, names, *timeout, late),
             Ask::Unlock(names) => {
                 self.locks.give(job, names.as_slice());
                 Ok(Outcome::Told(Reply::Done, Reply::Done))
@@ -211,6 +214,24 @@ impl<D: Device> Shared<D> {
             | Ask::DeviceEnd(_)
             | Ask::Rest(_) => unreachable!(),
         }
+    }
+
+    // LOCK of names.
+    fn try_take(
+        &mut self,
+        job: u32,
+        names: &Names,
+        timeout: Option<Num>,
+        late: bool,
+    ) -> Result<Outcome<Session<D>>, AllocError>
+        ensures ok { IfOk result (λ outcome. Comes self.old job (asks.Try names.now timeout) late outcome self.new) }
+        ensures err { OnErr result (self.new ≡ self.old) }
+    {
+        Ok(match self.locks.try_take(job, names.as_slice())? {
+            Taken::Got => Outcome::Told(Reply::Got, Reply::Got),
+            Taken::Limit => Outcome::Told(Reply::Limit, Reply::Limit),
+            Taken::Busy { holder, name } => busy(timeout, late, holder, Held::Name(name)),
+        })
     }
 
     // OPEN of a name.
@@ -253,9 +274,7 @@ impl<D: Device> Shared<D> {
         ensures { self.new ≡ record { state = record self.old.state { devices = with_device self.old.state.devices name.now (closed_by job) }; claimed = self.old.claimed } }
     {
         if let Some(place) = self.pool.place(name) {
-            if self.holders[place] == Some(job) {
-                self.holders[place] = None;
-            }
+            release(&mut self.holders[place], job);
         }
     }
 
@@ -285,31 +304,9 @@ impl<D: Device> Shared<D> {
         ensures { self.new ≡ record { state = halted self.old.state job; claimed = self.old.claimed } }
     {
         self.locks.give_all(job);
-        for holder in &mut self.holders {
-            if *holder == Some(job) {
-                *holder = None;
-            }
-        }
+        release_all(&mut self.holders, job);
         self.jobs.end(job);
     }
-}
-
-// LOCK of names.
-fn try_take<S>(
-    locks: &mut LockTable,
-    job: u32,
-    names: &Names,
-    timeout: Option<Num>,
-    late: bool,
-) -> Result<Outcome<S>, AllocError>
-    ensures ok { IfOk result (λ outcome. Tries locks.old job names.now timeout late outcome locks.new) }
-    ensures err { OnErr result (locks.new ≡ locks.old) }
-{
-    Ok(match locks.try_take(job, names.as_slice())? {
-        Taken::Got => Outcome::Told(Reply::Got, Reply::Got),
-        Taken::Limit => Outcome::Told(Reply::Limit, Reply::Limit),
-        Taken::Busy { holder, name } => busy(timeout, late, holder, Held::Name(name)),
-    })
 }
 
 // An ask that another job is in the way of. Where its timeout is over it is told so.
@@ -337,9 +334,25 @@ fn is_over(timeout: Option<Num>, late: bool) -> bool
 fn nobody(alloc: Global, names: usize) -> Result<Vec<Option<u32>>, AllocError>
     ensures { IfOk result (λ holders. holders.items ≡ replicate names None) }
 {
-    let mut holders = Vec::with_capacity(alloc, names)?;
-    for _ in 0..names {
-        holders.push(None)?;
-    }
+    let mut holders = Vec::new(alloc);
+    holders.resize(names, None)?;
     Ok(holders)
+}
+
+// Ends the job's hold, if it is the holder.
+fn release(holder: &mut Option<u32>, job: u32)
+    ensures { holder.new ≡ without job holder.old }
+{
+    if *holder == Some(job) {
+        *holder = None;
+    }
+}
+
+// Ends all holds of the job.
+fn release_all(holders: &mut [Option<u32>], job: u32)
+    ensures { holders.new ≡ map (without job) holders.old }
+{
+    for holder in holders {
+        release(holder, job);
+    }
 }

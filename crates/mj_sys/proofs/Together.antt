@@ -1,0 +1,117 @@
+-- What is kept beside each other stays together: the sessions of a pool, their holders and the rows.
+use Rattle.std.proofs.Common.{◌≡◌, ℕ, zero, suc, ◌+◌, ◌-◌, ◌<◌, ◌≤◌, Bool, true, false, cond, List, [], ◌∷◌, length, get_or, map, Option, Some, None, refl, sym, ap, ◌∙◌, subst, arith}
+use Rattle.std.specs.List.{find}
+use Rattle.std.specs.Str.{bytes_eq}
+use Rattle.std.proofs.lemmas.Slice.Eq.{bytes_eq-Decides}
+use Rattle.mj_dev.specs.Shelves.{Shelf, is_named, one_taken, after_take, left_of, principal}
+use Rattle.mj_jobs.specs.Rows.{Rows}
+use Rattle.mj_sys.specs.Devices.{Device, device_at, sessions_of}
+use Rattle.mj_sys.specs.Opening.{device_of}
+use Rattle.mj_sys.specs.Kept.{devices_of, AreTogether}
+
+abbrev sessions_in : Option Device → ℕ
+sessions_in o = elim o [ None ↦ 0 | Some d ↦ d.sessions ]
+
+-- two devices in the same place with as many sessions, where they are looked for
+at_first : (b : Bool) (d d' : Device) (rest rest' : Option Device) → (b ≡ true → d.sessions ≡ d'.sessions) → sessions_in rest ≡ sessions_in rest'
+    → sessions_in (cond b (Some d) rest) ≡ sessions_in (cond b (Some d') rest')
+at_first true d d' rest rest' first other = first refl
+at_first false d d' rest rest' first other = other
+
+-- how many sessions a name has doesn't depend on who holds them
+sessions_same : (p : ℕ) (name : List ℕ) (shelves : List Shelf) (holders holders' : List (Option ℕ)) → length holders ≡ length holders'
+    → sessions_of (devices_of p shelves holders) name ≡ sessions_of (devices_of p shelves holders') name
+sessions_same p name [] holders holders' same = refl
+sessions_same p name (s ∷ shelves) [] [] same = refl
+sessions_same p name (s ∷ shelves) [] (k ∷ holders') same = absurd (let no : ⊥ = omega (arith, same) in no)
+sessions_same p name (s ∷ shelves) (k ∷ holders) [] same = absurd (let no : ⊥ = omega (arith, same) in no)
+sessions_same p name (s ∷ shelves) (k ∷ holders) (k' ∷ holders') same =
+    at_first (bytes_eq s.name name) (device_of p s k) (device_of p s k') (device_at (devices_of p shelves holders) name) (device_at (devices_of p shelves holders') name)
+        (λ _. refl) (sessions_same p name shelves holders holders' (omega (arith, same)))
+
+-- there are as many principal sessions, whichever was taken
+sessions_taken : (p : ℕ) (name : List ℕ) (shelves : List Shelf) (holders : List (Option ℕ))
+    → sessions_of (devices_of p (after_take name shelves) holders) principal ≡ sessions_of (devices_of p shelves holders) principal
+sessions_taken p name [] holders = refl
+sessions_taken p name (s ∷ shelves) [] = none_of (is_named name s) where
+  none_of : (b : Bool) → sessions_of (devices_of p (cond b (one_taken s ∷ shelves) (s ∷ after_take name shelves)) []) principal ≡ 0
+  none_of true = refl
+  none_of false = refl
+sessions_taken p name (s ∷ shelves) (k ∷ holders) = one_of (is_named name s) (sessions_taken p name shelves holders) where
+  one_of : (b : Bool) → sessions_of (devices_of p (after_take name shelves) holders) principal ≡ sessions_of (devices_of p shelves holders) principal
+      → sessions_of (devices_of p (cond b (one_taken s ∷ shelves) (s ∷ after_take name shelves)) (k ∷ holders)) principal
+        ≡ sessions_of (devices_of p (s ∷ shelves) (k ∷ holders)) principal
+  one_of true rest =
+      let found = device_at (devices_of p shelves holders) principal in
+      at_first (bytes_eq s.name principal) (device_of p (one_taken s) k) (device_of p s k) found found
+          (λ is. ap (λ b. cond b p ((s.left - 1) + (s.taken + 1))) is ∙ sym (ap (λ b. cond b p (s.left + s.taken)) is)) refl
+  one_of false rest =
+      at_first (bytes_eq s.name principal) (device_of p s k) (device_of p s k) (device_at (devices_of p (after_take name shelves) holders) principal)
+          (device_at (devices_of p shelves holders) principal) (λ _. refl) rest
+
+abbrev left_in : Option Shelf → ℕ
+left_in o = elim o [ None ↦ 0 | Some s ↦ s.left ]
+
+-- a session of a name less
+left_less : (name : List ℕ) (shelves : List Shelf) → left_of name (after_take name shelves) ≡ left_of name shelves - 1
+left_less name [] = refl
+left_less name (s ∷ shelves) = by_name (is_named name s) refl (left_less name shelves) where
+  by_name : (b : Bool) → is_named name s ≡ b → left_of name (after_take name shelves) ≡ left_of name shelves - 1
+      → left_of name (cond b (one_taken s ∷ shelves) (s ∷ after_take name shelves)) ≡ left_in (cond b (Some s) (find (is_named name) shelves)) - 1
+  by_name true is rest = ap (λ b. left_in (cond b (Some (one_taken s)) (find (is_named name) shelves))) is
+  by_name false is rest = ap (λ b. left_in (cond b (Some s) (find (is_named name) (after_take name shelves)))) is ∙ rest
+
+-- and of the other names as many
+left_other : (name other : List ℕ) (shelves : List Shelf) → bytes_eq name other ≡ false → left_of other (after_take name shelves) ≡ left_of other shelves
+left_other name other [] apart = refl
+left_other name other (s ∷ shelves) apart = by_name (is_named name s) refl (left_other name other shelves apart) where
+  by_name : (b : Bool) → is_named name s ≡ b → left_of other (after_take name shelves) ≡ left_of other shelves
+      → left_of other (cond b (one_taken s ∷ shelves) (s ∷ after_take name shelves)) ≡ left_of other (s ∷ shelves)
+  by_name true is rest =
+      let not_it : bytes_eq s.name other ≡ false = ap (λ n. bytes_eq n other) ((bytes_eq-Decides s.name name).0 is) ∙ apart in
+      ap (λ b. left_in (cond b (Some (one_taken s)) (find (is_named other) shelves))) not_it
+      ∙ sym (ap (λ b. left_in (cond b (Some s) (find (is_named other) shelves))) not_it)
+  by_name false is rest = here (bytes_eq s.name other) rest where
+    here : (b : Bool) → left_of other (after_take name shelves) ≡ left_of other shelves
+        → left_in (cond b (Some s) (find (is_named other) (after_take name shelves))) ≡ left_in (cond b (Some s) (find (is_named other) shelves))
+    here true rest = refl
+    here false rest = rest
+
+length_taken : (name : List ℕ) (shelves : List Shelf) → length (after_take name shelves) ≡ length shelves
+length_taken name [] = refl
+length_taken name (s ∷ shelves) = by_name (is_named name s) (length_taken name shelves) where
+  by_name : (b : Bool) → length (after_take name shelves) ≡ length shelves → length (cond b (one_taken s ∷ shelves) (s ∷ after_take name shelves)) ≡ length (s ∷ shelves)
+  by_name true rest = refl
+  by_name false rest = ap suc rest
+
+-- other holders
+pub with_holders : (p : ℕ) (shelves : List Shelf) (holders holders' : List (Option ℕ)) (jobs : Rows) → AreTogether p shelves holders jobs
+    → length holders' ≡ length holders → AreTogether p shelves holders' jobs
+with_holders p shelves holders holders' jobs together same = record {
+  placed = same ∙ together.placed;
+  sessions = together.sessions;
+  known = sessions_same p principal shelves holders' holders same ∙ together.known;
+  room = together.room;
+}
+
+-- a session of another name than the principal one is taken
+pub with_session : (p : ℕ) (name : List ℕ) (shelves : List Shelf) (holders holders' : List (Option ℕ)) (jobs : Rows) → AreTogether p shelves holders jobs
+    → length holders' ≡ length holders → bytes_eq name principal ≡ false → AreTogether p (after_take name shelves) holders' jobs
+with_session p name shelves holders holders' jobs together same apart =
+    let t = with_holders p shelves holders holders' jobs together same in
+    record {
+      placed = t.placed ∙ sym (length_taken name shelves);
+      sessions = ap (λ n. n + jobs.claimed) (left_other name principal shelves apart) ∙ t.sessions;
+      known = sessions_taken p name shelves holders' ∙ t.known;
+      room = t.room;
+    }
+
+-- a row is claimed, and its job's principal session taken
+pub with_claim : (p : ℕ) (shelves : List Shelf) (holders : List (Option ℕ)) (jobs jobs' : Rows) → AreTogether p shelves holders jobs
+    → 0 < left_of principal shelves → jobs'.rows ≡ jobs.rows → jobs'.claimed ≡ jobs.claimed + 1 → AreTogether p (after_take principal shelves) holders jobs'
+with_claim p shelves holders jobs jobs' together some rows claimed = record {
+  placed = together.placed ∙ sym (length_taken principal shelves);
+  sessions = let e = left_less principal shelves in let f = together.sessions in omega (arith, e, f, some, claimed);
+  known = sessions_taken p principal shelves holders ∙ together.known;
+  room = subst (λ r. length r ≤ p) (sym rows) together.room;
+}
