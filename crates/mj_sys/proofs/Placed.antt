@@ -1,13 +1,14 @@
 -- The devices of a pool, by the place of a name.
 use Rattle.std.proofs.Common.{◌≡◌, ℕ, zero, suc, ◌+◌, ◌-◌, ◌<◌, ◌≤◌, Bool, true, false, cond, List, [], ◌∷◌, length, get_or, map, replicate, Option, Some, None, refl, sym, ap, ◌∙◌, subst, arith}
-use Rattle.std.specs.Prelude.{◌==◌}
+use Rattle.std.specs.Prelude.{◌==◌, nat_lt}
 use Rattle.std.proofs.Math.ListN.{set}
 use Rattle.std.specs.List.{find, position}
 use Rattle.std.specs.Str.{bytes_eq}
-use Rattle.std.proofs.lemmas.List.{set-get_or}
+use Rattle.std.proofs.lemmas.List.{set-get_or, get_or_default}
+use Rattle.std.proofs.lemmas.Slice.Eq.{bytes_eq-Decides}
 use Rattle.std.proofs.lemmas.List.Quantifiers.{position-Some}
-use Rattle.mj_dev.specs.Shelves.{Shelf, is_named, one_taken, after_take, principal}
-use Rattle.mj_dev.proofs.Shelves.{found-none, with_first-at}
+use Rattle.mj_dev.specs.Shelves.{Shelf, is_named, one_taken, after_take, left_of, principal}
+use Rattle.mj_dev.proofs.Shelves.{found-none, found-named, with_first-at}
 use Rattle.mj_sys.specs.Devices.{Device, Devices, device_at, sessions_of, with_device, is_held_by, opened_by, closed_by, freed}
 use Rattle.mj_sys.specs.Opening.{device_of, free_devices}
 use Rattle.mj_sys.specs.Kept.{devices_of, without}
@@ -138,3 +139,39 @@ opened_there p job name shelves holders at s same is here other some =
         (ap (λ (x : Shelf). opened_by job (device_of p x (get_or holders at None))) (sym here) ∙ taken_if (bytes_eq s.name principal) p job s other some)
     ∙ ap (λ l. devices_of p l (set holders at (Some job)))
         (ap (λ (x : Shelf). set shelves at (one_taken x)) here ∙ sym (with_first-at (is_named name) one_taken shelves at s there.within there.here there.before))
+
+-- What is known of a name other than the principal one at its place.
+pub record IsPlaced (p : ℕ) (name : List ℕ) (shelves : List Shelf) (holders : List (Option ℕ)) (at : ℕ) (h : Option ℕ) : Type 0 where
+  pub shelf : Shelf
+  pub here : shelf ≡ get_or shelves at shelf
+  pub device : device_at (devices_of p shelves holders) name ≡ Some (device_of p shelf (get_or holders at h))
+  pub other : bytes_eq shelf.name principal ≡ false
+  pub left : left_of name shelves ≡ shelf.left
+
+pub placed : (p : ℕ) (name : List ℕ) (shelves : List Shelf) (holders : List (Option ℕ)) (at : ℕ) (h : Option ℕ) → length holders ≡ length shelves
+    → position (is_named name) shelves ≡ Some at → bytes_eq name principal ≡ false → IsPlaced p name shelves holders at h
+placed p name shelves holders at h same is other =
+    let d : Shelf = record { name = name; left = 0; taken = 0 } in
+    let there = found name shelves at d is in
+    let s = get_or shelves at d in
+    let here : s ≡ get_or shelves at s = get_or_default shelves at d s there.within in
+    record {
+      shelf = s;
+      here = here;
+      device = device_there p name shelves holders at d h same there;
+      other = ap (λ n. bytes_eq n principal) ((bytes_eq-Decides s.name name).0 there.here) ∙ other;
+      left = (found-named name shelves at s is here).left;
+    }
+
+-- whether another name has a session left
+pub none_left : (p : ℕ) (s : Shelf) (k : Option ℕ) → bytes_eq s.name principal ≡ false → s.left ≡ 0 → nat_lt (device_of p s k).taken (device_of p s k).sessions ≡ false
+none_left p s k other none = at (bytes_eq s.name principal) other where
+  at : (b : Bool) → b ≡ false → nat_lt (cond b 0 s.taken) (cond b p (s.left + s.taken)) ≡ false
+  at true is = absurd (let no : ⊥ = cc in no)
+  at false is = grind (arith, none)
+
+pub some_left : (p : ℕ) (s : Shelf) (k : Option ℕ) → bytes_eq s.name principal ≡ false → 0 < s.left → nat_lt (device_of p s k).taken (device_of p s k).sessions ≡ true
+some_left p s k other some = at (bytes_eq s.name principal) other where
+  at : (b : Bool) → b ≡ false → nat_lt (cond b 0 s.taken) (cond b p (s.left + s.taken)) ≡ true
+  at true is = absurd (let no : ⊥ = cc in no)
+  at false is = grind (arith, some)

@@ -4,7 +4,9 @@ use Rattle.std.specs.List.{find}
 use Rattle.std.specs.Str.{bytes_eq}
 use Rattle.std.proofs.lemmas.Slice.Eq.{bytes_eq-Decides}
 use Rattle.mj_dev.specs.Shelves.{Shelf, is_named, one_taken, after_take, left_of, principal}
-use Rattle.mj_jobs.specs.Rows.{Rows}
+use Rattle.std.specs.Prelude.{slice_get, slice_set}
+use Rattle.std.proofs.lemmas.List.{length-set}
+use Rattle.mj_jobs.specs.Rows.{Row, Rows, with_ended}
 use Rattle.mj_sys.specs.Devices.{Device, device_at, sessions_of}
 use Rattle.mj_sys.specs.Opening.{device_of}
 use Rattle.mj_sys.specs.Kept.{devices_of, AreTogether}
@@ -115,3 +117,21 @@ with_claim p shelves holders jobs jobs' together some rows claimed = record {
   known = sessions_taken p principal shelves holders ∙ together.known;
   room = subst (λ r. length r ≤ p) (sym rows) together.room;
 }
+
+-- other rows, as many
+pub with_rows : (p : ℕ) (shelves : List Shelf) (holders : List (Option ℕ)) (jobs jobs' : Rows) → AreTogether p shelves holders jobs
+    → length jobs'.rows ≡ length jobs.rows → jobs'.claimed ≡ jobs.claimed → AreTogether p shelves holders jobs'
+with_rows p shelves holders jobs jobs' together rows claimed = record {
+  placed = together.placed;
+  sessions = ap (λ n. left_of principal shelves + n) claimed ∙ together.sessions;
+  known = together.known;
+  room = subst (λ n. n ≤ p) (sym rows) together.room;
+}
+
+-- the end of a job leaves as many rows
+pub length-ended : (rows : List Row) (job : ℕ) → length (with_ended rows job) ≡ length rows
+length-ended rows zero = refl
+length-ended rows (suc k) = of (slice_get rows k) where
+  of : (found : Option Row) → length {A = Row} (elim found as (λ _. List Row) [ None ↦ rows | Some row ↦ slice_set rows k (record row { ended = true }) ]) ≡ length rows
+  of None = refl
+  of (Some row) = length-set rows k (record row { ended = true })

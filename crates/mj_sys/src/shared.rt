@@ -1,6 +1,7 @@
 // What all jobs share.
 
 ghost use Rattle.std.specs.Prelude.{◌≡◌, ◌+◌, ◌≤◌, ◌↔◌, ℤ, length, map, replicate, true, None, Some, if◌then◌else◌, IfOk, IfErr, OnErr, IfSome, IfNone, IsTrue};
+ghost use Rattle.std.specs.Str.{bytes_eq};
 ghost use Rattle.mj_ask.specs.Fits.{is_shared};
 ghost use Rattle.mj_ask.specs.declared.ask.Ask.TheVariants as asks;
 ghost use Rattle.mj_dev.specs.Heard.{IsNew};
@@ -99,7 +100,7 @@ impl<D: Device> Shared<D> {
                 });
             }
         };
-        let principals = pool.left(&Text::from_number(alloc, 0));
+        let principals = pool.left(&principal(alloc));
         Ok(Shared {
             alloc,
             globals,
@@ -162,7 +163,7 @@ impl<D: Device> Shared<D> {
         let Some(claimed) = self.jobs.claim()? else {
             return Ok(None);
         };
-        match self.pool.take(&Text::from_number(self.alloc, 0)) {
+        match self.pool.take(&principal(self.alloc)) {
             Some(session) => Ok(Some((claimed, session))),
             // there is a principal session for each row
             None => unreachable!(),
@@ -245,7 +246,7 @@ impl<D: Device> Shared<D> {
         ensures ok { IfOk result (λ outcome. Comes self.old job (asks.Open name.now timeout) late outcome self.new) }
         ensures err { OnErr result (self.new ≡ self.old) }
     {
-        if *name == Text::from_number(self.alloc, 0) {
+        if is_principal(self.alloc, name) {
             return Ok(Outcome::Told(Reply::Got, Reply::Got));
         }
         let Some(place) = self.pool.place(name) else {
@@ -337,6 +338,20 @@ fn nobody(alloc: Global, names: usize) -> Result<Vec<Option<u32>>, AllocError>
     let mut holders = Vec::new(alloc);
     holders.resize(names, None)?;
     Ok(holders)
+}
+
+// The name of each job's principal device.
+fn principal(alloc: Global) -> Text
+    ensures { result ≡ principal }
+{
+    Text::from_number(alloc, 0)
+}
+
+// Whether it is that name.
+fn is_principal(alloc: Global, name: &Text) -> bool
+    ensures { result ≡ bytes_eq name.now principal }
+{
+    *name == principal(alloc)
 }
 
 // Ends the job's hold, if it is the holder.
