@@ -175,3 +175,27 @@ some_left p s k other some = at (bytes_eq s.name principal) other where
   at : (b : Bool) → b ≡ false → nat_lt (cond b 0 s.taken) (cond b p (s.left + s.taken)) ≡ true
   at true is = absurd (let no : ⊥ = cc in no)
   at false is = grind (arith, some)
+
+-- ---- rows that are claimed, and the beginning
+
+-- a principal session that goes to its job changes no device
+pub same_devices : (p : ℕ) (shelves : List Shelf) (holders : List (Option ℕ)) → devices_of p (after_take principal shelves) holders ≡ devices_of p shelves holders
+same_devices p [] holders = refl
+same_devices p (s ∷ shelves) [] = none (is_named principal s) where
+  none : (b : Bool) → devices_of p (cond b (one_taken s ∷ shelves) (s ∷ after_take principal shelves)) [] ≡ []
+  none true = refl
+  none false = refl
+same_devices p (s ∷ shelves) (k ∷ holders) = by_name (is_named principal s) refl (same_devices p shelves holders) where
+  with : ℕ → ℕ → Device
+  with sessions taken = record { name = s.name; sessions = sessions; taken = taken; holder = k }
+  by_name : (b : Bool) → is_named principal s ≡ b → devices_of p (after_take principal shelves) holders ≡ devices_of p shelves holders
+      → devices_of p (cond b (one_taken s ∷ shelves) (s ∷ after_take principal shelves)) (k ∷ holders) ≡ device_of p s k ∷ devices_of p shelves holders
+  by_name true is rest =
+      ap (λ b. with (cond b p ((s.left - 1) + (s.taken + 1))) (cond b 0 (s.taken + 1)) ∷ devices_of p shelves holders) is
+      ∙ sym (ap (λ b. with (cond b p (s.left + s.taken)) (cond b 0 s.taken) ∷ devices_of p shelves holders) is)
+  by_name false is rest = ap (λ l. device_of p s k ∷ l) rest
+
+-- where nobody holds a device
+pub free_all : (p : ℕ) (shelves : List Shelf) → devices_of p shelves (replicate (length shelves) None) ≡ free_devices p shelves
+free_all p [] = refl
+free_all p (s ∷ shelves) = ap (λ l. device_of p s None ∷ l) (free_all p shelves)

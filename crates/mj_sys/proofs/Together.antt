@@ -1,13 +1,16 @@
 -- What is kept beside each other stays together: the sessions of a pool, their holders and the rows.
-use Rattle.std.proofs.Common.{◌≡◌, ℕ, zero, suc, ◌+◌, ◌-◌, ◌<◌, ◌≤◌, Bool, true, false, cond, List, [], ◌∷◌, length, get_or, map, Option, Some, None, refl, sym, ap, ◌∙◌, subst, arith}
+use Rattle.std.proofs.Common.{◌≡◌, ℕ, zero, suc, ◌+◌, ◌-◌, ◌<◌, ◌≤◌, Bool, true, false, cond, List, [], ◌∷◌, length, get_or, map, replicate, Option, Some, None, refl, sym, ap, ◌∙◌, subst, arith}
 use Rattle.std.specs.List.{find}
 use Rattle.std.specs.Str.{bytes_eq}
 use Rattle.std.proofs.lemmas.Slice.Eq.{bytes_eq-Decides}
+use Rattle.mj_ask.specs.Started.{Started}
 use Rattle.mj_dev.specs.Shelves.{Shelf, is_named, one_taken, after_take, left_of, principal}
 use Rattle.std.specs.Prelude.{slice_get, slice_set}
-use Rattle.std.proofs.lemmas.List.{length-set}
-use Rattle.mj_jobs.specs.Rows.{Row, Rows, with_ended}
-use Rattle.mj_sys.specs.Devices.{Device, device_at, sessions_of}
+use Rattle.std.specs.Option.{IfSome}
+use Rattle.std.proofs.lemmas.Option.{slice_get_within}
+use Rattle.std.proofs.lemmas.List.{length-set, length-map, length-replicate}
+use Rattle.mj_jobs.specs.Rows.{Row, Rows, row_at, opened, with_ended}
+use Rattle.mj_sys.specs.Devices.{Device, Devices, device_at, sessions_of}
 use Rattle.mj_sys.specs.Opening.{device_of}
 use Rattle.mj_sys.specs.Kept.{devices_of, AreTogether}
 
@@ -135,3 +138,38 @@ length-ended rows (suc k) = of (slice_get rows k) where
   of : (found : Option Row) → length {A = Row} (elim found as (λ _. List Row) [ None ↦ rows | Some row ↦ slice_set rows k (record row { ended = true }) ]) ≡ length rows
   of None = refl
   of (Some row) = length-set rows k (record row { ended = true })
+
+-- the beginning
+principals_of : (p : ℕ) (shelves : List Shelf) → sessions_of (devices_of p shelves (replicate (length shelves) None)) principal
+    ≡ elim (find (is_named principal) shelves) as (λ _. ℕ) [ None ↦ 0 | Some s ↦ p ]
+principals_of p [] = refl
+principals_of p (s ∷ shelves) = by_name (bytes_eq s.name principal) refl (principals_of p shelves) where
+  rest : Devices
+  rest = devices_of p shelves (replicate (length shelves) None)
+  by_name : (b : Bool) → bytes_eq s.name principal ≡ b
+      → sessions_of rest principal ≡ elim (find (is_named principal) shelves) as (λ _. ℕ) [ None ↦ 0 | Some s ↦ p ]
+      → sessions_in (cond b (Some (device_of p s None)) (device_at rest principal))
+        ≡ elim (cond b (Some s) (find (is_named principal) shelves)) as (λ _. ℕ) [ None ↦ 0 | Some s ↦ p ]
+  by_name true is next = ap (λ b. cond b p (s.left + s.taken)) is
+  by_name false is next = next
+
+pub at_first_together : (shelves : List Shelf) (starts : List Started) → length starts ≤ left_of principal shelves
+    → AreTogether (left_of principal shelves) shelves (replicate (length shelves) None) (record { rows = map opened starts; claimed = 0 })
+at_first_together shelves starts fits = record {
+  placed = length-replicate (length shelves) None;
+  sessions = let p = left_of principal shelves in let e : p + 0 ≡ p = omega arith in e;
+  known = principals_of (left_of principal shelves) shelves ∙ same (find (is_named principal) shelves);
+  room = subst (λ n. n ≤ left_of principal shelves) (sym (length-map starts opened)) fits;
+} where
+  same : (o : Option Shelf) → elim o as (λ _. ℕ) [ None ↦ 0 | Some s ↦ left_in o ] ≡ left_in o
+  same None = refl
+  same (Some s) = refl
+
+-- a row that isn't claimed is within the rows
+pub row_within : (rows : List Row) (job n : ℕ) (row : Row) → job ≡ n + 1 → row_at rows job ≡ Some row → n < length rows
+row_within rows zero n row is there = absurd (let no : ⊥ = cc in no)
+row_within rows (suc k) n row is there = let below = slice_get_within rows k row there in omega (arith, is, below)
+
+-- what holds where there is something holds of it
+pub some_is : {A : Type 0} (o : Option A) (x : A) (P : A → Type 0) → o ≡ Some x → IfSome o P → P x
+some_is o x P is holds = subst (λ u. IfSome u P) is holds

@@ -17,7 +17,7 @@ holders_are : (g : Over) (c : goal.After-end g) → (with_items c.self.inside.ho
 holders_are g c =
     let new = c.release_all.ensures ∙ ap (λ l. map (without c.args.job) l) c.deref_mut.ensures.value in
     let long : length c.release_all.new.holders ≡ c.self.inside.holders.len =
-    ap (λ l. length l) new ∙ length-map (without c.args.job) c.self.inside.holders.items ∙ sym c.self.inside.holders.ok.0 in
+    ap (λ l. length l) new ∙ length-map c.self.inside.holders.items (without c.args.job) ∙ sym c.self.inside.holders.ok.0 in
     with_items_is c.self.inside.holders c.release_all.new.holders long ∙ new
 
 pub invariant_of-self : goal.invariant_of-self
@@ -27,7 +27,7 @@ invariant_of-self g c =
     let t = with_rows i.principals i.pool i.holders.items i.jobs ended c.self.invariant
         (ap (λ (r : Rows). length r.rows) c.end.ensures ∙ length-ended i.jobs.rows c.args.job) (ap (λ (r : Rows). r.claimed) c.end.ensures) in
     with_holders i.principals i.pool i.holders.items _ ended t
-        (ap (λ l. length l) (holders_are g c) ∙ length-map (without c.args.job) i.holders.items)
+        (ap (λ l. length l) (holders_are g c) ∙ length-map i.holders.items (without c.args.job))
 
 pub returns : goal.returns
 returns g c =
@@ -43,7 +43,7 @@ returns g c =
       claimed = i.jobs.claimed;
     } in
     let ended : Rows = c.end.new.self in
-    ap (λ locks. of locks holders ended) c.give_all.ensures.after
+    ap (λ locks. of locks (with_items i.holders c.release_all.new.holders).items ended) c.give_all.ensures.after
     ∙ ap (λ l. of (after_give_all i.locks job) l ended) (holders_are g c)
     ∙ ap (λ r. of (after_give_all i.locks job) (map (without job) i.holders.items) r) c.end.ensures
     ∙ ap (λ d. of_devices d) (sym (freed_all i.principals job i.pool i.holders.items))
