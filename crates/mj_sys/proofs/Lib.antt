@@ -3,4 +3,5 @@ mod Fitting
 mod Each
 mod Opens
 mod Placed
+mod Replays
 mod Together

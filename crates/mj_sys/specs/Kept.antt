@@ -1,7 +1,9 @@
 -- What is shared, as it is kept.
-use Rattle.std.specs.Prelude.{◌≡◌, ℕ, ◌+◌, ◌≤◌, ◌==◌, if◌then◌else◌, List, [], ◌∷◌, length, Bool, true, false, Option, Some, None}
+use Rattle.std.specs.Prelude.{◌≡◌, ℕ, ◌+◌, ◌-◌, ◌≤◌, ◌==◌, ◌++◌, slice_set, if◌then◌else◌, List, [], ◌∷◌, length, Bool, true, false, Option, Some, None}
+use Rattle.std.specs.List.{slice_index_or}
 use Rattle.mj_ask.specs.declared.ask.Ask.{Ask}
 
+use Rattle.mj_ask.specs.declared.ask.Reply.{Reply}
 use Rattle.mj_ask.specs.declared.ask.Reply.TheVariants as replies
 use Rattle.mj_dev.specs.Heard.{Heard, IsNew}
 use Rattle.mj_dev.specs.Shelves.{Shelf, principal, left_of}
@@ -9,7 +11,10 @@ use Rattle.mj_jobs.specs.Rows.{Rows}
 use Rattle.mj_sys.specs.Devices.{Devices, sessions_of}
 use Rattle.mj_sys.specs.Opening.{device_of}
 use Rattle.mj_sys.specs.Shared.{Shared, served, takes_session}
-use Rattle.mj_sys.specs.System.{Keeps}
+use Rattle.mj_sys.specs.History.{History}
+use Rattle.mj_sys.specs.System.{Keeps, Claimed}
+use Rattle.mj_sys.specs.declared.served.Served.{Served}
+use Rattle.mj_sys.specs.declared.served.Served.TheVariants as serveds
 use Rattle.mj_sys.specs.declared.shared.Outcome.{Outcome}
 use Rattle.mj_sys.specs.declared.shared.Outcome.TheVariants as outcomes
 
@@ -51,3 +56,32 @@ Comes old job ask late (outcomes.Busy holder held) new = (served old.state job a
 abbrev pub without : ℕ → Option ℕ → Option ℕ
 without job None = None
 without job (Some holder) = if holder == job then None else Some holder
+
+-- what the job is told of it
+abbrev pub told_of : {S : Type 0} → Outcome S → Served S
+told_of (outcomes.Told reply again) = serveds.Reply reply
+told_of (outcomes.Opened session) = serveds.Opened session
+told_of (outcomes.Busy holder held) = serveds.Busy holder held
+
+-- the reply that is written down, none where it is busy
+abbrev pub kept_reply : {S : Type 0} → Outcome S → Option Reply
+kept_reply (outcomes.Told reply again) = Some again
+kept_reply (outcomes.Opened session) = Some replies.Got
+kept_reply (outcomes.Busy holder held) = None
+
+-- The event is written down: the history has it at its end, its job's count is one more, and the claim's too. Where there is no reply, all
+-- stays.
+abbrev pub IsWritten : Option Reply → Ask → History → List ℕ → Claimed → History → List ℕ → Claimed → Type 0
+IsWritten None ask history counts claim history' counts' claim' = (history' ≡ history) × (counts' ≡ counts) × (claim' ≡ claim)
+IsWritten (Some reply) ask history counts claim history' counts' claim' =
+    (history' ≡ history ++ record { job = claim.job; ask = ask; reply = reply } ∷ [])
+    × (counts' ≡ slice_set counts (claim.job - 1) (slice_index_or counts (claim.job - 1) 0 + 1))
+    × (claim' ≡ record claim { events = claim.events + 1 })
+
+-- the ask is served, and what came of it is told and written down
+pub record Goes (old : Service) (history : History) (counts : List ℕ) (claim : Claimed) (ask : Ask) (late : Bool) (told : Served Heard)
+    (new : Service) (history' : History) (counts' : List ℕ) (claim' : Claimed) : Type 0 where
+  pub outcome : Outcome Heard
+  pub comes : Comes old claim.job ask late outcome new
+  pub is_told : told ≡ told_of outcome
+  pub is_written : IsWritten (kept_reply outcome) ask history counts claim history' counts' claim'

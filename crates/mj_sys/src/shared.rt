@@ -170,8 +170,25 @@ impl<D: Device> Shared<D> {
         }
     }
 
-    // Serves an ask of a job.
+    // Serves an ask of a job. Names of different jobs don't overlap then either.
     pub fn serve(
+        &mut self,
+        job: u32,
+        ask: &Ask,
+        late: bool,
+    ) -> Result<Outcome<Session<D>>, AllocError>
+        requires { is_shared ask.now ≡ true }
+        ensures ok { IfOk result (λ outcome. Comes self.old job ask.now late outcome self.new) }
+        ensures apart { LocksApart self.new.state.locks }
+        ensures err { OnErr result (self.new ≡ self.old) }
+    {
+        let outcome = self.answer(job, ask, late);
+        self.locks.keeps();
+        outcome
+    }
+
+    // Answers it by its kind.
+    fn answer(
         &mut self,
         job: u32,
         ask: &Ask,

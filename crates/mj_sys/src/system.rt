@@ -1,6 +1,6 @@
 // The system: what is shared, beside the history that left it so.
 
-ghost use Rattle.std.specs.Prelude.{◌≡◌, ◌+◌, ◌<◌, ◌≤◌, ◌↔◌, [], length, Some, IfOk, IfErr, OnErr, IfSome, IfNone, IsTrue};
+ghost use Rattle.std.specs.Prelude.{◌≡◌, ℕ, true, ◌+◌, ◌<◌, ◌≤◌, ◌↔◌, ◌-◌, ◌^◌, ◌∷◌, ◌++◌, [], length, slice_set, slice_index_or, vec_len, vec_capacity, Some, IfOk, IfErr, OnOk, OnErr, IfSome, IfNone, IsTrue};
 ghost use Rattle.mj_ask.specs.Fits.{is_shared};
 ghost use Rattle.mj_dev.specs.Heard.{IsNew};
 ghost use Rattle.mj_dev.specs.Shelves.{principal, left_of};
@@ -8,8 +8,10 @@ ghost use Rattle.mj_jobs.specs.Rows.{Row, row_at, IsLive, rows_limit};
 ghost use Rattle.mj_locktab.specs.Locks.{LocksApart};
 ghost use Rattle.mj_sys.specs.Opening.{opening_of};
 ghost use Rattle.mj_sys.specs.History.{state_of, AreServed, events_of, log_of};
-ghost use Rattle.mj_sys.specs.System.{history_limit, KeepsRows};
-ghost use Rattle.mj_sys.specs.Told.{Serves, IsRefused};
+ghost use Rattle.mj_sys.specs.System.{history_limit};
+ghost use Rattle.mj_sys.specs.Told.{Serves, IsRefused, IsTurn};
+ghost use Rattle.mj_sys.specs.Kept.{Goes, IsWritten, kept_reply, told_of};
+ghost use Rattle.mj_sys.specs.declared.served.Refused.TheVariants as refusals;
 
 use crate::claim::Claim;
 use crate::event::Event;
@@ -105,39 +107,32 @@ impl<D: Device, O: Opening> System<D, O> {
         ensures refused { IfErr result (λ why. IsRefused O.opening self.old claim.old why) }
         ensures kept { OnErr result ((self.new ≡ self.old) × (claim.new ≡ claim.old)) }
     {
-        let job = claim.job();
-        let expected = self.events(job);
-        let is_turn = job as usize <= self.shared.claimed()
-            && self.shared.is_live(job)
-            && claim.events() == expected;
-        if !is_turn {
-            return Err(Refused::Turn { expected });
+        if !self.is_turn(claim) {
+            return Err(Refused::Turn {
+                expected: self.events(claim.job()),
+            });
         }
         if self.history.len() >= HISTORY_LIMIT {
             return Err(Refused::Full);
         }
-        if self.history.reserve(1).is_err() {
-            return Err(Refused::Memory);
-        }
-        let Ok(copy) = ask.try_clone() else {
-            return Err(Refused::Memory);
-        };
-        let Ok(outcome) = self.shared.serve(job, ask, late) else {
-            return Err(Refused::Memory);
-        };
-        let (served, reply) = match outcome {
-            Outcome::Busy(holder, held) => return Ok(Served::Busy { holder, held }),
-            Outcome::Told(reply, again) => (Served::Reply(reply), again),
-            Outcome::Opened(session) => (Served::Opened(session), Reply::Got),
-        };
-        self.history.push_reserved(Event {
-            job,
-            ask: copy,
-            reply,
-        });
-        self.counts[job as usize - 1] += 1;
-        claim.count();
-        Ok(served)
+        serve_next(
+            &mut self.shared,
+            &mut self.history,
+            &mut self.counts,
+            claim,
+            ask,
+            late,
+        )
+    }
+
+    // Whether it is the claim's turn.
+    fn is_turn(&self, claim: &Claim) -> bool
+        ensures { IsTrue result ↔ IsTurn O.opening self.now claim.now }
+    {
+        let job = claim.job();
+        job as usize <= self.shared.claimed()
+            && self.shared.is_live(job)
+            && claim.events() == self.events(job)
     }
 
     /// The events, in order. Each was served on what those before it had left.
@@ -164,7 +159,7 @@ impl<D: Device, O: Opening> System<D, O> {
         self.shared.locks()
     }
 
-    /// How many rows there are. Those of the opening and of each job that was started are among them, each with its start, whatever was served.
+    /// How many rows there are, ended ones among them.
     pub fn rows(&self) -> usize
         ensures value { result ≡ length (state_of O.opening self.now.history).rows }
         ensures bound { result ≤ rows_limit }
@@ -194,7 +189,107 @@ impl<D: Device, O: Opening> System<D, O> {
     {
         match job.checked_sub(1) {
             None => 0,
-            Some(at) => self.counts.get(at as usize).copied().unwrap_or(0),
+            Some(at) => match self.counts.get(at as usize) {
+                None => 0,
+                Some(count) => *count,
+            },
         }
     }
+}
+
+// Serves the ask, and writes down what comes of it.
+fn serve_next<D: Device>(
+    shared: &mut Shared<D>,
+    history: &mut Vec<Event>,
+    counts: &mut Vec<u64>,
+    claim: &mut Claim,
+    ask: &Ask,
+    late: bool,
+) -> Result<Served<Session<D>>, Refused>
+    requires shared { is_shared ask.now ≡ true }
+    requires place { claim.old.job ≤ length counts.old.items }
+    requires few { slice_index_or counts.old.items (claim.old.job - 1) 0 < 2 ^ 64 - 1 }
+    requires few_claimed { claim.old.events < 2 ^ 64 - 1 }
+    ensures ok { IfOk result (λ told. Goes shared.old history.old.items counts.old.items claim.old ask.now late told shared.new history.new.items counts.new.items claim.new) }
+    ensures apart { LocksApart shared.new.state.locks }
+    ensures err { IfErr result (λ why. why ≡ refusals.Memory) }
+    ensures kept { OnErr result ((shared.new ≡ shared.old) × (history.new.items ≡ history.old.items) × (counts.new.items ≡ counts.old.items) × (claim.new ≡ claim.old)) }
+{
+    let copy = match room_and_copy(history, ask) {
+        Ok(copy) => copy,
+        Err(_) => {
+            shared.locks();
+            return Err(Refused::Memory);
+        }
+    };
+    match shared.serve(claim.job(), ask, late) {
+        Ok(outcome) => Ok(tell(history, counts, claim, copy, outcome)),
+        Err(_) => {
+            drop(copy);
+            Err(Refused::Memory)
+        }
+    }
+}
+
+// Makes room for an event of this ask, and copies it.
+fn room_and_copy(history: &mut Vec<Event>, ask: &Ask) -> Result<Ask, AllocError>
+    ensures same { history.new.items ≡ history.old.items }
+    ensures room { OnOk result (vec_len history.new < vec_capacity history.new) }
+    ensures copy { IfOk result (λ copy. copy ≡ ask.now) }
+{
+    history.reserve(1)?;
+    ask.try_clone()
+}
+
+// Tells what came of an ask, and writes it down.
+fn tell<S>(
+    history: &mut Vec<Event>,
+    counts: &mut Vec<u64>,
+    claim: &mut Claim,
+    ask: Ask,
+    outcome: Outcome<S>,
+) -> Served<S>
+    requires room { vec_len history.old < vec_capacity history.old }
+    requires place { claim.old.job ≤ length counts.old.items }
+    requires few { slice_index_or counts.old.items (claim.old.job - 1) 0 < 2 ^ 64 - 1 }
+    requires few_claimed { claim.old.events < 2 ^ 64 - 1 }
+    ensures told { result ≡ told_of outcome }
+    ensures written { IsWritten (kept_reply outcome) ask history.old.items counts.old.items claim.old history.new.items counts.new.items claim.new }
+{
+    match outcome {
+        Outcome::Told(reply, again) => {
+            write_down(history, counts, claim, ask, again);
+            Served::Reply(reply)
+        }
+        Outcome::Opened(session) => {
+            write_down(history, counts, claim, ask, Reply::Got);
+            Served::Opened(session)
+        }
+        Outcome::Busy(holder, held) => {
+            drop(ask);
+            Served::Busy { holder, held }
+        }
+    }
+}
+
+// Writes an event of the claim's job down, and counts it.
+fn write_down(
+    history: &mut Vec<Event>,
+    counts: &mut Vec<u64>,
+    claim: &mut Claim,
+    ask: Ask,
+    reply: Reply,
+)
+    requires room { vec_len history.old < vec_capacity history.old }
+    requires place { claim.old.job ≤ length counts.old.items }
+    requires few { slice_index_or counts.old.items (claim.old.job - 1) 0 < 2 ^ 64 - 1 }
+    requires few_claimed { claim.old.events < 2 ^ 64 - 1 }
+    ensures history { history.new.items ≡ history.old.items ++ record { job = claim.old.job; ask = ask; reply = reply } ∷ [] }
+    ensures counts { counts.new.items ≡ slice_set counts.old.items (claim.old.job - 1) (slice_index_or counts.old.items (claim.old.job - 1) 0 + 1) }
+    ensures claim { claim.new ≡ record claim.old { events = claim.old.events + 1 } }
+{
+    let job = claim.job();
+    history.push_reserved(Event { job, ask, reply });
+    counts[job as usize - 1] += 1;
+    claim.count();
 }

@@ -1,0 +1,22 @@
+use Rattle.std.proofs.Common.{◌≡◌, ℕ, ◌<◌, ap, sym, ◌∙◌, arith}
+use Rattle.mj_sys.specs.History.{events_of}
+use Rattle.mj_sys.specs.System.{Recorded}
+use Rattle.mj_sys.proofs.Replays.{none_of_0, no_events}
+use Rattle.mj_sys.proofs.system.System.events.Goals as goal
+
+pub returns-in-None : goal.returns-in-None
+returns-in-None g c =
+    let job = c.args.job in
+    let none = c.in-None.ensures in
+    let is : job ≡ 0 = omega (arith, none) in
+    sym (ap (λ (r : Recorded). events_of job r.history) (sym c.self.view_is)
+        ∙ ap (λ j. events_of j c.self.inside.history.items) is
+        ∙ none_of_0 g.O.Opening.opening c.self.inside.history.items c.self.invariant.0.served)
+
+pub returns-in-None-get : goal.returns-in-None-get
+returns-in-None-get g c =
+    let job = c.args.job in
+    let i = c.self.inside in
+    let above : i.shared.claimed < job = ? in
+    sym (ap (λ (r : Recorded). events_of job r.history) (sym c.self.view_is)
+        ∙ no_events job i.history.items (c.self.invariant.0.unclaimed job above))
