@@ -1,3 +1,3 @@
 pub mod Talks
 mod Places
-mod Shelves
+pub mod Shelves

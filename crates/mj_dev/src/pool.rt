@@ -1,6 +1,6 @@
 // The devices that no job has yet.
 
-ghost use Rattle.std.specs.Prelude.{◌≡◌, ◌≤◌, ◌<◌, ◌↔◌, [], map, position, IsTrue, IfOk, IfErr, IfSome, IfNone, OnOk, OnErr};
+ghost use Rattle.std.specs.Prelude.{◌≡◌, ◌≤◌, ◌<◌, ◌↔◌, [], map, length, position, IsTrue, IfOk, IfErr, IfSome, IfNone, OnOk, OnErr};
 ghost use Rattle.mj_dev.specs.Heard.{IsFresh, IsNew};
 ghost use Rattle.mj_dev.specs.Shelves.{Shelf, AreRising, added, after_take, left_of, taken_of, count_of, principal, is_named, is_behind, IsThere, Belongs};
 
@@ -104,6 +104,20 @@ impl<D: Device> Pool<D> {
         ensures { IsTrue result ↔ (jobs ≤ left_of principal self.now) }
     {
         jobs <= self.left(&Text::from_number(self.alloc, 0))
+    }
+
+    /// How many names there are.
+    pub fn len(&self) -> usize
+        ensures { result ≡ length self.now }
+    {
+        self.rows.len()
+    }
+
+    /// Where a name stands among the names. It stays there as long as none is added.
+    pub fn place(&self, name: &Text) -> Option<usize>
+        ensures { result ≡ position (is_named name.now) self.now }
+    {
+        place_of(self.rows.as_slice(), name)
     }
 
     /// Each name with the number of all its devices, those that were taken among them, in order of the names by bytes.

@@ -2,6 +2,7 @@
 
 ghost use Rattle.std.specs.Prelude.{◌≡◌, ◌+◌, ◌<◌, ◌≤◌, ◌↔◌, ◌++◌, ◌∷◌, [], length, map, Some, IfOk, IfErr, OnOk, OnErr, IfSome, IfNone, IsTrue};
 ghost use Rattle.mj_jobs.specs.Rows.{Row, Rows, rows_limit, row_at, opened, with_ended, IsLive};
+ghost use Rattle.mj_jobs.specs.Kept.{row_of};
 
 use mj_ask::Start;
 use std::alloc::{AllocError, Global};
@@ -53,6 +54,21 @@ impl Jobs {
         }
     }
 
+    /// A row for each of the starts, in order. They come back where memory is refused.
+    pub fn of(alloc: Global, starts: Vec<Start>) -> Result<Jobs, Vec<Start>>
+        requires { length starts.items ≤ rows_limit }
+        ensures ok { IfOk result (λ jobs. jobs ≡ record { rows = map opened starts.items; claimed = 0 }) }
+        ensures err { IfErr result (λ back. back.items ≡ starts.items) }
+    {
+        let Ok(mut rows) = Vec::with_capacity(alloc, starts.len()) else {
+            return Err(starts);
+        };
+        for start in starts {
+            rows.push_reserved(open(start));
+        }
+        Ok(Jobs { rows, claimed: 0 })
+    }
+
     /// How many rows there are.
     pub fn len(&self) -> usize
         ensures value { result ≡ length self.now.rows }
@@ -91,10 +107,7 @@ impl Jobs {
         if let Err(error) = self.rows.reserve(1) {
             return Err((error, start));
         }
-        self.rows.push_reserved(Kept {
-            start,
-            ended: false,
-        });
+        self.rows.push_reserved(open(start));
         Ok(self.rows.len() as u32)
     }
 
@@ -127,5 +140,15 @@ impl Jobs {
         if let Some(row) = self.rows.get_mut(at as usize) {
             row.ended = true;
         }
+    }
+}
+
+// The row of a job that begins.
+fn open(start: Start) -> Kept
+    ensures { row_of result ≡ opened start }
+{
+    Kept {
+        start,
+        ended: false,
     }
 }

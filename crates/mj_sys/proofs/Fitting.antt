@@ -15,7 +15,8 @@ use Rattle.mj_subs.specs.Name.{Name}
 use Rattle.mj_locktab.specs.Locks.{Locks}
 use Rattle.mj_locktab.specs.declared.taken.Taken.{Taken}
 use Rattle.mj_locktab.specs.declared.taken.Taken.TheVariants as takes
-use Rattle.mj_sys.specs.Devices.{Device, principal, device_at}
+use Rattle.mj_dev.specs.Shelves.{principal}
+use Rattle.mj_sys.specs.Devices.{Device, device_at}
 use Rattle.mj_sys.specs.Shared.{Shared, tried, busy, has_room, started, open_free, open_known, served}
 
 -- a reply of some service fits

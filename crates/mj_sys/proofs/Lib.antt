@@ -1,2 +1,8 @@
 pub mod Examples
-mod Fitting
+pub mod Fitting
+mod Each
+mod Opens
+mod Serving
+mod Placed
+mod Replays
+mod Together

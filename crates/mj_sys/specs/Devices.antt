@@ -13,10 +13,6 @@ pub record Device : Type 0 where
 abbrev pub Devices : Type 0
 Devices = List Device
 
--- the name of each job's principal device: `0`
-abbrev pub principal : List ℕ
-principal = 48 ∷ []
-
 -- the device of a name
 abbrev pub device_at : Devices → List ℕ → Option Device
 device_at [] name = None

@@ -1,5 +1,5 @@
 -- What all jobs share, and how it answers.
-use Rattle.std.specs.Prelude.{ℕ, ◌+◌, ℤ, int_le, pos, nat_lt, ◌==◌, List, [], ◌∷◌, ◌++◌, Bool, false, ◌&&◌, ◌||◌, Option, Some, None, length, if◌then◌else◌}
+use Rattle.std.specs.Prelude.{ℕ, ◌+◌, ℤ, int_le, pos, nat_lt, ◌==◌, List, [], ◌∷◌, ◌++◌, Bool, false, ◌&&◌, ◌||◌, Option, Some, None, length, is_none, if◌then◌else◌}
 use Rattle.std.specs.Str.{bytes_eq}
 use Rattle.mj_store.specs.Questions.{Content}
 use Rattle.mj_store.specs.Runs.{name_of, answer_of, after_access}
@@ -15,7 +15,8 @@ use Rattle.mj_locktab.specs.Locks.{Locks}
 use Rattle.mj_locktab.specs.Changes.{after_give, after_give_all}
 use Rattle.mj_locktab.specs.Tries.{outcome_of, after_try}
 use Rattle.mj_jobs.specs.Rows.{Row, rows_limit, opened, with_ended}
-use Rattle.mj_sys.specs.Devices.{Device, Devices, principal, device_at, sessions_of, with_device, opened_by, closed_by, freed}
+use Rattle.mj_dev.specs.Shelves.{principal}
+use Rattle.mj_sys.specs.Devices.{Device, Devices, device_at, sessions_of, with_device, opened_by, closed_by, freed}
 
 -- the globals, which job holds which names and which devices, and a row for each job
 pub record Shared : Type 0 where
@@ -82,8 +83,8 @@ abbrev pub halted : Shared → ℕ → Shared
 halted s job = record s { locks = after_give_all s.locks job; devices = freed s.devices job; rows = with_ended s.rows job }
 
 -- What a job's ask is told, and what is shared then; none where it is busy. A busy ask with a timeout may be told that it is late. There
--- are no transactions yet: to begin, commit or roll back is done and changes nothing. (What a device session or none serves, `is_shared`
--- keeps from here.)
+-- are no transactions yet: to begin, commit or roll back is done and changes nothing. What a device session serves, or none, is told nothing
+-- here.
 abbrev pub served : Shared → ℕ → Ask → Bool → Option (Reply × Shared)
 served s job (asks.Access a) late = Some (accessed s a)
 served s job (asks.Try names timeout) late = tried s job timeout late (outcome_of s.locks job names) (after_try s.locks job names)
@@ -93,4 +94,22 @@ served s job (asks.Open name timeout) late = open_named s job name timeout late
 served s job (asks.Close name) late = Some (replies.Done, record s { devices = with_device s.devices name (closed_by job) })
 served s job (asks.Start start timeout) late = Some (started s start)
 served s job (asks.Halt fault) late = Some (replies.Done, halted s job)
-served s job _ late = Some (replies.Done, s)
+served s job (asks.Begin kind) late = Some (replies.Done, s)
+served s job asks.Commit late = Some (replies.Done, s)
+served s job asks.Rollback late = Some (replies.Done, s)
+served s job (asks.DeviceBegin device) late = None
+served s job (asks.DeviceWrite device bytes) late = None
+served s job (asks.DeviceLine device timeout) late = None
+served s job (asks.DeviceByte device timeout) late = None
+served s job (asks.DeviceEnd device) late = None
+served s job (asks.Rest time) late = None
+
+-- whether a session of a known device goes to the job: no job holds it, and it has one left
+abbrev pub has_session : Device → Bool
+has_session d = is_none d.holder && nat_lt d.taken d.sessions
+
+-- whether an ask is told that it has a device by a session that goes to the job. To open what the job has already moves none
+abbrev pub takes_session : Shared → Ask → Bool
+takes_session s (asks.Open name timeout) =
+    if bytes_eq name principal then false else elim (device_at s.devices name) [ None ↦ false | Some d ↦ has_session d ]
+takes_session s _ = false

@@ -1,15 +1,17 @@
 -- What is seen of the system, and what its type keeps.
-use Rattle.std.specs.Prelude.{◌≡◌, ℕ, ◌<◌, ◌≤◌, length, [], Some}
+use Rattle.std.specs.Prelude.{◌≡◌, ℕ, suc, ◌<◌, ◌≤◌, List, length, [], Some}
+use Rattle.std.specs.List.{slice_index_or}
 use Rattle.mj_ask.specs.Started.{Started}
 use Rattle.mj_ask.specs.declared.ask.Ask.{Ask}
 use Rattle.mj_ask.specs.declared.ask.Ask.TheVariants as asks
+use Rattle.mj_jobs.specs.Rows.{Row, row_at}
 use Rattle.mj_locktab.specs.Locks.{LocksApart}
 use Rattle.mj_locktab.specs.Tries.{IsInTheWay}
-use Rattle.mj_sys.specs.declared.busy.Held.{Held}
-use Rattle.mj_sys.specs.declared.busy.Held.TheVariants as helds
+use Rattle.mj_sys.specs.declared.served.Held.{Held}
+use Rattle.mj_sys.specs.declared.served.Held.TheVariants as helds
 use Rattle.mj_sys.specs.Devices.{holder_of}
 use Rattle.mj_sys.specs.Shared.{Shared}
-use Rattle.mj_sys.specs.History.{History, state_of, AreServed, log_of}
+use Rattle.mj_sys.specs.History.{History, state_of, AreServed, events_of, log_of}
 
 -- the most events of a history (this profile)
 abbrev pub history_limit : ℕ
@@ -34,6 +36,16 @@ pub record IsKept (opening state : Shared) (seen : Recorded) : Type 0 where
   pub apart : LocksApart state.locks
   pub unclaimed : (job : ℕ) → seen.claimed < job → log_of job seen.history ≡ []
   pub within : length seen.history ≤ history_limit
+
+-- for each row that was claimed, how many events its job has
+pub record AreCounts (counts : List ℕ) (seen : Recorded) : Type 0 where
+  pub all : length counts ≡ seen.claimed
+  pub each : (k : ℕ) → k < length counts → slice_index_or counts k 0 ≡ events_of (suc k) seen.history
+
+-- the rows go on: no row is gone, and none has another start
+pub record KeepsRows (old new : List Row) : Type 0 where
+  pub more : length old ≤ length new
+  pub starts : (job : ℕ) (row : Row) → row_at old job ≡ Some row → (row' : Row) × (row_at new job ≡ Some row') × (row'.start ≡ row.start)
 
 -- another job has what keeps the job from what it asks: a name that overlaps one of a lock, or the device
 abbrev pub Keeps : Shared → ℕ → Ask → ℕ → Held → Type 0

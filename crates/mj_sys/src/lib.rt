@@ -1,13 +1,24 @@
 // What all jobs share, and the history of what they asked and were told.
 //
-// So far the crate has definitions and types; the code that keeps to them comes next. `specs/Shared.antt` has what is shared, the globals, the
-// locks, who has which device and a row for each job, and how an ask is answered on it (`served`). `specs/History.antt` has what a history of
-// events leaves of it, and when each event of one was served; `specs/System.antt` what the type of the system is to keep; `specs/Told.antt` what a
-// call is to tell. `proofs/Examples.antt` has worked examples of `served`.
+// `specs/Shared.antt` has what is shared, the globals, the locks, who has which device and a row for each job, and how an ask is answered on it
+// (`served`); `specs/Opening.antt` what is shared when a system begins. `specs/History.antt` has what a history of events leaves of it, and when
+// each event of one was served; `specs/System.antt` what the type of the system keeps; `specs/Told.antt` what a call of `serve` tells.
+// `proofs/Examples.antt` has worked examples of `served`.
+//
+// A `System` is seen as its history alone: its type keeps that its state is what the history leaves of the opening, so nothing of it can be
+// made up, lost or changed beside the history.
 #![tactic(auto)]
 
-mod busy;
+mod accessed;
+mod claim;
 mod event;
+mod opening;
+mod served;
+mod shared;
+mod system;
 
-pub use busy::{Held, Outcome, Refused};
+pub use claim::Claim;
 pub use event::Event;
+pub use opening::{Opening, Unmade};
+pub use served::{Held, Refused, Served};
+pub use system::{HISTORY_LIMIT, System};

@@ -1,4 +1,4 @@
-// What an ask comes to, and why it isn't served.
+// How an ask is served, and why it isn't.
 
 use mj_ask::Reply;
 use mj_subs::Name;
@@ -13,13 +13,20 @@ pub enum Held {
     Device(Text),
 }
 
-/// What an ask comes to.
+/// What comes of an ask, where a session of a device is an `S`.
 #[derive(Drop)]
-pub enum Outcome {
+pub enum Served<S> {
     /// the job is told this
-    Told(Reply),
-    /// this job has what is asked for
-    Busy(u32, Held),
+    Reply(Reply),
+    /// the job is told that it has the device now, and this is its session
+    Opened(S),
+    /// another job has what is asked for, and nothing is told
+    Busy {
+        /// the job that has it
+        holder: u32,
+        /// what it has
+        held: Held,
+    },
 }
 
 /// Why an ask isn't served.

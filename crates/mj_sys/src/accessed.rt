@@ -1,0 +1,80 @@
+// Accesses to globals.
+
+ghost use Rattle.std.specs.Prelude.{◌≡◌, not, IfOk, OnOk, OnErr};
+ghost use Rattle.mj_store.specs.Runs.{answer_of};
+ghost use Rattle.mj_store.specs.Changes.{is_too_deep};
+ghost use Rattle.mj_store.specs.declared.access.Access.TheVariants as accesses;
+ghost use Rattle.mj_ask.specs.declared.ask.Reply.TheVariants as replies;
+ghost use Rattle.mj_sys.specs.Shared.{changed};
+
+use mj_ask::Reply;
+use mj_globs::Globals;
+use mj_store::{Access, Answer, Nodes, Store, perform};
+use mj_subs::{Name, SUBSCRIPT_LIMIT, Subs};
+use mj_text::{Failure, Fault, Text};
+use std::alloc::AllocError;
+
+// What an access is told, once for the job and once for the history. A local name has no place in globals: it is absent there, and to change
+// it is done without a change.
+pub fn answer(globals: &mut Globals, access: &Access) -> Result<(Reply, Reply), AllocError>
+    ensures told { IfOk result (λ told. told ≡ (replies.Answer (answer_of access.now globals.old), replies.Answer (answer_of access.now globals.old))) }
+    ensures after { OnOk result (globals.new ≡ changed access.now globals.old) }
+    ensures err { OnErr result (globals.new ≡ globals.old) }
+{
+    match access {
+        Access::Set(name, text) => {
+            if name.is_global() {
+                globals.set(name, text)?;
+            }
+            Ok((Reply::Answer(Answer::Done), Reply::Answer(Answer::Done)))
+        }
+        Access::Kill(name) => {
+            if name.is_global() {
+                globals.kill(name);
+            }
+            Ok((Reply::Answer(Answer::Done), Reply::Answer(Answer::Done)))
+        }
+        Access::Put(name, nodes) => {
+            if put(globals, name, nodes)? {
+                Ok((Reply::Answer(Answer::Done), Reply::Answer(Answer::Done)))
+            } else {
+                Ok((Reply::Answer(Answer::Limit), Reply::Answer(Answer::Limit)))
+            }
+        }
+        Access::Value(_)
+        | Access::Data(_)
+        | Access::Order(_, _)
+        | Access::Query(_)
+        | Access::Subtree(_) => {
+            let answer = perform(globals, access)?;
+            let copy = answer.try_clone()?;
+            Ok((Reply::Answer(answer), Reply::Answer(copy)))
+        }
+    }
+}
+
+// Puts nodes below a name, unless that gives one too many subscripts, and says which.
+fn put(globals: &mut Globals, name: &Name, nodes: &Nodes) -> Result<bool, AllocError>
+    ensures told { IfOk result (λ done. done ≡ not (is_too_deep name.now nodes.now)) }
+    ensures after { OnOk result (globals.new ≡ changed (accesses.Put name.now nodes.now) globals.old) }
+    ensures err { OnErr result (globals.new ≡ globals.old) }
+{
+    if !name.is_global() {
+        return Ok(!is_too_deep(name, nodes.as_slice()));
+    }
+    match globals.put(name, nodes) {
+        Ok(()) => Ok(true),
+        Err(Failure::Fault(Fault::Limit)) => Ok(false),
+        Err(_) => Err(AllocError),
+    }
+}
+
+// Whether a list would follow the name with more subscripts than a name can have.
+fn is_too_deep(name: &Name, nodes: &[(Subs, Text)]) -> bool
+    ensures { result ≡ is_too_deep name.now nodes.now }
+{
+    let above = name.subscripts().len();
+    nodes
+        .iter()
+        .any(|node| SUBSCRIPT_LIMIT < above + node.0.len())
+}

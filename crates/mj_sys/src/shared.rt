@@ -1,0 +1,390 @@
+// What all jobs share.
+
+ghost use Rattle.std.specs.Prelude.{◌≡◌, ◌+◌, ◌≤◌, ◌↔◌, ℤ, length, map, replicate, true, None, Some, if◌then◌else◌, IfOk, IfErr, OnErr, IfSome, IfNone, IsTrue};
+ghost use Rattle.std.specs.Str.{bytes_eq};
+ghost use Rattle.mj_ask.specs.Fits.{is_shared};
+ghost use Rattle.mj_ask.specs.declared.ask.Ask.TheVariants as asks;
+ghost use Rattle.mj_dev.specs.Heard.{IsNew};
+ghost use Rattle.mj_dev.specs.Shelves.{principal, left_of};
+ghost use Rattle.mj_jobs.specs.Rows.{Row, row_at, IsLive};
+ghost use Rattle.mj_locktab.specs.Locks.{LocksApart};
+ghost use Rattle.mj_ask.specs.declared.ask.Reply.TheVariants as replies;
+ghost use Rattle.mj_sys.specs.Devices.{with_device, closed_by};
+ghost use Rattle.mj_sys.specs.Shared.{is_over, halted};
+ghost use Rattle.mj_sys.specs.declared.shared.Outcome.TheVariants as outcomes;
+ghost use Rattle.mj_sys.specs.Opening.{opening_of};
+ghost use Rattle.mj_sys.specs.Kept.{Comes, without};
+
+use crate::accessed::answer;
+use crate::opening::Unmade;
+use crate::served::Held;
+use mj_ask::{Ask, Names, Reply, Start};
+use mj_dev::{Device, Pool, Session};
+use mj_globs::Globals;
+use mj_jobs::{Claimed, Jobs, ROWS_LIMIT};
+use mj_locktab::{LockTable, Taken};
+use mj_num::Num;
+use mj_text::Text;
+use std::alloc::{AllocError, Global};
+use std::marker::Model;
+
+// What comes of an ask. A reply is there twice, for the job and for the history.
+#[derive(Drop)]
+pub enum Outcome<S> {
+    Told(Reply, Reply),
+    Opened(S),
+    Busy(u32, Held),
+}
+
+// The globals, which job holds which names and which devices, and the rows of the jobs, with the sessions that no job has yet.
+#[derive(Drop)]
+pub struct Shared<D: Device> {
+    alloc: Global,
+    globals: Globals,
+    locks: LockTable,
+    pool: Pool<D>,
+    // the job that holds the name, for each name of the pool in their order
+    holders: Vec<Option<u32>>,
+    // how many principal sessions there are, those among them that jobs have
+    principals: u32,
+    jobs: Jobs,
+}
+
+impl<D: Device> Model for Shared<D> {
+    ghost use Rattle.mj_sys.specs.Kept.{Service, devices_of, AreTogether};
+
+    ghost Value = { Service };
+
+    ghost view = { λ s. record {
+      state = record {
+        globals = s.globals;
+        locks = s.locks;
+        devices = devices_of s.principals s.pool s.holders.items;
+        rows = s.jobs.rows;
+      };
+      claimed = s.jobs.claimed;
+    } };
+
+    ghost invariant = { λ s. AreTogether s.principals s.pool s.holders.items s.jobs };
+}
+
+impl<D: Device> Shared<D> {
+    // What is shared at the beginning, with a row for each of the starts.
+    pub fn new(
+        alloc: Global,
+        globals: Globals,
+        pool: Pool<D>,
+        starts: Vec<Start>,
+    ) -> Result<Shared<D>, Unmade<D>>
+        requires few { length starts.items ≤ 255 }
+        requires fits { length starts.items ≤ left_of principal pool }
+        ensures ok { IfOk result (λ s. s ≡ record { state = opening_of globals pool starts.items; claimed = 0 }) }
+        ensures globals { IfErr result (λ back. back.globals ≡ globals) }
+        ensures pool { IfErr result (λ back. back.pool ≡ pool) }
+        ensures starts { IfErr result (λ back. back.starts.items ≡ starts.items) }
+    {
+        let Ok(holders) = nobody(alloc, pool.len()) else {
+            return Err(Unmade {
+                globals,
+                pool,
+                starts,
+            });
+        };
+        let jobs = match Jobs::of(alloc, starts) {
+            Ok(jobs) => jobs,
+            Err(starts) => {
+                return Err(Unmade {
+                    globals,
+                    pool,
+                    starts,
+                });
+            }
+        };
+        let principals = pool.left(&principal(alloc));
+        Ok(Shared {
+            alloc,
+            globals,
+            locks: LockTable::new(alloc),
+            pool,
+            holders,
+            principals,
+            jobs,
+        })
+    }
+
+    // The globals.
+    pub fn globals(&self) -> &Globals
+        ensures { result.now ≡ self.now.state.globals }
+    {
+        &self.globals
+    }
+
+    // Who holds which names.
+    pub fn locks(&self) -> &LockTable
+        ensures value { result.now ≡ self.now.state.locks }
+        ensures apart { LocksApart self.now.state.locks }
+    {
+        self.locks.keeps();
+        &self.locks
+    }
+
+    // How many rows there are.
+    pub fn rows(&self) -> usize
+        ensures value { result ≡ length self.now.state.rows }
+        ensures bound { result ≤ 255 }
+    {
+        self.jobs.len()
+    }
+
+    // How many rows were claimed.
+    pub fn claimed(&self) -> usize
+        ensures value { result ≡ self.now.claimed }
+        ensures bound { result ≤ length self.now.state.rows }
+    {
+        self.jobs.claimed()
+    }
+
+    // Whether the job has a row and hasn't ended.
+    pub fn is_live(&self, job: u32) -> bool
+        ensures { IsTrue result ↔ IsLive self.now.state.rows job }
+    {
+        self.jobs.is_live(job)
+    }
+
+    // The lowest row that isn't claimed, which is claimed now, with its job's principal session; none where all are.
+    pub fn claim(&mut self) -> Result<Option<(Claimed, Session<D>)>, AllocError>
+        ensures state { self.new.state ≡ self.old.state }
+        ensures some { IfOk result (λ r. IfSome r (λ c. (c.0.job ≡ self.old.claimed + 1) × (self.new.claimed ≡ self.old.claimed + 1))) }
+        ensures start { IfOk result (λ r. IfSome r (λ c. (row : Row) × (row_at self.old.state.rows c.0.job ≡ Some row) × (row.start ≡ c.0.start))) }
+        ensures session { IfOk result (λ r. IfSome r (λ c. IsNew c.1)) }
+        ensures none { IfOk result (λ r. IfNone r ((self.new ≡ self.old) × (self.old.claimed ≡ length self.old.state.rows))) }
+        ensures err { OnErr result (self.new ≡ self.old) }
+    {
+        let Some(claimed) = self.jobs.claim()? else {
+            return Ok(None);
+        };
+        match self.pool.take(&principal(self.alloc)) {
+            Some(session) => Ok(Some((claimed, session))),
+            // there is a principal session for each row
+            None => unreachable!(),
+        }
+    }
+
+    // Serves an ask of a job. Names of different jobs don't overlap then either.
+    pub fn serve(
+        &mut self,
+        job: u32,
+        ask: &Ask,
+        late: bool,
+    ) -> Result<Outcome<Session<D>>, AllocError>
+        requires { is_shared ask.now ≡ true }
+        ensures ok { IfOk result (λ outcome. Comes self.old job ask.now late outcome self.new) }
+        ensures apart { LocksApart self.new.state.locks }
+        ensures err { OnErr result (self.new ≡ self.old) }
+    {
+        let outcome = self.answer(job, ask, late);
+        self.locks.keeps();
+        outcome
+    }
+
+    // Answers it by its kind.
+    fn answer(
+        &mut self,
+        job: u32,
+        ask: &Ask,
+        late: bool,
+    ) -> Result<Outcome<Session<D>>, AllocError>
+        requires { is_shared ask.now ≡ true }
+        ensures ok { IfOk result (λ outcome. Comes self.old job ask.now late outcome self.new) }
+        ensures err { OnErr result (self.new ≡ self.old) }
+    {
+        match ask {
+            Ask::Access(access) => {
+                let (reply, copy) = answer(&mut self.globals, access)?;
+                Ok(Outcome::Told(reply, copy))
+            }
+            Ask::Try(names, timeout) => self.try_take(job, names, *timeout, late),
+            Ask::Unlock(names) => {
+                self.locks.give(job, names.as_slice());
+                Ok(Outcome::Told(Reply::Done, Reply::Done))
+            }
+            Ask::UnlockAll => {
+                self.locks.give_all(job);
+                Ok(Outcome::Told(Reply::Done, Reply::Done))
+            }
+            Ask::Open(name, timeout) => self.open(job, name, *timeout, late),
+            Ask::Close(name) => {
+                self.close(job, name);
+                Ok(Outcome::Told(Reply::Done, Reply::Done))
+            }
+            Ask::Start(start, timeout) => self.start(job, start, *timeout, late),
+            Ask::Halt(_) => {
+                self.halt(job);
+                Ok(Outcome::Told(Reply::Done, Reply::Done))
+            }
+            Ask::Begin(_) | Ask::Commit | Ask::Rollback => {
+                Ok(Outcome::Told(Reply::Done, Reply::Done))
+            }
+            Ask::DeviceBegin(_)
+            | Ask::DeviceWrite(_, _)
+            | Ask::DeviceLine(_, _)
+            | Ask::DeviceByte(_, _)
+            | Ask::DeviceEnd(_)
+            | Ask::Rest(_) => unreachable!(),
+        }
+    }
+
+    // LOCK of names.
+    fn try_take(
+        &mut self,
+        job: u32,
+        names: &Names,
+        timeout: Option<Num>,
+        late: bool,
+    ) -> Result<Outcome<Session<D>>, AllocError>
+        ensures ok { IfOk result (λ outcome. Comes self.old job (asks.Try names.now timeout) late outcome self.new) }
+        ensures err { OnErr result (self.new ≡ self.old) }
+    {
+        Ok(match self.locks.try_take(job, names.as_slice())? {
+            Taken::Got => Outcome::Told(Reply::Got, Reply::Got),
+            Taken::Limit => Outcome::Told(Reply::Limit, Reply::Limit),
+            Taken::Busy { holder, name } => busy(timeout, late, holder, Held::Name(name)),
+        })
+    }
+
+    // OPEN of a name.
+    fn open(
+        &mut self,
+        job: u32,
+        name: &Text,
+        timeout: Option<Num>,
+        late: bool,
+    ) -> Result<Outcome<Session<D>>, AllocError>
+        ensures ok { IfOk result (λ outcome. Comes self.old job (asks.Open name.now timeout) late outcome self.new) }
+        ensures err { OnErr result (self.new ≡ self.old) }
+    {
+        if is_principal(self.alloc, name) {
+            return Ok(Outcome::Told(Reply::Got, Reply::Got));
+        }
+        let Some(place) = self.pool.place(name) else {
+            return Ok(Outcome::Told(Reply::NoSession, Reply::NoSession));
+        };
+        match self.holders[place] {
+            None => match self.pool.take(name) {
+                None => Ok(Outcome::Told(Reply::NoSession, Reply::NoSession)),
+                Some(session) => {
+                    self.holders[place] = Some(job);
+                    Ok(Outcome::Opened(session))
+                }
+            },
+            Some(holder) if holder == job => Ok(Outcome::Told(Reply::Got, Reply::Got)),
+            Some(holder) => Ok(busy(
+                timeout,
+                late,
+                holder,
+                Held::Device(name.try_clone()?),
+            )),
+        }
+    }
+
+    // CLOSE of a name.
+    fn close(&mut self, job: u32, name: &Text)
+        ensures { self.new ≡ record { state = record self.old.state { devices = with_device self.old.state.devices name.now (closed_by job) }; claimed = self.old.claimed } }
+    {
+        if let Some(place) = self.pool.place(name) {
+            release(&mut self.holders[place], job);
+        }
+    }
+
+    // JOB: one more row, where there is room for it and a principal session is left.
+    fn start(
+        &mut self,
+        job: u32,
+        start: &Start,
+        timeout: Option<Num>,
+        late: bool,
+    ) -> Result<Outcome<Session<D>>, AllocError>
+        ensures ok { IfOk result (λ outcome. Comes self.old job (asks.Start start.now timeout) late outcome self.new) }
+        ensures err { OnErr result (self.new ≡ self.old) }
+    {
+        let rows = self.jobs.len();
+        if rows >= ROWS_LIMIT || rows >= self.principals as usize {
+            return Ok(Outcome::Told(Reply::Limit, Reply::Limit));
+        }
+        match self.jobs.add(start.try_clone()?) {
+            Ok(number) => Ok(Outcome::Told(Reply::Job(number), Reply::Job(number))),
+            Err((error, _)) => Err(error),
+        }
+    }
+
+    // A job is over.
+    fn halt(&mut self, job: u32)
+        ensures { self.new ≡ record { state = halted self.old.state job; claimed = self.old.claimed } }
+    {
+        self.locks.give_all(job);
+        release_all(&mut self.holders, job);
+        self.jobs.end(job);
+    }
+}
+
+// An ask that another job is in the way of. Where its timeout is over it is told so.
+fn busy<S>(timeout: Option<Num>, late: bool, holder: u32, held: Held) -> Outcome<S>
+    ensures { result ≡ (if is_over timeout late then outcomes.Told replies.Late replies.Late else outcomes.Busy holder held) }
+{
+    if is_over(timeout, late) {
+        Outcome::Told(Reply::Late, Reply::Late)
+    } else {
+        Outcome::Busy(holder, held)
+    }
+}
+
+// Whether there is a timeout, and it is over.
+fn is_over(timeout: Option<Num>, late: bool) -> bool
+    ensures { result ≡ is_over timeout late }
+{
+    match timeout {
+        None => false,
+        Some(seconds) => late || seconds.value() <= 0,
+    }
+}
+
+// So many names that nobody holds.
+fn nobody(alloc: Global, names: usize) -> Result<Vec<Option<u32>>, AllocError>
+    ensures { IfOk result (λ holders. holders.items ≡ replicate names None) }
+{
+    let mut holders = Vec::new(alloc);
+    holders.resize(names, None)?;
+    Ok(holders)
+}
+
+// The name of each job's principal device.
+fn principal(alloc: Global) -> Text
+    ensures { result ≡ principal }
+{
+    Text::from_number(alloc, 0)
+}
+
+// Whether it is that name.
+fn is_principal(alloc: Global, name: &Text) -> bool
+    ensures { result ≡ bytes_eq name.now principal }
+{
+    *name == principal(alloc)
+}
+
+// Ends the job's hold, if it is the holder.
+fn release(holder: &mut Option<u32>, job: u32)
+    ensures { holder.new ≡ without job holder.old }
+{
+    if *holder == Some(job) {
+        *holder = None;
+    }
+}
+
+// Ends all holds of the job.
+fn release_all(holders: &mut [Option<u32>], job: u32)
+    ensures { holders.new ≡ map (without job) holders.old }
+{
+    for holder in holders {
+        release(holder, job);
+    }
+}

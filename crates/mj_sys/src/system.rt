@@ -1,0 +1,295 @@
+// The system: what is shared, beside the history that left it so.
+
+ghost use Rattle.std.specs.Prelude.{◌≡◌, ℕ, true, ◌+◌, ◌<◌, ◌≤◌, ◌↔◌, ◌-◌, ◌^◌, ◌∷◌, ◌++◌, [], length, slice_set, slice_index_or, vec_len, vec_capacity, Some, IfOk, IfErr, OnOk, OnErr, IfSome, IfNone, IsTrue};
+ghost use Rattle.mj_ask.specs.Fits.{is_shared};
+ghost use Rattle.mj_dev.specs.Heard.{IsNew};
+ghost use Rattle.mj_dev.specs.Shelves.{principal, left_of};
+ghost use Rattle.mj_jobs.specs.Rows.{Row, row_at, IsLive, rows_limit};
+ghost use Rattle.mj_locktab.specs.Locks.{LocksApart};
+ghost use Rattle.mj_sys.specs.Opening.{opening_of};
+ghost use Rattle.mj_sys.specs.History.{state_of, AreServed, events_of, log_of};
+ghost use Rattle.mj_sys.specs.System.{history_limit};
+ghost use Rattle.mj_sys.specs.Told.{Serves, IsRefused, IsTurn};
+ghost use Rattle.mj_sys.specs.Kept.{Goes, IsWritten, kept_reply, told_of};
+ghost use Rattle.mj_sys.specs.declared.served.Refused.TheVariants as refusals;
+
+use crate::claim::Claim;
+use crate::event::Event;
+use crate::opening::{Opening, Unmade};
+use crate::served::{Refused, Served};
+use crate::shared::{Outcome, Shared};
+use mj_ask::{Ask, Reply, Start};
+use mj_dev::{Device, Pool, Session};
+use mj_globs::Globals;
+use mj_locktab::LockTable;
+use std::alloc::{AllocError, Global};
+use std::marker::{Model, PhantomData};
+
+/// How many events a history may have.
+pub const HISTORY_LIMIT: usize = 1_000_000;
+
+/// What all jobs share, with the history that left it so from the opening.
+#[derive(Drop)]
+pub struct System<D: Device, O: Opening> {
+    shared: Shared<D>,
+    history: Vec<Event>,
+    // how many events each claimed job has, so that nothing is counted anew
+    counts: Vec<u64>,
+    of: PhantomData<O>,
+}
+
+impl<D: Device, O: Opening> Model for System<D, O> {
+    ghost use Rattle.mj_sys.specs.System.{Recorded, IsKept, AreCounts};
+
+    ghost Value = { Recorded };
+
+    ghost view = { λ s. record { history = s.history.items; claimed = s.shared.claimed } };
+
+    ghost invariant = { λ s.
+        IsKept O.opening s.shared.state (record { history = s.history.items; claimed = s.shared.claimed })
+        × AreCounts s.counts.items (record { history = s.history.items; claimed = s.shared.claimed }) };
+}
+
+impl<D: Device, O: Opening> System<D, O> {
+    /// A system with no events yet, and a row for each of the starts. At want of memory all comes back that it was to be made of.
+    pub fn new(
+        alloc: Global,
+        globals: Globals,
+        pool: Pool<D>,
+        starts: Vec<Start>,
+    ) -> Result<System<D, O>, Unmade<D>>
+        requires opening { opening_of globals pool starts.items ≡ O.opening }
+        requires some { 1 ≤ length starts.items }
+        requires few { length starts.items ≤ rows_limit }
+        requires fits { length starts.items ≤ left_of principal pool }
+        ensures ok { IfOk result (λ s. s ≡ record { history = []; claimed = 0 }) }
+        ensures globals { IfErr result (λ back. back.globals ≡ globals) }
+        ensures pool { IfErr result (λ back. back.pool ≡ pool) }
+        ensures starts { IfErr result (λ back. back.starts.items ≡ starts.items) }
+    {
+        Ok(System {
+            shared: Shared::new(alloc, globals, pool, starts)?,
+            history: Vec::new(alloc),
+            counts: Vec::new(alloc),
+            of: PhantomData,
+        })
+    }
+
+    /// The lowest row that isn't claimed, which is claimed now, with its job's principal session; none where all are claimed.
+    pub fn claim(&mut self) -> Result<Option<(Claim, Session<D>)>, AllocError>
+        ensures history { self.new.history ≡ self.old.history }
+        ensures some { IfOk result (λ r. IfSome r (λ c. (c.0.job ≡ self.old.claimed + 1) × (self.new.claimed ≡ self.old.claimed + 1))) }
+        ensures start { IfOk result (λ r. IfSome r (λ c. (row : Row) × (row_at (state_of O.opening self.old.history).rows c.0.job ≡ Some row) × (row.start ≡ c.0.start))) }
+        ensures fresh { IfOk result (λ r. IfSome r (λ c. (c.0.events ≡ 0) × (log_of c.0.job self.old.history ≡ []))) }
+        ensures session { IfOk result (λ r. IfSome r (λ c. IsNew c.1)) }
+        ensures none { IfOk result (λ r. IfNone r ((self.new ≡ self.old) × (self.old.claimed ≡ length (state_of O.opening self.old.history).rows))) }
+        ensures err { OnErr result (self.new ≡ self.old) }
+    {
+        self.counts.reserve(1)?;
+        let Some((claimed, session)) = self.shared.claim()? else {
+            return Ok(None);
+        };
+        self.counts.push_reserved(0);
+        Ok(Some((Claim::new(claimed.job, claimed.start), session)))
+    }
+
+    /// Serves an ask of a claim's job. Where it is busy for another job, and has a timeout that is over, or is said to be `late`, it is told
+    /// that it is late. What can be refused is refused in this order: a claim of another system or of another time, a history that is full,
+    /// and memory; then nothing changes.
+    pub fn serve(
+        &mut self,
+        claim: &mut Claim,
+        ask: &Ask,
+        late: bool,
+    ) -> Result<Served<Session<D>>, Refused>
+        requires { is_shared ask.now ≡ true }
+        ensures ok { IfOk result (λ told. Serves O.opening self.old claim.old ask.now late told self.new claim.new) }
+        ensures refused { IfErr result (λ why. IsRefused O.opening self.old claim.old why) }
+        ensures kept { OnErr result ((self.new ≡ self.old) × (claim.new ≡ claim.old)) }
+    {
+        if !self.is_turn(claim) {
+            return Err(Refused::Turn {
+                expected: self.events(claim.job()),
+            });
+        }
+        if self.history.len() >= HISTORY_LIMIT {
+            return Err(Refused::Full);
+        }
+        serve_next(
+            &mut self.shared,
+            &mut self.history,
+            &mut self.counts,
+            claim,
+            ask,
+            late,
+        )
+    }
+
+    // Whether it is the claim's turn.
+    fn is_turn(&self, claim: &Claim) -> bool
+        ensures { IsTrue result ↔ IsTurn O.opening self.now claim.now }
+    {
+        let job = claim.job();
+        job as usize <= self.shared.claimed()
+            && self.shared.is_live(job)
+            && claim.events() == self.events(job)
+    }
+
+    /// The events, in order. Each was served on what those before it had left.
+    pub fn history(&self) -> &[Event]
+        ensures which { result.now ≡ self.now.history }
+        ensures served { AreServed O.opening result.now }
+        ensures within { length result.now ≤ history_limit }
+    {
+        &self.history
+    }
+
+    /// The globals: those that the history leaves.
+    pub fn globals(&self) -> &Globals
+        ensures { result.now ≡ (state_of O.opening self.now.history).globals }
+    {
+        self.shared.globals()
+    }
+
+    /// Who holds which names: as the history leaves it. No name of one job overlaps a name of another.
+    pub fn locks(&self) -> &LockTable
+        ensures replay { result.now ≡ (state_of O.opening self.now.history).locks }
+        ensures apart { LocksApart result.now }
+    {
+        self.shared.locks()
+    }
+
+    /// How many rows there are, ended ones among them.
+    pub fn rows(&self) -> usize
+        ensures value { result ≡ length (state_of O.opening self.now.history).rows }
+        ensures bound { result ≤ rows_limit }
+    {
+        self.shared.rows()
+    }
+
+    /// How many rows were claimed: the lowest. A row that wasn't has no events.
+    pub fn claimed(&self) -> usize
+        ensures value { result ≡ self.now.claimed }
+        ensures bound { result ≤ length (state_of O.opening self.now.history).rows }
+        ensures unclaimed { (job : ℕ) → result < job → log_of job self.now.history ≡ [] }
+    {
+        self.shared.claimed()
+    }
+
+    /// Whether the job has a row and hasn't ended.
+    pub fn is_live(&self, job: u32) -> bool
+        ensures { IsTrue result ↔ IsLive (state_of O.opening self.now.history).rows job }
+    {
+        self.shared.is_live(job)
+    }
+
+    /// How many events the job has.
+    pub fn events(&self, job: u32) -> u64
+        ensures { result ≡ events_of job self.now.history }
+    {
+        match job.checked_sub(1) {
+            None => 0,
+            Some(at) => match self.counts.get(at as usize) {
+                None => 0,
+                Some(count) => *count,
+            },
+        }
+    }
+}
+
+// Serves the ask, and writes down what comes of it.
+fn serve_next<D: Device>(
+    shared: &mut Shared<D>,
+    history: &mut Vec<Event>,
+    counts: &mut Vec<u64>,
+    claim: &mut Claim,
+    ask: &Ask,
+    late: bool,
+) -> Result<Served<Session<D>>, Refused>
+    requires shared { is_shared ask.now ≡ true }
+    requires place { claim.old.job ≤ length counts.old.items }
+    requires few { slice_index_or counts.old.items (claim.old.job - 1) 0 < 2 ^ 64 - 1 }
+    requires few_claimed { claim.old.events < 2 ^ 64 - 1 }
+    ensures ok { IfOk result (λ told. Goes shared.old history.old.items counts.old.items claim.old ask.now late told shared.new history.new.items counts.new.items claim.new) }
+    ensures apart { LocksApart shared.new.state.locks }
+    ensures err { IfErr result (λ why. why ≡ refusals.Memory) }
+    ensures kept { OnErr result ((shared.new ≡ shared.old) × (history.new.items ≡ history.old.items) × (counts.new.items ≡ counts.old.items) × (claim.new ≡ claim.old)) }
+{
+    let copy = match room_and_copy(history, ask) {
+        Ok(copy) => copy,
+        Err(_) => {
+            shared.locks();
+            return Err(Refused::Memory);
+        }
+    };
+    match shared.serve(claim.job(), ask, late) {
+        Ok(outcome) => Ok(tell(history, counts, claim, copy, outcome)),
+        Err(_) => {
+            drop(copy);
+            Err(Refused::Memory)
+        }
+    }
+}
+
+// Makes room for an event of this ask, and copies it.
+fn room_and_copy(history: &mut Vec<Event>, ask: &Ask) -> Result<Ask, AllocError>
+    ensures same { history.new.items ≡ history.old.items }
+    ensures room { OnOk result (vec_len history.new < vec_capacity history.new) }
+    ensures copy { IfOk result (λ copy. copy ≡ ask.now) }
+{
+    history.reserve(1)?;
+    ask.try_clone()
+}
+
+// Tells what came of an ask, and writes it down.
+fn tell<S>(
+    history: &mut Vec<Event>,
+    counts: &mut Vec<u64>,
+    claim: &mut Claim,
+    ask: Ask,
+    outcome: Outcome<S>,
+) -> Served<S>
+    requires room { vec_len history.old < vec_capacity history.old }
+    requires place { claim.old.job ≤ length counts.old.items }
+    requires few { slice_index_or counts.old.items (claim.old.job - 1) 0 < 2 ^ 64 - 1 }
+    requires few_claimed { claim.old.events < 2 ^ 64 - 1 }
+    ensures told { result ≡ told_of outcome }
+    ensures written { IsWritten (kept_reply outcome) ask history.old.items counts.old.items claim.old history.new.items counts.new.items claim.new }
+{
+    match outcome {
+        Outcome::Told(reply, again) => {
+            write_down(history, counts, claim, ask, again);
+            Served::Reply(reply)
+        }
+        Outcome::Opened(session) => {
+            write_down(history, counts, claim, ask, Reply::Got);
+            Served::Opened(session)
+        }
+        Outcome::Busy(holder, held) => {
+            drop(ask);
+            Served::Busy { holder, held }
+        }
+    }
+}
+
+// Writes an event of the claim's job down, and counts it.
+fn write_down(
+    history: &mut Vec<Event>,
+    counts: &mut Vec<u64>,
+    claim: &mut Claim,
+    ask: Ask,
+    reply: Reply,
+)
+    requires room { vec_len history.old < vec_capacity history.old }
+    requires place { claim.old.job ≤ length counts.old.items }
+    requires few { slice_index_or counts.old.items (claim.old.job - 1) 0 < 2 ^ 64 - 1 }
+    requires few_claimed { claim.old.events < 2 ^ 64 - 1 }
+    ensures history { history.new.items ≡ history.old.items ++ record { job = claim.old.job; ask = ask; reply = reply } ∷ [] }
+    ensures counts { counts.new.items ≡ slice_set counts.old.items (claim.old.job - 1) (slice_index_or counts.old.items (claim.old.job - 1) 0 + 1) }
+    ensures claim { claim.new ≡ record claim.old { events = claim.old.events + 1 } }
+{
+    let job = claim.job();
+    history.push_reserved(Event { job, ask, reply });
+    counts[job as usize - 1] += 1;
+    claim.count();
+}
