@@ -1,4 +1,5 @@
 pub mod Examples
+pub mod Longer
 pub mod Joined
 pub mod Lines
 pub mod Nodes
