@@ -3,3 +3,4 @@ pub mod Begins
 pub mod Reading
 pub mod Units
 pub mod Listing
+pub mod Laws
