@@ -1,8 +1,6 @@
 pub mod Examples
+pub mod Longer
 pub mod Joined
 pub mod Lines
 pub mod Nodes
 pub mod InOrder
-pub mod QuotedTexts
-pub mod NameFields
-pub mod Listings

@@ -1,4 +1,6 @@
 pub mod Spelling
+pub mod Begins
 pub mod Reading
 pub mod Units
 pub mod Listing
+pub mod Laws

@@ -1,6 +1,7 @@
 // Listings are written.
 
-ghost use Rattle.std.specs.Prelude.{◌≡◌, ◌<◌, ◌++◌, ◌∷◌, [], IfOk, OnOk};
+ghost use Rattle.std.specs.Prelude.{◌≡◌, ◌<◌, ◌++◌, ◌∷◌, [], if◌then◌else◌, is_ok, IfOk, OnOk};
+ghost use Rattle.mj_gfile.specs.Begins.{Begins};
 ghost use Rattle.mj_gfile.specs.Spelling.{digit_byte, is_shown, quoted_byte, quoted_bytes, listed_text, listed_subscript, listed_rest, listed_subscripts, listed_name, listed_line, listed_lines, listing_of};
 
 use crate::HEADER;
@@ -17,110 +18,175 @@ pub fn write(alloc: Global, globals: &Globals) -> Result<Vec<u8>, AllocError>
     let mut bytes = Vec::new(alloc);
     bytes.extend_from_slice(HEADER)?;
     bytes.push(b'\n')?;
-    put_nodes(&mut bytes, globals)?;
+    add_nodes(&mut bytes, globals)?;
     Ok(bytes)
 }
 
-/// Puts the lines of all names of a store that have a text to the end of some bytes. After want of memory a part of them may stand there.
+/// Puts the lines of all names of a store that have a text to the end of some bytes.
 pub fn put_nodes(bytes: &mut Vec<u8>, globals: &Globals) -> Result<(), AllocError>
-    ensures { OnOk result (bytes.new.items ≡ bytes.old.items ++ listed_lines globals.now) }
+    ensures { bytes.new.items ≡ (if is_ok result then bytes.old.items ++ listed_lines globals.now else bytes.old.items) }
+{
+    let before = bytes.len();
+    let added = add_nodes(bytes, globals);
+    if added.is_err() {
+        bytes.truncate(before);
+    }
+    added
+}
+
+// The same, but that after want of memory a part may stand there.
+#[tactic(auto, using(crate::proofs::Longer::begins_same, crate::proofs::Longer::begins_more, crate::proofs::Longer::begins_trans))]
+fn add_nodes(bytes: &mut Vec<u8>, globals: &Globals) -> Result<(), AllocError>
+    ensures ok { OnOk result (bytes.new.items ≡ bytes.old.items ++ listed_lines globals.now) }
+    ensures kept { Begins bytes.old.items bytes.new.items }
 {
     let nodes = globals.nodes()?;
     for (name, text) in nodes.as_slice() {
-        put_node(bytes, name, text)?;
+        add_node(bytes, name, text)?;
     }
     Ok(())
 }
 
 // Puts the line of a name and its text to the end, and byte 10.
-fn put_node(bytes: &mut Vec<u8>, name: &Name, text: &Text) -> Result<(), AllocError>
-    ensures { OnOk result (bytes.new.items ≡ bytes.old.items ++ (listed_line (name.now, text.now) ++ 10 ∷ [])) }
+#[tactic(auto, using(crate::proofs::Longer::begins_same, crate::proofs::Longer::begins_more, crate::proofs::Longer::begins_trans))]
+fn add_node(bytes: &mut Vec<u8>, name: &Name, text: &Text) -> Result<(), AllocError>
+    ensures ok { OnOk result (bytes.new.items ≡ bytes.old.items ++ (listed_line (name.now, text.now) ++ 10 ∷ [])) }
+    ensures kept { Begins bytes.old.items bytes.new.items }
 {
-    put_name(bytes, name)?;
+    add_name(bytes, name)?;
     bytes.push(b'=')?;
-    put_text(bytes, text)?;
+    add_text(bytes, text)?;
     bytes.push(b'\n')?;
     Ok(())
 }
 
-/// Puts a name to the end of some bytes, as a listing has it. After want of memory a part of it may stand there.
+/// Puts a name to the end of some bytes, as a listing has it.
 pub fn put_name(bytes: &mut Vec<u8>, name: &Name) -> Result<(), AllocError>
-    ensures { OnOk result (bytes.new.items ≡ bytes.old.items ++ listed_name name.now) }
+    ensures { bytes.new.items ≡ (if is_ok result then bytes.old.items ++ listed_name name.now else bytes.old.items) }
+{
+    let before = bytes.len();
+    let added = add_name(bytes, name);
+    if added.is_err() {
+        bytes.truncate(before);
+    }
+    added
+}
+
+// The same, but that after want of memory a part may stand there.
+#[tactic(auto, using(crate::proofs::Longer::begins_same, crate::proofs::Longer::begins_more, crate::proofs::Longer::begins_trans))]
+fn add_name(bytes: &mut Vec<u8>, name: &Name) -> Result<(), AllocError>
+    ensures ok { OnOk result (bytes.new.items ≡ bytes.old.items ++ listed_name name.now) }
+    ensures kept { Begins bytes.old.items bytes.new.items }
 {
     if name.is_global() {
         bytes.push(b'^')?;
     }
     let mut digits = Digits::new();
     bytes.extend_from_slice(name.word().bytes(&mut digits))?;
-    put_subscripts(bytes, name.subscripts().as_slice())
+    add_subscripts(bytes, name.subscripts().as_slice())
 }
 
-/// Puts a list of subscripts to the end of some bytes, as a listing has it: nothing for none. After want of memory a part of it may stand
-/// there.
+/// Puts a list of subscripts to the end of some bytes, as a listing has it: nothing for none.
 pub fn put_subscripts(bytes: &mut Vec<u8>, subs: &[Sub]) -> Result<(), AllocError>
-    ensures { OnOk result (bytes.new.items ≡ bytes.old.items ++ listed_subscripts subs.now) }
+    ensures { bytes.new.items ≡ (if is_ok result then bytes.old.items ++ listed_subscripts subs.now else bytes.old.items) }
+{
+    let before = bytes.len();
+    let added = add_subscripts(bytes, subs);
+    if added.is_err() {
+        bytes.truncate(before);
+    }
+    added
+}
+
+// The same, but that after want of memory a part may stand there.
+#[tactic(auto, using(crate::proofs::Longer::begins_same, crate::proofs::Longer::begins_more, crate::proofs::Longer::begins_trans))]
+fn add_subscripts(bytes: &mut Vec<u8>, subs: &[Sub]) -> Result<(), AllocError>
+    ensures ok { OnOk result (bytes.new.items ≡ bytes.old.items ++ listed_subscripts subs.now) }
+    ensures kept { Begins bytes.old.items bytes.new.items }
 {
     let [first, rest @ ..] = subs else {
         return Ok(());
     };
     bytes.push(b'(')?;
-    put_subscript(bytes, first)?;
+    add_subscript(bytes, first)?;
     for sub in rest {
         bytes.push(b',')?;
-        put_subscript(bytes, sub)?;
+        add_subscript(bytes, sub)?;
     }
     bytes.push(b')')?;
     Ok(())
 }
 
-/// Puts a subscript to the end of some bytes, as a listing has it. After want of memory a part of it may stand there.
+/// Puts a subscript to the end of some bytes, as a listing has it.
 pub fn put_subscript(bytes: &mut Vec<u8>, sub: &Sub) -> Result<(), AllocError>
-    ensures { OnOk result (bytes.new.items ≡ bytes.old.items ++ listed_subscript sub.now) }
+    ensures { bytes.new.items ≡ (if is_ok result then bytes.old.items ++ listed_subscript sub.now else bytes.old.items) }
+{
+    let before = bytes.len();
+    let added = add_subscript(bytes, sub);
+    if added.is_err() {
+        bytes.truncate(before);
+    }
+    added
+}
+
+// The same, but that after want of memory a part may stand there.
+#[tactic(auto, using(crate::proofs::Longer::begins_same, crate::proofs::Longer::begins_more, crate::proofs::Longer::begins_trans))]
+fn add_subscript(bytes: &mut Vec<u8>, sub: &Sub) -> Result<(), AllocError>
+    ensures ok { OnOk result (bytes.new.items ≡ bytes.old.items ++ listed_subscript sub.now) }
+    ensures kept { Begins bytes.old.items bytes.new.items }
 {
     if sub.number().is_none() {
-        return put_text(bytes, sub.text());
+        return add_text(bytes, sub.text());
     }
     let mut digits = Digits::new();
     bytes.extend_from_slice(sub.bytes(&mut digits))?;
     Ok(())
 }
 
-/// Puts a text in listing quotes to the end of some bytes. After want of memory a part of it may stand there.
+/// Puts a text in listing quotes to the end of some bytes.
 pub fn put_text(bytes: &mut Vec<u8>, text: &Text) -> Result<(), AllocError>
-    ensures { OnOk result (bytes.new.items ≡ bytes.old.items ++ listed_text text.now) }
+    ensures { bytes.new.items ≡ (if is_ok result then bytes.old.items ++ listed_text text.now else bytes.old.items) }
+{
+    let before = bytes.len();
+    let added = add_text(bytes, text);
+    if added.is_err() {
+        bytes.truncate(before);
+    }
+    added
+}
+
+// The same, but that after want of memory a part may stand there.
+#[tactic(auto, using(crate::proofs::Longer::begins_same, crate::proofs::Longer::begins_more, crate::proofs::Longer::begins_trans))]
+fn add_text(bytes: &mut Vec<u8>, text: &Text) -> Result<(), AllocError>
+    ensures ok { OnOk result (bytes.new.items ≡ bytes.old.items ++ listed_text text.now) }
+    ensures kept { Begins bytes.old.items bytes.new.items }
 {
     let mut digits = Digits::new();
     bytes.push(b'"')?;
-    put_quoted(bytes, text.bytes(&mut digits))?;
+    add_quoted(bytes, text.bytes(&mut digits))?;
     bytes.push(b'"')?;
     Ok(())
 }
 
-fn put_quoted(bytes: &mut Vec<u8>, text: &[u8]) -> Result<(), AllocError>
-    ensures { OnOk result (bytes.new.items ≡ bytes.old.items ++ quoted_bytes text.now) }
+#[tactic(auto, using(crate::proofs::Longer::begins_same, crate::proofs::Longer::begins_more, crate::proofs::Longer::begins_trans))]
+fn add_quoted(bytes: &mut Vec<u8>, text: &[u8]) -> Result<(), AllocError>
+    ensures ok { OnOk result (bytes.new.items ≡ bytes.old.items ++ quoted_bytes text.now) }
+    ensures kept { Begins bytes.old.items bytes.new.items }
 {
     for byte in text {
-        put_byte(bytes, *byte)?;
+        add_byte(bytes, *byte)?;
     }
     Ok(())
 }
 
-fn put_byte(bytes: &mut Vec<u8>, byte: u8) -> Result<(), AllocError>
-    ensures { OnOk result (bytes.new.items ≡ bytes.old.items ++ quoted_byte byte) }
+fn add_byte(bytes: &mut Vec<u8>, byte: u8) -> Result<(), AllocError>
+    ensures { bytes.new.items ≡ (if is_ok result then bytes.old.items ++ quoted_byte byte else bytes.old.items) }
 {
     match byte {
-        b'"' | b'\\' => {
-            bytes.push(byte)?;
-            bytes.push(byte)?;
-        }
-        b' '..=b'~' => bytes.push(byte)?,
-        _ => {
-            bytes.push(b'\\')?;
-            bytes.push(digit_byte(byte / 16))?;
-            bytes.push(digit_byte(byte % 16))?;
-        }
+        b'"' | b'\\' => bytes.extend_from_slice(&[byte, byte]),
+        b' '..=b'~' => bytes.extend_from_slice(&[byte]),
+        _ => bytes.extend_from_slice(&[b'\\', digit_byte(byte / 16), digit_byte(byte % 16)]),
     }
-    Ok(())
 }
 
 // A hexadecimal digit.

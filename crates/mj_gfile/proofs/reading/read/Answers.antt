@@ -1,5 +1,5 @@
 -- What is read is what is listed.
-use Rattle.mj_gfile.proofs.Listings.{lists_them, lists_all}
+use Rattle.mj_gfile.specs.Laws.Listings.{lists_them, lists_all}
 use Rattle.mj_gfile.proofs.reading.read.Goals as goal
 
 pub returns-clause-lists : goal.returns-clause-lists

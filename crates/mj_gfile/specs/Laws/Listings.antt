@@ -1,6 +1,6 @@
 -- A listing is read as the globals that it lists, and nothing else is read.
-use Rattle.std.proofs.Common.{◌≡◌, ◌↔◌, ◌⊎◌, inl, inr, ◌∙◌, ◌+◌, ◌/◌, ◌%◌, ◌<◌, ◌≤◌, suc, ℕ, Bool, true, false, not, cond, ◌&&◌, ◌||◌, eqb, eqb-true, ne_eqb, List, [], ◌∷◌, ◌++◌, length, Option, Some, None, Result, Ok, Err, refl, sym, ap, subst, append_assoc, append-nil, arith}
-use Rattle.std.specs.Prelude.{T, IfOk, IfErr, nat_lt, nat_le, codes}
+use Rattle.std.proofs.Common.{◌≡◌, ◌⊎◌, inl, inr, ◌∙◌, ◌/◌, ◌%◌, ◌<◌, suc, ℕ, Bool, true, false, not, cond, ◌&&◌, ◌||◌, eqb, eqb-true, ne_eqb, List, [], ◌∷◌, ◌++◌, length, Option, Some, None, Result, Ok, Err, refl, sym, ap, subst, append_assoc, arith}
+use Rattle.std.specs.Prelude.{T, IfOk, IfErr, nat_le}
 use Rattle.std.specs.List.{list_all}
 use Rattle.std.specs.Char.{is_ascii_alphabetic, is_ascii_alphanumeric}
 use Rattle.std.specs.Str.{bytes_eq}
@@ -19,11 +19,11 @@ use Rattle.mj_nref.specs.Spelling.{is_filled, word_text}
 use Rattle.mj_store.specs.Questions.{Content}
 use Rattle.mj_gfile.specs.declared.error.ReadError.{ReadError}
 use Rattle.mj_gfile.specs.declared.error.ReadError.TheVariants as error
-use Rattle.mj_gfile.specs.Spelling.{is_shown, digit_byte, quoted_byte, quoted_bytes, listed_text, listed_subscript, listed_rest, listed_subscripts, listed_name, listed_line, listed_lines, header, listing_of}
-use Rattle.mj_gfile.specs.Reading.{Whole, is_number_byte, is_word_byte, is_any_word, quoted_at, text_at, whole, whole_only, behind, assigned, value_of, with_value, valued, globally, name_in, line_of}
-use Rattle.mj_gfile.specs.Listing.{is_short, are_small, is_small, is_small_node, begun_by, lines_of, is_after, judged, node_of, before, followed, nodes_of, headed, reading_of, are_bytes, is_text, is_subscript, is_node, AreGlobals, IsReading}
-use Rattle.mj_gfile.proofs.QuotedTexts.{both_true, NoQuote, IsQuoted, quoted_at-quoted, quoted_at-IsQuoted}
-use Rattle.mj_gfile.proofs.NameFields.{canonic_numbers, more_pass, IsSub, AreSubs, name_in-listed, IsNameAt, IsNamed, name_in-IsNamed}
+use Rattle.mj_gfile.specs.Spelling.{is_shown, digit_byte, quoted_byte, quoted_bytes, listed_text, listed_subscript, listed_rest, listed_subscripts, listed_line, listed_lines, header, listing_of}
+use Rattle.mj_gfile.specs.Reading.{Whole, is_number_byte, is_any_word, quoted_at, text_at, whole_only, assigned, value_of, with_value, valued, globally, name_in, line_of}
+use Rattle.mj_gfile.specs.Listing.{is_short, are_small, is_small, is_small_node, begun_by, lines_of, is_after, judged, before, followed, nodes_of, headed, reading_of, are_bytes, is_text, is_subscript, is_node, AreGlobals, IsReading}
+use Rattle.mj_gfile.specs.Laws.Texts.{both_true, IsQuoted, quoted_at-quoted, quoted_at-IsQuoted}
+use Rattle.mj_gfile.specs.Laws.Names.{canonic_numbers, more_pass, AreSubs, name_in-listed, IsNameAt, IsNamed, name_in-IsNamed}
 
 -- ---- one line
 
@@ -46,7 +46,7 @@ line_text n t g =
 -- a spelled line is read
 line_of-listed : (e : Name × List ℕ) → IsSpelled e → line_of (listed_line e) ≡ Some e
 line_of-listed e k =
-    ap line_of (line_text e.0 e.1 k.global) ∙ ap valued (name_in-listed true e.0.word e.0.subscripts (listed_text e.1) k.word k.subs)
+    ap line_of (line_text e.0 e.1 k.global) ∙ ap valued (name_in-listed true e.0.word e.0.subscripts (61 ∷ listed_text e.1) k.word k.subs (refl, refl))
     ∙ ap (with_value (record { global = true; word = e.0.word; subscripts = e.0.subscripts })) (value_read e.1 k.text)
     ∙ ap (λ g. Some (record { global = g; word = e.0.word; subscripts = e.0.subscripts }, e.1)) (sym k.global)
 
@@ -83,9 +83,10 @@ value_of-IsValue (c ∷ cs) = by (eqb c 61) refl
 
 valued_line : (cs : List ℕ) (n : Name) (r : List ℕ) (o : Option (List ℕ)) → IsNameAt true cs n r → IsValue r o → IsLine (94 ∷ cs) (with_value n o)
 valued_line cs n r None k h = tt
-valued_line cs n r (Some t) k h =
-    (ap (λ l. 94 ∷ l) (k.spells ∙ ap (λ x. n.word ++ (listed_subscripts n.subscripts ++ x)) h.0) ∙ sym (line_text n t k.kind),
-    record { global = k.kind; word = k.word; subs = k.subs; text = h.1 })
+valued_line cs n r (Some t) k h = (
+  ap (λ l. 94 ∷ l) (k.spells ∙ ap (λ x. n.word ++ (listed_subscripts n.subscripts ++ x)) h.0) ∙ sym (line_text n t k.kind),
+  record { global = k.kind; word = k.word; subs = k.subs; text = h.1 },
+)
 
 named_line : (cs : List ℕ) (o : Option (Name × List ℕ)) → IsNamed true cs o → IsLine (94 ∷ cs) (valued o)
 named_line cs None h = tt
@@ -296,9 +297,10 @@ sorted_of last (e ∷ es) h = both_so (below_all name_cmp e.0 es) (is_sorted nam
 
 rises_of : (m : Name) (es : Content) → T (below_all name_cmp m es) → T (is_sorted name_cmp es) → Rises (Some m) es
 rises_of m [] h k = tt
-rises_of m (e ∷ es) h k =
-    (is_true (is_lt (name_cmp m e.0)) (first_so (is_lt (name_cmp m e.0)) (below_all name_cmp m es) h),
-    rises_of e.0 es (first_so (below_all name_cmp e.0 es) (is_sorted name_cmp es) k) (second_so (below_all name_cmp e.0 es) (is_sorted name_cmp es) k))
+rises_of m (e ∷ es) h k = (
+  is_true (is_lt (name_cmp m e.0)) (first_so (is_lt (name_cmp m e.0)) (below_all name_cmp m es) h),
+  rises_of e.0 es (first_so (below_all name_cmp e.0 es) (is_sorted name_cmp es) k) (second_so (below_all name_cmp e.0 es) (is_sorted name_cmp es) k),
+)
 
 rises_all : (es : Content) → T (is_sorted name_cmp es) → Rises None es
 rises_all [] k = tt

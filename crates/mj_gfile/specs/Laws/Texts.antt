@@ -1,9 +1,9 @@
 -- A text in listing quotes is read as the text that it spells, and nothing else is read.
-use Rattle.std.proofs.Common.{◌≡◌, ◌≢◌, ◌∙◌, ◌+◌, ◌*◌, ◌/◌, ◌%◌, ◌-◌, ◌<◌, ◌≤◌, ℕ, Bool, true, false, not, cond, ◌&&◌, ◌||◌, eqb, eqb-true, ne_eqb, leb, leb-true, List, [], ◌∷◌, ◌++◌, length, Option, Some, None, refl, sym, ap, subst, append_assoc, arith}
-use Rattle.std.specs.Prelude.{nat_lt, nat_le}
+use Rattle.std.proofs.Common.{◌≡◌, ◌∙◌, ◌+◌, ◌*◌, ◌/◌, ◌%◌, ◌<◌, ℕ, Bool, true, false, cond, ◌&&◌, eqb, eqb-true, List, [], ◌∷◌, ◌++◌, Option, Some, None, refl, sym, ap, subst, append_assoc, arith}
+use Rattle.std.specs.Prelude.{nat_lt}
 use Rattle.std.proofs.lemmas.Bool.Decides.{nat_tests}
-use Rattle.mj_gfile.specs.Spelling.{is_shown, digit_byte, quoted_byte, quoted_bytes}
-use Rattle.mj_gfile.specs.Reading.{Place, Whole, Quote, Slash, Digit, is_digit_byte, digit_value, preceded, unshown, quoted_at}
+use Rattle.mj_gfile.specs.Spelling.{is_shown, digit_byte, quoted_byte, quoted_bytes, listed_text}
+use Rattle.mj_gfile.specs.Reading.{Place, Whole, Quote, Slash, Digit, is_digit_byte, digit_value, preceded, unshown, quoted_at, text_at}
 use Rattle.mj_gfile.specs.Listing.{are_bytes}
 
 pub both_true : (a b : Bool) → (a && b) ≡ true → (a ≡ true) × (b ≡ true)
@@ -191,3 +191,27 @@ quoted_at-read (Digit h) (c ∷ cs) k = digit_step h c cs (is_digit_byte c) k re
 
 pub quoted_at-IsQuoted : (bs : List ℕ) → IsQuoted bs (quoted_at Whole bs)
 quoted_at-IsQuoted bs = quoted_at-read Whole bs tt
+
+-- ---- texts
+
+-- a text in listing quotes is read, where no quote follows it
+pub text_at-listed : (t r : List ℕ) → are_bytes t ≡ true → NoQuote r → text_at (listed_text t ++ r) ≡ Some (t, r)
+text_at-listed t r h q = ap (quoted_at Whole) (append_assoc (quoted_bytes t) (34 ∷ []) r) ∙ quoted_at-quoted t r h q
+
+-- what a reading of a text says of the bytes
+abbrev pub IsTextAt : List ℕ → Option (List ℕ × List ℕ) → Type 0
+IsTextAt bs None = Unit {0}
+IsTextAt bs (Some p) = (bs ≡ listed_text p.0 ++ p.1) × (are_bytes p.0 ≡ true)
+
+listed_at : (cs : List ℕ) (o : Option (List ℕ × List ℕ)) → IsQuoted cs o → IsTextAt (34 ∷ cs) o
+listed_at cs None h = tt
+listed_at cs (Some p) h = (ap (λ l. 34 ∷ l) (h.0 ∙ sym (append_assoc (quoted_bytes p.0) (34 ∷ []) p.1)), h.1)
+
+-- what is read is a text in listing quotes
+pub text_at-IsTextAt : (bs : List ℕ) → IsTextAt bs (text_at bs)
+text_at-IsTextAt [] = tt
+text_at-IsTextAt (c ∷ cs) = by (eqb c 34) refl
+  where
+    by : (b : Bool) → eqb c 34 ≡ b → IsTextAt (c ∷ cs) (cond b (quoted_at Whole cs) None)
+    by false e = tt
+    by true e = subst (λ d. IsTextAt (d ∷ cs) (quoted_at Whole cs)) (sym (eqb-true c 34 e)) (listed_at cs (quoted_at Whole cs) (quoted_at-IsQuoted cs))

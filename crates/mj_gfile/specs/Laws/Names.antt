@@ -1,6 +1,6 @@
 -- A subscript, a list of them or a name in a listing is read as what it spells, and nothing else is read.
-use Rattle.std.proofs.Common.{◌≡◌, ◌≢◌, ◌⊎◌, ◌∙◌, inl, inr, leb, leb-true, ◌+◌, ◌<◌, ◌≤◌, ℕ, zero, suc, Bool, true, false, not, cond, ◌&&◌, ◌||◌, eqb, eqb-true, ne_eqb, List, [], ◌∷◌, ◌++◌, length, length-append, Option, Some, None, refl, sym, ap, subst, append_assoc, arith}
-use Rattle.std.specs.Prelude.{nat_lt, nat_le}
+use Rattle.std.proofs.Common.{◌≡◌, ◌∙◌, ◌<◌, ℕ, zero, suc, Bool, true, false, not, cond, ◌&&◌, ◌||◌, eqb, eqb-true, List, [], ◌∷◌, ◌++◌, length, length-append, Option, Some, None, refl, sym, ap, subst, append_assoc, arith}
+use Rattle.std.specs.Prelude.{nat_lt}
 use Rattle.std.specs.List.{list_all}
 use Rattle.std.specs.Char.{is_ascii_digit, is_ascii_alphabetic, is_ascii_alphanumeric}
 use Rattle.std.specs.Str.{all_ascii_digits}
@@ -8,10 +8,10 @@ use Rattle.std.proofs.lemmas.Bool.Decides.{nat_tests}
 use Rattle.mj_num.specs.Number.{is_canonic, is_magnitude}
 use Rattle.mj_subs.specs.Name.{Name}
 use Rattle.mj_nref.specs.Spelling.{is_filled, word_text}
-use Rattle.mj_gfile.specs.Spelling.{quoted_bytes, listed_text, listed_subscript, listed_rest, listed_subscripts}
-use Rattle.mj_gfile.specs.Reading.{Whole, front_by, rest_by, is_number_byte, is_plain, plain_only, number_at, subscript_at, mark_at, marked, with_mark, item_at, listed, continued, continued_by, subscripts_of, subscripts_at, is_word_byte, is_any_word, named, name_with, name_in, quoted_at}
+use Rattle.mj_gfile.specs.Spelling.{quoted_bytes, listed_text, listed_subscript, listed_rest, listed_subscripts, listed_name}
+use Rattle.mj_gfile.specs.Reading.{Whole, front_by, rest_by, is_number_byte, is_plain, plain_only, number_at, subscript_at, mark_at, marked, with_mark, item_at, listed, continued_by, subscripts_of, subscripts_at, is_word_byte, is_any_word, named, name_with, name_in, name_at, quoted_at}
 use Rattle.mj_gfile.specs.Listing.{are_bytes}
-use Rattle.mj_gfile.proofs.QuotedTexts.{both_true, NoQuote, IsQuoted, quoted_at-quoted, quoted_at-IsQuoted}
+use Rattle.mj_gfile.specs.Laws.Texts.{both_true, NoQuote, IsQuoted, quoted_at-quoted, quoted_at-IsQuoted}
 
 -- ---- runs
 
@@ -122,7 +122,7 @@ quoted_read s r h k q =
     ap (λ l. plain_only (quoted_at Whole l)) (append_assoc (quoted_bytes s) (34 ∷ []) r) ∙ ap plain_only (quoted_at-quoted s r k.bytes q) ∙ plain_read s r h k.filled
 
 -- a spelled subscript is read
-subscript_at-listed : (s r : List ℕ) → IsSub s → Stops is_number_byte r → NoQuote r → subscript_at (listed_subscript s ++ r) ≡ Some (s, r)
+pub subscript_at-listed : (s r : List ℕ) → IsSub s → Stops is_number_byte r → NoQuote r → subscript_at (listed_subscript s ++ r) ≡ Some (s, r)
 unfolding spelled
 subscript_at-listed s r k m q = by (is_canonic s) refl
   where
@@ -131,37 +131,38 @@ subscript_at-listed s r k m q = by (is_canonic s) refl
     by false h = quoted_read s r h k q
 
 -- what a reading of a subscript says of the bytes
-abbrev IsSpelled : List ℕ → Option (List ℕ × List ℕ) → Type 0
-IsSpelled bs None = Unit {0}
-IsSpelled bs (Some p) = (bs ≡ listed_subscript p.0 ++ p.1) × IsSub p.0
+abbrev pub IsSubscriptAt : List ℕ → Option (List ℕ × List ℕ) → Type 0
+IsSubscriptAt bs None = Unit {0}
+IsSubscriptAt bs (Some p) = (bs ≡ listed_subscript p.0 ++ p.1) × IsSub p.0
 
 plain_parts : (s : List ℕ) → is_plain s ≡ true → (is_canonic s ≡ false) × (is_filled s ≡ true)
 plain_parts [] h = absurd cc
 plain_parts (c ∷ cs) h = (not_true (is_canonic (c ∷ cs)) h, refl)
 
-plain_spelled : (cs : List ℕ) (o : Option (List ℕ × List ℕ)) → IsQuoted cs o → IsSpelled (34 ∷ cs) (plain_only o)
+plain_spelled : (cs : List ℕ) (o : Option (List ℕ × List ℕ)) → IsQuoted cs o → IsSubscriptAt (34 ∷ cs) (plain_only o)
 plain_spelled cs None h = tt
 plain_spelled cs (Some p) h = by (is_plain p.0) refl
   where
-    by : (b : Bool) → is_plain p.0 ≡ b → IsSpelled (34 ∷ cs) (cond b (Some p) None)
+    by : (b : Bool) → is_plain p.0 ≡ b → IsSubscriptAt (34 ∷ cs) (cond b (Some p) None)
     by false e = tt
     by true e =
         let k = plain_parts p.0 e in
         (ap (λ l. 34 ∷ l) (h.0 ∙ sym (append_assoc (quoted_bytes p.0) (34 ∷ []) p.1)) ∙ ap (λ b. cond b p.0 (listed_text p.0) ++ p.1) (sym k.0), record { filled = k.1; bytes = h.1 })
 
-bare_spelled : (bs : List ℕ) (b : Bool) → is_canonic (front_by is_number_byte bs) ≡ b → IsSpelled bs (cond b (Some (front_by is_number_byte bs, rest_by is_number_byte bs)) None)
+bare_spelled : (bs : List ℕ) (b : Bool) → is_canonic (front_by is_number_byte bs) ≡ b → IsSubscriptAt bs (cond b (Some (front_by is_number_byte bs, rest_by is_number_byte bs)) None)
 bare_spelled bs false e = tt
-bare_spelled bs true e =
-    (front-rest is_number_byte bs ∙ ap (λ b. cond b (front_by is_number_byte bs) (listed_text (front_by is_number_byte bs)) ++ rest_by is_number_byte bs) (sym e),
-    record { filled = (canonic_clear (front_by is_number_byte bs) e).some_byte; bytes = canonic_bytes (front_by is_number_byte bs) e })
+bare_spelled bs true e = (
+  front-rest is_number_byte bs ∙ ap (λ b. cond b (front_by is_number_byte bs) (listed_text (front_by is_number_byte bs)) ++ rest_by is_number_byte bs) (sym e),
+  record { filled = (canonic_clear (front_by is_number_byte bs) e).some_byte; bytes = canonic_bytes (front_by is_number_byte bs) e },
+)
 
 -- what is read is a spelled subscript
-subscript_at-IsSpelled : (bs : List ℕ) → IsSpelled bs (subscript_at bs)
-subscript_at-IsSpelled [] = tt
-subscript_at-IsSpelled (c ∷ cs) = by (eqb c 34) refl
+pub subscript_at-IsSubscriptAt : (bs : List ℕ) → IsSubscriptAt bs (subscript_at bs)
+subscript_at-IsSubscriptAt [] = tt
+subscript_at-IsSubscriptAt (c ∷ cs) = by (eqb c 34) refl
   where
-    by : (b : Bool) → eqb c 34 ≡ b → IsSpelled (c ∷ cs) (cond b (plain_only (quoted_at Whole cs)) (number_at (c ∷ cs)))
-    by true e = subst (λ d. IsSpelled (d ∷ cs) (plain_only (quoted_at Whole cs))) (sym (eqb-true c 34 e)) (plain_spelled cs (quoted_at Whole cs) (quoted_at-IsQuoted cs))
+    by : (b : Bool) → eqb c 34 ≡ b → IsSubscriptAt (c ∷ cs) (cond b (plain_only (quoted_at Whole cs)) (number_at (c ∷ cs)))
+    by true e = subst (λ d. IsSubscriptAt (d ∷ cs) (plain_only (quoted_at Whole cs))) (sym (eqb-true c 34 e)) (plain_spelled cs (quoted_at Whole cs) (quoted_at-IsQuoted cs))
     by false e = bare_spelled (c ∷ cs) (is_canonic (front_by is_number_byte (c ∷ cs))) refl
 
 -- ---- lists of subscripts
@@ -189,9 +190,9 @@ marked_item bs s (c ∷ cs) e k = by (eqb c 44) refl (eqb c 41) refl
     by false p false q = tt
 
 item_at-IsItem : (bs : List ℕ) → IsItem bs (item_at bs)
-item_at-IsItem bs = by (subscript_at bs) (subscript_at-IsSpelled bs)
+item_at-IsItem bs = by (subscript_at bs) (subscript_at-IsSubscriptAt bs)
   where
-    by : (o : Option (List ℕ × List ℕ)) → IsSpelled bs o → IsItem bs (with_mark o)
+    by : (o : Option (List ℕ × List ℕ)) → IsSubscriptAt bs o → IsItem bs (with_mark o)
     by None h = tt
     by (Some p) h = marked_item bs p.0 p.1 h.0 h.1
 
@@ -214,14 +215,14 @@ rest_longer : (ss : List (List ℕ)) → length ss < length (listed_rest ss)
 rest_longer [] = omega arith
 rest_longer (s ∷ ss) = omega (arith, rest_longer ss, length-append (listed_subscript s) (listed_rest ss))
 
-subscripts_at-listed : (s : List ℕ) (ss : List (List ℕ)) (r : List ℕ) → IsSub s → AreSubs ss → subscripts_at ((listed_subscript s ++ listed_rest ss) ++ r) ≡ Some (s ∷ ss, r)
+pub subscripts_at-listed : (s : List ℕ) (ss : List (List ℕ)) (r : List ℕ) → IsSub s → AreSubs ss → subscripts_at ((listed_subscript s ++ listed_rest ss) ++ r) ≡ Some (s ∷ ss, r)
 subscripts_at-listed s ss r f fs =
     ap (λ l. subscripts_of (length ((listed_subscript s ++ listed_rest ss) ++ r)) l) (append_assoc (listed_subscript s) (listed_rest ss) r)
     ∙ subscripts_of-listed (length ((listed_subscript s ++ listed_rest ss) ++ r)) s ss r
     (omega (arith, rest_longer ss, length-append (listed_subscript s ++ listed_rest ss) r, length-append (listed_subscript s) (listed_rest ss))) f fs
 
 -- what a reading of a list says of the bytes
-abbrev IsListed : List ℕ → Option (List (List ℕ) × List ℕ) → Type 0
+abbrev pub IsListed : List ℕ → Option (List (List ℕ) × List ℕ) → Type 0
 IsListed bs None = Unit {0}
 IsListed bs (Some ([], r)) = ⊥
 IsListed bs (Some (s ∷ ss, r)) = (bs ≡ (listed_subscript s ++ listed_rest ss) ++ r) × AreSubs (s ∷ ss)
@@ -243,6 +244,10 @@ subscripts_of-IsListed (suc k) bs = listed_by bs (subscripts_of k) (subscripts_o
     listed_by bs more rec (Some (s, false, cs)) h = (h.0 ∙ sym (append_assoc (listed_subscript s) (41 ∷ []) cs), (h.1, tt))
     listed_by bs more rec (Some (s, true, cs)) h = one_more bs s cs (more cs) h.0 h.1 (rec cs)
 
+-- what is read is a spelled list
+pub subscripts_at-IsListed : (bs : List ℕ) → IsListed bs (subscripts_at bs)
+subscripts_at-IsListed bs = subscripts_of-IsListed (length bs) bs
+
 -- ---- names
 
 word_bytes : (w : List ℕ) → is_any_word w ≡ true → list_all is_word_byte w ≡ true
@@ -261,21 +266,42 @@ word_bytes (c ∷ cs) h =
 abbrev made : Bool → List ℕ → List (List ℕ) → Name
 made g w ss = record { global = g; word = w; subscripts = ss }
 
-Stops-subscripts : (ss : List (List ℕ)) (cs : List ℕ) → Stops is_word_byte (listed_subscripts ss ++ 61 ∷ cs)
-Stops-subscripts [] cs = refl
-Stops-subscripts (s ∷ ss) cs = refl
+-- the bytes don't go on with a word or a list of subscripts
+abbrev pub Ends : List ℕ → Type 0
+Ends [] = Unit {0}
+Ends (c ∷ cs) = (is_word_byte c ≡ false) × (eqb c 40 ≡ false)
 
-list_read : (g : Bool) (w : List ℕ) (ss : List (List ℕ)) (cs : List ℕ) → AreSubs ss → name_with g w (listed_subscripts ss ++ 61 ∷ cs) ≡ Some (made g w ss, 61 ∷ cs)
-list_read g w [] cs f = refl
-list_read g w (s ∷ ss) cs f = ap (named g w) (subscripts_at-listed s ss (61 ∷ cs) f.0 f.1)
+Stops-subscripts : (ss : List (List ℕ)) (r : List ℕ) → Ends r → Stops is_word_byte (listed_subscripts ss ++ r)
+Stops-subscripts [] [] e = tt
+Stops-subscripts [] (c ∷ cs) e = e.0
+Stops-subscripts (s ∷ ss) r e = refl
 
--- a spelled name before `=` is read
-pub name_in-listed : (g : Bool) (w : List ℕ) (ss : List (List ℕ)) (cs : List ℕ) → is_any_word w ≡ true → AreSubs ss → name_in g (w ++ (listed_subscripts ss ++ 61 ∷ cs)) ≡ Some (made g w ss, 61 ∷ cs)
-name_in-listed g w ss cs h f =
+list_read : (g : Bool) (w : List ℕ) (ss : List (List ℕ)) (r : List ℕ) → AreSubs ss → Ends r → name_with g w (listed_subscripts ss ++ r) ≡ Some (made g w ss, r)
+list_read g w [] [] f e = refl
+list_read g w [] (c ∷ cs) f e = ap (λ b. cond b (named g w (subscripts_at cs)) (named g w (Some ([], c ∷ cs)))) e.1
+list_read g w (s ∷ ss) r f e = ap (named g w) (subscripts_at-listed s ss r f.0 f.1)
+
+-- a spelled name is read, where neither its word nor a list of subscripts goes on
+pub name_in-listed : (g : Bool) (w : List ℕ) (ss : List (List ℕ)) (r : List ℕ) → is_any_word w ≡ true → AreSubs ss → Ends r → name_in g (w ++ (listed_subscripts ss ++ r)) ≡ Some (made g w ss, r)
+name_in-listed g w ss r h f e =
     let all = word_bytes w h in
-    let front = front_by-all is_word_byte w (listed_subscripts ss ++ 61 ∷ cs) all (Stops-subscripts ss cs) in
-    let rest = rest_by-all is_word_byte w (listed_subscripts ss ++ 61 ∷ cs) all (Stops-subscripts ss cs) in
-    (λ i. cond (is_any_word (front i)) (name_with g (front i) (rest i)) None) ∙ ap (λ b. cond b (name_with g w (listed_subscripts ss ++ 61 ∷ cs)) None) h ∙ list_read g w ss cs f
+    let front = front_by-all is_word_byte w (listed_subscripts ss ++ r) all (Stops-subscripts ss r e) in
+    let rest = rest_by-all is_word_byte w (listed_subscripts ss ++ r) all (Stops-subscripts ss r e) in
+    (λ i. cond (is_any_word (front i)) (name_with g (front i) (rest i)) None) ∙ ap (λ b. cond b (name_with g w (listed_subscripts ss ++ r)) None) h ∙ list_read g w ss r f e
+
+no_caret : (c : ℕ) → (is_ascii_alphabetic c || eqb c 37) ≡ true → eqb c 94 ≡ false
+no_caret c h = grind (arith, nat_tests)
+
+kind_read : (g : Bool) (w : List ℕ) (ss : List (List ℕ)) (r : List ℕ) → is_any_word w ≡ true → AreSubs ss → Ends r → name_at (word_text g w ++ (listed_subscripts ss ++ r)) ≡ Some (made g w ss, r)
+kind_read true w ss r h f e = name_in-listed true w ss r h f e
+kind_read false [] ss r h f e = absurd cc
+kind_read false (c ∷ cs) ss r h f e =
+    ap (λ b. cond b (name_in true (cs ++ (listed_subscripts ss ++ r))) (name_in false (c ∷ (cs ++ (listed_subscripts ss ++ r))))) (no_caret c (both_true (is_ascii_alphabetic c || eqb c 37) (list_all is_ascii_alphanumeric cs) h).0)
+    ∙ name_in-listed false (c ∷ cs) ss r h f e
+
+-- the same of a name of either kind
+pub name_at-listed : (n : Name) (r : List ℕ) → is_any_word n.word ≡ true → AreSubs n.subscripts → Ends r → name_at (listed_name n ++ r) ≡ Some (n, r)
+name_at-listed n r h f e = ap name_at (append_assoc (word_text n.global n.word) (listed_subscripts n.subscripts) r) ∙ kind_read n.global n.word n.subscripts r h f e
 
 -- what a reading of a name says of the bytes
 pub record IsNameAt (g : Bool) (bs : List ℕ) (n : Name) (r : List ℕ) : Type 0 where
@@ -309,3 +335,32 @@ name_in-IsNamed g bs = by (is_any_word (front_by is_word_byte bs)) refl
     by false e = tt
     by true e =
         subst (λ l. IsNamed g l (name_with g (front_by is_word_byte bs) (rest_by is_word_byte bs))) (sym (front-rest is_word_byte bs)) (rest_named g (front_by is_word_byte bs) (rest_by is_word_byte bs) e)
+
+-- what a reading of a name of either kind says of the bytes
+pub record IsNameOf (bs : List ℕ) (n : Name) (r : List ℕ) : Type 0 where
+  pub word : is_any_word n.word ≡ true
+  pub subs : AreSubs n.subscripts
+  pub spells : bs ≡ listed_name n ++ r
+
+abbrev pub IsNamedOf : List ℕ → Option (Name × List ℕ) → Type 0
+IsNamedOf bs None = Unit {0}
+IsNamedOf bs (Some p) = IsNameOf bs p.0 p.1
+
+of_kind : (g : Bool) (bs : List ℕ) (n : Name) (r : List ℕ) → IsNameAt g bs n r → IsNameOf (word_text g bs) n r
+of_kind true bs n r k =
+    record { word = k.word; subs = k.subs; spells = ap (λ l. 94 ∷ l) (k.spells ∙ sym (append_assoc n.word (listed_subscripts n.subscripts) r)) ∙ ap (λ g. (word_text g n.word ++ listed_subscripts n.subscripts) ++ r) (sym k.kind) }
+of_kind false bs n r k =
+    record { word = k.word; subs = k.subs; spells = k.spells ∙ sym (append_assoc n.word (listed_subscripts n.subscripts) r) ∙ ap (λ g. (word_text g n.word ++ listed_subscripts n.subscripts) ++ r) (sym k.kind) }
+
+kind_named : (g : Bool) (bs : List ℕ) (o : Option (Name × List ℕ)) → IsNamed g bs o → IsNamedOf (word_text g bs) o
+kind_named g bs None h = tt
+kind_named g bs (Some p) h = of_kind g bs p.0 p.1 h
+
+-- what is read is a spelled name of either kind
+pub name_at-IsNamedOf : (bs : List ℕ) → IsNamedOf bs (name_at bs)
+name_at-IsNamedOf [] = tt
+name_at-IsNamedOf (c ∷ cs) = by (eqb c 94) refl
+  where
+    by : (b : Bool) → eqb c 94 ≡ b → IsNamedOf (c ∷ cs) (cond b (name_in true cs) (name_in false (c ∷ cs)))
+    by true e = subst (λ d. IsNamedOf (d ∷ cs) (name_in true cs)) (sym (eqb-true c 94 e)) (kind_named true cs (name_in true cs) (name_in-IsNamed true cs))
+    by false e = kind_named false (c ∷ cs) (name_in false (c ∷ cs)) (name_in-IsNamed false (c ∷ cs))
