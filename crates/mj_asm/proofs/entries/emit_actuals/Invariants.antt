@@ -2,7 +2,7 @@ use Rattle.std.proofs.Common.{◌≡◌, ◌++◌, length, drop, map}
 use Rattle.std.specs.Prelude.{option_map}
 use Rattle.mj_ast.specs.Trees.{expr_of}
 use Rattle.mj_asm.specs.Code.{actuals_code, shape_of}
-use Rattle.mj_asm.proofs.emit.emit_call.Given as goal
+use Rattle.mj_asm.proofs.entries.emit_actuals.Given as goal
 
 -- the code and the shape so far, and those of what is left
 abbrev pub invariant-loop-actual : goal.invariant-loop-actual
