@@ -8,7 +8,7 @@ use Rattle.mj_asm.proofs.entries.emit_actuals.Given as goal
 abbrev pub invariant-loop-actual : goal.invariant-loop-actual
 invariant-loop-actual l = record {
   code :
-      l.code.items ++ actuals_code (length l.code.items) (map (option_map expr_of) (drop l.actual-index l.actual-items))
-      ≡ l.fn.code.items ++ actuals_code (length l.fn.code.items) (map (option_map expr_of) l.actual-items);
-  shape : l.shape ++ shape_of (map (option_map expr_of) (drop l.actual-index l.actual-items)) ≡ shape_of (map (option_map expr_of) l.actual-items);
+      l.code.items ++ actuals_code (length l.code.items) (map (option_map expr_of) (drop l.actual-index l.actuals))
+      ≡ l.fn.code.items ++ actuals_code (length l.fn.code.items) (map (option_map expr_of) l.actuals);
+  shape : l.shape ++ shape_of (map (option_map expr_of) (drop l.actual-index l.actuals)) ≡ shape_of (map (option_map expr_of) l.actuals);
 }
