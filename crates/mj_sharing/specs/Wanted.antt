@@ -1,13 +1,12 @@
 -- What is asked for by operands: how long that may take, and names.
-use Rattle.std.specs.Prelude.{ℕ, ℤ, List, [], drop, Option, Some, None, Bool, not, Result, Ok, Err}
+use Rattle.std.specs.Prelude.{ℕ, ℤ, List, [], Option, Some, None, Bool, not, Result, Ok, Err}
 use Rattle.mj_text.specs.declared.fault.Fault.{Fault}
 use Rattle.mj_text.specs.Failing.{then_value}
 use Rattle.mj_num.specs.Number.{reading}
 use Rattle.mj_subs.specs.Name.{Name}
-use Rattle.mj_pcode.specs.declared.instr.Reference.{Reference}
 use Rattle.mj_pcode.specs.declared.instr.Wait.{Wait}
 use Rattle.mj_pcode.specs.declared.instr.Wait.TheVariants.{Ever, Timed}
-use Rattle.mj_pcode.specs.Machine.{Stack, top, wait_size, names_on}
+use Rattle.mj_pcode.specs.Machine.{Stack, top}
 
 -- how long an ask may wait: the topmost operand says it, where it is limited
 abbrev pub timeout_in : Wait → Stack → Result (Option ℤ) Fault
@@ -23,7 +22,3 @@ test_after (Some n) late before = not late
 abbrev pub listed : Option (List Name) → List Name
 listed None = []
 listed (Some xs) = xs
-
--- the names of variables, and how long it may take to have them
-abbrev pub wanted : List Reference → Wait → Stack → Result (List Name × Option ℤ) Fault
-wanted rs w stack = then_value (timeout_in w stack) (λ t. then_value (names_on rs (drop (wait_size w) stack)) (λ xs. Ok (xs, t)))

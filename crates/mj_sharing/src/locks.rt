@@ -5,14 +5,13 @@ ghost use Rattle.mj_text.specs.Failing.{then_value};
 ghost use Rattle.mj_pcode.specs.Machine as machines;
 ghost use Rattle.mj_pcode.specs.declared.instr.Instr.TheVariants as instrs;
 ghost use Rattle.mj_machine.specs.Kept.{stack_of, Obeys, Stays, replied};
-ghost use Rattle.mj_sharing.specs.Wanted.{listed, wanted};
+ghost use Rattle.mj_sharing.specs.Wanted.{listed};
 
 use crate::timed::{ask_in_time, timeout_of, wait_size};
 use mj_access::names::name_below;
 use mj_ask::{Ask, Names, Reply};
 use mj_machine::quiet::{discard, fail};
 use mj_machine::{Machine, Step};
-use mj_num::Num;
 use mj_pcode::{Reference, References, Wait};
 use mj_subs::Name;
 use mj_text::Fault;
@@ -48,26 +47,24 @@ pub fn lock(
     ensures ok { IfOk result (λ step. Obeys (instrs.Lock references.now wait) pc machine.old (replied given.entry) step machine.new) }
     ensures err { OnErr result (Stays machine.old machine.new) }
 {
-    let wanted = match wanted(alloc, references.as_slice(), wait, machine)? {
-        Ok(wanted) => wanted,
+    let timeout = match timeout_of(wait, &machine.stack) {
+        Ok(timeout) => timeout,
         Err(fault) => return Ok(fail(fault, machine)),
     };
-    let Wanted {
-        names,
-        timeout,
-        count,
-    } = wanted;
+    let above = wait_size(wait);
+    let variables = references.as_slice();
+    let names = match names_below(alloc, variables, machine, above)? {
+        Ok(names) => names,
+        Err(fault) => return Ok(fail(fault, machine)),
+    };
+    let count = counts(variables) + above;
     match names {
         None => Ok(discard(pc, count, machine)),
-        Some(names) => ask_in_time(
-            alloc,
-            pc,
-            count,
-            Ask::Try(names, timeout),
-            timeout,
-            machine,
-            given,
-        ),
+        Some(names) => {
+            let ask = Ask::Try(names, timeout);
+            let limit = ask.timeout();
+            ask_in_time(alloc, pc, count, ask, limit, machine, given)
+        }
     }
 }
 
@@ -86,63 +83,24 @@ pub fn unlock(
     ensures ok { IfOk result (λ step. Obeys (instrs.Unlock references.now wait) pc machine.old (replied given.entry) step machine.new) }
     ensures err { OnErr result (Stays machine.old machine.new) }
 {
-    let wanted = match wanted(alloc, references.as_slice(), wait, machine)? {
-        Ok(wanted) => wanted,
-        Err(fault) => return Ok(fail(fault, machine)),
-    };
-    let Wanted {
-        names,
-        timeout,
-        count,
-    } = wanted;
-    match names {
-        None => Ok(discard(pc, count, machine)),
-        Some(names) => ask_in_time(
-            alloc,
-            pc,
-            count,
-            Ask::Unlock(names),
-            timeout,
-            machine,
-            given,
-        ),
-    }
-}
-
-// What is asked for: names, if there are any, how long that may take, and how many operands say so.
-#[derive(Drop)]
-struct Wanted {
-    names: Option<Names>,
-    timeout: Option<Num>,
-    count: usize,
-}
-
-fn wanted(
-    alloc: Global,
-    references: &[Reference],
-    wait: Wait,
-    machine: &Machine,
-) -> Result<Result<Wanted, Fault>, AllocError>
-    requires { machines.counts references.now + machines.wait_size wait ≤ length machine.now.stack.items }
-    ensures value { IfOk result (λ r. then_value r (λ w. Ok (listed w.names, w.timeout)) ≡ wanted references.now wait (stack_of machine.now)) }
-    ensures some { IfOk result (λ r. IfOk r (λ w. IfSome w.names (λ xs. 0 < length xs))) }
-    ensures count { IfOk result (λ r. IfOk r (λ w. w.count ≡ machines.counts references.now + machines.wait_size wait)) }
-{
     let timeout = match timeout_of(wait, &machine.stack) {
         Ok(timeout) => timeout,
-        Err(fault) => return Ok(Err(fault)),
+        Err(fault) => return Ok(fail(fault, machine)),
     };
     let above = wait_size(wait);
-    let names = match names_below(alloc, references, machine, above)? {
+    let variables = references.as_slice();
+    let names = match names_below(alloc, variables, machine, above)? {
         Ok(names) => names,
-        Err(fault) => return Ok(Err(fault)),
+        Err(fault) => return Ok(fail(fault, machine)),
     };
-    let count = counts(references) + above;
-    Ok(Ok(Wanted {
-        names,
-        timeout,
-        count,
-    }))
+    let count = counts(variables) + above;
+    match names {
+        None => Ok(discard(pc, count, machine)),
+        Some(names) => {
+            let ask = Ask::Unlock(names);
+            ask_in_time(alloc, pc, count, ask, timeout, machine, given)
+        }
+    }
 }
 
 // How many subscripts variables have.

@@ -38,13 +38,6 @@ pub fn start_job(
     let operands = stack::topmost(stack::under(&machine.stack, above), actuals);
     let values = spread(alloc, shape.as_slice(), operands)?;
     let start = Start::new(entry.try_clone()?, values);
-    ask_in_time(
-        alloc,
-        pc,
-        actuals + above,
-        Ask::Start(start, timeout),
-        timeout,
-        machine,
-        given,
-    )
+    let ask = Ask::Start(start, timeout);
+    ask_in_time(alloc, pc, actuals + above, ask, timeout, machine, given)
 }
