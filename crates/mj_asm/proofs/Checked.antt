@@ -1,15 +1,19 @@
 -- The code of each piece has at each place the operands and the FORs that it needs there, and leads to places of its own.
-use Rattle.std.proofs.Common.{◌≡◌, ℕ, ◌+◌, ◌-◌, ◌≤◌, List, [], ◌∷◌, ◌++◌, length, Option, Some, None, refl, sym, ap, ◌∙◌, subst, arith, length-append}
+use Rattle.std.proofs.Common.{◌≡◌, ℕ, ◌+◌, ◌-◌, ◌≤◌, List, [], ◌∷◌, ◌++◌, length, map, Option, Some, None, refl, sym, ap, ◌∙◌, subst, arith, length-append}
 use Rattle.std.specs.Prelude.{⊤}
-use Rattle.mj_ast.specs.Syntax.{Expr, Chain, Tails, Done, Then, Operand, Literal, Value, Intrinsic, Unary, Group, Call, Select, Variable, Var, Exprs, No, More, Choices, Last, Before, Destination, Plain, Pieces, Targets, One, Several, Assignment, Killed, Gone, Spared, Merged, Output, Shown, Format, Called, Jumped, Range, Single, Endless, UpTo, Renewed, Fresh, Kept, Command, Set, Write, Halt, Kill, Merge, If, Else, For, Forever, Do, Goto, Quit, New, Step, Line, About}
+use Rattle.mj_ast.specs.Syntax.{Expr, Chain, Tails, Done, Then, Operand, Literal, Value, Intrinsic, Unary, Group, Call, Select, Variable, Var, Exprs, No, More, Choices, Last, Before, Destination, Plain, Pieces, Targets, One, Several, Assignment, Killed, Gone, Spared, Merged, Output, Shown, Format, Called, Jumped, Started, LockNames, Lone, Together, Locked, Range, Single, Endless, UpTo, Renewed, Fresh, Kept, Command, Set, Write, Halt, Hang, Job, Lock, Kill, Merge, If, Else, For, Forever, Do, Goto, Quit, New, Step, Line, About}
 use Rattle.mj_semantics.specs.Lines.{Here, next_line, entry_of}
 use Rattle.mj_pcode.specs.declared.instr.Depth.{Depth}
+use Rattle.mj_pcode.specs.declared.instr.Reference.{Reference}
+use Rattle.mj_pcode.specs.declared.instr.Wait.{Wait}
+use Rattle.mj_ast.specs.declared.routine.LockMode.{LockMode}
+use Rattle.mj_ast.specs.declared.routine.LockMode.TheVariants.{Whole, Plus, Minus}
 use Rattle.mj_pcode.specs.declared.instr.Span.TheVariants as span
 use Rattle.mj_pcode.specs.declared.instr.Instr.{Instr}
 use Rattle.mj_pcode.specs.declared.instr.Instr.TheVariants as instr
-use Rattle.mj_pcode.specs.Machine.{given_count}
+use Rattle.mj_pcode.specs.Machine.{given_count, wait_size, counts}
 use Rattle.mj_pcode.specs.Checked.{Footing, footing, bare, behind, Holds, Fits}
-use Rattle.mj_asm.specs.Code.{count, reference, expr_code, tails_code, operand_code, choices_code, subscripts_code, exprs_code, size, sizes, destination_code, destinations_code, store_code, stores_code, targets_code, assignment_code, assignments_code, names_code, kill_code, kills_code, kill_all_code, merge_code, merges_code, output_code, outputs_code, renewed_code, news_code, new_all_code, actuals_code, shape_of, code_if, call_code, calls_code, do_code, jump_code, jumps_code, quit_code, ifs_code, if_code, else_code, range_code, ranges_code, body_code, for_code, command_code, and_then, obey_code, steps_code, line_code, lines_code}
+use Rattle.mj_asm.specs.Code.{count, reference, expr_code, tails_code, operand_code, choices_code, subscripts_code, exprs_code, size, sizes, destination_code, destinations_code, store_code, stores_code, targets_code, assignment_code, assignments_code, names_code, kill_code, kills_code, kill_all_code, merge_code, merges_code, output_code, outputs_code, renewed_code, news_code, new_all_code, actuals_code, shape_of, timeout_code, wait_of, hang_code, hangs_code, start_code, jobs_code, name_code, variables_code, lock_variables, taking_code, lock_code, locks_code, lock_all_code, code_if, call_code, calls_code, do_code, jump_code, jumps_code, quit_code, ifs_code, if_code, else_code, range_code, ranges_code, body_code, for_code, command_code, and_then, obey_code, steps_code, line_code, lines_code}
 
 -- what the place behind code holds
 abbrev pub reached : Footing → List Instr → Footing
@@ -351,6 +355,88 @@ module _ (fs : List Footing) where
         both pc (at d) (at (d + 1)) (at (d + (n + 1))) ce cr (expr_goes e pc d)
         (goes_as (pc + length ce) (at (d + 1)) (at (d + 1 + n)) (at (d + (n + 1))) cr (same (d + 1 + n) (d + (n + 1)) (omega arith)) (actuals_go es (pc + length ce) (d + 1)))
 
+    timeout_goes : (o : Option Expr) (pc d : ℕ) → Goes pc (timeout_code pc o) (at d) (at (d + wait_size (wait_of o)))
+    timeout_goes None pc d = goes_as pc (at d) (at d) (at (d + 0)) [] (same d (d + 0) (omega arith)) (nothing pc (at d))
+    timeout_goes (Some e) pc d =
+        let ce = expr_code pc e in
+        both pc (at d) (at (d + 1)) (at (d + 1)) ce (instr.Number ∷ []) (expr_goes e pc d) (one (pc + length ce) (at (d + 1)) (at (d + 1)) instr.Number refl (omega arith, tt))
+
+    hang_goes : (e : Expr) → Passes (λ pc. hang_code pc e)
+    hang_goes e pc =
+        let ce = expr_code pc e in
+        both pc (at 0) (at (0 + 1)) (at 0) ce (instr.Hang ∷ []) (expr_goes e pc 0) (one (pc + length ce) (at (0 + 1)) (at 0) instr.Hang (same (0 + 1 - 1) 0 (omega arith)) (omega arith, tt))
+
+    hangs_go : (es : List Expr) → Passes (λ pc. hangs_code pc es)
+    hangs_go [] pc = nothing pc (at 0)
+    hangs_go (e ∷ es) pc =
+        let ch = hang_code pc e in
+        both pc (at 0) (at 0) (at 0) ch (hangs_code (pc + length ch) es) (hang_goes e pc) (hangs_go es (pc + length ch))
+
+    start_goes : (here : Here) (s : Started) → Passes (λ pc. start_code here pc s)
+    start_goes here s pc =
+        let ca = actuals_code pc s.actuals in
+        let n = given_count (shape_of s.actuals) in
+        let pw = pc + length ca in
+        let cw = timeout_code pw s.timeout in
+        let w = wait_size (wait_of s.timeout) in
+        let i = instr.Start (entry_of here s.target) (shape_of s.actuals) (wait_of s.timeout) in
+        both pc (at 0) (at (0 + n)) (at 0) ca (cw ++ i ∷ []) (actuals_go s.actuals pc 0)
+        (both pw (at (0 + n)) (at (0 + n + w)) (at 0) cw (i ∷ []) (timeout_goes s.timeout pw (0 + n))
+        (one (pw + length cw) (at (0 + n + w)) (at 0) i (same (0 + n + w - (n + w)) 0 (omega arith)) (omega arith, tt)))
+
+    jobs_go : (here : Here) (list : List Started) → Passes (λ pc. jobs_code here pc list)
+    jobs_go here [] pc = nothing pc (at 0)
+    jobs_go here (s ∷ list) pc =
+        let cs = start_code here pc s in
+        both pc (at 0) (at 0) (at 0) cs (jobs_code here (pc + length cs) list) (start_goes here s pc) (jobs_go here list (pc + length cs))
+
+    name_goes : (v : Variable) (pc d : ℕ) → Goes pc (name_code pc v) (at d) (at (d + (reference v).count))
+    name_goes v pc d =
+        let cs = subscripts_code pc v in
+        let n = (reference v).count in
+        both pc (at d) (at (d + n)) (at (d + n)) cs (instr.Check (reference v) ∷ []) (subscripts_go v pc d)
+        (one (pc + length cs) (at (d + n)) (at (d + n)) (instr.Check (reference v)) refl (omega arith, tt))
+
+    variables_go : (vs : List Variable) (pc d : ℕ) → Goes pc (variables_code pc vs) (at d) (at (d + counts (map reference vs)))
+    variables_go [] pc d = goes_as pc (at d) (at d) (at (d + 0)) [] (same d (d + 0) (omega arith)) (nothing pc (at d))
+    variables_go (v ∷ vs) pc d =
+        let cn = name_code pc v in
+        let cr = variables_code (pc + length cn) vs in
+        let n = (reference v).count in
+        let m = counts (map reference vs) in
+        both pc (at d) (at (d + n)) (at (d + (n + m))) cn cr (name_goes v pc d)
+        (goes_as (pc + length cn) (at (d + n)) (at (d + n + m)) (at (d + (n + m))) cr (same (d + n + m) (d + (n + m)) (omega arith)) (variables_go vs (pc + length cn) (d + n)))
+
+    taking_goes : (m : LockMode) (rs : List Reference) (w : Wait) (pc d : ℕ) → d ≡ counts rs + wait_size w → Goes pc (taking_code m rs w) (at d) (at 0)
+    taking_goes Whole rs w pc d e =
+        on pc (at d) (at d) (at 0) instr.UnlockAll (instr.Lock rs w ∷ []) refl (tt, tt)
+        (one (pc + 1) (at d) (at 0) (instr.Lock rs w) (same (d - (counts rs + wait_size w)) 0 (omega (arith, e))) (omega (arith, e), tt))
+    taking_goes Plus rs w pc d e = one pc (at d) (at 0) (instr.Lock rs w) (same (d - (counts rs + wait_size w)) 0 (omega (arith, e))) (omega (arith, e), tt)
+    taking_goes Minus rs w pc d e = one pc (at d) (at 0) (instr.Unlock rs w) (same (d - (counts rs + wait_size w)) 0 (omega (arith, e))) (omega (arith, e), tt)
+
+    lock_goes : (l : Locked) → Passes (λ pc. lock_code pc l)
+    lock_goes l pc =
+        let vs = lock_variables l.names in
+        let rs = map reference vs in
+        let cv = variables_code pc vs in
+        let pw = pc + length cv in
+        let cw = timeout_code pw l.timeout in
+        let w = wait_of l.timeout in
+        let ct = taking_code l.mode rs w in
+        both pc (at 0) (at (0 + counts rs)) (at 0) cv (cw ++ ct) (variables_go vs pc 0)
+        (both pw (at (0 + counts rs)) (at (0 + counts rs + wait_size w)) (at 0) cw ct (timeout_goes l.timeout pw (0 + counts rs))
+        (taking_goes l.mode rs w (pw + length cw) (0 + counts rs + wait_size w) (omega arith)))
+
+    locks_go : (list : List Locked) → Passes (λ pc. locks_code pc list)
+    locks_go [] pc = nothing pc (at 0)
+    locks_go (l ∷ list) pc =
+        let cl = lock_code pc l in
+        both pc (at 0) (at 0) (at 0) cl (locks_code (pc + length cl) list) (lock_goes l pc) (locks_go list (pc + length cl))
+
+    lock_all_goes : (list : List Locked) → Passes (λ pc. lock_all_code pc list)
+    lock_all_goes [] pc = one pc (at 0) (at 0) instr.UnlockAll refl (tt, tt)
+    lock_all_goes (l ∷ list) pc = locks_go (l ∷ list) pc
+
     -- code behind a test, which leads past it
     tested : (pc : ℕ) (e : Expr) (i : Instr) (rest : List Instr) → behind i (at (0 + 1)) ≡ at (0 + 1 - 1)
         → (Holds fs (pc + length (expr_code pc e) + 1 + length rest) (at (0 + 1 - 1)) → Fits fs (pc + length (expr_code pc e)) i (at (0 + 1)))
@@ -404,6 +490,9 @@ module _ (fs : List Footing) where
     command_goes here out (Set list) closes pc = assignments_go list pc
     command_goes here out (Write list) closes pc = outputs_go list pc
     command_goes here out Halt closes pc = one pc (at 0) (at 0) instr.Halt refl (tt, tt)
+    command_goes here out (Hang es) closes pc = hangs_go es pc
+    command_goes here out (Job list) closes pc = jobs_go here list pc
+    command_goes here out (Lock list) closes pc = lock_all_goes list pc
     command_goes here out (Kill list) closes pc = kill_all_goes list pc
     command_goes here out (Merge list) closes pc = merges_go list pc
     command_goes here out (If es) closes pc = nothing pc (at 0)
@@ -512,6 +601,9 @@ module _ (fs : List Footing) where
   obey_goes here (Set list) c rest goes k out closes pc = then_goes here c (Set list) rest goes k out closes pc
   obey_goes here (Write list) c rest goes k out closes pc = then_goes here c (Write list) rest goes k out closes pc
   obey_goes here Halt c rest goes k out closes pc = then_goes here c Halt rest goes k out closes pc
+  obey_goes here (Hang es) c rest goes k out closes pc = then_goes here c (Hang es) rest goes k out closes pc
+  obey_goes here (Job list) c rest goes k out closes pc = then_goes here c (Job list) rest goes k out closes pc
+  obey_goes here (Lock list) c rest goes k out closes pc = then_goes here c (Lock list) rest goes k out closes pc
   obey_goes here (Kill list) c rest goes k out closes pc = then_goes here c (Kill list) rest goes k out closes pc
   obey_goes here (Merge list) c rest goes k out closes pc = then_goes here c (Merge list) rest goes k out closes pc
   obey_goes here (If es) c rest goes k out closes pc = if_goes k es (λ p. rest p out) (goes k out closes) pc

@@ -2,30 +2,36 @@
 use Rattle.std.proofs.Common.{◌≡◌, ℕ, zero, suc, ◌+◌, ◌<◌, ◌≤◌, List, [], ◌∷◌, ◌++◌, length, reverse, take, drop, map, Option, Some, None, refl, sym, ap, ◌∙◌, subst, arith, append_assoc, length-append}
 use Rattle.std.proofs.lemmas.List.{reverse-append, reverse-reverse, length-reverse}
 use Rattle.std.proofs.Math.Seq.{drop-append_seam, take-append_seam, drop-drop}
-use Rattle.std.specs.Prelude.{slice_get, Ok, ◌-◌}
+use Rattle.std.specs.Prelude.{ℤ, slice_get, Ok, ◌-◌}
+use Rattle.mj_num.specs.Number.{reading}
 use Rattle.mj_subs.specs.Name.{Name}
+use Rattle.mj_text.specs.Failing.{then_value}
 use Rattle.mj_oper.specs.Operators.{binary_value, unary_value, truth_value}
 use Rattle.mj_text.specs.declared.fault.Fault.TheVariants.{Select as NoTrue}
-use Rattle.mj_ast.specs.Syntax.{Expr, Chain, Tails, Done, Then, Operand, Literal, Value, Intrinsic, Unary, Group, Call, Select, Variable, Var, Exprs, No, More, Choices, Last, Before, Destination, Plain, Pieces, Targets, One, Several, Assignment, Killed, Gone, Spared, Merged, Output, Shown, Format, Renewed, Fresh, Kept, About}
+use Rattle.mj_ast.specs.Syntax.{Expr, Chain, Tails, Done, Then, Operand, Literal, Value, Intrinsic, Unary, Group, Call, Select, Variable, Var, Exprs, No, More, Choices, Last, Before, Destination, Plain, Pieces, Targets, One, Several, Assignment, Killed, Gone, Spared, Merged, Output, Shown, Format, Started, LockNames, Lone, Together, Locked, Renewed, Fresh, Kept, About}
 use Rattle.mj_semantics.specs.Functions.{call_value, optional}
 use Rattle.mj_semantics.specs.State.{Only, AllBut, spare, newed, special_value}
 use Rattle.mj_semantics.specs.Outcome.{Timed, turn, given, fault}
-use Rattle.mj_semantics.specs.Lines.{Here}
+use Rattle.mj_semantics.specs.Lines.{Here, entry_of}
+use Rattle.mj_semantics.specs.Sharing.{hang, start_job, unlock_all, take_names, give_names, lock}
 use Rattle.mj_semantics.specs.Points.{Points}
 use Rattle.mj_semantics.specs.Evaluation.{ev, ev_tails, ev_operand, ev_choices, ev_name, ev_all, name_of, read, when, ev_named, ev_local, ev_actuals, named_for, about}
 use Rattle.mj_ast.specs.declared.function.NameFunction.{NameFunction}
 use Rattle.mj_ast.specs.declared.expr.Scope.TheVariants.{Local}
-use Rattle.mj_semantics.specs.Commands.{Aim, Whole, Part, ev_destination, ev_destinations, store, renew, put, put_all, assign_to, assign, assign_all, remove, named, kill, kill_list, kill_all, take_nodes, put_nodes, merge, merge_all, mark_byte, output, output_all, renewal, new_list, new_all}
+use Rattle.mj_semantics.specs.Commands.{Aim, Whole, Part, ev_destination, ev_destinations, store, renew, put, put_all, assign_to, assign, assign_all, remove, named, kill, kill_list, kill_all, take_nodes, put_nodes, merge, merge_all, ev_timeout, hang_all, start_all, ev_names, ev_lock_names, lock_one, lock_list, lock_all, mark_byte, output, output_all, renewal, new_list, new_all}
 use Rattle.mj_pcode.specs.declared.instr.Reference.{Reference}
 use Rattle.mj_pcode.specs.declared.instr.Depth.{Depth}
+use Rattle.mj_pcode.specs.declared.instr.Wait.{Wait}
+use Rattle.mj_ast.specs.declared.routine.LockMode.{LockMode}
+use Rattle.mj_ast.specs.declared.routine.LockMode.TheVariants as mode
 use Rattle.mj_pcode.specs.declared.instr.Instr.{Instr}
 use Rattle.mj_pcode.specs.declared.instr.Instr.TheVariants as instr
 use Rattle.mj_pcode.specs.declared.instr.Unit as unit
 use Rattle.mj_pcode.specs.Context.{Context}
-use Rattle.mj_pcode.specs.Machine.{Stack, top, act, act_in, exec, operands, spread, given_count}
-use Rattle.mj_asm.specs.Code.{count, reference, expr_code, tails_code, operand_code, choices_code, subscripts_code, exprs_code, size, sizes, destination_code, destinations_code, store_code, stores_code, targets_code, assignment_code, assignments_code, kill_code, kills_code, kill_all_code, merge_code, merges_code, output_code, outputs_code, code_if, names_code, renewed_code, news_code, new_all_code, actuals_code, shape_of}
+use Rattle.mj_pcode.specs.Machine.{Stack, top, act, act_in, exec, operands, spread, given_count, wait_size, waits, counts, names_on}
+use Rattle.mj_asm.specs.Code.{count, reference, expr_code, tails_code, operand_code, choices_code, subscripts_code, exprs_code, size, sizes, destination_code, destinations_code, store_code, stores_code, targets_code, assignment_code, assignments_code, kill_code, kills_code, kill_all_code, merge_code, merges_code, output_code, outputs_code, code_if, names_code, renewed_code, news_code, new_all_code, actuals_code, shape_of, timeout_code, wait_of, hang_code, hangs_code, start_code, jobs_code, name_code, variables_code, lock_variables, taking_code, lock_code, locks_code, lock_all_code}
 use Rattle.mj_asm.specs.Correct.{Agree}
-use Rattle.mj_pcode.proofs.Agree.{if_at, look_at, change_at, given_at, read_at, store_at, renew_at, remove_at, take_nodes_at, put_nodes_at, write_at, about_at}
+use Rattle.mj_pcode.proofs.Agree.{if_at, look_at, change_at, given_at, read_at, store_at, renew_at, remove_at, take_nodes_at, put_nodes_at, write_at, about_at, hang_at, start_job_at, unlock_all_at, take_names_at, give_names_at}
 
 -- the instructions stand in the code at this place
 abbrev pub HasAt : List Instr → ℕ → List Instr → Type 0
@@ -107,6 +113,64 @@ both_below ss vs stack n e =
     let all : onto vs (onto ss stack) ≡ (reverse vs ++ reverse ss) ++ stack = onto_is vs (onto ss stack) ∙ ap (λ l. reverse vs ++ l) (onto_is ss stack) ∙ sym (append_assoc (reverse vs) (reverse ss) stack) in
     let len : n ≡ length (reverse vs ++ reverse ss) = omega (arith, e, length-append (reverse vs) (reverse ss), length-reverse vs, length-reverse ss) in
     ap (drop n) all ∙ ap (λ k. drop k ((reverse vs ++ reverse ss) ++ stack)) len ∙ drop-append_seam (reverse vs ++ reverse ss) stack
+
+-- how long an argument may wait: its number lies on a stack, if it has one
+abbrev LiesWait : Option Expr → Option ℤ → Stack → Stack → Type 0
+LiesWait None None stack base = stack ≡ base
+LiesWait None (Some n) stack base = ⊥
+LiesWait (Some e) None stack base = ⊥
+LiesWait (Some e) (Some n) stack base = (v : List ℕ) × (stack ≡ v ∷ base) × (reading v ≡ Ok n)
+
+waited : (o : Option Expr) (t : Option ℤ) (stack base : Stack) → LiesWait o t stack base → (f : Option ℤ → Timed) (n : ℕ) → waits (wait_of o) stack f n ≡ f t n
+waited None None stack base l f n = refl
+waited None (Some i) stack base l f n = absurd l
+waited (Some e) None stack base l f n = absurd l
+waited (Some e) (Some i) stack base l f n =
+    ap (λ st. given (reading (top st)) (λ j. f (Some j)) n) l.1 ∙ ap (λ r. given r (λ j. f (Some j)) n) l.2
+
+below_wait : (o : Option Expr) (t : Option ℤ) (stack base : Stack) → LiesWait o t stack base → drop (wait_size (wait_of o)) stack ≡ base
+below_wait None None stack base l = l
+below_wait None (Some i) stack base l = absurd l
+below_wait (Some e) None stack base l = absurd l
+below_wait (Some e) (Some i) stack base l = ap (drop 1) l.1
+
+-- and so many more
+below_more : (o : Option Expr) (t : Option ℤ) (stack base : Stack) (k : ℕ) → LiesWait o t stack base → drop (k + wait_size (wait_of o)) stack ≡ drop k base
+below_more o t stack base k l =
+    let w = wait_size (wait_of o) in
+    let e : k + w ≡ w + k = omega arith in
+    ap (λ j. drop j stack) e ∙ sym (drop-drop k w stack) ∙ ap (drop k) (below_wait o t stack base l)
+
+-- the subscripts of names lie on a stack, those of the last one on top
+abbrev LieNames : List Variable → List Name → Stack → Stack → Type 0
+LieNames [] [] stack base = stack ≡ base
+LieNames [] (x ∷ xs) stack base = ⊥
+LieNames (v ∷ vs) [] stack base = ⊥
+LieNames (v ∷ vs) (x ∷ xs) stack base =
+    (ss : List (List ℕ)) × (length ss ≡ (reference v).count) × (name_of (reference v).scope (reference v).word ss ≡ Ok x)
+    × LieNames vs xs stack (onto ss base)
+
+below_names : (vs : List Variable) (xs : List Name) (stack base : Stack) → LieNames vs xs stack base → drop (counts (map reference vs)) stack ≡ base
+below_names [] [] stack base l = l
+below_names [] (x ∷ xs) stack base l = absurd l
+below_names (v ∷ vs) [] stack base l = absurd l
+below_names (v ∷ vs) (x ∷ xs) stack base l =
+    let n = (reference v).count in
+    let m = counts (map reference vs) in
+    let e : n + m ≡ m + n = omega arith in
+    ap (λ k. drop k stack) e ∙ sym (drop-drop n m stack) ∙ ap (drop n) (below_names vs xs stack (onto l.0 base) l.3) ∙ rest_below l.0 base n l.1
+
+names_are : (vs : List Variable) (xs : List Name) (stack base : Stack) → LieNames vs xs stack base → names_on (map reference vs) stack ≡ Ok xs
+names_are [] [] stack base l = refl
+names_are [] (x ∷ xs) stack base l = absurd l
+names_are (v ∷ vs) [] stack base l = absurd l
+names_are (v ∷ vs) (x ∷ xs) stack base l =
+    let r = reference v in
+    let rs = map reference vs in
+    ap (λ st. then_value (name_of r.scope r.word (operands r.count st)) (λ y. then_value (names_on rs stack) (λ ys. Ok (y ∷ ys)))) (below_names vs xs stack (onto l.0 base) l.3)
+    ∙ ap (λ ss. then_value (name_of r.scope r.word ss) (λ y. then_value (names_on rs stack) (λ ys. Ok (y ∷ ys)))) (operands_are l.0 base r.count l.1)
+    ∙ ap (λ o. then_value o (λ y. then_value (names_on rs stack) (λ ys. Ok (y ∷ ys)))) l.2
+    ∙ ap (λ o. then_value o (λ ys. Ok (x ∷ ys))) (names_are vs xs stack (onto l.0 base) l.3)
 
 module _ (units : List unit.Unit) (u : unit.Unit) (ctx : Context) (there : slice_get units ctx.unit ≡ Some u) where
   abbrev code : List Instr
@@ -526,6 +590,144 @@ module _ (units : List unit.Unit) (u : unit.Unit) (ctx : Context) (there : slice
           expr_follows e pc stack _ (has_front code pc ce _ has) (λ v.
           actuals_follow es (pc + length ce) (v ∷ stack) (λ vs. rest (Some v ∷ vs)) (has_back code pc ce _ has) (λ vs many.
           moved _ _ (onto vs (v ∷ stack)) (rest (Some v ∷ spread (shape_of es) vs)) (seam pc ce cr) (k (v ∷ vs) (omega (arith, many)))))
+
+      timeout_follows : (o : Option Expr) (pc : ℕ) (stack : Stack) (rest : Option ℤ → Timed) → HasAt code pc (timeout_code pc o)
+          → ((t : Option ℤ) (st : Stack) → LiesWait o t st stack → Agree b (from (pc + length (timeout_code pc o)) st) (rest t)) → Agree b (from pc stack) (ev_timeout points here o rest)
+      timeout_follows None pc stack rest has k = moved pc (pc + 0) stack (rest None) (omega arith) (k None stack refl)
+      timeout_follows (Some e) pc stack rest has k =
+          let ce = expr_code pc e in
+          expr_follows e pc stack _ (has_front code pc ce _ has) (λ v.
+          one (pc + length ce) (v ∷ stack) instr.Number _ (has_back code pc ce _ has).0 (λ n lt.
+          given_at n (reading v) (λ i m. exec units n ctx (pc + length ce + 1) (v ∷ stack)) (λ i. rest (Some i)) (λ i q.
+          (moved _ _ (v ∷ stack) (rest (Some i)) (end_of pc ce instr.Number) (k (Some i) (v ∷ stack) (v, refl, q))).by n (omega arith))))
+
+      pub hangs_follow : (es : List Expr) (pc : ℕ) (stack : Stack) (rest : Timed) → HasAt code pc (hangs_code pc es) → Agree b (from (pc + length (hangs_code pc es)) stack) rest → Agree b (from pc stack) (hang_all points here es rest)
+      hangs_follow [] pc stack rest has k = moved pc (pc + 0) stack rest (omega arith) k
+      hangs_follow (e ∷ es) pc stack rest has k =
+          let ce = expr_code pc e in
+          let ch = hang_code pc e in
+          let front = has_front code pc ch _ has in
+          expr_follows e pc stack _ (has_front code pc ce _ front) (λ v.
+          one (pc + length ce) (v ∷ stack) instr.Hang _ (has_back code pc ce _ front).0 (λ n lt.
+          hang_at n v (λ q. exec units n ctx (pc + length ce + 1) stack) (hang_all points here es rest)
+          ((moved _ _ stack (hang_all points here es rest) (end_of pc ce instr.Hang)
+          (hangs_follow es (pc + length ch) stack rest (has_back code pc ch _ has) (moved _ _ stack rest (seam pc ch (hangs_code (pc + length ch) es)) k))).by n (omega arith))))
+
+      start_follows : (s : Started) (pc : ℕ) (stack : Stack) (rest : Timed) → HasAt code pc (start_code here pc s) → Agree b (from (pc + length (start_code here pc s)) stack) rest
+          → Agree b (from pc stack) (ev_actuals points here s.actuals (λ vs. ev_timeout points here s.timeout (λ t. turn (start_job (entry_of here s.target) vs t rest))))
+      start_follows s pc stack rest has k =
+          let ca = actuals_code pc s.actuals in
+          let pw = pc + length ca in
+          let cw = timeout_code pw s.timeout in
+          let w = wait_of s.timeout in
+          let shape = shape_of s.actuals in
+          let entry = entry_of here s.target in
+          let i = instr.Start entry shape w in
+          let back = has_back code pc ca (cw ++ i ∷ []) has in
+          let at = pw + length cw in
+          let taken = given_count shape + wait_size w in
+          let len : at + 1 ≡ pc + length (ca ++ (cw ++ i ∷ [])) = omega (arith, length-append ca (cw ++ i ∷ []), length-append cw (i ∷ [])) in
+          actuals_follow s.actuals pc stack _ (has_front code pc ca _ has) (λ vs many.
+          timeout_follows s.timeout pw (onto vs stack) _ (has_front code pw cw _ back) (λ t st l.
+          one at st i (start_job entry (spread shape vs) t rest) (has_back code pw cw _ back).0 (λ n lt.
+          let behind : Timed = λ m. exec units n ctx (at + 1) (drop taken st) in
+          waited s.timeout t st (onto vs stack) l (λ z. start_job entry (spread shape (operands (given_count shape) (drop (wait_size w) st))) z behind) n
+          ∙ ap (λ base. start_job entry (spread shape (operands (given_count shape) base)) t behind n) (below_wait s.timeout t st (onto vs stack) l)
+          ∙ ap (λ ws. start_job entry (spread shape ws) t behind n) (operands_are vs stack _ many)
+          ∙ start_job_at n entry (spread shape vs) t behind rest
+          ((over (at + 1) (drop taken st) stack rest (below_more s.timeout t st (onto vs stack) (given_count shape) l ∙ rest_below vs stack _ many) (moved _ _ stack rest len k)).by n (omega arith)))))
+
+      pub jobs_follow : (list : List Started) (pc : ℕ) (stack : Stack) (rest : Timed) → HasAt code pc (jobs_code here pc list) → Agree b (from (pc + length (jobs_code here pc list)) stack) rest → Agree b (from pc stack) (start_all points here list rest)
+      jobs_follow [] pc stack rest has k = moved pc (pc + 0) stack rest (omega arith) k
+      jobs_follow (s ∷ list) pc stack rest has k =
+          let cs = start_code here pc s in
+          start_follows s pc stack (start_all points here list rest) (has_front code pc cs _ has)
+          (jobs_follow list (pc + length cs) stack rest (has_back code pc cs _ has) (moved _ _ stack rest (seam pc cs (jobs_code here (pc + length cs) list)) k))
+
+      variables_follow : (vs : List Variable) (pc : ℕ) (stack : Stack) (rest : List Name → Timed) → HasAt code pc (variables_code pc vs)
+          → ((xs : List Name) (st : Stack) → LieNames vs xs st stack → Agree b (from (pc + length (variables_code pc vs)) st) (rest xs))
+          → Agree b (from pc stack) (ev_names points here vs rest)
+      variables_follow [] pc stack rest has k = moved pc (pc + 0) stack (rest []) (omega arith) (k [] stack refl)
+      variables_follow (v ∷ vs) pc stack rest has k =
+          let cs = subscripts_code pc v in
+          let i = instr.Check (reference v) in
+          let cn = name_code pc v in
+          let front = has_front code pc cn _ has in
+          checked v pc stack _ (has_front code pc cs _ front) (has_back code pc cs _ front).0 (λ x ss many e.
+          moved _ _ (onto ss stack) (ev_names points here vs (λ xs. rest (x ∷ xs))) (end_of pc cs i)
+          (variables_follow vs (pc + length cn) (onto ss stack) (λ xs. rest (x ∷ xs)) (has_back code pc cn _ has) (λ xs st l.
+          moved _ _ st (rest (x ∷ xs)) (seam pc cn (variables_code (pc + length cn) vs)) (k (x ∷ xs) st (ss, many, e, l)))))
+
+      lock_names_follow : (o : LockNames) (pc : ℕ) (stack : Stack) (rest : List Name → Timed) → HasAt code pc (variables_code pc (lock_variables o))
+          → ((xs : List Name) (st : Stack) → LieNames (lock_variables o) xs st stack → Agree b (from (pc + length (variables_code pc (lock_variables o))) st) (rest xs))
+          → Agree b (from pc stack) (ev_lock_names points here o rest)
+      lock_names_follow (Lone v) pc stack rest has k = variables_follow (v ∷ []) pc stack rest has k
+      lock_names_follow (Together vs) pc stack rest has k = variables_follow vs pc stack rest has k
+
+      -- names that lie on the stack are asked for, below how long that may take
+      module _ (o : Option Expr) (t : Option ℤ) (vs : List Variable) (xs : List Name) (st mid base : Stack) (l : LiesWait o t st mid) (named : LieNames vs xs mid base) (rest : Timed) where
+        abbrev rs : List Reference
+        rs = map reference vs
+
+        abbrev w : Wait
+        w = wait_of o
+
+        abbrev taken : ℕ
+        taken = counts rs + wait_size w
+
+        all_gone : (pc n : ℕ) → n < b → Agree b (from pc base) rest → exec units n ctx pc (drop taken st) ≡ rest n
+        all_gone pc n lt k = (over pc (drop taken st) base rest (below_more o t st mid (counts rs) l ∙ below_names vs xs mid base named) k).by n (omega arith)
+
+        -- what is done with them
+        asked_for : (f : List Name → Option ℤ → Timed) (n : ℕ) → waits w st (λ z. given (names_on rs (drop (wait_size w) st)) (λ ys. f ys z)) n ≡ f xs t n
+        asked_for f n =
+            waited o t st mid l (λ z. given (names_on rs (drop (wait_size w) st)) (λ ys. f ys z)) n
+            ∙ ap (λ s. given (names_on rs s) (λ ys. f ys t) n) (below_wait o t st mid l)
+            ∙ ap (λ q. given q (λ ys. f ys t) n) (names_are vs xs mid base named)
+
+        taken_follow : (pc : ℕ) → slice_get code pc ≡ Some (instr.Lock rs w) → Agree b (from (pc + 1) base) rest → Agree b (from pc st) (turn (take_names xs t rest))
+        taken_follow pc has k =
+            one pc st (instr.Lock rs w) _ has (λ n lt.
+            let behind : Timed = λ m. exec units n ctx (pc + 1) (drop taken st) in
+            asked_for (λ ys z. take_names ys z behind) n ∙ take_names_at n xs t behind rest (all_gone (pc + 1) n lt k))
+
+        given_follow : (pc : ℕ) → slice_get code pc ≡ Some (instr.Unlock rs w) → Agree b (from (pc + 1) base) rest → Agree b (from pc st) (turn (give_names xs t rest))
+        given_follow pc has k =
+            one pc st (instr.Unlock rs w) _ has (λ n lt.
+            let behind : Timed = λ m. exec units n ctx (pc + 1) (drop taken st) in
+            asked_for (λ ys z. give_names ys z behind) n ∙ give_names_at n xs t behind rest (all_gone (pc + 1) n lt k))
+
+        taking_follows : (m : LockMode) (pc : ℕ) → HasAt code pc (taking_code m rs w) → Agree b (from (pc + length (taking_code m rs w)) base) rest → Agree b (from pc st) (lock m xs t rest)
+        taking_follows mode.Whole pc has k =
+            one pc st instr.UnlockAll _ has.0 (λ n lt.
+            unlock_all_at n (λ q. exec units n ctx (pc + 1) st) (turn (take_names xs t rest))
+            ((taken_follow (pc + 1) has.1.0 (moved (pc + 1 + 1) _ base rest (omega arith) k)).by n (omega arith)))
+        taking_follows mode.Plus pc has k = taken_follow pc has.0 k
+        taking_follows mode.Minus pc has k = given_follow pc has.0 k
+
+      locks_follow : (list : List Locked) (pc : ℕ) (stack : Stack) (rest : Timed) → HasAt code pc (locks_code pc list) → Agree b (from (pc + length (locks_code pc list)) stack) rest → Agree b (from pc stack) (lock_list points here list rest)
+      locks_follow [] pc stack rest has k = moved pc (pc + 0) stack rest (omega arith) k
+      locks_follow (l ∷ list) pc stack rest has k =
+          let vs = lock_variables l.names in
+          let cv = variables_code pc vs in
+          let pw = pc + length cv in
+          let cw = timeout_code pw l.timeout in
+          let ct = taking_code l.mode (map reference vs) (wait_of l.timeout) in
+          let cl = lock_code pc l in
+          let front = has_front code pc cl _ has in
+          let back = has_back code pc cv (cw ++ ct) front in
+          let later : Timed = lock_list points here list rest in
+          let len : pw + length cw + length ct ≡ pc + length cl = omega (arith, length-append cv (cw ++ ct), length-append cw ct) in
+          lock_names_follow l.names pc stack _ (has_front code pc cv _ front) (λ xs mid named.
+          timeout_follows l.timeout pw mid _ (has_front code pw cw _ back) (λ t st wait.
+          taking_follows l.timeout t vs xs st mid stack wait named later l.mode (pw + length cw) (has_back code pw cw _ back)
+          (moved _ _ stack later len
+          (locks_follow list (pc + length cl) stack rest (has_back code pc cl _ has) (moved _ _ stack rest (seam pc cl (locks_code (pc + length cl) list)) k)))))
+
+      pub lock_all_follows : (list : List Locked) (pc : ℕ) (stack : Stack) (rest : Timed) → HasAt code pc (lock_all_code pc list) → Agree b (from (pc + length (lock_all_code pc list)) stack) rest → Agree b (from pc stack) (lock_all points here list rest)
+      lock_all_follows [] pc stack rest has k =
+          one pc stack instr.UnlockAll _ has.0 (λ n lt. unlock_all_at n (λ q. exec units n ctx (pc + 1) stack) rest (k.by n (omega arith)))
+      lock_all_follows (l ∷ list) pc stack rest has k = locks_follow (l ∷ list) pc stack rest has k
 
       -- the subscripts of a FOR's local, and the instruction that takes its name
       pub local_follows : (v : Variable) (i : Instr) (pc : ℕ) (stack : Stack) (rest : Name → Timed) → HasAt code pc (subscripts_code pc v) → slice_get code (pc + length (subscripts_code pc v)) ≡ Some i → ((ss : List (List ℕ)) (n : ℕ) → n < b → length ss ≡ (reference v).count → acts i (pc + length (subscripts_code pc v)) (onto ss stack) n n ≡ given (name_of Local (reference v).word ss) rest n) → Agree b (from pc stack) (ev_local points here v rest)

@@ -9,6 +9,9 @@ abbrev pub conditions_in : kept_command.Command → ℕ
 conditions_in (command.Set v) = 0
 conditions_in (command.Write v) = 0
 conditions_in command.Halt = 0
+conditions_in (command.Hang v) = 0
+conditions_in (command.Job v) = 0
+conditions_in (command.Lock v) = 0
 conditions_in (command.Kill v) = 0
 conditions_in (command.Merge v) = 0
 conditions_in (command.If v) = length v.items

@@ -1,10 +1,14 @@
 -- The instructions of each piece of a routine.
-use Rattle.std.specs.Prelude.{ℕ, ◌+◌, List, [], ◌∷◌, ◌++◌, Option, Some, None, Bool, true, false, length}
-use Rattle.mj_ast.specs.Syntax.{Expr, Chain, Tails, Done, Then, Operand, Literal, Value, Intrinsic, Unary, Group, Call, Select, Variable, Var, Exprs, No, More, Choices, Last, Before, Destination, Plain, Pieces, Targets, One, Several, Assignment, Killed, Gone, Spared, Merged, Output, Shown, Format, Called, Jumped, Range, Single, Endless, UpTo, Renewed, Fresh, Kept, Command, Set, Write, Halt, Kill, Merge, If, Else, For, Forever, Do, Goto, Quit, New, Step, Line, About}
+use Rattle.std.specs.Prelude.{ℕ, ◌+◌, List, [], ◌∷◌, ◌++◌, Option, Some, None, Bool, true, false, length, map}
+use Rattle.mj_ast.specs.Syntax.{Expr, Chain, Tails, Done, Then, Operand, Literal, Value, Intrinsic, Unary, Group, Call, Select, Variable, Var, Exprs, No, More, Choices, Last, Before, Destination, Plain, Pieces, Targets, One, Several, Assignment, Killed, Gone, Spared, Merged, Output, Shown, Format, Called, Jumped, Started, LockNames, Lone, Together, Locked, Range, Single, Endless, UpTo, Renewed, Fresh, Kept, Command, Set, Write, Halt, Hang, Job, Lock, Kill, Merge, If, Else, For, Forever, Do, Goto, Quit, New, Step, Line, About}
+use Rattle.mj_ast.specs.declared.routine.LockMode.{LockMode}
+use Rattle.mj_ast.specs.declared.routine.LockMode.TheVariants.{Whole, Plus, Minus}
 use Rattle.mj_semantics.specs.Lines.{Here, next_line, entry_of}
 use Rattle.mj_pcode.specs.declared.instr.Reference.{Reference}
 use Rattle.mj_pcode.specs.declared.instr.Depth.{Depth}
 use Rattle.mj_pcode.specs.declared.instr.Span.TheVariants as span
+use Rattle.mj_pcode.specs.declared.instr.Wait.{Wait}
+use Rattle.mj_pcode.specs.declared.instr.Wait.TheVariants.{Ever, Timed}
 use Rattle.mj_pcode.specs.declared.instr.Instr.{Instr}
 use Rattle.mj_pcode.specs.declared.instr.Instr.TheVariants as instr
 
@@ -172,6 +176,69 @@ shape_of [] = []
 shape_of (None ∷ es) = false ∷ shape_of es
 shape_of (Some e ∷ es) = true ∷ shape_of es
 
+-- how long an argument may wait: a number, which is looked at
+abbrev pub timeout_code : ℕ → Option Expr → List Instr
+timeout_code pc None = []
+timeout_code pc (Some e) = expr_code pc e ++ instr.Number ∷ []
+
+abbrev pub wait_of : Option Expr → Wait
+wait_of None = Ever
+wait_of (Some e) = Timed
+
+-- an argument of HANG
+abbrev pub hang_code : ℕ → Expr → List Instr
+hang_code pc e = expr_code pc e ++ instr.Hang ∷ []
+
+abbrev pub hangs_code : ℕ → List Expr → List Instr
+hangs_code pc [] = []
+hangs_code pc (e ∷ es) = hang_code pc e ++ hangs_code (pc + length (hang_code pc e)) es
+
+-- an argument of JOB, in a line that stands here: its actuals, and then its timeout
+abbrev pub start_code : Here → ℕ → Started → List Instr
+start_code here pc s =
+    let wait = pc + length (actuals_code pc s.actuals) in
+    actuals_code pc s.actuals
+    ++ (timeout_code wait s.timeout ++ instr.Start (entry_of here s.target) (shape_of s.actuals) (wait_of s.timeout) ∷ [])
+
+abbrev pub jobs_code : Here → ℕ → List Started → List Instr
+jobs_code here pc [] = []
+jobs_code here pc (s ∷ list) = start_code here pc s ++ jobs_code here (pc + length (start_code here pc s)) list
+
+-- a name that is looked at once its subscripts have their values
+abbrev pub name_code : ℕ → Variable → List Instr
+name_code pc v = subscripts_code pc v ++ instr.Check (reference v) ∷ []
+
+abbrev pub variables_code : ℕ → List Variable → List Instr
+variables_code pc [] = []
+variables_code pc (v ∷ vs) = name_code pc v ++ variables_code (pc + length (name_code pc v)) vs
+
+-- the variables of an argument of LOCK
+abbrev pub lock_variables : LockNames → List Variable
+lock_variables (Lone v) = v ∷ []
+lock_variables (Together vs) = vs
+
+-- what is asked once the names lie on the stack, and above them the timeout
+abbrev pub taking_code : LockMode → List Reference → Wait → List Instr
+taking_code Whole rs w = instr.UnlockAll ∷ instr.Lock rs w ∷ []
+taking_code Plus rs w = instr.Lock rs w ∷ []
+taking_code Minus rs w = instr.Unlock rs w ∷ []
+
+-- an argument of LOCK: its names, and then its timeout
+abbrev pub lock_code : ℕ → Locked → List Instr
+lock_code pc l =
+    let vs = lock_variables l.names in
+    let wait = pc + length (variables_code pc vs) in
+    variables_code pc vs ++ (timeout_code wait l.timeout ++ taking_code l.mode (map reference vs) (wait_of l.timeout))
+
+abbrev pub locks_code : ℕ → List Locked → List Instr
+locks_code pc [] = []
+locks_code pc (l ∷ list) = lock_code pc l ++ locks_code (pc + length (lock_code pc l)) list
+
+-- without arguments all names are given up
+abbrev pub lock_all_code : ℕ → List Locked → List Instr
+lock_all_code pc [] = instr.UnlockAll ∷ []
+lock_all_code pc (l ∷ list) = locks_code pc (l ∷ list)
+
 -- code that begins at pc, behind a postcondition, which leads past it
 abbrev pub code_if : ℕ → Option Expr → (ℕ → List Instr) → List Instr
 code_if pc None code = code pc
@@ -260,6 +327,9 @@ abbrev pub command_code : Here → ℕ → Option ℕ → Command → List Instr
 command_code here pc out (Set list) = assignments_code pc list
 command_code here pc out (Write list) = outputs_code pc list
 command_code here pc out Halt = instr.Halt ∷ []
+command_code here pc out (Hang es) = hangs_code pc es
+command_code here pc out (Job list) = jobs_code here pc list
+command_code here pc out (Lock list) = lock_all_code pc list
 command_code here pc out (Kill list) = kill_all_code pc list
 command_code here pc out (Merge list) = merges_code pc list
 command_code here pc out (If es) = []
@@ -282,6 +352,9 @@ abbrev pub obey_code : Here → ℕ → Option ℕ → Command → Option Expr �
 obey_code here pc out (Set list) c rest = and_then here pc out c (Set list) rest
 obey_code here pc out (Write list) c rest = and_then here pc out c (Write list) rest
 obey_code here pc out Halt c rest = and_then here pc out c Halt rest
+obey_code here pc out (Hang es) c rest = and_then here pc out c (Hang es) rest
+obey_code here pc out (Job list) c rest = and_then here pc out c (Job list) rest
+obey_code here pc out (Lock list) c rest = and_then here pc out c (Lock list) rest
 obey_code here pc out (Kill list) c rest = and_then here pc out c (Kill list) rest
 obey_code here pc out (Merge list) c rest = and_then here pc out c (Merge list) rest
 obey_code here pc out (If es) c rest = if_code pc es (λ p. rest p out)

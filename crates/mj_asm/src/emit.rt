@@ -2,21 +2,21 @@
 
 ghost use Rattle.std.specs.Prelude.{◌≡◌, ◌<◌, ◌+◌, ◌^◌, [], ◌∷◌, ◌++◌, length, map, slice_set, option_map, IfOk, OnOk};
 ghost use Rattle.mj_pcode.specs.Checked.{IsChecked};
-ghost use Rattle.mj_ast.specs.Trees.{expr_of, variable_of, assignment_of, killed_of, merged_of, output_of, target_of, called_of, jumped_of, range_of, renewed_of, command_of, step_of, line_of, routine_of};
-ghost use Rattle.mj_semantics.specs.Lines as lines;
+ghost use Rattle.mj_ast.specs.Trees.{expr_of, variable_of, assignment_of, killed_of, merged_of, output_of, called_of, jumped_of, range_of, renewed_of, command_of, step_of, line_of, routine_of};
 ghost use Rattle.mj_asm.specs.Code.{assignment_code, assignments_code, names_code, kill_code, kills_code, kill_all_code, merge_code, merges_code, output_code, outputs_code, code_if, command_code, steps_code, if_code, ifs_code, else_code, for_code, body_code, range_code, ranges_code, do_code, call_code, jumps_code, jump_code, new_all_code, renewed_code, line_code};
 ghost use Rattle.mj_asm.specs.Sites.{here_of};
 ghost use Rattle.mj_asm.specs.Correct.{with_labels, IsUnitOf};
 
+use crate::entries::{emit_actuals, entry_of};
 use crate::expr::{aim, change, emit_expr, emit_subscripts, put, reference};
+use crate::sharing::{emit_hangs, emit_jobs, emit_lock_all};
 use crate::site::Site;
 use crate::targets::{emit_name, emit_one, emit_several};
-use mj_ask::Entry;
 use mj_ast::{
     Assignment, Called, Command, Expr, Jumped, Killed, Line, Merged, Output, Range, Renewed,
-    Routine, Step, Target, Targets, Variable,
+    Routine, Step, Targets, Variable,
 };
-use mj_pcode::{Head, Instr, Labels, LineStart, Marks, Shape, Span, Unit, Words};
+use mj_pcode::{Head, Instr, Labels, LineStart, Marks, Span, Unit, Words};
 use mj_text::Text;
 use std::alloc::{AllocError, Global};
 
@@ -279,6 +279,9 @@ fn emit_command(
         Command::Set(assignments) => emit_assignments(code, assignments),
         Command::Write(outputs) => emit_outputs(site.alloc, code, outputs),
         Command::Halt => put(code, Instr::Halt),
+        Command::Hang(times) => emit_hangs(code, times),
+        Command::Job(list) => emit_jobs(site, code, list),
+        Command::Lock(list) => emit_lock_all(site.alloc, code, list),
         Command::Kill(list) => emit_kill_all(site.alloc, code, list),
         Command::Merge(list) => emit_merges(code, list),
         Command::Do(list) => emit_do(site, code, list),
@@ -325,13 +328,7 @@ fn emit_called(site: Site, code: &mut Vec<Instr>, called: &Called) -> Result<(),
 fn emit_call(site: Site, code: &mut Vec<Instr>, called: &Called) -> Result<(), AllocError>
     ensures { OnOk result (code.new.items ≡ code.old.items ++ call_code (here_of site.entry) (called_of called.now) (length code.old.items)) }
 {
-    let mut shape = Shape::new(site.alloc);
-    for actual in &called.actuals {
-        shape.push(actual.is_some())?;
-        if let Some(value) = actual {
-            emit_expr(code, value)?;
-        }
-    }
+    let shape = emit_actuals(site.alloc, code, &called.actuals)?;
     let entry = entry_of(site, &called.target)?;
     put(code, Instr::Do(entry, shape))
 }
@@ -368,21 +365,6 @@ fn emit_jump(site: Site, code: &mut Vec<Instr>, jumped: &Jumped) -> Result<(), A
 {
     let entry = entry_of(site, &jumped.target)?;
     put(code, Instr::Goto(entry))
-}
-
-// The entry that a target names, in this routine where it names none.
-fn entry_of(site: Site, target: &Target) -> Result<Entry, AllocError>
-    ensures { IfOk result (λ e. e ≡ lines.entry_of (here_of site.entry) (target_of target.now)) }
-{
-    let label = match &target.label {
-        None => None,
-        Some(label) => Some(label.try_clone()?),
-    };
-    let routine = match &target.routine {
-        None => site.routine.try_clone()?,
-        Some(routine) => routine.try_clone()?,
-    };
-    Ok(Entry { label, routine })
 }
 
 // NEW of some, or of all locals.

@@ -5,7 +5,9 @@
 #![tactic(auto)]
 
 mod emit;
+mod entries;
 mod expr;
+mod sharing;
 mod site;
 mod targets;
 

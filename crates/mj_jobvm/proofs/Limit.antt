@@ -1,6 +1,6 @@
 -- A job asks at most 1,000,000 times before its ending: whatever it does, it is told no more replies than it may have.
 use Rattle.std.proofs.Common.{◌≡◌, ℕ, zero, suc, ◌+◌, ◌≤◌, ◌<◌, List, [], ◌∷◌, ◌++◌, length, map, Option, Some, None, Bool, true, false, inl, inr, refl, sym, ap, subst, arith, length-append}
-use Rattle.std.specs.Prelude.{Result, Ok, Err, ℤ, ◌+ℤ◌, nat_lt, nat_eq, if◌then◌else◌}
+use Rattle.std.specs.Prelude.{Result, Ok, Err, ℤ, pos, int_lt, ◌+ℤ◌, not, nat_lt, nat_eq, if◌then◌else◌}
 use Rattle.std.specs.Str.{bytes_eq}
 use Rattle.std.proofs.lemmas.Bool.{ltb-true}
 use Rattle.mj_text.specs.declared.text.TheConstants.{TEXT_LIMIT}
@@ -17,21 +17,26 @@ use Rattle.mj_store.specs.declared.access.Answer.{Answer}
 use Rattle.mj_ask.specs.declared.ask.Ask.{Ask}
 use Rattle.mj_ask.specs.declared.ask.Ask.TheVariants as asks
 use Rattle.mj_ask.specs.declared.ask.Reply.{Reply}
+use Rattle.mj_ask.specs.declared.entry.Entry.{Entry}
+use Rattle.mj_ask.specs.Fits.{is_late}
+use Rattle.mj_ast.specs.declared.routine.LockMode.{LockMode}
+use Rattle.mj_ast.specs.declared.routine.LockMode.TheVariants as mode
 use Rattle.mj_oper.specs.Operators.{binary_value, unary_value, truth_value}
-use Rattle.mj_ast.specs.Syntax.{Expr, Chain, Tails, Done, Then, Operand, Literal, Value, Intrinsic, Unary, Group, Call, About, Select, Variable, Var, Exprs, No, More as Another, Choices, Last, Before, Destination, Plain, Pieces, Targets, One, Several, Assignment, Killed, Gone, Spared, Merged, Output, Shown, Format, Called as CalledOf, Jumped as JumpedOf, Range, Single, Endless, UpTo, Renewed, Fresh, Kept, Command, Set, Write, Halt, Kill, Merge, If, Else, For, Forever, Do, Goto, Quit, New, Step, Line, Routine}
+use Rattle.mj_ast.specs.Syntax.{Expr, Chain, Tails, Done, Then, Operand, Literal, Value, Intrinsic, Unary, Group, Call, About, Select, Variable, Var, Exprs, No, More as Another, Choices, Last, Before, Destination, Plain, Pieces, Targets, One, Several, Assignment, Killed, Gone, Spared, Merged, Output, Shown, Format, Called as CalledOf, Jumped as JumpedOf, Started as StartedOf, LockNames, Lone, Together, Locked, Range, Single, Endless, UpTo, Renewed, Fresh, Kept, Command, Set, Write, Halt, Hang, Job, Lock, Kill, Merge, If, Else, For, Forever, Do, Goto, Quit, New, Step, Line, Routine}
 use Rattle.mj_ast.specs.declared.expr.Scope.TheVariants.{Local}
 use Rattle.mj_num.specs.Number.{reading, sum_of, canonic_text}
 use Rattle.mj_semantics.specs.State.{State, Locals, Place, Frame, OpenDevice, principal, devices_limit, has_failed, is_at_mark, ending_order, on_device, moved, broke, Only, AllBut, accessed, counted, wrote, newed, set_test, special_value, level_of, may_go, pushed, popped, passed, at_place, spare, hold}
 use Rattle.mj_ast.specs.declared.function.NameFunction.{NameFunction}
 use Rattle.mj_semantics.specs.Functions.{call_value, needed, optional}
 use Rattle.mj_semantics.specs.Names.{spelled, asks as asks_some, question, told}
-use Rattle.mj_semantics.specs.Outcome.{Needs, Handler, Timed, turn, turns, look, change, asking, until, over, halt, ends, end, fault_bytes, fault, steps_limit, ask, is_failed, to_device, need, given}
+use Rattle.mj_semantics.specs.Outcome.{Needs, Handler, Timed, turn, turns, look, change, asking, no_restart, until, over, halt, ends, end, fault_bytes, fault, steps_limit, ask, tell, is_failed, to_device, need, given}
 use Rattle.mj_semantics.specs.Accesses.{answer_told, answered, access, value_told, nodes_told}
 use Rattle.mj_semantics.specs.Evaluation.{ev, ev_tails, ev_operand, ev_choices, ev_name, ev_named, ev_all, ev_actuals, ev_local, name_of, named_for, read, about, when}
 use Rattle.mj_semantics.specs.Lines.{Here, place_at, next_line, line_before, line_at, levels_of, entry_of, entered}
 use Rattle.mj_semantics.specs.Points.{Leave, Ways, Loop, Once, Always, By, Point, AtLine, Called, Jumped, Pass, Started, Points}
-use Rattle.mj_semantics.specs.Commands.{Aim, Whole, Part, ev_destination, ev_destinations, store, or_empty, renewed, renew, put, put_all, assign_to, assign, assign_all, named, remove, kill, kill_list, kill_all, take_nodes, put_these, put_nodes, merge, merge_all, write, mark_byte, output, output_all, renewal, new_list, new_all, quit_frame, deeper, frames_limit, ifs, if_test, if_all, is_within, stepped, again, first, ranges, calls, block, do_all, jumps, obey, obey_all}
-use Rattle.mj_semantics.specs.Job.{Start, quit_before, obey_line, call, jump, in_pass, points_of, opening, no_restart, start as starts, next}
+use Rattle.mj_semantics.specs.Sharing.{is_limit, in_time as test_in_time, served, out_of_transaction, hang, start_job, unlock_all, take_names, give_names, lock}
+use Rattle.mj_semantics.specs.Commands.{Aim, Whole, Part, ev_destination, ev_destinations, store, or_empty, renewed, renew, put, put_all, assign_to, assign, assign_all, named, remove, kill, kill_list, kill_all, take_nodes, put_these, put_nodes, merge, merge_all, write, mark_byte, output, output_all, ev_timeout, hang_all, start_all, ev_names, ev_lock_names, lock_list, lock_all, renewal, new_list, new_all, quit_frame, deeper, frames_limit, ifs, if_test, if_all, is_within, stepped, again, first, ranges, calls, block, do_all, jumps, obey, obey_all}
+use Rattle.mj_semantics.specs.Job.{Start, quit_before, obey_line, call, jump, in_pass, points_of, opening, start as starts, next}
 use Rattle.mj_jobvm.specs.Run.{Log, replies_of, IsTrace, begins, goes_on}
 use Rattle.mj_jobvm.specs.Limit.{IsAllowed, AreAllowed, IsLimited}
 
@@ -182,10 +187,10 @@ device_length name f (d ∷ devices) = by (bytes_eq d.name name) (device_length 
     by true e = refl
     by false e = ap suc e
 
-pub to_device_keeps : (name : List ℕ) (x : Ask) (rest : Timed) → Keeps rest → Keeps (to_device name x rest)
+pub to_device_keeps : (name : List ℕ) (x : Ask) (rest : Reply → Timed) → ((r : Reply) → Keeps (rest r)) → Keeps (to_device name x rest)
 to_device_keeps name x rest k =
-    ask_keeps x _ (λ r. if_keeps (is_failed r) (change (broke name) (fault faults.Device)) rest
-    (change_keeps (fault faults.Device) (fault_keeps faults.Device) (broke name) (λ s. (refl, device_length name (λ d. record d { failed = true }) s.devices))) k)
+    ask_keeps x _ (λ r. if_keeps (is_failed r) (change (broke name) (fault faults.Device)) (rest r)
+    (change_keeps (fault faults.Device) (fault_keeps faults.Device) (broke name) (λ s. (refl, device_length name (λ d. record d { failed = true }) s.devices))) (k r))
 
 pub given_keeps : {A : Type 0} (r : Result A Fault) (rest : A → Timed) → ((v : A) → Keeps (rest v)) → Keeps (given r rest)
 given_keeps (Ok v) rest k = k v
@@ -234,6 +239,48 @@ first_keeps x i step (Some end) after pass a k =
 
 deeper_keeps : (rest : Timed) → Keeps rest → Keeps (deeper rest)
 deeper_keeps rest k = look_keeps _ (λ s. if_keeps (nat_lt (length s.frames) frames_limit) rest (fault faults.Depth) k (fault_keeps faults.Depth))
+
+-- HANG, JOB and LOCK.
+
+tests_same : (timeout : Option ℤ) (b : Bool) (s : State) → IsLike s (test_in_time timeout b s)
+tests_same None b s = (refl, refl)
+tests_same (Some n) b s = (refl, refl)
+
+served_keeps : (timeout : Option ℤ) (r : Reply) (rest : Timed) → Keeps rest → Keeps (served timeout r rest)
+served_keeps timeout r rest k =
+    if_keeps (is_limit r) (fault faults.Limit) (change (test_in_time timeout (not (is_late r))) rest) (fault_keeps faults.Limit)
+    (change_keeps rest k (test_in_time timeout (not (is_late r))) (tests_same timeout (not (is_late r))))
+
+out_keeps : (rest : Timed) → Keeps rest → Keeps (out_of_transaction rest)
+out_keeps rest k = look_keeps _ (λ s. if_keeps (nat_lt 0 s.level) (fault faults.InTransaction) rest (fault_keeps faults.InTransaction) k)
+
+asks_served : (x : Ask) (timeout : Option ℤ) (rest : Timed) → Keeps rest → Keeps (ask x (λ r. served timeout r rest))
+asks_served x timeout rest k = ask_keeps x (λ r. served timeout r rest) (λ r. served_keeps timeout r rest k)
+
+hang_keeps : (v : List ℕ) (rest : Timed) → Keeps rest → Keeps (hang v rest)
+hang_keeps v rest k = given_keeps (reading v) _ (λ n. if_keeps (int_lt (pos 0) n) (tell (asks.Rest n) rest) rest (ask_keeps (asks.Rest n) (λ r. rest) (λ r. k)) k)
+
+start_job_keeps : (entry : Entry) (vs : List (Option (List ℕ))) (timeout : Option ℤ) (rest : Timed) → Keeps rest → Keeps (start_job entry vs timeout rest)
+start_job_keeps entry vs timeout rest k =
+    let x : Ask = asks.Start (record { entry = entry; values = vs }) timeout in
+    out_keeps (ask x (λ r. served timeout r rest)) (asks_served x timeout rest k)
+
+unlock_all_keeps : (rest : Timed) → Keeps rest → Keeps (unlock_all rest)
+unlock_all_keeps rest k = out_keeps (ask asks.UnlockAll (λ r. served None r rest)) (asks_served asks.UnlockAll None rest k)
+
+take_names_keep : (xs : List Name) (timeout : Option ℤ) (rest : Timed) → Keeps rest → Keeps (take_names xs timeout rest)
+take_names_keep [] timeout rest k = k
+take_names_keep (x ∷ xs) timeout rest k = asks_served (asks.Try (x ∷ xs) timeout) timeout rest k
+
+give_names_keep : (xs : List Name) (timeout : Option ℤ) (rest : Timed) → Keeps rest → Keeps (give_names xs timeout rest)
+give_names_keep [] timeout rest k = k
+give_names_keep (x ∷ xs) timeout rest k = asks_served (asks.Unlock (x ∷ xs)) timeout rest k
+
+lock_keeps : (m : LockMode) (xs : List Name) (timeout : Option ℤ) (rest : Timed) → Keeps rest → Keeps (lock m xs timeout rest)
+lock_keeps mode.Whole xs timeout rest k =
+    turn_keeps _ (unlock_all_keeps (turn (take_names xs timeout rest)) (turn_keeps (take_names xs timeout rest) (take_names_keep xs timeout rest k)))
+lock_keeps mode.Plus xs timeout rest k = turn_keeps (take_names xs timeout rest) (take_names_keep xs timeout rest k)
+lock_keeps mode.Minus xs timeout rest k = turn_keeps (give_names xs timeout rest) (give_names_keep xs timeout rest k)
 
 popped_same : (s : State) → IsLike s (popped s)
 popped_same s = by s.frames
@@ -352,11 +399,11 @@ module _ (points : Points) (all : (p : Point) → KeepsPoint p → Keeps (points
   write_keeps [] rest k = k
   write_keeps (b ∷ bytes) rest k =
       let all : List ℕ = b ∷ bytes in
-      let sent : State → Timed = λ s. to_device s.current (asks.DeviceWrite s.current all) (change (wrote all) rest) in
+      let sent : State → Timed = λ s. to_device s.current (asks.DeviceWrite s.current all) (λ r. change (wrote all) rest) in
       if_keeps (nat_lt TEXT_LIMIT (length all)) (fault faults.Length) (look sent)
       (fault_keeps faults.Length)
-      (look_keeps sent (λ s. to_device_keeps s.current (asks.DeviceWrite s.current all) (change (wrote all) rest)
-      (change_keeps rest k (wrote all) (λ t. (refl, device_length t.current (moved all) t.devices)))))
+      (look_keeps sent (λ s. to_device_keeps s.current (asks.DeviceWrite s.current all) (λ r. change (wrote all) rest)
+      (λ r. change_keeps rest k (wrote all) (λ t. (refl, device_length t.current (moved all) t.devices)))))
 
   output_keeps : (o : Output) (rest : Timed) → Keeps rest → Keeps (output points here o rest)
   output_keeps (Shown e) rest k = ev_keeps e _ (λ v. turn_keeps (write v rest) (write_keeps v rest k))
@@ -413,6 +460,38 @@ module _ (points : Points) (all : (p : Point) → KeepsPoint p → Keeps (points
 
   local_keeps : (v : Variable) (rest : Name → Timed) → ((x : Name) → Keeps (rest x)) → Keeps (ev_local points here v rest)
   local_keeps (Var scope word es) rest k = all_keep es _ (λ ss. turn_keeps _ (given_keeps (name_of Local word ss) rest k))
+
+  -- HANG, JOB and LOCK.
+
+  timeout_keeps : (o : Option Expr) (rest : Option ℤ → Timed) → ((t : Option ℤ) → Keeps (rest t)) → Keeps (ev_timeout points here o rest)
+  timeout_keeps None rest k = k None
+  timeout_keeps (Some e) rest k = ev_keeps e _ (λ v. turn_keeps _ (given_keeps (reading v) (λ n. rest (Some n)) (λ n. k (Some n))))
+
+  hang_all_keeps : (es : List Expr) (rest : Timed) → Keeps rest → Keeps (hang_all points here es rest)
+  hang_all_keeps [] rest k = k
+  hang_all_keeps (e ∷ es) rest k = ev_keeps e _ (λ v. turn_keeps _ (hang_keeps v (hang_all points here es rest) (hang_all_keeps es rest k)))
+
+  start_all_keeps : (list : List StartedOf) (rest : Timed) → Keeps rest → Keeps (start_all points here list rest)
+  start_all_keeps [] rest k = k
+  start_all_keeps (s ∷ list) rest k =
+      actuals_keep s.actuals _ (λ vs. timeout_keeps s.timeout _ (λ t. turn_keeps _ (start_job_keeps (entry_of here s.target) vs t (start_all points here list rest) (start_all_keeps list rest k))))
+
+  list_names_keep : (vs : List Variable) (rest : List Name → Timed) → ((xs : List Name) → Keeps (rest xs)) → Keeps (ev_names points here vs rest)
+  list_names_keep [] rest k = k []
+  list_names_keep (v ∷ vs) rest k = name_keeps v _ (λ x. list_names_keep vs (λ xs. rest (x ∷ xs)) (λ xs. k (x ∷ xs)))
+
+  lock_names_keep : (o : LockNames) (rest : List Name → Timed) → ((xs : List Name) → Keeps (rest xs)) → Keeps (ev_lock_names points here o rest)
+  lock_names_keep (Lone v) rest k = list_names_keep (v ∷ []) rest k
+  lock_names_keep (Together vs) rest k = list_names_keep vs rest k
+
+  lock_list_keeps : (list : List Locked) (rest : Timed) → Keeps rest → Keeps (lock_list points here list rest)
+  lock_list_keeps [] rest k = k
+  lock_list_keeps (l ∷ list) rest k =
+      lock_names_keep l.names _ (λ xs. timeout_keeps l.timeout _ (λ t. lock_keeps l.mode xs t (lock_list points here list rest) (lock_list_keeps list rest k)))
+
+  lock_all_keeps : (list : List Locked) (rest : Timed) → Keeps rest → Keeps (lock_all points here list rest)
+  lock_all_keeps [] rest k = turn_keeps (unlock_all rest) (unlock_all_keeps rest k)
+  lock_all_keeps (l ∷ list) rest k = lock_list_keeps (l ∷ list) rest k
 
   -- NEW.
 
@@ -488,6 +567,9 @@ module _ (points : Points) (all : (p : Point) → KeepsPoint p → Keeps (points
   obey_keeps (Set list) c steps ways rest w k = when_keeps c _ rest (assign_all_keeps list rest k) k
   obey_keeps (Write list) c steps ways rest w k = when_keeps c _ rest (output_all_keeps list rest k) k
   obey_keeps Halt c steps ways rest w k = when_keeps c _ rest (turn_keeps (end None) (end_keeps None)) k
+  obey_keeps (Hang es) c steps ways rest w k = when_keeps c _ rest (hang_all_keeps es rest k) k
+  obey_keeps (Job list) c steps ways rest w k = when_keeps c _ rest (start_all_keeps list rest k) k
+  obey_keeps (Lock list) c steps ways rest w k = when_keeps c _ rest (lock_all_keeps list rest k) k
   obey_keeps (Kill list) c steps ways rest w k = when_keeps c _ rest (kill_all_keeps list rest k) k
   obey_keeps (Merge list) c steps ways rest w k = when_keeps c _ rest (merge_all_keeps list rest k) k
   obey_keeps (If es) c steps ways rest w k = if_keeps_all es ways.line_end rest w.line_end k
@@ -560,7 +642,7 @@ module _ (image : List Routine) where
         leave = k.1.leave;
       })
   points_keep (suc d) (Started rest) k = record {
-    by = λ n h s replies a locals at le e. k.by n (until n (turn (points_of image d (Started rest))) h) s replies a locals at le e;
+    by = λ n h s replies a locals at le e. k.by n (until n (turn (points_of image d (Started rest)))) s replies a locals at le e;
   }
 
   -- a job from its start
@@ -569,7 +651,7 @@ module _ (image : List Routine) where
   job_keeps start n replies a locals at e =
       let called : Timed = points_of image (suc n) (Called false start.entry start.values (λ v. end None)) in
       let k : Keeps (starts image start (suc n)) =
-      turn_keeps _ (to_device_keeps principal (asks.DeviceBegin principal) called (points_keep (suc n) (Called false start.entry start.values (λ v. end None)) (λ v. end_keeps None))) in
+      turn_keeps _ (to_device_keeps principal (asks.DeviceBegin principal) (λ r. called) (λ r. points_keep (suc n) (Called false start.entry start.values (λ v. end None)) (λ v. end_keeps None))) in
       let fair : IsFair (opening start.job) = (omega arith, omega arith) in
       subst (λ i. IsAllowed i a) (let z : (opening start.job).replied + length replies ≡ length replies = omega arith in z) (k.by n no_restart (opening start.job) replies a locals at fair e)
 

@@ -4,9 +4,9 @@ use Rattle.std.specs.Prelude.{if◌then◌else◌}
 use Rattle.mj_text.specs.declared.fault.Fault.TheVariants.{Device}
 use Rattle.mj_ask.specs.declared.ask.Reply.{Reply}
 use Rattle.mj_semantics.specs.State.{principal, broke, counted}
-use Rattle.mj_semantics.specs.Outcome.{change, fault, end, is_failed}
+use Rattle.mj_semantics.specs.Outcome.{no_restart, change, fault, end, is_failed}
 use Rattle.mj_semantics.specs.Points.{Called}
-use Rattle.mj_semantics.specs.Job.{Start, next, opening, no_restart, points_of}
+use Rattle.mj_semantics.specs.Job.{Start, next, opening, points_of}
 use Rattle.mj_pcode.specs.Found.{found}
 use Rattle.mj_pcode.specs.Machine.{calls}
 use Rattle.mj_load.specs.Image.{Loaded, routines_of, IsImage}
@@ -26,4 +26,4 @@ module _ (image : Loaded) (is : IsImage image) (start : Start) where
       by false = ap (λ f. f no_restart (counted (opening start.job)) replies) (is.does start.entry start.values (suc m) m (let le : m ≤ suc m = omega arith in le))
 
   pub starts : IsRunOfAfter image start 0 (opened start)
-  starts = started (routines_of image) start (code_in image start) (opening_at start.job) tt opens
+  starts = started (routines_of image) start (code_in image start) (opening_at start.job) (tt, tt) opens

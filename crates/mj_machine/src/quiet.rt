@@ -60,6 +60,7 @@ fn special_value(alloc: Global, special: Special, machine: &Machine) -> Text
     ensures { result ≡ states.special_value special (state_of machine.now) }
 {
     match special {
+        Special::Job => Text::from_number(alloc, machine.job as i64),
         Special::Test => truth_text(alloc, machine.test),
     }
 }

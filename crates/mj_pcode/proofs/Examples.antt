@@ -5,8 +5,8 @@ use Rattle.std.specs.Prelude.{◌≡◌, refl, ℕ, suc, List, [], ◌∷◌, So
 use Rattle.mj_ask.specs.declared.ask.Ask.TheVariants.{DeviceEnd}
 use Rattle.mj_oper.specs.declared.op.Op.TheVariants.{Add}
 use Rattle.mj_semantics.specs.State.{State, principal, passed, pushed, popped, places}
-use Rattle.mj_semantics.specs.Outcome.{Outcome, Needs, More, change, end}
-use Rattle.mj_semantics.specs.Job.{no_restart, opening}
+use Rattle.mj_semantics.specs.Outcome.{Outcome, Needs, More, no_restart, change, end}
+use Rattle.mj_semantics.specs.Job.{opening}
 use Rattle.mj_pcode.specs.declared.instr.Span.TheVariants as span
 use Rattle.mj_pcode.specs.declared.instr.Instr.{Instr}
 use Rattle.mj_pcode.specs.declared.instr.Instr.TheVariants.{Line, Push, Binary, Write, Unless, Jump, NoneTrue, Open, Begin, Close, Again, Quit}

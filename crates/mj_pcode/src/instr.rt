@@ -2,6 +2,7 @@
 
 use crate::labels::Labels;
 use crate::marks::Marks;
+use crate::references::References;
 use crate::shape::Shape;
 use crate::words::Words;
 use mj_ask::Entry;
@@ -39,6 +40,15 @@ pub enum Span {
     One,
     Endless,
     UpTo,
+}
+
+/// How long an ask may wait.
+#[derive(Clone, Copy, PartialEq, Eq, Debug)]
+pub enum Wait {
+    /// as long as it takes
+    Ever,
+    /// so many seconds, which the topmost operand says
+    Timed,
 }
 
 /// An instruction. Operands lie on a stack of texts.
@@ -96,6 +106,18 @@ pub enum Instr {
     NoneTrue,
     /// ends the job
     Halt,
+    /// looks whether the topmost operand reads as a number
+    Number,
+    /// takes a number off, and waits so many seconds
+    Hang,
+    /// takes the timeout off, if there is one, and the actuals that are given, and starts a job where the entry names a line
+    Start(Entry, Shape, Wait),
+    /// gives up all names that the job holds
+    UnlockAll,
+    /// takes the timeout off, if there is one, and the subscripts of the variables, and takes their names, all or none
+    Lock(References, Wait),
+    /// takes the timeout off, if there is one, and the subscripts of the variables, and gives up their names
+    Unlock(References, Wait),
     /// takes a truth value off, which `$TEST` becomes, and goes on at the instruction with this number where it is false
     Decide(usize),
     /// goes on at the instruction with this number where `$TEST` is false

@@ -7,12 +7,14 @@ mod find;
 mod instr;
 mod labels;
 mod marks;
+mod references;
 mod shape;
 mod words;
 
 pub use find::{Target, find_line};
-pub use instr::{Depth, Head, Instr, LineStart, Reference, Span, Unit};
+pub use instr::{Depth, Head, Instr, LineStart, Reference, Span, Unit, Wait};
 pub use labels::Labels;
 pub use marks::Marks;
+pub use references::References;
 pub use shape::Shape;
 pub use words::Words;

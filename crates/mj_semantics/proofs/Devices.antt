@@ -5,10 +5,10 @@ use Rattle.mj_text.specs.declared.fault.Fault.TheVariants as faults
 use Rattle.mj_ask.specs.declared.ask.Ask.TheVariants as ask
 use Rattle.mj_ask.specs.declared.ask.Reply.TheVariants as reply
 use Rattle.mj_ast.specs.Syntax.{Line}
-use Rattle.mj_semantics.specs.State.{State, OpenDevice, Frame, Mark, principal, untouched, ending_order, wrote, broke}
-use Rattle.mj_semantics.specs.Outcome.{Outcome, Needs, Ended, More, over, restartable, go_back}
+use Rattle.mj_semantics.specs.State.{State, OpenDevice, Frame, Mark, principal, untouched, ending_order, wrote, broke, dropped}
+use Rattle.mj_semantics.specs.Outcome.{Outcome, Needs, Ended, More, Handler, no_restart, over, restartable, settled, go_back, close}
 use Rattle.mj_semantics.specs.Commands.{quit_frame}
-use Rattle.mj_semantics.specs.Job.{next, opening, no_restart}
+use Rattle.mj_semantics.specs.Job.{next, opening}
 use Rattle.mj_semantics.proofs.Talk.{asks, line, text, get, write, image_of, first_at, spot}
 
 -- WRITE "a"
@@ -89,6 +89,26 @@ one_fails = refl
 principal_last : ending_order (untouched ∷ device other 0 0 ∷ device (codes "2:more") 0 0 ∷ []) ≡ other ∷ codes "2:more" ∷ principal ∷ []
 principal_last = refl
 
+-- a current device that is closed makes the principal one current; another one leaves the current one
+drops_current : (dropped other two_open).current ≡ principal
+drops_current = refl
+
+drops_another : ((dropped other (record two_open { current = principal })).current ≡ principal) × ((dropped (codes "2:more") two_open).current ≡ other)
+drops_another = (refl, refl)
+
+-- what a closing asks, where the session ends well and where it doesn't: then the name is given up all the same, the fault's line goes to
+-- the principal device, and the job's end doesn't end the session again
+closes : (close other over 9 no_restart two_open [] ≡ Needs (ask.DeviceEnd other) [] [])
+    × (close other over 9 no_restart two_open (reply.Done ∷ []) ≡ Needs (ask.Close other) [] [])
+    × (close other over 9 no_restart two_open (reply.Done ∷ reply.Done ∷ []) ≡ Ended)
+closes = (refl, refl, refl)
+
+closes_badly : (close other over 9 no_restart two_open (reply.Failed ∷ []) ≡ Needs (ask.Close other) [] [])
+    × (close other over 9 no_restart two_open (reply.Failed ∷ reply.Done ∷ []) ≡ Needs (ask.DeviceWrite principal (10 ∷ codes "F16 DEVICE -" ++ 10 ∷ [])) [] [])
+    × (close other over 9 no_restart two_open (reply.Failed ∷ reply.Done ∷ reply.Done ∷ []) ≡ Needs (ask.DeviceEnd principal) [] [])
+unfolding digits
+closes_badly = (refl, refl, refl)
+
 -- Marks.
 
 abbrev frame : Frame
@@ -113,3 +133,14 @@ out_of_call = refl
 -- a restart goes on where it is said, with the turns that are left
 goes_back : (restartable over go_back 1 no_restart (opening 1) [] ≡ Ended) × (restartable over go_back 0 no_restart (opening 1) [] ≡ More)
 goes_back = (refl, refl)
+
+-- what a restart of an earlier transaction would go on with
+abbrev earlier : Handler
+earlier = λ n s replies. Ended
+
+-- a restart behind the end of a transaction comes to nothing, and so does one that leads behind a mark where another is made
+settles : (settled go_back 9 earlier (opening 1) [] ≡ More) × (restartable over (settled go_back) 9 earlier (opening 1) [] ≡ More)
+settles = (refl, refl)
+
+forgets : restartable go_back go_back 9 earlier (opening 1) [] ≡ More
+forgets = refl

@@ -5,3 +5,4 @@ pub mod Loops
 pub mod Words
 pub mod Depth
 pub mod Devices
+pub mod Sharing

@@ -11,12 +11,12 @@ use Rattle.mj_ask.specs.declared.ask.Reply.{Reply}
 use Rattle.mj_subs.specs.Name.{Name}
 use Rattle.mj_ast.specs.declared.expr.Scope.TheVariants.{Local, Global}
 use Rattle.mj_ast.specs.Syntax.{Expr, Chain, Done, Operand, Literal, Value, Intrinsic, About, Variable, Var, No, More as Another, Targets, One, Plain, Assignment, Output, Shown, Target, Called, Jumped, Command, Set, Write, Step, Line, Routine}
-use Rattle.mj_semantics.specs.Outcome.{Outcome, Needs, Ended, More, end}
+use Rattle.mj_semantics.specs.Outcome.{Outcome, Needs, Ended, More, no_restart, end}
 use Rattle.mj_semantics.specs.State.{Frame, Place}
 use Rattle.mj_semantics.specs.Points.{AtLine}
-use Rattle.mj_semantics.specs.Job.{Start, next, points_of, opening, no_restart}
+use Rattle.mj_semantics.specs.Job.{Start, next, points_of, opening}
 
-abbrev asked : Outcome → List Ask
+abbrev pub asked : Outcome → List Ask
 asked (Needs a locals places) = a ∷ []
 asked Ended = []
 asked More = []

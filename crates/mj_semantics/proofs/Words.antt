@@ -2,7 +2,7 @@
 -- this.
 use Rattle.std.proofs.Common.{◌≡◌, ℕ, zero, suc, ◌<◌, ◌≤◌, List, [], ◌∷◌, length, Bool, true, false, Option, Some, None, Result, Ok, Err, refl, arith}
 use Rattle.std.proofs.lemmas.Bool.{leb-false}
-use Rattle.std.specs.Prelude.{ℤ, ◌+ℤ◌, nat_lt, nat_le, if◌then◌else◌}
+use Rattle.std.specs.Prelude.{◌+◌, ℤ, pos, int_lt, ◌+ℤ◌, not, nat_lt, nat_le, if◌then◌else◌}
 use Rattle.mj_text.specs.declared.text.TheConstants.{TEXT_LIMIT}
 use Rattle.mj_text.specs.declared.fault.Fault.{Fault}
 use Rattle.mj_text.specs.declared.fault.Fault.TheVariants.{Undefined, ForIndex}
@@ -16,16 +16,21 @@ use Rattle.mj_store.specs.declared.access.Answer.{Answer}
 use Rattle.mj_ask.specs.declared.ask.Ask.{Ask}
 use Rattle.mj_ask.specs.declared.ask.Ask.TheVariants as ask_kinds
 use Rattle.mj_ask.specs.declared.ask.Reply.{Reply}
+use Rattle.mj_ask.specs.declared.entry.Entry.{Entry}
+use Rattle.mj_ask.specs.Fits.{is_late}
+use Rattle.mj_ast.specs.declared.routine.LockMode.{LockMode}
+use Rattle.mj_ast.specs.declared.routine.LockMode.TheVariants as mode
 use Rattle.mj_ast.specs.declared.function.NameFunction.{NameFunction}
 use Rattle.mj_ast.specs.Syntax.{Renewed, Fresh, Kept}
 use Rattle.mj_strfn.specs.Functions.{assigned_pieces, set_piece_value}
 use Rattle.mj_semantics.specs.State.{State, Only, AllBut, accessed, wrote, broke, counted, hold, has_failed, principal, ending_order, is_at_mark, newed}
-use Rattle.mj_semantics.specs.Outcome.{Outcome, More, Handler, Timed, turn, turns, look, change, asking, over, until, restartable, go_back, halt, ends, end, fault, steps_limit, ask, is_failed, to_device, need, given}
+use Rattle.mj_semantics.specs.Outcome.{Outcome, More, Handler, Timed, turn, turns, look, change, asking, over, no_restart, until, restartable, settled, go_back, halt, ends, end, fault, steps_limit, ask, tell, is_failed, to_device, need, given}
 use Rattle.mj_semantics.specs.Names.{spelled, asks, question, told}
 use Rattle.mj_semantics.specs.Functions.{needed, optional}
 use Rattle.mj_semantics.specs.Accesses.{answer_told, answered, access, value_told, nodes_told}
 use Rattle.mj_semantics.specs.Evaluation.{read, about}
 use Rattle.mj_semantics.specs.Points.{Loop, Once, Always, By}
+use Rattle.mj_semantics.specs.Sharing.{is_limit, in_time, served, out_of_transaction, hang, start_job, unlock_all, take_names, give_names, lock}
 use Rattle.mj_semantics.specs.Commands.{Aim, Whole, Part, store, or_empty, renewed, renew, put, put_all, remove, named, take_nodes, put_these, put_nodes, renewal, new_list, new_all, frames_limit, quit_frame, deeper, write, if_test, is_within, stepped, again, first, reading_two}
 
 -- what a run comes to with more turns, beside what it comes to with some: the same, or these were used up
@@ -33,199 +38,240 @@ pub data Stays (o : Outcome) : Outcome → Type 0 where
   spent : Stays o More
   same : Stays o o
 
--- what a restart comes to by the second of two handlers, with up to q turns, beside what it comes to by the first, with up to n
-pub record Back (n q : ℕ) (h k : Handler) : Type 0 where
-  pub by : (m i : ℕ) → m ≤ n → m ≤ i → i ≤ q → (s : State) (rs : List Reply) → Stays (k i s rs) (h m s rs)
+-- what a restart comes to by the second of two handlers, with up to q turns, beside what it comes to by the first, with up to n, where the
+-- second has at most so many turns more
+pub record Back (more n q : ℕ) (h k : Handler) : Type 0 where
+  pub by : (m i : ℕ) → m ≤ n → m ≤ i → i ≤ q → i ≤ m + more → (s : State) (rs : List Reply) → Stays (k i s rs) (h m s rs)
 
 -- the same of two runs, of which the first has fewer than b turns
-pub record Keeps (b : ℕ) (f g : Timed) : Type 0 where
-  pub by : (n q : ℕ) → n < b → n ≤ q → (h k : Handler) → Back n q h k → (s : State) (rs : List Reply) → Stays (g q k s rs) (f n h s rs)
+pub record Keeps (more b : ℕ) (f g : Timed) : Type 0 where
+  pub by : (n q : ℕ) → n < b → n ≤ q → q ≤ n + more → (h k : Handler) → Back more n q h k → (s : State) (rs : List Reply) → Stays (g q k s rs) (f n h s rs)
 
 -- Turns.
 
-pub less : {b : ℕ} {f g : Timed} → Keeps (suc b) f g → Keeps b f g
-less l = record { by = λ n q lt le h k e s rs. l.by n q (omega arith) le h k e s rs }
+pub less : {more b : ℕ} {f g : Timed} → Keeps more (suc b) f g → Keeps more b f g
+less l = record { by = λ n q lt le up h k e s rs. l.by n q (omega arith) le up h k e s rs }
 
-pub no_turns : (f g : Timed) → Keeps 0 f g
+pub no_turns : {more : ℕ} (f g : Timed) → Keeps more 0 f g
 no_turns f g = record { by = λ n q lt. absurd (omega arith) }
 
-pub turned : {b : ℕ} {f g : Timed} → Keeps b f g → Keeps (suc b) (turn f) (turn g)
-turned {b} {f} {g} l = record { by = at }
+pub turned : {more b : ℕ} {f g : Timed} → Keeps more b f g → Keeps more (suc b) (turn f) (turn g)
+turned {more} {b} {f} {g} l = record { by = at }
   where
-    at : (n q : ℕ) → n < suc b → n ≤ q → (h k : Handler) → Back n q h k → (s : State) (rs : List Reply) → Stays (turn g q k s rs) (turn f n h s rs)
-    at zero q lt le h k e s rs = spent
-    at (suc n) zero lt le h k e s rs = absurd (omega arith)
-    at (suc n) (suc q) lt le h k e s rs =
-        l.by n q (omega arith) (omega arith) h k (record { by = λ m i u v w. e.by m i (omega arith) v (omega arith) }) s rs
+    at : (n q : ℕ) → n < suc b → n ≤ q → q ≤ n + more → (h k : Handler) → Back more n q h k → (s : State) (rs : List Reply) → Stays (turn g q k s rs) (turn f n h s rs)
+    at zero q lt le up h k e s rs = spent
+    at (suc n) zero lt le up h k e s rs = absurd (omega arith)
+    at (suc n) (suc q) lt le up h k e s rs =
+        l.by n q (omega arith) (omega arith) (omega arith) h k (record { by = λ m i u v z w. e.by m i (omega arith) v (omega arith) w }) s rs
 
-pub a_turn : {b : ℕ} {f g : Timed} → Keeps b f g → Keeps b (turn f) (turn g)
+pub a_turn : {more b : ℕ} {f g : Timed} → Keeps more b f g → Keeps more b (turn f) (turn g)
 a_turn l = less (turned l)
 
-pub some_turns : {b : ℕ} {f g : Timed} (k : ℕ) → Keeps b f g → Keeps b (turns k f) (turns k g)
+pub some_turns : {more b : ℕ} {f g : Timed} (k : ℕ) → Keeps more b f g → Keeps more b (turns k f) (turns k g)
 some_turns zero l = l
 some_turns (suc k) l = a_turn (some_turns k l)
 
 -- Words.
 
-pub looked : {b : ℕ} {f g : State → Timed} → ((s : State) → Keeps b (f s) (g s)) → Keeps b (look f) (look g)
-looked l = record { by = λ n q lt le h k e s rs. (l s).by n q lt le h k e s rs }
+pub looked : {more b : ℕ} {f g : State → Timed} → ((s : State) → Keeps more b (f s) (g s)) → Keeps more b (look f) (look g)
+looked l = record { by = λ n q lt le up h k e s rs. (l s).by n q lt le up h k e s rs }
 
-pub changed : {b : ℕ} {c : State → State} {f g : Timed} → Keeps b f g → Keeps b (change c f) (change c g)
-changed {c = c} l = record { by = λ n q lt le h k e s rs. l.by n q lt le h k e (c s) rs }
+pub changed : {more b : ℕ} {c : State → State} {f g : Timed} → Keeps more b f g → Keeps more b (change c f) (change c g)
+changed {c = c} l = record { by = λ n q lt le up h k e s rs. l.by n q lt le up h k e (c s) rs }
 
-pub chosen : {b : ℕ} {f g f' g' : Timed} (c : Bool) → Keeps b f g → Keeps b f' g' → Keeps b (if c then f else f') (if c then g else g')
+pub chosen : {more b : ℕ} {f g f' g' : Timed} (c : Bool) → Keeps more b f g → Keeps more b f' g' → Keeps more b (if c then f else f') (if c then g else g')
 chosen true l m = l
 chosen false l m = m
 
-pub replied_to : {b : ℕ} {a : Ask} {f g : Reply → Timed} → ((r : Reply) → Keeps b (f r) (g r)) → Keeps b (asking a f) (asking a g)
-replied_to {b} {a} {f} {g} l = record { by = at }
+pub replied_to : {more b : ℕ} {a : Ask} {f g : Reply → Timed} → ((r : Reply) → Keeps more b (f r) (g r)) → Keeps more b (asking a f) (asking a g)
+replied_to {more} {b} {a} {f} {g} l = record { by = at }
   where
-    at : (n q : ℕ) → n < b → n ≤ q → (h k : Handler) → Back n q h k → (s : State) (rs : List Reply) → Stays (asking a g q k s rs) (asking a f n h s rs)
-    at n q lt le h k e s [] = same
-    at n q lt le h k e s (r ∷ rs) = (l r).by n q lt le h k e s rs
+    at : (n q : ℕ) → n < b → n ≤ q → q ≤ n + more → (h k : Handler) → Back more n q h k → (s : State) (rs : List Reply) → Stays (asking a g q k s rs) (asking a f n h s rs)
+    at n q lt le up h k e s [] = same
+    at n q lt le up h k e s (r ∷ rs) = (l r).by n q lt le up h k e s rs
 
-is_over : {b : ℕ} → Keeps b over over
-is_over = a_turn (record { by = λ n q lt le h k e s rs. same })
+is_over : {more b : ℕ} → Keeps more b over over
+is_over = a_turn (record { by = λ n q lt le up h k e s rs. same })
 
-halted : {b : ℕ} {f : Option Fault} → Keeps b (halt f) (halt f)
+halted : {more b : ℕ} {f : Option Fault} → Keeps more b (halt f) (halt f)
 halted = a_turn (replied_to (λ r. is_over))
 
-all_end : {b : ℕ} (f : Option Fault) (names : List (List ℕ)) → Keeps b (ends names f) (ends names f)
+all_end : {more b : ℕ} (f : Option Fault) (names : List (List ℕ)) → Keeps more b (ends names f) (ends names f)
 all_end f [] = halted
 all_end f (name ∷ names) = a_turn (replied_to (λ r. all_end f names))
 
-pub ended : {b : ℕ} {f : Option Fault} → Keeps b (end f) (end f)
+pub ended : {more b : ℕ} {f : Option Fault} → Keeps more b (end f) (end f)
 ended {f = f} = looked (λ s. all_end f (ending_order s.devices))
 
-pub faulted : {b : ℕ} {f : Fault} → Keeps b (fault f) (fault f)
+pub faulted : {more b : ℕ} {f : Fault} → Keeps more b (fault f) (fault f)
 faulted = a_turn (looked (λ s. chosen (has_failed principal s) ended (replied_to (λ r. ended))))
 
-pub needs : {b : ℕ} {A : Type 0} (f : Fault) {g h : A → Timed} (o : Option A) → ((v : A) → Keeps b (g v) (h v)) → Keeps b (need f o g) (need f o h)
+pub needs : {more b : ℕ} {A : Type 0} (f : Fault) {g h : A → Timed} (o : Option A) → ((v : A) → Keeps more b (g v) (h v)) → Keeps more b (need f o g) (need f o h)
 needs f None l = faulted
 needs f (Some v) l = l v
 
-pub is_given : {b : ℕ} {A : Type 0} {g h : A → Timed} (r : Result A Fault) → ((v : A) → Keeps b (g v) (h v)) → Keeps b (given r g) (given r h)
+pub is_given : {more b : ℕ} {A : Type 0} {g h : A → Timed} (r : Result A Fault) → ((v : A) → Keeps more b (g v) (h v)) → Keeps more b (given r g) (given r h)
 is_given (Ok v) l = l v
 is_given (Err f) l = faulted
 
-pub asked : {b : ℕ} (a : Ask) {f g : Reply → Timed} → ((r : Reply) → Keeps b (f r) (g r)) → Keeps b (ask a f) (ask a g)
+pub asked : {more b : ℕ} (a : Ask) {f g : Reply → Timed} → ((r : Reply) → Keeps more b (f r) (g r)) → Keeps more b (ask a f) (ask a g)
 asked a l = looked (λ s. chosen (nat_lt s.replied steps_limit) (replied_to (λ r. changed {c = counted} (l r))) faulted)
 
-pub to_its_device : {b : ℕ} (name : List ℕ) (a : Ask) {f g : Timed} → Keeps b f g → Keeps b (to_device name a f) (to_device name a g)
-to_its_device name a l = asked a (λ r. chosen (is_failed r) (changed {c = broke name} faulted) l)
+pub told_of : {more b : ℕ} (a : Ask) {f g : Timed} → Keeps more b f g → Keeps more b (tell a f) (tell a g)
+told_of a l = asked a (λ r. l)
+
+pub to_its_device : {more b : ℕ} (name : List ℕ) (a : Ask) {f g : Reply → Timed} → ((r : Reply) → Keeps more b (f r) (g r)) → Keeps more b (to_device name a f) (to_device name a g)
+to_its_device name a l = asked a (λ r. chosen (is_failed r) (changed {c = broke name} faulted) (l r))
 
 -- Restarts.
 
-pub gone_back : {b : ℕ} → Keeps b go_back go_back
-gone_back = record { by = λ n q lt le h k e s rs. e.by n q (omega arith) le (omega arith) s rs }
+pub gone_back : {more b : ℕ} → Keeps more b go_back go_back
+gone_back = record { by = λ n q lt le up h k e s rs. e.by n q (omega arith) le (omega arith) up s rs }
 
-pub restarts : {b : ℕ} {f g f' g' : Timed} → Keeps b f g → Keeps b f' g' → Keeps b (restartable f f') (restartable g g')
-restarts {b} {f} {g} l l' = record { by = λ n q lt le h k e s rs. l'.by n q lt le (until n f h) (until q g k) (backs n q lt h k e) s rs }
+-- no restart, beside none
+pub none_back : {more : ℕ} (n q : ℕ) → Back more n q no_restart no_restart
+none_back n q = record { by = λ m i u v w z s rs. spent }
+
+pub restarts : {more b : ℕ} {f g f' g' : Timed} → Keeps more b f g → Keeps more b f' g' → Keeps more b (restartable f f') (restartable g g')
+restarts {more} {b} {f} {g} l l' = record { by = λ n q lt le up h k e s rs. l'.by n q lt le up (until n f) (until q g) (backs n q lt) s rs }
   where
-    back : (n q : ℕ) → n < b → (h k : Handler) → Back n q h k → (m i : ℕ) → m ≤ n → m ≤ i → i ≤ q → (s : State) (rs : List Reply)
-        → (c d : Bool) → nat_le m n ≡ c → nat_le i q ≡ d → Stays ((if d then g i k else (λ s replies. More)) s rs) ((if c then f m h else (λ s replies. More)) s rs)
-    back n q lt h k e m i u v w s rs false d p p' = spent
-    back n q lt h k e m i u v w s rs true true p p' = l.by m i (omega arith) v h k (record { by = λ m' i' u' v' w'. e.by m' i' (omega arith) v' (omega arith) }) s rs
-    back n q lt h k e m i u v w s rs true false p p' = let over : q < i = leb-false i q p' in absurd (omega (arith, over, w))
+    back : (n q : ℕ) → n < b → (m i : ℕ) → m ≤ n → m ≤ i → i ≤ q → i ≤ m + more → (s : State) (rs : List Reply)
+        → (c d : Bool) → nat_le m n ≡ c → nat_le i q ≡ d → Stays ((if d then g i no_restart else (λ s replies. More)) s rs) ((if c then f m no_restart else (λ s replies. More)) s rs)
+    back n q lt m i u v w z s rs false d p p' = spent
+    back n q lt m i u v w z s rs true true p p' = l.by m i (omega arith) v z no_restart no_restart (none_back m i) s rs
+    back n q lt m i u v w z s rs true false p p' = let over : q < i = leb-false i q p' in absurd (omega (arith, over, w))
 
-    backs : (n q : ℕ) → n < b → (h k : Handler) → Back n q h k → Back n q (until n f h) (until q g k)
-    backs n q lt h k e = record { by = λ m i u v w s rs. back n q lt h k e m i u v w s rs (nat_le m n) (nat_le i q) refl refl }
+    backs : (n q : ℕ) → n < b → Back more n q (until n f) (until q g)
+    backs n q lt = record { by = λ m i u v w z s rs. back n q lt m i u v w z s rs (nat_le m n) (nat_le i q) refl refl }
+
+pub is_settled : {more b : ℕ} {f g : Timed} → Keeps more b f g → Keeps more b (settled f) (settled g)
+is_settled l = record { by = λ n q lt le up h k e s rs. l.by n q lt le up no_restart no_restart (none_back n q) s rs }
 
 -- Accesses.
 
-pub accesses_keep : {b : ℕ} (a : Access) {f g : Answer → Timed} → ((x : Answer) → Keeps b (f x) (g x)) → Keeps b (access a f) (access a g)
+pub accesses_keep : {more b : ℕ} (a : Access) {f g : Answer → Timed} → ((x : Answer) → Keeps more b (f x) (g x)) → Keeps more b (access a f) (access a g)
 accesses_keep a l =
     chosen (name_of a).global (asked (ask_kinds.Access a) (λ r. is_given (answered (answer_told r)) l))
     (looked (λ s. changed {c = accessed a} (is_given (answered (answer_of a s.locals)) l)))
 
-pub reads : {b : ℕ} (x : Name) {f g : List ℕ → Timed} → ((v : List ℕ) → Keeps b (f v) (g v)) → Keeps b (read x f) (read x g)
+pub reads : {more b : ℕ} (x : Name) {f g : List ℕ → Timed} → ((v : List ℕ) → Keeps more b (f v) (g v)) → Keeps more b (read x f) (read x g)
 reads x l = accesses_keep (accesses.Value x) (λ a. needs Undefined (value_told a) l)
 
-pub is_about : {b : ℕ} (k : NameFunction) (x : Name) (o : Option (List ℕ)) {f g : List ℕ → Timed} → ((v : List ℕ) → Keeps b (f v) (g v)) → Keeps b (about k x o f) (about k x o g)
+pub is_about : {more b : ℕ} (k : NameFunction) (x : Name) (o : Option (List ℕ)) {f g : List ℕ → Timed} → ((v : List ℕ) → Keeps more b (f v) (g v)) → Keeps more b (about k x o f) (about k x o g)
 is_about k x o l =
     chosen (asks k) (is_given (question k x o) (λ a. accesses_keep a (λ r. is_given (told k o r) l))) (is_given (spelled x) l)
 
 -- Commands.
 
-pub stores : {b : ℕ} (x : Name) (v : List ℕ) {f g : Timed} → Keeps b f g → Keeps b (store x v f) (store x v g)
+pub stores : {more b : ℕ} (x : Name) (v : List ℕ) {f g : Timed} → Keeps more b f g → Keeps more b (store x v f) (store x v g)
 stores x v l = accesses_keep (accesses.Set x v) (λ a. l)
 
-renews_pieces : {b : ℕ} (x : Name) (d : List ℕ) (range : ℕ × ℕ) (e : List ℕ) {f g : List ℕ → Timed} → ((v : List ℕ) → Keeps b (f v) (g v)) → Keeps b (renewed x d range e f) (renewed x d range e g)
+renews_pieces : {more b : ℕ} (x : Name) (d : List ℕ) (range : ℕ × ℕ) (e : List ℕ) {f g : List ℕ → Timed} → ((v : List ℕ) → Keeps more b (f v) (g v)) → Keeps more b (renewed x d range e f) (renewed x d range e g)
 renews_pieces x d range e l = accesses_keep (accesses.Value x) (λ a. is_given (set_piece_value (or_empty (value_told a)) d range e) l)
 
-pub renews : {b : ℕ} (x : Name) (ts : List (List ℕ)) (e : List ℕ) {f f' : Timed} {g g' : List ℕ → Timed} → Keeps b f f' → ((v : List ℕ) → Keeps b (g v) (g' v))
-    → Keeps b (renew x ts e f g) (renew x ts e f' g')
-renews {b} x ts e {f} {f'} {g} {g'} skipped l = is_given (assigned_pieces (needed 0 ts) (optional 1 ts) (optional 2 ts)) at
+pub renews : {more b : ℕ} (x : Name) (ts : List (List ℕ)) (e : List ℕ) {f f' : Timed} {g g' : List ℕ → Timed} → Keeps more b f f' → ((v : List ℕ) → Keeps more b (g v) (g' v))
+    → Keeps more b (renew x ts e f g) (renew x ts e f' g')
+renews {more} {b} x ts e {f} {f'} {g} {g'} skipped l = is_given (assigned_pieces (needed 0 ts) (optional 1 ts) (optional 2 ts)) at
   where
-    at : (range : Option (ℕ × ℕ)) → Keeps b (elim range [ None ↦ f | Some r ↦ renewed x (needed 0 ts) r e g ]) (elim range [ None ↦ f' | Some r ↦ renewed x (needed 0 ts) r e g' ])
+    at : (range : Option (ℕ × ℕ)) → Keeps more b (elim range [ None ↦ f | Some r ↦ renewed x (needed 0 ts) r e g ]) (elim range [ None ↦ f' | Some r ↦ renewed x (needed 0 ts) r e g' ])
     at None = skipped
     at (Some r) = renews_pieces x (needed 0 ts) r e l
 
-pub puts : {b : ℕ} (t : Aim) (v : List ℕ) {f g : Timed} → Keeps b f g → Keeps b (put t v f) (put t v g)
+pub puts : {more b : ℕ} (t : Aim) (v : List ℕ) {f g : Timed} → Keeps more b f g → Keeps more b (put t v f) (put t v g)
 puts (Whole x) v l = stores x v l
 puts (Part x ts) v l = renews x ts v l (λ w. a_turn (stores x w l))
 
-pub puts_all : {b : ℕ} (list : List Aim) (v : List ℕ) {f g : Timed} → Keeps b f g → Keeps b (put_all list v f) (put_all list v g)
+pub puts_all : {more b : ℕ} (list : List Aim) (v : List ℕ) {f g : Timed} → Keeps more b f g → Keeps more b (put_all list v f) (put_all list v g)
 puts_all [] v l = l
 puts_all (t ∷ list) v l = a_turn (puts t v (puts_all list v l))
 
-pub removes : {b : ℕ} (x : Name) {f g : Timed} → Keeps b f g → Keeps b (remove x f) (remove x g)
+pub removes : {more b : ℕ} (x : Name) {f g : Timed} → Keeps more b f g → Keeps more b (remove x f) (remove x g)
 removes x l = accesses_keep (accesses.Kill x) (λ a. l)
 
-pub names_keep : {b : ℕ} (words : List (List ℕ)) {f g : Timed} → Keeps b f g → Keeps b (named words f) (named words g)
+pub names_keep : {more b : ℕ} (words : List (List ℕ)) {f g : Timed} → Keeps more b f g → Keeps more b (named words f) (named words g)
 names_keep [] l = l
 names_keep (word ∷ words) l = a_turn (names_keep words l)
 
-pub takes_nodes : {b : ℕ} (x y : Name) {f g : Timed} → Keeps b f g → Keeps b (take_nodes x y f) (take_nodes x y g)
+pub takes_nodes : {more b : ℕ} (x y : Name) {f g : Timed} → Keeps more b f g → Keeps more b (take_nodes x y f) (take_nodes x y g)
 takes_nodes x y l = chosen (overlaps x y) faulted (accesses_keep (accesses.Subtree y) (λ a. changed {c = hold (nodes_told a)} l))
 
-puts_these : {b : ℕ} (x : Name) (nodes : Subtree) {f g : Timed} → Keeps b f g → Keeps b (put_these x nodes f) (put_these x nodes g)
+puts_these : {more b : ℕ} (x : Name) (nodes : Subtree) {f g : Timed} → Keeps more b f g → Keeps more b (put_these x nodes f) (put_these x nodes g)
 puts_these x [] l = l
 puts_these x (e ∷ nodes) l = accesses_keep (accesses.Put x (e ∷ nodes)) (λ a. changed {c = hold []} l)
 
-pub puts_nodes : {b : ℕ} (x : Name) {f g : Timed} → Keeps b f g → Keeps b (put_nodes x f) (put_nodes x g)
+pub puts_nodes : {more b : ℕ} (x : Name) {f g : Timed} → Keeps more b f g → Keeps more b (put_nodes x f) (put_nodes x g)
 puts_nodes x l = looked (λ s. puts_these x s.held l)
 
-renewals : {b : ℕ} (r : Renewed) {f g : Timed} → Keeps b f g → Keeps b (renewal r f) (renewal r g)
+renewals : {more b : ℕ} (r : Renewed) {f g : Timed} → Keeps more b f g → Keeps more b (renewal r f) (renewal r g)
 renewals (Fresh word) l = a_turn (changed {c = newed (Only (word ∷ []))} l)
 renewals (Kept words) l = names_keep words (a_turn (changed {c = newed (AllBut words)} l))
 
-news : {b : ℕ} (list : List Renewed) {f g : Timed} → Keeps b f g → Keeps b (new_list list f) (new_list list g)
+news : {more b : ℕ} (list : List Renewed) {f g : Timed} → Keeps more b f g → Keeps more b (new_list list f) (new_list list g)
 news [] l = l
 news (r ∷ list) l = renewals r (news list l)
 
-pub news_all : {b : ℕ} (list : List Renewed) {f g : Timed} → Keeps b f g → Keeps b (new_all list f) (new_all list g)
+pub news_all : {more b : ℕ} (list : List Renewed) {f g : Timed} → Keeps more b f g → Keeps more b (new_all list f) (new_all list g)
 news_all [] l = a_turn (changed {c = newed (AllBut [])} l)
 news_all (r ∷ list) l = news (r ∷ list) l
 
-pub quits_frame : {b : ℕ} {f g : Timed} → Keeps b f g → Keeps b (quit_frame f) (quit_frame g)
+pub quits_frame : {more b : ℕ} {f g : Timed} → Keeps more b f g → Keeps more b (quit_frame f) (quit_frame g)
 quits_frame l = looked (λ s. chosen (is_at_mark s) faulted l)
 
-pub goes_deeper : {b : ℕ} {f g : Timed} → Keeps b f g → Keeps b (deeper f) (deeper g)
+pub goes_deeper : {more b : ℕ} {f g : Timed} → Keeps more b f g → Keeps more b (deeper f) (deeper g)
 goes_deeper l = looked (λ s. chosen (nat_lt (length s.frames) frames_limit) l faulted)
 
-pub writes : {b : ℕ} (bytes : List ℕ) {f g : Timed} → Keeps b f g → Keeps b (write bytes f) (write bytes g)
+pub writes : {more b : ℕ} (bytes : List ℕ) {f g : Timed} → Keeps more b f g → Keeps more b (write bytes f) (write bytes g)
 writes [] l = l
 writes (x ∷ bytes) l =
-    chosen (nat_lt TEXT_LIMIT (length (x ∷ bytes))) faulted (looked (λ s. to_its_device s.current (ask_kinds.DeviceWrite s.current (x ∷ bytes)) (changed {c = wrote (x ∷ bytes)} l)))
+    chosen (nat_lt TEXT_LIMIT (length (x ∷ bytes))) faulted (looked (λ s. to_its_device s.current (ask_kinds.DeviceWrite s.current (x ∷ bytes)) (λ r. changed {c = wrote (x ∷ bytes)} l)))
 
-pub tests : {b : ℕ} (t : Bool) {f g f' g' : Timed} → Keeps b f g → Keeps b f' g' → Keeps b (if_test t f f') (if_test t g g')
+pub tests : {more b : ℕ} (t : Bool) {f g f' g' : Timed} → Keeps more b f g → Keeps more b f' g' → Keeps more b (if_test t f f') (if_test t g g')
 tests true l m = looked (λ s. chosen s.test m l)
 tests false l m = looked (λ s. chosen s.test l m)
 
-steps_on : {b : ℕ} (x : Name) (step : ℤ) (end : Option ℤ) (i : ℤ) {f g f' g' : Timed} → Keeps b f g → Keeps b f' g' → Keeps b (stepped x step end i f f') (stepped x step end i g g')
+steps_on : {more b : ℕ} (x : Name) (step : ℤ) (end : Option ℤ) (i : ℤ) {f g f' g' : Timed} → Keeps more b f g → Keeps more b f' g' → Keeps more b (stepped x step end i f f') (stepped x step end i g g')
 steps_on x step None i l m = is_given (sum_of i step) (λ j. stores x (canonic_text j) m)
 steps_on x step (Some end) i l m = chosen (is_within step end (i +ℤ step)) (stores x (canonic_text (i +ℤ step)) m) l
 
-pub goes_again : {b : ℕ} (loop : Loop) {f g f' g' : Timed} → Keeps b f g → Keeps b f' g' → Keeps b (again loop f f') (again loop g g')
+pub goes_again : {more b : ℕ} (loop : Loop) {f g f' g' : Timed} → Keeps more b f g → Keeps more b f' g' → Keeps more b (again loop f f') (again loop g g')
 goes_again Once l m = l
 goes_again Always l m = m
 goes_again (By x step end) l m =
     accesses_keep (accesses.Value x) (λ a. needs ForIndex (value_told a) (λ v. is_given (reading v) (λ i. steps_on x step end i l m)))
 
-pub begins : {b : ℕ} (x : Name) (i step : ℤ) (end : Option ℤ) {f g f' g' : Timed} → Keeps b f g → Keeps b f' g' → Keeps b (first x i step end f f') (first x i step end g g')
+pub begins : {more b : ℕ} (x : Name) (i step : ℤ) (end : Option ℤ) {f g f' g' : Timed} → Keeps more b f g → Keeps more b f' g' → Keeps more b (first x i step end f f') (first x i step end g g')
 begins x i step None l m = stores x (canonic_text i) m
 begins x i step (Some end) l m = stores x (canonic_text i) (chosen (is_within step end i) m l)
 
-pub reads_two : {b : ℕ} (v w : List ℕ) {f g : ℤ → ℤ → Timed} → ((i j : ℤ) → Keeps b (f i j) (g i j)) → Keeps b (reading_two v w f) (reading_two v w g)
+pub reads_two : {more b : ℕ} (v w : List ℕ) {f g : ℤ → ℤ → Timed} → ((i j : ℤ) → Keeps more b (f i j) (g i j)) → Keeps more b (reading_two v w f) (reading_two v w g)
 reads_two v w l = is_given (reading v) (λ i. is_given (reading w) (λ j. l i j))
+
+-- HANG, JOB and LOCK.
+
+serves : {more b : ℕ} (timeout : Option ℤ) (r : Reply) {f g : Timed} → Keeps more b f g → Keeps more b (served timeout r f) (served timeout r g)
+serves timeout r l = chosen (is_limit r) faulted (changed {c = in_time timeout (not (is_late r))} l)
+
+out_of : {more b : ℕ} {f g : Timed} → Keeps more b f g → Keeps more b (out_of_transaction f) (out_of_transaction g)
+out_of l = looked (λ s. chosen (nat_lt 0 s.level) faulted l)
+
+pub hangs : {more b : ℕ} (v : List ℕ) {f g : Timed} → Keeps more b f g → Keeps more b (hang v f) (hang v g)
+hangs v l = is_given (reading v) (λ n. chosen (int_lt (pos 0) n) (told_of (ask_kinds.Rest n) l) l)
+
+pub starts_job : {more b : ℕ} (entry : Entry) (vs : List (Option (List ℕ))) (timeout : Option ℤ) {f g : Timed} → Keeps more b f g → Keeps more b (start_job entry vs timeout f) (start_job entry vs timeout g)
+starts_job entry vs timeout l = out_of (asked (ask_kinds.Start (record { entry = entry; values = vs }) timeout) (λ r. serves timeout r l))
+
+pub unlocks_all : {more b : ℕ} {f g : Timed} → Keeps more b f g → Keeps more b (unlock_all f) (unlock_all g)
+unlocks_all l = out_of (asked ask_kinds.UnlockAll (λ r. serves None r l))
+
+takes_names : {more b : ℕ} (xs : List Name) (timeout : Option ℤ) {f g : Timed} → Keeps more b f g → Keeps more b (take_names xs timeout f) (take_names xs timeout g)
+takes_names [] timeout l = l
+takes_names (x ∷ xs) timeout l = asked (ask_kinds.Try (x ∷ xs) timeout) (λ r. serves timeout r l)
+
+gives_names : {more b : ℕ} (xs : List Name) (timeout : Option ℤ) {f g : Timed} → Keeps more b f g → Keeps more b (give_names xs timeout f) (give_names xs timeout g)
+gives_names [] timeout l = l
+gives_names (x ∷ xs) timeout l = asked (ask_kinds.Unlock (x ∷ xs)) (λ r. serves timeout r l)
+
+pub locks : {more b : ℕ} (m : LockMode) (xs : List Name) (timeout : Option ℤ) {f g : Timed} → Keeps more b f g → Keeps more b (lock m xs timeout f) (lock m xs timeout g)
+locks mode.Whole xs timeout l = a_turn (unlocks_all (a_turn (takes_names xs timeout l)))
+locks mode.Plus xs timeout l = a_turn (takes_names xs timeout l)
+locks mode.Minus xs timeout l = a_turn (gives_names xs timeout l)

@@ -10,7 +10,7 @@ use Rattle.mj_store.specs.declared.access.Access.TheVariants as accesses
 use Rattle.mj_ask.specs.declared.ask.Ask.TheVariants as asks
 use Rattle.mj_ast.specs.declared.routine.Mark.{Mark}
 use Rattle.mj_ast.specs.declared.routine.Mark.TheVariants.{NewLine}
-use Rattle.mj_ast.specs.Syntax.{Expr, Destination, Plain, Pieces, Targets, One, Several, Assignment, Killed, Gone, Spared, Merged, Output, Shown, Format, Called, Jumped, Range, Single, Endless, UpTo, Renewed, Fresh, Kept, Command, Set, Write, Halt, Kill, Merge, If, Else, For, Forever, Do, Goto, Quit, New, Step}
+use Rattle.mj_ast.specs.Syntax.{Expr, Destination, Plain, Pieces, Targets, One, Several, Assignment, Killed, Gone, Spared, Merged, Output, Shown, Format, Called, Jumped, Started, LockNames, Lone, Together, Locked, Range, Single, Endless, UpTo, Renewed, Fresh, Kept, Variable, Command, Set, Write, Halt, Hang, Job, Lock, Kill, Merge, If, Else, For, Forever, Do, Goto, Quit, New, Step}
 use Rattle.mj_strfn.specs.Functions.{assigned_pieces, set_piece_value}
 use Rattle.mj_semantics.specs.State.{Only, AllBut, wrote, spare, hold, level_of, is_at_mark, set_test, newed, pushed, popped}
 use Rattle.mj_semantics.specs.Outcome.{Timed, turn, look, change, to_device, need, given, end, fault}
@@ -18,6 +18,7 @@ use Rattle.mj_semantics.specs.Lines.{Here, place_at, next_line, entry_of}
 use Rattle.mj_semantics.specs.Points.{Leave, Ways, Loop, Once, Always, By, Points, AtLine, Called as CalledAt, Jumped as JumpedAt, Pass}
 use Rattle.mj_semantics.specs.Accesses.{access, value_told, nodes_told}
 use Rattle.mj_semantics.specs.Functions.{needed, optional}
+use Rattle.mj_semantics.specs.Sharing.{hang, start_job, unlock_all, lock}
 use Rattle.mj_semantics.specs.Evaluation.{ev, ev_all, ev_name, ev_local, ev_actuals, when}
 
 -- SET (8.2.18).
@@ -123,7 +124,7 @@ abbrev pub write : List ℕ → Timed → Timed
 write [] rest = rest
 write (b ∷ bytes) rest =
     if nat_lt TEXT_LIMIT (length (b ∷ bytes)) then fault Length
-    else look (λ s. to_device s.current (asks.DeviceWrite s.current (b ∷ bytes)) (change (wrote (b ∷ bytes)) rest))
+    else look (λ s. to_device s.current (asks.DeviceWrite s.current (b ∷ bytes)) (λ r. change (wrote (b ∷ bytes)) rest))
 
 -- the byte that a format mark writes
 abbrev pub mark_byte : Mark → ℕ
@@ -225,6 +226,45 @@ module _ (points : Points) (here : Here) where
   output_all [] rest = rest
   output_all (o ∷ list) rest = output o (output_all list rest)
 
+  -- HANG, JOB and LOCK.
+
+  -- how long an argument may wait, if it says so; that is read as a number in a turn of its own (this profile)
+  abbrev pub ev_timeout : Option Expr → (Option ℤ → Timed) → Timed
+  ev_timeout None rest = rest None
+  ev_timeout (Some e) rest = ev points here e (λ v. turn (given (reading v) (λ n. rest (Some n))))
+
+  abbrev pub hang_all : List Expr → Timed → Timed
+  hang_all [] rest = rest
+  hang_all (e ∷ es) rest = ev points here e (λ v. turn (hang v (hang_all es rest)))
+
+  -- the values of the actuals, and then the timeout
+  abbrev pub start_all : List Started → Timed → Timed
+  start_all [] rest = rest
+  start_all (s ∷ list) rest =
+      ev_actuals points here s.actuals (λ vs. ev_timeout s.timeout (λ timeout. turn (start_job (entry_of here s.target) vs timeout (start_all list rest))))
+
+  -- the names of variables, each of which is whole before the next one
+  abbrev pub ev_names : List Variable → (List Name → Timed) → Timed
+  ev_names [] rest = rest []
+  ev_names (v ∷ vs) rest = ev_name points here v (λ x. ev_names vs (λ xs. rest (x ∷ xs)))
+
+  abbrev pub ev_lock_names : LockNames → (List Name → Timed) → Timed
+  ev_lock_names (Lone v) rest = ev_names (v ∷ []) rest
+  ev_lock_names (Together vs) rest = ev_names vs rest
+
+  -- an argument of LOCK: its names, and then its timeout
+  abbrev pub lock_one : Locked → Timed → Timed
+  lock_one l rest = ev_lock_names l.names (λ xs. ev_timeout l.timeout (λ timeout. lock l.mode xs timeout rest))
+
+  abbrev pub lock_list : List Locked → Timed → Timed
+  lock_list [] rest = rest
+  lock_list (l ∷ list) rest = lock_one l (lock_list list rest)
+
+  -- without arguments all names are given up
+  abbrev pub lock_all : List Locked → Timed → Timed
+  lock_all [] rest = turn (unlock_all rest)
+  lock_all (l ∷ list) rest = lock_list (l ∷ list) rest
+
   -- IF.
 
   -- the conditions in order, of which each sets `$TEST`; a false one leads to the line's end
@@ -284,6 +324,9 @@ module _ (points : Points) (here : Here) where
   obey (Set list) c steps ways rest = when points here c (assign_all list rest) rest
   obey (Write list) c steps ways rest = when points here c (output_all list rest) rest
   obey Halt c steps ways rest = when points here c (turn (end None)) rest
+  obey (Hang es) c steps ways rest = when points here c (hang_all es rest) rest
+  obey (Job list) c steps ways rest = when points here c (start_all list rest) rest
+  obey (Lock list) c steps ways rest = when points here c (lock_all list rest) rest
   obey (Kill list) c steps ways rest = when points here c (kill_all list rest) rest
   obey (Merge list) c steps ways rest = when points here c (merge_all list rest) rest
   obey (If es) c steps ways rest = if_all es ways.line_end rest

@@ -6,7 +6,7 @@ use Rattle.mj_ask.specs.declared.ask.Reply.{Reply}
 use Rattle.mj_ask.specs.declared.entry.Entry.{Entry}
 use Rattle.mj_ast.specs.Syntax.{Line, Routine}
 use Rattle.mj_semantics.specs.State.{State, principal, untouched, level_of, may_go, pushed, passed, at_place}
-use Rattle.mj_semantics.specs.Outcome.{Outcome, More, Handler, Timed, turn, turns, look, change, restartable, to_device, end, fault}
+use Rattle.mj_semantics.specs.Outcome.{Outcome, More, Timed, no_restart, turn, turns, look, change, restartable, to_device, end, fault}
 use Rattle.mj_semantics.specs.Lines.{Here, place_at, next_line, line_before, line_at, levels_of, entered}
 use Rattle.mj_semantics.specs.Points.{Leave, Ways, Loop, AtLine, Called, Jumped, Pass, Started, Points}
 use Rattle.mj_semantics.specs.Commands.{quit_frame, again, deeper, obey_all}
@@ -89,11 +89,7 @@ opening job = record {
 -- turn, and then the line that its entry names; the QUIT of its first frame ends it
 abbrev pub start : List Routine → Start → ℕ → Timed
 start image job depth =
-    turn (to_device principal (DeviceBegin principal) (points_of image depth (Called false job.entry job.values (λ v. end None))))
-
--- outside a transaction nothing goes back
-abbrev pub no_restart : Handler
-no_restart = λ n s replies. More
+    turn (to_device principal (DeviceBegin principal) (λ r. points_of image depth (Called false job.entry job.values (λ v. end None))))
 
 abbrev pub run : List Routine → Start → ℕ → ℕ → List Reply → Outcome
 run image job depth n replies = start image job depth n no_restart (opening job.job) replies

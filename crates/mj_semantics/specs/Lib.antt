@@ -7,6 +7,7 @@ pub mod Names
 pub mod Evaluation
 pub mod Lines
 pub mod Points
+pub mod Sharing
 pub mod Commands
 pub mod Job
 pub mod Laws

@@ -1,12 +1,13 @@
 -- What a job holds for itself, and what changes it.
-use Rattle.std.specs.Prelude.{ℕ, ◌+◌, ◌-◌, ◌==◌, List, [], ◌∷◌, ◌++◌, length, take, drop, Option, Some, None, Bool, true, false, not, ◌&&◌, ◌||◌, nat_lt, max, min, map, if◌then◌else◌}
+use Rattle.std.specs.Prelude.{ℕ, pos, ◌+◌, ◌-◌, ◌==◌, List, [], ◌∷◌, ◌++◌, length, take, drop, Option, Some, None, Bool, true, false, not, ◌&&◌, ◌||◌, nat_lt, max, min, map, if◌then◌else◌}
 use Rattle.std.specs.List.{filter, fold, list_any}
 use Rattle.std.specs.Option.{unwrap_or}
 use Rattle.std.specs.Str.{bytes_eq}
+use Rattle.mj_num.specs.Number.{canonic_text}
 use Rattle.mj_subs.specs.Name.{Name}
 use Rattle.mj_oper.specs.Operators.{truth_text}
 use Rattle.mj_ast.specs.declared.function.Special.{Special}
-use Rattle.mj_ast.specs.declared.function.Special.TheVariants.{Test}
+use Rattle.mj_ast.specs.declared.function.Special.TheVariants.{Job, Test}
 use Rattle.mj_store.specs.Questions.{Content, Subtree}
 use Rattle.mj_store.specs.Changes.{after_set}
 use Rattle.mj_store.specs.Runs.{after_access}
@@ -125,6 +126,7 @@ ending_order (p ∷ others) = map (λ d. d.name) others ++ p.name ∷ []
 
 -- the value of a special variable
 abbrev pub special_value : Special → State → List ℕ
+special_value Job s = canonic_text (pos s.job)
 special_value Test s = truth_text s.test
 
 -- whether the words of locals are among these
@@ -254,3 +256,10 @@ wrote bytes s = record s { devices = on_device s.current (moved bytes) s.devices
 -- a call of a device's session failed
 abbrev pub broke : List ℕ → State → State
 broke name s = record s { devices = on_device name (λ d. record d { failed = true }) s.devices }
+
+-- a device isn't open any more; in the place of the current one the principal one is current (8.2.2, CLOSE)
+abbrev pub dropped : List ℕ → State → State
+dropped name s = record s {
+  devices = filter (λ d. not (bytes_eq d.name name)) s.devices;
+  current = if bytes_eq s.current name then principal else s.current;
+}

@@ -7,4 +7,4 @@
 
 mod laws;
 
-pub use laws::{deep_enough, steady};
+pub use laws::{deep_enough, hands_on_at_most, steady};

@@ -28,6 +28,9 @@ use mj_machine::quiet::{discard, fail, halt, jump, push, spare, special};
 use mj_machine::values::{apply_binary, apply_unary, call, test, write};
 use mj_machine::{Control, Machine, Step};
 use mj_pcode::{Instr, Unit};
+use mj_sharing::hang::{hang, number};
+use mj_sharing::locks::{lock, unlock, unlock_all};
+use mj_sharing::start::start_job;
 use mj_text::Fault;
 use std::alloc::{AllocError, Global};
 
@@ -76,6 +79,14 @@ pub fn obey(
         Instr::Jump(target) => Ok(jump(*target, machine)),
         Instr::NoneTrue => Ok(fail(Fault::Select, machine)),
         Instr::Halt => Ok(halt(machine)),
+        Instr::Number => Ok(number(pc, machine)),
+        Instr::Hang => hang(alloc, pc, machine, given),
+        Instr::Start(entry, shape, wait) => {
+            start_job(alloc, pc, entry, shape, *wait, machine, given)
+        }
+        Instr::UnlockAll => unlock_all(alloc, pc, machine, given),
+        Instr::Lock(references, wait) => lock(alloc, pc, references, *wait, machine, given),
+        Instr::Unlock(references, wait) => unlock(alloc, pc, references, *wait, machine, given),
         Instr::Decide(target) => decide(pc, *target, machine),
         Instr::If(target) => Ok(branch(pc, true, *target, machine)),
         Instr::Else(target) => Ok(branch(pc, false, *target, machine)),

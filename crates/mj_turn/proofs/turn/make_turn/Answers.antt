@@ -5,7 +5,7 @@ use Rattle.std.proofs.lemmas.Bool.{ltb-false}
 use Rattle.std.proofs.lemmas.Result.{IfOk-weaker}
 use Rattle.mj_turn.specs.Starts.{start_of}
 use Rattle.mj_turn.specs.Faults.{telling, closing, halting}
-use Rattle.mj_semantics.specs.Job.{no_restart}
+use Rattle.mj_semantics.specs.Outcome.{no_restart}
 use Rattle.mj_pcode.specs.Machine.{act, act_in, exec}
 use Rattle.mj_machine.specs.Standing.{Code, left, from, begin}
 use Rattle.mj_machine.specs.Kept.{stack_of, state_of, context_of, replied}
@@ -118,7 +118,7 @@ returns-in-None-get-clause-sound c =
     let found : slice_get units old.unit ≡ Some u = slice_get-get_or units old.unit u h.3.0 ∙ ap Some (sym h.1) in
     let none : slice_get u.instrs.items pc ≡ None =
     ap (λ l. slice_get l pc) (sym c.deref.ensures.value) ∙ slice_get_past c.deref.result.now pc (ltb-false pc (length c.deref.result.now) (sym c.in-None-get.ensures.lookup.0)) in
-    let place : IsPlace units (context_of old) pc (stack_of old) = subst (λ k. MayStand units k (context_of old) (stack_of old)) c.in-At.is c.requires.sound in
+    let place : IsPlace units (context_of old) pc (stack_of old) = subst (λ k. MayStand units k (context_of old) (stack_of old)) c.in-At.is c.requires.sound.0 in
     turn_sound units (λ next. act units u None next (context_of old) pc (stack_of old)) old (replied c.args.given) c.end_unit.new.machine c.end_unit.result
     (act_keeps units c.requires.checked u (context_of old) pc (stack_of old) found place None none) c.requires.sound
     (IfOk-weaker c.end_unit.result _ _ (λ step d. d units pc (replied c.args.given)) c.end_unit.ensures.ok) c.end_unit.ensures.err
@@ -135,7 +135,7 @@ returns-in-Some-get-clause-sound c =
     let g = c.in-Some-get.ensures.lookup in
     let at : slice_get u.instrs.items pc ≡ Some i =
     ap (λ l. slice_get l pc) (sym c.deref.ensures.value) ∙ slice_get-get_or c.deref.result.now pc i g.3.0 ∙ ap Some (sym g.1) in
-    let place : IsPlace units (context_of old) pc (stack_of old) = subst (λ k. MayStand units k (context_of old) (stack_of old)) c.in-At.is c.requires.sound in
+    let place : IsPlace units (context_of old) pc (stack_of old) = subst (λ k. MayStand units k (context_of old) (stack_of old)) c.in-At.is c.requires.sound.0 in
     turn_sound units (λ next. act units u (Some i) next (context_of old) pc (stack_of old)) old (replied c.args.given) c.obey.new.machine c.obey.result
     (act_keeps units c.requires.checked u (context_of old) pc (stack_of old) found place (Some i) at) c.requires.sound c.obey.ensures.ok c.obey.ensures.err
 
@@ -169,7 +169,7 @@ obey-requires-clause-enough c =
     let g = c.in-Some-get.ensures.lookup in
     let at : slice_get u.instrs.items pc ≡ Some i =
     ap (λ l. slice_get l pc) (sym c.deref.ensures.value) ∙ slice_get-get_or c.deref.result.now pc i g.3.0 ∙ ap Some (sym g.1) in
-    let place : IsPlace units (context_of old) pc (stack_of old) = subst (λ k. MayStand units k (context_of old) (stack_of old)) c.in-At.is c.requires.sound in
+    let place : IsPlace units (context_of old) pc (stack_of old) = subst (λ k. MayStand units k (context_of old) (stack_of old)) c.in-At.is c.requires.sound.0 in
     let d = length (stack_of old) in
     let here = subst (λ o. IsPlaceIn o pc (operands_at (instr_at o pc) d) (context_of old).loops) found place.0 in
     let holds = subst (λ o. Holds (footings_in u) pc (footing (operands_at o d) (length (context_of old).loops))) at here.0 in

@@ -227,3 +227,42 @@ returns-in-Else-clause-ok c =
 pub returns-in-Quit-clause-ok : goal.returns-in-Quit-clause-ok
 returns-in-Quit-clause-ok c =
     obeys c.args.units.now c.args.unit.now c.args.instr.now instrs.Quit c.args.pc c.args.machine.now (replied c.args.given) steps.Next c.quit.new.machine c.in-Quit.is (c.quit.ensures (replied c.args.given))
+
+pub returns-in-Number-clause-ok : goal.returns-in-Number-clause-ok
+returns-in-Number-clause-ok c =
+    obeys c.args.units.now c.args.unit.now c.args.instr.now instrs.Number c.args.pc c.args.machine.now (replied c.args.given) c.number.result _ c.in-Number.is (c.number.ensures (replied c.args.given) c.args.units.now c.args.unit.now)
+
+pub returns-in-Hang-clause-ok : goal.returns-in-Hang-clause-ok
+returns-in-Hang-clause-ok c =
+    let us = c.args.units.now in
+    let u = c.args.unit.now in
+    let given = (replied c.args.given) in
+    IfOk-weaker c.hang.result _ _ (λ step d. obeys us u c.args.instr.now _ c.args.pc c.args.machine.now given step _ c.in-Hang.is (d us u)) c.hang.ensures.ok
+
+pub returns-in-Start-clause-ok : goal.returns-in-Start-clause-ok
+returns-in-Start-clause-ok c =
+    let us = c.args.units.now in
+    let u = c.args.unit.now in
+    let given = (replied c.args.given) in
+    IfOk-weaker c.start_job.result _ _ (λ step d. obeys us u c.args.instr.now _ c.args.pc c.args.machine.now given step _ c.in-Start.is (d us u)) c.start_job.ensures.ok
+
+pub returns-in-UnlockAll-clause-ok : goal.returns-in-UnlockAll-clause-ok
+returns-in-UnlockAll-clause-ok c =
+    let us = c.args.units.now in
+    let u = c.args.unit.now in
+    let given = (replied c.args.given) in
+    IfOk-weaker c.unlock_all.result _ _ (λ step d. obeys us u c.args.instr.now _ c.args.pc c.args.machine.now given step _ c.in-UnlockAll.is (d us u)) c.unlock_all.ensures.ok
+
+pub returns-in-Lock-clause-ok : goal.returns-in-Lock-clause-ok
+returns-in-Lock-clause-ok c =
+    let us = c.args.units.now in
+    let u = c.args.unit.now in
+    let given = (replied c.args.given) in
+    IfOk-weaker c.lock.result _ _ (λ step d. obeys us u c.args.instr.now _ c.args.pc c.args.machine.now given step _ c.in-Lock.is (d us u)) c.lock.ensures.ok
+
+pub returns-in-Unlock-clause-ok : goal.returns-in-Unlock-clause-ok
+returns-in-Unlock-clause-ok c =
+    let us = c.args.units.now in
+    let u = c.args.unit.now in
+    let given = (replied c.args.given) in
+    IfOk-weaker c.unlock.result _ _ (λ step d. obeys us u c.args.instr.now _ c.args.pc c.args.machine.now given step _ c.in-Unlock.is (d us u)) c.unlock.ensures.ok

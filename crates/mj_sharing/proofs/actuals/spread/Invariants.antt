@@ -1,6 +1,6 @@
 use Rattle.std.proofs.Common.{◌≡◌, ◌≤◌, ◌++◌, drop, length}
 use Rattle.mj_pcode.specs.Machine as machines
-use Rattle.mj_turn.proofs.calling.spread.Given as goal
+use Rattle.mj_sharing.proofs.actuals.spread.Given as goal
 
 -- the values so far, and those that are left, which are enough
 abbrev pub invariant-loop-given : goal.invariant-loop-given

@@ -1,6 +1,6 @@
 use Rattle.std.proofs.Common.{◌≡◌, ◌+◌, ◌≤◌, drop}
 use Rattle.mj_pcode.specs.Machine as machines
-use Rattle.mj_turn.proofs.calling.given_count.Given as goal
+use Rattle.mj_sharing.proofs.actuals.given_count.Given as goal
 
 -- those so far, and those that are left
 abbrev pub invariant-loop-given : goal.invariant-loop-given

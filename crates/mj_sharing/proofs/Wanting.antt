@@ -1,0 +1,62 @@
+-- What a turn of LOCK or JOB does, by what its operands ask for.
+use Rattle.std.proofs.Common.{◌≡◌, ℕ, zero, ◌<◌, ◌≤◌, suc, ◌+◌, List, [], ◌∷◌, ◌++◌, length, drop, append_assoc, Option, Some, None, Bool, true, false, Result, Ok, Err, refl, sym, ap, ◌∙◌, arith}
+use Rattle.std.specs.Prelude.{ℤ, not}
+use Rattle.mj_text.specs.declared.fault.Fault.{Fault}
+use Rattle.mj_text.specs.Failing.{then_value}
+use Rattle.mj_num.specs.Number.{reading}
+use Rattle.mj_subs.specs.Name.{Name}
+use Rattle.mj_ask.specs.declared.ask.Ask.TheVariants.{Try, Unlock}
+use Rattle.mj_semantics.specs.State.{State}
+use Rattle.mj_semantics.specs.Outcome.{Timed, ask, given}
+use Rattle.mj_semantics.specs.Sharing.{served, in_time, take_names, give_names}
+use Rattle.mj_pcode.specs.declared.instr.Reference.{Reference}
+use Rattle.mj_pcode.specs.declared.instr.Wait.{Wait}
+use Rattle.mj_pcode.specs.declared.instr.Wait.TheVariants.{Ever, Timed as Limited}
+use Rattle.mj_semantics.specs.Evaluation.{name_of}
+use Rattle.mj_pcode.specs.Machine.{Stack, top, wait_size, waits, counts, names_on, operands}
+use Rattle.mj_sharing.specs.Wanted.{timeout_in, test_after, listed}
+
+-- how long an ask may wait is known before the rest
+pub waits_known : (w : Wait) (stack : Stack) (f : Option ℤ → Timed) (n : ℕ) → waits w stack f n ≡ given (timeout_in w stack) f n
+waits_known Ever stack f n = refl
+waits_known Limited stack f n = by (reading (top stack))
+  where
+    by : (r : Result ℤ Fault) → given r (λ i. f (Some i)) n ≡ given (then_value r (λ i. Ok (Some i))) f n
+    by (Ok i) = refl
+    by (Err e) = refl
+
+-- `$TEST` behind an ask
+pub test_is : (timeout : Option ℤ) (late : Bool) (s : State) → record s { test = test_after timeout late s.test } ≡ in_time timeout (not late) s
+test_is None late s = refl
+test_is (Some n) late s = refl
+
+-- names of which there is one at least
+pub some_taken : (xs : List Name) (timeout : Option ℤ) (rest : Timed) → 0 < length xs → take_names xs timeout rest ≡ ask (Try xs timeout) (λ r. served timeout r rest)
+some_taken [] timeout rest lt = absurd (omega (arith, lt))
+some_taken (x ∷ xs) timeout rest lt = refl
+
+pub some_given : (xs : List Name) (timeout : Option ℤ) (rest : Timed) → 0 < length xs → give_names xs timeout rest ≡ ask (Unlock xs) (λ r. served timeout r rest)
+some_given [] timeout rest lt = absurd (omega (arith, lt))
+some_given (x ∷ xs) timeout rest lt = refl
+
+-- the names of what is left of some variables have no more subscripts
+pub counts_left : (rs : List Reference) (i : ℕ) → counts (drop i rs) ≤ counts rs
+counts_left rs zero = omega arith
+counts_left [] (suc i) = omega arith
+counts_left (r ∷ rs) (suc i) = omega (arith, counts_left rs i)
+
+abbrev first_of : Reference → List Reference → Stack → Result Name Fault
+first_of r rs stack = name_of r.scope r.word (operands r.count (drop (counts rs) stack))
+
+-- a name that isn't one
+pub names_fault : (r : Reference) (rs : List Reference) (stack : Stack) (f : Fault) → first_of r rs stack ≡ Err f → names_on (r ∷ rs) stack ≡ Err f
+names_fault r rs stack f e = ap (λ o. then_value o (λ x. then_value (names_on rs stack) (λ xs. Ok (x ∷ xs)))) e
+
+-- one more name
+pub names_step : (r : Reference) (rs : List Reference) (stack : Stack) (x : Name) → first_of r rs stack ≡ Ok x → names_on (r ∷ rs) stack ≡ then_value (names_on rs stack) (λ xs. Ok (x ∷ xs))
+names_step r rs stack x e = ap (λ o. then_value o (λ y. then_value (names_on rs stack) (λ ys. Ok (y ∷ ys)))) e
+
+pub names_grow : (r : Result (List Name) Fault) (old new : List Name) (x : Name) → new ≡ old ++ x ∷ []
+    → then_value r (λ xs. Ok (new ++ xs)) ≡ then_value (then_value r (λ xs. Ok (x ∷ xs))) (λ xs. Ok (old ++ xs))
+names_grow (Ok xs) old new x e = ap Ok (ap (λ l. l ++ xs) e ∙ append_assoc old (x ∷ []) xs)
+names_grow (Err f) old new x e = refl
