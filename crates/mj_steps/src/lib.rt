@@ -1,11 +1,14 @@
-// Files of steps: which job is stepped, and how, a line each.
+// Steps: which job is stepped, and how.
 //
-// `read` accepts exactly the files whose lines all spell a step, and gives these steps; else it names the first line that spells none.
+// A file has a step a line. `read` accepts exactly the files whose lines all spell a step, and gives these steps; else it names the first
+// line that spells none. Without a file jobs are stepped in turn, round by round: `Round::next` says which step comes next.
 #![tactic(auto)]
 
 mod file;
 mod line;
+mod round;
 mod step;
 
 pub use file::{StepsError, read};
+pub use round::{Next, Round, Standing};
 pub use step::{Pace, Step};
