@@ -1,7 +1,7 @@
 -- Files of steps, on rows.
 use Rattle.std.proofs.Common.{◌≡◌, ℕ, List, [], ◌∷◌, ◌++◌, refl, ap, ◌∙◌, arith, codes, decimal, append-nil}
 use Rattle.std.proofs.lemmas.Fmt.{decimal_digit, decimal_step}
-use Rattle.mj_steps.specs.declared.step.Pace.TheVariants.{Go, Late}
+use Rattle.mj_steps.specs.declared.step.Way.TheVariants.{Go, Late}
 use Rattle.mj_steps.specs.Steps.{lines_of, line_of}
 
 -- two lines, of which the last lacks its end
@@ -24,8 +24,8 @@ no_lines = refl
 twelve : decimal 12 ≡ codes "12"
 twelve = decimal_step 12 (omega arith) (omega arith) ∙ ap (λ (x : List ℕ). x ++ 50 ∷ []) (decimal_digit 1 (omega arith))
 
-goes : line_of (record { job = 12; pace = Go }) ≡ codes "12"
+goes : line_of (record { job = 12; way = Go }) ≡ codes "12"
 goes = append-nil (decimal 12) ∙ twelve
 
-is_late : line_of (record { job = 12; pace = Late }) ≡ codes "12 late"
+is_late : line_of (record { job = 12; way = Late }) ≡ codes "12 late"
 is_late = ap (λ (x : List ℕ). x ++ codes " late") twelve

@@ -7,8 +7,8 @@ use Rattle.std.proofs.lemmas.Str.{IsUtf8-from_ascii}
 use Rattle.std.proofs.lemmas.List.{append_cancel_right}
 use Rattle.std.proofs.lemmas.Fmt.{decimal_by_steps, IsAscii-decimal, parse-decimal}
 use Rattle.mj_steps.specs.declared.step.Step.{Step}
-use Rattle.mj_steps.specs.declared.step.Pace.{Pace}
-use Rattle.mj_steps.specs.declared.step.Pace.TheVariants.{Go, Late}
+use Rattle.mj_steps.specs.declared.step.Way.{Way}
+use Rattle.mj_steps.specs.declared.step.Way.TheVariants.{Go, Late}
 use Rattle.mj_steps.specs.Steps.{IsJob, IsStep, mark_of, line_of, lines_of, AreSpelled, IsFirst}
 
 -- the last byte, or d where there is none
@@ -53,27 +53,27 @@ pub is_read : {E : Type 0} (text digits : List ℕ) (job : ℕ) (r : Result ℕ 
 is_read text digits job r same h e parses = parse-decimal 8 job text r (omega (arith, h)) (omega (arith, h)) (same ∙ e) parses
 
 -- the step of a line without a mark, and of one with it
-pub go_line : (line : List ℕ) (job : ℕ) → line ≡ decimal job → line ≡ line_of (record { job = job; pace = Go })
+pub go_line : (line : List ℕ) (job : ℕ) → line ≡ decimal job → line ≡ line_of (record { job = job; way = Go })
 go_line line job e = e ∙ sym (append-nil (decimal job))
 
-pub late_line : (line number : List ℕ) (job : ℕ) → line ≡ number ++ codes " late" → number ≡ decimal job → line ≡ line_of (record { job = job; pace = Late })
+pub late_line : (line number : List ℕ) (job : ℕ) → line ≡ number ++ codes " late" → number ≡ decimal job → line ≡ line_of (record { job = job; way = Late })
 late_line line number job e d = e ∙ ap (λ (x : List ℕ). x ++ codes " late") d
 
-late_none_by : (line number : List ℕ) (job : ℕ) (pace : Pace) → line ≡ number ++ codes " late" → ((n : ℕ) → IsJob n → ¬ (number ≡ decimal n)) → IsJob job → ¬ (line ≡ decimal job ++ mark_of pace)
+late_none_by : (line number : List ℕ) (job : ℕ) (way : Way) → line ≡ number ++ codes " late" → ((n : ℕ) → IsJob n → ¬ (number ≡ decimal n)) → IsJob job → ¬ (line ≡ decimal job ++ mark_of way)
 late_none_by line number job Go e none is s = not_late job number is (sym (append-nil (decimal job)) ∙ sym s ∙ e)
 late_none_by line number job Late e none is s = none job is (append_cancel_right number (decimal job) (codes " late") (sym e ∙ s))
 
 -- a line with the mark behind what is no number spells no step
 pub late_none : (line number : List ℕ) (step : Step) → line ≡ number ++ codes " late" → ((n : ℕ) → IsJob n → ¬ (number ≡ decimal n)) → IsStep step → ¬ (line ≡ line_of step)
-late_none line number step e none is = late_none_by line number step.job step.pace e none is
+late_none line number step e none is = late_none_by line number step.job step.way e none is
 
-go_none_by : (line : List ℕ) (job : ℕ) (pace : Pace) → ((front : List ℕ) → line ≢ front ++ codes " late") → ((n : ℕ) → IsJob n → ¬ (line ≡ decimal n)) → IsJob job → ¬ (line ≡ decimal job ++ mark_of pace)
+go_none_by : (line : List ℕ) (job : ℕ) (way : Way) → ((front : List ℕ) → line ≢ front ++ codes " late") → ((n : ℕ) → IsJob n → ¬ (line ≡ decimal n)) → IsJob job → ¬ (line ≡ decimal job ++ mark_of way)
 go_none_by line job Go unmarked none is s = none job is (s ∙ append-nil (decimal job))
 go_none_by line job Late unmarked none is s = unmarked (decimal job) s
 
 -- nor does one without the mark that is no number
 pub go_none : (line : List ℕ) (step : Step) → ((front : List ℕ) → line ≢ front ++ codes " late") → ((n : ℕ) → IsJob n → ¬ (line ≡ decimal n)) → IsStep step → ¬ (line ≡ line_of step)
-go_none line step unmarked none is = go_none_by line step.job step.pace unmarked none is
+go_none line step unmarked none is = go_none_by line step.job step.way unmarked none is
 
 -- ---- several lines
 

@@ -1,6 +1,6 @@
 -- Steps in turn, on rows.
 use Rattle.std.proofs.Common.{◌≡◌, [], ◌∷◌, true, false, refl}
-use Rattle.mj_steps.specs.declared.step.Pace.TheVariants.{Go, Late}
+use Rattle.mj_steps.specs.declared.step.Way.TheVariants.{Go, Late}
 use Rattle.mj_steps.specs.declared.round.Standing.TheVariants.{Goes, Waits, WaitsTimed, Ended}
 use Rattle.mj_steps.specs.declared.round.Next.TheVariants.{Over, Stuck}
 use Rattle.mj_steps.specs.Rounds.{next_step, after_step, go_step, late_step}
@@ -24,13 +24,13 @@ is_over : next_step (record { done = 2; waits = true }) (Ended ∷ Ended ∷ [])
 is_over = refl
 
 -- the step of a job that isn't behind the last one begins a round
-round_begins : after_step (record { done = 2; waits = false }) (record { job = 1; pace = Go }) Waits ≡ record { done = 1; waits = true }
+round_begins : after_step (record { done = 2; waits = false }) (record { job = 1; way = Go }) Waits ≡ record { done = 1; waits = true }
 round_begins = refl
 
 -- one step that did something, or ended its job, and the round doesn't wait
-round_goes : after_step (record { done = 1; waits = true }) (record { job = 2; pace = Go }) Ended ≡ record { done = 2; waits = false }
+round_goes : after_step (record { done = 1; waits = true }) (record { job = 2; way = Go }) Ended ≡ record { done = 2; waits = false }
 round_goes = refl
 
 -- a late step begins a round, whatever comes of it
-late_begins : after_step (record { done = 2; waits = true }) (record { job = 1; pace = Late }) Goes ≡ record { done = 0; waits = true }
+late_begins : after_step (record { done = 2; waits = true }) (record { job = 1; way = Late }) Goes ≡ record { done = 0; waits = true }
 late_begins = refl

@@ -2,7 +2,7 @@
 use Rattle.std.specs.Prelude.{ℕ, ◌+◌, Bool, true, false, ◌&&◌, ◌||◌, if◌then◌else◌, nat_le, List, position, drop, Option, Some, None}
 use Rattle.std.specs.Option.{option_map}
 use Rattle.mj_steps.specs.declared.step.Step.{Step}
-use Rattle.mj_steps.specs.declared.step.Pace.TheVariants.{Go, Late}
+use Rattle.mj_steps.specs.declared.step.Way.TheVariants.{Go, Late}
 use Rattle.mj_steps.specs.declared.round.Standing.{Standing}
 use Rattle.mj_steps.specs.declared.round.Standing.TheVariants as standings
 use Rattle.mj_steps.specs.declared.round.Round.{Round}
@@ -39,11 +39,11 @@ first_timed jobs = option_map (λ place. place + 1) (position is_timed jobs)
 
 -- a job goes on
 abbrev pub go_step : ℕ → Next
-go_step job = nexts.Step (record { job = job; pace = Go })
+go_step job = nexts.Step (record { job = job; way = Go })
 
 -- where all jobs wait, the first that asks with a timeout is late
 abbrev pub late_step : List Standing → Next
-late_step jobs = elim (first_timed jobs) [ None ↦ nexts.Stuck | Some job ↦ nexts.Step (record { job = job; pace = Late }) ]
+late_step jobs = elim (first_timed jobs) [ None ↦ nexts.Stuck | Some job ↦ nexts.Step (record { job = job; way = Late }) ]
 
 -- behind a round, of which all steps waited or not: the first job that hasn't ended goes on, if there is one
 abbrev pub next_round : Bool → List Standing → Next
@@ -56,7 +56,7 @@ next_step round jobs = elim (live_behind round.done jobs) [ Some job ↦ go_step
 -- the round behind a step: that of a job which isn't behind the last one began it
 abbrev pub after_step : Round → Step → Standing → Round
 after_step round step standing =
-    elim step.pace [
+    elim step.way [
       | Go ↦ record { done = step.job; waits = (nat_le step.job round.done || round.waits) && waits_still standing }
       | Late ↦ record { done = 0; waits = true }
     ]

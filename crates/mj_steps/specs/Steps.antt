@@ -1,8 +1,8 @@
 -- The spelling of a file of steps.
 use Rattle.std.specs.Prelude.{◌≡◌, ℕ, ◌+◌, ◌≤◌, ◌==◌, Bool, true, false, List, [], ◌∷◌, ◌++◌, length, map, All, decimal, codes}
 use Rattle.mj_steps.specs.declared.step.Step.{Step}
-use Rattle.mj_steps.specs.declared.step.Pace.{Pace}
-use Rattle.mj_steps.specs.declared.step.Pace.TheVariants.{Go, Late}
+use Rattle.mj_steps.specs.declared.step.Way.{Way}
+use Rattle.mj_steps.specs.declared.step.Way.TheVariants.{Go, Late}
 use Rattle.mj_steps.specs.declared.file.StepsError.{StepsError}
 use Rattle.mj_steps.specs.declared.file.StepsError.TheVariants as errors
 
@@ -29,13 +29,13 @@ abbrev pub IsStep : Step → Type 0
 IsStep step = IsJob step.job
 
 -- what says how a job is stepped, behind its number
-abbrev pub mark_of : Pace → List ℕ
+abbrev pub mark_of : Way → List ℕ
 mark_of Go = []
 mark_of Late = codes " late"
 
 -- the line of a step: the number of the job in decimal, and ` late` behind it where the step is late
 abbrev pub line_of : Step → List ℕ
-line_of step = decimal step.job ++ mark_of step.pace
+line_of step = decimal step.job ++ mark_of step.way
 
 -- the lines of the file are those of these steps
 pub record AreSpelled (bytes : List ℕ) (steps : List Step) : Type 0 where

@@ -4,7 +4,7 @@ ghost use Rattle.std.specs.Prelude.{◌≡◌, ◌<◌, ◌∷◌, ◌↔◌, []
 ghost use Rattle.mj_steps.specs.Steps.{is_line_end, lines_of, line_of, IsJob, IsStep};
 ghost use Rattle.mj_steps.specs.declared.step.Step.{Step as StepOf};
 
-use crate::step::{Pace, Step};
+use crate::step::{Step, Way};
 use itoa::Buffer;
 use std::str;
 
@@ -41,17 +41,14 @@ pub fn step_of(line: &[u8]) -> Option<Step>
             };
             Some(Step {
                 job,
-                pace: Pace::Late,
+                way: Way::Late,
             })
         }
         None => {
             let Some(job) = job_of(line) else {
                 return None;
             };
-            Some(Step {
-                job,
-                pace: Pace::Go,
-            })
+            Some(Step { job, way: Way::Go })
         }
     }
 }

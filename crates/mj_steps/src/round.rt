@@ -3,7 +3,7 @@
 ghost use Rattle.std.specs.Prelude.{◌≡◌, ◌≤◌, ◌<◌, length, position, IfSome};
 ghost use Rattle.mj_steps.specs.Rounds.{jobs_limit, is_live, is_timed, live_behind, first_timed, go_step, late_step, next_round, next_step, waits_still, after_step};
 
-use crate::step::{Pace, Step};
+use crate::step::{Step, Way};
 
 /// Where a job stands behind its last step.
 #[derive(Clone, Copy, PartialEq, Eq, Debug)]
@@ -76,12 +76,12 @@ impl Round {
     pub fn after(self, step: Step, standing: Standing) -> Round
         ensures { result ≡ after_step self step standing }
     {
-        match step.pace {
-            Pace::Go => Round {
+        match step.way {
+            Way::Go => Round {
                 done: step.job,
                 waits: (step.job <= self.done || self.waits) && standing.waits(),
             },
-            Pace::Late => Round {
+            Way::Late => Round {
                 done: 0,
                 waits: true,
             },
@@ -110,7 +110,7 @@ fn late_step(jobs: &[Standing]) -> Next
         None => Next::Stuck,
         Some(job) => Next::Step(Step {
             job,
-            pace: Pace::Late,
+            way: Way::Late,
         }),
     }
 }
@@ -161,8 +161,5 @@ fn timed_place(jobs: &[Standing]) -> Option<usize>
 fn go(job: u32) -> Next
     ensures { result ≡ go_step job }
 {
-    Next::Step(Step {
-        job,
-        pace: Pace::Go,
-    })
+    Next::Step(Step { job, way: Way::Go })
 }

@@ -2,7 +2,7 @@
 
 /// How a job is stepped.
 #[derive(Clone, Copy, PartialEq, Eq, Debug)]
-pub enum Pace {
+pub enum Way {
     /// it goes on, if it can
     Go,
     /// what it asks for with a timeout is over, if it can't be had
@@ -13,5 +13,5 @@ pub enum Pace {
 #[derive(Clone, Copy, PartialEq, Eq, Debug)]
 pub struct Step {
     pub job: u32,
-    pub pace: Pace,
+    pub way: Way,
 }
