@@ -2,13 +2,14 @@
 use Rattle.std.specs.Prelude.{◌↔◌, ◌≡◌, ℕ, ◌==◌, ◌+◌, List, [], ◌∷◌, ◌++◌, Option, Some, None, Bool, true, false, ◌&&◌, ◌||◌, length, nat_le, take, drop, position, if◌then◌else◌}
 use Rattle.std.specs.List.{list_all}
 use Rattle.std.specs.Char.{is_ascii_digit}
+use Rattle.mj_text.specs.declared.text.TheConstants.{TEXT_LIMIT}
 use Rattle.mj_subs.specs.Name.{is_word}
 use Rattle.mj_ask.specs.declared.entry.Entry.{Entry}
 
 -- a label: a word, or digits, no more than a text holds (6.2.1)
 abbrev pub is_label : List ℕ → Bool
 is_label [] = false
-is_label (b ∷ bytes) = is_word (b ∷ bytes) || (list_all is_ascii_digit (b ∷ bytes) && nat_le (length (b ∷ bytes)) 32767)
+is_label (b ∷ bytes) = is_word (b ∷ bytes) || (list_all is_ascii_digit (b ∷ bytes) && nat_le (length (b ∷ bytes)) TEXT_LIMIT)
 
 -- an entry that can be written
 abbrev pub is_entry : Entry → Bool

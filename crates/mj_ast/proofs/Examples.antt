@@ -3,16 +3,18 @@ use Rattle.std.proofs.Common.{◌≡◌, [], ◌∷◌, Some, None, false, inl, 
 use Rattle.std.specs.Fmt.{digits}
 use Rattle.std.specs.List.{IsDistinct}
 use Rattle.mj_oper.specs.declared.op.TruthOp.TheVariants.{Equal, SortsAfter, Or}
-use Rattle.mj_ast.specs.declared.sign.Sign.TheVariants.{Star, Caret, Colon, Equals, CloseBracket, CloseBrackets, Exclamation, Apostrophe, Negated, Question, NegatedQuestion, Open, Close, Comma}
+use Rattle.mj_ast.specs.declared.sign.Sign.TheVariants.{Plus, Star, Caret, Colon, Equals, CloseBracket, CloseBrackets, Exclamation, Apostrophe, Negated, Question, NegatedQuestion, Open, Close, Comma}
 use Rattle.mj_ast.specs.Tokens.{Word, Called, Special, Digits, Quoted, Signed, Blank, Comment, Unclosed, Stray, lexemes, tokens, column}
 use Rattle.mj_ast.specs.declared.keyword.Keyword.TheVariants as keyword
+use Rattle.mj_ast.specs.declared.keyword.Verb.TheVariants.{Of, HaltOrHang}
+use Rattle.mj_ast.specs.declared.routine.LockMode.TheVariants.{Whole, Plus as Added, Minus as Taken}
 use Rattle.mj_ast.specs.declared.function.Function.TheVariants.{QLength, QSubscript, Reverse, Translate}
 use Rattle.mj_ast.specs.declared.function.NameFunction.TheVariants as names
 use Rattle.mj_ast.specs.declared.function.Callee.TheVariants.{Texts, Names}
 use Rattle.mj_ast.specs.Expressions.{callee_of}
 use Rattle.mj_ast.specs.declared.expr.Scope.TheVariants.{Local, Global}
-use Rattle.mj_ast.specs.Syntax.{Expr, Variable, Var, No, More, Chain, Done, Literal, Value, Plain, Pieces, One, Several, Gone, Spared, Shown, Single, UpTo, Fresh, Kept, Set, Write, Halt, Kill, If, For, Do, Goto, New, Step}
-use Rattle.mj_ast.specs.Commands.{keyword_of, Put, Named, Label, PieceCall, Text, Place, Control, command_parts, is_formed, plain, is_conditional, SpellsStep, step_nesting}
+use Rattle.mj_ast.specs.Syntax.{Expr, Variable, Var, No, More, Chain, Done, Literal, Value, Plain, Pieces, One, Several, Gone, Spared, Shown, Single, UpTo, Lone, Together, Fresh, Kept, Set, Write, Halt, Hang, Job, Lock, Kill, If, For, Do, Goto, New, Step}
+use Rattle.mj_ast.specs.Commands.{verb_of, bare_of, full_of, Put, Named, Label, PieceCall, Text, Place, Control, command_parts, is_formed, plain, is_conditional, SpellsStep, step_nesting}
 use Rattle.mj_ast.specs.Lines.{SpellsWritten, SpellsLine}
 use Rattle.mj_ast.specs.Routines.{lines_of}
 
@@ -105,13 +107,23 @@ no_function = refl
 
 -- ---- commands and lines
 
-keywords : keyword_of (codes "wRiTe") ≡ Some keyword.Write
+keywords : verb_of (codes "wRiTe") ≡ Some (Of keyword.Write)
 keywords = refl
 
-no_keyword : keyword_of (codes "HANG") ≡ None
+no_keyword : verb_of (codes "HAN") ≡ None
 no_keyword = refl
 
-kill : keyword_of (codes "k") ≡ Some keyword.Kill
+-- `H` is HALT without and HANG with an argument
+halt_or_hang : verb_of (codes "h") ≡ Some HaltOrHang
+halt_or_hang = refl
+
+bare_h : bare_of HaltOrHang ≡ keyword.Halt
+bare_h = refl
+
+full_h : full_of HaltOrHang ≡ keyword.Hang
+full_h = refl
+
+kill : verb_of (codes "k") ≡ Some (Of keyword.Kill)
 kill = refl
 
 -- `(X,$PIECE(X,Y))=X` and `(A,B),X`
@@ -164,14 +176,14 @@ spelled_line = (
     tokens (codes "  H ;c"),
     lit≤ tt,
     refl,
-    (119 ∷ [], [], tokens (codes " 007"), refl, refl, refl, (tokens (codes "007"), refl, (tokens (codes "007"), [], refl, (refl, refl), refl)), refl, tt),
+    (119 ∷ [], [], tokens (codes " 007"), refl, (Of keyword.Write, refl, refl), refl, (tokens (codes "007"), refl, (tokens (codes "007"), [], refl, (refl, refl), refl)), refl, tt),
     (
       2,
       tokens (codes "H"),
       tokens (codes " ;c"),
       lit≤ tt,
       refl,
-      (72 ∷ [], [], [], refl, refl, refl, refl, refl, tt),
+      (72 ∷ [], [], [], refl, (HaltOrHang, refl, refl), refl, refl, refl, tt),
       inr (1, 99 ∷ [], lit≤ tt, refl),
     ),
   ),
@@ -190,6 +202,25 @@ call_parts = refl
 -- `A()` is `A`
 empty_call : plain (Do (record { target = record { label = Some (codes "A"); routine = None }; actuals = None ∷ []; condition = None } ∷ [])) ≡ Do (record { target = record { label = Some (codes "A"); routine = None }; actuals = []; condition = None } ∷ [])
 empty_call = refl
+
+-- `A(X)::X`, `+(X,X):X` and `X`
+job_parts : command_parts (Job (record { target = record { label = Some (codes "A"); routine = None }; actuals = Some ex ∷ []; timeout = Some ex } ∷ [])) ≡ Label (codes "A") ∷ Put Open ∷ Text 1 ex ∷ Put Close ∷ Put Colon ∷ Put Colon ∷ Text 0 ex ∷ []
+job_parts = refl
+
+lock_parts : command_parts (Lock (record { mode = Added; names = Together (x ∷ x ∷ []); timeout = Some ex } ∷ record { mode = Whole; names = Lone x; timeout = None } ∷ [])) ≡
+    Put Plus ∷ Put Open ∷ Place 0 x ∷ Put Comma ∷ Place 0 x ∷ Put Close ∷ Put Colon ∷ Text 0 ex ∷ Put Comma ∷ Place 0 x ∷ []
+lock_parts = refl
+
+-- a list in parentheses isn't empty, and HANG has an argument
+no_names : is_formed (Lock (record { mode = Taken; names = Together []; timeout = None } ∷ [])) ≡ false
+no_names = refl
+
+no_hang : is_formed (Hang []) ≡ false
+no_hang = refl
+
+-- `J A()` starts at `A` without actuals
+empty_start : plain (Job (record { target = record { label = Some (codes "A"); routine = None }; actuals = None ∷ []; timeout = None } ∷ [])) ≡ Job (record { target = record { label = Some (codes "A"); routine = None }; actuals = []; timeout = None } ∷ [])
+empty_start = refl
 
 no_condition : is_conditional keyword.Else ≡ false
 no_condition = refl
@@ -212,14 +243,14 @@ spelled_control = (
       tokens (codes " G A"),
       lit≤ tt,
       refl,
-      (73 ∷ [], [], tokens (codes " 1"), refl, refl, refl, (tokens (codes "1"), refl, (tokens (codes "1"), [], refl, (refl, refl), refl)), refl, tt),
+      (73 ∷ [], [], tokens (codes " 1"), refl, (Of keyword.If, refl, refl), refl, (tokens (codes "1"), refl, (tokens (codes "1"), [], refl, (refl, refl), refl)), refl, tt),
       (
         1,
         tokens (codes "G A"),
         [],
         lit≤ tt,
         refl,
-        (71 ∷ [], [], tokens (codes " A"), refl, refl, refl, (tokens (codes "A"), refl, (tokens (codes "A"), [], refl, inl (refl, lit≤ tt), refl)), refl, tt),
+        (71 ∷ [], [], tokens (codes " A"), refl, (Of keyword.Goto, refl, refl), refl, (tokens (codes "A"), refl, (tokens (codes "A"), [], refl, inl (refl, lit≤ tt), refl)), refl, tt),
         inl (0, refl),
       ),
     ),
@@ -228,10 +259,10 @@ spelled_control = (
 )
 
 -- the word of FOR, and `X=X:X:X,X`
-for_word : keyword_of (codes "fOr") ≡ Some keyword.For
+for_word : verb_of (codes "fOr") ≡ Some (Of keyword.For)
 for_word = refl
 
-for_letter : keyword_of (codes "F") ≡ Some keyword.For
+for_letter : verb_of (codes "F") ≡ Some (Of keyword.For)
 for_letter = refl
 
 for_parts : command_parts (For x (UpTo ex ex ex ∷ Single ex ∷ [])) ≡ Control x ∷ Put Equals ∷ Text 0 ex ∷ Put Colon ∷ Text 0 ex ∷ Put Colon ∷ Text 0 ex ∷ Put Comma ∷ Text 0 ex ∷ []
@@ -254,7 +285,7 @@ spelled_for = (
   [],
   tokens (codes " X(1)=1,1"),
   refl,
-  refl,
+  (Of keyword.For, refl, refl),
   refl,
   (
     tokens (codes "X(1)=1,1"),
@@ -295,7 +326,7 @@ spelled_block = (
     dots_are = (1, tokens (codes " ."), lit≤ tt, refl, (1, [], lit≤ tt, refl, refl));
   },
   refl,
-  (0, tokens (codes "H"), [], lit≤ tt, refl, (72 ∷ [], [], [], refl, refl, refl, refl, refl, tt), inl (0, refl)),
+  (0, tokens (codes "H"), [], lit≤ tt, refl, (72 ∷ [], [], [], refl, (HaltOrHang, refl, refl), refl, refl, refl, tt), inl (0, refl)),
 )
 
 -- parentheses with nothing in them, and dots with a comment behind them

@@ -1,10 +1,13 @@
 -- Rows of the table of what is left out: a token that stands for a construct by its row, and one that doesn't.
-use Rattle.std.proofs.Common.{◌≡◌, ◌∷◌, [], None, true, false, inl, lit≤, refl, codes}
+use Rattle.std.specs.Fmt.{digits}
+use Rattle.std.proofs.Common.{Some, ◌≡◌, ◌∷◌, [], None, true, false, inl, lit≤, refl, codes}
 use Rattle.mj_ast.specs.declared.construct.Construct.TheVariants as construct
-use Rattle.mj_ast.specs.declared.sign.Sign.TheVariants.{Star, Slash, OpenBracket, Exclamation, Open, Close, Comma, Dot}
+use Rattle.mj_ast.specs.declared.sign.Sign.TheVariants.{Star, Slash, OpenBracket, Exclamation, Open, Close, Comma, Colon, Dot}
 use Rattle.mj_ast.specs.declared.routine.Mark.TheVariants.{NewLine}
+use Rattle.mj_ast.specs.declared.keyword.Keyword.TheVariants as keyword
+use Rattle.mj_ast.specs.declared.keyword.Verb.TheVariants.{Of}
 use Rattle.mj_ast.specs.declared.function.Special.TheVariants as special
-use Rattle.mj_ast.specs.Syntax.{Chain, Done, Intrinsic, Shown, Format, Write}
+use Rattle.mj_ast.specs.Syntax.{Expr, Chain, Done, Literal, Intrinsic, Shown, Format, Write, Started, Job}
 use Rattle.mj_ast.specs.Tokens.{Word, Called, Special, Digits, Signed, Stray, lexemes, tokens}
 use Rattle.mj_ast.specs.LeftOut.{Fits, MayStand}
 
@@ -120,6 +123,10 @@ no_reference h = wrong h.0
 no_offset : Fits construct.EntryOffset (tokens (codes " D A^R")) (Signed Comma) [] → ⊥
 no_offset h = wrong h.0
 
+no_parameters : Fits construct.ProcessParameters (tokens (codes " J A")) (Signed Colon) [] → ⊥
+unfolding lexemes
+no_parameters h = wrong h.0
+
 no_extract : Fits construct.SetExtract (tokens (codes " S ")) (Called (codes "P")) [] → ⊥
 no_extract h = wrong h.0
 
@@ -150,7 +157,7 @@ operand = record {
         [],
         lit≤ tt,
         refl,
-        (codes "W", [], tokens (codes " $T"), refl, refl, refl, (tokens (codes "$T"), refl, (tokens (codes "$T"), [], refl, (refl, refl), refl)), refl, tt),
+        (codes "W", [], tokens (codes " $T"), refl, (Of keyword.Write, refl, refl), refl, (tokens (codes "$T"), refl, (tokens (codes "$T"), [], refl, (refl, refl), refl)), refl, tt),
         inl (0, refl),
       ),
     ),
@@ -178,7 +185,7 @@ marks = record {
         [],
         lit≤ tt,
         refl,
-        (codes "W", [], tokens (codes " !"), refl, refl, refl, (tokens (codes "!"), refl, (tokens (codes "!"), [], refl, refl, refl)), refl, tt),
+        (codes "W", [], tokens (codes " !"), refl, (Of keyword.Write, refl, refl), refl, (tokens (codes "!"), refl, (tokens (codes "!"), [], refl, refl, refl)), refl, tt),
         inl (0, refl),
       ),
     ),
@@ -189,3 +196,62 @@ marks = record {
 mnemonic_space : Fits construct.MnemonicSpace (tokens (codes " W ")) (Signed Slash) []
 unfolding lexemes
 mnemonic_space = (refl, (operand, marks))
+
+-- behind ` J A:` a second `:` may stand
+abbrev one : Expr
+one = Chain (Literal (49 ∷ [])) Done
+
+abbrev start : Started
+start = record { target = record { label = Some (codes "A"); routine = None }; actuals = []; timeout = Some one }
+
+second_colon : MayStand (tokens (codes " J A:")) (Signed Colon)
+unfolding lexemes digits
+second_colon = record {
+  rest = tokens (codes "1");
+  line = record { label = None; formals = []; level = 1; steps = record { condition = None; command = Job (start ∷ []) } ∷ [] };
+  spells = (
+    record { label = None; formals = []; level = 1; steps = record { condition = None; command = Job (start ∷ []) } ∷ [] },
+    (
+      [],
+      tokens (codes " J A::1"),
+      0,
+      refl,
+      record { front = []; names = []; indent = []; cut = refl; label_is = refl; formals_are = (refl, refl); dots_are = refl },
+      refl,
+      (
+        1,
+        tokens (codes "J A::1"),
+        [],
+        lit≤ tt,
+        refl,
+        (
+          codes "J",
+          [],
+          tokens (codes " A::1"),
+          refl,
+          (Of keyword.Job, refl, refl),
+          refl,
+          (
+            tokens (codes "A::1"),
+            refl,
+            (
+              tokens (codes "A"),
+              tokens (codes "::1"),
+              refl,
+              inl (refl, lit≤ tt),
+              (Signed Colon ∷ [], tokens (codes ":1"), refl, refl, (Signed Colon ∷ [], tokens (codes "1"), refl, refl, (tokens (codes "1"), [], refl, (refl, refl), refl))),
+            ),
+          ),
+          refl,
+          tt,
+        ),
+        inl (0, refl),
+      ),
+    ),
+    refl,
+  );
+}
+
+process_parameters : Fits construct.ProcessParameters (tokens (codes " J A:")) (Word (codes "X")) []
+unfolding lexemes
+process_parameters = (refl, second_colon)

@@ -1,13 +1,16 @@
 -- Which commands are BREAK, at which a debugger stops. None is yet.
 use Rattle.std.specs.Prelude.{Bool, false}
 use Rattle.std.specs.List.{list_any}
-use Rattle.mj_ast.specs.Syntax.{Command, Set, Write, Halt, Kill, Merge, If, Else, For, Forever, Do, Goto, Quit, New, Line}
+use Rattle.mj_ast.specs.Syntax.{Command, Set, Write, Halt, Hang, Job, Lock, Kill, Merge, If, Else, For, Forever, Do, Goto, Quit, New, Line}
 
 -- whether a command is BREAK
 abbrev pub is_break : Command → Bool
 is_break (Set arguments) = false
 is_break (Write arguments) = false
 is_break Halt = false
+is_break (Hang arguments) = false
+is_break (Job arguments) = false
+is_break (Lock arguments) = false
 is_break (Kill arguments) = false
 is_break (Merge arguments) = false
 is_break (If conditions) = false

@@ -7,12 +7,16 @@
 --   destination = variable | "$PIECE" "(" variable "," expression ["," expression ["," expression]] ")"
 --   WRITE       an expression or a run of "!", and more behind commas
 --   HALT        no arguments
+--   HANG        an expression, and more behind commas
 --   KILL        nothing, or a variable or names in parentheses with commas between them, and more behind commas
 --   MERGE       variable "=" variable, and more behind commas
 --   IF          nothing, or an expression, and more behind commas
 --   ELSE, QUIT  no arguments
 --   FOR         nothing, or a local "=" range, and more ranges behind commas
 --   DO          nothing, or an entry with actuals, if there are some, and [":" expression], and more behind commas
+--   JOB         an entry with actuals, if there are some, and [":" ":" expression], and more behind commas
+--   LOCK        nothing, or ["+" | "-"] and a variable or variables in parentheses with commas between them and [":" expression],
+--               and more behind commas
 --   GOTO        an entry and [":" expression], and more behind commas
 --   NEW         nothing, or a name or names in parentheses with commas between them, and more behind commas
 --   entry       = label | label "^" name | "^" name
@@ -21,20 +25,25 @@
 --   local       = a variable without "^"
 --   range       = expression [":" expression [":" expression]]
 --
--- IF, ELSE and FOR have no ":" expression behind their word.
+-- IF, ELSE and FOR have no ":" expression behind their word. The word `H` is HALT without arguments, and HANG with some.
 use Rattle.std.specs.Prelude.{◌≡◌, ◌⊎◌, ℕ, ◌+◌, ◌-◌, ◌≤◌, nat_le, Bool, true, false, ◌&&◌, if◌then◌else◌, List, [], ◌∷◌, ◌++◌, length, map, max, Option, Some, None, bytes_eq, codes}
+use Rattle.mj_text.specs.declared.text.TheConstants.{TEXT_LIMIT}
 use Rattle.mj_ast.specs.declared.sign.Sign.{Sign}
-use Rattle.mj_ast.specs.declared.sign.Sign.TheVariants.{Equals, Comma, Colon, Exclamation, Caret, Open, Close}
+use Rattle.mj_ast.specs.declared.sign.Sign.TheVariants.{Plus, Minus, Equals, Comma, Colon, Exclamation, Caret, Open, Close}
 use Rattle.mj_ast.specs.declared.expr.Scope.TheVariants.{Local, Global}
 use Rattle.mj_ast.specs.declared.function.Function.TheVariants.{Piece}
 use Rattle.mj_ast.specs.declared.function.Callee.TheVariants.{Texts}
 use Rattle.mj_ast.specs.declared.routine.Mark.{Mark}
 use Rattle.mj_ast.specs.declared.routine.Mark.TheVariants.{NewLine}
+use Rattle.mj_ast.specs.declared.routine.LockMode.{LockMode}
+use Rattle.mj_ast.specs.declared.routine.LockMode.TheVariants as lock
 use Rattle.mj_ast.specs.declared.keyword.Keyword.{Keyword}
 use Rattle.mj_ast.specs.declared.keyword.Keyword.TheVariants as keyword
-use Rattle.mj_ast.specs.Syntax.{Expr, Exprs, No, More, Variable, Var, Destination, Plain, Pieces, Targets, One, Several, Assignment, Killed, Gone, Spared, Merged, Output, Shown, Format, Target, Called, Jumped, Range, Single, Endless, UpTo, Renewed, Fresh, Kept, Command, Set, Write, Halt, Kill, Merge, If, Else, For, Forever, Do, Goto, Quit, New, Step}
+use Rattle.mj_ast.specs.declared.keyword.Verb.{Verb}
+use Rattle.mj_ast.specs.declared.keyword.Verb.TheVariants.{Of, HaltOrHang}
+use Rattle.mj_ast.specs.Syntax.{Expr, Exprs, No, More, Variable, Var, Destination, Plain, Pieces, Targets, One, Several, Assignment, Killed, Gone, Spared, Merged, Output, Shown, Format, Target, Called, Jumped, Started, LockNames, Lone, Together, Locked, Range, Single, Endless, UpTo, Renewed, Fresh, Kept, Command, Set, Write, Halt, Hang, Job, Lock, Kill, Merge, If, Else, For, Forever, Do, Goto, Quit, New, Step}
 use Rattle.mj_ast.specs.Tokens.{Token, Word, Called as CalledWord, Digits, Signed, Blank}
-use Rattle.mj_ast.specs.Expressions.{Spells, expressions, variables, callee_of, name_limit, text_limit, count, expr_nesting, variable_nesting, expr_width, variable_width}
+use Rattle.mj_ast.specs.Expressions.{Spells, expressions, variables, callee_of, name_limit, count, expr_nesting, variable_nesting, expr_width, variable_width}
 
 -- ---- the words of commands
 
@@ -42,36 +51,52 @@ use Rattle.mj_ast.specs.Expressions.{Spells, expressions, variables, callee_of, 
 abbrev pub capital : ℕ → ℕ
 capital b = if nat_le 97 b && nat_le b 122 then b - 32 else b
 
--- the commands by their words, in full and abbreviated
-abbrev pub command_words : List (List ℕ × Keyword)
+-- the words of commands, in full and abbreviated
+abbrev pub command_words : List (List ℕ × Verb)
 command_words =
-    (codes "SET", keyword.Set) ∷ (codes "S", keyword.Set)
-    ∷ (codes "WRITE", keyword.Write) ∷ (codes "W", keyword.Write)
-    ∷ (codes "HALT", keyword.Halt) ∷ (codes "H", keyword.Halt)
-    ∷ (codes "KILL", keyword.Kill) ∷ (codes "K", keyword.Kill)
-    ∷ (codes "MERGE", keyword.Merge) ∷ (codes "M", keyword.Merge)
-    ∷ (codes "IF", keyword.If) ∷ (codes "I", keyword.If)
-    ∷ (codes "ELSE", keyword.Else) ∷ (codes "E", keyword.Else)
-    ∷ (codes "FOR", keyword.For) ∷ (codes "F", keyword.For)
-    ∷ (codes "DO", keyword.Do) ∷ (codes "D", keyword.Do)
-    ∷ (codes "GOTO", keyword.Goto) ∷ (codes "G", keyword.Goto)
-    ∷ (codes "QUIT", keyword.Quit) ∷ (codes "Q", keyword.Quit)
-    ∷ (codes "NEW", keyword.New) ∷ (codes "N", keyword.New) ∷ []
+    (codes "SET", Of keyword.Set) ∷ (codes "S", Of keyword.Set)
+    ∷ (codes "WRITE", Of keyword.Write) ∷ (codes "W", Of keyword.Write)
+    ∷ (codes "HALT", Of keyword.Halt)
+    ∷ (codes "HANG", Of keyword.Hang)
+    ∷ (codes "H", HaltOrHang)
+    ∷ (codes "JOB", Of keyword.Job) ∷ (codes "J", Of keyword.Job)
+    ∷ (codes "LOCK", Of keyword.Lock) ∷ (codes "L", Of keyword.Lock)
+    ∷ (codes "KILL", Of keyword.Kill) ∷ (codes "K", Of keyword.Kill)
+    ∷ (codes "MERGE", Of keyword.Merge) ∷ (codes "M", Of keyword.Merge)
+    ∷ (codes "IF", Of keyword.If) ∷ (codes "I", Of keyword.If)
+    ∷ (codes "ELSE", Of keyword.Else) ∷ (codes "E", Of keyword.Else)
+    ∷ (codes "FOR", Of keyword.For) ∷ (codes "F", Of keyword.For)
+    ∷ (codes "DO", Of keyword.Do) ∷ (codes "D", Of keyword.Do)
+    ∷ (codes "GOTO", Of keyword.Goto) ∷ (codes "G", Of keyword.Goto)
+    ∷ (codes "QUIT", Of keyword.Quit) ∷ (codes "Q", Of keyword.Quit)
+    ∷ (codes "NEW", Of keyword.New) ∷ (codes "N", Of keyword.New) ∷ []
 
 -- what stands beside the word in the table
-abbrev pub looked_up : List ℕ → List (List ℕ × Keyword) → Option Keyword
+abbrev pub looked_up : List ℕ → List (List ℕ × Verb) → Option Verb
 looked_up word [] = None
 looked_up word (row ∷ rows) = if bytes_eq word row.0 then Some row.1 else looked_up word rows
 
--- the command of a word, in any case
-abbrev pub keyword_of : List ℕ → Option Keyword
-keyword_of word = looked_up (map capital word) command_words
+-- what a word is, in any case
+abbrev pub verb_of : List ℕ → Option Verb
+verb_of word = looked_up (map capital word) command_words
 
--- the word of a command
+-- the command that a word is without arguments, and the one that it is with some
+abbrev pub bare_of : Verb → Keyword
+bare_of (Of k) = k
+bare_of HaltOrHang = keyword.Halt
+
+abbrev pub full_of : Verb → Keyword
+full_of (Of k) = k
+full_of HaltOrHang = keyword.Hang
+
+-- which command it is
 abbrev pub keyword_for : Command → Keyword
 keyword_for (Set arguments) = keyword.Set
 keyword_for (Write arguments) = keyword.Write
 keyword_for Halt = keyword.Halt
+keyword_for (Hang arguments) = keyword.Hang
+keyword_for (Job arguments) = keyword.Job
+keyword_for (Lock arguments) = keyword.Lock
 keyword_for (Kill arguments) = keyword.Kill
 keyword_for (Merge arguments) = keyword.Merge
 keyword_for (If conditions) = keyword.If
@@ -141,8 +166,8 @@ killed_parts (Spared words) = Put Open ∷ (with_commas name_parts words ++ Put 
 abbrev pub merged_parts : Merged → List Part
 merged_parts a = Place 0 a.into ∷ Put Equals ∷ Place 0 a.from ∷ []
 
-abbrev pub condition_parts : Expr → List Part
-condition_parts e = Text 0 e ∷ []
+abbrev pub value_parts : Expr → List Part
+value_parts e = Text 0 e ∷ []
 
 -- the routine behind a label, if one is named
 abbrev pub routine_parts : Option (List ℕ) → List Part
@@ -158,7 +183,7 @@ entry_parts None (Some word) = routine_parts (Some word)
 abbrev pub target_parts : Target → List Part
 target_parts t = entry_parts t.label t.routine
 
--- the postcondition of an argument
+-- the postcondition of an argument, or how long one of LOCK may wait
 abbrev pub guard_parts : Option Expr → List Part
 guard_parts None = []
 guard_parts (Some e) = Put Colon ∷ Text 0 e ∷ []
@@ -182,6 +207,30 @@ as_called j = record { target = j.target; actuals = []; condition = j.condition 
 abbrev pub jumped_parts : Jumped → List Part
 jumped_parts j = called_parts (as_called j)
 
+-- how long an argument of JOB may wait
+abbrev pub wait_parts : Option Expr → List Part
+wait_parts None = []
+wait_parts (Some e) = Put Colon ∷ Put Colon ∷ Text 0 e ∷ []
+
+abbrev pub started_parts : Started → List Part
+started_parts s = target_parts s.target ++ (actuals_parts s.actuals ++ wait_parts s.timeout)
+
+-- what an argument of LOCK does
+abbrev pub mode_parts : LockMode → List Part
+mode_parts lock.Whole = []
+mode_parts lock.Plus = Put Plus ∷ []
+mode_parts lock.Minus = Put Minus ∷ []
+
+abbrev pub variable_parts : Variable → List Part
+variable_parts v = Place 0 v ∷ []
+
+abbrev pub lock_names_parts : LockNames → List Part
+lock_names_parts (Lone v) = Place 0 v ∷ []
+lock_names_parts (Together list) = Put Open ∷ (with_commas variable_parts list ++ Put Close ∷ [])
+
+abbrev pub locked_parts : Locked → List Part
+locked_parts l = mode_parts l.mode ++ (lock_names_parts l.names ++ guard_parts l.timeout)
+
 abbrev pub range_parts : Range → List Part
 range_parts (Single a) = Text 0 a ∷ []
 range_parts (Endless a b) = Text 0 a ∷ Put Colon ∷ Text 0 b ∷ []
@@ -195,9 +244,12 @@ abbrev pub command_parts : Command → List Part
 command_parts (Set list) = with_commas assignment_parts list
 command_parts (Write list) = with_commas output_parts list
 command_parts Halt = []
+command_parts (Hang list) = with_commas value_parts list
+command_parts (Job list) = with_commas started_parts list
+command_parts (Lock list) = with_commas locked_parts list
 command_parts (Kill list) = with_commas killed_parts list
 command_parts (Merge list) = with_commas merged_parts list
-command_parts (If list) = with_commas condition_parts list
+command_parts (If list) = with_commas value_parts list
 command_parts Else = []
 command_parts (For v list) = Control v ∷ Put Equals ∷ with_commas range_parts list
 command_parts Forever = []
@@ -254,6 +306,16 @@ is_called c = is_target c.target
 abbrev pub is_jumped : Jumped → Bool
 is_jumped j = is_target j.target
 
+abbrev pub is_started : Started → Bool
+is_started s = is_target s.target
+
+abbrev pub are_lock_names : LockNames → Bool
+are_lock_names (Lone v) = true
+are_lock_names (Together list) = has_items list
+
+abbrev pub is_locked : Locked → Bool
+is_locked l = are_lock_names l.names
+
 abbrev pub is_renewed : Renewed → Bool
 is_renewed (Fresh word) = true
 is_renewed (Kept words) = has_items words
@@ -268,6 +330,9 @@ abbrev pub is_formed : Command → Bool
 is_formed (Set list) = has_items list && every is_assignment list
 is_formed (Write list) = has_items list && every is_output list
 is_formed Halt = true
+is_formed (Hang list) = has_items list
+is_formed (Job list) = has_items list && every is_started list
+is_formed (Lock list) = every is_locked list
 is_formed (Kill list) = every is_killed list
 is_formed (Merge list) = has_items list
 is_formed (If list) = true
@@ -296,9 +361,13 @@ plain_actuals list = list
 abbrev pub plain_called : Called → Called
 plain_called c = record { target = c.target; actuals = plain_actuals c.actuals; condition = c.condition }
 
+abbrev pub plain_started : Started → Started
+plain_started s = record { target = s.target; actuals = plain_actuals s.actuals; timeout = s.timeout }
+
 -- the command that is meant
 abbrev pub plain : Command → Command
 plain (Do list) = Do (map plain_called list)
+plain (Job list) = Job (map plain_started list)
 plain c = c
 
 abbrev pub plain_step : Step → Step
@@ -309,7 +378,7 @@ plain_step s = record { condition = s.condition; command = plain s.command }
 abbrev pub SpellsPart : List Token → Part → Type 0
 SpellsPart ks (Put s) = ks ≡ Signed s ∷ []
 SpellsPart ks (Named word) = (ks ≡ Word word ∷ []) × (length word ≤ name_limit)
-SpellsPart ks (Label label) = ((ks ≡ Word label ∷ []) × (length label ≤ name_limit)) ⊎ ((ks ≡ Digits label ∷ []) × (length label ≤ text_limit))
+SpellsPart ks (Label label) = ((ks ≡ Word label ∷ []) × (length label ≤ name_limit)) ⊎ ((ks ≡ Digits label ∷ []) × (length label ≤ TEXT_LIMIT))
 SpellsPart ks PieceCall = (word : List ℕ) × (ks ≡ CalledWord word ∷ []) × (length word ≤ name_limit) × (callee_of word ≡ Some (Texts Piece))
 SpellsPart ks (Text level e) = Spells expressions ks e
 SpellsPart ks (Place level v) = Spells variables ks v
@@ -335,11 +404,20 @@ abbrev pub SpellsArguments : List Token → List Part → Type 0
 SpellsArguments ks [] = ks ≡ []
 SpellsArguments ks (p ∷ ps) = (rest : List Token) × (ks ≡ Blank ∷ rest) × SpellsParts rest (p ∷ ps)
 
+-- the command that a word is, before these parts
+abbrev pub meant : Verb → List Part → Keyword
+meant v [] = bare_of v
+meant v (p ∷ ps) = full_of v
+
+-- the word leads to the command, where these are its parts
+abbrev pub Leads : List ℕ → List Part → Keyword → Type 0
+Leads word parts k = (v : Verb) × (verb_of word ≡ Some v) × (k ≡ meant v parts)
+
 -- a command with its postcondition
 abbrev pub SpellsStep : List Token → Step → Type 0
 SpellsStep ks s =
     (word : List ℕ) × (condition : List Token) × (arguments : List Token)
-    × (ks ≡ Word word ∷ (condition ++ arguments)) × (keyword_of word ≡ Some (keyword_for s.command))
+    × (ks ≡ Word word ∷ (condition ++ arguments)) × Leads word (command_parts s.command) (keyword_for s.command)
     × SpellsCondition condition s.condition × SpellsArguments arguments (command_parts s.command) × (is_formed s.command ≡ true) × IsConditional (keyword_for s.command) s.condition
 
 -- how many blanks stand behind arguments before another command, at least

@@ -11,6 +11,7 @@
 use Rattle.std.specs.Prelude.{◌≡◌, ℕ, ◌+◌, ◌-◌, ◌≤◌, max, nat_le, Bool, ◌||◌, Option, Some, None, codes, if◌then◌else◌, List, [], ◌∷◌, ◌++◌, length, map, Result, Ok, Err, ℤ}
 use Rattle.std.specs.Str.{str_eq_ignore_ascii_case}
 use Rattle.mj_text.specs.declared.fault.Fault.{Fault}
+use Rattle.mj_text.specs.declared.text.TheConstants.{TEXT_LIMIT}
 use Rattle.mj_num.specs.Number.{reading, canonic_text}
 use Rattle.mj_ast.specs.declared.sign.Sign.{Sign}
 use Rattle.mj_ast.specs.declared.sign.Sign.TheVariants.{Caret, Open, Close, Comma, Colon}
@@ -64,7 +65,7 @@ callee_of w =
 
 -- the special variable that a `$` word names, if none may stand behind it
 abbrev pub special_of : List ℕ → Option special.Special
-special_of w = if is_named w (codes "TEST") (codes "T") then Some specials.Test else None
+special_of w = if is_named w (codes "JOB") (codes "J") then Some specials.Job else if is_named w (codes "TEST") (codes "T") then Some specials.Test else None
 
 -- the least number of arguments
 abbrev pub least : Function → ℕ
@@ -141,10 +142,6 @@ depth_limit = 64
 abbrev pub width_limit : ℕ
 width_limit = 31
 
--- the most bytes of a text
-abbrev pub text_limit : ℕ
-text_limit = 32767
-
 -- digits are a constant by the number that they read, if it is in range
 abbrev pub constant_of : Result ℤ Fault → Symbol
 constant_of (Ok z) = Constant (canonic_text z)
@@ -166,7 +163,7 @@ symbol (Word w) = if nat_le (length w) name_limit then Name w else Overlong
 symbol (Called w) = if nat_le (length w) name_limit then function_symbol (callee_of w) else Overlong
 symbol (Special w) = if nat_le (length w) name_limit then special_symbol (special_of w) else Overlong
 symbol (Digits ds) = constant_of (reading ds)
-symbol (Quoted value) = if nat_le (length value) text_limit then Constant value else Other
+symbol (Quoted value) = if nat_le (length value) TEXT_LIMIT then Constant value else Other
 symbol (Signed s) = Mark s
 symbol _ = Other
 

@@ -13,6 +13,7 @@
 --   structured        `$` directly behind `^`, a word behind it or not
 --   by reference      `.` and a word where an actual may begin
 --   entry offset      `+` behind the label of an entry
+--   process parameters  what stands behind the first `:` of an argument of JOB and isn't a second one
 --   mnemonic space    `/` where an argument of WRITE may begin
 --   set extract       `$EXTRACT(` as a destination
 --   justify decimals  the second comma in `$JUSTIFY`
@@ -32,17 +33,18 @@
 use Rattle.std.specs.Prelude.{◌≡◌, ◌⊎◌, ℕ, ◌+◌, ◌-◌, ◌==◌, Bool, true, false, not, ◌&&◌, ◌||◌, List, [], ◌∷◌, ◌++◌, reverse, take, drop, Option, Some, None, codes}
 use Rattle.mj_ast.specs.declared.construct.Construct.{Construct}
 use Rattle.mj_ast.specs.declared.construct.Construct.TheVariants as construct
-use Rattle.mj_ast.specs.declared.sign.Sign.TheVariants.{Plus, Minus, Star, Slash, Underscore, OpenBracket, Exclamation, Apostrophe, Question, NegatedQuestion, Caret, Open, Close, Comma, Dot}
+use Rattle.mj_ast.specs.declared.sign.Sign.TheVariants.{Plus, Minus, Star, Slash, Underscore, OpenBracket, Exclamation, Apostrophe, Question, NegatedQuestion, Caret, Open, Close, Comma, Colon, Dot}
 use Rattle.mj_ast.specs.declared.function.Function.TheVariants.{Extract, Justify}
 use Rattle.mj_ast.specs.declared.function.NameFunction.TheVariants as names
 use Rattle.mj_ast.specs.declared.function.Callee.{Callee}
 use Rattle.mj_ast.specs.declared.function.Callee.TheVariants.{Texts, Names}
 use Rattle.mj_ast.specs.declared.keyword.Keyword.{Keyword}
 use Rattle.mj_ast.specs.declared.keyword.Keyword.TheVariants as keyword
+use Rattle.mj_ast.specs.declared.keyword.Verb.{Verb}
 use Rattle.mj_ast.specs.Syntax.{Line, Step}
 use Rattle.mj_ast.specs.Tokens.{Token, Word, Called, Special, Digits, Quoted, Signed, Blank, Stray, tokens}
 use Rattle.mj_ast.specs.Expressions.{callee_of, is_named}
-use Rattle.mj_ast.specs.Commands.{keyword_of, keyword_for}
+use Rattle.mj_ast.specs.Commands.{verb_of, keyword_for}
 use Rattle.mj_ast.specs.Lines.{SpellsLine, BeginsLine, IsStuckAt}
 
 -- ---- names
@@ -59,6 +61,7 @@ name_of construct.Environment = codes "environment"
 name_of construct.Structured = codes "structured"
 name_of construct.ByReference = codes "by reference"
 name_of construct.EntryOffset = codes "entry offset"
+name_of construct.ProcessParameters = codes "process parameters"
 name_of construct.MnemonicSpace = codes "mnemonic space"
 name_of construct.SetExtract = codes "set extract"
 name_of construct.JustifyDecimals = codes "justify decimals"
@@ -132,6 +135,10 @@ abbrev pub is_comma : Token → Bool
 is_comma (Signed Comma) = true
 is_comma t = false
 
+abbrev pub is_colon : Token → Bool
+is_colon (Signed Colon) = true
+is_colon t = false
+
 abbrev pub is_plus : Token → Bool
 is_plus (Signed Plus) = true
 is_plus t = false
@@ -201,6 +208,10 @@ is_label t = is_word t || is_digits t
 
 abbrev pub IsBehindLabel : List Token → Type 0
 IsBehindLabel front = (ends_in is_label front ≡ true) × MayStand front (Signed Caret)
+
+-- behind the first `:` of an argument of JOB: only there may a `:` stand behind another
+abbrev pub IsBehindColon : List Token → Type 0
+IsBehindColon front = (ends_in is_colon front ≡ true) × MayStand front (Signed Colon)
 
 -- A destination may begin, or an operand: both may be a call of `$PIECE`. An operand may be one of `$EXTRACT` too.
 abbrev pub MayBeginDestination : List Token → Type 0
@@ -294,24 +305,21 @@ abbrev pub is_later : List ℕ → Bool
 is_later w =
     is_named w (codes "BREAK") (codes "B")
     || (is_named w (codes "CLOSE") (codes "C")
-    || (is_named w (codes "HANG") (codes "HANG")
-    || (is_named w (codes "JOB") (codes "J")
-    || (is_named w (codes "LOCK") (codes "L")
     || (is_named w (codes "OPEN") (codes "O")
     || (is_named w (codes "READ") (codes "R")
     || (is_named w (codes "TCOMMIT") (codes "TC")
     || (is_named w (codes "TRESTART") (codes "TRE")
     || (is_named w (codes "TROLLBACK") (codes "TRO")
     || (is_named w (codes "TSTART") (codes "TS")
-    || is_named w (codes "USE") (codes "U")))))))))))
+    || is_named w (codes "USE") (codes "U"))))))))
 
-abbrev pub has_keyword : Option Keyword → Bool
-has_keyword None = false
-has_keyword (Some k) = true
+abbrev pub has_verb : Option Verb → Bool
+has_verb None = false
+has_verb (Some v) = true
 
 -- a word that is no command's
 abbrev pub is_unknown : Token → Bool
-is_unknown (Word w) = not (has_keyword (keyword_of w) || is_later w)
+is_unknown (Word w) = not (has_verb (verb_of w) || is_later w)
 is_unknown t = false
 
 -- the words of variables, those that the reader doesn't read yet among them
@@ -405,6 +413,7 @@ Fits construct.Environment front t behind = ((is_bracket t || is_bar t) && ends_
 Fits construct.Structured front t behind = (has_dollar t && ends_in is_caret front) ≡ true
 Fits construct.ByReference front t behind = ((is_dot t && starts is_word behind) ≡ true) × MayBeginActual front
 Fits construct.EntryOffset front t behind = (is_plus t ≡ true) × IsBehindLabel front
+Fits construct.ProcessParameters front t behind = IsBehindColon front
 Fits construct.MnemonicSpace front t behind = (is_slash t ≡ true) × MayBeginOutput front
 Fits construct.SetExtract front t behind = (is_extract (called t) ≡ true) × MayBeginDestination front
 Fits construct.JustifyDecimals front t behind = is_comma_in is_justify 1 front t ≡ true
@@ -420,8 +429,8 @@ Fits construct.Extrinsic front t behind = is_two_dollars t behind ≡ true
 abbrev pub rows : List Construct
 rows =
     construct.Indirection ∷ construct.Fraction ∷ construct.Exponent ∷ construct.Power ∷ construct.Pattern ∷ construct.Naked
-    ∷ construct.Environment ∷ construct.Structured ∷ construct.ByReference ∷ construct.EntryOffset ∷ construct.MnemonicSpace
-    ∷ construct.SetExtract ∷ construct.JustifyDecimals ∷ construct.QueryBackward ∷ construct.NameDepth ∷ construct.OrderNames
+    ∷ construct.Environment ∷ construct.Structured ∷ construct.ByReference ∷ construct.EntryOffset ∷ construct.ProcessParameters
+    ∷ construct.MnemonicSpace ∷ construct.SetExtract ∷ construct.JustifyDecimals ∷ construct.QueryBackward ∷ construct.NameDepth ∷ construct.OrderNames
     ∷ construct.Function ∷ construct.Variable ∷ construct.Command ∷ construct.Extrinsic ∷ []
 
 -- the first of the rows that fits there, if one does

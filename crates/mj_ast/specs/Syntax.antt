@@ -7,6 +7,7 @@ use Rattle.mj_ast.specs.declared.function.Special.{Special}
 use Rattle.mj_oper.specs.declared.op.Op.{Op}
 use Rattle.mj_oper.specs.declared.op.UnaryOp.{UnaryOp}
 use Rattle.mj_ast.specs.declared.routine.Mark.{Mark}
+use Rattle.mj_ast.specs.declared.routine.LockMode.{LockMode}
 
 mutual
   -- an operand, and then operators with theirs, which are applied from left to right
@@ -92,6 +93,24 @@ pub record Jumped : Type 0 where
   pub target : Target
   pub condition : Option Expr
 
+-- an argument of JOB: where it starts, the actuals, of which some may be left out, and how long it may wait, if that is limited
+pub record Started : Type 0 where
+  pub target : Target
+  pub actuals : List (Option Expr)
+  pub timeout : Option Expr
+
+-- the names of an argument of LOCK, as variables: one, or a list in parentheses
+pub data LockNames : Type 0 where
+  Lone : (v : Variable) → LockNames
+  Together : (list : List Variable) → LockNames
+
+-- an argument of LOCK: whether it takes its names in the place of all that were held, takes them too, or gives them back, and how
+-- long it may wait, if that is limited
+pub record Locked : Type 0 where
+  pub mode : LockMode
+  pub names : LockNames
+  pub timeout : Option Expr
+
 -- what a FOR goes through: one value, or numbers by steps, without an end or up to one
 pub data Range : Type 0 where
   Single : (v : Expr) → Range
@@ -108,6 +127,9 @@ pub data Command : Type 0 where
   Set : (arguments : List Assignment) → Command
   Write : (arguments : List Output) → Command
   Halt : Command
+  Hang : (arguments : List Expr) → Command
+  Job : (arguments : List Started) → Command
+  Lock : (arguments : List Locked) → Command
   Kill : (arguments : List Killed) → Command
   Merge : (arguments : List Merged) → Command
   If : (conditions : List Expr) → Command

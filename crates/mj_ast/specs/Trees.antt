@@ -18,6 +18,10 @@ use Rattle.mj_ast.specs.declared.routine.Output.TheVariants as output
 use Rattle.mj_ast.specs.declared.routine.Target as target
 use Rattle.mj_ast.specs.declared.routine.Called as called
 use Rattle.mj_ast.specs.declared.routine.Jumped as jumped
+use Rattle.mj_ast.specs.declared.routine.Started as started
+use Rattle.mj_ast.specs.declared.routine.LockNames as kept_names
+use Rattle.mj_ast.specs.declared.routine.LockNames.TheVariants as names
+use Rattle.mj_ast.specs.declared.routine.Locked as locked
 use Rattle.mj_ast.specs.declared.routine.Range as kept_range
 use Rattle.mj_ast.specs.declared.routine.Range.TheVariants as range
 use Rattle.mj_ast.specs.declared.routine.Renewed as kept_renewed
@@ -27,7 +31,7 @@ use Rattle.mj_ast.specs.declared.routine.Command.TheVariants as command
 use Rattle.mj_ast.specs.declared.routine.Step as step
 use Rattle.mj_ast.specs.declared.routine.Line as line
 use Rattle.mj_ast.specs.declared.routine.Routine as routine
-use Rattle.mj_ast.specs.Syntax.{Expr, Chain, Tails, Done, Then, Operand, Literal, Value, Unary, Group, Call, Select, Variable, Var, Exprs, No, More, Choices, Last, Before, Destination, Plain, Pieces, Targets, One, Several, Assignment, Killed, Gone, Spared, Merged, Output, Shown, Format, Target, Called, Jumped, Range, Single, Endless, UpTo, Renewed, Fresh, Kept, Command, Set, Write, Halt, Kill, Merge, If, Else, For, Forever, Do, Goto, Quit, New, Step, Line, Routine, About, Intrinsic}
+use Rattle.mj_ast.specs.Syntax.{Expr, Chain, Tails, Done, Then, Operand, Literal, Value, Unary, Group, Call, Select, Variable, Var, Exprs, No, More, Choices, Last, Before, Destination, Plain, Pieces, Targets, One, Several, Assignment, Killed, Gone, Spared, Merged, Output, Shown, Format, Target, Called, Jumped, Started, LockNames, Lone, Together, Locked, Range, Single, Endless, UpTo, Renewed, Fresh, Kept, Command, Set, Write, Halt, Hang, Job, Lock, Kill, Merge, If, Else, For, Forever, Do, Goto, Quit, New, Step, Line, Routine, About, Intrinsic}
 
 abbrev mutual
   pub operand_of : operand.Operand → Operand
@@ -99,6 +103,16 @@ called_of c = record { target = target_of c.target; actuals = map (option_map ex
 abbrev pub jumped_of : jumped.Jumped → Jumped
 jumped_of j = record { target = target_of j.target; condition = option_map expr_of j.condition }
 
+abbrev pub started_of : started.Started → Started
+started_of s = record { target = target_of s.target; actuals = map (option_map expr_of) s.actuals.items; timeout = option_map expr_of s.timeout }
+
+abbrev pub lock_names_of : kept_names.LockNames → LockNames
+lock_names_of (names.One v) = Lone (variable_of v)
+lock_names_of (names.Several list) = Together (map variable_of list.items)
+
+abbrev pub locked_of : locked.Locked → Locked
+locked_of l = record { mode = l.mode; names = lock_names_of l.names; timeout = option_map expr_of l.timeout }
+
 abbrev pub range_of : kept_range.Range → Range
 range_of (range.One a) = Single (expr_of a)
 range_of (range.Endless a b) = Endless (expr_of a) (expr_of b)
@@ -112,6 +126,9 @@ abbrev pub command_of : kept_command.Command → Command
 command_of (command.Set v) = Set (map assignment_of v.items)
 command_of (command.Write v) = Write (map output_of v.items)
 command_of command.Halt = Halt
+command_of (command.Hang v) = Hang (map expr_of v.items)
+command_of (command.Job v) = Job (map started_of v.items)
+command_of (command.Lock v) = Lock (map locked_of v.items)
 command_of (command.Kill v) = Kill (map killed_of v.items)
 command_of (command.Merge v) = Merge (map merged_of v.items)
 command_of (command.If v) = If (map expr_of v.items)

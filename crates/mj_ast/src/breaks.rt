@@ -16,6 +16,9 @@ impl Command {
             Command::Set(_)
             | Command::Write(_)
             | Command::Halt
+            | Command::Hang(_)
+            | Command::Job(_)
+            | Command::Lock(_)
             | Command::Kill(_)
             | Command::Merge(_)
             | Command::If(_)

@@ -27,6 +27,8 @@ pub enum Construct {
     ByReference,
     /// `+` behind the label of an entry
     EntryOffset,
+    /// what stands behind the first `:` of an argument of JOB and isn't a second one
+    ProcessParameters,
     /// `/` where an argument of WRITE may begin
     MnemonicSpace,
     /// `$EXTRACT(` as a destination
@@ -67,6 +69,7 @@ impl Construct {
             Construct::Structured => "structured",
             Construct::ByReference => "by reference",
             Construct::EntryOffset => "entry offset",
+            Construct::ProcessParameters => "process parameters",
             Construct::MnemonicSpace => "mnemonic space",
             Construct::SetExtract => "set extract",
             Construct::JustifyDecimals => "justify decimals",

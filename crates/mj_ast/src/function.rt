@@ -45,6 +45,8 @@ pub enum NameFunction {
 /// A special variable.
 #[derive(Clone, Copy, PartialEq, Eq, Debug)]
 pub enum Special {
+    /// `$JOB`: the number of the job
+    Job,
     /// `$TEST`: whether the last condition of an IF was true
     Test,
 }

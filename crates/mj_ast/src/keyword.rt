@@ -1,11 +1,14 @@
-// The commands, by their words.
+// The commands, and the words that they begin with.
 
-/// The word of a command.
+/// A command.
 #[derive(Clone, Copy, PartialEq, Eq, Debug)]
 pub enum Keyword {
     Set,
     Write,
     Halt,
+    Hang,
+    Job,
+    Lock,
     Kill,
     Merge,
     If,
@@ -15,4 +18,13 @@ pub enum Keyword {
     Goto,
     Quit,
     New,
+}
+
+/// What a word is that commands begin with.
+#[derive(Clone, Copy, PartialEq, Eq, Debug)]
+pub enum Verb {
+    /// the word of one command
+    Of(Keyword),
+    /// `H`: HALT without arguments, and HANG with some
+    HaltOrHang,
 }

@@ -15,9 +15,9 @@ mod sign;
 pub use construct::Construct;
 pub use expr::{Choice, Expr, Operand, Scope, Tail, Variable};
 pub use function::{Callee, Function, NameFunction, Special};
-pub use keyword::Keyword;
+pub use keyword::{Keyword, Verb};
 pub use routine::{
-    Assignment, Called, Command, Destination, Jumped, Killed, Line, Mark, Merged, Output, Range,
-    Renewed, Routine, Step, Target, Targets,
+    Assignment, Called, Command, Destination, Jumped, Killed, Line, LockMode, LockNames, Locked,
+    Mark, Merged, Output, Range, Renewed, Routine, Started, Step, Target, Targets,
 };
 pub use sign::Sign;

@@ -82,6 +82,41 @@ pub struct Jumped {
     pub condition: Option<Expr>,
 }
 
+/// An argument of JOB: where it starts, the actuals, of which some may be left out, and how long it may wait, if that is limited.
+#[derive(Drop)]
+pub struct Started {
+    pub target: Target,
+    pub actuals: Vec<Option<Expr>>,
+    pub timeout: Option<Expr>,
+}
+
+/// What an argument of LOCK does with its names.
+#[derive(Clone, Copy, PartialEq, Eq, Debug)]
+pub enum LockMode {
+    /// takes them in the place of all that were held
+    Whole,
+    /// `+`: takes them beside what is held
+    Plus,
+    /// `-`: gives them back
+    Minus,
+}
+
+/// The names of an argument of LOCK, as variables.
+#[derive(Drop)]
+pub enum LockNames {
+    One(Variable),
+    /// a list in parentheses, not empty
+    Several(Vec<Variable>),
+}
+
+/// An argument of LOCK: what it does, its names, and how long it may wait, if that is limited.
+#[derive(Drop)]
+pub struct Locked {
+    pub mode: LockMode,
+    pub names: LockNames,
+    pub timeout: Option<Expr>,
+}
+
 /// What a FOR goes through.
 #[derive(Drop)]
 pub enum Range {
@@ -108,6 +143,10 @@ pub enum Command {
     Set(Vec<Assignment>),
     Write(Vec<Output>),
     Halt,
+    Hang(Vec<Expr>),
+    Job(Vec<Started>),
+    /// without arguments it gives back all that is held
+    Lock(Vec<Locked>),
     /// without arguments it is all locals
     Kill(Vec<Killed>),
     Merge(Vec<Merged>),

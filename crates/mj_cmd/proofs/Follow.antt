@@ -7,12 +7,14 @@ use Rattle.std.proofs.lemmas.Bool.Decides.{nat_tests}
 use Rattle.mj_ast.specs.declared.sign.Sign.{Sign}
 use Rattle.mj_ast.specs.declared.sign.Sign.TheVariants.{Comma, Colon}
 use Rattle.mj_ast.specs.declared.keyword.Keyword.{Keyword}
-use Rattle.mj_ast.specs.Syntax.{Expr, Variable, Step, Command, Do}
+use Rattle.mj_ast.specs.declared.keyword.Verb.{Verb}
+use Rattle.mj_ast.specs.declared.keyword.Verb.TheVariants.{Of}
+use Rattle.mj_ast.specs.Syntax.{Expr, Variable, Step, Command, Do, Job}
 use Rattle.mj_ast.specs.Trees.{step_of}
 use Rattle.mj_ast.specs.declared.routine.Step as kept_step
 use Rattle.mj_ast.specs.Tokens.{Token, Word, Called, Special, Digits, Quoted, Signed, Blank, Comment, Unclosed, Stray}
 use Rattle.mj_ast.specs.Expressions.{symbol, Phrases, callee_of}
-use Rattle.mj_ast.specs.Commands.{Part, Put, Named, PieceCall, Text, Place, keyword_of, with_commas, behind_commas, is_conditional, command_parts, keyword_for, plain, plain_step}
+use Rattle.mj_ast.specs.Commands.{Part, Put, Named, PieceCall, Text, Place, verb_of, bare_of, meant, with_commas, behind_commas, is_conditional, command_parts, keyword_for, plain, plain_step}
 use Rattle.mj_expr.specs.Machine.{Limits}
 use Rattle.mj_expr.specs.Machine as phrase
 use Rattle.mj_expr.specs.Reads.{limits, symbols_seen}
@@ -32,7 +34,7 @@ use Rattle.mj_line.proofs.Facts.{lift_accept, lift_stuck, lift_deep, lift_long}
 use Rattle.mj_line.proofs.Complete.{blanks_go, Parted, run_rests, args_rests, complete_bare, NoColon, worded_bare}
 use Rattle.mj_cmd.proofs.Locals.{MayEnter, may_enter}
 use Rattle.mj_cmd.specs.Heads.{HasNoComma, HasNoBlank, HasNoColon, HasNoWord, HasParted, HasOther}
-use Rattle.mj_cmd.specs.Reads.{HasRoom, Refuses, IsWritten, IsWrittenStep, AreWritten, ReadsAs, EndsAs, Reads, Ends}
+use Rattle.mj_cmd.specs.Reads.{HasRoom, Refuses, IsMeant, IsWritten, IsWrittenStep, AreWritten, ReadsAs, EndsAs, Reads, Ends}
 
 -- another token
 abbrev pub IsNoComment : Token → Type 0
@@ -160,7 +162,7 @@ Untaken n (t ∷ ks) = part_taken n (part_at (labels n) t) ≡ None
 abbrev pub Unended : Node → List Token → Type 0
 Unended n ks = (ends n ≡ false) ⊎ HasOther ks
 
-unmoved : (o : Sentence) (condition : Option Expr) (k : Keyword) (done : List Part) (n : Node) (q : Option Part) → part_taken n q ≡ None → taken o condition k done n q ≡ Stuck
+unmoved : (o : Sentence) (condition : Option Expr) (k : Verb) (done : List Part) (n : Node) (q : Option Part) → part_taken n q ≡ None → taken o condition k done n q ≡ Stuck
 unmoved o condition k done n (Some p) e = ap (moved o condition k (done ++ p ∷ [])) e
 unmoved o condition k done n None e = refl
 
@@ -169,7 +171,7 @@ unrested r false t ks g h = refl
 unrested r true t ks g (inl h) = absurd (let f : true ≡ false = h in cc)
 unrested r true Blank ks g (inr h) = absurd h
 unrested r true (Comment text) ks g (inr h) = absurd h
-unrested r true (Word w) ks g (inr h) = ap (λ (n : ℕ). cond (n == 0) (begins r.line (keyword_of w)) Stuck) g
+unrested r true (Word w) ks g (inr h) = ap (λ (n : ℕ). cond (n == 0) (begins r.line (verb_of w)) Stuck) g
 unrested r true (Digits d) ks g (inr h) = refl
 unrested r true (Signed s) ks g (inr h) = refl
 unrested r true (Quoted q) ks g (inr h) = refl
@@ -183,7 +185,7 @@ ended_none r b (inl h) = ap (λ (x : Bool). bare_rested x r) h
 ended_none r b (inr h) = absurd h
 
 -- where nothing goes on
-pub here_stuck : (m : Limits) (o : Sentence) (condition : Option Expr) (k : Keyword) (done : List Part) (n : Node) (ks : List Token) → wants n ≡ None → Untaken n ks → Unended n ks → run m ks (At (Args o condition k done n)) ≡ refused ks
+pub here_stuck : (m : Limits) (o : Sentence) (condition : Option Expr) (k : Verb) (done : List Part) (n : Node) (ks : List Token) → wants n ≡ None → Untaken n ks → Unended n ks → run m ks (At (Args o condition k done n)) ≡ refused ks
 here_stuck m o condition k done n [] w u e = ap (λ (q : Option Rest). ended_of q) (ended_none (args_rest o condition k done) (ends n) e)
   where
     ended_of : Option Rest → Outcome
@@ -196,7 +198,7 @@ here_stuck m o condition k done n (t ∷ ks) w u e =
     ∙ ap (λ (q : Option Want). turn m ks t (entering m (argument o condition k done q) t)) w
 
 -- where a phrase begins
-pub enter_here : (m : Limits) (o : Sentence) (condition : Option Expr) (k : Keyword) (done : List Part) (n : Node) (x : Want) (ks : List Token) → MayEnter x ks → wants n ≡ Some x → Untaken n ks → Unended n ks → run m ks (At (Args o condition k done n)) ≡ run m ks (In (Argument o condition k done x) (wanted x))
+pub enter_here : (m : Limits) (o : Sentence) (condition : Option Expr) (k : Verb) (done : List Part) (n : Node) (x : Want) (ks : List Token) → MayEnter x ks → wants n ≡ Some x → Untaken n ks → Unended n ks → run m ks (At (Args o condition k done n)) ≡ run m ks (In (Argument o condition k done x) (wanted x))
 enter_here m o condition k done n x [] y w u e = ap (λ (q : Option Rest). ended_of q) (ended_none (args_rest o condition k done) (ends n) e) ∙ sym (none_read x)
   where
     ended_of : Option Rest → Outcome
@@ -215,7 +217,7 @@ enter_here m o condition k done n x (t ∷ ks) i w u e =
     ∙ ap (λ (b : Bool). turn m ks t (cond b (in_step m (Argument o condition k done x) (wanted x) t) Stuck)) (may_enter x t ks i)
 
 -- a part of one token
-pub token_run : (m : Limits) (o : Sentence) (condition : Option Expr) (k : Keyword) (done : List Part) (n next : Node) (t : Token) (p : Part) (ls ks : List Token) → ls ≡ t ∷ ks → part_at (labels n) t ≡ Some p → takes n p ≡ Some next →
+pub token_run : (m : Limits) (o : Sentence) (condition : Option Expr) (k : Verb) (done : List Part) (n next : Node) (t : Token) (p : Part) (ls ks : List Token) → ls ≡ t ∷ ks → part_at (labels n) t ≡ Some p → takes n p ≡ Some next →
     run m ls (At (Args o condition k done n)) ≡ run m ks (At (Args o condition k (done ++ p ∷ []) next))
 token_run m o condition k done n next t p ls ks l e h =
     let s = Args o condition k done n in
@@ -229,12 +231,12 @@ sign_at true z = refl
 sign_at false z = refl
 
 -- what was read of arguments, from a place to another
-abbrev pub Went : Bool → List Part → Limits → List Lexeme → Node → List Lexeme → Node → Sentence → Option Expr → Keyword → List Part → Type 0
+abbrev pub Went : Bool → List Part → Limits → List Lexeme → Node → List Lexeme → Node → Sentence → Option Expr → Verb → List Part → Type 0
 Went limited ps m ls n rest next o condition k done =
     (t : List Part) × (limited ≡ true → t ≡ ps) × (run m (tokens_seen ls) (At (Args o condition k done n)) ≡ run m (tokens_seen rest) (At (Args o condition k (done ++ t) next)))
 
 -- and more behind it
-pub went_then : (limited : Bool) (ps qs : List Part) (m : Limits) (ls : List Lexeme) (n : Node) (ms : List Lexeme) (mid : Node) (rest : List Lexeme) (next : Node) (o : Sentence) (condition : Option Expr) (k : Keyword) (done : List Part) →
+pub went_then : (limited : Bool) (ps qs : List Part) (m : Limits) (ls : List Lexeme) (n : Node) (ms : List Lexeme) (mid : Node) (rest : List Lexeme) (next : Node) (o : Sentence) (condition : Option Expr) (k : Verb) (done : List Part) →
     Went limited ps m ls n ms mid o condition k done → ((d : List Part) → Went limited qs m ms mid rest next o condition k d) → Went limited (ps ++ qs) m ls n rest next o condition k done
 went_then limited ps qs m ls n ms mid rest next o condition k done a f =
     let b = f (done ++ a.0) in (
@@ -243,33 +245,33 @@ went_then limited ps qs m ls n ms mid rest next o condition k done a f =
       a.2 ∙ b.2 ∙ ap (λ (zs : List Part). run m (tokens_seen rest) (At (Args o condition k zs next))) (append_assoc done a.0 b.0),
     )
 
-pub went_as : (limited : Bool) (ps qs : List Part) (m : Limits) (ls : List Lexeme) (n : Node) (rest : List Lexeme) (next : Node) (o : Sentence) (condition : Option Expr) (k : Keyword) (done : List Part) → ps ≡ qs → Went limited ps m ls n rest next o condition k done → Went limited qs m ls n rest next o condition k done
+pub went_as : (limited : Bool) (ps qs : List Part) (m : Limits) (ls : List Lexeme) (n : Node) (rest : List Lexeme) (next : Node) (o : Sentence) (condition : Option Expr) (k : Verb) (done : List Part) → ps ≡ qs → Went limited ps m ls n rest next o condition k done → Went limited qs m ls n rest next o condition k done
 went_as limited ps qs m ls n rest next o condition k done e a = (a.0, λ l. a.1 l ∙ e, a.2)
 
-pub went_token : (limited : Bool) (t : Token) (p : Part) (m : Limits) (ls : List Lexeme) (n : Node) (rest : List Lexeme) (next : Node) (o : Sentence) (condition : Option Expr) (k : Keyword) (done : List Part) → tokens_seen ls ≡ t ∷ tokens_seen rest → part_at (labels n) t ≡ Some p → takes n p ≡ Some next → Went limited (p ∷ []) m ls n rest next o condition k done
+pub went_token : (limited : Bool) (t : Token) (p : Part) (m : Limits) (ls : List Lexeme) (n : Node) (rest : List Lexeme) (next : Node) (o : Sentence) (condition : Option Expr) (k : Verb) (done : List Part) → tokens_seen ls ≡ t ∷ tokens_seen rest → part_at (labels n) t ≡ Some p → takes n p ≡ Some next → Went limited (p ∷ []) m ls n rest next o condition k done
 went_token limited t p m ls n rest next o condition k done l e h = (p ∷ [], λ x. refl, token_run m o condition k done n next t p (tokens_seen ls) (tokens_seen rest) l e h)
 
 -- a phrase that was read
-pub went_text : (limited : Bool) (lv : ℕ) (e : Expr) (m : Limits) (ls : List Lexeme) (n : Node) (rest : List Lexeme) (next : Node) (o : Sentence) (condition : Option Expr) (k : Keyword) (done : List Part) → wants n ≡ Some (AnExpr lv next) → Untaken n (tokens_seen ls) → Unended n (tokens_seen ls) →
+pub went_text : (limited : Bool) (lv : ℕ) (e : Expr) (m : Limits) (ls : List Lexeme) (n : Node) (rest : List Lexeme) (next : Node) (o : Sentence) (condition : Option Expr) (k : Verb) (done : List Part) → wants n ≡ Some (AnExpr lv next) → Untaken n (tokens_seen ls) → Unended n (tokens_seen ls) →
     (t : Expr) × (limited ≡ true → t ≡ e) × (run m (tokens_seen ls) (In (Argument o condition k done (AnExpr lv next)) expression_wanted) ≡ run m (tokens_seen rest) (At (behind (Argument o condition k done (AnExpr lv next)) (phrase.Whole t)))) → Went limited (Text lv e ∷ []) m ls n rest next o condition k done
 went_text limited lv e m ls n rest next o condition k done w u z h = (Text lv h.0 ∷ [], λ l. ap (λ (x : Expr). Text lv x ∷ []) (h.1 l), enter_here m o condition k done n (AnExpr lv next) (tokens_seen ls) tt w u z ∙ h.2)
 
-pub went_place : (limited : Bool) (lv : ℕ) (v : Variable) (m : Limits) (ls : List Lexeme) (n : Node) (rest : List Lexeme) (next : Node) (o : Sentence) (condition : Option Expr) (k : Keyword) (done : List Part) → wants n ≡ Some (AVar lv next) → Untaken n (tokens_seen ls) → Unended n (tokens_seen ls) →
+pub went_place : (limited : Bool) (lv : ℕ) (v : Variable) (m : Limits) (ls : List Lexeme) (n : Node) (rest : List Lexeme) (next : Node) (o : Sentence) (condition : Option Expr) (k : Verb) (done : List Part) → wants n ≡ Some (AVar lv next) → Untaken n (tokens_seen ls) → Unended n (tokens_seen ls) →
     (t : Variable) × (limited ≡ true → t ≡ v) × (run m (tokens_seen ls) (In (Argument o condition k done (AVar lv next)) variable_wanted) ≡ run m (tokens_seen rest) (At (behind (Argument o condition k done (AVar lv next)) (phrase.Target t)))) → Went limited (Place lv v ∷ []) m ls n rest next o condition k done
 went_place limited lv v m ls n rest next o condition k done w u z h = (Place lv h.0 ∷ [], λ l. ap (λ (x : Variable). Place lv x ∷ []) (h.1 l), enter_here m o condition k done n (AVar lv next) (tokens_seen ls) tt w u z ∙ h.2)
 
 -- a refusal behind what was read
-pub fails_then : (limited : Bool) (ps : List Part) (e : Stop) (m : Limits) (ls : List Lexeme) (n : Node) (ms : List Lexeme) (mid : Node) (o : Sentence) (condition : Option Expr) (k : Keyword) (done : List Part) →
+pub fails_then : (limited : Bool) (ps : List Part) (e : Stop) (m : Limits) (ls : List Lexeme) (n : Node) (ms : List Lexeme) (mid : Node) (o : Sentence) (condition : Option Expr) (k : Verb) (done : List Part) →
     Went limited ps m ls n ms mid o condition k done → ((d : List Part) → Refuses limited e (run m (tokens_seen ms) (At (Args o condition k d mid)))) → Refuses limited e (run m (tokens_seen ls) (At (Args o condition k done n)))
 fails_then limited ps e m ls n ms mid o condition k done a f = refuses_from limited e _ _ a.2 (f (done ++ a.0))
 
 -- a refusal of a phrase
-pub fails_enter : (limited : Bool) (e : Stop) (m : Limits) (ls : List Lexeme) (n : Node) (x : Want) (o : Sentence) (condition : Option Expr) (k : Keyword) (done : List Part) → MayEnter x (tokens_seen ls) → wants n ≡ Some x → Untaken n (tokens_seen ls) → Unended n (tokens_seen ls) →
+pub fails_enter : (limited : Bool) (e : Stop) (m : Limits) (ls : List Lexeme) (n : Node) (x : Want) (o : Sentence) (condition : Option Expr) (k : Verb) (done : List Part) → MayEnter x (tokens_seen ls) → wants n ≡ Some x → Untaken n (tokens_seen ls) → Unended n (tokens_seen ls) →
     Refuses limited e (run m (tokens_seen ls) (In (Argument o condition k done x) (wanted x))) → Refuses limited e (run m (tokens_seen ls) (At (Args o condition k done n)))
 fails_enter limited e m ls n x o condition k done y w u z h = refuses_from limited e _ _ (enter_here m o condition k done n x (tokens_seen ls) y w u z) h
 
 -- a refusal where nothing goes on
-pub fails_here : (limited : Bool) (e : Stop) (m : Limits) (ls : List Lexeme) (n : Node) (o : Sentence) (condition : Option Expr) (k : Keyword) (done : List Part) → wants n ≡ None → Untaken n (tokens_seen ls) → Unended n (tokens_seen ls) → Refuses limited e (refused (tokens_seen ls)) → Refuses limited e (run m (tokens_seen ls) (At (Args o condition k done n)))
+pub fails_here : (limited : Bool) (e : Stop) (m : Limits) (ls : List Lexeme) (n : Node) (o : Sentence) (condition : Option Expr) (k : Verb) (done : List Part) → wants n ≡ None → Untaken n (tokens_seen ls) → Unended n (tokens_seen ls) → Refuses limited e (refused (tokens_seen ls)) → Refuses limited e (run m (tokens_seen ls) (At (Args o condition k done n)))
 fails_here limited e m ls n o condition k done w u z h = refuses_from limited e _ _ (here_stuck m o condition k done n (tokens_seen ls) w u z) h
 
 -- ---- what is not taken
@@ -327,7 +329,7 @@ kept_untaken_word n w true e h = absurd (h (grind (arith, nat_tests)))
 kept_untaken_word n w false e h = refl
 
 -- a name where one is taken
-pub went_word : (limited : Bool) (m : Limits) (n next : Node) (ls rest : List Lexeme) (w t : List ℕ) (o : Sentence) (condition : Option Expr) (k : Keyword) (done : List Part) → labels n ≡ false → takes n (Named w) ≡ Some next → tokens_seen ls ≡ Word w ∷ tokens_seen rest → length w ≤ 31 → t ≡ w → Went limited (Named t ∷ []) m ls n rest next o condition k done
+pub went_word : (limited : Bool) (m : Limits) (n next : Node) (ls rest : List Lexeme) (w t : List ℕ) (o : Sentence) (condition : Option Expr) (k : Verb) (done : List Part) → labels n ≡ false → takes n (Named w) ≡ Some next → tokens_seen ls ≡ Word w ∷ tokens_seen rest → length w ≤ 31 → t ≡ w → Went limited (Named t ∷ []) m ls n rest next o condition k done
 went_word limited m n next ls rest w t o condition k done z f l h e =
     let P : Bool → Type 0 = λ b. part_at b (Word w) ≡ Some (Named w) in
     went_as limited (Named w ∷ []) (Named t ∷ []) m ls n rest next o condition k done (ap (λ (z : List ℕ). Named z ∷ []) (sym e))
@@ -335,29 +337,29 @@ went_word limited m n next ls rest w t o condition k done z f l h e =
 
 -- two places that the same tokens lead on from alike
 abbrev pub SameAt : Limits → Node → Node → List Token → Type 0
-SameAt m n q ks = (o : Sentence) (condition : Option Expr) (k : Keyword) (done : List Part) → run m ks (At (Args o condition k done n)) ≡ run m ks (At (Args o condition k done q))
+SameAt m n q ks = (o : Sentence) (condition : Option Expr) (k : Verb) (done : List Part) → run m ks (At (Args o condition k done n)) ≡ run m ks (At (Args o condition k done q))
 
-pub went_same : (limited : Bool) (m : Limits) (n q : Node) (ls : List Lexeme) (o : Sentence) (condition : Option Expr) (k : Keyword) (done : List Part) → SameAt m n q (tokens_seen ls) → Went limited [] m ls n ls q o condition k done
+pub went_same : (limited : Bool) (m : Limits) (n q : Node) (ls : List Lexeme) (o : Sentence) (condition : Option Expr) (k : Verb) (done : List Part) → SameAt m n q (tokens_seen ls) → Went limited [] m ls n ls q o condition k done
 went_same limited m n q ls o condition k done h = ([], λ l. refl, h o condition k done ∙ ap (λ (ps : List Part). run m (tokens_seen ls) (At (Args o condition k ps q))) (sym (append-nil done)))
 
-pub name_neither : (m : Limits) (n q : Node) (w : List ℕ) (ks : List Token) (o : Sentence) (condition : Option Expr) (k : Keyword) (done : List Part) (b : Bool) (r : Next) → takes n (Named w) ≡ None → takes q (Named w) ≡ None →
+pub name_neither : (m : Limits) (n q : Node) (w : List ℕ) (ks : List Token) (o : Sentence) (condition : Option Expr) (k : Verb) (done : List Part) (b : Bool) (r : Next) → takes n (Named w) ≡ None → takes q (Named w) ≡ None →
     turn m ks (Word w) (first (first (taken o condition k done n (cond b (Some (Named w)) None)) r) Stuck) ≡ turn m ks (Word w) (first (first (taken o condition k done q (cond b (Some (Named w)) None)) r) Stuck)
 name_neither m n q w ks o condition k done true r e f =
     ap (λ (x : Option Node). turn m ks (Word w) (first (first (moved o condition k (done ++ Named w ∷ []) x) r) Stuck)) e
     ∙ sym (ap (λ (x : Option Node). turn m ks (Word w) (first (first (moved o condition k (done ++ Named w ∷ []) x) r) Stuck)) f)
 name_neither m n q w ks o condition k done false r e f = refl
 
-pub piece_neither : (m : Limits) (n q : Node) (w : List ℕ) (ks : List Token) (o : Sentence) (condition : Option Expr) (k : Keyword) (done : List Part) (x : Option Part) (r : Next) → part_taken n x ≡ None → part_taken q x ≡ None →
+pub piece_neither : (m : Limits) (n q : Node) (w : List ℕ) (ks : List Token) (o : Sentence) (condition : Option Expr) (k : Verb) (done : List Part) (x : Option Part) (r : Next) → part_taken n x ≡ None → part_taken q x ≡ None →
     turn m ks (Called w) (first (first (taken o condition k done n x) r) Stuck) ≡ turn m ks (Called w) (first (first (taken o condition k done q x) r) Stuck)
 piece_neither m n q w ks o condition k done x r e f =
     ap (λ (y : Next). turn m ks (Called w) (first (first y r) Stuck)) (unmoved o condition k done n x e ∙ sym (unmoved o condition k done q x f))
 
 -- what was read stands so to what is given
-abbrev pub WentAs : Bool → (List Part → Type 0) → Limits → List Lexeme → Node → List Lexeme → Node → Sentence → Option Expr → Keyword → List Part → Type 0
+abbrev pub WentAs : Bool → (List Part → Type 0) → Limits → List Lexeme → Node → List Lexeme → Node → Sentence → Option Expr → Verb → List Part → Type 0
 WentAs limited is m ls n rest next o condition k done =
     (t : List Part) × (limited ≡ true → is t) × (run m (tokens_seen ls) (At (Args o condition k done n)) ≡ run m (tokens_seen rest) (At (Args o condition k (done ++ t) next)))
 
-pub joined : (limited : Bool) (P Q R : List Part → Type 0) (m : Limits) (ls : List Lexeme) (n : Node) (ms : List Lexeme) (mid : Node) (rest : List Lexeme) (next : Node) (o : Sentence) (condition : Option Expr) (k : Keyword) (done : List Part) →
+pub joined : (limited : Bool) (P Q R : List Part → Type 0) (m : Limits) (ls : List Lexeme) (n : Node) (ms : List Lexeme) (mid : Node) (rest : List Lexeme) (next : Node) (o : Sentence) (condition : Option Expr) (k : Verb) (done : List Part) →
     ((ps qs : List Part) → P ps → Q qs → R (ps ++ qs)) → WentAs limited P m ls n ms mid o condition k done → ((d : List Part) → WentAs limited Q m ms mid rest next o condition k d) → WentAs limited R m ls n rest next o condition k done
 joined limited P Q R m ls n ms mid rest next o condition k done j a f =
     let b = f (done ++ a.0) in (
@@ -366,10 +368,10 @@ joined limited P Q R m ls n ms mid rest next o condition k done j a f =
       a.2 ∙ b.2 ∙ ap (λ (zs : List Part). run m (tokens_seen rest) (At (Args o condition k zs next))) (append_assoc done a.0 b.0),
     )
 
-pub went_by : (limited : Bool) (P Q : List Part → Type 0) (m : Limits) (ls : List Lexeme) (n : Node) (rest : List Lexeme) (next : Node) (o : Sentence) (condition : Option Expr) (k : Keyword) (done : List Part) → ((ps : List Part) → P ps → Q ps) → WentAs limited P m ls n rest next o condition k done → WentAs limited Q m ls n rest next o condition k done
+pub went_by : (limited : Bool) (P Q : List Part → Type 0) (m : Limits) (ls : List Lexeme) (n : Node) (rest : List Lexeme) (next : Node) (o : Sentence) (condition : Option Expr) (k : Verb) (done : List Part) → ((ps : List Part) → P ps → Q ps) → WentAs limited P m ls n rest next o condition k done → WentAs limited Q m ls n rest next o condition k done
 went_by limited P Q m ls n rest next o condition k done f a = (a.0, λ l. f a.0 (a.1 l), a.2)
 
-pub fails_behind : (limited : Bool) (P : List Part → Type 0) (e : Stop) (m : Limits) (ls : List Lexeme) (n : Node) (ms : List Lexeme) (mid : Node) (o : Sentence) (condition : Option Expr) (k : Keyword) (done : List Part) →
+pub fails_behind : (limited : Bool) (P : List Part → Type 0) (e : Stop) (m : Limits) (ls : List Lexeme) (n : Node) (ms : List Lexeme) (mid : Node) (o : Sentence) (condition : Option Expr) (k : Verb) (done : List Part) →
     WentAs limited P m ls n ms mid o condition k done → ((d : List Part) → Refuses limited e (run m (tokens_seen ms) (At (Args o condition k d mid)))) → Refuses limited e (run m (tokens_seen ls) (At (Args o condition k done n)))
 fails_behind limited P e m ls n ms mid o condition k done a f = refuses_from limited e _ _ a.2 (f (done ++ a.0))
 
@@ -387,44 +389,44 @@ parted_same (Special w ∷ ks) h = absurd h
 parted_same (Unclosed t ∷ ks) h = absurd h
 parted_same (Stray b ∷ ks) h = absurd h
 
-pub args_end : (m : Limits) (o : Sentence) (condition : Option Expr) (k : Keyword) (done : List Part) (n : Node) (ks : List Token) → ends n ≡ true → HasParted ks → run m ks (At (Args o condition k done n)) ≡ run m ks (At (Behind (args_rest o condition k done)))
+pub args_end : (m : Limits) (o : Sentence) (condition : Option Expr) (k : Verb) (done : List Part) (n : Node) (ks : List Token) → ends n ≡ true → HasParted ks → run m ks (At (Args o condition k done n)) ≡ run m ks (At (Behind (args_rest o condition k done)))
 args_end m o condition k done n ks e h = run_rests m (Args o condition k done n) (args_rest o condition k done) ks (args_rests o condition k done n e) (parted_same ks h)
 
 -- ---- from the word to the arguments
 
 -- a blank before arguments
-pub blank_opens : (m : Limits) (o : Sentence) (condition : Option Expr) (k : Keyword) (n : Node) (ls ks : List Token) → ls ≡ Blank ∷ ks → first_node k ≡ Some n → run m ls (At (Bare o condition k)) ≡ run m ks (At (Args o condition k [] n))
+pub blank_opens : (m : Limits) (o : Sentence) (condition : Option Expr) (k : Verb) (n : Node) (ls ks : List Token) → ls ≡ Blank ∷ ks → first_node k ≡ Some n → run m ls (At (Bare o condition k)) ≡ run m ks (At (Args o condition k [] n))
 blank_opens m o condition k n ls ks l e =
     ap (λ (zs : List Token). run m zs (At (Bare o condition k))) l
     ∙ ap (λ (q : Option Node). turn m ks Blank (first (first (opened o condition k q) (on_rested (rested (Bare o condition k)) Blank)) Stuck)) e
 
 -- a command that has arguments goes on with a blank
-pub bare_stuck : (m : Limits) (o : Sentence) (condition : Option Expr) (k : Keyword) (ks : List Token) → may_be_bare k ≡ false → HasNoBlank ks → run m ks (At (Bare o condition k)) ≡ refused ks
+pub bare_stuck : (m : Limits) (o : Sentence) (condition : Option Expr) (k : Verb) (ks : List Token) → may_be_bare k ≡ false → HasNoBlank ks → run m ks (At (Bare o condition k)) ≡ refused ks
 bare_stuck m o condition k [] n h = ap (λ (b : Bool). ended_at (bare_rested b (bare_rest o condition k))) n
 bare_stuck m o condition k (Blank ∷ ks) n h = absurd h
 bare_stuck m o condition k (t ∷ ks) n h = ap (λ (b : Bool). turn m ks t (first (first Stuck (on_rested (bare_rested b (bare_rest o condition k)) t)) Stuck)) n
 
 -- one that may have none goes on with a blank, or ends
-pub optional_stuck : (m : Limits) (o : Sentence) (condition : Option Expr) (k : Keyword) (t : Token) (ks : List Token) → may_be_bare k ≡ true → HasNoBlank (t ∷ ks) → run m (t ∷ ks) (At (Bare o condition k)) ≡ refused (t ∷ ks)
+pub optional_stuck : (m : Limits) (o : Sentence) (condition : Option Expr) (k : Verb) (t : Token) (ks : List Token) → may_be_bare k ≡ true → HasNoBlank (t ∷ ks) → run m (t ∷ ks) (At (Bare o condition k)) ≡ refused (t ∷ ks)
 optional_stuck m o condition k Blank ks n h = absurd h
 optional_stuck m o condition k t ks n h = ap (λ (b : Bool). turn m ks t (first (first Stuck (on_rested (bare_rested b (bare_rest o condition k)) t)) Stuck)) n
 
 -- without arguments
-pub bare_end : (m : Limits) (o : Sentence) (condition : Option Expr) (k : Keyword) → may_be_bare k ≡ true → run m [] (At (Bare o condition k)) ≡ run m [] (At (Behind (args_rest o condition k [])))
+pub bare_end : (m : Limits) (o : Sentence) (condition : Option Expr) (k : Verb) → may_be_bare k ≡ true → run m [] (At (Bare o condition k)) ≡ run m [] (At (Behind (args_rest o condition k [])))
 bare_end m o condition k n = ap (λ (b : Bool). ended_at (bare_rested b (bare_rest o condition k))) n
 
-pub bare_blank : (m : Limits) (o : Sentence) (condition : Option Expr) (k : Keyword) (ls ks : List Token) → ls ≡ Blank ∷ ks → may_be_bare k ≡ true → HasParted ks → run m ls (At (Bare o condition k)) ≡ run m ks (At (Behind (args_rest o condition k [])))
+pub bare_blank : (m : Limits) (o : Sentence) (condition : Option Expr) (k : Verb) (ls ks : List Token) → ls ≡ Blank ∷ ks → may_be_bare k ≡ true → HasParted ks → run m ls (At (Bare o condition k)) ≡ run m ks (At (Behind (args_rest o condition k [])))
 bare_blank m o condition k ls ks l b h =
     ap (λ (zs : List Token). run m zs (At (Bare o condition k))) l
     ∙ complete_bare m o condition k (Blank ∷ ks) b (parted_same ks h)
 
 -- a command that never has some
-pub lone_other : (m : Limits) (o : Sentence) (condition : Option Expr) (k : Keyword) (ls ks : List Token) → ls ≡ Blank ∷ ks → first_node k ≡ None → may_be_bare k ≡ true → HasOther ks → run m ls (At (Bare o condition k)) ≡ refused ks
+pub lone_other : (m : Limits) (o : Sentence) (condition : Option Expr) (k : Verb) (ls ks : List Token) → ls ≡ Blank ∷ ks → first_node k ≡ None → may_be_bare k ≡ true → HasOther ks → run m ls (At (Bare o condition k)) ≡ refused ks
 lone_other m o condition k ls ks l e b h =
     ap (λ (zs : List Token). run m zs (At (Bare o condition k))) l
     ∙ ap (λ (q : Option Node). turn m ks Blank (first (first (opened o condition k q) (on_rested (rested (Bare o condition k)) Blank)) Stuck)) e
     ∙ ap (λ (x : Bool). turn m ks Blank (first (on_rested (bare_rested x (bare_rest o condition k)) Blank) Stuck)) b
-    ∙ behind_other m (with_clause o (clause condition k [])) ks h
+    ∙ behind_other m (with_clause o (clause condition (bare_of k) [])) ks h
   where
     behind_other : (m : Limits) (o : Sentence) (ks : List Token) → HasOther ks → run m ks (At (Behind (record { line = o; gap = 1; comment = 0 }))) ≡ refused ks
     behind_other m o [] h = absurd h
@@ -433,18 +435,18 @@ lone_other m o condition k ls ks l e b h =
     behind_other m o (t ∷ ks) h = refl
 
 -- a postcondition begins
-pub colon_opens : (m : Limits) (o : Sentence) (k : Keyword) (ls ks : List Token) → ls ≡ Signed Colon ∷ ks → is_conditional k ≡ true → run m ls (At (Worded o k)) ≡ run m ks (In (Condition o k) expression_wanted)
+pub colon_opens : (m : Limits) (o : Sentence) (k : Verb) (ls ks : List Token) → ls ≡ Signed Colon ∷ ks → is_conditional (bare_of k) ≡ true → run m ls (At (Worded o k)) ≡ run m ks (In (Condition o k) expression_wanted)
 colon_opens m o k ls ks l c =
     ap (λ (zs : List Token). run m zs (At (Worded o k))) l
     ∙ ap (λ (b : Bool). turn m ks (Signed Colon) (first (first (cond b (Go (At (Asked o k))) Stuck) (on_rested (bare_rested (may_be_bare k) (bare_rest o None k)) (Signed Colon))) Stuck)) c
     ∙ asked o k ks
   where
-    asked : (o : Sentence) (k : Keyword) (ks : List Token) → run m ks (At (Asked o k)) ≡ run m ks (In (Condition o k) expression_wanted)
+    asked : (o : Sentence) (k : Verb) (ks : List Token) → run m ks (At (Asked o k)) ≡ run m ks (In (Condition o k) expression_wanted)
     asked o k [] = refl
     asked o k (t ∷ ks) = refl
 
 -- where none may stand
-pub unconditional : (m : Limits) (o : Sentence) (k : Keyword) (ks : List Token) → is_conditional k ≡ false → run m ks (At (Worded o k)) ≡ run m ks (At (Bare o None k))
+pub unconditional : (m : Limits) (o : Sentence) (k : Verb) (ks : List Token) → is_conditional (bare_of k) ≡ false → run m ks (At (Worded o k)) ≡ run m ks (At (Bare o None k))
 unconditional m o k [] h = refl
 unconditional m o k (Signed Colon ∷ ks) h = ap (λ (b : Bool). turn m ks (Signed Colon) (first (first (cond b (Go (At (Asked o k))) Stuck) (on_rested (bare_rested (may_be_bare k) (bare_rest o None k)) (Signed Colon))) Stuck)) h
 unconditional m o k (Signed s ∷ ks) h = worded_bare m o k (Signed s ∷ ks) tt
@@ -457,12 +459,30 @@ colon_same (Signed Colon ∷ ks) h = absurd h
 colon_same (Signed s ∷ ks) h = tt
 colon_same (t ∷ ks) h = tt
 
-pub no_condition : (m : Limits) (o : Sentence) (k : Keyword) (ks : List Token) → HasNoColon ks → run m ks (At (Worded o k)) ≡ run m ks (At (Bare o None k))
+pub no_condition : (m : Limits) (o : Sentence) (k : Verb) (ks : List Token) → HasNoColon ks → run m ks (At (Worded o k)) ≡ run m ks (At (Bare o None k))
 no_condition m o k ks h = worded_bare m o k ks (colon_same ks h)
 
 -- by the keyword that it is
-pub at_keyword : (m : Limits) (o : Sentence) (condition : Option Expr) (k w : Keyword) (ks : List Token) → k ≡ w → run m ks (At (Bare o condition k)) ≡ run m ks (At (Bare o condition w))
-at_keyword m o condition k w ks e = ap (λ (x : Keyword). run m ks (At (Bare o condition x))) e
+pub at_keyword : (m : Limits) (o : Sentence) (condition : Option Expr) (k w : Keyword) (ks : List Token) → k ≡ w → run m ks (At (Bare o condition (Of k))) ≡ run m ks (At (Bare o condition (Of w)))
+at_keyword m o condition k w ks e = ap (λ (x : Keyword). run m ks (At (Bare o condition (Of x)))) e
+
+-- the word of one command is that command
+pub own_meant : (k : Keyword) (ps : List Part) → meant (Of k) ps ≡ k
+own_meant k [] = refl
+own_meant k (p ∷ ps) = refl
+
+-- behind the word of one command
+pub own_reads : {X : Type 0} (limited : Bool) (command : X → Command) (rest : X → List Lexeme) (r : Result X Stop) (m : Limits) (ls : List Lexeme) (o : Sentence) (condition : Option Expr) (v : Verb) (k : Keyword) → v ≡ Of k →
+    ReadsAs limited (λ ps x. IsWritten ps (command x) × (keyword_for (command x) ≡ k)) rest r m ls (At (Bare o condition (Of k))) (λ ps. At (Behind (args_rest o condition (Of k) ps))) →
+    ReadsAs limited (λ ps x. IsMeant v ps (command x)) rest r m ls (At (Bare o condition v)) (λ ps. At (Behind (args_rest o condition v ps)))
+own_reads {X = X} limited command rest r m ls o condition v k e h = subst P (sym e) (by r h)
+  where
+    P : Verb → Type 0
+    P w = ReadsAs limited (λ ps x. IsMeant w ps (command x)) rest r m ls (At (Bare o condition w)) (λ ps. At (Behind (args_rest o condition w ps)))
+
+    by : (r : Result X Stop) → ReadsAs limited (λ ps x. IsWritten ps (command x) × (keyword_for (command x) ≡ k)) rest r m ls (At (Bare o condition (Of k))) (λ ps. At (Behind (args_rest o condition (Of k) ps))) → ReadsAs limited (λ ps x. IsMeant (Of k) ps (command x)) rest r m ls (At (Bare o condition (Of k))) (λ ps. At (Behind (args_rest o condition (Of k) ps)))
+    by (Ok x) h = (h.0, λ l. let i = h.1 l in (i.0, i.1 ∙ sym (own_meant k h.0)), h.2)
+    by (Err x) h = h
 
 -- a command of these parts
 abbrev pub clause_is : Option Expr → Keyword → List Part → Clause
@@ -516,16 +536,16 @@ step_pushed old new x ts t h i j =
 
 -- ---- commands of a line
 
-pub unknown_stuck : (m : Limits) (o : Sentence) (ks rest : List Token) (w : List ℕ) → ks ≡ Word w ∷ rest → keyword_of w ≡ None → run m ks (At (Behind (record { line = o; gap = 0; comment = 0 }))) ≡ refused ks
+pub unknown_stuck : (m : Limits) (o : Sentence) (ks rest : List Token) (w : List ℕ) → ks ≡ Word w ∷ rest → verb_of w ≡ None → run m ks (At (Behind (record { line = o; gap = 0; comment = 0 }))) ≡ refused ks
 unknown_stuck m o ks rest w e h =
     ap (λ (zs : List Token). run m zs (At (Behind (record { line = o; gap = 0; comment = 0 })))) e
-    ∙ ap (λ (q : Option Keyword). turn m rest (Word w) (first (begins o q) Stuck)) h
+    ∙ ap (λ (q : Option Verb). turn m rest (Word w) (first (begins o q) Stuck)) h
     ∙ sym (ap refused e)
 
-pub known_goes : (m : Limits) (o : Sentence) (ks rest : List Token) (w : List ℕ) (k : Keyword) → ks ≡ Word w ∷ rest → keyword_of w ≡ Some k → run m ks (At (Behind (record { line = o; gap = 0; comment = 0 }))) ≡ run m rest (At (Worded o k))
+pub known_goes : (m : Limits) (o : Sentence) (ks rest : List Token) (w : List ℕ) (k : Verb) → ks ≡ Word w ∷ rest → verb_of w ≡ Some k → run m ks (At (Behind (record { line = o; gap = 0; comment = 0 }))) ≡ run m rest (At (Worded o k))
 known_goes m o ks rest w k e h =
     ap (λ (zs : List Token). run m zs (At (Behind (record { line = o; gap = 0; comment = 0 })))) e
-    ∙ ap (λ (q : Option Keyword). turn m rest (Word w) (first (begins o q) Stuck)) h
+    ∙ ap (λ (q : Option Verb). turn m rest (Word w) (first (begins o q) Stuck)) h
 
 -- the line with these commands
 abbrev pub with_steps : Sentence → List Clause → Sentence
@@ -557,6 +577,7 @@ end_stuck m o k ks h i j = refl
 
 plain_keyword : (w : Command) → keyword_for (plain w) ≡ keyword_for w
 plain_keyword (Do list) = refl
+plain_keyword (Job list) = refl
 plain_keyword w = refl
 
 pub bare_written : (x : Command) → command_parts x ≡ [] → plain x ≡ x → IsWritten [] x

@@ -7,3 +7,4 @@ pub mod Ranges
 pub mod Words
 pub mod Front
 pub mod Lists
+pub mod Locks

@@ -2,16 +2,20 @@
 use Rattle.std.proofs.Common.{◌≡◌, ◌∙◌, ◌⊎◌, inl, inr, None, List, [], ◌∷◌, ◌++◌, refl, ap, sym, subst, map, append_assoc, append-nil, Bool, Option, Some}
 use Rattle.mj_ast.specs.declared.sign.Sign.{Sign}
 use Rattle.mj_ast.specs.declared.sign.Sign.TheVariants.{Close, Comma}
-use Rattle.mj_ast.specs.declared.keyword.Keyword.{Keyword}
-use Rattle.mj_ast.specs.Syntax.{Expr, Called}
-use Rattle.mj_ast.specs.Commands.{Part, Put, with_commas, called_parts, plain_called}
+use Rattle.mj_ast.specs.declared.keyword.Keyword.TheVariants as keyword
+use Rattle.mj_ast.specs.declared.keyword.Verb.{Verb}
+use Rattle.mj_ast.specs.declared.keyword.Verb.TheVariants.{HaltOrHang}
+use Rattle.mj_ast.specs.declared.expr.Expr as kept
+use Rattle.mj_ast.specs.Trees.{expr_of}
+use Rattle.mj_ast.specs.Syntax.{Expr}
+use Rattle.mj_ast.specs.Commands.{Part, Put, with_commas, value_parts, meant}
 use Rattle.mj_expr.specs.Machine.{Limits}
 use Rattle.mj_lex.specs.declared.token.Lexeme.{Lexeme}
 use Rattle.mj_lex.specs.Seen.{tokens_seen}
 use Rattle.mj_ast.specs.Tokens.{Token, Signed}
 use Rattle.mj_line.specs.Forms.{Node, labels, takes}
 use Rattle.mj_line.specs.Sentences.{Sentence}
-use Rattle.mj_cmd.specs.Reads.{AreWrittenCalls, IsWrittenCall}
+use Rattle.mj_cmd.specs.Reads.{AreWrittenAs, IsWrittenAs}
 use Rattle.mj_cmd.specs.Heads.{HasNoClose, HasNoComma, HasOther}
 use Rattle.mj_cmd.specs.Lists.{AreItems, IsOver, IsUnclosed, comma_or_close}
 use Rattle.mj_line.specs.Machine.{Args, At, refused, run}
@@ -37,7 +41,7 @@ pub items_more : {X : Type 0} (is : List Part → X → Type 0) (old new : List 
 items_more {X = X} is old new y ps qs e h i = let P : List X → Type 0 = λ xs. AreItems is (ps ++ (Put Comma ∷ qs)) xs in subst P (sym e) (items_snoc is old y ps qs h i)
 
 -- one more behind a comma
-pub more_items : {X : Type 0} (is : List Part → X → Type 0) (limited : Bool) (old new : List X) (y : X) (m : Limits) (ls : List Lexeme) (n : Node) (ms : List Lexeme) (behind : Node) (ns : List Lexeme) (more : Node) (rest : List Lexeme) (o : Sentence) (condition : Option Expr) (k : Keyword) (done : List Part) →
+pub more_items : {X : Type 0} (is : List Part → X → Type 0) (limited : Bool) (old new : List X) (y : X) (m : Limits) (ls : List Lexeme) (n : Node) (ms : List Lexeme) (behind : Node) (ns : List Lexeme) (more : Node) (rest : List Lexeme) (o : Sentence) (condition : Option Expr) (k : Verb) (done : List Part) →
     new ≡ old ++ y ∷ [] → tokens_seen ms ≡ Signed Comma ∷ tokens_seen ns → takes behind (Put Comma) ≡ Some more →
     WentAs limited (λ ps. AreItems is ps old) m ls n ms behind o condition k done → ((d : List Part) → WentAs limited (λ ps. is ps y) m ns more rest behind o condition k d) →
     WentAs limited (λ ps. AreItems is ps new) m ls n rest behind o condition k done
@@ -61,29 +65,34 @@ items_parts f parts (x ∷ y ∷ xs) ps h =
     ∙ ap (λ (zs : List Part). zs ++ Put Comma ∷ h.1) h.3
     ∙ ap (λ (zs : List Part). parts (f x) ++ Put Comma ∷ zs) (items_parts f parts (y ∷ xs) h.1 h.4)
 
--- calls
-pub items_calls : {X : Type 0} (f : X → Called) (xs : List X) (ps : List Part) → AreItems (λ qs x. IsWrittenCall qs (f x)) ps xs → AreWrittenCalls ps (map f xs)
-items_calls f [] ps h = absurd h
-items_calls f (x ∷ []) ps h = (h.0 ∷ [], h.1 ∙ sym (append-nil (called_parts h.0)), ap (λ (c : Called). c ∷ []) h.2)
-items_calls f (x ∷ y ∷ xs) ps h = by (items_calls f (y ∷ xs) h.1 h.4)
+-- `H` with arguments is HANG
+pub hang_meant : (v : Verb) (xs : List kept.Expr) (ps : List Part) → v ≡ HaltOrHang → AreItems (λ qs x. qs ≡ value_parts (expr_of x)) ps xs → keyword.Hang ≡ meant v ps
+hang_meant v [] ps e h = absurd h
+hang_meant v (x ∷ xs) ps e h = ap (meant HaltOrHang) (sym (items_parts expr_of value_parts (x ∷ xs) ps h)) ∙ ap (λ (w : Verb). meant w ps) (sym e)
+
+-- items as they may be written
+pub items_written : {X T : Type 0} (f : X → T) (parts : T → List Part) (plain : T → T) (xs : List X) (ps : List Part) → AreItems (λ qs x. IsWrittenAs parts plain qs (f x)) ps xs → AreWrittenAs parts plain ps (map f xs)
+items_written f parts plain [] ps h = absurd h
+items_written {T = T} f parts plain (x ∷ []) ps h = (h.0 ∷ [], h.1 ∙ sym (append-nil (parts h.0)), ap (λ (c : T). c ∷ []) h.2)
+items_written {T = T} f parts plain (x ∷ y ∷ xs) ps h = by (items_written f parts plain (y ∷ xs) h.1 h.4)
   where
-    some : (w : Called) (ws : List Called) (qs : List Part) → qs ≡ with_commas called_parts ws → (ws ≡ [] → ⊥) → called_parts w ++ Put Comma ∷ qs ≡ with_commas called_parts (w ∷ ws)
+    some : (w : T) (ws : List T) (qs : List Part) → qs ≡ with_commas parts ws → (ws ≡ [] → ⊥) → parts w ++ Put Comma ∷ qs ≡ with_commas parts (w ∷ ws)
     some w [] qs e n = absurd (n refl)
-    some w (v ∷ ws) qs e n = ap (λ (zs : List Part). called_parts w ++ Put Comma ∷ zs) e
+    some w (v ∷ ws) qs e n = ap (λ (zs : List Part). parts w ++ Put Comma ∷ zs) e
 
-    full : (ws : List Called) → map plain_called ws ≡ map f (y ∷ xs) → ws ≡ [] → ⊥
-    full ws e n = let g : [] ≡ f y ∷ map f xs = ap (map plain_called) (sym n) ∙ e in let z : ⊥ = cc in z
+    full : (ws : List T) → map plain ws ≡ map f (y ∷ xs) → ws ≡ [] → ⊥
+    full ws e n = let g : [] ≡ f y ∷ map f xs = ap (map plain) (sym n) ∙ e in let z : ⊥ = cc in z
 
-    by : AreWrittenCalls h.1 (map f (y ∷ xs)) → AreWrittenCalls ps (map f (x ∷ y ∷ xs))
+    by : AreWrittenAs parts plain h.1 (map f (y ∷ xs)) → AreWrittenAs parts plain ps (map f (x ∷ y ∷ xs))
     by w = (
       h.3.0 ∷ w.0,
       h.2 ∙ ap (λ (zs : List Part). zs ++ Put Comma ∷ h.1) h.3.1 ∙ some h.3.0 w.0 h.1 w.1 (full w.0 w.2),
-      ap (λ (c : Called). c ∷ map plain_called w.0) h.3.2 ∙ ap (λ (cs : List Called). f x ∷ cs) w.2,
+      ap (λ (c : T). c ∷ map plain w.0) h.3.2 ∙ ap (λ (cs : List T). f x ∷ cs) w.2,
     )
 
 -- ---- where nothing goes on
 
-pub over_stuck : (m : Limits) (o : Sentence) (condition : Option Expr) (k : Keyword) (done : List Part) (n : Node) (ks : List Token) → IsOver n → HasNoComma ks → HasOther ks → run m ks (At (Args o condition k done n)) ≡ refused ks
+pub over_stuck : (m : Limits) (o : Sentence) (condition : Option Expr) (k : Verb) (done : List Part) (n : Node) (ks : List Token) → IsOver n → HasNoComma ks → HasOther ks → run m ks (At (Args o condition k done n)) ≡ refused ks
 over_stuck m o condition k done n ks v h u = here_stuck m o condition k done n ks v.shut.alone (comma_untaken n ks v.shut.unlabelled v.shut.unnamed v.shut.pieceless v.comma h) (inr u)
 
 neither_sign : (n : Node) (ks : List Token) → comma_or_close n → HasNoComma ks → HasNoClose ks → SignUntaken n ks
@@ -96,5 +105,5 @@ neither_sign n (Signed s ∷ ks) v h i = by s (v s) h i
     by s (inr (inr e)) y z = absurd (let P : Sign → Type 0 = λ x. HasNoClose (Signed x ∷ ks) in subst P e z)
 neither_sign n (t ∷ ks) v h i = tt
 
-pub unclosed_stuck : (m : Limits) (o : Sentence) (condition : Option Expr) (k : Keyword) (done : List Part) (n : Node) (ks : List Token) → IsUnclosed n → HasNoComma ks → HasNoClose ks → run m ks (At (Args o condition k done n)) ≡ refused ks
+pub unclosed_stuck : (m : Limits) (o : Sentence) (condition : Option Expr) (k : Verb) (done : List Part) (n : Node) (ks : List Token) → IsUnclosed n → HasNoComma ks → HasNoClose ks → run m ks (At (Args o condition k done n)) ≡ refused ks
 unclosed_stuck m o condition k done n ks v h i = here_stuck m o condition k done n ks v.shut.alone (untaken_by n ks v.shut.unlabelled v.shut.unnamed v.shut.pieceless (neither_sign n ks v.comma h i)) (inl v.open_yet)

@@ -10,7 +10,7 @@ use Rattle.mj_ast.specs.declared.routine.Mark.TheVariants.{NewLine}
 use Rattle.mj_ast.specs.declared.function.Function.TheVariants.{Piece}
 use Rattle.mj_ast.specs.declared.function.Callee.{Callee}
 use Rattle.mj_ast.specs.declared.function.Callee.TheVariants as callee
-use Rattle.mj_ast.specs.declared.keyword.Keyword.{Keyword}
+use Rattle.mj_ast.specs.declared.keyword.Verb.{Verb}
 use Rattle.mj_ast.specs.Syntax.{Expr, Destination}
 use Rattle.mj_ast.specs.Trees.{expr_of, exprs_of}
 use Rattle.mj_ast.specs.declared.expr.Expr as kept
@@ -233,7 +233,7 @@ piece_closes listed zero h = absurd (omega arith)
 piece_closes listed (suc n) h = close_takes listed (2 - n)
 
 -- the expressions of `$PIECE` so far
-pub went_from : (limited : Bool) (old new : List kept.Expr) (x : kept.Expr) (m : Limits) (ls rest : List Lexeme) (listed : Bool) (o : Sentence) (condition : Option Expr) (k : Keyword) (done : List Part) → old ≡ [] → new ≡ old ++ x ∷ [] →
+pub went_from : (limited : Bool) (old new : List kept.Expr) (x : kept.Expr) (m : Limits) (ls rest : List Lexeme) (listed : Bool) (o : Sentence) (condition : Option Expr) (k : Verb) (done : List Part) → old ≡ [] → new ≡ old ++ x ∷ [] →
     Went limited (Put Comma ∷ Text 1 (expr_of x) ∷ []) m ls (PieceComma listed) rest (PieceBehind listed 2) o condition k done → Went limited (more_parts (exprs_of new)) m ls (PieceComma listed) rest (piece_node listed (length new)) o condition k done
 went_from limited old new x m ls rest listed o condition k done e h w =
     let P : List kept.Expr → Type 0 = λ es. Went limited (more_parts (exprs_of es)) m ls (PieceComma listed) rest (piece_node listed (length es)) o condition k done in
@@ -243,10 +243,10 @@ node_more : (listed : Bool) (n : ℕ) → 1 ≤ n → piece_node listed (n + 1) 
 node_more listed n h = ap (piece_node listed) (let e : n + 1 ≡ suc n = omega arith in e)
 
 -- the place behind as many as were counted
-pub went_count : (limited : Bool) (ps : List Part) (m : Limits) (ls rest : List Lexeme) (listed : Bool) (n i : ℕ) (o : Sentence) (condition : Option Expr) (k : Keyword) (done : List Part) → n ≡ i → Went limited ps m ls (PieceComma listed) rest (piece_node listed i) o condition k done → Went limited ps m ls (PieceComma listed) rest (piece_node listed n) o condition k done
+pub went_count : (limited : Bool) (ps : List Part) (m : Limits) (ls rest : List Lexeme) (listed : Bool) (n i : ℕ) (o : Sentence) (condition : Option Expr) (k : Verb) (done : List Part) → n ≡ i → Went limited ps m ls (PieceComma listed) rest (piece_node listed i) o condition k done → Went limited ps m ls (PieceComma listed) rest (piece_node listed n) o condition k done
 went_count limited ps m ls rest listed n i o condition k done e w = let P : ℕ → Type 0 = λ x. Went limited ps m ls (PieceComma listed) rest (piece_node listed x) o condition k done in subst P (sym e) w
 
-pub went_more : (limited : Bool) (old new : List kept.Expr) (x : kept.Expr) (n : ℕ) (m : Limits) (ls mid rest : List Lexeme) (listed : Bool) (o : Sentence) (condition : Option Expr) (k : Keyword) (done : List Part) → n ≡ length old → new ≡ old ++ x ∷ [] → 1 ≤ length old →
+pub went_more : (limited : Bool) (old new : List kept.Expr) (x : kept.Expr) (n : ℕ) (m : Limits) (ls mid rest : List Lexeme) (listed : Bool) (o : Sentence) (condition : Option Expr) (k : Verb) (done : List Part) → n ≡ length old → new ≡ old ++ x ∷ [] → 1 ≤ length old →
     Went limited (more_parts (exprs_of old)) m ls (PieceComma listed) mid (piece_node listed (length old)) o condition k done →
     ((d : List Part) → Went limited (Put Comma ∷ Text 1 (expr_of x) ∷ []) m mid (piece_node listed n) rest (PieceBehind listed (2 - n)) o condition k d) →
     Went limited (more_parts (exprs_of new)) m ls (PieceComma listed) rest (piece_node listed (length new)) o condition k done
@@ -263,7 +263,7 @@ pub more_length : (old new : List kept.Expr) (x : kept.Expr) (i : ℕ) → i ≡
 more_length old new x i c h l = let n = ap (length {A = kept.Expr}) h in let k = length-append old (x ∷ []) in (omega arith, omega arith)
 
 -- what stands behind the word of `$PIECE` is read with it
-pub piece_reads : {X : Type 0} (limited : Bool) (tree : X → Destination) (rest : X → List Lexeme) (r : Result X Stop) (m : Limits) (ls behind : List Lexeme) (word : List ℕ) (listed : Bool) (o : Sentence) (condition : Option Expr) (k : Keyword) (done : List Part) → tokens_seen ls ≡ Called word ∷ tokens_seen behind → part_of (Called word) ≡ Some PieceCall →
+pub piece_reads : {X : Type 0} (limited : Bool) (tree : X → Destination) (rest : X → List Lexeme) (r : Result X Stop) (m : Limits) (ls behind : List Lexeme) (word : List ℕ) (listed : Bool) (o : Sentence) (condition : Option Expr) (k : Verb) (done : List Part) → tokens_seen ls ≡ Called word ∷ tokens_seen behind → part_of (Called word) ≡ Some PieceCall →
     IfOk r (λ x. destination_parts (tree x) ≡ PieceCall ∷ opened_parts (tree x)) →
     Reads limited (λ x. opened_parts (tree x)) rest r m behind (At (Args o condition k (done ++ PieceCall ∷ []) (PieceOpens listed))) (λ ps. At (Args o condition k ((done ++ PieceCall ∷ []) ++ ps) (SetBehind listed))) →
     Reads limited (λ x. destination_parts (tree x)) rest r m ls (At (Args o condition k done (SetTarget listed))) (λ ps. At (Args o condition k (done ++ ps) (SetBehind listed)))
@@ -278,7 +278,7 @@ piece_reads limited tree rest (Err e) m ls behind word listed o condition k done
     refuses_from limited e _ _ (token_run m o condition k done (SetTarget listed) (PieceOpens listed) (Called word) PieceCall (tokens_seen ls) (tokens_seen behind) l p (piece_takes listed)) h
 
 -- a name
-pub went_name : (limited : Bool) (m : Limits) (ls rest : List Lexeme) (w t : List ℕ) (o : Sentence) (condition : Option Expr) (k : Keyword) (done : List Part) → tokens_seen ls ≡ Word w ∷ tokens_seen rest → length w ≤ 31 → t ≡ w → Went limited (Named t ∷ []) m ls NameWanted rest NameBehind o condition k done
+pub went_name : (limited : Bool) (m : Limits) (ls rest : List Lexeme) (w t : List ℕ) (o : Sentence) (condition : Option Expr) (k : Verb) (done : List Part) → tokens_seen ls ≡ Word w ∷ tokens_seen rest → length w ≤ 31 → t ≡ w → Went limited (Named t ∷ []) m ls NameWanted rest NameBehind o condition k done
 went_name limited m ls rest w t o condition k done l h e =
     went_as limited (Named w ∷ []) (Named t ∷ []) m ls NameWanted rest NameBehind o condition k done (ap (λ (z : List ℕ). Named z ∷ []) (sym e))
     (went_token limited (Word w) (Named w) m ls NameWanted rest NameBehind o condition k done l (ap (λ (b : Bool). cond b (Some (Named w)) None) (let z : nat_le (length w) 31 ≡ true = grind (arith, nat_tests) in z)) refl)
@@ -340,13 +340,13 @@ pub listed_names : (new : Bool) (ks : List Token) → HasNoComma ks → HasNoClo
 listed_names true ks h i = untaken_by KeptBehind ks refl (λ w. refl) refl (kept_sign ks h i)
 listed_names false ks h i = names_untaken ks h i
 
-pub went_listed : (new : Bool) (limited : Bool) (m : Limits) (ls rest : List Lexeme) (w t : List ℕ) (o : Sentence) (condition : Option Expr) (k : Keyword) (done : List Part) → tokens_seen ls ≡ Word w ∷ tokens_seen rest → length w ≤ 31 → t ≡ w → Went limited (Named t ∷ []) m ls (name_wanted new) rest (name_behind new) o condition k done
+pub went_listed : (new : Bool) (limited : Bool) (m : Limits) (ls rest : List Lexeme) (w t : List ℕ) (o : Sentence) (condition : Option Expr) (k : Verb) (done : List Part) → tokens_seen ls ≡ Word w ∷ tokens_seen rest → length w ≤ 31 → t ≡ w → Went limited (Named t ∷ []) m ls (name_wanted new) rest (name_behind new) o condition k done
 went_listed true limited m ls rest w t o condition k done l h e = went_word limited m KeptWanted KeptBehind ls rest w t o condition k done refl refl l h e
 went_listed false limited m ls rest w t o condition k done l h e = went_name limited m ls rest w t o condition k done l h e
 
 -- ---- format marks
 
-marks_go : (m : Limits) (o : Sentence) (condition : Option Expr) (k : Keyword) (done : List Part) (n : ℕ) (ks : List Token) → run m (replicate n (Signed Exclamation) ++ ks) (At (Args o condition k done MarksEnd)) ≡ run m ks (At (Args o condition k (done ++ map mark_part (replicate n NewLine)) MarksEnd))
+marks_go : (m : Limits) (o : Sentence) (condition : Option Expr) (k : Verb) (done : List Part) (n : ℕ) (ks : List Token) → run m (replicate n (Signed Exclamation) ++ ks) (At (Args o condition k done MarksEnd)) ≡ run m ks (At (Args o condition k (done ++ map mark_part (replicate n NewLine)) MarksEnd))
 marks_go m o condition k done zero ks = ap (λ (ps : List Part). run m ks (At (Args o condition k ps MarksEnd))) (sym (append-nil done))
 marks_go m o condition k done (suc n) ks =
     marks_go m o condition k (done ++ Put Exclamation ∷ []) n ks
@@ -357,7 +357,7 @@ all_marks : (xs : List Mark) → xs ≡ replicate (length xs) NewLine
 all_marks [] = refl
 all_marks (NewLine ∷ xs) = ap (λ (ys : List Mark). NewLine ∷ ys) (all_marks xs)
 
-pub marks_all : (m : Limits) (o : Sentence) (condition : Option Expr) (k : Keyword) (done : List Part) (n : ℕ) (xs : List Mark) (ks rest : List Token) → 0 < n → length xs ≡ n → ks ≡ replicate n (Signed Exclamation) ++ rest → run m ks (At (Args o condition k done OutputWanted)) ≡ run m rest (At (Args o condition k (done ++ map mark_part xs) MarksEnd))
+pub marks_all : (m : Limits) (o : Sentence) (condition : Option Expr) (k : Verb) (done : List Part) (n : ℕ) (xs : List Mark) (ks rest : List Token) → 0 < n → length xs ≡ n → ks ≡ replicate n (Signed Exclamation) ++ rest → run m ks (At (Args o condition k done OutputWanted)) ≡ run m rest (At (Args o condition k (done ++ map mark_part xs) MarksEnd))
 marks_all m o condition k done zero xs ks rest h l e = absurd (omega arith)
 marks_all m o condition k done (suc n) xs ks rest h l e =
     ap (λ (zs : List Token). run m zs (At (Args o condition k done OutputWanted))) e

@@ -1,7 +1,7 @@
 -- What the functions that read the argument of FOR follow.
 use Rattle.std.proofs.Common.{◌≡◌, ◌∙◌, List, [], ◌∷◌, length, refl, ap, Bool, true, false, Option, Some, nat_le, inl, inr}
 use Rattle.mj_ast.specs.declared.sign.Sign.TheVariants.{Equals, Colon}
-use Rattle.mj_ast.specs.declared.keyword.Keyword.{Keyword}
+use Rattle.mj_ast.specs.declared.keyword.Verb.{Verb}
 use Rattle.mj_ast.specs.Syntax.{Expr, Variable}
 use Rattle.mj_ast.specs.Tokens.{Token, Word, Called, Signed}
 use Rattle.mj_ast.specs.Expressions.{callee_of}
@@ -44,14 +44,14 @@ limit_untaken ks = untaken_by LimitWanted ks refl (λ w. refl) refl (no_sign Lim
 
 -- ---- the local
 
-pub went_local : (limited : Bool) (v : Variable) (m : Limits) (ls rest : List Lexeme) (o : Sentence) (condition : Option Expr) (k : Keyword) (done : List Part) → HasNoCaret (tokens_seen ls) → HasOther (tokens_seen ls) →
+pub went_local : (limited : Bool) (v : Variable) (m : Limits) (ls rest : List Lexeme) (o : Sentence) (condition : Option Expr) (k : Verb) (done : List Part) → HasNoCaret (tokens_seen ls) → HasOther (tokens_seen ls) →
     (t : Variable) × (limited ≡ true → t ≡ v) × (run m (tokens_seen ls) (In (Argument o condition k done (ALocal ForBehind)) variable_wanted) ≡ run m (tokens_seen rest) (At (behind (Argument o condition k done (ALocal ForBehind)) (phrase.Target t)))) → Went limited (Control v ∷ []) m ls ForWanted rest ForBehind o condition k done
 went_local limited v m ls rest o condition k done c u h = (Control h.0 ∷ [], λ l. ap (λ (x : Variable). Control x ∷ []) (h.1 l), enter_here m o condition k done ForWanted (ALocal ForBehind) (tokens_seen ls) c refl (for_untaken (tokens_seen ls)) (inr u) ∙ h.2)
 
 -- ---- ranges
 
 -- an expression behind a colon
-pub went_colon_text : (limited : Bool) (e : Expr) (m : Limits) (ls : List Lexeme) (n : Node) (ms : List Lexeme) (w : Node) (rest : List Lexeme) (next : Node) (o : Sentence) (condition : Option Expr) (k : Keyword) (done : List Part) →
+pub went_colon_text : (limited : Bool) (e : Expr) (m : Limits) (ls : List Lexeme) (n : Node) (ms : List Lexeme) (w : Node) (rest : List Lexeme) (next : Node) (o : Sentence) (condition : Option Expr) (k : Verb) (done : List Part) →
     tokens_seen ls ≡ Signed Colon ∷ tokens_seen ms → takes n (Put Colon) ≡ Some w → wants w ≡ Some (AnExpr 0 next) → Untaken w (tokens_seen ms) → ends w ≡ false →
     ((d : List Part) → (t : Expr) × (limited ≡ true → t ≡ e) × (run m (tokens_seen ms) (In (Argument o condition k d (AnExpr 0 next)) expression_wanted) ≡ run m (tokens_seen rest) (At (behind (Argument o condition k d (AnExpr 0 next)) (phrase.Whole t))))) →
     Went limited (Put Colon ∷ Text 0 e ∷ []) m ls n rest next o condition k done
@@ -59,7 +59,7 @@ went_colon_text limited e m ls n ms w rest next o condition k done l h i u z f =
     went_then limited (Put Colon ∷ []) (Text 0 e ∷ []) m ls n ms w rest next o condition k done (went_token limited (Signed Colon) (Put Colon) m ls n ms w o condition k done l (sign_at (labels n) Colon) h)
     (λ d. went_text limited 0 e m ms w rest next o condition k d i u (inl z) (f d))
 
-pub fails_colon_text : (limited : Bool) (e : Stop) (m : Limits) (ls : List Lexeme) (n : Node) (ms : List Lexeme) (w next : Node) (o : Sentence) (condition : Option Expr) (k : Keyword) (done : List Part) →
+pub fails_colon_text : (limited : Bool) (e : Stop) (m : Limits) (ls : List Lexeme) (n : Node) (ms : List Lexeme) (w next : Node) (o : Sentence) (condition : Option Expr) (k : Verb) (done : List Part) →
     tokens_seen ls ≡ Signed Colon ∷ tokens_seen ms → takes n (Put Colon) ≡ Some w → wants w ≡ Some (AnExpr 0 next) → Untaken w (tokens_seen ms) → ends w ≡ false →
     ((d : List Part) → Refuses limited e (run m (tokens_seen ms) (In (Argument o condition k d (AnExpr 0 next)) expression_wanted))) →
     Refuses limited e (run m (tokens_seen ls) (At (Args o condition k done n)))
@@ -84,8 +84,8 @@ step_same m (Signed Colon ∷ ks) h o condition k done = absurd h
 step_same m (Signed s ∷ ks) h o condition k done = refl
 step_same m (t ∷ ks) h o condition k done = refl
 
-pub went_unstepped : (limited : Bool) (m : Limits) (ls : List Lexeme) (o : Sentence) (condition : Option Expr) (k : Keyword) (done : List Part) → HasNoColon (tokens_seen ls) → Went limited [] m ls RangeEnd ls LimitEnd o condition k done
+pub went_unstepped : (limited : Bool) (m : Limits) (ls : List Lexeme) (o : Sentence) (condition : Option Expr) (k : Verb) (done : List Part) → HasNoColon (tokens_seen ls) → Went limited [] m ls RangeEnd ls LimitEnd o condition k done
 went_unstepped limited m ls o condition k done h = went_same limited m RangeEnd LimitEnd ls o condition k done (range_same m (tokens_seen ls) h)
 
-pub went_unlimited : (limited : Bool) (m : Limits) (ls : List Lexeme) (o : Sentence) (condition : Option Expr) (k : Keyword) (done : List Part) → HasNoColon (tokens_seen ls) → Went limited [] m ls StepEnd ls LimitEnd o condition k done
+pub went_unlimited : (limited : Bool) (m : Limits) (ls : List Lexeme) (o : Sentence) (condition : Option Expr) (k : Verb) (done : List Part) → HasNoColon (tokens_seen ls) → Went limited [] m ls StepEnd ls LimitEnd o condition k done
 went_unlimited limited m ls o condition k done h = went_same limited m StepEnd LimitEnd ls o condition k done (step_same m (tokens_seen ls) h)

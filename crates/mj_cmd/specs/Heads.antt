@@ -1,11 +1,12 @@
 -- What stands in front of the tokens.
 use Rattle.std.specs.Prelude.{ℕ, ◌≡◌, ◌⊎◌, ◌≤◌, List, [], ◌∷◌, length, Option, Some, None}
-use Rattle.mj_ast.specs.Expressions.{name_limit, text_limit}
+use Rattle.mj_text.specs.declared.text.TheConstants.{TEXT_LIMIT}
+use Rattle.mj_ast.specs.Expressions.{name_limit}
 use Rattle.mj_ast.specs.Commands.{PieceCall}
 use Rattle.mj_line.specs.Forms.{part_of}
 use Rattle.mj_line.specs.Sentences.{Sentence}
 use Rattle.mj_line.specs.Machine.{Spot, Begin, Labelled, FormalsEnd, empty_line, headed}
-use Rattle.mj_ast.specs.declared.sign.Sign.TheVariants.{Equals, Comma, Colon, Exclamation, Caret, Open, Close, Dot}
+use Rattle.mj_ast.specs.declared.sign.Sign.TheVariants.{Plus, Minus, Equals, Comma, Colon, Exclamation, Caret, Open, Close, Dot}
 use Rattle.mj_ast.specs.Tokens.{Token, Word, Digits, Signed, Blank, Comment}
 
 -- such a token doesn't
@@ -20,6 +21,14 @@ HasNoEquals ks = Unit {0}
 abbrev pub HasNoColon : List Token → Type 0
 HasNoColon (Signed Colon ∷ ks) = ⊥
 HasNoColon ks = Unit {0}
+
+abbrev pub HasNoPlus : List Token → Type 0
+HasNoPlus (Signed Plus ∷ ks) = ⊥
+HasNoPlus ks = Unit {0}
+
+abbrev pub HasNoMinus : List Token → Type 0
+HasNoMinus (Signed Minus ∷ ks) = ⊥
+HasNoMinus ks = Unit {0}
 
 abbrev pub HasNoOpen : List Token → Type 0
 HasNoOpen (Signed Open ∷ ks) = ⊥
@@ -41,13 +50,13 @@ HasNoCaret ks = Unit {0}
 -- a name, or digits that are no longer than a text
 abbrev pub HasNoLabel : List Token → Type 0
 HasNoLabel (Word w ∷ ks) = length w ≤ name_limit → ⊥
-HasNoLabel (Digits d ∷ ks) = length d ≤ text_limit → ⊥
+HasNoLabel (Digits d ∷ ks) = length d ≤ TEXT_LIMIT → ⊥
 HasNoLabel ks = Unit {0}
 
 -- such a label stands in front of the rest
 abbrev pub StartsLabel : List Token → List ℕ → List Token → Type 0
 StartsLabel (Word w ∷ ks) l rest = (l ≡ w) × (ks ≡ rest) × (length w ≤ name_limit)
-StartsLabel (Digits d ∷ ks) l rest = (l ≡ d) × (ks ≡ rest) × (length d ≤ text_limit)
+StartsLabel (Digits d ∷ ks) l rest = (l ≡ d) × (ks ≡ rest) × (length d ≤ TEXT_LIMIT)
 StartsLabel ks l rest = ⊥
 
 -- a word of a length that a name may have
@@ -87,7 +96,7 @@ HasOther ks = Unit {0}
 
 -- digits in front are no longer than a text
 abbrev pub IsLabelShort : List Token → Type 0
-IsLabelShort (Digits d ∷ ks) = length d ≤ text_limit
+IsLabelShort (Digits d ∷ ks) = length d ≤ TEXT_LIMIT
 IsLabelShort ks = Unit {0}
 
 -- no label stands in front

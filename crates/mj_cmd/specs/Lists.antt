@@ -4,7 +4,7 @@ use Rattle.std.proofs.Common.{inl, inr}
 use Rattle.mj_ast.specs.declared.sign.Sign.{Sign}
 use Rattle.mj_ast.specs.declared.sign.Sign.TheVariants.{Close, Comma}
 use Rattle.mj_ast.specs.Commands.{Part, Put, Named, PieceCall}
-use Rattle.mj_line.specs.Forms.{Mode, Node, SetBehind, SetEnd, OutputEnd, KillEnd, MergeEnd, IfEnd, LimitEnd, NewEnd, GuardEnd, ActualEnd, labels, takes, wants, ends}
+use Rattle.mj_line.specs.Forms.{Mode, Node, SetBehind, SetEnd, OutputEnd, KillEnd, MergeEnd, ValueEnd, LimitEnd, NewEnd, GuardEnd, ActualEnd, LockEnd, LockBehind, labels, takes, wants, ends}
 
 -- Items with commas between them, the parts of each such.
 abbrev pub AreItems : {X : Type 0} → (List Part → X → Type 0) → List Part → List X → Type 0
@@ -56,9 +56,9 @@ merge_comma : comma_or MergeEnd
 merge_comma Comma = inr refl
 merge_comma s = inl refl
 
-if_comma : comma_or IfEnd
-if_comma Comma = inr refl
-if_comma s = inl refl
+value_comma : comma_or ValueEnd
+value_comma Comma = inr refl
+value_comma s = inl refl
 
 range_comma : comma_or LimitEnd
 range_comma Comma = inr refl
@@ -77,10 +77,19 @@ target_comma Comma = inr (inl refl)
 target_comma Close = inr (inr refl)
 target_comma s = inl refl
 
-actual_comma : comma_or_close ActualEnd
-actual_comma Comma = inr (inl refl)
-actual_comma Close = inr (inr refl)
-actual_comma s = inl refl
+actual_comma : (mode : Mode) → comma_or_close (ActualEnd mode)
+actual_comma mode Comma = inr (inl refl)
+actual_comma mode Close = inr (inr refl)
+actual_comma mode s = inl refl
+
+lock_comma : comma_or LockEnd
+lock_comma Comma = inr refl
+lock_comma s = inl refl
+
+locked_comma : comma_or_close LockBehind
+locked_comma Comma = inr (inl refl)
+locked_comma Close = inr (inr refl)
+locked_comma s = inl refl
 
 pub set_over : IsOver SetEnd
 set_over = record { shut = record { unlabelled = refl; unnamed = λ w. refl; pieceless = refl; alone = refl }; comma = set_comma }
@@ -94,8 +103,8 @@ kill_over = record { shut = record { unlabelled = refl; unnamed = λ w. refl; pi
 pub merge_over : IsOver MergeEnd
 merge_over = record { shut = record { unlabelled = refl; unnamed = λ w. refl; pieceless = refl; alone = refl }; comma = merge_comma }
 
-pub if_over : IsOver IfEnd
-if_over = record { shut = record { unlabelled = refl; unnamed = λ w. refl; pieceless = refl; alone = refl }; comma = if_comma }
+pub value_over : IsOver ValueEnd
+value_over = record { shut = record { unlabelled = refl; unnamed = λ w. refl; pieceless = refl; alone = refl }; comma = value_comma }
 
 pub range_over : IsOver LimitEnd
 range_over = record { shut = record { unlabelled = refl; unnamed = λ w. refl; pieceless = refl; alone = refl }; comma = range_comma }
@@ -109,5 +118,11 @@ guard_over mode = record { shut = record { unlabelled = refl; unnamed = λ w. re
 pub targets_unclosed : IsUnclosed (SetBehind true)
 targets_unclosed = record { shut = record { unlabelled = refl; unnamed = λ w. refl; pieceless = refl; alone = refl }; comma = target_comma; open_yet = refl }
 
-pub actuals_unclosed : IsUnclosed ActualEnd
-actuals_unclosed = record { shut = record { unlabelled = refl; unnamed = λ w. refl; pieceless = refl; alone = refl }; comma = actual_comma; open_yet = refl }
+pub actuals_unclosed : (mode : Mode) → IsUnclosed (ActualEnd mode)
+actuals_unclosed mode = record { shut = record { unlabelled = refl; unnamed = λ w. refl; pieceless = refl; alone = refl }; comma = actual_comma mode; open_yet = refl }
+
+pub lock_over : IsOver LockEnd
+lock_over = record { shut = record { unlabelled = refl; unnamed = λ w. refl; pieceless = refl; alone = refl }; comma = lock_comma }
+
+pub locks_unclosed : IsUnclosed LockBehind
+locks_unclosed = record { shut = record { unlabelled = refl; unnamed = λ w. refl; pieceless = refl; alone = refl }; comma = locked_comma; open_yet = refl }

@@ -1,11 +1,13 @@
--- What stands inside the arguments of SET.
+-- What stands inside arguments.
 use Rattle.std.specs.Prelude.{◌≡◌, ◌⊎◌, ℕ, zero, suc, ◌-◌, Bool, true, false, List, [], ◌∷◌, ◌++◌}
-use Rattle.mj_ast.specs.declared.sign.Sign.TheVariants.{Open, Close}
+use Rattle.mj_ast.specs.declared.sign.Sign.TheVariants.{Plus, Minus, Open, Close}
 use Rattle.mj_ast.specs.Syntax.{Destination, Plain, Pieces}
-use Rattle.mj_ast.specs.Tokens.{Token}
+use Rattle.mj_ast.specs.Tokens.{Token, Signed}
+use Rattle.mj_ast.specs.declared.routine.LockMode.{LockMode}
+use Rattle.mj_ast.specs.declared.routine.LockMode.TheVariants.{Whole, Plus as Added, Minus as Taken}
 use Rattle.mj_ast.specs.Commands.{Part, Put, Place, more_parts}
-use Rattle.mj_line.specs.Forms.{Mode, Calls, Jumps, Node, PieceComma, PieceBehind, NameWanted, NameBehind, KillEnd, KeptWanted, KeptBehind, NewEnd, RoutineEnd, ActualsEnd}
-use Rattle.mj_cmd.specs.Heads.{HasNoOpen}
+use Rattle.mj_line.specs.Forms.{Mode, Jumps, Node, PieceComma, PieceBehind, NameWanted, NameBehind, KillEnd, KeptWanted, KeptBehind, NewEnd, RoutineEnd, ActualEnd, ActualsEnd, LockWanted, LockSigned}
+use Rattle.mj_cmd.specs.Heads.{HasNoOpen, HasNoPlus, HasNoMinus, HasOther}
 
 -- what stands behind the word of `$PIECE`
 abbrev pub opened_parts : Destination → List Part
@@ -30,9 +32,29 @@ abbrev pub name_end : Bool → Node
 name_end true = NewEnd
 name_end false = KillEnd
 
--- where the condition of an argument may stand: behind an entry, with no actuals there, or behind actuals
+-- where the condition of an argument, or its timeout, may stand: behind an entry, with no actuals there, or behind actuals
 abbrev pub MayBeGuarded : Mode → Node → List Token → Type 0
-MayBeGuarded mode n ks = ((n ≡ RoutineEnd mode) × ((mode ≡ Jumps) ⊎ HasNoOpen ks)) ⊎ ((n ≡ ActualsEnd) × (mode ≡ Calls))
+MayBeGuarded mode n ks = ((n ≡ RoutineEnd mode) × ((mode ≡ Jumps) ⊎ HasNoOpen ks)) ⊎ (n ≡ ActualsEnd mode)
+
+-- behind actuals, by the place behind the last
+abbrev pub actuals_closed : Node → Node
+actuals_closed (ActualEnd mode) = ActualsEnd mode
+actuals_closed n = n
+
+-- what an argument of LOCK does, as it is spelled, and the place behind that
+abbrev pub mode_tokens : LockMode → List Token
+mode_tokens Whole = []
+mode_tokens Added = Signed Plus ∷ []
+mode_tokens Taken = Signed Minus ∷ []
+
+abbrev pub lock_node : LockMode → Bool → Node
+lock_node Whole first = LockWanted first
+lock_node mode first = LockSigned
+
+-- there the names may stand: behind a sign, or where none is and the argument is one
+abbrev pub MayBeNamed : LockMode → Bool → List Token → Type 0
+MayBeNamed Whole first ks = HasNoPlus ks × HasNoMinus ks × ((first ≡ false) ⊎ HasOther ks)
+MayBeNamed mode first ks = Unit {0}
 
 -- inside a list no other list begins
 abbrev pub NotListed : Bool → List Token → Type 0

@@ -1,9 +1,9 @@
 -- What a function that reads a part of a line returns.
 use Rattle.std.specs.Prelude.{◌≡◌, ◌≤◌, ◌+◌, Bool, true, false, List, ◌++◌, length, Option, map, Result, Ok, Err}
 use Rattle.mj_ast.specs.Expressions.{depth_limit, width_limit}
-use Rattle.mj_ast.specs.declared.keyword.Keyword.{Keyword}
-use Rattle.mj_ast.specs.Syntax.{Expr, Called, Command, Step, Line}
-use Rattle.mj_ast.specs.Commands.{Part, actuals_parts, called_parts, command_parts, with_commas, plain, plain_actuals, plain_called, plain_step}
+use Rattle.mj_ast.specs.declared.keyword.Verb.{Verb}
+use Rattle.mj_ast.specs.Syntax.{Expr, Called, Started, Command, Step, Line}
+use Rattle.mj_ast.specs.Commands.{Part, actuals_parts, called_parts, started_parts, command_parts, keyword_for, meant, with_commas, plain, plain_actuals, plain_called, plain_started, plain_step}
 use Rattle.mj_ast.specs.Lines.{plain_line}
 use Rattle.mj_lex.specs.declared.token.Lexeme.{Lexeme}
 use Rattle.mj_lex.specs.Seen.{tokens_seen}
@@ -58,14 +58,24 @@ EndsAs {T = T} limited is (Err e) m ls s made = Refuses limited e (run m (tokens
 abbrev pub AreWrittenActuals : List Part → List (Option Expr) → Type 0
 AreWrittenActuals ps list = (ws : List (Option Expr)) × (ps ≡ actuals_parts ws) × (plain_actuals ws ≡ list)
 
-abbrev pub IsWrittenCall : List Part → Called → Type 0
-IsWrittenCall ps c = (w : Called) × (ps ≡ called_parts w) × (plain_called w ≡ c)
+abbrev pub IsWrittenAs : {X : Type 0} → (X → List Part) → (X → X) → List Part → X → Type 0
+IsWrittenAs {X = X} parts plain ps x = (w : X) × (ps ≡ parts w) × (plain w ≡ x)
 
-abbrev pub AreWrittenCalls : List Part → List Called → Type 0
-AreWrittenCalls ps cs = (ws : List Called) × (ps ≡ with_commas called_parts ws) × (map plain_called ws ≡ cs)
+abbrev pub AreWrittenAs : {X : Type 0} → (X → List Part) → (X → X) → List Part → List X → Type 0
+AreWrittenAs {X = X} parts plain ps xs = (ws : List X) × (ps ≡ with_commas parts ws) × (map plain ws ≡ xs)
+
+abbrev pub IsWrittenCall : List Part → Called → Type 0
+IsWrittenCall ps c = IsWrittenAs called_parts plain_called ps c
+
+abbrev pub IsWrittenStart : List Part → Started → Type 0
+IsWrittenStart ps s = IsWrittenAs started_parts plain_started ps s
 
 abbrev pub IsWritten : List Part → Command → Type 0
 IsWritten ps c = (w : Command) × (ps ≡ command_parts w) × (plain w ≡ c)
+
+-- and the command is the one that the word is before these parts
+abbrev pub IsMeant : Verb → List Part → Command → Type 0
+IsMeant v ps c = IsWritten ps c × (keyword_for c ≡ meant v ps)
 
 abbrev pub IsWrittenStep : Clause → Step → Type 0
 IsWrittenStep c s = (w : Step) × (c ≡ clause_of w) × (plain_step w ≡ s)
@@ -79,11 +89,11 @@ IsWrittenLine s l = (w : Line) × (s ≡ sentence_of w) × (plain_line w ≡ l)
 -- The parts of arguments are read on from a place to another.
 abbrev pub Passes : {X : Type 0} → Bool → (X → List Part) → (X → List Lexeme) → Result X Stop → Limits → List Lexeme → Node → Node → Type 0
 Passes limited parts rest r m ls n next =
-    (o : Sentence) → (condition : Option Expr) → (k : Keyword) → (done : List Part) →
+    (o : Sentence) → (condition : Option Expr) → (k : Verb) → (done : List Part) →
     Reads limited parts rest r m ls (At (Args o condition k done n)) (λ ps. At (Args o condition k (done ++ ps) next))
 
 -- The same, where what was read stands so to what is given.
 abbrev pub PassesAs : {X : Type 0} → Bool → (List Part → X → Type 0) → (X → List Lexeme) → Result X Stop → Limits → List Lexeme → Node → Node → Type 0
 PassesAs limited is rest r m ls n next =
-    (o : Sentence) → (condition : Option Expr) → (k : Keyword) → (done : List Part) →
+    (o : Sentence) → (condition : Option Expr) → (k : Verb) → (done : List Part) →
     ReadsAs limited is rest r m ls (At (Args o condition k done n)) (λ ps. At (Args o condition k (done ++ ps) next))

@@ -4,41 +4,45 @@ ghost use Rattle.std.specs.Prelude.{◌≡◌, ◌∷◌, ◌≤◌, Option, IfO
 ghost use Rattle.mj_ast.specs.Tokens.{Blank};
 ghost use Rattle.mj_line.specs.Forms.{may_be_bare as the_bare};
 ghost use Rattle.mj_ast.specs.Syntax as tree;
-ghost use Rattle.mj_ast.specs.Commands.{command_parts, keyword_for, plain, is_conditional as the_conditional};
+ghost use Rattle.mj_ast.specs.declared.keyword.Verb.TheVariants.{Of};
+ghost use Rattle.mj_ast.specs.Commands.{bare_of, command_parts, keyword_for, plain, is_conditional as the_conditional};
 ghost use Rattle.mj_ast.specs.Trees.{expr_of, command_of, step_of};
 ghost use Rattle.mj_expr.specs.Machine.{Limits};
 ghost use Rattle.mj_lex.specs.Seen.{tokens_seen};
 ghost use Rattle.mj_line.specs.Sentences.{Sentence};
 ghost use Rattle.mj_line.specs.Machine.{At, Bare, Worded, Behind, args_rest, with_clause};
 ghost use Rattle.mj_cmd.specs.Heads.{HasOther, HasParted};
-ghost use Rattle.mj_cmd.specs.Reads.{HasRoom, IsWritten, IsWrittenStep, Reads, ReadsAs};
+ghost use Rattle.mj_cmd.specs.Reads.{HasRoom, IsMeant, IsWritten, IsWrittenStep, Reads, ReadsAs};
 
 use crate::list::arguments;
 use crate::parts::{behind_blank, behind_colon, parted, stuck};
 use crate::phrase::Phrases;
 use crate::repeat::repeated;
-use mj_ast::{Command, Expr, Keyword, Step};
+use mj_ast::{Command, Expr, Keyword, Step, Verb};
 use mj_expr::Stop;
 use mj_lex::Lexeme;
 use std::alloc::Global;
 
-/// Whether a postcondition may stand behind the word of the command.
-fn is_conditional(keyword: Keyword) -> bool
-    ensures { result ≡ the_conditional keyword }
+/// Whether a postcondition may stand behind the word.
+fn is_conditional(verb: Verb) -> bool
+    ensures { result ≡ the_conditional (bare_of verb) }
 {
-    !matches!(keyword, Keyword::If | Keyword::Else | Keyword::For)
+    match verb {
+        Verb::Of(keyword) => !matches!(keyword, Keyword::If | Keyword::Else | Keyword::For),
+        Verb::HaltOrHang => true,
+    }
 }
 
 /// A postcondition, if there is one.
 fn condition<'a, 't>(
     phrases: Phrases,
-    keyword: Keyword,
+    verb: Verb,
     tokens: &'t [Lexeme<'a>],
 ) -> Result<(Option<Expr>, &'t [Lexeme<'a>]), Stop>
     ensures shorter { IfOk result (λ x. length x.1.now ≤ length tokens.now) }
-    ensures reads { (m : Limits) → HasRoom phrases.limited m tokens.now → (o : Sentence) → Reads phrases.limited (λ x. option_map expr_of x.0) (λ x. x.1.now) result m tokens.now (At (Worded o keyword)) (λ c. At (Bare o c keyword)) }
+    ensures reads { (m : Limits) → HasRoom phrases.limited m tokens.now → (o : Sentence) → Reads phrases.limited (λ x. option_map expr_of x.0) (λ x. x.1.now) result m tokens.now (At (Worded o verb)) (λ c. At (Bare o c verb)) }
 {
-    if !is_conditional(keyword) {
+    if !is_conditional(verb) {
         return Ok((None, tokens));
     }
     match behind_colon(tokens) {
@@ -50,14 +54,32 @@ fn condition<'a, 't>(
     }
 }
 
-/// Whether the command may have no arguments.
-fn may_be_bare(keyword: Keyword) -> bool
-    ensures { result ≡ the_bare keyword }
+/// Whether the word may have no arguments.
+fn may_be_bare(verb: Verb) -> bool
+    ensures { result ≡ the_bare verb }
 {
-    !matches!(
-        keyword,
-        Keyword::Set | Keyword::Write | Keyword::Merge | Keyword::Goto
-    )
+    match verb {
+        Verb::Of(keyword) => !matches!(
+            keyword,
+            Keyword::Set
+                | Keyword::Write
+                | Keyword::Hang
+                | Keyword::Job
+                | Keyword::Merge
+                | Keyword::Goto
+        ),
+        Verb::HaltOrHang => true,
+    }
+}
+
+/// The command that the word is without arguments.
+fn bare_keyword(verb: Verb) -> Keyword
+    ensures { result ≡ bare_of verb }
+{
+    match verb {
+        Verb::Of(keyword) => keyword,
+        Verb::HaltOrHang => Keyword::Halt,
+    }
 }
 
 /// The command without arguments.
@@ -70,6 +92,9 @@ fn bare(alloc: Global, keyword: Keyword) -> Command
         Keyword::Set => Command::Set(Vec::new(alloc)),
         Keyword::Write => Command::Write(Vec::new(alloc)),
         Keyword::Halt => Command::Halt,
+        Keyword::Hang => Command::Hang(Vec::new(alloc)),
+        Keyword::Job => Command::Job(Vec::new(alloc)),
+        Keyword::Lock => Command::Lock(Vec::new(alloc)),
         Keyword::Kill => Command::Kill(Vec::new(alloc)),
         Keyword::Merge => Command::Merge(Vec::new(alloc)),
         Keyword::If => Command::If(Vec::new(alloc)),
@@ -83,7 +108,7 @@ fn bare(alloc: Global, keyword: Keyword) -> Command
 }
 
 /// The command with its arguments, which stand behind a blank: `tokens` are those from the blank on, `behind` those behind it.
-fn with_arguments<'a, 't>(
+fn with_own<'a, 't>(
     phrases: Phrases,
     keyword: Keyword,
     tokens: &'t [Lexeme<'a>],
@@ -91,11 +116,10 @@ fn with_arguments<'a, 't>(
 ) -> Result<(Command, &'t [Lexeme<'a>]), Stop>
     requires blank { tokens_seen tokens.now ≡ Blank ∷ tokens_seen behind.now }
     requires room { length behind.now ≤ length tokens.now }
-    requires other { the_bare keyword ≡ true → HasOther (tokens_seen behind.now) }
+    requires other { the_bare (Of keyword) ≡ true → HasOther (tokens_seen behind.now) }
     ensures shorter { IfOk result (λ x. length x.1.now ≤ length behind.now) }
     ensures parted { IfOk result (λ x. HasParted (tokens_seen x.1.now)) }
-    ensures named { IfOk result (λ x. keyword_for (command_of x.0) ≡ keyword) }
-    ensures reads { (m : Limits) → HasRoom phrases.limited m tokens.now → (o : Sentence) → (condition : Option tree.Expr) → ReadsAs phrases.limited (λ ps x. IsWritten ps (command_of x.0)) (λ x. x.1.now) result m tokens.now (At (Bare o condition keyword)) (λ ps. At (Behind (args_rest o condition keyword ps))) }
+    ensures reads { (m : Limits) → HasRoom phrases.limited m tokens.now → (o : Sentence) → (condition : Option tree.Expr) → ReadsAs phrases.limited (λ ps x. IsWritten ps (command_of x.0) × (keyword_for (command_of x.0) ≡ keyword)) (λ x. x.1.now) result m tokens.now (At (Bare o condition (Of keyword))) (λ ps. At (Behind (args_rest o condition (Of keyword) ps))) }
 {
     match keyword {
         Keyword::Set => {
@@ -105,6 +129,18 @@ fn with_arguments<'a, 't>(
         Keyword::Write => {
             let (arguments, rest) = arguments(phrases, behind)?;
             Ok((Command::Write(arguments), rest))
+        }
+        Keyword::Hang => {
+            let (arguments, rest) = arguments(phrases, behind)?;
+            Ok((Command::Hang(arguments), rest))
+        }
+        Keyword::Job => {
+            let (arguments, rest) = arguments(phrases, behind)?;
+            Ok((Command::Job(arguments), rest))
+        }
+        Keyword::Lock => {
+            let (arguments, rest) = arguments(phrases, behind)?;
+            Ok((Command::Lock(arguments), rest))
         }
         Keyword::Kill => {
             let (arguments, rest) = arguments(phrases, behind)?;
@@ -140,34 +176,56 @@ fn with_arguments<'a, 't>(
     }
 }
 
+/// The same behind a word.
+fn with_arguments<'a, 't>(
+    phrases: Phrases,
+    verb: Verb,
+    tokens: &'t [Lexeme<'a>],
+    behind: &'t [Lexeme<'a>],
+) -> Result<(Command, &'t [Lexeme<'a>]), Stop>
+    requires blank { tokens_seen tokens.now ≡ Blank ∷ tokens_seen behind.now }
+    requires room { length behind.now ≤ length tokens.now }
+    requires other { the_bare verb ≡ true → HasOther (tokens_seen behind.now) }
+    ensures shorter { IfOk result (λ x. length x.1.now ≤ length behind.now) }
+    ensures parted { IfOk result (λ x. HasParted (tokens_seen x.1.now)) }
+    ensures reads { (m : Limits) → HasRoom phrases.limited m tokens.now → (o : Sentence) → (condition : Option tree.Expr) → ReadsAs phrases.limited (λ ps x. IsMeant verb ps (command_of x.0)) (λ x. x.1.now) result m tokens.now (At (Bare o condition verb)) (λ ps. At (Behind (args_rest o condition verb ps))) }
+{
+    match verb {
+        Verb::Of(keyword) => with_own(phrases, keyword, tokens, behind),
+        Verb::HaltOrHang => {
+            let (arguments, rest) = arguments(phrases, behind)?;
+            Ok((Command::Hang(arguments), rest))
+        }
+    }
+}
+
 /// The command behind its word and its postcondition: without arguments at the end, or at one blank and then a second one, a
 /// comment or the end; else with arguments behind a blank.
 fn command<'a, 't>(
     phrases: Phrases,
-    keyword: Keyword,
+    verb: Verb,
     tokens: &'t [Lexeme<'a>],
 ) -> Result<(Command, &'t [Lexeme<'a>]), Stop>
     ensures shorter { IfOk result (λ x. length x.1.now ≤ length tokens.now) }
     ensures parted { IfOk result (λ x. HasParted (tokens_seen x.1.now)) }
-    ensures named { IfOk result (λ x. keyword_for (command_of x.0) ≡ keyword) }
-    ensures reads { (m : Limits) → HasRoom phrases.limited m tokens.now → (o : Sentence) → (condition : Option tree.Expr) → ReadsAs phrases.limited (λ ps x. IsWritten ps (command_of x.0)) (λ x. x.1.now) result m tokens.now (At (Bare o condition keyword)) (λ ps. At (Behind (args_rest o condition keyword ps))) }
+    ensures reads { (m : Limits) → HasRoom phrases.limited m tokens.now → (o : Sentence) → (condition : Option tree.Expr) → ReadsAs phrases.limited (λ ps x. IsMeant verb ps (command_of x.0)) (λ x. x.1.now) result m tokens.now (At (Bare o condition verb)) (λ ps. At (Behind (args_rest o condition verb ps))) }
 {
-    let may_end = may_be_bare(keyword);
+    let may_end = may_be_bare(verb);
     match behind_blank(tokens) {
         None => {
             if may_end && tokens.is_empty() {
-                Ok((bare(phrases.alloc, keyword), tokens))
+                Ok((bare(phrases.alloc, bare_keyword(verb)), tokens))
             } else {
                 Err(stuck(tokens))
             }
         }
         Some(behind) => {
             if !may_end {
-                return with_arguments(phrases, keyword, tokens, behind);
+                return with_arguments(phrases, verb, tokens, behind);
             }
             match parted(behind) {
-                Ok(rest) => Ok((bare(phrases.alloc, keyword), rest)),
-                Err(_) => with_arguments(phrases, keyword, tokens, behind),
+                Ok(rest) => Ok((bare(phrases.alloc, bare_keyword(verb)), rest)),
+                Err(_) => with_arguments(phrases, verb, tokens, behind),
             }
         }
     }
@@ -176,14 +234,14 @@ fn command<'a, 't>(
 /// A command behind its word, up to where it ends.
 pub fn step<'a, 't>(
     phrases: Phrases,
-    keyword: Keyword,
+    verb: Verb,
     tokens: &'t [Lexeme<'a>],
 ) -> Result<(Step, &'t [Lexeme<'a>]), Stop>
     ensures shorter { IfOk result (λ x. length x.1.now ≤ length tokens.now) }
     ensures parted { IfOk result (λ x. HasParted (tokens_seen x.1.now)) }
-    ensures reads { (m : Limits) → HasRoom phrases.limited m tokens.now → (o : Sentence) → ReadsAs phrases.limited (λ c x. IsWrittenStep c (step_of x.0)) (λ x. x.1.now) result m tokens.now (At (Worded o keyword)) (λ c. At (Behind (record { line = with_clause o c; gap = 1; comment = 0 }))) }
+    ensures reads { (m : Limits) → HasRoom phrases.limited m tokens.now → (o : Sentence) → ReadsAs phrases.limited (λ c x. IsWrittenStep c (step_of x.0)) (λ x. x.1.now) result m tokens.now (At (Worded o verb)) (λ c. At (Behind (record { line = with_clause o c; gap = 1; comment = 0 }))) }
 {
-    let (condition, rest) = condition(phrases, keyword, tokens)?;
-    let (command, rest) = command(phrases, keyword, rest)?;
+    let (condition, rest) = condition(phrases, verb, tokens)?;
+    let (command, rest) = command(phrases, verb, rest)?;
     Ok((Step { condition, command }, rest))
 }

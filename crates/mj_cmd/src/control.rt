@@ -1,11 +1,11 @@
-// The arguments of IF, NEW and GOTO.
+// The arguments of IF, HANG, NEW and GOTO.
 
 ghost use Rattle.std.specs.Prelude.{◌≡◌, ◌⊎◌, ◌∷◌, ◌++◌, ◌≤◌, Bool, IfOk, [], false, length, option_map, refl, true};
-ghost use Rattle.mj_ast.specs.Commands.{Named, condition_parts, guard_parts, jumped_parts, renewed_parts, target_parts};
+ghost use Rattle.mj_ast.specs.Commands.{Named, value_parts, guard_parts, jumped_parts, renewed_parts, target_parts};
 ghost use Rattle.mj_ast.specs.Trees.{expr_of, jumped_of, renewed_of, target_of};
 ghost use Rattle.mj_expr.specs.Machine.{Limits};
 ghost use Rattle.mj_lex.specs.Seen.{tokens_seen};
-ghost use Rattle.mj_line.specs.Forms.{EntryWanted, GuardEnd, IfEnd, IfWanted, Jumps, Mode, NewEnd, NewWanted, Node, RoutineEnd, RoutineWanted, ends};
+ghost use Rattle.mj_line.specs.Forms.{EntryWanted, GuardEnd, GuardWanted, ValueEnd, ValueWanted, Jumps, colon_at, Mode, NewEnd, NewWanted, Node, RoutineEnd, RoutineWanted, ends};
 ghost use Rattle.mj_cmd.specs.Heads.{HasOther};
 ghost use Rattle.mj_cmd.specs.Parts.{MayBeGuarded};
 ghost use Rattle.mj_cmd.specs.Reads.{HasRoom, Passes};
@@ -21,43 +21,45 @@ use mj_expr::Stop;
 use mj_lex::Lexeme;
 use mj_text::Text;
 
-/// A condition of IF.
-fn truth<'a, 't>(
+/// A condition of IF, or an argument of HANG.
+fn value<'a, 't>(
     phrases: Phrases,
     tokens: &'t [Lexeme<'a>],
 ) -> Result<(Expr, &'t [Lexeme<'a>]), Stop>
     ensures shorter { IfOk result (λ x. length x.1.now ≤ length tokens.now) }
-    ensures reads { (m : Limits) → HasRoom phrases.limited m tokens.now → (first : Bool) → (first ≡ false) ⊎ HasOther (tokens_seen tokens.now) → Passes phrases.limited (λ x. condition_parts (expr_of x.0)) (λ x. x.1.now) result m tokens.now (IfWanted first) IfEnd }
+    ensures reads { (m : Limits) → HasRoom phrases.limited m tokens.now → (first : Bool) → (first ≡ false) ⊎ HasOther (tokens_seen tokens.now) → Passes phrases.limited (λ x. value_parts (expr_of x.0)) (λ x. x.1.now) result m tokens.now (ValueWanted first) ValueEnd }
 {
-    let (truth, rest) = phrases.expression(0, tokens)?;
-    Ok((truth, rest))
+    let (value, rest) = phrases.expression(0, tokens)?;
+    Ok((value, rest))
 }
 
 impl Item for Expr {
-    ghost first_at = { IfWanted true };
+    ghost lists = { Bool };
 
-    ghost more_at = { IfWanted false };
+    ghost first_at = { ValueWanted };
 
-    ghost behind_at = { IfEnd };
+    ghost more_at = { λ _. ValueWanted false };
 
-    ghost begins = { HasOther };
+    ghost behind_at = { λ _. ValueEnd };
 
-    ghost spells = { λ ps x. ps ≡ condition_parts (expr_of x) };
+    ghost begins = { λ first ks. (first ≡ false) ⊎ HasOther ks };
+
+    ghost spells = { λ ps x. ps ≡ value_parts (expr_of x) };
 
     fn read<'a, 't>(
         phrases: Phrases,
         tokens: &'t [Lexeme<'a>],
     ) -> Result<(Expr, &'t [Lexeme<'a>]), Stop> {
-        truth(phrases, tokens)
+        value(phrases, tokens)
     }
 
-    ghost comma = { refl };
+    ghost comma = { λ _. refl };
 }
 
 impl Argument for Expr {
-    ghost use Rattle.mj_cmd.specs.Lists.{if_over};
+    ghost use Rattle.mj_cmd.specs.Lists.{value_over};
 
-    ghost over = { if_over };
+    ghost over = { λ _. value_over };
 }
 
 /// A name, or names in parentheses.
@@ -84,13 +86,13 @@ fn renewed<'a, 't>(
 }
 
 impl Item for Renewed {
-    ghost first_at = { NewWanted true };
+    ghost first_at = { λ _. NewWanted true };
 
-    ghost more_at = { NewWanted false };
+    ghost more_at = { λ _. NewWanted false };
 
-    ghost behind_at = { NewEnd };
+    ghost behind_at = { λ _. NewEnd };
 
-    ghost begins = { HasOther };
+    ghost begins = { λ _. HasOther };
 
     ghost spells = { λ ps x. ps ≡ renewed_parts (renewed_of x) };
 
@@ -101,13 +103,13 @@ impl Item for Renewed {
         renewed(phrases, tokens)
     }
 
-    ghost comma = { refl };
+    ghost comma = { λ _. refl };
 }
 
 impl Argument for Renewed {
     ghost use Rattle.mj_cmd.specs.Lists.{new_over};
 
-    ghost over = { new_over };
+    ghost over = { λ _. new_over };
 }
 
 /// The name of a routine, behind a `^`.
@@ -170,13 +172,13 @@ pub fn entry<'a, 't>(
     }
 }
 
-/// The condition of an argument, if there is one.
+/// The condition of an argument of DO or GOTO, if there is one.
 pub fn guard<'a, 't>(
     phrases: Phrases,
     tokens: &'t [Lexeme<'a>],
 ) -> Result<(Option<Expr>, &'t [Lexeme<'a>]), Stop>
     ensures shorter { IfOk result (λ x. length x.1.now ≤ length tokens.now) }
-    ensures reads { (m : Limits) → HasRoom phrases.limited m tokens.now → (mode : Mode) → (n : Node) → MayBeGuarded mode n (tokens_seen tokens.now) → Passes phrases.limited (λ x. guard_parts (option_map expr_of x.0)) (λ x. x.1.now) result m tokens.now n (GuardEnd mode) }
+    ensures reads { (m : Limits) → HasRoom phrases.limited m tokens.now → (mode : Mode) → colon_at mode ≡ GuardWanted mode → (n : Node) → MayBeGuarded mode n (tokens_seen tokens.now) → Passes phrases.limited (λ x. guard_parts (option_map expr_of x.0)) (λ x. x.1.now) result m tokens.now n (GuardEnd mode) }
 {
     match behind_colon(tokens) {
         None => Ok((None, tokens)),
@@ -201,11 +203,13 @@ fn jump<'a, 't>(
 }
 
 impl Item for Jumped {
-    ghost first_at = { EntryWanted Jumps true };
+    ghost first_at = { λ _. EntryWanted Jumps true };
 
-    ghost more_at = { EntryWanted Jumps false };
+    ghost more_at = { λ _. EntryWanted Jumps false };
 
-    ghost behind_at = { GuardEnd Jumps };
+    ghost behind_at = { λ _. GuardEnd Jumps };
+
+    ghost begins = { λ _ _. Unit {0} };
 
     ghost spells = { λ ps x. ps ≡ jumped_parts (jumped_of x) };
 
@@ -216,11 +220,11 @@ impl Item for Jumped {
         jump(phrases, tokens)
     }
 
-    ghost comma = { refl };
+    ghost comma = { λ _. refl };
 }
 
 impl Argument for Jumped {
     ghost use Rattle.mj_cmd.specs.Lists.{guard_over};
 
-    ghost over = { guard_over Jumps };
+    ghost over = { λ _. guard_over Jumps };
 }

@@ -18,12 +18,12 @@ use crate::phrase::Phrases;
 use mj_ast::{Killed, Merged};
 use mj_expr::{Stop, added};
 use mj_lex::Lexeme;
-use mj_text::Text;
+use mj_text::{TEXT_LIMIT, Text};
 use std::alloc::Global;
 
 /// A word as a text.
 pub fn word_text(alloc: Global, bytes: &[u8]) -> Result<Text, Stop>
-    requires { length bytes.now ≤ 32767 }
+    requires { length bytes.now ≤ TEXT_LIMIT }
     ensures ok { IfOk result (λ t. t ≡ bytes.now) }
     ensures memory { IfErr result (λ e. e ≡ Memory) }
 {
@@ -87,13 +87,13 @@ fn killed<'a, 't>(
 }
 
 impl Item for Killed {
-    ghost first_at = { KillWanted true };
+    ghost first_at = { λ _. KillWanted true };
 
-    ghost more_at = { KillWanted false };
+    ghost more_at = { λ _. KillWanted false };
 
-    ghost behind_at = { KillEnd };
+    ghost behind_at = { λ _. KillEnd };
 
-    ghost begins = { HasOther };
+    ghost begins = { λ _. HasOther };
 
     ghost spells = { λ ps x. ps ≡ killed_parts (killed_of x) };
 
@@ -104,13 +104,13 @@ impl Item for Killed {
         killed(phrases, tokens)
     }
 
-    ghost comma = { refl };
+    ghost comma = { λ _. refl };
 }
 
 impl Argument for Killed {
     ghost use Rattle.mj_cmd.specs.Lists.{kill_over};
 
-    ghost over = { kill_over };
+    ghost over = { λ _. kill_over };
 }
 
 /// A variable, `=` and the variable that is copied.
@@ -132,11 +132,13 @@ fn merged<'a, 't>(
 }
 
 impl Item for Merged {
-    ghost first_at = { MergeInto };
+    ghost first_at = { λ _. MergeInto };
 
-    ghost more_at = { MergeInto };
+    ghost more_at = { λ _. MergeInto };
 
-    ghost behind_at = { MergeEnd };
+    ghost behind_at = { λ _. MergeEnd };
+
+    ghost begins = { λ _ _. Unit {0} };
 
     ghost spells = { λ ps x. ps ≡ merged_parts (merged_of x) };
 
@@ -147,11 +149,11 @@ impl Item for Merged {
         merged(phrases, tokens)
     }
 
-    ghost comma = { refl };
+    ghost comma = { λ _. refl };
 }
 
 impl Argument for Merged {
     ghost use Rattle.mj_cmd.specs.Lists.{merge_over};
 
-    ghost over = { merge_over };
+    ghost over = { λ _. merge_over };
 }

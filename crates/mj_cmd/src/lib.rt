@@ -12,11 +12,12 @@ mod keyword;
 mod kill;
 mod lines;
 mod list;
+mod lock;
 mod parts;
 mod phrase;
 mod repeat;
 mod set;
 mod write;
 
-pub use keyword::keyword_of;
+pub use keyword::verb_of;
 pub use lines::line;

@@ -13,7 +13,7 @@ ghost use Rattle.mj_cmd.specs.Said.{IsLate, IsRead, IsRefused};
 
 use crate::command::step;
 use crate::formals::formals;
-use crate::keyword::keyword_of;
+use crate::keyword::verb_of;
 use crate::kill::word_text;
 use crate::parts::{
     WORD_LIMIT, behind_blank, behind_blanks, behind_dot, behind_word, parted, stuck,
@@ -138,10 +138,10 @@ fn steps(phrases: Phrases, tokens: &[Lexeme]) -> Result<Vec<Step>, Stop>
     let mut steps = Vec::new(phrases.alloc);
     let (_, mut rest) = behind_blanks(tokens);
     'steps: while let Some((word, behind)) = behind_word(rest) {
-        match keyword_of(word) {
+        match verb_of(word) {
             None => return Err(stuck(rest)),
-            Some(keyword) => {
-                let (read, behind) = step(phrases, keyword, behind)?;
+            Some(verb) => {
+                let (read, behind) = step(phrases, verb, behind)?;
                 added(&mut steps, read)?;
                 let (_, behind) = behind_blanks(behind);
                 rest = behind;

@@ -18,15 +18,18 @@ use mj_lex::Lexeme;
 
 /// What stands between commas.
 pub trait Item: Drop + Sized {
-    // the places where the first is wanted, where another is, and behind one
-    ghost first_at: { Node };
+    // the lists of such items, where there are several
+    ghost lists: { Type 0 } = { Unit {0} };
 
-    ghost more_at: { Node };
+    // the places in a list where the first is wanted, where another is, and behind one
+    ghost first_at: { lists → Node };
 
-    ghost behind_at: { Node };
+    ghost more_at: { lists → Node };
+
+    ghost behind_at: { lists → Node };
 
     // before these tokens the first is wanted
-    ghost begins: { List Token → Type 0 } = { λ _. Unit {0} };
+    ghost begins: { lists → List Token → Type 0 };
 
     // the parts are those of the item, as it may be written
     ghost spells: { List Part → Self → Type 0 };
@@ -37,27 +40,27 @@ pub trait Item: Drop + Sized {
         tokens: &'t [Lexeme<'a>],
     ) -> Result<(Self, &'t [Lexeme<'a>]), Stop>
         ensures shorter { IfOk result (λ x. length x.1.now ≤ length tokens.now) }
-        ensures first { (m : Limits) → HasRoom phrases.limited m tokens.now → begins (tokens_seen tokens.now) → PassesAs phrases.limited (λ ps x. spells ps x.0) (λ x. x.1.now) result m tokens.now first_at behind_at }
-        ensures more { (m : Limits) → HasRoom phrases.limited m tokens.now → PassesAs phrases.limited (λ ps x. spells ps x.0) (λ x. x.1.now) result m tokens.now more_at behind_at };
+        ensures first { (q : lists) → (m : Limits) → HasRoom phrases.limited m tokens.now → begins q (tokens_seen tokens.now) → PassesAs phrases.limited (λ ps x. spells ps x.0) (λ x. x.1.now) result m tokens.now (first_at q) (behind_at q) }
+        ensures more { (q : lists) → (m : Limits) → HasRoom phrases.limited m tokens.now → PassesAs phrases.limited (λ ps x. spells ps x.0) (λ x. x.1.now) result m tokens.now (more_at q) (behind_at q) };
 
-    ghost comma: { takes behind_at (Put Comma) ≡ Some more_at };
+    ghost comma: { (q : lists) → takes (behind_at q) (Put Comma) ≡ Some (more_at q) };
 }
 
 /// Arguments, which end where the command does.
 pub trait Argument: Item {
     // where neither a comma nor the end of the command stands, nothing goes on
-    ghost over: { IsOver Self.behind_at };
+    ghost over: { (q : Self.lists) → IsOver (Self.behind_at q) };
 }
 
 /// What stands in a list in parentheses.
 pub trait Enclosed: Item {
-    // the place behind the `)`
-    ghost closed_at: { Node };
+    // the place behind the `)`, by the one before it
+    ghost closed_at: { Node → Node };
 
-    ghost close: { takes Self.behind_at (Put Close) ≡ Some closed_at };
+    ghost close: { (q : Self.lists) → takes (Self.behind_at q) (Put Close) ≡ Some (closed_at (Self.behind_at q)) };
 
     // where neither a comma nor a `)` stands, nothing goes on
-    ghost unclosed: { IsUnclosed Self.behind_at };
+    ghost unclosed: { (q : Self.lists) → IsUnclosed (Self.behind_at q) };
 }
 
 /// The items, of which there is one at least, up to where no comma follows.
@@ -68,7 +71,7 @@ fn items<'a, 't, T: Item>(
     ensures shorter { IfOk result (λ x. length x.1.now ≤ length tokens.now) }
     ensures some { IfOk result (λ x. 1 ≤ length x.0.items) }
     ensures over { IfOk result (λ x. HasNoComma (tokens_seen x.1.now)) }
-    ensures reads { (m : Limits) → HasRoom phrases.limited m tokens.now → T.begins (tokens_seen tokens.now) → PassesAs phrases.limited (λ ps x. AreItems T.spells ps x.0.items) (λ x. x.1.now) result m tokens.now T.first_at T.behind_at }
+    ensures reads { (q : T.lists) → (m : Limits) → HasRoom phrases.limited m tokens.now → T.begins q (tokens_seen tokens.now) → PassesAs phrases.limited (λ ps x. AreItems T.spells ps x.0.items) (λ x. x.1.now) result m tokens.now (T.first_at q) (T.behind_at q) }
 {
     let mut items = Vec::new(phrases.alloc);
     let (first, mut rest) = T::read(phrases, tokens)?;
@@ -88,7 +91,7 @@ pub fn arguments<'a, 't, T: Argument>(
 ) -> Result<(Vec<T>, &'t [Lexeme<'a>]), Stop>
     ensures shorter { IfOk result (λ x. length x.1.now ≤ length tokens.now) }
     ensures parted { IfOk result (λ x. HasParted (tokens_seen x.1.now)) }
-    ensures reads { (m : Limits) → HasRoom phrases.limited m tokens.now → T.begins (tokens_seen tokens.now) → PassesAs phrases.limited (λ ps x. AreItems T.spells ps x.0.items) (λ x. x.1.now) result m tokens.now T.first_at T.behind_at }
+    ensures reads { (q : T.lists) → (m : Limits) → HasRoom phrases.limited m tokens.now → T.begins q (tokens_seen tokens.now) → PassesAs phrases.limited (λ ps x. AreItems T.spells ps x.0.items) (λ x. x.1.now) result m tokens.now (T.first_at q) (T.behind_at q) }
 {
     let (items, rest) = items(phrases, tokens)?;
     let rest = parted(rest)?;
@@ -102,7 +105,7 @@ pub fn listed<'a, 't, T: Enclosed>(
 ) -> Result<(Vec<T>, &'t [Lexeme<'a>]), Stop>
     ensures shorter { IfOk result (λ x. length x.1.now ≤ length tokens.now) }
     ensures some { IfOk result (λ x. 1 ≤ length x.0.items) }
-    ensures reads { (m : Limits) → HasRoom phrases.limited m tokens.now → T.begins (tokens_seen tokens.now) → PassesAs phrases.limited (λ ps x. (qs : List Part) × (ps ≡ qs ++ Put Close ∷ []) × AreItems T.spells qs x.0.items) (λ x. x.1.now) result m tokens.now T.first_at T.closed_at }
+    ensures reads { (q : T.lists) → (m : Limits) → HasRoom phrases.limited m tokens.now → T.begins q (tokens_seen tokens.now) → PassesAs phrases.limited (λ ps x. (qs : List Part) × (ps ≡ qs ++ Put Close ∷ []) × AreItems T.spells qs x.0.items) (λ x. x.1.now) result m tokens.now (T.first_at q) (T.closed_at (T.behind_at q)) }
 {
     let (items, rest) = items(phrases, tokens)?;
     match behind_close(rest) {

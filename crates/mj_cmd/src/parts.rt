@@ -5,11 +5,11 @@ ghost use Rattle.mj_expr.specs.declared.stop.Stop.TheVariants.{Stuck, Long};
 ghost use Rattle.mj_ast.specs.Tokens.{Blank, Called, Signed, Word};
 ghost use Rattle.mj_ast.specs.Commands.{PieceCall};
 ghost use Rattle.mj_line.specs.Forms.{part_of};
-ghost use Rattle.mj_ast.specs.declared.sign.Sign.TheVariants.{Caret, Close, Colon, Comma, Dot, Equals, Exclamation, Open};
+ghost use Rattle.mj_ast.specs.declared.sign.Sign.TheVariants.{Caret, Close, Colon, Comma, Dot, Equals, Exclamation, Minus, Open, Plus};
 ghost use Rattle.mj_lex.specs.Seen.{tokens_seen};
 ghost use Rattle.mj_line.specs.Machine.{refused};
 ghost use Rattle.mj_cmd.specs.Reads.{Refuses};
-ghost use Rattle.mj_cmd.specs.Heads.{HasNoBlank, HasNoCaret, HasNoClose, HasNoColon, HasNoComma, HasNoDot, HasNoEquals, HasNoLabel, HasNoMark, HasNoName, HasNoOpen, HasNoPiece, HasNoWord, HasOther, HasParted, StartsLabel};
+ghost use Rattle.mj_cmd.specs.Heads.{HasNoBlank, HasNoCaret, HasNoClose, HasNoColon, HasNoComma, HasNoDot, HasNoEquals, HasNoLabel, HasNoMark, HasNoMinus, HasNoName, HasNoOpen, HasNoPiece, HasNoPlus, HasNoWord, HasOther, HasParted, StartsLabel};
 
 use mj_ast::{Callee, Function, Sign};
 use mj_expr::{Stop, callee};
@@ -69,7 +69,7 @@ pub fn behind_name<'a, 't>(tokens: &'t [Lexeme<'a>]) -> Option<(&'a [u8], &'t [L
 
 /// The label in front, a name or digits, and what follows it.
 pub fn behind_entry_label<'a, 't>(tokens: &'t [Lexeme<'a>]) -> Option<(&'a [u8], &'t [Lexeme<'a>])>
-    ensures { MatchOption result (HasNoLabel (tokens_seen tokens.now)) (λ x. StartsLabel (tokens_seen tokens.now) x.0.now (tokens_seen x.1.now) × (length x.0.now ≤ 32767) × (length x.1.now < length tokens.now)) }
+    ensures { MatchOption result (HasNoLabel (tokens_seen tokens.now)) (λ x. StartsLabel (tokens_seen tokens.now) x.0.now (tokens_seen x.1.now) × (length x.0.now ≤ TEXT_LIMIT) × (length x.1.now < length tokens.now)) }
 {
     match next(tokens) {
         Some((Token::Word(name), rest)) => {
@@ -126,6 +126,26 @@ pub fn behind_caret<'a, 't>(tokens: &'t [Lexeme<'a>]) -> Option<&'t [Lexeme<'a>]
 {
     match next(tokens) {
         Some((Token::Sign(Sign::Caret), rest)) => Some(rest),
+        _ => None,
+    }
+}
+
+/// What follows a `+`, if it stands in front.
+pub fn behind_plus<'a, 't>(tokens: &'t [Lexeme<'a>]) -> Option<&'t [Lexeme<'a>]>
+    ensures { MatchOption result (HasNoPlus (tokens_seen tokens.now)) (λ x. (tokens_seen tokens.now ≡ Signed Plus ∷ tokens_seen x.now) × (length x.now < length tokens.now)) }
+{
+    match next(tokens) {
+        Some((Token::Sign(Sign::Plus), rest)) => Some(rest),
+        _ => None,
+    }
+}
+
+/// What follows a `-`, if it stands in front.
+pub fn behind_minus<'a, 't>(tokens: &'t [Lexeme<'a>]) -> Option<&'t [Lexeme<'a>]>
+    ensures { MatchOption result (HasNoMinus (tokens_seen tokens.now)) (λ x. (tokens_seen tokens.now ≡ Signed Minus ∷ tokens_seen x.now) × (length x.now < length tokens.now)) }
+{
+    match next(tokens) {
+        Some((Token::Sign(Sign::Minus), rest)) => Some(rest),
         _ => None,
     }
 }

@@ -43,11 +43,13 @@ fn range<'a, 't>(
 }
 
 impl Item for Range {
-    ghost first_at = { RangeWanted };
+    ghost first_at = { λ _. RangeWanted };
 
-    ghost more_at = { RangeWanted };
+    ghost more_at = { λ _. RangeWanted };
 
-    ghost behind_at = { LimitEnd };
+    ghost behind_at = { λ _. LimitEnd };
+
+    ghost begins = { λ _ _. Unit {0} };
 
     ghost spells = { λ ps x. ps ≡ range_parts (range_of x) };
 
@@ -58,13 +60,13 @@ impl Item for Range {
         range(phrases, tokens)
     }
 
-    ghost comma = { refl };
+    ghost comma = { λ _. refl };
 }
 
 impl Argument for Range {
     ghost use Rattle.mj_cmd.specs.Lists.{range_over};
 
-    ghost over = { range_over };
+    ghost over = { λ _. range_over };
 }
 
 /// The local that is set at each pass, and the `=` behind it.

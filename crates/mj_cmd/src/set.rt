@@ -106,11 +106,13 @@ fn destination<'a, 't>(
 }
 
 impl Item for Destination {
-    ghost first_at = { SetTarget true };
+    ghost first_at = { λ _. SetTarget true };
 
-    ghost more_at = { SetTarget true };
+    ghost more_at = { λ _. SetTarget true };
 
-    ghost behind_at = { SetBehind true };
+    ghost behind_at = { λ _. SetBehind true };
+
+    ghost begins = { λ _ _. Unit {0} };
 
     ghost spells = { λ ps x. ps ≡ destination_parts (destination_of x) };
 
@@ -121,17 +123,17 @@ impl Item for Destination {
         destination(phrases, tokens)
     }
 
-    ghost comma = { refl };
+    ghost comma = { λ _. refl };
 }
 
 impl Enclosed for Destination {
     ghost use Rattle.mj_cmd.specs.Lists.{targets_unclosed};
 
-    ghost closed_at = { SetBehind false };
+    ghost closed_at = { λ _. SetBehind false };
 
-    ghost close = { refl };
+    ghost close = { λ _. refl };
 
-    ghost unclosed = { targets_unclosed };
+    ghost unclosed = { λ _. targets_unclosed };
 }
 
 /// One destination, or a list in parentheses.
@@ -173,11 +175,13 @@ fn assignment<'a, 't>(
 }
 
 impl Item for Assignment {
-    ghost first_at = { SetTarget false };
+    ghost first_at = { λ _. SetTarget false };
 
-    ghost more_at = { SetTarget false };
+    ghost more_at = { λ _. SetTarget false };
 
-    ghost behind_at = { SetEnd };
+    ghost behind_at = { λ _. SetEnd };
+
+    ghost begins = { λ _ _. Unit {0} };
 
     ghost spells = { λ ps x. ps ≡ assignment_parts (assignment_of x) };
 
@@ -188,11 +192,11 @@ impl Item for Assignment {
         assignment(phrases, tokens)
     }
 
-    ghost comma = { refl };
+    ghost comma = { λ _. refl };
 }
 
 impl Argument for Assignment {
     ghost use Rattle.mj_cmd.specs.Lists.{set_over};
 
-    ghost over = { set_over };
+    ghost over = { λ _. set_over };
 }

@@ -56,11 +56,13 @@ fn output<'a, 't>(
 }
 
 impl Item for Output {
-    ghost first_at = { OutputWanted };
+    ghost first_at = { λ _. OutputWanted };
 
-    ghost more_at = { OutputWanted };
+    ghost more_at = { λ _. OutputWanted };
 
-    ghost behind_at = { OutputEnd };
+    ghost behind_at = { λ _. OutputEnd };
+
+    ghost begins = { λ _ _. Unit {0} };
 
     ghost spells = { λ ps x. ps ≡ output_parts (output_of x) };
 
@@ -71,11 +73,11 @@ impl Item for Output {
         output(phrases, tokens)
     }
 
-    ghost comma = { refl };
+    ghost comma = { λ _. refl };
 }
 
 impl Argument for Output {
     ghost use Rattle.mj_cmd.specs.Lists.{output_over};
 
-    ghost over = { output_over };
+    ghost over = { λ _. output_over };
 }

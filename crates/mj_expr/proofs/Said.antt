@@ -7,13 +7,14 @@ use Rattle.std.proofs.lemmas.List.{map-append, length-map, length-drop, drop-map
 use Rattle.std.proofs.lemmas.Bool.Decides.{nat_tests}
 use Rattle.mj_num.specs.Number.{reading}
 use Rattle.mj_text.specs.declared.fault.Fault.{Fault}
+use Rattle.mj_text.specs.declared.text.TheConstants.{TEXT_LIMIT}
 use Rattle.mj_ast.specs.declared.sign.Sign.{Sign}
 use Rattle.mj_ast.specs.declared.sign.Sign.TheVariants.{Comma}
 use Rattle.mj_ast.specs.Syntax.{Chain, Var, No}
 use Rattle.mj_ast.specs.Tokens.{Token, Word, Called, Special, Digits, Quoted, Signed, Blank, Comment, Unclosed, Stray}
 use Rattle.mj_ast.specs.declared.function.Callee.{Callee}
 use Rattle.mj_ast.specs.declared.function.Special as special
-use Rattle.mj_ast.specs.Expressions.{Symbol, Constant, Inherent, Name, Applied, Overlong, Mark, Other, symbol, constant_of, function_symbol, callee_of, special_symbol, special_of, levels_of, text_limit, width_limit, Phrases, Spells, Begins, BeginsWithin}
+use Rattle.mj_ast.specs.Expressions.{Symbol, Constant, Inherent, Name, Applied, Overlong, Mark, Other, symbol, constant_of, function_symbol, callee_of, special_symbol, special_of, levels_of, width_limit, Phrases, Spells, Begins, BeginsWithin}
 use Rattle.mj_expr.specs.Machine.{Alone, InGroup, InList, InOther, InCondition, InChoice, State, Wanted, Sought, Marked, Named, Calling, Behind, Held, Got, placed, Limits, Stuck, Phrase, Whole, Target, Outcome, Accept, StuckAt, DeepAt, TooLong, refused, ends, finish, step, run, turn}
 use Rattle.mj_expr.specs.Phrases.{IsRead, IsShort, IsStuck, IsDeep, IsOverlong, IsLong, IsRefused}
 use Rattle.mj_expr.specs.Reads.{limits, symbols_seen, Refuses}
@@ -219,7 +220,7 @@ comma_token (Word w) e = absurd (word_mark (nat_le (length w) 31) (Name w) Comma
 comma_token (Called w) e = absurd (word_mark (nat_le (length w) 31) (function_symbol (callee_of w)) Comma (function_mark (callee_of w) Comma) e)
 comma_token (Special w) e = absurd (word_mark (nat_le (length w) 31) (special_symbol (special_of w)) Comma (special_mark (special_of w) Comma) e)
 comma_token (Digits ds) e = absurd (constant_mark (reading ds) Comma e)
-comma_token (Quoted v) e = absurd (choice_mark (nat_le (length v) text_limit) v Comma e)
+comma_token (Quoted v) e = absurd (choice_mark (nat_le (length v) TEXT_LIMIT) v Comma e)
 comma_token (Signed s) e = let f : Mark s ≡ Mark Comma = e in let g : s ≡ Comma = cc in ap Signed g
 comma_token Blank e = absurd (let f : Other ≡ Mark Comma = e in cc)
 comma_token (Comment t) e = absurd (let f : Other ≡ Mark Comma = e in cc)
@@ -244,7 +245,7 @@ overlong_word (Word w) e = word_long w (Name w) (nat_le (length w) 31) refl (nam
 overlong_word (Called w) e = word_long w (function_symbol (callee_of w)) (nat_le (length w) 31) refl (function_overlong (callee_of w)) e
 overlong_word (Special w) e = word_long w (special_symbol (special_of w)) (nat_le (length w) 31) refl (special_overlong (special_of w)) e
 overlong_word (Digits ds) e = absurd (constant_overlong (reading ds) e)
-overlong_word (Quoted v) e = absurd (choice_overlong (nat_le (length v) text_limit) v e)
+overlong_word (Quoted v) e = absurd (choice_overlong (nat_le (length v) TEXT_LIMIT) v e)
 overlong_word (Signed s) e = absurd (let f : Mark s ≡ Overlong = e in cc)
 overlong_word Blank e = absurd (other_overlong e)
 overlong_word (Comment t) e = absurd (other_overlong e)
@@ -383,7 +384,7 @@ module _ {T : Type 0} (K : Kind) (P : Phrases T) (W : Wraps K P) where
   overlong_at front (Called w) e g h = record { long = word_long w (function_symbol (callee_of w)) (nat_le (length w) 31) refl (function_overlong (callee_of w)) e; whole = g; at = h }
   overlong_at front (Special w) e g h = record { long = word_long w (special_symbol (special_of w)) (nat_le (length w) 31) refl (special_overlong (special_of w)) e; whole = g; at = h }
   overlong_at front (Digits ds) e g h = absurd (constant_overlong (reading ds) e)
-  overlong_at front (Quoted v) e g h = absurd (choice_overlong (nat_le (length v) text_limit) v e)
+  overlong_at front (Quoted v) e g h = absurd (choice_overlong (nat_le (length v) TEXT_LIMIT) v e)
   overlong_at front (Signed s) e g h = absurd (let f : Mark s ≡ Overlong = e in cc)
   overlong_at front Blank e g h = absurd (other_overlong e)
   overlong_at front (Comment t) e g h = absurd (other_overlong e)

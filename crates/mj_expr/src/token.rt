@@ -171,7 +171,9 @@ pub fn callee(word: &[u8]) -> Option<Callee>
 pub fn special(word: &[u8]) -> Option<Special>
     ensures { result ≡ special_of word.now }
 {
-    if is_word(word, b"TEST", b"T") {
+    if is_word(word, b"JOB", b"J") {
+        Some(Special::Job)
+    } else if is_word(word, b"TEST", b"T") {
         Some(Special::Test)
     } else {
         None

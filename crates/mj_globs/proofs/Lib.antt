@@ -5,3 +5,4 @@ pub mod Both
 pub mod Keeping
 pub mod Restores
 pub mod Parts
+pub mod Gathered

@@ -78,6 +78,16 @@ impl Globals {
         })
     }
 
+    /// Its names in their order, each with its text.
+    pub fn nodes(&self) -> Result<Vec<(Name, Text)>, AllocError>
+        ensures { IfOk result (λ nodes. nodes.items ≡ self.now) }
+    {
+        let mut nodes = Vec::new(self.alloc);
+        words::gather(&self.globals, self.alloc, true, &mut nodes)?;
+        words::gather(&self.locals, self.alloc, false, &mut nodes)?;
+        Ok(nodes)
+    }
+
     /// Makes the changes in order, all of them or none. `Limit` where one would give a name too many subscripts, and otherwise nothing
     /// but memory can be wanting. The store is copied only where a text is given at a name that goes before, or below one.
     pub fn apply(&mut self, changes: &[Change]) -> Result<(), Failure>

@@ -1,6 +1,6 @@
 // The words of one kind, each with its tree.
 
-ghost use Rattle.std.specs.Prelude.{◌≡◌, ◌↔◌, if◌then◌else◌, Bool, option_copied, IsTrue, IfOk, IfErr, OnOk, OnErr, T};
+ghost use Rattle.std.specs.Prelude.{◌≡◌, ◌↔◌, ◌++◌, if◌then◌else◌, Bool, option_copied, IsTrue, IfOk, IfErr, OnOk, OnErr, T};
 ghost use Rattle.std.specs.FinMap.{put, is_sorted};
 ghost use Rattle.std.specs.Map.{lookup, remove_entry};
 ghost use Rattle.std.specs.BTreeMap.{is_at, insert_entry};
@@ -10,12 +10,12 @@ ghost use Rattle.mj_subs.specs.Collation.{subscript_cmp, name_cmp};
 ghost use Rattle.mj_store.specs.Changes.{after_set, after_kill, after_put};
 ghost use Rattle.mj_tree.specs.Nest.{nodes_of, is_too_long};
 ghost use Rattle.mj_tree.specs.Undo.{restored};
-ghost use Rattle.mj_globs.specs.Words.{spelled, name, of_kind};
+ghost use Rattle.mj_globs.specs.Words.{spelled, name, of_kind, of_word};
 ghost use Rattle.mj_text.specs.declared.fault.Failure.TheVariants as failure;
 ghost use Rattle.mj_text.specs.declared.fault.Fault.TheVariants as fault;
 
 use mj_store::Nodes;
-use mj_subs::Subs;
+use mj_subs::{Name, Subs};
 use mj_text::{Digits, Failure, Text};
 use mj_tree::Tree;
 use std::alloc::{AllocError, Global};
@@ -127,6 +127,54 @@ pub fn copy(words: &Words) -> Result<Words, AllocError>
 {
     let copy = words.clone()?;
     Ok(copy)
+}
+
+/// Puts the names of a kind with these words to the end of a list, in order, each with its text.
+pub fn gather(
+    words: &Words,
+    alloc: Global,
+    global: bool,
+    nodes: &mut Vec<(Name, Text)>,
+) -> Result<(), AllocError>
+    ensures { OnOk result (nodes.new.items ≡ nodes.old.items ++ of_kind global (spelled words.now.entries)) }
+{
+    for (word, tree) in words {
+        gather_word(word.as_slice(), tree, alloc, global, nodes)?;
+    }
+    Ok(())
+}
+
+// Puts the names of one word to the end of a list.
+fn gather_word(
+    word: &[u8],
+    tree: &Tree,
+    alloc: Global,
+    global: bool,
+    nodes: &mut Vec<(Name, Text)>,
+) -> Result<(), AllocError>
+    ensures { OnOk result (nodes.new.items ≡ nodes.old.items ++ of_word global word.now tree.now) }
+{
+    let below = tree.subtree(&Subs::new(alloc))?;
+    for node in below.as_slice() {
+        let subscripts = node.0.try_clone()?;
+        let name = name_of(word, alloc, global, subscripts)?;
+        nodes.push((name, node.1.try_clone()?))?;
+    }
+    Ok(())
+}
+
+// The name of this kind with this word, which is a text.
+fn name_of(word: &[u8], alloc: Global, global: bool, subscripts: Subs) -> Result<Name, AllocError>
+    ensures { IfOk result (λ n. n ≡ name global word.now subscripts) }
+{
+    let Ok(word) = Text::from(alloc, word) else {
+        return Err(AllocError);
+    };
+    Ok(if global {
+        Name::global(word, subscripts)
+    } else {
+        Name::local(word, subscripts)
+    })
 }
 
 // One word more, or another tree in place of that of the word.

@@ -14,7 +14,7 @@ use mj_expr::Stop;
 use mj_lex::Lexeme;
 use std::alloc::{AllocError, Global};
 
-/// The word of a command.
+/// Which command it is.
 fn keyword_for(command: &Command) -> Keyword
     ensures { result ≡ the_keyword (command_of command.now) }
 {
@@ -22,6 +22,9 @@ fn keyword_for(command: &Command) -> Keyword
         Command::Set(_) => Keyword::Set,
         Command::Write(_) => Keyword::Write,
         Command::Halt => Keyword::Halt,
+        Command::Hang(_) => Keyword::Hang,
+        Command::Job(_) => Keyword::Job,
+        Command::Lock(_) => Keyword::Lock,
         Command::Kill(_) => Keyword::Kill,
         Command::Merge(_) => Keyword::Merge,
         Command::If(_) => Keyword::If,
@@ -35,7 +38,7 @@ fn keyword_for(command: &Command) -> Keyword
     }
 }
 
-/// The last command, by its word.
+/// Which command is the last.
 fn last_keyword(steps: &[Step]) -> Option<Keyword>
     ensures { result ≡ the_last (map step_of steps.now) }
 {

@@ -69,6 +69,7 @@ fn named(
         Construct::Structured,
         Construct::ByReference,
         Construct::EntryOffset,
+        Construct::ProcessParameters,
         Construct::MnemonicSpace,
         Construct::SetExtract,
         Construct::JustifyDecimals,

@@ -6,8 +6,8 @@ ghost use Rattle.mj_lex.specs.Seen.{token_seen, tokens_seen};
 ghost use Rattle.mj_left.specs.Fronts.{IsFront, Says};
 
 use crate::stand::{
-    is_behind_label, may_be_operator, may_begin_actual, may_begin_command, may_begin_destination,
-    may_begin_name, may_begin_operand, may_begin_output,
+    is_behind_colon, is_behind_label, may_be_operator, may_begin_actual, may_begin_command,
+    may_begin_destination, may_begin_name, may_begin_operand, may_begin_output,
 };
 use crate::tokens::{
     ends_in_caret, ends_in_digits, ends_in_star, has_dollar, is_at, is_bar, is_bracket, is_close,
@@ -19,7 +19,7 @@ use crate::words::{
     is_variable,
 };
 use mj_ast::Construct;
-use mj_cmd::keyword_of;
+use mj_cmd::verb_of;
 use mj_expr::callee;
 use mj_lex::{Lexeme, Token};
 use std::alloc::{AllocError, Global};
@@ -219,7 +219,7 @@ fn is_unknown(token: Token) -> bool
     ensures { result ≡ the_unknown (token_seen token.entry) }
 {
     match token {
-        Token::Word(word) => keyword_of(word).is_none() && !is_later(word),
+        Token::Word(word) => verb_of(word).is_none() && !is_later(word),
         _ => false,
     }
 }
@@ -264,6 +264,7 @@ pub fn fits(
         Construct::Structured => Ok(structured(front, token)),
         Construct::ByReference => by_reference(alloc, front, token, behind),
         Construct::EntryOffset => entry_offset(alloc, front, token),
+        Construct::ProcessParameters => is_behind_colon(alloc, front),
         Construct::MnemonicSpace => mnemonic_space(alloc, front, token),
         Construct::SetExtract => set_extract(alloc, front, token),
         Construct::JustifyDecimals => Ok(justify_decimals(front, token)),

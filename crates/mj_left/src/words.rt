@@ -33,9 +33,6 @@ pub fn is_later(word: &[u8]) -> bool
 {
     is_either(word, b"BREAK", b"B")
         || is_either(word, b"CLOSE", b"C")
-        || is_either(word, b"HANG", b"HANG")
-        || is_either(word, b"JOB", b"J")
-        || is_either(word, b"LOCK", b"L")
         || is_either(word, b"OPEN", b"O")
         || is_either(word, b"READ", b"R")
         || is_either(word, b"TCOMMIT", b"TC")

@@ -3,3 +3,4 @@ pub mod Tokenise
 mod Fronts
 mod Signs
 pub mod Longest
+mod Once

@@ -214,13 +214,13 @@ while_reach p (x ∷ xs) rest h =
     let n = ap (length {A = ℕ}) e in
     omega arith
 
-cond_true : {A : Type 0} (p : Bool) (x y : A) → p ≡ true → cond p x y ≡ x
+pub cond_true : {A : Type 0} (p : Bool) (x y : A) → p ≡ true → cond p x y ≡ x
 cond_true p x y e = ap (λ (b : Bool). cond b x y) e
 
-cond_false : {A : Type 0} (p : Bool) (x y : A) → p ≡ false → cond p x y ≡ y
+pub cond_false : {A : Type 0} (p : Bool) (x y : A) → p ≡ false → cond p x y ≡ y
 cond_false p x y e = ap (λ (b : Bool). cond b x y) e
 
-digit_begins : (b : ℕ) → is_digit b ≡ true → begins_word b ≡ false
+pub digit_begins : (b : ℕ) → is_digit b ≡ true → begins_word b ≡ false
 digit_begins b e = grind (arith, nat_tests)
 
 -- how far the token at the front reaches

@@ -1,7 +1,7 @@
 // The token at the front of the bytes of a line.
 
-ghost use Rattle.std.specs.Prelude.{◌∷◌, ◌≡◌, ◌<◌, ◌≤◌, ◌+◌, [], length, take_while, IfSome, IfOk, MatchOption, drop};
-ghost use Rattle.mj_ast.specs.Tokens.{front_of, lexemes, IsTokenisation, quotation, quoted_token, class_of, is_digit, continues_word, bracket_front, truth_front, apostrophe_sign, longest_sign, begins_word, dollar_word, dollar_front};
+ghost use Rattle.std.specs.Prelude.{◌∷◌, ◌≡◌, ◌<◌, ◌≤◌, ◌+◌, List, [], length, take_while, IfSome, IfOk, MatchOption, drop};
+ghost use Rattle.mj_ast.specs.Tokens.{Lexeme as Spelled, front_of, lexemes, IsTokenisation, quotation, quoted_token, class_of, is_digit, continues_word, bracket_front, truth_front, apostrophe_sign, longest_sign, begins_word, dollar_word, dollar_front};
 ghost use Rattle.mj_lex.specs.Seen.{BeginsWith, placed, places_seen, class_seen, token_seen};
 
 use crate::token::{Lexeme, Token};
@@ -251,10 +251,12 @@ fn front(bytes: &[u8]) -> Option<(Token<'_>, &[u8])>
     }
 }
 
-/// The tokens of a line, from the left: their slices are the line, and each is the longest that spells a token.
+/// The tokens of a line, from the left: their slices are the line, and each is the longest that spells a token. There is one such
+/// list.
 pub fn tokens<'a>(alloc: Global, line: &'a [u8]) -> Result<Vec<Lexeme<'a>>, AllocError>
     ensures placed { IfOk result (λ v. places_seen v.items ≡ placed 0 (lexemes line.now)) }
     ensures longest { IsTokenisation line.now (lexemes line.now) }
+    ensures only { (others : List Spelled) → IsTokenisation line.now others → others ≡ lexemes line.now }
 {
     // No line has more tokens than bytes.
     let mut lexemes = Vec::with_capacity(alloc, line.len())?;

@@ -3,12 +3,12 @@ use Rattle.std.proofs.Common.{◌≡◌, ℕ, ◌-◌, ◌<◌, ◌==◌, nat_le
 use Rattle.std.specs.Prelude.{cond}
 use Rattle.std.proofs.lemmas.Bool.Decides.{nat_tests}
 use Rattle.mj_ast.specs.declared.sign.Sign.TheVariants.{Colon, Comma, Open, Close, Dot}
-use Rattle.mj_ast.specs.declared.keyword.Keyword.{Keyword}
+use Rattle.mj_ast.specs.declared.keyword.Verb.{Verb}
 use Rattle.mj_ast.specs.Syntax.{Expr}
 use Rattle.mj_ast.specs.Tokens.{Token, Word, Called, Special, Digits, Quoted, Signed, Blank, Comment, Unclosed, Stray}
 use Rattle.mj_ast.specs.Expressions.{Symbol, Overlong, symbol, name_limit}
 use Rattle.mj_ast.specs.Expressions as grammar
-use Rattle.mj_ast.specs.Commands.{Part, keyword_of, is_conditional}
+use Rattle.mj_ast.specs.Commands.{Part, verb_of, bare_of, is_conditional}
 use Rattle.mj_expr.specs.Machine.{Limits}
 use Rattle.mj_expr.specs.Machine as phrase
 use Rattle.mj_expr.proofs.Turns.{IsReached, step_reached, NextReached, IsPlain, CommaAfter, comma_after, plain_easy, comma_level, IsNoLevel, IsEasy, overlong_stuck, step_deep, DeepBy}
@@ -125,15 +125,15 @@ choice_spot : (p : Spot) (b : Bool) → ToSpot (cond b (Go (At p)) Stuck)
 choice_spot p true = tt
 choice_spot p false = tt
 
-opened_spot : (l : Sentence) (condition : Option Expr) (k : Keyword) (q : Option Node) → ToSpot (opened l condition k q)
+opened_spot : (l : Sentence) (condition : Option Expr) (k : Verb) (q : Option Node) → ToSpot (opened l condition k q)
 opened_spot l condition k (Some n) = tt
 opened_spot l condition k None = tt
 
-moved_spot : (l : Sentence) (condition : Option Expr) (k : Keyword) (done : List Part) (q : Option Node) → ToSpot (moved l condition k done q)
+moved_spot : (l : Sentence) (condition : Option Expr) (k : Verb) (done : List Part) (q : Option Node) → ToSpot (moved l condition k done q)
 moved_spot l condition k done (Some n) = tt
 moved_spot l condition k done None = tt
 
-taken_spot : (l : Sentence) (condition : Option Expr) (k : Keyword) (done : List Part) (n : Node) (q : Option Part) → ToSpot (taken l condition k done n q)
+taken_spot : (l : Sentence) (condition : Option Expr) (k : Verb) (done : List Part) (n : Node) (q : Option Part) → ToSpot (taken l condition k done n q)
 taken_spot l condition k done n (Some p) = moved_spot l condition k (done ++ p ∷ []) (takes n p)
 taken_spot l condition k done n None = tt
 
@@ -151,24 +151,24 @@ own_spot (FormalBehind label names) (Signed Close) = tt
 own_spot (FormalsEnd label names) Blank = tt
 own_spot (Indented l) Blank = tt
 own_spot (Indented l) (Signed Dot) = tt
-own_spot (Worded l k) (Signed Colon) = choice_spot (Asked l k) (is_conditional k)
+own_spot (Worded l k) (Signed Colon) = choice_spot (Asked l k) (is_conditional (bare_of k))
 own_spot (Worded l k) Blank = opened_spot l None k (first_node k)
 own_spot (Bare l condition k) Blank = opened_spot l condition k (first_node k)
 own_spot (Args l condition k done n) t = taken_spot l condition k done n (part_at (labels n) t)
 own_spot p k = tt
 
-begins_spot : (o : Sentence) (q : Option Keyword) → ToSpot (begins o q)
+begins_spot : (o : Sentence) (q : Option Verb) → ToSpot (begins o q)
 begins_spot o (Some k) = tt
 begins_spot o None = tt
 
-word_spot : (o : Sentence) (q : Option Keyword) (b : Bool) → ToSpot (cond b (begins o q) Stuck)
+word_spot : (o : Sentence) (q : Option Verb) (b : Bool) → ToSpot (cond b (begins o q) Stuck)
 word_spot o q true = begins_spot o q
 word_spot o q false = tt
 
 on_spot : (q : Option Rest) (k : Token) → ToSpot (on_rested q k)
 on_spot (Some r) Blank = tt
 on_spot (Some r) (Comment text) = choice_spot (Over r.line) (r.comment == 0)
-on_spot (Some r) (Word w) = word_spot r.line (keyword_of w) (r.gap == 0)
+on_spot (Some r) (Word w) = word_spot r.line (verb_of w) (r.gap == 0)
 on_spot (Some r) k = tt
 on_spot None k = tt
 

@@ -8,11 +8,12 @@ use Rattle.mj_ast.specs.declared.sign.Sign.TheVariants.{Equals, Comma, Colon, Cl
 use Rattle.mj_ast.specs.declared.function.Function.TheVariants.{Piece}
 use Rattle.mj_ast.specs.declared.function.Callee.TheVariants.{Texts}
 use Rattle.mj_ast.specs.declared.keyword.Keyword.{Keyword}
+use Rattle.mj_ast.specs.declared.keyword.Verb.{Verb}
 use Rattle.mj_ast.specs.declared.expr.Scope.TheVariants.{Local, Global}
 use Rattle.mj_ast.specs.Syntax.{Expr, Variable, Var}
 use Rattle.mj_ast.specs.Tokens.{Token, Word, Digits, Signed, Blank, Comment, Called, Special, Quoted, Unclosed, Stray}
 use Rattle.mj_ast.specs.Expressions.{Symbol, Constant, Inherent, Name, Applied, Overlong, Mark, Other, symbol, expr_symbols, variable_symbols, expr_nesting, expr_width, callee_of}
-use Rattle.mj_ast.specs.Commands.{Part, Put, Named, Label, PieceCall, Text, Place, Control, is_local, SpellsPart, SpellsParts, SpellsCondition, SpellsArguments, IsConditional, greatest, part_nesting, part_width, condition_measure, gap_of, comment_gap_of, keyword_of}
+use Rattle.mj_ast.specs.Commands.{Part, Put, Named, Label, PieceCall, Text, Place, Control, is_local, SpellsPart, SpellsParts, SpellsCondition, SpellsArguments, IsConditional, greatest, part_nesting, part_width, condition_measure, gap_of, comment_gap_of, verb_of, bare_of, meant, is_conditional}
 use Rattle.mj_ast.specs.Lines.{SpellsEnd, SpellsLabel, comment_gap, SpellsFormals, SpellsDots, comma_names, name_tokens, gap_behind}
 use Rattle.mj_expr.specs.Machine.{Limits}
 use Rattle.mj_expr.specs.Machine as phrase
@@ -21,7 +22,7 @@ use Rattle.mj_expr.proofs.Complete.{Ceases, complete_phrase}
 use Rattle.mj_line.specs.Forms.{next_of, Node, Want, AnExpr, AVar, ALocal, piece_part, part_of, part_at, labels, takes, wants, ends, first_node, may_be_bare, Fits, IsForm}
 use Rattle.mj_line.specs.Sentences.{Clause, Sentence, SpellsClause, SpellsClauses, SpellsSentence, clause_nesting, clause_width, IsWithin}
 use Rattle.mj_line.specs.Machine.{Rest, Spot, Begin, Behind, Worded, Asked, Bare, Args, Goal, Condition, Argument, At, In, empty_line, labelled, clause, with_clause, bare_rest, args_rest, expression_wanted, start, wanted, may_want, may_begin, level, level_of, inside, behind, bare_rested, rested, argument, entry, Next, Go, Stuck, Deep, Long, opened, moved, taken, begins, on, on_rested, first, spot_step, phrase_step, in_step, entering, step, ended_at, ended_spot, Accept, run, turn, Labelled, FormalsOpened, FormalWanted, FormalBehind, FormalsEnd, Indented, headed, dotted, is_new}
-use Rattle.mj_line.proofs.Tables.{label_wanted, name_wanted, shut, first_ends, followed, FollowsWant, apart_at, part_taken}
+use Rattle.mj_line.proofs.Tables.{conditional_bare, label_wanted, name_wanted, shut, first_ends, followed, FollowsWant, apart_at, part_taken}
 use Rattle.mj_line.proofs.Formals.{AreNew, formals_new, dotted_by, dotted_is}
 use Rattle.mj_line.proofs.Leaves.{want_kind}
 use Rattle.mj_line.proofs.Facts.{lift_accept, plain_step, start_stuck}
@@ -147,7 +148,7 @@ comment_at : (b : Bool) (text : List ℕ) → part_at b (Comment text) ≡ None
 comment_at true text = refl
 comment_at false text = refl
 
-pub args_rests : (o : Sentence) (condition : Option Expr) (k : Keyword) (done : List Part) (n : Node) → ends n ≡ true → Rests (Args o condition k done n) (args_rest o condition k done)
+pub args_rests : (o : Sentence) (condition : Option Expr) (k : Verb) (done : List Part) (n : Node) → ends n ≡ true → Rests (Args o condition k done n) (args_rest o condition k done)
 args_rests o condition k done n e =
     let r = args_rest o condition k done in
     record {
@@ -179,7 +180,7 @@ want_begins m w x xs p r e h =
     refused_accept (x ∷ xs) p r (sym (want_refuses w (x ∷ xs)) ∙ sym (ap (phrase.turn m xs (wanted w) x) h) ∙ e)
 
 -- a spot where no such token is taken doesn't go on with it
-untaken : (o : Sentence) (condition : Option Expr) (k : Keyword) (done : List Part) (n : Node) (q : Option Part) → part_taken n q ≡ None → taken o condition k done n q ≡ Stuck
+untaken : (o : Sentence) (condition : Option Expr) (k : Verb) (done : List Part) (n : Node) (q : Option Part) → part_taken n q ≡ None → taken o condition k done n q ≡ Stuck
 untaken o condition k done n (Some p) e = ap (moved o condition k (done ++ p ∷ [])) e
 untaken o condition k done n None e = refl
 
@@ -188,7 +189,7 @@ unrested r b t g (inr e) = e
 unrested r false t g (inl h) = refl
 unrested r true Blank g (inl h) = absurd (h refl)
 unrested r true (Comment text) g (inl h) = absurd (h refl)
-unrested r true (Word w) g (inl h) = ap (λ (n : ℕ). cond (n == 0) (begins r.line (keyword_of w)) Stuck) g
+unrested r true (Word w) g (inl h) = ap (λ (n : ℕ). cond (n == 0) (begins r.line (verb_of w)) Stuck) g
 unrested r true (Digits d) g (inl h) = refl
 unrested r true (Signed s) g (inl h) = refl
 unrested r true (Quoted q) g (inl h) = refl
@@ -197,7 +198,7 @@ unrested r true (Special w) g (inl h) = refl
 unrested r true (Unclosed x) g (inl h) = refl
 unrested r true (Stray x) g (inl h) = refl
 
-enter_step : (m : Limits) (o : Sentence) (condition : Option Expr) (k : Keyword) (done : List Part) (n : Node) (w : Want) (t : Token) → wants n ≡ Some w → may_want w (symbol t) ≡ true → (phrase.step (inside m (level_of w)) (wanted w) (symbol t) ≡ phrase.Stuck → ⊥) → (phrase.step (inside m (level_of w)) (wanted w) (symbol t) ≡ phrase.Stuck) ⊎ (part_taken n (part_at (labels n) t) ≡ None) →
+enter_step : (m : Limits) (o : Sentence) (condition : Option Expr) (k : Verb) (done : List Part) (n : Node) (w : Want) (t : Token) → wants n ≡ Some w → may_want w (symbol t) ≡ true → (phrase.step (inside m (level_of w)) (wanted w) (symbol t) ≡ phrase.Stuck → ⊥) → (phrase.step (inside m (level_of w)) (wanted w) (symbol t) ≡ phrase.Stuck) ⊎ (part_taken n (part_at (labels n) t) ≡ None) →
     step m (At (Args o condition k done n)) t ≡ in_step m (Argument o condition k done w) (wanted w) t
 enter_step m o condition k done n w t e y h (inl i) = absurd (h i)
 enter_step m o condition k done n w t e y h (inr i) =
@@ -214,7 +215,7 @@ MayStart w [] = Unit {0}
 MayStart w (x ∷ xs) = may_want w x ≡ true
 
 -- a phrase that is read where it begins
-pub enter_run : (m : Limits) (o : Sentence) (condition : Option Expr) (k : Keyword) (done : List Part) (n : Node) (w : Want) (ks : List Token) (p : phrase.Phrase) (r : List Symbol) → wants n ≡ Some w → MayStart w (map symbol ks) → phrase.run (inside m (level_of w)) (map symbol ks) (wanted w) ≡ phrase.Accept p r →
+pub enter_run : (m : Limits) (o : Sentence) (condition : Option Expr) (k : Verb) (done : List Part) (n : Node) (w : Want) (ks : List Token) (p : phrase.Phrase) (r : List Symbol) → wants n ≡ Some w → MayStart w (map symbol ks) → phrase.run (inside m (level_of w)) (map symbol ks) (wanted w) ≡ phrase.Accept p r →
     run m ks (At (Args o condition k done n)) ≡ run m ks (In (Argument o condition k done w) (wanted w))
 enter_run m o condition k done n w [] p r e y h = absurd (refused_accept [] p r (sym (want_refuses w []) ∙ h))
 enter_run m o condition k done n w (t ∷ ks) p r e y h =
@@ -228,9 +229,11 @@ follows_ceases (AnExpr lv next) (Put Colon) front rest h s = let P : List Token 
 follows_ceases (AVar lv next) (Put Equals) front rest h s = let P : List Token → Type 0 = λ ks. Ceases AVariable (map symbol (ks ++ rest)) in subst P (sym s) tt
 follows_ceases (AVar lv next) (Put Comma) front rest h s = let P : List Token → Type 0 = λ ks. Ceases AVariable (map symbol (ks ++ rest)) in subst P (sym s) tt
 follows_ceases (AVar lv next) (Put Close) front rest h s = let P : List Token → Type 0 = λ ks. Ceases AVariable (map symbol (ks ++ rest)) in subst P (sym s) tt
+follows_ceases (AVar lv next) (Put Colon) front rest h s = let P : List Token → Type 0 = λ ks. Ceases AVariable (map symbol (ks ++ rest)) in subst P (sym s) tt
 follows_ceases (ALocal next) (Put Equals) front rest h s = let P : List Token → Type 0 = λ ks. Ceases AVariable (map symbol (ks ++ rest)) in subst P (sym s) tt
 follows_ceases (ALocal next) (Put Comma) front rest h s = let P : List Token → Type 0 = λ ks. Ceases AVariable (map symbol (ks ++ rest)) in subst P (sym s) tt
 follows_ceases (ALocal next) (Put Close) front rest h s = let P : List Token → Type 0 = λ ks. Ceases AVariable (map symbol (ks ++ rest)) in subst P (sym s) tt
+follows_ceases (ALocal next) (Put Colon) front rest h s = let P : List Token → Type 0 = λ ks. Ceases AVariable (map symbol (ks ++ rest)) in subst P (sym s) tt
 follows_ceases (AnExpr lv next) p front rest h s = absurd h
 follows_ceases (ALocal next) p front rest h s = absurd h
 follows_ceases (AVar lv next) p front rest h s = absurd h
@@ -254,7 +257,7 @@ local_starts : (next : Node) (v : Variable) (ys : List Symbol) → is_local v �
 local_starts next (Var Local word es) ys h = refl
 local_starts next (Var Global word es) ys h = absurd (let f : false ≡ true = h in cc)
 
-read_phrase : (m : Limits) (o : Sentence) (condition : Option Expr) (k : Keyword) (done : List Part) (n : Node) (w : Want) (x : phrase.Phrase) (front rest : List Token) (xs : List Symbol) → wants n ≡ Some w → map symbol front ≡ xs → MayStart w (xs ++ map symbol rest) → phrase.run (inside m (level_of w)) (xs ++ map symbol rest) (wanted w) ≡ phrase.Accept x (map symbol rest) →
+read_phrase : (m : Limits) (o : Sentence) (condition : Option Expr) (k : Verb) (done : List Part) (n : Node) (w : Want) (x : phrase.Phrase) (front rest : List Token) (xs : List Symbol) → wants n ≡ Some w → map symbol front ≡ xs → MayStart w (xs ++ map symbol rest) → phrase.run (inside m (level_of w)) (xs ++ map symbol rest) (wanted w) ≡ phrase.Accept x (map symbol rest) →
     run m (front ++ rest) (At (Args o condition k done n)) ≡ run m rest (At (behind (Argument o condition k done w) x))
 read_phrase m o condition k done n w x front rest xs e s y h =
     let g = Argument o condition k done w in
@@ -266,7 +269,7 @@ read_phrase m o condition k done n w x front rest xs e s y h =
 
 -- ---- arguments
 
-token_run : (m : Limits) (o : Sentence) (condition : Option Expr) (k : Keyword) (done : List Part) (n next : Node) (t : Token) (p : Part) (ks : List Token) → part_at (labels n) t ≡ Some p → takes n p ≡ Some next →
+token_run : (m : Limits) (o : Sentence) (condition : Option Expr) (k : Verb) (done : List Part) (n next : Node) (t : Token) (p : Part) (ks : List Token) → part_at (labels n) t ≡ Some p → takes n p ≡ Some next →
     run m (t ∷ ks) (At (Args o condition k done n)) ≡ run m ks (At (Args o condition k (done ++ p ∷ []) next))
 token_run m o condition k done n next t p ks e h =
     let s = Args o condition k done n in
@@ -304,7 +307,7 @@ called_at : (b : Bool) (w : List ℕ) → length w ≤ 31 → callee_of w ≡ So
 called_at true w h e = called_part w h e
 called_at false w h e = called_part w h e
 
-label_run : (m : Limits) (o : Sentence) (condition : Option Expr) (k : Keyword) (done : List Part) (n next : Node) (z : List ℕ) (front rest : List Token) {whole : List Token} → takes n (Label z) ≡ Some next → SpellsPart front (Label z) → whole ≡ front ++ rest →
+label_run : (m : Limits) (o : Sentence) (condition : Option Expr) (k : Verb) (done : List Part) (n next : Node) (z : List ℕ) (front rest : List Token) {whole : List Token} → takes n (Label z) ≡ Some next → SpellsPart front (Label z) → whole ≡ front ++ rest →
     run m whole (At (Args o condition k done n)) ≡ run m rest (At (Args o condition k (done ++ Label z ∷ []) next))
 label_run m o condition k done n next z front rest f (inl s) w =
     ap (λ (ks : List Token). run m ks (At (Args o condition k done n))) (w ∙ ap (λ (ks : List Token). ks ++ rest) s.0)
@@ -313,7 +316,7 @@ label_run m o condition k done n next z front rest f (inr s) w =
     ap (λ (ks : List Token). run m ks (At (Args o condition k done n))) (w ∙ ap (λ (ks : List Token). ks ++ rest) s.0)
     ∙ token_run m o condition k done n next (Digits z) (Label z) rest (digits_at (labels n) z (label_wanted n next z f) s.1) f
 
-pub complete_args : (ps : List Part) (m : Limits) (o : Sentence) (condition : Option Expr) (k : Keyword) (done : List Part) (n : Node) (front rest : List Token) → Fits n ps → SpellsParts front ps → greatest part_nesting ps ≤ m.depth → greatest part_width ps ≤ m.width → Parted rest →
+pub complete_args : (ps : List Part) (m : Limits) (o : Sentence) (condition : Option Expr) (k : Verb) (done : List Part) (n : Node) (front rest : List Token) → Fits n ps → SpellsParts front ps → greatest part_nesting ps ≤ m.depth → greatest part_width ps ≤ m.width → Parted rest →
     run m (front ++ rest) (At (Args o condition k done n)) ≡ run m rest (At (Behind (args_rest o condition k (done ++ ps))))
 complete_args [] m o condition k done n front rest f s d w h =
     ap (λ (ks : List Token). run m (ks ++ rest) (At (Args o condition k done n))) s
@@ -367,7 +370,7 @@ complete_args (Control v ∷ ps) m o condition k done n front rest f s d w h =
 -- ---- commands
 
 -- no arguments
-bare_blank : (m : Limits) (o : Sentence) (condition : Option Expr) (k : Keyword) (ks : List Token) (q : Option Node) → first_node k ≡ q → may_be_bare k ≡ true → Parted ks → run m (Blank ∷ ks) (At (Bare o condition k)) ≡ run m ks (At (Behind (args_rest o condition k [])))
+bare_blank : (m : Limits) (o : Sentence) (condition : Option Expr) (k : Verb) (ks : List Token) (q : Option Node) → first_node k ≡ q → may_be_bare k ≡ true → Parted ks → run m (Blank ∷ ks) (At (Bare o condition k)) ≡ run m ks (At (Behind (args_rest o condition k [])))
 bare_blank m o condition k ks (Some n) e b h =
     ap (λ (q : Option Node). turn m ks Blank (first (first (opened o condition k q) (on_rested (rested (Bare o condition k)) Blank)) Stuck)) e
     ∙ run_rests m (Args o condition k [] n) (args_rest o condition k []) ks (args_rests o condition k [] n (first_ends k n e b)) h
@@ -378,7 +381,7 @@ bare_blank m o condition k ks None e b h =
 comment_stuck : (n : Next) → first n Stuck ≡ n
 comment_stuck n = first_stuck n
 
-pub complete_bare : (m : Limits) (o : Sentence) (condition : Option Expr) (k : Keyword) (ks : List Token) → may_be_bare k ≡ true → Parted2 ks → run m ks (At (Bare o condition k)) ≡ run m ks (At (Behind (bare_rest o condition k)))
+pub complete_bare : (m : Limits) (o : Sentence) (condition : Option Expr) (k : Verb) (ks : List Token) → may_be_bare k ≡ true → Parted2 ks → run m ks (At (Bare o condition k)) ≡ run m ks (At (Behind (bare_rest o condition k)))
 complete_bare m o condition k [] b h = ap (λ (x : Bool). ended_at (bare_rested x (bare_rest o condition k))) b
 complete_bare m o condition k (Blank ∷ ks) b h = bare_blank m o condition k ks (first_node k) refl b h
 complete_bare m o condition k (Comment text ∷ ks) b h = ap (λ (x : Bool). turn m ks (Comment text) (first (on_rested (bare_rested x (bare_rest o condition k)) (Comment text)) Stuck)) b
@@ -395,11 +398,11 @@ complete_bare m o condition k (Stray x ∷ ks) b h = absurd h
 abbrev pub clause_rest : Sentence → Option Expr → Keyword → List Part → Rest
 clause_rest o condition k ps = record { line = with_clause o (clause condition k ps); gap = gap_of ps; comment = comment_gap_of ps }
 
-pub blank_opens : (m : Limits) (o : Sentence) (condition : Option Expr) (k : Keyword) (n : Node) (ks : List Token) → first_node k ≡ Some n → run m (Blank ∷ ks) (At (Bare o condition k)) ≡ run m ks (At (Args o condition k [] n))
+pub blank_opens : (m : Limits) (o : Sentence) (condition : Option Expr) (k : Verb) (n : Node) (ks : List Token) → first_node k ≡ Some n → run m (Blank ∷ ks) (At (Bare o condition k)) ≡ run m ks (At (Args o condition k [] n))
 blank_opens m o condition k n ks e = ap (λ (q : Option Node). turn m ks Blank (first (first (opened o condition k q) (on_rested (rested (Bare o condition k)) Blank)) Stuck)) e
 
-complete_arguments : (m : Limits) (o : Sentence) (condition : Option Expr) (k : Keyword) (ps : List Part) (front rest : List Token) → SpellsArguments front ps → IsForm k ps → greatest part_nesting ps ≤ m.depth → greatest part_width ps ≤ m.width → Gapped ps rest →
-    run m (front ++ rest) (At (Bare o condition k)) ≡ run m rest (At (Behind (clause_rest o condition k ps)))
+complete_arguments : (m : Limits) (o : Sentence) (condition : Option Expr) (k : Verb) (ps : List Part) (front rest : List Token) → SpellsArguments front ps → IsForm k ps → greatest part_nesting ps ≤ m.depth → greatest part_width ps ≤ m.width → Gapped ps rest →
+    run m (front ++ rest) (At (Bare o condition k)) ≡ run m rest (At (Behind (clause_rest o condition (meant k ps) ps)))
 complete_arguments m o condition k [] front rest s f d w h =
     ap (λ (ks : List Token). run m (ks ++ rest) (At (Bare o condition k))) s
     ∙ complete_bare m o condition k rest f h
@@ -422,20 +425,20 @@ parted_colon (Digits d ∷ ks) h = absurd h
 parted_colon (Signed s ∷ ks) h = absurd h
 parted_colon (k ∷ ks) h = absurd h
 
-pub worded_bare : (m : Limits) (o : Sentence) (k : Keyword) (ks : List Token) → NoColon ks → run m ks (At (Worded o k)) ≡ run m ks (At (Bare o None k))
+pub worded_bare : (m : Limits) (o : Sentence) (k : Verb) (ks : List Token) → NoColon ks → run m ks (At (Worded o k)) ≡ run m ks (At (Bare o None k))
 worded_bare m o k [] h = refl
 worded_bare m o k (Signed Colon ∷ ks) h = absurd h
 worded_bare m o k (Blank ∷ ks) h = refl
 worded_bare m o k (z ∷ ks) h = refl
 
-asked_stuck : (o : Sentence) (k : Keyword) (t : Token) → spot_step (Asked o k) t ≡ Stuck
+asked_stuck : (o : Sentence) (k : Verb) (t : Token) → spot_step (Asked o k) t ≡ Stuck
 asked_stuck o k t = refl
 
-asked_run : (m : Limits) (o : Sentence) (k : Keyword) (ks : List Token) (p : phrase.Phrase) (r : List Symbol) → phrase.run (inside m 0) (map symbol ks) expression_wanted ≡ phrase.Accept p r → run m ks (At (Asked o k)) ≡ run m ks (In (Condition o k) expression_wanted)
+asked_run : (m : Limits) (o : Sentence) (k : Verb) (ks : List Token) (p : phrase.Phrase) (r : List Symbol) → phrase.run (inside m 0) (map symbol ks) expression_wanted ≡ phrase.Accept p r → run m ks (At (Asked o k)) ≡ run m ks (In (Condition o k) expression_wanted)
 asked_run m o k [] p r h = absurd (refused_accept [] p r h)
 asked_run m o k (t ∷ ks) p r h = ap (λ (n : Next). turn m ks t (first n (in_step m (Condition o k) expression_wanted t))) (asked_stuck o k t)
 
-complete_condition : (m : Limits) (o : Sentence) (k : Keyword) (condition : Option Expr) (front rest : List Token) → SpellsCondition front condition → IsConditional k condition → condition_measure expr_nesting condition ≤ m.depth → condition_measure expr_width condition ≤ m.width → Parted rest →
+complete_condition : (m : Limits) (o : Sentence) (k : Verb) (condition : Option Expr) (front rest : List Token) → SpellsCondition front condition → IsConditional (bare_of k) condition → condition_measure expr_nesting condition ≤ m.depth → condition_measure expr_width condition ≤ m.width → Parted rest →
     run m (front ++ rest) (At (Worded o k)) ≡ run m rest (At (Bare o condition k))
 complete_condition m o k None front rest s c n w h =
     ap (λ (zs : List Token). run m (zs ++ rest) (At (Worded o k))) s
@@ -454,11 +457,13 @@ arguments_parted (p ∷ ps) front rest s h = let P : List Token → Type 0 = λ 
 complete_clause : (m : Limits) (o : Sentence) (c : ℕ) (x : Clause) (front rest : List Token) → SpellsClause front x → clause_nesting x ≤ m.depth → clause_width x ≤ m.width → Gapped x.parts rest →
     run m (front ++ rest) (At (Behind (record { line = o; gap = 0; comment = c }))) ≡ run m rest (At (Behind (clause_rest o x.condition x.keyword x.parts)))
 complete_clause m o c x front rest h n w i =
+    let C : Keyword → Type 0 = λ k. IsConditional k x.condition in
     ap (λ (zs : List Token). run m (zs ++ rest) (At (Behind (record { line = o; gap = 0; comment = c })))) h.3
-    ∙ ap (λ (q : Option Keyword). turn m ((h.1 ++ h.2) ++ rest) (Word h.0) (first (begins o q) Stuck)) h.4
-    ∙ ap (λ (zs : List Token). run m zs (At (Worded o x.keyword))) (append_assoc h.1 h.2 rest)
-    ∙ complete_condition m o x.keyword x.condition h.1 (h.2 ++ rest) h.5 h.8 (omega arith) (omega arith) (arguments_parted x.parts h.2 rest h.6 i)
-    ∙ complete_arguments m o x.condition x.keyword x.parts h.2 rest h.6 h.7 (omega arith) (omega arith) i
+    ∙ ap (λ (q : Option Verb). turn m ((h.1 ++ h.2) ++ rest) (Word h.0) (first (begins o q) Stuck)) h.4.1
+    ∙ ap (λ (zs : List Token). run m zs (At (Worded o h.4.0))) (append_assoc h.1 h.2 rest)
+    ∙ complete_condition m o h.4.0 x.condition h.1 (h.2 ++ rest) h.5 (conditional_bare h.4.0 x.parts x.condition (subst C h.4.2 h.8)) (omega arith) (omega arith) (arguments_parted x.parts h.2 rest h.6 i)
+    ∙ complete_arguments m o x.condition h.4.0 x.parts h.2 rest h.6 h.7 (omega arith) (omega arith) i
+    ∙ ap (λ (k : Keyword). run m rest (At (Behind (clause_rest o x.condition k x.parts)))) (sym h.4.2)
 
 -- ---- lines
 

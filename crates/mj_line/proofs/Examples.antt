@@ -1,6 +1,11 @@
 -- Rows of the machine: what stands in front of the commands of a line.
 use Rattle.std.proofs.Common.{◌≡◌, List, ℕ, [], ◌∷◌, None, refl, codes}
 use Rattle.mj_ast.specs.declared.keyword.Keyword.TheVariants as keyword
+use Rattle.std.specs.Fmt.{digits}
+use Rattle.mj_ast.specs.declared.sign.Sign.TheVariants.{Plus, Open, Close, Comma, Colon}
+use Rattle.mj_ast.specs.declared.expr.Scope.TheVariants.{Local}
+use Rattle.mj_ast.specs.Syntax.{Chain, Done, Literal, Var, No}
+use Rattle.mj_ast.specs.Commands.{Part, Put, Label, Text, Place}
 use Rattle.mj_ast.specs.Tokens.{lexemes, tokens}
 use Rattle.mj_expr.specs.Reads.{limits}
 use Rattle.mj_line.specs.Machine.{Begin, At, Outcome, Accept, StuckAt, TooLong, clause, dotted, empty_line, headed, labelled, with_clause, run}
@@ -52,3 +57,48 @@ dot_in_front = refl
 long_formal : read (codes "A(ABCDEFGHIJKLMNOPQRSTUVWXYZ012345)") ≡ TooLong
 unfolding lexemes
 long_formal = refl
+
+-- `H` is HALT, or HANG where an argument stands behind it
+abbrev five : Part
+five = Text 0 (Chain (Literal (codes "5")) Done)
+
+abbrev an_a : Part
+an_a = Place 0 (Var Local (codes "A") No)
+
+halts : read (codes " H") ≡ Accept (with_clause empty_line (clause None keyword.Halt []))
+unfolding lexemes
+halts = refl
+
+halts_before_a_comment : read (codes " H ;c") ≡ Accept (with_clause empty_line (clause None keyword.Halt []))
+unfolding lexemes
+halts_before_a_comment = refl
+
+hangs : read (codes " h 5") ≡ Accept (with_clause empty_line (clause None keyword.Hang (five ∷ [])))
+unfolding lexemes digits
+hangs = refl
+
+halt_has_no_argument : read (codes " HALT 5") ≡ StuckAt 1
+unfolding lexemes
+halt_has_no_argument = refl
+
+hang_has_one : read (codes " HANG") ≡ StuckAt 0
+unfolding lexemes
+hang_has_one = refl
+
+-- behind the first colon of JOB stands a second one
+waits : read (codes " J A::5") ≡ Accept (with_clause empty_line (clause None keyword.Job (Label (codes "A") ∷ Put Colon ∷ Put Colon ∷ five ∷ [])))
+unfolding lexemes digits
+waits = refl
+
+waits_behind_two : read (codes " J A:5") ≡ StuckAt 1
+unfolding lexemes
+waits_behind_two = refl
+
+-- an argument of LOCK has one sign at most
+locks : read (codes " L +(A,A):5") ≡ Accept (with_clause empty_line (clause None keyword.Lock (Put Plus ∷ Put Open ∷ an_a ∷ Put Comma ∷ an_a ∷ Put Close ∷ Put Colon ∷ five ∷ [])))
+unfolding lexemes digits
+locks = refl
+
+one_sign : read (codes " L +-A") ≡ StuckAt 2
+unfolding lexemes
+one_sign = refl

@@ -6,11 +6,11 @@ use Rattle.std.proofs.lemmas.List.{map-append, length-map}
 use Rattle.std.proofs.lemmas.Bool.Decides.{nat_tests}
 use Rattle.mj_ast.specs.declared.sign.Sign.{Sign}
 use Rattle.mj_ast.specs.declared.sign.Sign.TheVariants.{Comma, Caret, Open}
-use Rattle.mj_ast.specs.declared.keyword.Keyword.{Keyword}
+use Rattle.mj_ast.specs.declared.keyword.Verb.{Verb}
 use Rattle.mj_ast.specs.Syntax.{Expr}
 use Rattle.mj_ast.specs.Tokens.{Token, Word, Digits, Quoted, Signed, Blank, Comment, Unclosed, Stray, Called, Special}
 use Rattle.mj_ast.specs.Expressions.{levels_of, Symbol, Constant, Inherent, Name, Applied, Overlong, Mark, symbol, Other, function_symbol, callee_of, special_symbol, special_of}
-use Rattle.mj_ast.specs.Commands.{Part, Named, Label, keyword_of, looked_up, command_words, capital}
+use Rattle.mj_ast.specs.Commands.{Part, Named, Label, verb_of, looked_up, command_words, capital}
 use Rattle.mj_ast.specs.Lines.{Filler}
 use Rattle.mj_oper.specs.declared.op.UnaryOp.{UnaryOp}
 use Rattle.mj_expr.specs.Machine.{Limits}
@@ -57,7 +57,7 @@ FactsAt m s k = Facts m s k (λ l. step l s k) (step m s k)
 -- ---- words that are too long
 
 -- no row has a longer word than a name
-abbrev rows_short : List (List ℕ × Keyword) → Bool
+abbrev rows_short : List (List ℕ × Verb) → Bool
 rows_short [] = true
 rows_short (row ∷ rows) = nat_le (length row.0) 31 && rows_short rows
 
@@ -69,23 +69,23 @@ and_second : (a b : Bool) → a && b ≡ true → b ≡ true
 and_second true b e = e
 and_second false b e = absurd (let f : false ≡ true = e in cc)
 
-found_short : (w : List ℕ) (row : List ℕ × Keyword) (o : Option Keyword) (k : Keyword) (b : Bool) → bytes_eq w row.0 ≡ b → nat_le (length row.0) 31 ≡ true → (o ≡ Some k → length w ≤ 31) → cond b (Some row.1) o ≡ Some k → length w ≤ 31
+found_short : (w : List ℕ) (row : List ℕ × Verb) (o : Option Verb) (k : Verb) (b : Bool) → bytes_eq w row.0 ≡ b → nat_le (length row.0) 31 ≡ true → (o ≡ Some k → length w ≤ 31) → cond b (Some row.1) o ≡ Some k → length w ≤ 31
 found_short w row o k true e h f g = let same = (bytes_eq-Decides w row.0).0 e in let n = ap (length {A = ℕ}) same in let z : length row.0 ≤ 31 = grind (arith, nat_tests) in omega arith
 found_short w row o k false e h f g = f g
 
-looked_short : (w : List ℕ) (rows : List (List ℕ × Keyword)) (k : Keyword) → rows_short rows ≡ true → looked_up w rows ≡ Some k → length w ≤ 31
+looked_short : (w : List ℕ) (rows : List (List ℕ × Verb)) (k : Verb) → rows_short rows ≡ true → looked_up w rows ≡ Some k → length w ≤ 31
 looked_short w [] k h e = absurd (none_some k e)
 looked_short w (row ∷ rows) k h e =
     found_short w row (looked_up w rows) k (bytes_eq w row.0) refl (and_first (nat_le (length row.0) 31) (rows_short rows) h)
     (λ f. looked_short w rows k (and_second (nat_le (length row.0) 31) (rows_short rows) h) f) e
 
-long_as : (w : List ℕ) (o : Option Keyword) → keyword_of w ≡ o → 31 < length w → o ≡ None
+long_as : (w : List ℕ) (o : Option Verb) → verb_of w ≡ o → 31 < length w → o ≡ None
 long_as w None e h = refl
 long_as w (Some k) e h = absurd (let n = looked_short (map capital w) command_words k refl e in let z = length-map w capital in omega arith)
 
 -- no command has such a word
-pub long_keyword : (w : List ℕ) → 31 < length w → keyword_of w ≡ None
-long_keyword w h = long_as w (keyword_of w) refl h
+pub long_keyword : (w : List ℕ) → 31 < length w → verb_of w ≡ None
+long_keyword w h = long_as w (verb_of w) refl h
 
 le_false : (n : ℕ) → 31 < n → nat_le n 31 ≡ false
 le_false n h = grind (arith, nat_tests)
@@ -109,7 +109,7 @@ own_long (FormalWanted label names) w h = ap (λ (b : Bool). cond b (Go (At (For
 own_long (Args l condition k done n) w h = ap (taken l condition k done n) (long_part (labels n) w h)
 own_long p w h = refl
 
-word_long : (l : Sentence) (w : List ℕ) (b : Bool) → 31 < length w → cond b (begins l (keyword_of w)) Stuck ≡ Stuck
+word_long : (l : Sentence) (w : List ℕ) (b : Bool) → 31 < length w → cond b (begins l (verb_of w)) Stuck ≡ Stuck
 word_long l w true h = ap (begins l) (long_keyword w h)
 word_long l w false h = refl
 
@@ -213,7 +213,7 @@ finished_as m g s k phrase.TooLong d e at f = λ l i. f l i ∙ ap (λ (x : phra
 
 -- ---- a run inside a phrase is the phrase's run
 
-want_closed : (l : Sentence) (condition : Option Expr) (k : Keyword) (done : List Part) (w : Want) (p : phrase.Phrase) → wants (next_of w) ≡ None → entry (behind_want l condition k done w p) ≡ None
+want_closed : (l : Sentence) (condition : Option Expr) (k : Verb) (done : List Part) (w : Want) (p : phrase.Phrase) → wants (next_of w) ≡ None → entry (behind_want l condition k done w p) ≡ None
 want_closed l condition k done (AnExpr lv next) (phrase.Whole e) h = ap (argument l condition k (done ++ _ ∷ [])) h
 want_closed l condition k done (AVar lv next) (phrase.Target v) h = ap (argument l condition k (done ++ _ ∷ [])) h
 want_closed l condition k done (ALocal next) (phrase.Target v) h = ap (argument l condition k (done ++ _ ∷ [])) h
@@ -436,12 +436,12 @@ start_sofar (Argument l condition k done w) = want_sofar w
 stuck_go : (t : phrase.State) → phrase.Stuck ≡ phrase.Go t → ⊥
 stuck_go t e = cc
 
-sought_begins : (l : Sentence) (condition : Option Expr) (k : Keyword) (done : List Part) (next : Node) (x : Symbol) (t : phrase.State) → may_want (ALocal next) x ≡ true → phrase.seek phrase.AsTarget x ≡ phrase.Go t → Begun (Argument l condition k done (ALocal next)) (x ∷ [])
+sought_begins : (l : Sentence) (condition : Option Expr) (k : Verb) (done : List Part) (next : Node) (x : Symbol) (t : phrase.State) → may_want (ALocal next) x ≡ true → phrase.seek phrase.AsTarget x ≡ phrase.Go t → Begun (Argument l condition k done (ALocal next)) (x ∷ [])
 sought_begins l condition k done next (Name word) t b e = tt
 sought_begins l condition k done next (Mark Caret) t b e = absurd (let f : false ≡ true = b in cc)
 sought_begins l condition k done next x t b e = absurd (stuck_go t e)
 
-want_begins : (m : Limits) (l : Sentence) (condition : Option Expr) (k : Keyword) (done : List Part) (w : Want) (x : Symbol) (t : phrase.State) → may_want w x ≡ true → phrase.step m (wanted w) x ≡ phrase.Go t → Begun (Argument l condition k done w) (x ∷ [])
+want_begins : (m : Limits) (l : Sentence) (condition : Option Expr) (k : Verb) (done : List Part) (w : Want) (x : Symbol) (t : phrase.State) → may_want w x ≡ true → phrase.step m (wanted w) x ≡ phrase.Go t → Begun (Argument l condition k done w) (x ∷ [])
 want_begins m l condition k done (AnExpr lv next) x t b e = tt
 want_begins m l condition k done (AVar lv next) x t b e = tt
 want_begins m l condition k done (ALocal next) x t b e = sought_begins l condition k done next x t b e
@@ -466,7 +466,7 @@ sought_deep (Name word) e = go_deep _ e
 sought_deep (Mark Caret) e = go_deep _ e
 sought_deep x e = stuck_deep e
 
-want_deep : (m : Limits) (l : Sentence) (condition : Option Expr) (k : Keyword) (done : List Part) (w : Want) (x : Symbol) (ks : List Symbol) → phrase.step m (wanted w) x ≡ phrase.Deep → Begun (Argument l condition k done w) ks
+want_deep : (m : Limits) (l : Sentence) (condition : Option Expr) (k : Verb) (done : List Part) (w : Want) (x : Symbol) (ks : List Symbol) → phrase.step m (wanted w) x ≡ phrase.Deep → Begun (Argument l condition k done w) ks
 want_deep m l condition k done (AnExpr lv next) x ks e = tt
 want_deep m l condition k done (AVar lv next) x ks e = tt
 want_deep m l condition k done (ALocal next) x ks e = absurd (sought_deep x e)

@@ -3,10 +3,11 @@ use Rattle.std.proofs.Common.{◌≡◌, ℕ, ◌≤◌, ◌==◌, nat_le, max, 
 use Rattle.std.specs.Prelude.{cond}
 use Rattle.mj_ast.specs.declared.sign.Sign.TheVariants.{Comma, Colon, Open, Close, Dot}
 use Rattle.mj_ast.specs.declared.keyword.Keyword.{Keyword}
+use Rattle.mj_ast.specs.declared.keyword.Verb.{Verb}
 use Rattle.mj_ast.specs.Syntax.{Expr}
 use Rattle.mj_ast.specs.Tokens.{Token, Word, Digits, Quoted, Signed, Blank, Comment, Unclosed, Stray, Called, Special}
 use Rattle.mj_ast.specs.Expressions.{symbol, name_limit, expr_nesting, expr_width}
-use Rattle.mj_ast.specs.Commands.{Part, Text, Place, Control, keyword_of, is_conditional, greatest, part_nesting, part_width, condition_measure}
+use Rattle.mj_ast.specs.Commands.{Part, Text, Place, Control, verb_of, bare_of, meant, is_conditional, greatest, part_nesting, part_width, condition_measure}
 use Rattle.mj_expr.specs.Machine.{Limits}
 use Rattle.mj_expr.specs.Machine as phrase
 use Rattle.mj_expr.proofs.Zipper.{Fits, IsGood, sofar}
@@ -79,7 +80,7 @@ part_good m l condition done p n w g = record {
 plain_good : (m : Limits) (l : Sentence) → IsWithin m.depth m.width l → IsGoodClause m l None []
 plain_good m l g = record { line = g; nests = omega arith; lists = omega arith }
 
-want_good : (m : Limits) (l : Sentence) (condition : Option Expr) (k : Keyword) (done : List Part) (w : Want) (p : phrase.Phrase) → 1 ≤ m.depth → level_of w ≤ 1 → IsGoodClause m l condition done → Fits (want_kind w) (inside m (level_of w)) p → SpotGood m (behind_want l condition k done w p)
+want_good : (m : Limits) (l : Sentence) (condition : Option Expr) (k : Verb) (done : List Part) (w : Want) (p : phrase.Phrase) → 1 ≤ m.depth → level_of w ≤ 1 → IsGoodClause m l condition done → Fits (want_kind w) (inside m (level_of w)) p → SpotGood m (behind_want l condition k done w p)
 want_good m l condition k done (AnExpr lv next) (phrase.Whole e) d i g f = part_good m l condition done (Text lv e) (let n = f.nests in omega arith) (let n = f.lists in omega arith) g
 want_good m l condition k done (AVar lv next) (phrase.Target v) d i g f = part_good m l condition done (Place lv v) (let n = f.nests in omega arith) (let n = f.lists in omega arith) g
 want_good m l condition k done (ALocal next) (phrase.Target v) d i g f = part_good m l condition done (Control v) (let n = f.nests in omega arith) (let n = f.lists in omega arith) g
@@ -110,25 +111,25 @@ rested_good m (FormalsEnd label names) g = record { nests = omega arith; lists =
 rested_good m (Indented l) g = g
 rested_good m (Behind r) g = g
 rested_good m (Over l) g = tt
-rested_good m (Worded l k) g = bare_good m (bare_rest l None k) (may_be_bare k) (clause_good m l None k [] (plain_good m l g))
+rested_good m (Worded l k) g = bare_good m (bare_rest l None k) (may_be_bare k) (clause_good m l None (bare_of k) [] (plain_good m l g))
 rested_good m (Asked l k) g = tt
-rested_good m (Bare l condition k) g = bare_good m (bare_rest l condition k) (may_be_bare k) (clause_good m l condition k [] g)
-rested_good m (Args l condition k done n) g = bare_good m (args_rest l condition k done) (ends n) (clause_good m l condition k done g)
+rested_good m (Bare l condition k) g = bare_good m (bare_rest l condition k) (may_be_bare k) (clause_good m l condition (bare_of k) [] g)
+rested_good m (Args l condition k done n) g = bare_good m (args_rest l condition k done) (ends n) (clause_good m l condition (meant k done) done g)
 
 -- a step keeps them
 abbrev pub NextGood : Limits → Next → Type 0
 NextGood m (Go s) = StateGood m s
 NextGood m n = Unit {0}
 
-opened_good : (m : Limits) (l : Sentence) (condition : Option Expr) (k : Keyword) (q : Option Node) → IsGoodClause m l condition [] → NextGood m (opened l condition k q)
+opened_good : (m : Limits) (l : Sentence) (condition : Option Expr) (k : Verb) (q : Option Node) → IsGoodClause m l condition [] → NextGood m (opened l condition k q)
 opened_good m l condition k (Some n) g = g
 opened_good m l condition k None g = tt
 
-moved_good : (m : Limits) (l : Sentence) (condition : Option Expr) (k : Keyword) (done : List Part) (q : Option Node) → IsGoodClause m l condition done → NextGood m (moved l condition k done q)
+moved_good : (m : Limits) (l : Sentence) (condition : Option Expr) (k : Verb) (done : List Part) (q : Option Node) → IsGoodClause m l condition done → NextGood m (moved l condition k done q)
 moved_good m l condition k done (Some n) g = g
 moved_good m l condition k done None g = tt
 
-taken_good : (m : Limits) (l : Sentence) (condition : Option Expr) (k : Keyword) (done : List Part) (n : Node) (t : Token) (q : Option Part) → part_at (labels n) t ≡ q → IsGoodClause m l condition done → NextGood m (taken l condition k done n q)
+taken_good : (m : Limits) (l : Sentence) (condition : Option Expr) (k : Verb) (done : List Part) (n : Node) (t : Token) (q : Option Part) → part_at (labels n) t ≡ q → IsGoodClause m l condition done → NextGood m (taken l condition k done n q)
 taken_good m l condition k done n t (Some p) e g =
     let a = alone_at (labels n) t p e in
     moved_good m l condition k (done ++ p ∷ []) (takes n p) (part_good m l condition done p (let i = token_nesting p a.token in omega arith) (let i = token_width p a.token in omega arith) g)
@@ -142,7 +143,7 @@ formal_good : (m : Limits) (label : List ℕ) (names : List (List ℕ)) (b : Boo
 formal_good m label names true = tt
 formal_good m label names false = tt
 
-asked_good : (m : Limits) (l : Sentence) (k : Keyword) (b : Bool) → IsWithin m.depth m.width l → NextGood m (cond b (Go (At (Asked l k))) Stuck)
+asked_good : (m : Limits) (l : Sentence) (k : Verb) (b : Bool) → IsWithin m.depth m.width l → NextGood m (cond b (Go (At (Asked l k))) Stuck)
 asked_good m l k true g = g
 asked_good m l k false g = tt
 
@@ -160,7 +161,7 @@ own_good m (FormalBehind label names) (Signed Close) g = tt
 own_good m (FormalsEnd label names) Blank g = record { nests = omega arith; lists = omega arith }
 own_good m (Indented l) Blank g = g
 own_good m (Indented l) (Signed Dot) g = record { nests = g.nests; lists = g.lists }
-own_good m (Worded l k) (Signed Colon) g = asked_good m l k (is_conditional k) g
+own_good m (Worded l k) (Signed Colon) g = asked_good m l k (is_conditional (bare_of k)) g
 own_good m (Worded l k) Blank g = opened_good m l None k (first_node k) (plain_good m l g)
 own_good m (Bare l condition k) Blank g = opened_good m l condition k (first_node k) g
 own_good m (Args l condition k done n) t g = taken_good m l condition k done n t (part_at (labels n) t) refl g
@@ -170,18 +171,18 @@ comment_good : (m : Limits) (l : Sentence) (b : Bool) → IsWithin m.depth m.wid
 comment_good m l true g = g
 comment_good m l false g = tt
 
-begins_good : (m : Limits) (l : Sentence) (o : Option Keyword) → IsWithin m.depth m.width l → NextGood m (begins l o)
+begins_good : (m : Limits) (l : Sentence) (o : Option Verb) → IsWithin m.depth m.width l → NextGood m (begins l o)
 begins_good m l (Some k) g = g
 begins_good m l None g = tt
 
-word_good : (m : Limits) (l : Sentence) (o : Option Keyword) (b : Bool) → IsWithin m.depth m.width l → NextGood m (cond b (begins l o) Stuck)
+word_good : (m : Limits) (l : Sentence) (o : Option Verb) (b : Bool) → IsWithin m.depth m.width l → NextGood m (cond b (begins l o) Stuck)
 word_good m l o true g = begins_good m l o g
 word_good m l o false g = tt
 
 on_good : (m : Limits) (r : Rest) (k : Token) → IsWithin m.depth m.width r.line → NextGood m (on r k)
 on_good m r Blank g = g
 on_good m r (Comment text) g = comment_good m r.line (r.comment == 0) g
-on_good m r (Word w) g = word_good m r.line (keyword_of w) (r.gap == 0) g
+on_good m r (Word w) g = word_good m r.line (verb_of w) (r.gap == 0) g
 on_good m r (Digits d) g = tt
 on_good m r (Quoted q) g = tt
 on_good m r (Signed s) g = tt
@@ -213,7 +214,7 @@ wanted_good m (AnExpr lv next) = tt
 wanted_good m (AVar lv next) = tt
 wanted_good m (ALocal next) = tt
 
-argument_good : (m : Limits) (l : Sentence) (condition : Option Expr) (k : Keyword) (done : List Part) (n : Node) (q : Option Want) → wants n ≡ q → IsGoodClause m l condition done → EntryGood m (argument l condition k done q)
+argument_good : (m : Limits) (l : Sentence) (condition : Option Expr) (k : Verb) (done : List Part) (n : Node) (q : Option Want) → wants n ≡ q → IsGoodClause m l condition done → EntryGood m (argument l condition k done q)
 argument_good m l condition k done n (Some w) e g = ((g, small n w e), wanted_good (inside m (level_of w)) w)
 argument_good m l condition k done n None e g = tt
 
@@ -270,7 +271,7 @@ rest_goes m p (Some r) x e h w = record {
 }
 rest_goes m p None x e h w = absurd (none_some x e)
 
-args_goes : (m : Limits) (l : Sentence) (condition : Option Expr) (k : Keyword) (done : List Part) (n : Node) → 1 ≤ m.depth → IsGoodClause m l condition done → GoesOn m (At (Args l condition k done n))
+args_goes : (m : Limits) (l : Sentence) (condition : Option Expr) (k : Verb) (done : List Part) (n : Node) → 1 ≤ m.depth → IsGoodClause m l condition done → GoesOn m (At (Args l condition k done n))
 args_goes m l condition k done n d g =
     let f = finish n in
     let r = args_rest l condition k (done ++ f.parts) in
@@ -286,7 +287,7 @@ args_goes m l condition k done n d g =
         spells = f.spells;
         follows = record { clauses = []; whole = ap (λ (ss : List Clause). record { label = r.line.label; formals = r.line.formals; level = r.line.level; clauses = ss }) (sym (append-nil r.line.clauses)); spells = inl (0, refl) };
       };
-      within = clause_good m l condition k (done ++ f.parts) (record {
+      within = clause_good m l condition (meant k (done ++ f.parts)) (done ++ f.parts) (record {
         line = g.line;
         nests = let h = greatest_append part_nesting done f.parts in let b = g.nests in let c = f.nests in omega arith;
         lists = let h = greatest_append part_width done f.parts in let b = g.lists in let c = f.lists in omega arith;
@@ -294,7 +295,7 @@ args_goes m l condition k done n d g =
     }
 
 -- a blank, and arguments
-first_goes : (m : Limits) (l : Sentence) (condition : Option Expr) (k : Keyword) (q : Option Node) → 1 ≤ m.depth → first_node k ≡ q → IsGoodClause m l condition [] → GoesOn m (At (Bare l condition k))
+first_goes : (m : Limits) (l : Sentence) (condition : Option Expr) (k : Verb) (q : Option Node) → 1 ≤ m.depth → first_node k ≡ q → IsGoodClause m l condition [] → GoesOn m (At (Bare l condition k))
 first_goes m l condition k (Some n) d e g =
     let a = args_goes m l condition k [] n d g in
     record { rest = Blank ∷ a.rest; line = a.line; leaves = inr (record { node = n; rest = a.rest; node_is = e; cut = refl; follows = a.leaves }); within = a.within }

@@ -3,19 +3,19 @@ use Rattle.std.proofs.Common.{◌≡◌, ℕ, zero, suc, ◌-◌, ◌≤◌, ◌
 use Rattle.std.specs.Prelude.{cond}
 use Rattle.std.proofs.lemmas.Bool.Decides.{nat_tests}
 use Rattle.mj_ast.specs.declared.sign.Sign.TheVariants.{Comma, Colon, Open, Close, Dot}
-use Rattle.mj_ast.specs.declared.keyword.Keyword.{Keyword}
+use Rattle.mj_ast.specs.declared.keyword.Verb.{Verb}
 use Rattle.mj_ast.specs.declared.expr.Scope.TheVariants.{Local, Global}
 use Rattle.mj_ast.specs.Syntax.{Expr, Variable, Var}
 use Rattle.mj_ast.specs.Tokens.{Token, Word, Digits, Quoted, Signed, Blank, Comment, Unclosed, Stray, Called, Special}
 use Rattle.mj_ast.specs.Expressions.{Symbol, Name, symbol, Spells, expressions, name_limit, variable_symbols}
-use Rattle.mj_ast.specs.Commands.{Part, Text, Place, Control, is_local, keyword_of, SpellsParts, SpellsCondition, SpellsArguments, IsConditional, is_conditional, gap_of, comment_gap_of}
+use Rattle.mj_ast.specs.Commands.{Part, Text, Place, Control, is_local, verb_of, bare_of, meant, SpellsParts, SpellsCondition, SpellsArguments, IsConditional, is_conditional, gap_of, comment_gap_of}
 use Rattle.mj_ast.specs.Lines.{SpellsEnd, SpellsLabel, SpellsFormals, SpellsDots, comma_names, name_tokens, comment_gap, gap_behind}
 use Rattle.mj_expr.specs.Machine as phrase
 use Rattle.mj_expr.proofs.Zipper.{Kind, AnExpression, AVariable, IsKind, phrase_symbols, sofar, phrase_misfits}
 use Rattle.mj_line.specs.Forms.{Node, Want, AnExpr, AVar, ALocal, part_at, labels, takes, wants, ends, first_node, may_be_bare, Fits, IsForm}
 use Rattle.mj_line.specs.Sentences.{Clause, Sentence, SpellsClauses, SpellsSentence}
 use Rattle.mj_line.specs.Machine.{Rest, Spot, Begin, Labelled, FormalsOpened, FormalWanted, FormalBehind, FormalsEnd, Indented, Behind, Over, Worded, Asked, Bare, Args, Goal, Condition, Argument, State, At, In, empty_line, labelled, headed, dotted, is_new, clause, with_clause, bare_rest, args_rest, start, wanted, behind, behind_want, bare_rested, rested, argument, entry, Next, Go, Stuck, Deep, Long, opened, arguments, moved, taken, own, begins, on, on_rested, first, spot_step}
-use Rattle.mj_line.proofs.Tables.{alone_at, token_goes, bare_first}
+use Rattle.mj_line.proofs.Tables.{conditional_meant, alone_at, token_goes, bare_first}
 use Rattle.mj_line.proofs.Formals.{AreNew, new_formals, dotted_by, dotted_is}
 
 -- the rest of the commands
@@ -63,7 +63,7 @@ abbrev pub OpenedLeaves : List ℕ → List Token → Sentence → Type 0
 OpenedLeaves label ks l = NameLeaves label [] ks l ⊎ ((rest : List Token) × (ks ≡ Signed Close ∷ rest) × DotsLeaves 1 1 (headed label []) rest l)
 
 -- further parts of arguments, and what follows them
-pub record ArgsLeaves (o : Sentence) (condition : Option Expr) (k : Keyword) (done : List Part) (n : Node) (ks : List Token) (l : Sentence) : Type 0 where
+pub record ArgsLeaves (o : Sentence) (condition : Option Expr) (k : Verb) (done : List Part) (n : Node) (ks : List Token) (l : Sentence) : Type 0 where
   pub more : List Part
   pub front : List Token
   pub rest : List Token
@@ -73,7 +73,7 @@ pub record ArgsLeaves (o : Sentence) (condition : Option Expr) (k : Keyword) (do
   pub follows : Follows (args_rest o condition k (done ++ more)) rest l
 
 -- a blank and arguments
-pub record BlankLeaves (o : Sentence) (condition : Option Expr) (k : Keyword) (ks : List Token) (l : Sentence) : Type 0 where
+pub record BlankLeaves (o : Sentence) (condition : Option Expr) (k : Verb) (ks : List Token) (l : Sentence) : Type 0 where
   pub node : Node
   pub rest : List Token
   pub node_is : first_node k ≡ Some node
@@ -81,21 +81,21 @@ pub record BlankLeaves (o : Sentence) (condition : Option Expr) (k : Keyword) (k
   pub follows : ArgsLeaves o condition k [] node rest l
 
 -- no arguments, or some
-abbrev pub BareLeaves : Sentence → Option Expr → Keyword → List Token → Sentence → Type 0
+abbrev pub BareLeaves : Sentence → Option Expr → Verb → List Token → Sentence → Type 0
 BareLeaves o condition k ks l = ((may_be_bare k ≡ true) × Follows (bare_rest o condition k) ks l) ⊎ BlankLeaves o condition k ks l
 
 -- a condition, and what follows it
-pub record WordLeaves (o : Sentence) (k : Keyword) (ks : List Token) (l : Sentence) : Type 0 where
+pub record WordLeaves (o : Sentence) (k : Verb) (ks : List Token) (l : Sentence) : Type 0 where
   pub condition : Option Expr
   pub front : List Token
   pub rest : List Token
   pub cut : ks ≡ front ++ rest
   pub spells : SpellsCondition front condition
-  pub conditional : IsConditional k condition
+  pub conditional : IsConditional (bare_of k) condition
   pub follows : BareLeaves o condition k rest l
 
 -- the expression of a condition
-pub record AskedLeaves (o : Sentence) (k : Keyword) (ks : List Token) (l : Sentence) : Type 0 where
+pub record AskedLeaves (o : Sentence) (k : Verb) (ks : List Token) (l : Sentence) : Type 0 where
   pub value : Expr
   pub front : List Token
   pub rest : List Token
@@ -197,12 +197,12 @@ begun_suits (Argument l condition k done w) p ks more h e = want_suits w p ks mo
 
 -- ---- a phrase begins
 
-condition_as : (o : Sentence) (k : Keyword) (ks : List Token) (l : Sentence) (p : phrase.Phrase) (front rest : List Token) → IsKind AnExpression p → ks ≡ front ++ rest → (map symbol front ≡ phrase_symbols p) × (phrase_misfits p ≡ 0) →
+condition_as : (o : Sentence) (k : Verb) (ks : List Token) (l : Sentence) (p : phrase.Phrase) (front rest : List Token) → IsKind AnExpression p → ks ≡ front ++ rest → (map symbol front ≡ phrase_symbols p) × (phrase_misfits p ≡ 0) →
     Leaves (behind (Condition o k) p) rest l → AskedLeaves o k ks l
 condition_as o k ks l (phrase.Target v) front rest i c s f = absurd i
 condition_as o k ks l (phrase.Whole e) front rest i c s f = record { value = e; front = front; rest = rest; cut = c; spells = s; follows = f }
 
-argument_as : (o : Sentence) (condition : Option Expr) (k : Keyword) (done : List Part) (n : Node) (w : Want) → wants n ≡ Some w → (ks : List Token) (l : Sentence) (p : phrase.Phrase) (front rest : List Token) → IsKind (want_kind w) p → SuitsWant w p → ks ≡ front ++ rest → (map symbol front ≡ phrase_symbols p) × (phrase_misfits p ≡ 0) →
+argument_as : (o : Sentence) (condition : Option Expr) (k : Verb) (done : List Part) (n : Node) (w : Want) → wants n ≡ Some w → (ks : List Token) (l : Sentence) (p : phrase.Phrase) (front rest : List Token) → IsKind (want_kind w) p → SuitsWant w p → ks ≡ front ++ rest → (map symbol front ≡ phrase_symbols p) × (phrase_misfits p ≡ 0) →
     Leaves (behind_want o condition k done w p) rest l → ArgsLeaves o condition k done n ks l
 argument_as o condition k done n (AnExpr level next) e ks l (phrase.Whole x) front rest i z c s f =
     let F : List Part → Type 0 = λ ps. Follows (args_rest o condition k ps) f.rest l in
@@ -251,7 +251,7 @@ want_sofar (AnExpr level next) = refl
 want_sofar (AVar level next) = refl
 want_sofar (ALocal next) = refl
 
-want_leads : (o : Sentence) (condition : Option Expr) (k : Keyword) (done : List Part) (n : Node) (q : Option Want) → wants n ≡ q → EntryLeads (Args o condition k done n) (argument o condition k done q)
+want_leads : (o : Sentence) (condition : Option Expr) (k : Verb) (done : List Part) (n : Node) (q : Option Want) → wants n ≡ q → EntryLeads (Args o condition k done n) (argument o condition k done q)
 want_leads o condition k done n (Some w) e = λ rest l f. argument_as o condition k done n w e rest l f.phrase f.front f.rest f.kind_is f.suits f.cut (ap (λ (zs : List _). zs ++ map symbol f.front) (sym (want_sofar w)) ∙ f.spells, f.formed) f.follows
 want_leads o condition k done n None e = tt
 
@@ -403,25 +403,25 @@ formal_leads : (label : List ℕ) (names : List (List ℕ)) (w : List ℕ) (b : 
 formal_leads label names w true e = λ rest l f. record { word = w; rest = rest; cut = refl; new = e; follows = f }
 formal_leads label names w false e = tt
 
-opened_leads : (o : Sentence) (condition : Option Expr) (k : Keyword) (q : Option Node) → first_node k ≡ q → NextLeads (Bare o condition k) Blank (opened o condition k q)
+opened_leads : (o : Sentence) (condition : Option Expr) (k : Verb) (q : Option Node) → first_node k ≡ q → NextLeads (Bare o condition k) Blank (opened o condition k q)
 opened_leads o condition k (Some n) e = λ rest l f. inr (record { node = n; rest = rest; node_is = e; cut = refl; follows = f })
 opened_leads o condition k None e = tt
 
 -- a word without a condition
-bare_word : (o : Sentence) (k : Keyword) (ks : List Token) (l : Sentence) → BareLeaves o None k ks l → WordLeaves o k ks l
+bare_word : (o : Sentence) (k : Verb) (ks : List Token) (l : Sentence) → BareLeaves o None k ks l → WordLeaves o k ks l
 bare_word o k ks l f = record { condition = None; front = []; rest = ks; cut = refl; spells = refl; conditional = tt; follows = f }
 
-worded_leads : (o : Sentence) (k : Keyword) (n : Next) → NextLeads (Bare o None k) Blank n → NextLeads (Worded o k) Blank n
+worded_leads : (o : Sentence) (k : Verb) (n : Next) → NextLeads (Bare o None k) Blank n → NextLeads (Worded o k) Blank n
 worded_leads o k (Go s) h = λ rest l f. bare_word o k (Blank ∷ rest) l (h rest l f)
 worded_leads o k Stuck h = tt
 worded_leads o k Deep h = h
 worded_leads o k Long h = h
 
-asked_leads : (o : Sentence) (k : Keyword) (b : Bool) → is_conditional k ≡ b → NextLeads (Worded o k) (Signed Colon) (cond b (Go (At (Asked o k))) Stuck)
+asked_leads : (o : Sentence) (k : Verb) (b : Bool) → is_conditional (bare_of k) ≡ b → NextLeads (Worded o k) (Signed Colon) (cond b (Go (At (Asked o k))) Stuck)
 asked_leads o k true e = λ rest l f. record { condition = Some f.value; front = Signed Colon ∷ f.front; rest = f.rest; cut = ap (λ (zs : List Token). Signed Colon ∷ zs) f.cut; spells = (f.front, refl, f.spells); conditional = e; follows = f.follows }
 asked_leads o k false e = tt
 
-moved_leads : (o : Sentence) (condition : Option Expr) (k : Keyword) (done : List Part) (n : Node) (t : Token) (p : Part) (q : Option Node) → part_at (labels n) t ≡ Some p → takes n p ≡ q → NextLeads (Args o condition k done n) t (moved o condition k (done ++ p ∷ []) q)
+moved_leads : (o : Sentence) (condition : Option Expr) (k : Verb) (done : List Part) (n : Node) (t : Token) (p : Part) (q : Option Node) → part_at (labels n) t ≡ Some p → takes n p ≡ q → NextLeads (Args o condition k done n) t (moved o condition k (done ++ p ∷ []) q)
 moved_leads o condition k done n t p (Some next) e h = λ rest l f.
     let a = alone_at (labels n) t p e in
     let F : List Part → Type 0 = λ ps. Follows (args_rest o condition k ps) f.rest l in
@@ -436,7 +436,7 @@ moved_leads o condition k done n t p (Some next) e h = λ rest l f.
     }
 moved_leads o condition k done n t p None e h = tt
 
-taken_leads : (o : Sentence) (condition : Option Expr) (k : Keyword) (done : List Part) (n : Node) (t : Token) (q : Option Part) → part_at (labels n) t ≡ q → NextLeads (Args o condition k done n) t (taken o condition k done n q)
+taken_leads : (o : Sentence) (condition : Option Expr) (k : Verb) (done : List Part) (n : Node) (t : Token) (q : Option Part) → part_at (labels n) t ≡ q → NextLeads (Args o condition k done n) t (taken o condition k done n q)
 taken_leads o condition k done n t (Some p) e = moved_leads o condition k done n t p (takes n p) e refl
 taken_leads o condition k done n t None e = tt
 
@@ -454,7 +454,7 @@ own_leads (FormalBehind label names) (Signed Close) = λ rest l f. close_leaves 
 own_leads (FormalsEnd label names) Blank = λ rest l f. blank_dots 1 1 (headed label names) rest l f
 own_leads (Indented o) Blank = λ rest l f. blank_dots 0 0 o rest l f
 own_leads (Indented o) (Signed Dot) = λ rest l f. dot_dots o rest l f
-own_leads (Worded o k) (Signed Colon) = asked_leads o k (is_conditional k) refl
+own_leads (Worded o k) (Signed Colon) = asked_leads o k (is_conditional (bare_of k)) refl
 own_leads (Worded o k) Blank = worded_leads o k (arguments o None k) (opened_leads o None k (first_node k) refl)
 own_leads (Bare o condition k) Blank = opened_leads o condition k (first_node k) refl
 own_leads (Args o condition k done n) t = taken_leads o condition k done n t (part_at (labels n) t) refl
@@ -478,16 +478,16 @@ comment_leads r text true e = λ rest l f. record {
 comment_leads r text false e = tt
 
 -- the parts of a command, and what follows it
-pub record Taken (o : Sentence) (condition : Option Expr) (k : Keyword) (ks : List Token) (l : Sentence) : Type 0 where
+pub record Taken (o : Sentence) (condition : Option Expr) (k : Verb) (ks : List Token) (l : Sentence) : Type 0 where
   pub parts : List Part
   pub front : List Token
   pub rest : List Token
   pub cut : ks ≡ front ++ rest
   pub spells : SpellsArguments front parts
   pub form : IsForm k parts
-  pub follows : Follows (record { line = with_clause o (clause condition k parts); gap = gap_of parts; comment = comment_gap_of parts }) rest l
+  pub follows : Follows (record { line = with_clause o (clause condition (meant k parts) parts); gap = gap_of parts; comment = comment_gap_of parts }) rest l
 
-args_taken : (o : Sentence) (condition : Option Expr) (k : Keyword) (n : Node) (ks front rest : List Token) (l : Sentence) (parts : List Part) → first_node k ≡ Some n → ks ≡ Blank ∷ (front ++ rest) → Fits n parts → SpellsParts front parts → Follows (args_rest o condition k parts) rest l → Taken o condition k ks l
+args_taken : (o : Sentence) (condition : Option Expr) (k : Verb) (n : Node) (ks front rest : List Token) (l : Sentence) (parts : List Part) → first_node k ≡ Some n → ks ≡ Blank ∷ (front ++ rest) → Fits n parts → SpellsParts front parts → Follows (args_rest o condition k parts) rest l → Taken o condition k ks l
 args_taken o condition k n ks front rest l [] e c f s h =
     record {
       parts = [];
@@ -501,15 +501,15 @@ args_taken o condition k n ks front rest l [] e c f s h =
 args_taken o condition k n ks front rest l (p ∷ ps) e c f s h =
     record { parts = p ∷ ps; front = Blank ∷ front; rest = rest; cut = c; spells = (front, refl, s); form = (n, e, f); follows = h }
 
-pub bare_taken : (o : Sentence) (condition : Option Expr) (k : Keyword) (ks : List Token) (l : Sentence) → BareLeaves o condition k ks l → Taken o condition k ks l
+pub bare_taken : (o : Sentence) (condition : Option Expr) (k : Verb) (ks : List Token) (l : Sentence) → BareLeaves o condition k ks l → Taken o condition k ks l
 bare_taken o condition k ks l (inl h) = record { parts = []; front = []; rest = ks; cut = refl; spells = refl; form = h.0; follows = h.1 }
 bare_taken o condition k ks l (inr h) = let f = h.follows in args_taken o condition k h.node ks f.front f.rest l f.more h.node_is (h.cut ∙ ap (λ (zs : List Token). Blank ∷ zs) f.cut) f.fits f.spells f.follows
 
-begins_leads : (r : Rest) (w : List ℕ) (o : Option Keyword) → r.gap ≡ 0 → keyword_of w ≡ o → RestLeads r (Word w) (begins r.line o)
+begins_leads : (r : Rest) (w : List ℕ) (o : Option Verb) → r.gap ≡ 0 → verb_of w ≡ o → RestLeads r (Word w) (begins r.line o)
 begins_leads r w None z e = tt
 begins_leads r w (Some k) z e = λ rest l f.
     let b = bare_taken r.line f.condition k f.rest l f.follows in
-    let s = clause f.condition k b.parts in
+    let s = clause f.condition (meant k b.parts) b.parts in
     record {
       clauses = s ∷ b.follows.clauses;
       whole = b.follows.whole ∙ ap (λ (ss : List Clause). record { label = r.line.label; formals = r.line.formals; level = r.line.level; clauses = ss }) (append_assoc r.line.clauses (s ∷ []) b.follows.clauses);
@@ -519,13 +519,13 @@ begins_leads r w (Some k) z e = λ rest l f.
         b.rest,
         omega arith,
         ap (λ (zs : List Token). Word w ∷ zs) (f.cut ∙ ap (λ (zs : List Token). f.front ++ zs) b.cut ∙ sym (append_assoc f.front b.front b.rest)),
-        (w, f.front, b.front, refl, e, f.spells, b.spells, b.form, f.conditional),
+        (w, f.front, b.front, refl, (k, e, refl), f.spells, b.spells, b.form, conditional_meant k b.parts f.condition f.conditional),
         b.follows.spells,
       );
     }
 
-word_leads : (r : Rest) (w : List ℕ) (b : Bool) → (r.gap == 0) ≡ b → RestLeads r (Word w) (cond b (begins r.line (keyword_of w)) Stuck)
-word_leads r w true e = begins_leads r w (keyword_of w) (grind (arith, nat_tests)) refl
+word_leads : (r : Rest) (w : List ℕ) (b : Bool) → (r.gap == 0) ≡ b → RestLeads r (Word w) (cond b (begins r.line (verb_of w)) Stuck)
+word_leads r w true e = begins_leads r w (verb_of w) (grind (arith, nat_tests)) refl
 word_leads r w false e = tt
 
 on_leads : (r : Rest) (k : Token) → RestLeads r k (on r k)
@@ -545,15 +545,15 @@ abbrev pub RestedLeads : Spot → Option Rest → Type 0
 RestedLeads p (Some r) = (ks : List Token) (l : Sentence) → Follows r ks l → Leaves p ks l
 RestedLeads p None = Unit {0}
 
-bare_leads : (o : Sentence) (condition : Option Expr) (k : Keyword) (b : Bool) → may_be_bare k ≡ b → RestedLeads (Bare o condition k) (bare_rested b (bare_rest o condition k))
+bare_leads : (o : Sentence) (condition : Option Expr) (k : Verb) (b : Bool) → may_be_bare k ≡ b → RestedLeads (Bare o condition k) (bare_rested b (bare_rest o condition k))
 bare_leads o condition k true e = λ ks l f. inl (e, f)
 bare_leads o condition k false e = tt
 
-word_rested : (o : Sentence) (k : Keyword) (b : Bool) → may_be_bare k ≡ b → RestedLeads (Worded o k) (bare_rested b (bare_rest o None k))
+word_rested : (o : Sentence) (k : Verb) (b : Bool) → may_be_bare k ≡ b → RestedLeads (Worded o k) (bare_rested b (bare_rest o None k))
 word_rested o k true e = λ ks l f. bare_word o k ks l (inl (e, f))
 word_rested o k false e = tt
 
-args_leads : (o : Sentence) (condition : Option Expr) (k : Keyword) (done : List Part) (n : Node) (b : Bool) → ends n ≡ b → RestedLeads (Args o condition k done n) (bare_rested b (args_rest o condition k done))
+args_leads : (o : Sentence) (condition : Option Expr) (k : Verb) (done : List Part) (n : Node) (b : Bool) → ends n ≡ b → RestedLeads (Args o condition k done n) (bare_rested b (args_rest o condition k done))
 args_leads o condition k done n true e = λ ks l f.
     let F : List Part → Type 0 = λ ps. Follows (args_rest o condition k ps) ks l in
     record { more = []; front = []; rest = ks; cut = refl; fits = e; spells = refl; follows = subst F (sym (append-nil done)) f }

@@ -13,3 +13,4 @@ pub mod Once
 pub mod Spelled
 pub mod Said
 pub mod Examples
+mod Rows

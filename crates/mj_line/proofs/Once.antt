@@ -1,13 +1,16 @@
 -- No two trees have the same parts.
-use Rattle.std.proofs.Common.{◌≡◌, ℕ, Option, Some, None, List, [], ◌∷◌, ◌++◌, refl, ap, sym, ◌∙◌, subst, true, false, append_assoc, append-nil, map}
-use Rattle.std.specs.Prelude.{◌&&◌}
-use Rattle.mj_ast.specs.declared.sign.Sign.TheVariants.{Equals, Comma, Colon, Exclamation, Caret, Open, Close}
+use Rattle.std.proofs.Common.{◌≡◌, ℕ, Option, Some, None, List, [], ◌∷◌, ◌++◌, refl, ap, sym, ◌∙◌, subst, Bool, true, false, append_assoc, append-nil, map}
+use Rattle.std.specs.Prelude.{◌&&◌, if◌then◌else◌}
+use Rattle.mj_ast.specs.declared.sign.Sign.TheVariants.{Plus, Minus, Equals, Comma, Colon, Exclamation, Caret, Open, Close}
 use Rattle.mj_ast.specs.declared.routine.Mark.{Mark}
 use Rattle.mj_ast.specs.declared.routine.Mark.TheVariants.{NewLine}
 use Rattle.mj_ast.specs.declared.keyword.Keyword.TheVariants as keyword
-use Rattle.mj_ast.specs.Syntax.{Expr, Exprs, No, More, Variable, Destination, Plain, Pieces, Targets, One, Several, Assignment, Killed, Gone, Spared, Merged, Output, Shown, Format, Command, Target, Called, Jumped, Range, Single, Endless, UpTo, Renewed, Fresh, Kept, Set, Write, Halt, Kill, Merge, If, Else, For, Forever, Do, Goto, Quit, New}
-use Rattle.mj_ast.specs.Commands.{Part, Put, Named, Label, PieceCall, Text, Place, Control, with_commas, behind_commas, more_parts, destination_parts, targets_parts, assignment_parts, mark_part, output_parts, name_parts, killed_parts, merged_parts, condition_parts, entry_parts, routine_parts, guard_parts, actual_parts, actuals_parts, called_parts, as_called, jumped_parts, range_parts, renewed_parts, command_parts, keyword_for, has_items, every, is_output, is_formed}
-use Rattle.mj_line.proofs.Formed.{first_of, called_cut, called_some, renewed_some, assignment_some, killed_some, output_some, IsSome}
+use Rattle.mj_ast.specs.declared.routine.LockMode.{LockMode}
+use Rattle.mj_ast.specs.declared.routine.LockMode.TheVariants.{Whole, Plus as Added, Minus as Taken}
+use Rattle.mj_ast.specs.Syntax.{Expr, Exprs, No, More, Variable, Destination, Plain, Pieces, Targets, One, Several, Assignment, Killed, Gone, Spared, Merged, Output, Shown, Format, Command, Target, Called, Jumped, Started, LockNames, Lone, Together, Locked, Range, Single, Endless, UpTo, Renewed, Fresh, Kept, Set, Write, Halt, Hang, Job, Lock, Kill, Merge, If, Else, For, Forever, Do, Goto, Quit, New}
+use Rattle.mj_ast.specs.Commands.{Part, Put, Named, Label, PieceCall, Text, Place, Control, with_commas, behind_commas, more_parts, destination_parts, targets_parts, assignment_parts, mark_part, output_parts, name_parts, killed_parts, merged_parts, value_parts, entry_parts, routine_parts, guard_parts, actual_parts, actuals_parts, called_parts, as_called, jumped_parts, wait_parts, started_parts, mode_parts, variable_parts, lock_names_parts, locked_parts, range_parts, renewed_parts, command_parts, keyword_for, has_items, every, is_output, is_formed}
+use Rattle.mj_line.specs.Forms.{Mode, Calls, Jumps, Starts}
+use Rattle.mj_line.proofs.Formed.{first_of, entered_parts, guards_of, entered_cut, entered_some, as_entered, locked_cut, locked_some, renewed_some, assignment_some, killed_some, output_some, IsSome}
 
 -- ---- heads and tails
 
@@ -180,8 +183,8 @@ names_tell [] (v ∷ vs) r s e = absurd (let f : Put Close ∷ r ≡ Named v ∷
 names_tell (w ∷ ws) [] r s e = absurd (let f : Named w ∷ _ ≡ Put Close ∷ s = e in cc)
 names_tell (w ∷ ws) (v ∷ vs) r s e = let a = some_tell name_parts name_tells w v ws vs (Put Close ∷ r) (Put Close ∷ s) tt tt e in (a.0, tail_same a.1)
 
-condition_tells : Tells condition_parts
-condition_tells x y r s h i e = (text_same e, tail_same e)
+value_tells : Tells value_parts
+value_tells x y r s h i e = (text_same e, tail_same e)
 
 -- what may follow a name of a routine, or none
 abbrev IsBehind : List Part → Type 0
@@ -262,15 +265,30 @@ guard_tells None (Some y) r s h i e = colon_tail r _ h e
 guard_tells (Some x) None r s h i e = colon_tail s _ i (sym e)
 guard_tells (Some x) (Some y) r s h i e = let f = tail_same e in (ap (λ (z : Expr). Some z) (text_same f), tail_same f)
 
+wait_tells : (c d : Option Expr) (r s : List Part) → IsTail r → IsTail s → wait_parts c ++ r ≡ wait_parts d ++ s → Same c d r s
+wait_tells None None r s h i e = (refl, e)
+wait_tells None (Some y) r s h i e = colon_tail r _ h e
+wait_tells (Some x) None r s h i e = colon_tail s _ i (sym e)
+wait_tells (Some x) (Some y) r s h i e = let f = tail_same (tail_same e) in (ap (λ (z : Expr). Some z) (text_same f), tail_same f)
+
+guards_tell : (mode : Mode) (c d : Option Expr) (r s : List Part) → IsTail r → IsTail s → guards_of mode c ++ r ≡ guards_of mode d ++ s → Same c d r s
+guards_tell Calls c d r s h i e = guard_tells c d r s h i e
+guards_tell Jumps c d r s h i e = guard_tells c d r s h i e
+guards_tell Starts c d r s h i e = wait_tells c d r s h i e
+
 tail_guard : (r : List Part) → IsTail r → IsGuard r
 tail_guard [] h = tt
 tail_guard (Put Comma ∷ ps) h = tt
 tail_guard (Put Close ∷ ps) h = tt
 tail_guard (p ∷ ps) h = absurd h
 
-guards_guard : (c : Option Expr) (r : List Part) → IsTail r → IsGuard (guard_parts c ++ r)
-guards_guard None r h = tail_guard r h
-guards_guard (Some x) r h = tt
+guards_guard : (mode : Mode) (c : Option Expr) (r : List Part) → IsTail r → IsGuard (guards_of mode c ++ r)
+guards_guard Calls None r h = tail_guard r h
+guards_guard Jumps None r h = tail_guard r h
+guards_guard Starts None r h = tail_guard r h
+guards_guard Calls (Some x) r h = tt
+guards_guard Jumps (Some x) r h = tt
+guards_guard Starts (Some x) r h = tt
 
 guard_behind : (r : List Part) → IsGuard r → IsBehind r
 guard_behind [] h = tt
@@ -292,21 +310,30 @@ called_made a b e f g =
     ∙ ap (λ (xs : List (Option Expr)). let c : Called = record { target = b.target; actuals = xs; condition = a.condition } in c) f
     ∙ ap (λ (x : Option Expr). let c : Called = record { target = b.target; actuals = b.actuals; condition = x } in c) g
 
-called_tells : Tells called_parts
-called_tells x y r s h i e =
-    let g = guards_guard x.condition r h in
-    let k = guards_guard y.condition s i in
-    let a = entry_tells x.target.label x.target.routine y.target.label y.target.routine (actuals_parts x.actuals ++ (guard_parts x.condition ++ r)) (actuals_parts y.actuals ++ (guard_parts y.condition ++ s)) (actuals_behind x.actuals (guard_parts x.condition ++ r) g) (actuals_behind y.actuals (guard_parts y.condition ++ s) k) (sym (called_cut x r) ∙ e ∙ called_cut y s) in
-    let b = actuals_tell x.actuals y.actuals (guard_parts x.condition ++ r) (guard_parts y.condition ++ s) g k a.2 in
-    let c = guard_tells x.condition y.condition r s h i b.1 in
+entered_tells : (mode : Mode) → Tells (entered_parts mode)
+entered_tells mode x y r s h i e =
+    let g = guards_guard mode x.condition r h in
+    let k = guards_guard mode y.condition s i in
+    let a = entry_tells x.target.label x.target.routine y.target.label y.target.routine (actuals_parts x.actuals ++ (guards_of mode x.condition ++ r)) (actuals_parts y.actuals ++ (guards_of mode y.condition ++ s)) (actuals_behind x.actuals (guards_of mode x.condition ++ r) g) (actuals_behind y.actuals (guards_of mode y.condition ++ s) k) (sym (entered_cut mode x r) ∙ e ∙ entered_cut mode y s) in
+    let b = actuals_tell x.actuals y.actuals (guards_of mode x.condition ++ r) (guards_of mode y.condition ++ s) g k a.2 in
+    let c = guards_tell mode x.condition y.condition r s h i b.1 in
     (called_made x y (target_made x.target y.target a.0 a.1) b.0 c.0, c.1)
+
+called_tells : Tells called_parts
+called_tells x y r s h i e = entered_tells Calls x y r s h i e
+
+abbrev as_started : Called → Started
+as_started c = record { target = c.target; actuals = c.actuals; timeout = c.condition }
+
+started_tells : Tells started_parts
+started_tells x y r s h i e = let a = entered_tells Starts (as_entered x) (as_entered y) r s h i e in (ap as_started a.0, a.1)
 
 jumped_made : (a b : Jumped) → a.target ≡ b.target → a.condition ≡ b.condition → a ≡ b
 jumped_made a b e f = ap (λ (t : Target). let j : Jumped = record { target = t; condition = a.condition } in j) e ∙ ap (λ (x : Option Expr). let j : Jumped = record { target = b.target; condition = x } in j) f
 
 jumped_tells : Tells jumped_parts
 jumped_tells x y r s h i e =
-    let a = called_tells (as_called x) (as_called y) r s h i e in
+    let a = entered_tells Jumps (as_called x) (as_called y) r s h i e in
     (jumped_made x y (ap (λ (c : Called). c.target) a.0) (ap (λ (c : Called). c.condition) a.0), a.1)
 
 range_tells : Tells range_parts
@@ -338,6 +365,52 @@ renewed_tells (Kept ws) (Fresh w) r s h i e = absurd (let f : Put Open ∷ _ ≡
 renewed_tells (Kept ws) (Kept vs) r s h i e =
     let a = names_tell ws vs r s (sym (append_assoc (with_commas name_parts ws) (Put Close ∷ []) r) ∙ tail_same e ∙ append_assoc (with_commas name_parts vs) (Put Close ∷ []) s) in
     (ap Kept a.0, a.1)
+
+variable_tells : Tells variable_parts
+variable_tells v w r s h i e = (place_same e, tail_same e)
+
+variables_tell : (vs ws : List Variable) (r s : List Part) → with_commas variable_parts vs ++ Put Close ∷ r ≡ with_commas variable_parts ws ++ Put Close ∷ s → Same vs ws r s
+variables_tell [] [] r s e = (refl, tail_same e)
+variables_tell [] (w ∷ ws) r s e = absurd (let f : Put Close ∷ r ≡ Place 0 w ∷ _ = e in cc)
+variables_tell (v ∷ vs) [] r s e = absurd (let f : Place 0 v ∷ _ ≡ Put Close ∷ s = e in cc)
+variables_tell (v ∷ vs) (w ∷ ws) r s e = let a = some_tell variable_parts variable_tells v w vs ws (Put Close ∷ r) (Put Close ∷ s) tt tt e in (a.0, tail_same a.1)
+
+lock_names_tell : (x y : LockNames) (r s : List Part) → lock_names_parts x ++ r ≡ lock_names_parts y ++ s → Same x y r s
+lock_names_tell (Lone v) (Lone w) r s e = (ap Lone (place_same e), tail_same e)
+lock_names_tell (Lone v) (Together ws) r s e = absurd (let f : Place 0 v ∷ r ≡ Put Open ∷ _ = e in cc)
+lock_names_tell (Together vs) (Lone w) r s e = absurd (let f : Put Open ∷ _ ≡ Place 0 w ∷ s = e in cc)
+lock_names_tell (Together vs) (Together ws) r s e =
+    let a = variables_tell vs ws r s (sym (append_assoc (with_commas variable_parts vs) (Put Close ∷ []) r) ∙ tail_same e ∙ append_assoc (with_commas variable_parts ws) (Put Close ∷ []) s) in
+    (ap Together a.0, a.1)
+
+sign_names : {A : Type 0} (x : LockNames) (r ps : List Part) (b : Bool) → lock_names_parts x ++ r ≡ Put (if b then Plus else Minus) ∷ ps → A
+sign_names (Lone v) r ps true e = absurd (let f : Place 0 v ∷ r ≡ Put Plus ∷ ps = e in cc)
+sign_names (Lone v) r ps false e = absurd (let f : Place 0 v ∷ r ≡ Put Minus ∷ ps = e in cc)
+sign_names (Together vs) r ps true e = absurd (let f : Put Open ∷ _ ≡ Put Plus ∷ ps = e in cc)
+sign_names (Together vs) r ps false e = absurd (let f : Put Open ∷ _ ≡ Put Minus ∷ ps = e in cc)
+
+modes_tell : (m n : LockMode) (x y : LockNames) (r s : List Part) → mode_parts m ++ (lock_names_parts x ++ r) ≡ mode_parts n ++ (lock_names_parts y ++ s) → (m ≡ n) × (x ≡ y) × (r ≡ s)
+modes_tell Whole Whole x y r s e = let a = lock_names_tell x y r s e in (refl, a.0, a.1)
+modes_tell Whole Added x y r s e = sign_names x r _ true e
+modes_tell Whole Taken x y r s e = sign_names x r _ false e
+modes_tell Added Whole x y r s e = sign_names y s _ true (sym e)
+modes_tell Added Added x y r s e = let a = lock_names_tell x y r s (tail_same e) in (refl, a.0, a.1)
+modes_tell Added Taken x y r s e = absurd (let f : Put Plus ∷ (lock_names_parts x ++ r) ≡ Put Minus ∷ (lock_names_parts y ++ s) = e in cc)
+modes_tell Taken Whole x y r s e = sign_names y s _ false (sym e)
+modes_tell Taken Added x y r s e = absurd (let f : Put Minus ∷ (lock_names_parts x ++ r) ≡ Put Plus ∷ (lock_names_parts y ++ s) = e in cc)
+modes_tell Taken Taken x y r s e = let a = lock_names_tell x y r s (tail_same e) in (refl, a.0, a.1)
+
+locked_made : (a b : Locked) → a.mode ≡ b.mode → a.names ≡ b.names → a.timeout ≡ b.timeout → a ≡ b
+locked_made a b e f g =
+    ap (λ (m : LockMode). let c : Locked = record { mode = m; names = a.names; timeout = a.timeout } in c) e
+    ∙ ap (λ (x : LockNames). let c : Locked = record { mode = b.mode; names = x; timeout = a.timeout } in c) f
+    ∙ ap (λ (x : Option Expr). let c : Locked = record { mode = b.mode; names = b.names; timeout = x } in c) g
+
+locked_tells : Tells locked_parts
+locked_tells x y r s h i e =
+    let a = modes_tell x.mode y.mode x.names y.names (guard_parts x.timeout ++ r) (guard_parts y.timeout ++ s) (sym (locked_cut x r) ∙ e ∙ locked_cut y s) in
+    let c = guard_tells x.timeout y.timeout r s h i a.2 in
+    (locked_made x y a.0 a.1 c.0, c.1)
 
 -- ---- commands
 
@@ -381,11 +454,17 @@ lists_tell parts t n [] (y ∷ ys) e = nil_some _ (n y (behind_commas parts ys))
 lists_tell parts t n (x ∷ xs) [] e = nil_some _ (n x (behind_commas parts xs)) (sym e)
 lists_tell parts t n (x ∷ xs) (y ∷ ys) e = whole_tells parts t x y xs ys e
 
-condition_some : AllSome condition_parts
-condition_some x rest = (Text 0 x, rest, refl)
+value_some : AllSome value_parts
+value_some x rest = (Text 0 x, rest, refl)
 
 jumped_some : AllSome jumped_parts
-jumped_some x rest = called_some (as_called x) rest
+jumped_some x rest = entered_some Jumps (as_called x) rest
+
+called_some : AllSome called_parts
+called_some x rest = entered_some Calls x rest
+
+started_some : AllSome started_parts
+started_some x rest = entered_some Starts (as_entered x) rest
 
 range_some : AllSome range_parts
 range_some (Single a) rest = (Text 0 a, _, refl)
@@ -408,6 +487,18 @@ halt_once : (d : Command) → keyword.Halt ≡ keyword_for d → Halt ≡ d
 halt_once Halt k = refl
 halt_once d k = absurd (let z : keyword.Halt ≡ keyword_for d = k in cc)
 
+hang_once : (xs : List Expr) (d : Command) → keyword.Hang ≡ keyword_for d → with_commas value_parts xs ≡ command_parts d → Hang xs ≡ d
+hang_once xs (Hang ys) k e = ap Hang (lists_tell value_parts value_tells value_some xs ys e)
+hang_once xs d k e = absurd (let z : keyword.Hang ≡ keyword_for d = k in cc)
+
+job_once : (xs : List Started) (d : Command) → keyword.Job ≡ keyword_for d → with_commas started_parts xs ≡ command_parts d → Job xs ≡ d
+job_once xs (Job ys) k e = ap Job (lists_tell started_parts started_tells started_some xs ys e)
+job_once xs d k e = absurd (let z : keyword.Job ≡ keyword_for d = k in cc)
+
+lock_once : (xs : List Locked) (d : Command) → keyword.Lock ≡ keyword_for d → with_commas locked_parts xs ≡ command_parts d → Lock xs ≡ d
+lock_once xs (Lock ys) k e = ap Lock (lists_tell locked_parts locked_tells locked_some xs ys e)
+lock_once xs d k e = absurd (let z : keyword.Lock ≡ keyword_for d = k in cc)
+
 kill_once : (xs : List Killed) (d : Command) → keyword.Kill ≡ keyword_for d → with_commas killed_parts xs ≡ command_parts d → Kill xs ≡ d
 kill_once xs (Kill ys) k e = ap Kill (kills_tell xs ys e)
 kill_once xs d k e = absurd (let z : keyword.Kill ≡ keyword_for d = k in cc)
@@ -416,8 +507,8 @@ merge_once : (xs : List Merged) (d : Command) → keyword.Merge ≡ keyword_for 
 merge_once xs (Merge ys) k e = ap Merge (merges_tell xs ys e)
 merge_once xs d k e = absurd (let z : keyword.Merge ≡ keyword_for d = k in cc)
 
-if_once : (xs : List Expr) (d : Command) → keyword.If ≡ keyword_for d → with_commas condition_parts xs ≡ command_parts d → If xs ≡ d
-if_once xs (If ys) k e = ap If (lists_tell condition_parts condition_tells condition_some xs ys e)
+if_once : (xs : List Expr) (d : Command) → keyword.If ≡ keyword_for d → with_commas value_parts xs ≡ command_parts d → If xs ≡ d
+if_once xs (If ys) k e = ap If (lists_tell value_parts value_tells value_some xs ys e)
 if_once xs d k e = absurd (let z : keyword.If ≡ keyword_for d = k in cc)
 
 else_once : (d : Command) → keyword.Else ≡ keyword_for d → Else ≡ d
@@ -455,6 +546,9 @@ pub command_once : (c d : Command) → is_formed c ≡ true → keyword_for c �
 command_once (Set xs) d f k e = set_once xs d k e
 command_once (Write xs) d f k e = write_once xs d f k e
 command_once Halt d f k e = halt_once d k
+command_once (Hang xs) d f k e = hang_once xs d k e
+command_once (Job xs) d f k e = job_once xs d k e
+command_once (Lock xs) d f k e = lock_once xs d k e
 command_once (Kill xs) d f k e = kill_once xs d k e
 command_once (Merge xs) d f k e = merge_once xs d k e
 command_once (If xs) d f k e = if_once xs d k e

@@ -2,14 +2,16 @@
 use Rattle.std.proofs.Common.{◌≡◌, ℕ, ◌≤◌, nat_le, List, [], ◌∷◌, ◌++◌, refl, ap, sym, ◌∙◌, subst, Bool, true, false, append_assoc, arith, Option, Some, None, map, ◌⊎◌}
 use Rattle.std.specs.Prelude.{◌&&◌}
 use Rattle.std.proofs.lemmas.Bool.Decides.{nat_tests}
-use Rattle.mj_ast.specs.declared.sign.Sign.TheVariants.{Equals, Comma, Colon, Open, Close}
+use Rattle.mj_ast.specs.declared.sign.Sign.TheVariants.{Plus, Minus, Equals, Comma, Colon, Open, Close}
 use Rattle.mj_ast.specs.declared.routine.Mark.{Mark}
-use Rattle.mj_ast.specs.Syntax.{Expr, Exprs, Variable, Destination, Plain, Pieces, Targets, One, Several, Assignment, Killed, Spared, Merged, Output, Called, Range, Renewed, Kept}
+use Rattle.mj_ast.specs.declared.routine.LockMode.{LockMode}
+use Rattle.mj_ast.specs.declared.routine.LockMode.TheVariants.{Whole, Plus as Added, Minus as Taken}
+use Rattle.mj_ast.specs.Syntax.{Expr, Exprs, Variable, Destination, Plain, Pieces, Targets, One, Several, Assignment, Killed, Spared, Merged, Output, Called, Locked, LockNames, Lone, Together, Range, Renewed, Kept}
 use Rattle.mj_ast.specs.Expressions.{count}
-use Rattle.mj_ast.specs.Commands.{Part, Put, Named, PieceCall, Text, Place, Control, with_commas, behind_commas, condition_parts, routine_parts, entry_parts, guard_parts, actual_parts, actuals_parts, called_parts, range_parts, renewed_parts, is_local, is_bare, is_entry, is_called, is_renewed, more_parts, destination_parts, targets_parts, assignment_parts, mark_part, output_parts, name_parts, killed_parts, merged_parts, has_items, every, is_destination, are_targets, is_assignment, is_output, is_killed}
-use Rattle.mj_line.specs.Forms.{Mode, Calls, Jumps, is_optional, Node, SetTarget, PieceOpens, PieceVariable, PieceComma, PieceText, PieceBehind, SetBehind, SetValue, SetEnd, OutputWanted, OutputEnd, MarksEnd, KillWanted, NameWanted, NameBehind, KillEnd, MergeInto, MergeBehind, MergeFrom, MergeEnd, IfWanted, IfEnd, ForWanted, ForBehind, RangeWanted, RangeEnd, StepWanted, StepEnd, LimitWanted, LimitEnd, NewWanted, KeptWanted, KeptBehind, NewEnd, EntryWanted, LabelEnd, RoutineWanted, RoutineEnd, ActualWanted, ActualEnd, ActualsEnd, GuardWanted, GuardEnd, AnExpr, AVar, ALocal}
+use Rattle.mj_ast.specs.Commands.{Part, Put, Named, PieceCall, Text, Place, Control, with_commas, behind_commas, value_parts, routine_parts, entry_parts, guard_parts, actual_parts, actuals_parts, mode_parts, variable_parts, lock_names_parts, locked_parts, range_parts, renewed_parts, is_local, is_bare, is_entry, is_called, are_lock_names, is_locked, is_renewed, more_parts, destination_parts, targets_parts, assignment_parts, mark_part, output_parts, name_parts, killed_parts, merged_parts, has_items, every, is_destination, are_targets, is_assignment, is_output, is_killed}
+use Rattle.mj_line.specs.Forms.{Mode, Calls, Jumps, Starts, colon_at, is_optional, Node, SetTarget, PieceOpens, PieceVariable, PieceComma, PieceText, PieceBehind, SetBehind, SetValue, SetEnd, OutputWanted, OutputEnd, MarksEnd, KillWanted, NameWanted, NameBehind, KillEnd, MergeInto, MergeBehind, MergeFrom, MergeEnd, ValueWanted, ValueEnd, ForWanted, ForBehind, RangeWanted, RangeEnd, StepWanted, StepEnd, LimitWanted, LimitEnd, NewWanted, KeptWanted, KeptBehind, NewEnd, EntryWanted, LabelEnd, RoutineWanted, RoutineEnd, ActualWanted, ActualEnd, ActualsEnd, WaitColon, GuardWanted, GuardEnd, LockWanted, LockSigned, LockListed, LockBehind, LockNamed, LockTimed, LockEnd, AnExpr, AVar, ALocal}
 use Rattle.mj_line.proofs.Tables.{some_same}
-use Rattle.mj_line.proofs.Formed.{Plainly, PlainOne, called_cut, three}
+use Rattle.mj_line.proofs.Formed.{Plainly, PlainOne, entered_parts, guards_of, entered_cut, bare_guard, locked_cut, three}
 
 -- ---- tests
 
@@ -45,7 +47,7 @@ Aims true ps = (d : Destination) × (rest : List Part) × (destination_parts d +
 -- further calls or jumps
 pub record Others (mode : Mode) (ps : List Part) : Type 0 where
   pub others : List Called
-  pub are : behind_commas called_parts others ≡ ps
+  pub are : behind_commas (entered_parts mode) others ≡ ps
   pub formed : every is_called others ≡ true
   pub plain : Plainly mode others
 
@@ -53,7 +55,7 @@ pub record Others (mode : Mode) (ps : List Part) : Type 0 where
 pub record Guarded (mode : Mode) (ps : List Part) : Type 0 where
   pub condition : Option Expr
   pub others : List Called
-  pub are : guard_parts condition ++ behind_commas called_parts others ≡ ps
+  pub are : guards_of mode condition ++ behind_commas (entered_parts mode) others ≡ ps
   pub formed : every is_called others ≡ true
   pub plain : Plainly mode others
 
@@ -62,7 +64,7 @@ pub record Acted (mode : Mode) (ps : List Part) : Type 0 where
   pub actuals : List (Option Expr)
   pub condition : Option Expr
   pub others : List Called
-  pub are : actuals_parts actuals ++ (guard_parts condition ++ behind_commas called_parts others) ≡ ps
+  pub are : actuals_parts actuals ++ (guards_of mode condition ++ behind_commas (entered_parts mode) others) ≡ ps
   pub formed : every is_called others ≡ true
   pub plain : Plainly mode others
   pub bare : PlainOne mode actuals
@@ -70,7 +72,7 @@ pub record Acted (mode : Mode) (ps : List Part) : Type 0 where
 -- calls or jumps
 pub record Entries (mode : Mode) (ps : List Part) : Type 0 where
   pub list : List Called
-  pub are : with_commas called_parts list ≡ ps
+  pub are : with_commas (entered_parts mode) list ≡ ps
   pub formed : every is_called list ≡ true
   pub plain : Plainly mode list
 
@@ -83,6 +85,22 @@ limit_parts (Some c) = Put Colon ∷ Text 0 c ∷ []
 abbrev pub step_parts : Option (Expr × Option Expr) → List Part
 step_parts None = []
 step_parts (Some x) = Put Colon ∷ Text 0 x.0 ∷ limit_parts x.1
+
+-- a timeout of LOCK, if there is one, and further arguments
+pub record Timed (ps : List Part) : Type 0 where
+  pub timeout : Option Expr
+  pub others : List Locked
+  pub are : guard_parts timeout ++ behind_commas locked_parts others ≡ ps
+  pub formed : every is_locked others ≡ true
+
+-- names of LOCK, and they
+pub record Naming (ps : List Part) : Type 0 where
+  pub names : LockNames
+  pub timeout : Option Expr
+  pub others : List Locked
+  pub are : lock_names_parts names ++ (guard_parts timeout ++ behind_commas locked_parts others) ≡ ps
+  pub right : are_lock_names names ≡ true
+  pub formed : every is_locked others ≡ true
 
 abbrev pub Shape : Node → List Part → Type 0
 Shape (SetTarget listed) ps = Aims listed ps
@@ -105,8 +123,8 @@ Shape MergeInto ps = (x : Merged) × (xs : List Merged) × (merged_parts x ++ be
 Shape MergeBehind ps = (v : Variable) × (xs : List Merged) × (Put Equals ∷ Place 0 v ∷ behind_commas merged_parts xs ≡ ps)
 Shape MergeFrom ps = (v : Variable) × (xs : List Merged) × (Place 0 v ∷ behind_commas merged_parts xs ≡ ps)
 Shape MergeEnd ps = (xs : List Merged) × (behind_commas merged_parts xs ≡ ps)
-Shape (IfWanted first) ps = (xs : List Expr) × (with_commas condition_parts xs ≡ ps) × (first ≡ false → has_items xs ≡ true)
-Shape IfEnd ps = (xs : List Expr) × (behind_commas condition_parts xs ≡ ps)
+Shape (ValueWanted optional) ps = (xs : List Expr) × (with_commas value_parts xs ≡ ps) × (optional ≡ false → has_items xs ≡ true)
+Shape ValueEnd ps = (xs : List Expr) × (behind_commas value_parts xs ≡ ps)
 Shape ForWanted ps = (ps ≡ []) ⊎ ((v : Variable) × (x : Range) × (xs : List Range) × (Control v ∷ Put Equals ∷ with_commas range_parts (x ∷ xs) ≡ ps) × (is_local v ≡ true))
 Shape ForBehind ps = (x : Range) × (xs : List Range) × (Put Equals ∷ with_commas range_parts (x ∷ xs) ≡ ps)
 Shape RangeWanted ps = (x : Range) × (xs : List Range) × (with_commas range_parts (x ∷ xs) ≡ ps)
@@ -123,11 +141,19 @@ Shape (EntryWanted mode first) ps = (x : Entries mode ps) × (is_optional mode &
 Shape (LabelEnd mode) ps = (r : Option (List ℕ)) × (qs : List Part) × (routine_parts r ++ qs ≡ ps) × Acted mode qs
 Shape (RoutineWanted mode) ps = (w : List ℕ) × (qs : List Part) × (Named w ∷ qs ≡ ps) × Acted mode qs
 Shape (RoutineEnd mode) ps = Acted mode ps
-Shape ActualWanted ps = (a : Option Expr) × (list : List (Option Expr)) × (qs : List Part) × (actual_parts a ++ (behind_commas actual_parts list ++ Put Close ∷ qs) ≡ ps) × Guarded Calls qs
-Shape ActualEnd ps = (list : List (Option Expr)) × (qs : List Part) × (behind_commas actual_parts list ++ Put Close ∷ qs ≡ ps) × Guarded Calls qs
-Shape ActualsEnd ps = Guarded Calls ps
+Shape (ActualWanted mode) ps = (a : Option Expr) × (list : List (Option Expr)) × (qs : List Part) × (actual_parts a ++ (behind_commas actual_parts list ++ Put Close ∷ qs) ≡ ps) × Guarded mode qs
+Shape (ActualEnd mode) ps = (list : List (Option Expr)) × (qs : List Part) × (behind_commas actual_parts list ++ Put Close ∷ qs ≡ ps) × Guarded mode qs
+Shape (ActualsEnd mode) ps = Guarded mode ps
+Shape WaitColon ps = (e : Expr) × (qs : List Part) × (Put Colon ∷ Text 0 e ∷ qs ≡ ps) × Others Starts qs
 Shape (GuardWanted mode) ps = (e : Expr) × (qs : List Part) × (Text 0 e ∷ qs ≡ ps) × Others mode qs
 Shape (GuardEnd mode) ps = Others mode ps
+Shape (LockWanted first) ps = (xs : List Locked) × (with_commas locked_parts xs ≡ ps) × (every is_locked xs ≡ true) × (first ≡ false → has_items xs ≡ true)
+Shape LockSigned ps = Naming ps
+Shape LockListed ps = (v : Variable) × (vs : List Variable) × (qs : List Part) × (Place 0 v ∷ (behind_commas variable_parts vs ++ Put Close ∷ qs) ≡ ps) × Timed qs
+Shape LockBehind ps = (vs : List Variable) × (qs : List Part) × (behind_commas variable_parts vs ++ Put Close ∷ qs ≡ ps) × Timed qs
+Shape LockNamed ps = Timed ps
+Shape LockTimed ps = (e : Expr) × (xs : List Locked) × (Text 0 e ∷ behind_commas locked_parts xs ≡ ps) × (every is_locked xs ≡ true)
+Shape LockEnd ps = (xs : List Locked) × (behind_commas locked_parts xs ≡ ps) × (every is_locked xs ≡ true)
 
 pub at_node : (n m : Node) (ps : List Part) → Some n ≡ Some m → Shape m ps → Shape n ps
 at_node n m ps e h = let P : Node → Type 0 = λ x. Shape x ps in subst P (sym (some_same n m e)) h
@@ -246,20 +272,23 @@ kept_at w ws rest ps e = spared_at w ws rest ps e
 pub plain_none : (mode : Mode) → Plainly mode []
 plain_none Calls = tt
 plain_none Jumps = refl
+plain_none Starts = tt
 
 bare_none : (mode : Mode) → PlainOne mode []
 bare_none Calls = tt
 bare_none Jumps = refl
+bare_none Starts = tt
 
 plain_more : (mode : Mode) (c : Called) (xs : List Called) → PlainOne mode c.actuals → Plainly mode xs → Plainly mode (c ∷ xs)
 plain_more Calls c xs h i = tt
 plain_more Jumps c xs h i = both (is_bare c.actuals) (every (λ c. is_bare c.actuals) xs) h i
+plain_more Starts c xs h i = tt
 
 pub none_others : (mode : Mode) → Others mode []
 none_others mode = record { others = []; are = refl; formed = refl; plain = plain_none mode }
 
 pub others_guard : (mode : Mode) (ps : List Part) → Others mode ps → Guarded mode ps
-others_guard mode ps h = record { condition = None; others = h.others; are = h.are; formed = h.formed; plain = h.plain }
+others_guard mode ps h = record { condition = None; others = h.others; are = bare_guard mode (behind_commas (entered_parts mode) h.others) ∙ h.are; formed = h.formed; plain = h.plain }
 
 pub guard_acted : (mode : Mode) (ps : List Part) → Guarded mode ps → Acted mode ps
 guard_acted mode ps h = record { actuals = []; condition = h.condition; others = h.others; are = h.are; formed = h.formed; plain = h.plain; bare = bare_none mode }
@@ -267,23 +296,39 @@ guard_acted mode ps h = record { actuals = []; condition = h.condition; others =
 and_false : (mode : Mode) → is_optional mode && false ≡ false
 and_false Calls = refl
 and_false Jumps = refl
+and_false Starts = refl
 
 pub comma_others : (mode : Mode) (ps : List Part) → Shape (EntryWanted mode false) ps → Others mode (Put Comma ∷ ps)
-comma_others mode ps h = record { others = h.0.list; are = next_item called_parts ps h.0.list h.0.are (h.1 (and_false mode)); formed = h.0.formed; plain = h.0.plain }
+comma_others mode ps h = record { others = h.0.list; are = next_item (entered_parts mode) ps h.0.list h.0.are (h.1 (and_false mode)); formed = h.0.formed; plain = h.0.plain }
 
-pub colon_guard : (mode : Mode) (ps : List Part) → Shape (GuardWanted mode) ps → Guarded mode (Put Colon ∷ ps)
-colon_guard mode ps h = record {
+pub colon_guard : (mode : Mode) (ps : List Part) → Shape (colon_at mode) ps → Guarded mode (Put Colon ∷ ps)
+colon_guard Calls ps h = record {
   condition = Some h.0;
   others = h.3.others;
-  are = before (Put Colon) (Text 0 h.0 ∷ behind_commas called_parts h.3.others) ps (before (Text 0 h.0) (behind_commas called_parts h.3.others) h.1 h.3.are ∙ h.2);
+  are = before (Put Colon) (Text 0 h.0 ∷ behind_commas (entered_parts Calls) h.3.others) ps (before (Text 0 h.0) (behind_commas (entered_parts Calls) h.3.others) h.1 h.3.are ∙ h.2);
+  formed = h.3.formed;
+  plain = h.3.plain;
+}
+colon_guard Jumps ps h = record {
+  condition = Some h.0;
+  others = h.3.others;
+  are = before (Put Colon) (Text 0 h.0 ∷ behind_commas (entered_parts Jumps) h.3.others) ps (before (Text 0 h.0) (behind_commas (entered_parts Jumps) h.3.others) h.1 h.3.are ∙ h.2);
+  formed = h.3.formed;
+  plain = h.3.plain;
+}
+colon_guard Starts ps h = record {
+  condition = Some h.0;
+  others = h.3.others;
+  are = before (Put Colon) (Put Colon ∷ Text 0 h.0 ∷ behind_commas (entered_parts Starts) h.3.others) ps
+      (before (Put Colon) (Text 0 h.0 ∷ behind_commas (entered_parts Starts) h.3.others) (Text 0 h.0 ∷ h.1) (before (Text 0 h.0) (behind_commas (entered_parts Starts) h.3.others) h.1 h.3.are) ∙ h.2);
   formed = h.3.formed;
   plain = h.3.plain;
 }
 
-pub open_acted : (ps : List Part) → Shape ActualWanted ps → Acted Calls (Put Open ∷ ps)
-open_acted ps h =
+pub open_acted : (mode : Mode) (ps : List Part) → (list : (xs : List (Option Expr)) → PlainOne mode xs) → Shape (ActualWanted mode) ps → Acted mode (Put Open ∷ ps)
+open_acted mode ps any h =
     let g = h.4 in
-    let x = guard_parts g.condition ++ behind_commas called_parts g.others in
+    let x = guards_of mode g.condition ++ behind_commas (entered_parts mode) g.others in
     record {
       actuals = h.0 ∷ h.1;
       condition = g.condition;
@@ -292,7 +337,7 @@ open_acted ps h =
           (three (actual_parts h.0) (behind_commas actual_parts h.1) (Put Close) x ∙ ap (λ (qs : List Part). actual_parts h.0 ++ (behind_commas actual_parts h.1 ++ Put Close ∷ qs)) g.are ∙ h.3);
       formed = g.formed;
       plain = g.plain;
-      bare = tt;
+      bare = any (h.0 ∷ h.1);
     }
 
 pub entries_at : (mode : Mode) (l r : Option (List ℕ)) (qs ps : List Part) → entry_parts l r ++ qs ≡ ps → is_entry l r ≡ true → Acted mode qs → (x : Entries mode ps) × (has_items x.list ≡ true)
@@ -300,9 +345,47 @@ entries_at mode l r qs ps e i h =
     let c : Called = record { target = record { label = l; routine = r }; actuals = h.actuals; condition = h.condition } in (
       record {
         list = c ∷ h.others;
-        are = called_cut c (behind_commas called_parts h.others) ∙ ap (λ (zs : List Part). entry_parts l r ++ zs) h.are ∙ e;
+        are = entered_cut mode c (behind_commas (entered_parts mode) h.others) ∙ ap (λ (zs : List Part). entry_parts l r ++ zs) h.are ∙ e;
         formed = both (is_entry l r) (every is_called h.others) i h.formed;
         plain = plain_more mode c h.others h.bare h.plain;
       },
       refl,
+    )
+
+-- ---- locks
+
+pub timed_none : Timed []
+timed_none = record { timeout = None; others = []; are = refl; formed = refl }
+
+pub timed_comma : (ps : List Part) → Shape (LockWanted false) ps → Timed (Put Comma ∷ ps)
+timed_comma ps h = record { timeout = None; others = h.0; are = next_item locked_parts ps h.0 h.1 (h.3 refl); formed = h.2 }
+
+pub timed_colon : (ps : List Part) → Shape LockTimed ps → Timed (Put Colon ∷ ps)
+timed_colon ps h = record { timeout = Some h.0; others = h.1; are = before (Put Colon) (Text 0 h.0 ∷ behind_commas locked_parts h.1) ps h.2; formed = h.3 }
+
+pub naming_one : (l : ℕ) (v : Variable) (ps : List Part) → 0 ≡ l → Timed ps → Naming (Place l v ∷ ps)
+naming_one l v ps z h = record { names = Lone v; timeout = h.timeout; others = h.others; are = place_zero l v (guard_parts h.timeout ++ behind_commas locked_parts h.others) ps z h.are; right = refl; formed = h.formed }
+
+pub naming_several : (ps : List Part) → Shape LockListed ps → Naming (Put Open ∷ ps)
+naming_several ps h =
+    let t = h.4 in
+    let x = guard_parts t.timeout ++ behind_commas locked_parts t.others in
+    record {
+      names = Together (h.0 ∷ h.1);
+      timeout = t.timeout;
+      others = t.others;
+      are = before (Put Open) (((Place 0 h.0 ∷ behind_commas variable_parts h.1) ++ Put Close ∷ []) ++ x) ps
+          (three (Place 0 h.0 ∷ []) (behind_commas variable_parts h.1) (Put Close) x ∙ ap (λ (qs : List Part). Place 0 h.0 ∷ (behind_commas variable_parts h.1 ++ Put Close ∷ qs)) t.are ∙ h.3);
+      right = refl;
+      formed = t.formed;
+    }
+
+-- an argument of such a mode, with its names, and the others
+pub locks_at : (first : Bool) (mode : LockMode) (qs ps : List Part) → mode_parts mode ++ qs ≡ ps → Naming qs → Shape (LockWanted first) ps
+locks_at first mode qs ps e h =
+    let x : Locked = record { mode = mode; names = h.names; timeout = h.timeout } in (
+      x ∷ h.others,
+      locked_cut x (behind_commas locked_parts h.others) ∙ ap (λ (zs : List Part). mode_parts mode ++ zs) h.are ∙ e,
+      both (are_lock_names h.names) (every is_locked h.others) h.right h.formed,
+      λ z. refl,
     )

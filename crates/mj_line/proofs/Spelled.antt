@@ -2,20 +2,22 @@
 use Rattle.std.proofs.Common.{◌≡◌, ℕ, max, List, [], ◌∷◌, refl, ap, sym, ◌∙◌, subst, true, arith, Option, Some, None, ◌++◌, map}
 use Rattle.mj_ast.specs.declared.sign.Sign.TheVariants.{Open, Close}
 use Rattle.mj_ast.specs.declared.keyword.Keyword.{Keyword}
-use Rattle.mj_ast.specs.Syntax.{Expr, Called, Command, Do, Step, Line}
+use Rattle.mj_ast.specs.declared.keyword.Verb.TheVariants.{Of}
+use Rattle.mj_ast.specs.Syntax.{Expr, Command, Do, Job, Step, Line}
 use Rattle.mj_ast.specs.Tokens.{Token}
-use Rattle.mj_ast.specs.Commands.{Part, Put, with_commas, behind_commas, target_parts, actuals_parts, guard_parts, called_parts, plain_actuals, plain_called, plain, plain_step, part_nesting, part_width, SpellsStep, SpellsArguments, IsConditional, keyword_for, command_parts, is_formed, gap_of, comment_gap_of, greatest, step_nesting, step_width}
+use Rattle.mj_ast.specs.Commands.{Part, Put, with_commas, behind_commas, target_parts, actuals_parts, guard_parts, called_parts, wait_parts, started_parts, plain_actuals, plain_called, plain_started, plain, plain_step, part_nesting, part_width, meant, SpellsStep, SpellsArguments, IsConditional, keyword_for, command_parts, is_formed, gap_of, comment_gap_of, greatest, step_nesting, step_width}
 use Rattle.mj_ast.specs.Lines.{SpellsSteps, SpellsWritten, plain_line, IsLineWithin}
 use Rattle.mj_line.specs.Sentences.{Clause, Sentence, SpellsClause, SpellsClauses, SpellsSentence, clause_of, sentence_of, clause_nesting, clause_width, IsWithin}
+use Rattle.mj_line.specs.Forms.{IsForm}
 use Rattle.mj_line.proofs.Trees.{made}
-use Rattle.mj_line.proofs.Formed.{formed_form}
+use Rattle.mj_line.proofs.Formed.{formed_form, form_verb}
 use Rattle.mj_line.proofs.Once.{command_once}
 use Rattle.mj_line.proofs.Good.{greatest_append}
 
 -- ---- from trees
 
 spelled_clause : (ks : List Token) (s : Step) → SpellsStep ks s → SpellsClause ks (clause_of s)
-spelled_clause ks s h = (h.0, h.1, h.2, h.3, h.4, h.5, h.6, formed_form s.command h.7, h.8)
+spelled_clause ks s h = (h.0, h.1, h.2, h.3, h.4, h.5, h.6, formed_form s.command h.4.0 h.7 h.4.2, h.8)
 
 spelled_clauses : (g c : ℕ) (ks : List Token) (ss : List Step) → SpellsSteps g c ks ss → SpellsClauses g c ks (map clause_of ss)
 spelled_clauses g c ks [] h = h
@@ -39,13 +41,14 @@ record Back (ks : List Token) (c : Clause) : Type 0 where
 
 clause_back : (ks : List Token) (c : Clause) → SpellsClause ks c → Back ks c
 clause_back ks c h =
-    let m = made c.keyword c.parts h.7 in
+    let F : Keyword → Type 0 = λ k. IsForm (Of k) c.parts in
+    let m = made c.keyword c.parts (subst F (sym h.4.2) (form_verb h.4.0 c.parts h.7)) in
     let A : List Part → Type 0 = λ ps. SpellsArguments h.2 ps in
     let C : Keyword → Type 0 = λ k. IsConditional k c.condition in
     record {
       step = record { condition = c.condition; command = m.command };
       made = clause_made c m.command m.named m.parts;
-      spells = (h.0, h.1, h.2, h.3, h.4 ∙ ap (λ (k : Keyword). Some k) (sym m.named), h.5, subst A (sym m.parts) h.6, m.formed, subst C (sym m.named) h.8);
+      spells = (h.0, h.1, h.2, h.3, (h.4.0, h.4.1, m.named ∙ h.4.2 ∙ ap (meant h.4.0) (sym m.parts)), h.5, subst A (sym m.parts) h.6, m.formed, subst C (sym m.named) h.8);
     }
 
 clauses_back : (g c : ℕ) (ks : List Token) (cs : List Clause) → SpellsClauses g c ks cs → (ss : List Step) × (map clause_of ss ≡ cs) × SpellsSteps g c ks ss
@@ -133,35 +136,38 @@ actuals_flat f (None ∷ []) h = let a = h.opens in let b = h.closes in omega ar
 actuals_flat f (None ∷ a ∷ list) h = refl
 actuals_flat f (Some e ∷ list) h = refl
 
-called_flat : (f : Part → ℕ) (c : Called) → IsFlat f → greatest f (called_parts (plain_called c)) ≡ greatest f (called_parts c)
-called_flat f c h =
-    let a = greatest_append f (target_parts c.target) (actuals_parts (plain_actuals c.actuals) ++ guard_parts c.condition) in
-    let b = greatest_append f (actuals_parts (plain_actuals c.actuals)) (guard_parts c.condition) in
-    let d = greatest_append f (target_parts c.target) (actuals_parts c.actuals ++ guard_parts c.condition) in
-    let e = greatest_append f (actuals_parts c.actuals) (guard_parts c.condition) in
-    let g = actuals_flat f c.actuals h in
+-- an entry, its actuals and what stands behind them
+entered_flat : (f : Part → ℕ) (t g : List Part) (list : List (Option Expr)) → IsFlat f → greatest f (t ++ (actuals_parts (plain_actuals list) ++ g)) ≡ greatest f (t ++ (actuals_parts list ++ g))
+entered_flat f t g list h =
+    let a = greatest_append f t (actuals_parts (plain_actuals list) ++ g) in
+    let b = greatest_append f (actuals_parts (plain_actuals list)) g in
+    let d = greatest_append f t (actuals_parts list ++ g) in
+    let e = greatest_append f (actuals_parts list) g in
+    let i = actuals_flat f list h in
     omega arith
 
-calls_flat : (f : Part → ℕ) (xs : List Called) → IsFlat f → greatest f (behind_commas called_parts (map plain_called xs)) ≡ greatest f (behind_commas called_parts xs)
-calls_flat f [] h = refl
-calls_flat f (x ∷ xs) h =
-    let a = greatest_append f (called_parts (plain_called x)) (behind_commas called_parts (map plain_called xs)) in
-    let b = greatest_append f (called_parts x) (behind_commas called_parts xs) in
-    let c = called_flat f x h in
-    let d = calls_flat f xs h in
+-- items as they are meant, each of which measures the same
+behind_flat : {X : Type 0} (f : Part → ℕ) (parts : X → List Part) (to : X → X) (xs : List X) → ((x : X) → greatest f (parts (to x)) ≡ greatest f (parts x)) → greatest f (behind_commas parts (map to xs)) ≡ greatest f (behind_commas parts xs)
+behind_flat f parts to [] h = refl
+behind_flat f parts to (x ∷ xs) h =
+    let a = greatest_append f (parts (to x)) (behind_commas parts (map to xs)) in
+    let b = greatest_append f (parts x) (behind_commas parts xs) in
+    let c = h x in
+    let d = behind_flat f parts to xs h in
     omega arith
 
-dos_flat : (f : Part → ℕ) (xs : List Called) → IsFlat f → greatest f (with_commas called_parts (map plain_called xs)) ≡ greatest f (with_commas called_parts xs)
-dos_flat f [] h = refl
-dos_flat f (x ∷ xs) h =
-    let a = greatest_append f (called_parts (plain_called x)) (behind_commas called_parts (map plain_called xs)) in
-    let b = greatest_append f (called_parts x) (behind_commas called_parts xs) in
-    let c = called_flat f x h in
-    let d = calls_flat f xs h in
+items_flat : {X : Type 0} (f : Part → ℕ) (parts : X → List Part) (to : X → X) (xs : List X) → ((x : X) → greatest f (parts (to x)) ≡ greatest f (parts x)) → greatest f (with_commas parts (map to xs)) ≡ greatest f (with_commas parts xs)
+items_flat f parts to [] h = refl
+items_flat f parts to (x ∷ xs) h =
+    let a = greatest_append f (parts (to x)) (behind_commas parts (map to xs)) in
+    let b = greatest_append f (parts x) (behind_commas parts xs) in
+    let c = h x in
+    let d = behind_flat f parts to xs h in
     omega arith
 
 command_flat : (f : Part → ℕ) (c : Command) → IsFlat f → greatest f (command_parts (plain c)) ≡ greatest f (command_parts c)
-command_flat f (Do xs) h = dos_flat f xs h
+command_flat f (Do xs) h = items_flat f called_parts plain_called xs (λ x. entered_flat f (target_parts x.target) (guard_parts x.condition) x.actuals h)
+command_flat f (Job xs) h = items_flat f started_parts plain_started xs (λ x. entered_flat f (target_parts x.target) (wait_parts x.timeout) x.actuals h)
 command_flat f c h = refl
 
 steps_nest : (ss : List Step) → greatest step_nesting (map plain_step ss) ≡ greatest step_nesting ss

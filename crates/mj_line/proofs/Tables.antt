@@ -1,22 +1,23 @@
 -- What is known of the table of arguments, each fact by a look at every row.
-use Rattle.std.proofs.Common.{◌≡◌, ℕ, zero, suc, ◌≤◌, nat_le, List, [], ◌∷◌, length, refl, sym, subst, Bool, true, false, arith, Option, Some, None, ◌⊎◌, inl, inr, lit≤}
+use Rattle.std.proofs.Common.{◌≡◌, ℕ, zero, suc, ◌≤◌, nat_le, List, [], ◌∷◌, length, refl, sym, ◌∙◌, subst, Bool, true, false, arith, Option, Some, None, ◌⊎◌, inl, inr, lit≤}
 use Rattle.std.specs.Prelude.{cond}
 use Rattle.std.proofs.lemmas.Bool.Decides.{nat_tests}
 use Rattle.std.specs.Fmt.{digits}
 use Rattle.mj_ast.specs.declared.sign.Sign.{Sign}
-use Rattle.mj_ast.specs.declared.sign.Sign.TheVariants.{Equals, Comma, Colon, Exclamation, Open, Close}
+use Rattle.mj_ast.specs.declared.sign.Sign.TheVariants.{Plus, Minus, Equals, Comma, Colon, Exclamation, Open, Close}
 use Rattle.mj_ast.specs.declared.expr.Scope.TheVariants.{Local}
 use Rattle.mj_ast.specs.declared.function.Function.TheVariants.{Piece}
 use Rattle.mj_ast.specs.declared.function.Callee.{Callee}
 use Rattle.mj_ast.specs.declared.function.Callee.TheVariants as callee
-use Rattle.mj_ast.specs.declared.keyword.Keyword.{Keyword}
+use Rattle.mj_ast.specs.declared.keyword.Verb.{Verb}
 use Rattle.mj_ast.specs.declared.keyword.Keyword.TheVariants as keyword
+use Rattle.mj_ast.specs.declared.keyword.Verb.TheVariants.{Of, HaltOrHang}
 use Rattle.mj_ast.specs.Syntax.{Expr, Chain, Done, Literal, Variable, Var, No}
 use Rattle.mj_ast.specs.Tokens.{Token, Word, Called, Digits, Signed}
 use Rattle.mj_ast.specs.Expressions.{symbol, function_symbol, callee_of, Overlong, Mark, Spells, expressions}
-use Rattle.mj_ast.specs.Commands.{Part, Put, Named, Label, PieceCall, Text, Place, Control, SpellsPart, SpellsParts, greatest, part_nesting, part_width}
+use Rattle.mj_ast.specs.Commands.{bare_of, meant, is_conditional, IsConditional, Part, Put, Named, Label, PieceCall, Text, Place, Control, SpellsPart, SpellsParts, greatest, part_nesting, part_width}
 use Rattle.mj_expr.specs.Machine as phrase
-use Rattle.mj_line.specs.Forms.{Mode, Node, SetTarget, PieceOpens, PieceVariable, PieceComma, PieceText, PieceBehind, SetBehind, SetValue, SetEnd, OutputWanted, OutputEnd, MarksEnd, KillWanted, NameWanted, NameBehind, KillEnd, MergeInto, MergeBehind, MergeFrom, MergeEnd, IfWanted, IfEnd, ForWanted, ForBehind, RangeWanted, RangeEnd, StepWanted, StepEnd, LimitWanted, LimitEnd, NewWanted, KeptWanted, KeptBehind, NewEnd, EntryWanted, LabelEnd, RoutineWanted, RoutineEnd, ActualWanted, ActualEnd, ActualsEnd, GuardWanted, GuardEnd, Want, AnExpr, AVar, ALocal, next_of, piece_part, part_of, part_at, labels, takes, wants, ends, first_node, may_be_bare, Goes, Fits}
+use Rattle.mj_line.specs.Forms.{Mode, Starts, Node, SetTarget, PieceOpens, PieceVariable, PieceComma, PieceText, PieceBehind, SetBehind, SetValue, SetEnd, OutputWanted, OutputEnd, MarksEnd, KillWanted, NameWanted, NameBehind, KillEnd, MergeInto, MergeBehind, MergeFrom, MergeEnd, ValueWanted, ValueEnd, ForWanted, ForBehind, RangeWanted, RangeEnd, StepWanted, StepEnd, LimitWanted, LimitEnd, NewWanted, KeptWanted, KeptBehind, NewEnd, EntryWanted, LabelEnd, RoutineWanted, RoutineEnd, ActualWanted, ActualEnd, ActualsEnd, WaitColon, GuardWanted, GuardEnd, LockWanted, LockSigned, LockListed, LockBehind, LockNamed, LockTimed, LockEnd, Want, AnExpr, AVar, ALocal, next_of, piece_part, part_of, part_at, labels, takes, wants, ends, first_node, may_be_bare, Goes, Fits}
 use Rattle.mj_line.specs.Machine.{wanted, level_of}
 
 pub none_some : {A : Type 0} (x : A) → None ≡ Some x → ⊥
@@ -40,13 +41,17 @@ all_small OutputWanted = omega arith
 all_small (KillWanted first) = omega arith
 all_small MergeInto = omega arith
 all_small MergeFrom = omega arith
-all_small (IfWanted first) = omega arith
+all_small (ValueWanted first) = omega arith
 all_small ForWanted = omega arith
 all_small RangeWanted = omega arith
 all_small StepWanted = omega arith
 all_small LimitWanted = omega arith
-all_small ActualWanted = omega arith
+all_small (ActualWanted mode) = omega arith
 all_small (GuardWanted mode) = omega arith
+all_small (LockWanted first) = omega arith
+all_small LockSigned = omega arith
+all_small LockListed = omega arith
+all_small LockTimed = omega arith
 all_small n = tt
 
 -- a command opens one level at most
@@ -131,33 +136,52 @@ token_width (Control v) h = absurd h
 
 -- ---- commands without arguments
 
-abbrev IsBareThere : Keyword → Option Node → Type 0
+abbrev IsBareThere : Verb → Option Node → Type 0
 IsBareThere k None = may_be_bare k ≡ true
 IsBareThere k (Some n) = ends n ≡ true → may_be_bare k ≡ true
 
 false_true : {A : Type 0} → false ≡ true → A
 false_true e = absurd (let f : false ≡ true = e in cc)
 
-all_bare : (k : Keyword) → IsBareThere k (first_node k)
-all_bare keyword.Set = λ e. e
-all_bare keyword.Write = λ e. e
-all_bare keyword.Halt = refl
-all_bare keyword.Kill = λ e. refl
-all_bare keyword.Merge = λ e. e
-all_bare keyword.If = λ e. refl
-all_bare keyword.For = λ e. refl
-all_bare keyword.Do = λ e. refl
-all_bare keyword.Goto = λ e. e
-all_bare keyword.New = λ e. refl
+all_bare : (k : Verb) → IsBareThere k (first_node k)
+all_bare (Of keyword.Set) = λ e. e
+all_bare (Of keyword.Write) = λ e. e
+all_bare (Of keyword.Halt) = refl
+all_bare (Of keyword.Hang) = λ e. e
+all_bare (Of keyword.Job) = λ e. e
+all_bare (Of keyword.Lock) = λ e. refl
+all_bare (Of keyword.Kill) = λ e. refl
+all_bare (Of keyword.Merge) = λ e. e
+all_bare (Of keyword.If) = λ e. refl
+all_bare (Of keyword.For) = λ e. refl
+all_bare (Of keyword.Do) = λ e. refl
+all_bare (Of keyword.Goto) = λ e. e
+all_bare (Of keyword.New) = λ e. refl
+all_bare HaltOrHang = λ e. refl
 all_bare k = refl
 
 -- where the arguments may end before the first, there may be none
-pub bare_first : (k : Keyword) (n : Node) → first_node k ≡ Some n → ends n ≡ true → may_be_bare k ≡ true
+pub bare_first : (k : Verb) (n : Node) → first_node k ≡ Some n → ends n ≡ true → may_be_bare k ≡ true
 bare_first k n e = let P : Option Node → Type 0 = λ q. IsBareThere k q in subst P e (all_bare k)
 
 -- where there may be none at all, none is right
-pub bare_none : (k : Keyword) → first_node k ≡ None → may_be_bare k ≡ true
+pub bare_none : (k : Verb) → first_node k ≡ None → may_be_bare k ≡ true
 bare_none k e = let P : Option Node → Type 0 = λ q. IsBareThere k q in subst P e (all_bare k)
+
+-- a word has a condition as each command has that it leads to
+pub conditional_as : (v : Verb) (ps : List Part) → is_conditional (meant v ps) ≡ is_conditional (bare_of v)
+conditional_as (Of k) [] = refl
+conditional_as (Of k) (p ∷ ps) = refl
+conditional_as HaltOrHang [] = refl
+conditional_as HaltOrHang (p ∷ ps) = refl
+
+pub conditional_meant : (v : Verb) (ps : List Part) (c : Option Expr) → IsConditional (bare_of v) c → IsConditional (meant v ps) c
+conditional_meant v ps None h = tt
+conditional_meant v ps (Some e) h = conditional_as v ps ∙ h
+
+pub conditional_bare : (v : Verb) (ps : List Part) (c : Option Expr) → IsConditional (meant v ps) c → IsConditional (bare_of v) c
+conditional_bare v ps None h = tt
+conditional_bare v ps (Some e) h = sym (conditional_as v ps) ∙ h
 
 -- a label is taken only where one is wanted, and a name only where none is
 pub label_wanted : (n next : Node) (l : List ℕ) → takes n (Label l) ≡ Some next → labels n ≡ true
@@ -188,13 +212,17 @@ all_unlabelled OutputWanted = refl
 all_unlabelled (KillWanted first) = refl
 all_unlabelled MergeInto = refl
 all_unlabelled MergeFrom = refl
-all_unlabelled (IfWanted first) = refl
+all_unlabelled (ValueWanted first) = refl
 all_unlabelled ForWanted = refl
 all_unlabelled RangeWanted = refl
 all_unlabelled StepWanted = refl
 all_unlabelled LimitWanted = refl
-all_unlabelled ActualWanted = refl
+all_unlabelled (ActualWanted mode) = refl
 all_unlabelled (GuardWanted mode) = refl
+all_unlabelled (LockWanted first) = refl
+all_unlabelled LockSigned = refl
+all_unlabelled LockListed = refl
+all_unlabelled LockTimed = refl
 all_unlabelled n = tt
 
 pub unlabelled : (n : Node) (w : Want) → wants n ≡ Some w → labels n ≡ false
@@ -214,6 +242,7 @@ abbrev pub FollowsPlace : Part → Type 0
 FollowsPlace (Put Equals) = Unit {0}
 FollowsPlace (Put Comma) = Unit {0}
 FollowsPlace (Put Close) = Unit {0}
+FollowsPlace (Put Colon) = Unit {0}
 FollowsPlace p = ⊥
 
 abbrev pub FollowsWant : Want → Part → Type 0
@@ -266,7 +295,7 @@ from_follows (Put Comma) m e = tt
 from_follows (Control v) m e = absurd (none_some _ e.0)
 from_follows p m e = absurd (none_some _ e)
 
-if_follows : (p : Part) (m : Node) → Goes IfEnd p m → FollowsText p
+if_follows : (p : Part) (m : Node) → Goes ValueEnd p m → FollowsText p
 if_follows (Put Comma) m e = tt
 if_follows (Control v) m e = absurd (none_some _ e.0)
 if_follows p m e = absurd (none_some _ e)
@@ -293,16 +322,33 @@ limit_follows (Put Comma) m e = tt
 limit_follows (Control v) m e = absurd (none_some _ e.0)
 limit_follows p m e = absurd (none_some _ e)
 
-actual_follows : (p : Part) (m : Node) → Goes ActualEnd p m → FollowsText p
-actual_follows (Put Comma) m e = tt
-actual_follows (Put Close) m e = tt
-actual_follows (Control v) m e = absurd (none_some _ e.0)
-actual_follows p m e = absurd (none_some _ e)
+actual_follows : (mode : Mode) (p : Part) (m : Node) → Goes (ActualEnd mode) p m → FollowsText p
+actual_follows mode (Put Comma) m e = tt
+actual_follows mode (Put Close) m e = tt
+actual_follows mode (Control v) m e = absurd (none_some _ e.0)
+actual_follows mode p m e = absurd (none_some _ e)
 
 guard_follows : (mode : Mode) (p : Part) (m : Node) → Goes (GuardEnd mode) p m → FollowsText p
 guard_follows mode (Put Comma) m e = tt
 guard_follows mode (Control v) m e = absurd (none_some _ e.0)
 guard_follows mode p m e = absurd (none_some _ e)
+
+named_follows : (p : Part) (m : Node) → Goes LockNamed p m → FollowsPlace p
+named_follows (Put Comma) m e = tt
+named_follows (Put Colon) m e = tt
+named_follows (Control v) m e = absurd (none_some _ e.0)
+named_follows p m e = absurd (none_some _ e)
+
+locked_follows : (p : Part) (m : Node) → Goes LockBehind p m → FollowsPlace p
+locked_follows (Put Comma) m e = tt
+locked_follows (Put Close) m e = tt
+locked_follows (Control v) m e = absurd (none_some _ e.0)
+locked_follows p m e = absurd (none_some _ e)
+
+lock_follows : (p : Part) (m : Node) → Goes LockEnd p m → FollowsText p
+lock_follows (Put Comma) m e = tt
+lock_follows (Control v) m e = absurd (none_some _ e.0)
+lock_follows p m e = absurd (none_some _ e)
 
 abbrev IsFollowed : Option Want → Type 0
 IsFollowed None = Unit {0}
@@ -317,13 +363,17 @@ all_followed OutputWanted = λ p m e. output_follows p m e
 all_followed (KillWanted first) = λ p m e. kill_follows p m e
 all_followed MergeInto = λ p m e. into_follows p m e
 all_followed MergeFrom = λ p m e. from_follows p m e
-all_followed (IfWanted first) = λ p m e. if_follows p m e
+all_followed (ValueWanted first) = λ p m e. if_follows p m e
 all_followed ForWanted = λ p m e. for_follows p m e
 all_followed RangeWanted = λ p m e. range_follows p m e
 all_followed StepWanted = λ p m e. step_follows p m e
 all_followed LimitWanted = λ p m e. limit_follows p m e
-all_followed ActualWanted = λ p m e. actual_follows p m e
+all_followed (ActualWanted mode) = λ p m e. actual_follows mode p m e
 all_followed (GuardWanted mode) = λ p m e. guard_follows mode p m e
+all_followed (LockWanted first) = λ p m e. named_follows p m e
+all_followed LockSigned = λ p m e. named_follows p m e
+all_followed LockListed = λ p m e. locked_follows p m e
+all_followed LockTimed = λ p m e. lock_follows p m e
 all_followed n = tt
 
 -- behind a phrase stands a sign that no such phrase goes on with
@@ -344,37 +394,45 @@ all_shut OutputWanted = refl
 all_shut (KillWanted first) = refl
 all_shut MergeInto = refl
 all_shut MergeFrom = refl
-all_shut (IfWanted first) = refl
+all_shut (ValueWanted first) = refl
 all_shut ForWanted = refl
 all_shut RangeWanted = refl
 all_shut StepWanted = refl
 all_shut LimitWanted = refl
-all_shut ActualWanted = refl
+all_shut (ActualWanted mode) = refl
 all_shut (GuardWanted mode) = refl
+all_shut (LockWanted first) = refl
+all_shut LockSigned = refl
+all_shut LockListed = refl
+all_shut LockTimed = refl
 all_shut n = tt
 
 pub shut : (n : Node) (w : Want) → wants n ≡ Some w → wants (next_of w) ≡ None
 shut n w e = subst IsShut e (all_shut n)
 
 -- where a command may have no arguments, they may end before the first
-abbrev EndsThere : Keyword → Option Node → Type 0
+abbrev EndsThere : Verb → Option Node → Type 0
 EndsThere k None = Unit {0}
 EndsThere k (Some n) = may_be_bare k ≡ true → ends n ≡ true
 
-all_ends : (k : Keyword) → EndsThere k (first_node k)
-all_ends keyword.Set = λ e. e
-all_ends keyword.Write = λ e. e
-all_ends keyword.Halt = tt
-all_ends keyword.Kill = λ e. refl
-all_ends keyword.Merge = λ e. e
-all_ends keyword.If = λ e. refl
-all_ends keyword.For = λ e. refl
-all_ends keyword.Do = λ e. refl
-all_ends keyword.Goto = λ e. e
-all_ends keyword.New = λ e. refl
+all_ends : (k : Verb) → EndsThere k (first_node k)
+all_ends (Of keyword.Set) = λ e. e
+all_ends (Of keyword.Write) = λ e. e
+all_ends (Of keyword.Halt) = tt
+all_ends (Of keyword.Hang) = λ e. e
+all_ends (Of keyword.Job) = λ e. e
+all_ends (Of keyword.Lock) = λ e. refl
+all_ends (Of keyword.Kill) = λ e. refl
+all_ends (Of keyword.Merge) = λ e. e
+all_ends (Of keyword.If) = λ e. refl
+all_ends (Of keyword.For) = λ e. refl
+all_ends (Of keyword.Do) = λ e. refl
+all_ends (Of keyword.Goto) = λ e. e
+all_ends (Of keyword.New) = λ e. refl
+all_ends HaltOrHang = λ e. refl
 all_ends k = tt
 
-pub first_ends : (k : Keyword) (n : Node) → first_node k ≡ Some n → may_be_bare k ≡ true → ends n ≡ true
+pub first_ends : (k : Verb) (n : Node) → first_node k ≡ Some n → may_be_bare k ≡ true → ends n ≡ true
 first_ends k n e = let P : Option Node → Type 0 = λ q. EndsThere k q in subst P e (all_ends k)
 
 -- ---- where a phrase may begin, no other token is taken that begins one
@@ -446,10 +504,20 @@ output_sign : (m : phrase.Limits) (s : Sign) → WantApart m OutputWanted s
 output_sign m Exclamation = inl refl
 output_sign m s = inr refl
 
-actual_sign : (m : phrase.Limits) (s : Sign) → WantApart m ActualWanted s
-actual_sign m Comma = inl refl
-actual_sign m Close = inl refl
-actual_sign m s = inr refl
+actual_sign : (m : phrase.Limits) (mode : Mode) (s : Sign) → WantApart m (ActualWanted mode) s
+actual_sign m mode Comma = inl refl
+actual_sign m mode Close = inl refl
+actual_sign m mode s = inr refl
+
+lock_sign : (m : phrase.Limits) (first : Bool) (s : Sign) → SignApart m (LockWanted first) s
+lock_sign m first Plus = inl refl
+lock_sign m first Minus = inl refl
+lock_sign m first Open = inl refl
+lock_sign m first s = inr refl
+
+signed_sign : (m : phrase.Limits) (s : Sign) → SignApart m LockSigned s
+signed_sign m Open = inl refl
+signed_sign m s = inr refl
 
 all_apart : (m : phrase.Limits) (n : Node) (t : Token) → IsApart m n t (wants n)
 all_apart m (SetTarget listed) t = place_apart m (SetTarget listed) 0 (SetBehind listed) t (λ w. refl) (target_sign m listed)
@@ -460,13 +528,17 @@ all_apart m OutputWanted t = text_apart m OutputWanted 0 OutputEnd t (λ w. refl
 all_apart m (KillWanted first) t = place_apart m (KillWanted first) 0 KillEnd t (λ w. refl) (kill_sign m first)
 all_apart m MergeInto t = place_apart m MergeInto 0 MergeBehind t (λ w. refl) (λ s. inr refl)
 all_apart m MergeFrom t = place_apart m MergeFrom 0 MergeEnd t (λ w. refl) (λ s. inr refl)
-all_apart m (IfWanted first) t = text_apart m (IfWanted first) 0 IfEnd t (λ w. refl) refl (λ s. inr refl)
+all_apart m (ValueWanted first) t = text_apart m (ValueWanted first) 0 ValueEnd t (λ w. refl) refl (λ s. inr refl)
 all_apart m ForWanted t = local_apart m ForWanted ForBehind t (λ w. refl) (λ s. inr refl)
 all_apart m RangeWanted t = text_apart m RangeWanted 0 RangeEnd t (λ w. refl) refl (λ s. inr refl)
 all_apart m StepWanted t = text_apart m StepWanted 0 StepEnd t (λ w. refl) refl (λ s. inr refl)
 all_apart m LimitWanted t = text_apart m LimitWanted 0 LimitEnd t (λ w. refl) refl (λ s. inr refl)
-all_apart m ActualWanted t = text_apart m ActualWanted 1 ActualEnd t (λ w. refl) refl (actual_sign m)
+all_apart m (ActualWanted mode) t = text_apart m (ActualWanted mode) 1 (ActualEnd mode) t (λ w. refl) refl (actual_sign m mode)
 all_apart m (GuardWanted mode) t = text_apart m (GuardWanted mode) 0 (GuardEnd mode) t (λ w. refl) refl (λ s. inr refl)
+all_apart m (LockWanted first) t = place_apart m (LockWanted first) 0 LockNamed t (λ w. refl) (lock_sign m first)
+all_apart m LockSigned t = place_apart m LockSigned 0 LockNamed t (λ w. refl) (signed_sign m)
+all_apart m LockListed t = place_apart m LockListed 0 LockBehind t (λ w. refl) (λ s. inr refl)
+all_apart m LockTimed t = text_apart m LockTimed 0 LockEnd t (λ w. refl) refl (λ s. inr refl)
 all_apart m n t = tt
 
 pub apart : (m : phrase.Limits) (n : Node) (t : Token) (w : Want) → wants n ≡ Some w → (phrase.step m (wanted w) (symbol t) ≡ phrase.Stuck) ⊎ (part_taken n (part_of t) ≡ None)
@@ -602,8 +674,8 @@ finish MergeInto = place_before MergeInto MergeBehind 0 (omega arith) refl into_
 finish MergeBehind = into_finish
 finish MergeFrom = from_finish
 finish MergeEnd = at_end MergeEnd refl
-finish (IfWanted first) = text_before (IfWanted first) IfEnd 0 (omega arith) refl (at_end IfEnd refl)
-finish IfEnd = at_end IfEnd refl
+finish (ValueWanted first) = text_before (ValueWanted first) ValueEnd 0 (omega arith) refl (at_end ValueEnd refl)
+finish ValueEnd = at_end ValueEnd refl
 finish ForWanted = local_before ForWanted ForBehind refl (sign_before ForBehind RangeWanted Equals refl range_finish)
 finish ForBehind = sign_before ForBehind RangeWanted Equals refl range_finish
 finish RangeWanted = range_finish
@@ -620,8 +692,16 @@ finish (EntryWanted mode first) = token_before (EntryWanted mode first) (LabelEn
 finish (LabelEnd mode) = at_end (LabelEnd mode) refl
 finish (RoutineWanted mode) = token_before (RoutineWanted mode) (RoutineEnd mode) (Word (65 ∷ [])) (Named (65 ∷ [])) refl (record { spells = (refl, lit≤ tt); token = tt }) (at_end (RoutineEnd mode) refl)
 finish (RoutineEnd mode) = at_end (RoutineEnd mode) refl
-finish ActualWanted = sign_before ActualWanted ActualsEnd Close refl (at_end ActualsEnd refl)
-finish ActualEnd = sign_before ActualEnd ActualsEnd Close refl (at_end ActualsEnd refl)
-finish ActualsEnd = at_end ActualsEnd refl
+finish (ActualWanted mode) = sign_before (ActualWanted mode) (ActualsEnd mode) Close refl (at_end (ActualsEnd mode) refl)
+finish (ActualEnd mode) = sign_before (ActualEnd mode) (ActualsEnd mode) Close refl (at_end (ActualsEnd mode) refl)
+finish (ActualsEnd mode) = at_end (ActualsEnd mode) refl
+finish WaitColon = sign_before WaitColon (GuardWanted Starts) Colon refl (text_before (GuardWanted Starts) (GuardEnd Starts) 0 (omega arith) refl (at_end (GuardEnd Starts) refl))
 finish (GuardWanted mode) = text_before (GuardWanted mode) (GuardEnd mode) 0 (omega arith) refl (at_end (GuardEnd mode) refl)
 finish (GuardEnd mode) = at_end (GuardEnd mode) refl
+finish (LockWanted first) = place_before (LockWanted first) LockNamed 0 (omega arith) refl (at_end LockNamed refl)
+finish LockSigned = place_before LockSigned LockNamed 0 (omega arith) refl (at_end LockNamed refl)
+finish LockListed = place_before LockListed LockBehind 0 (omega arith) refl (sign_before LockBehind LockNamed Close refl (at_end LockNamed refl))
+finish LockBehind = sign_before LockBehind LockNamed Close refl (at_end LockNamed refl)
+finish LockNamed = at_end LockNamed refl
+finish LockTimed = text_before LockTimed LockEnd 0 (omega arith) refl (at_end LockEnd refl)
+finish LockEnd = at_end LockEnd refl

@@ -1,15 +1,17 @@
 -- Commands and the parts that they are spelled by: the table has exactly the parts of trees, and each tree its own.
 use Rattle.std.proofs.Common.{◌≡◌, ℕ, zero, suc, List, [], ◌∷◌, ◌++◌, refl, ap, sym, ◌∙◌, Bool, true, false, append_assoc, arith, Option, Some, None, map, inl, inr}
-use Rattle.mj_ast.specs.declared.sign.Sign.TheVariants.{Equals, Comma, Colon, Exclamation, Caret, Open, Close}
+use Rattle.mj_ast.specs.declared.sign.Sign.TheVariants.{Plus, Minus, Equals, Comma, Colon, Exclamation, Caret, Open, Close}
 use Rattle.mj_ast.specs.declared.routine.Mark.TheVariants.{NewLine}
 use Rattle.mj_ast.specs.declared.keyword.Keyword.{Keyword}
 use Rattle.mj_ast.specs.declared.keyword.Keyword.TheVariants as keyword
-use Rattle.mj_ast.specs.Syntax.{Expr, No, More, Gone, Spared, Shown, Format, Called, Jumped, Range, Single, Endless, UpTo, Fresh, Kept, Command, Set, Write, Halt, Kill, Merge, If, Else, For, Forever, Do, Goto, Quit, New}
-use Rattle.mj_ast.specs.Commands.{Part, Put, Named, Label, PieceCall, Text, Place, Control, with_commas, behind_commas, condition_parts, routine_parts, actual_parts, called_parts, as_called, jumped_parts, range_parts, renewed_parts, is_local, is_bare, is_called, is_jumped, more_parts, targets_parts, assignment_parts, mark_part, output_parts, name_parts, killed_parts, merged_parts, command_parts, keyword_for, has_items, every, are_targets, is_assignment, is_output, is_formed}
-use Rattle.mj_line.specs.Forms.{Mode, Calls, Jumps, Node, SetTarget, PieceOpens, PieceVariable, PieceComma, PieceText, PieceBehind, SetBehind, SetValue, SetEnd, OutputWanted, OutputEnd, MarksEnd, KillWanted, NameWanted, NameBehind, KillEnd, MergeInto, MergeBehind, MergeFrom, MergeEnd, IfWanted, IfEnd, ForWanted, ForBehind, RangeWanted, RangeEnd, StepWanted, StepEnd, LimitWanted, LimitEnd, NewWanted, KeptWanted, KeptBehind, NewEnd, EntryWanted, LabelEnd, RoutineWanted, RoutineEnd, ActualWanted, ActualEnd, ActualsEnd, GuardWanted, GuardEnd, actuals_at, ends, first_node, may_be_bare, Goes, Fits, IsForm}
+use Rattle.mj_ast.specs.declared.keyword.Verb.TheVariants.{Of}
+use Rattle.mj_ast.specs.declared.routine.LockMode.TheVariants.{Whole, Plus as Added, Minus as Taken}
+use Rattle.mj_ast.specs.Syntax.{Expr, No, More, Gone, Spared, Shown, Format, Called, Jumped, Started, Locked, Range, Single, Endless, UpTo, Fresh, Kept, Command, Set, Write, Halt, Hang, Job, Lock, Kill, Merge, If, Else, For, Forever, Do, Goto, Quit, New}
+use Rattle.mj_ast.specs.Commands.{Part, Put, Named, Label, PieceCall, Text, Place, Control, with_commas, behind_commas, value_parts, routine_parts, actual_parts, as_called, jumped_parts, started_parts, variable_parts, lock_names_parts, guard_parts, locked_parts, range_parts, renewed_parts, is_local, is_bare, is_called, is_jumped, is_started, is_locked, more_parts, targets_parts, assignment_parts, mark_part, output_parts, name_parts, killed_parts, merged_parts, command_parts, keyword_for, has_items, every, are_targets, is_assignment, is_output, is_formed}
+use Rattle.mj_line.specs.Forms.{Mode, Calls, Jumps, Starts, Node, SetTarget, PieceOpens, PieceVariable, PieceComma, PieceText, PieceBehind, SetBehind, SetValue, SetEnd, OutputWanted, OutputEnd, MarksEnd, KillWanted, NameWanted, NameBehind, KillEnd, MergeInto, MergeBehind, MergeFrom, MergeEnd, ValueWanted, ValueEnd, ForWanted, ForBehind, RangeWanted, RangeEnd, StepWanted, StepEnd, LimitWanted, LimitEnd, NewWanted, KeptWanted, KeptBehind, NewEnd, EntryWanted, LabelEnd, RoutineWanted, RoutineEnd, ActualWanted, ActualEnd, ActualsEnd, WaitColon, GuardWanted, GuardEnd, LockWanted, LockSigned, LockListed, LockBehind, LockNamed, LockTimed, LockEnd, actuals_at, colon_at, ends, first_node, may_be_bare, Goes, Fits, IsForm}
 use Rattle.mj_line.proofs.Tables.{none_some}
-use Rattle.mj_line.proofs.Formed.{Plainly, jumps}
-use Rattle.mj_line.proofs.Shapes.{true_false, false_true, both, first_of, second_of, Acted, limit_parts, step_parts, Shape, at_node, text_node, place_node, local_node, text_wrong, place_wrong, local_text, local_place, text_local, place_of_local, before, text_zero, text_one, place_zero, place_one, piece_aims, plain_aims, several_aims, more_aims, assignment_at, next_kill, spared_at, next_item, kept_at, plain_none, none_others, others_guard, guard_acted, comma_others, colon_guard, open_acted, entries_at}
+use Rattle.mj_line.proofs.Formed.{Plainly, PlainOne, entered_parts, as_entered, jumps, starts}
+use Rattle.mj_line.proofs.Shapes.{true_false, false_true, both, first_of, second_of, Acted, limit_parts, step_parts, Shape, at_node, text_node, place_node, local_node, text_wrong, place_wrong, local_text, local_place, text_local, place_of_local, before, text_zero, text_one, place_zero, place_one, piece_aims, plain_aims, several_aims, more_aims, assignment_at, next_kill, spared_at, next_item, kept_at, plain_none, none_others, others_guard, guard_acted, comma_others, colon_guard, open_acted, entries_at, timed_none, timed_comma, timed_colon, naming_one, naming_several, locks_at}
 
 -- ---- what stands from each place on is of that shape
 
@@ -20,8 +22,8 @@ shape_end MarksEnd f = ([], [], refl, refl)
 shape_end (KillWanted first) f = ([], refl, refl, λ e. true_false (sym f ∙ e))
 shape_end KillEnd f = ([], refl, refl)
 shape_end MergeEnd f = ([], refl)
-shape_end (IfWanted first) f = ([], refl, λ e. true_false (sym f ∙ e))
-shape_end IfEnd f = ([], refl)
+shape_end (ValueWanted optional) f = ([], refl, λ e. true_false (sym f ∙ e))
+shape_end ValueEnd f = ([], refl)
 shape_end ForWanted f = inl refl
 shape_end RangeEnd f = (None, [], refl)
 shape_end StepEnd f = (None, [], refl)
@@ -31,8 +33,11 @@ shape_end NewEnd f = ([], refl, refl)
 shape_end (EntryWanted mode first) f = (record { list = []; are = refl; formed = refl; plain = plain_none mode }, λ e. true_false (sym f ∙ e))
 shape_end (LabelEnd mode) f = (None, [], refl, guard_acted mode [] (others_guard mode [] (none_others mode)))
 shape_end (RoutineEnd mode) f = guard_acted mode [] (others_guard mode [] (none_others mode))
-shape_end ActualsEnd f = others_guard Calls [] (none_others Calls)
+shape_end (ActualsEnd mode) f = others_guard mode [] (none_others mode)
 shape_end (GuardEnd mode) f = none_others mode
+shape_end (LockWanted first) f = ([], refl, refl, λ e. true_false (sym f ∙ e))
+shape_end LockNamed f = timed_none
+shape_end LockEnd f = ([], refl, refl)
 shape_end n f = false_true f
 
 target_part : (p : Part) (ps : List Part) (next : Node) → Goes (SetTarget false) p next → Shape next ps → Shape (SetTarget false) (p ∷ ps)
@@ -227,21 +232,21 @@ merge_end (Put Comma) ps next e h =
 merge_end (Control v) ps next e h = absurd (none_some _ e.0)
 merge_end p ps next e h = absurd (none_some _ e)
 
-if_part : (first : Bool) (p : Part) (ps : List Part) (next : Node) → Goes (IfWanted first) p next → Shape next ps → Shape (IfWanted first) (p ∷ ps)
-if_part first (Text l v) ps next e h =
-    let x = text_node 0 l IfEnd next ps e h in
+value_list_part : (optional : Bool) (p : Part) (ps : List Part) (next : Node) → Goes (ValueWanted optional) p next → Shape next ps → Shape (ValueWanted optional) (p ∷ ps)
+value_list_part optional (Text l v) ps next e h =
+    let x = text_node 0 l ValueEnd next ps e h in
     let c = x.0 in
-    (v ∷ c.0, text_zero l v (behind_commas condition_parts c.0) ps x.1 c.1, λ z. refl)
-if_part first (Place l x) ps next e h = absurd (place_wrong e)
-if_part first (Control v) ps next e h = absurd (local_text e.0)
-if_part first p ps next e h = absurd (none_some _ e)
+    (v ∷ c.0, text_zero l v (behind_commas value_parts c.0) ps x.1 c.1, λ z. refl)
+value_list_part optional (Place l x) ps next e h = absurd (place_wrong e)
+value_list_part optional (Control v) ps next e h = absurd (local_text e.0)
+value_list_part optional p ps next e h = absurd (none_some _ e)
 
-if_end : (p : Part) (ps : List Part) (next : Node) → Goes IfEnd p next → Shape next ps → Shape IfEnd (p ∷ ps)
-if_end (Put Comma) ps next e h =
-    let x = at_node (IfWanted false) next ps e h in
-    (x.0, next_item condition_parts ps x.0 x.1 (x.2 refl))
-if_end (Control v) ps next e h = absurd (none_some _ e.0)
-if_end p ps next e h = absurd (none_some _ e)
+value_list_end : (p : Part) (ps : List Part) (next : Node) → Goes ValueEnd p next → Shape next ps → Shape ValueEnd (p ∷ ps)
+value_list_end (Put Comma) ps next e h =
+    let x = at_node (ValueWanted false) next ps e h in
+    (x.0, next_item value_parts ps x.0 x.1 (x.2 refl))
+value_list_end (Control v) ps next e h = absurd (none_some _ e.0)
+value_list_end p ps next e h = absurd (none_some _ e)
 
 for_part : (p : Part) (ps : List Part) (next : Node) → Goes ForWanted p next → Shape next ps → Shape ForWanted (p ∷ ps)
 for_part (Control v) ps next e h =
@@ -368,12 +373,13 @@ entry_part mode first (Control v) ps next e h = absurd (none_some _ e.0)
 entry_part mode first p ps next e h = absurd (none_some _ e)
 
 actuals_open : (mode : Mode) (ps : List Part) (next : Node) → actuals_at mode ≡ Some next → Shape next ps → Acted mode (Put Open ∷ ps)
-actuals_open Calls ps next e h = open_acted ps (at_node ActualWanted next ps e h)
+actuals_open Calls ps next e h = open_acted Calls ps (λ xs. tt) (at_node (ActualWanted Calls) next ps e h)
 actuals_open Jumps ps next e h = absurd (none_some _ e)
+actuals_open Starts ps next e h = open_acted Starts ps (λ xs. tt) (at_node (ActualWanted Starts) next ps e h)
 
 routine_end : (mode : Mode) (p : Part) (ps : List Part) (next : Node) → Goes (RoutineEnd mode) p next → Shape next ps → Shape (RoutineEnd mode) (p ∷ ps)
 routine_end mode (Put Open) ps next e h = actuals_open mode ps next e h
-routine_end mode (Put Colon) ps next e h = guard_acted mode (Put Colon ∷ ps) (colon_guard mode ps (at_node (GuardWanted mode) next ps e h))
+routine_end mode (Put Colon) ps next e h = guard_acted mode (Put Colon ∷ ps) (colon_guard mode ps (at_node (colon_at mode) next ps e h))
 routine_end mode (Put Comma) ps next e h = guard_acted mode (Put Comma ∷ ps) (others_guard mode (Put Comma ∷ ps) (comma_others mode ps (at_node (EntryWanted mode false) next ps e h)))
 routine_end mode (Control v) ps next e h = absurd (none_some _ e.0)
 routine_end mode p ps next e h = absurd (none_some _ e)
@@ -383,7 +389,7 @@ label_end mode (Put Caret) ps next e h =
     let x = at_node (RoutineWanted mode) next ps e h in
     (Some x.0, x.1, before (Put Caret) (Named x.0 ∷ x.1) ps x.2, x.3)
 label_end mode (Put Open) ps next e h = (None, Put Open ∷ ps, refl, actuals_open mode ps next e h)
-label_end mode (Put Colon) ps next e h = (None, Put Colon ∷ ps, refl, guard_acted mode (Put Colon ∷ ps) (colon_guard mode ps (at_node (GuardWanted mode) next ps e h)))
+label_end mode (Put Colon) ps next e h = (None, Put Colon ∷ ps, refl, guard_acted mode (Put Colon ∷ ps) (colon_guard mode ps (at_node (colon_at mode) next ps e h)))
 label_end mode (Put Comma) ps next e h = (None, Put Comma ∷ ps, refl, guard_acted mode (Put Comma ∷ ps) (others_guard mode (Put Comma ∷ ps) (comma_others mode ps (at_node (EntryWanted mode false) next ps e h))))
 label_end mode (Control v) ps next e h = absurd (none_some _ e.0)
 label_end mode p ps next e h = absurd (none_some _ e)
@@ -393,32 +399,32 @@ routine_part mode (Named w) ps next e h = (w, ps, refl, at_node (RoutineEnd mode
 routine_part mode (Control v) ps next e h = absurd (none_some _ e.0)
 routine_part mode p ps next e h = absurd (none_some _ e)
 
-actual_part : (p : Part) (ps : List Part) (next : Node) → Goes ActualWanted p next → Shape next ps → Shape ActualWanted (p ∷ ps)
-actual_part (Text l v) ps next e h =
-    let x = text_node 1 l ActualEnd next ps e h in
+actual_part : (mode : Mode) (p : Part) (ps : List Part) (next : Node) → Goes (ActualWanted mode) p next → Shape next ps → Shape (ActualWanted mode) (p ∷ ps)
+actual_part mode (Text l v) ps next e h =
+    let x = text_node 1 l (ActualEnd mode) next ps e h in
     let c = x.0 in
     (Some v, c.0, c.1, text_one l v (behind_commas actual_parts c.0 ++ Put Close ∷ c.1) ps x.1 c.2, c.3)
-actual_part (Put Comma) ps next e h =
-    let x = at_node ActualWanted next ps e h in
+actual_part mode (Put Comma) ps next e h =
+    let x = at_node (ActualWanted mode) next ps e h in
     (None, x.0 ∷ x.1, x.2, before (Put Comma) ((actual_parts x.0 ++ behind_commas actual_parts x.1) ++ Put Close ∷ x.2) ps (append_assoc (actual_parts x.0) (behind_commas actual_parts x.1) (Put Close ∷ x.2) ∙ x.3), x.4)
-actual_part (Put Close) ps next e h = (None, [], ps, refl, at_node ActualsEnd next ps e h)
-actual_part (Place l x) ps next e h = absurd (place_wrong e)
-actual_part (Control v) ps next e h = absurd (local_text e.0)
-actual_part p ps next e h = absurd (none_some _ e)
+actual_part mode (Put Close) ps next e h = (None, [], ps, refl, at_node (ActualsEnd mode) next ps e h)
+actual_part mode (Place l x) ps next e h = absurd (place_wrong e)
+actual_part mode (Control v) ps next e h = absurd (local_text e.0)
+actual_part mode p ps next e h = absurd (none_some _ e)
 
-actual_end : (p : Part) (ps : List Part) (next : Node) → Goes ActualEnd p next → Shape next ps → Shape ActualEnd (p ∷ ps)
-actual_end (Put Comma) ps next e h =
-    let x = at_node ActualWanted next ps e h in
+actual_end : (mode : Mode) (p : Part) (ps : List Part) (next : Node) → Goes (ActualEnd mode) p next → Shape next ps → Shape (ActualEnd mode) (p ∷ ps)
+actual_end mode (Put Comma) ps next e h =
+    let x = at_node (ActualWanted mode) next ps e h in
     (x.0 ∷ x.1, x.2, before (Put Comma) ((actual_parts x.0 ++ behind_commas actual_parts x.1) ++ Put Close ∷ x.2) ps (append_assoc (actual_parts x.0) (behind_commas actual_parts x.1) (Put Close ∷ x.2) ∙ x.3), x.4)
-actual_end (Put Close) ps next e h = ([], ps, refl, at_node ActualsEnd next ps e h)
-actual_end (Control v) ps next e h = absurd (none_some _ e.0)
-actual_end p ps next e h = absurd (none_some _ e)
+actual_end mode (Put Close) ps next e h = ([], ps, refl, at_node (ActualsEnd mode) next ps e h)
+actual_end mode (Control v) ps next e h = absurd (none_some _ e.0)
+actual_end mode p ps next e h = absurd (none_some _ e)
 
-actuals_end : (p : Part) (ps : List Part) (next : Node) → Goes ActualsEnd p next → Shape next ps → Shape ActualsEnd (p ∷ ps)
-actuals_end (Put Colon) ps next e h = colon_guard Calls ps (at_node (GuardWanted Calls) next ps e h)
-actuals_end (Put Comma) ps next e h = others_guard Calls (Put Comma ∷ ps) (comma_others Calls ps (at_node (EntryWanted Calls false) next ps e h))
-actuals_end (Control v) ps next e h = absurd (none_some _ e.0)
-actuals_end p ps next e h = absurd (none_some _ e)
+actuals_end : (mode : Mode) (p : Part) (ps : List Part) (next : Node) → Goes (ActualsEnd mode) p next → Shape next ps → Shape (ActualsEnd mode) (p ∷ ps)
+actuals_end mode (Put Colon) ps next e h = colon_guard mode ps (at_node (colon_at mode) next ps e h)
+actuals_end mode (Put Comma) ps next e h = others_guard mode (Put Comma ∷ ps) (comma_others mode ps (at_node (EntryWanted mode false) next ps e h))
+actuals_end mode (Control v) ps next e h = absurd (none_some _ e.0)
+actuals_end mode p ps next e h = absurd (none_some _ e)
 
 guard_part : (mode : Mode) (p : Part) (ps : List Part) (next : Node) → Goes (GuardWanted mode) p next → Shape next ps → Shape (GuardWanted mode) (p ∷ ps)
 guard_part mode (Text l v) ps next e h = let x = text_node 0 l (GuardEnd mode) next ps e h in (v, ps, text_zero l v ps ps x.1 refl, x.0)
@@ -430,6 +436,66 @@ guard_end : (mode : Mode) (p : Part) (ps : List Part) (next : Node) → Goes (Gu
 guard_end mode (Put Comma) ps next e h = comma_others mode ps (at_node (EntryWanted mode false) next ps e h)
 guard_end mode (Control v) ps next e h = absurd (none_some _ e.0)
 guard_end mode p ps next e h = absurd (none_some _ e)
+
+wait_part : (p : Part) (ps : List Part) (next : Node) → Goes WaitColon p next → Shape next ps → Shape WaitColon (p ∷ ps)
+wait_part (Put Colon) ps next e h = let x = at_node (GuardWanted Starts) next ps e h in (x.0, x.1, before (Put Colon) (Text 0 x.0 ∷ x.1) ps x.2, x.3)
+wait_part (Control v) ps next e h = absurd (none_some _ e.0)
+wait_part p ps next e h = absurd (none_some _ e)
+
+lock_part : (first : Bool) (p : Part) (ps : List Part) (next : Node) → Goes (LockWanted first) p next → Shape next ps → Shape (LockWanted first) (p ∷ ps)
+lock_part first (Place l v) ps next e h = let x = place_node 0 l LockNamed next ps e h in locks_at first Whole (Place l v ∷ ps) (Place l v ∷ ps) refl (naming_one l v ps x.1 x.0)
+lock_part first (Put Open) ps next e h = locks_at first Whole (Put Open ∷ ps) (Put Open ∷ ps) refl (naming_several ps (at_node LockListed next ps e h))
+lock_part first (Put Plus) ps next e h = locks_at first Added ps (Put Plus ∷ ps) refl (at_node LockSigned next ps e h)
+lock_part first (Put Minus) ps next e h = locks_at first Taken ps (Put Minus ∷ ps) refl (at_node LockSigned next ps e h)
+lock_part first (Text l x) ps next e h = absurd (text_wrong e)
+lock_part first (Control v) ps next e h = absurd (local_place e.0)
+lock_part first p ps next e h = absurd (none_some _ e)
+
+signed_part : (p : Part) (ps : List Part) (next : Node) → Goes LockSigned p next → Shape next ps → Shape LockSigned (p ∷ ps)
+signed_part (Place l v) ps next e h = let x = place_node 0 l LockNamed next ps e h in naming_one l v ps x.1 x.0
+signed_part (Put Open) ps next e h = naming_several ps (at_node LockListed next ps e h)
+signed_part (Text l x) ps next e h = absurd (text_wrong e)
+signed_part (Control v) ps next e h = absurd (local_place e.0)
+signed_part p ps next e h = absurd (none_some _ e)
+
+lock_listed : (p : Part) (ps : List Part) (next : Node) → Goes LockListed p next → Shape next ps → Shape LockListed (p ∷ ps)
+lock_listed (Place l v) ps next e h =
+    let x = place_node 0 l LockBehind next ps e h in
+    let c = x.0 in
+    (v, c.0, c.1, place_zero l v (behind_commas variable_parts c.0 ++ Put Close ∷ c.1) ps x.1 c.2, c.3)
+lock_listed (Text l x) ps next e h = absurd (text_wrong e)
+lock_listed (Control v) ps next e h = absurd (local_place e.0)
+lock_listed p ps next e h = absurd (none_some _ e)
+
+lock_behind : (p : Part) (ps : List Part) (next : Node) → Goes LockBehind p next → Shape next ps → Shape LockBehind (p ∷ ps)
+lock_behind (Put Comma) ps next e h =
+    let x = at_node LockListed next ps e h in
+    (x.0 ∷ x.1, x.2, before (Put Comma) (Place 0 x.0 ∷ (behind_commas variable_parts x.1 ++ Put Close ∷ x.2)) ps x.3, x.4)
+lock_behind (Put Close) ps next e h = ([], ps, refl, at_node LockNamed next ps e h)
+lock_behind (Control v) ps next e h = absurd (none_some _ e.0)
+lock_behind p ps next e h = absurd (none_some _ e)
+
+lock_named : (p : Part) (ps : List Part) (next : Node) → Goes LockNamed p next → Shape next ps → Shape LockNamed (p ∷ ps)
+lock_named (Put Colon) ps next e h = timed_colon ps (at_node LockTimed next ps e h)
+lock_named (Put Comma) ps next e h = timed_comma ps (at_node (LockWanted false) next ps e h)
+lock_named (Control v) ps next e h = absurd (none_some _ e.0)
+lock_named p ps next e h = absurd (none_some _ e)
+
+lock_timed : (p : Part) (ps : List Part) (next : Node) → Goes LockTimed p next → Shape next ps → Shape LockTimed (p ∷ ps)
+lock_timed (Text l v) ps next e h =
+    let x = text_node 0 l LockEnd next ps e h in
+    let c = x.0 in
+    (v, c.0, text_zero l v (behind_commas locked_parts c.0) ps x.1 c.1, c.2)
+lock_timed (Place l x) ps next e h = absurd (place_wrong e)
+lock_timed (Control v) ps next e h = absurd (local_text e.0)
+lock_timed p ps next e h = absurd (none_some _ e)
+
+lock_end : (p : Part) (ps : List Part) (next : Node) → Goes LockEnd p next → Shape next ps → Shape LockEnd (p ∷ ps)
+lock_end (Put Comma) ps next e h =
+    let x = at_node (LockWanted false) next ps e h in
+    (x.0, next_item locked_parts ps x.0 x.1 (x.3 refl), x.2)
+lock_end (Control v) ps next e h = absurd (none_some _ e.0)
+lock_end p ps next e h = absurd (none_some _ e)
 
 shape_part : (n : Node) (p : Part) (ps : List Part) (next : Node) → Goes n p next → Shape next ps → Shape n (p ∷ ps)
 shape_part (SetTarget false) p ps next e h = target_part p ps next e h
@@ -455,8 +521,8 @@ shape_part MergeInto p ps next e h = into_part p ps next e h
 shape_part MergeBehind p ps next e h = into_behind p ps next e h
 shape_part MergeFrom p ps next e h = from_part p ps next e h
 shape_part MergeEnd p ps next e h = merge_end p ps next e h
-shape_part (IfWanted first) p ps next e h = if_part first p ps next e h
-shape_part IfEnd p ps next e h = if_end p ps next e h
+shape_part (ValueWanted optional) p ps next e h = value_list_part optional p ps next e h
+shape_part ValueEnd p ps next e h = value_list_end p ps next e h
 shape_part ForWanted p ps next e h = for_part p ps next e h
 shape_part ForBehind p ps next e h = for_behind p ps next e h
 shape_part RangeWanted p ps next e h = range_part p ps next e h
@@ -473,11 +539,19 @@ shape_part (EntryWanted mode first) p ps next e h = entry_part mode first p ps n
 shape_part (LabelEnd mode) p ps next e h = label_end mode p ps next e h
 shape_part (RoutineWanted mode) p ps next e h = routine_part mode p ps next e h
 shape_part (RoutineEnd mode) p ps next e h = routine_end mode p ps next e h
-shape_part ActualWanted p ps next e h = actual_part p ps next e h
-shape_part ActualEnd p ps next e h = actual_end p ps next e h
-shape_part ActualsEnd p ps next e h = actuals_end p ps next e h
+shape_part (ActualWanted mode) p ps next e h = actual_part mode p ps next e h
+shape_part (ActualEnd mode) p ps next e h = actual_end mode p ps next e h
+shape_part (ActualsEnd mode) p ps next e h = actuals_end mode p ps next e h
+shape_part WaitColon p ps next e h = wait_part p ps next e h
 shape_part (GuardWanted mode) p ps next e h = guard_part mode p ps next e h
 shape_part (GuardEnd mode) p ps next e h = guard_end mode p ps next e h
+shape_part (LockWanted first) p ps next e h = lock_part first p ps next e h
+shape_part LockSigned p ps next e h = signed_part p ps next e h
+shape_part LockListed p ps next e h = lock_listed p ps next e h
+shape_part LockBehind p ps next e h = lock_behind p ps next e h
+shape_part LockNamed p ps next e h = lock_named p ps next e h
+shape_part LockTimed p ps next e h = lock_timed p ps next e h
+shape_part LockEnd p ps next e h = lock_end p ps next e h
 
 shape : (ps : List Part) (n : Node) → Fits n ps → Shape n ps
 shape [] n f = shape_end n f
@@ -512,14 +586,37 @@ jumped_back (x ∷ xs) h =
     ap (λ (list : List (Option Expr)). let c : Called = record { target = x.target; actuals = list; condition = x.condition } in c ∷ map as_called (map as_jumped xs)) (bare_nil x.actuals (first_of (is_bare x.actuals) (every (λ c. is_bare c.actuals) xs) h))
     ∙ ap (λ (cs : List Called). x ∷ cs) (jumped_back xs (second_of (is_bare x.actuals) (every (λ c. is_bare c.actuals) xs) h))
 
-jumped_with : (js : List Jumped) → with_commas jumped_parts js ≡ with_commas called_parts (map as_called js)
+jumped_with : (js : List Jumped) → with_commas jumped_parts js ≡ with_commas (entered_parts Jumps) (map as_called js)
 jumped_with [] = refl
 jumped_with (j ∷ js) = ap (λ (ps : List Part). jumped_parts j ++ ps) (jumps js)
 
-some_bare : (k : Keyword) → may_be_bare k ≡ true → Made k []
+-- calls with a timeout as starts
+abbrev as_started : Called → Started
+as_started c = record { target = c.target; actuals = c.actuals; timeout = c.condition }
+
+started_items : (xs : List Called) → has_items (map as_started xs) ≡ has_items xs
+started_items [] = refl
+started_items (x ∷ xs) = refl
+
+started_formed : (xs : List Called) → every is_called xs ≡ true → every is_started (map as_started xs) ≡ true
+started_formed [] h = refl
+started_formed (x ∷ xs) h = both (is_called x) (every is_started (map as_started xs)) (first_of (is_called x) (every is_called xs) h) (started_formed xs (second_of (is_called x) (every is_called xs) h))
+
+started_back : (xs : List Called) → map as_entered (map as_started xs) ≡ xs
+started_back [] = refl
+started_back (x ∷ xs) = ap (λ (cs : List Called). x ∷ cs) (started_back xs)
+
+started_with : (list : List Started) → with_commas started_parts list ≡ with_commas (entered_parts Starts) (map as_entered list)
+started_with [] = refl
+started_with (x ∷ list) = ap (λ (ps : List Part). started_parts x ++ ps) (starts list)
+
+some_bare : (k : Keyword) → may_be_bare (Of k) ≡ true → Made k []
 some_bare keyword.Set e = false_true e
 some_bare keyword.Write e = false_true e
 some_bare keyword.Halt e = record { command = Halt; formed = refl; named = refl; parts = refl }
+some_bare keyword.Hang e = false_true e
+some_bare keyword.Job e = false_true e
+some_bare keyword.Lock e = record { command = Lock []; formed = refl; named = refl; parts = refl }
 some_bare keyword.Kill e = record { command = Kill []; formed = refl; named = refl; parts = refl }
 some_bare keyword.Merge e = false_true e
 some_bare keyword.If e = record { command = If []; formed = refl; named = refl; parts = refl }
@@ -534,7 +631,7 @@ for_made : (ps : List Part) → Shape ForWanted ps → Made keyword.For ps
 for_made ps (inl e) = record { command = Forever; formed = refl; named = refl; parts = sym e }
 for_made ps (inr x) = record { command = For x.0 (x.1 ∷ x.2); formed = both (is_local x.0) true x.4 refl; named = refl; parts = x.3 }
 
-some_made : (k : Keyword) (ps : List Part) (n : Node) → first_node k ≡ Some n → Shape n ps → Made k ps
+some_made : (k : Keyword) (ps : List Part) (n : Node) → first_node (Of k) ≡ Some n → Shape n ps → Made k ps
 some_made keyword.Set ps n e h =
     let x = at_node (SetTarget false) n ps e h in
     let a = x.4 in
@@ -548,8 +645,23 @@ some_made keyword.Write ps n e h =
     let x = at_node OutputWanted n ps e h in
     record { command = Write (x.0 ∷ x.1); formed = both (is_output x.0) (every is_output x.1) x.3 x.4; named = refl; parts = x.2 }
 some_made keyword.Halt ps n e h = absurd (none_some n e)
+some_made keyword.Hang ps n e h =
+    let x = at_node (ValueWanted false) n ps e h in
+    record { command = Hang x.0; formed = x.2 refl; named = refl; parts = x.1 }
+some_made keyword.Job ps n e h =
+    let x = at_node (EntryWanted Starts true) n ps e h in
+    let xs = map as_started x.0.list in
+    record {
+      command = Job xs;
+      formed = both (has_items xs) (every is_started xs) (started_items x.0.list ∙ x.1 refl) (started_formed x.0.list x.0.formed);
+      named = refl;
+      parts = started_with xs ∙ ap (λ (cs : List Called). with_commas (entered_parts Starts) cs) (started_back x.0.list) ∙ x.0.are;
+    }
+some_made keyword.Lock ps n e h =
+    let x = at_node (LockWanted true) n ps e h in
+    record { command = Lock x.0; formed = x.2; named = refl; parts = x.1 }
 some_made keyword.If ps n e h =
-    let x = at_node (IfWanted true) n ps e h in
+    let x = at_node (ValueWanted true) n ps e h in
     record { command = If x.0; formed = refl; named = refl; parts = x.1 }
 some_made keyword.Else ps n e h = absurd (none_some n e)
 some_made keyword.For ps n e h = for_made ps (at_node ForWanted n ps e h)
@@ -563,7 +675,7 @@ some_made keyword.Goto ps n e h =
       command = Goto js;
       formed = both (has_items js) (every is_jumped js) (jumped_items x.0.list ∙ x.1 refl) (jumped_formed x.0.list x.0.formed);
       named = refl;
-      parts = jumped_with js ∙ ap (λ (cs : List Called). with_commas called_parts cs) (jumped_back x.0.list x.0.plain) ∙ x.0.are;
+      parts = jumped_with js ∙ ap (λ (cs : List Called). with_commas (entered_parts Jumps) cs) (jumped_back x.0.list x.0.plain) ∙ x.0.are;
     }
 some_made keyword.Quit ps n e h = absurd (none_some n e)
 some_made keyword.New ps n e h =
@@ -577,6 +689,6 @@ some_made keyword.Merge ps n e h =
     record { command = Merge (x.0 ∷ x.1); formed = refl; named = refl; parts = x.2 }
 
 -- FORM
-pub made : (k : Keyword) (ps : List Part) → IsForm k ps → Made k ps
+pub made : (k : Keyword) (ps : List Part) → IsForm (Of k) ps → Made k ps
 made k [] f = some_bare k f
 made k (p ∷ ps) f = some_made k (p ∷ ps) f.0 f.1 (shape (p ∷ ps) f.0 f.2)

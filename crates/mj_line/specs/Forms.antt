@@ -1,21 +1,24 @@
 -- The arguments of commands as a table: the places in them, and what goes on at each.
 use Rattle.std.specs.Prelude.{◌≡◌, ℕ, suc, nat_le, if◌then◌else◌, Bool, true, false, ◌&&◌, List, [], ◌∷◌, length, Option, Some, None}
-use Rattle.mj_ast.specs.declared.sign.Sign.TheVariants.{Equals, Comma, Colon, Exclamation, Caret, Open, Close}
+use Rattle.mj_ast.specs.declared.sign.Sign.TheVariants.{Plus, Minus, Equals, Comma, Colon, Exclamation, Caret, Open, Close}
 use Rattle.mj_ast.specs.declared.function.Function.TheVariants.{Piece}
 use Rattle.mj_ast.specs.declared.function.Callee.{Callee}
 use Rattle.mj_ast.specs.declared.function.Callee.TheVariants.{Texts}
-use Rattle.mj_ast.specs.declared.keyword.Keyword.{Keyword}
 use Rattle.mj_ast.specs.declared.keyword.Keyword.TheVariants as keyword
+use Rattle.mj_ast.specs.declared.keyword.Verb.{Verb}
+use Rattle.mj_ast.specs.declared.keyword.Verb.TheVariants.{Of, HaltOrHang}
 use Rattle.mj_ast.specs.Tokens.{Token, Word, Called, Digits, Signed}
-use Rattle.mj_ast.specs.Expressions.{callee_of, name_limit, text_limit}
+use Rattle.mj_ast.specs.Expressions.{callee_of, name_limit}
+use Rattle.mj_text.specs.declared.text.TheConstants.{TEXT_LIMIT}
 use Rattle.mj_ast.specs.Commands.{Part, Put, Named, Label, PieceCall, Text, Place, Control, is_local}
 
 -- ---- places
 
--- what entries are named for: to be called, with actuals, or to be jumped to
+-- what entries are named for: to be called, with actuals, to be jumped to, or for a job to start at, with actuals
 pub data Mode : Type 0 where
   Calls : Mode
   Jumps : Mode
+  Starts : Mode
 
 pub data Node : Type 0 where
   -- SET: a destination is wanted, inside a list in parentheses or not
@@ -45,9 +48,9 @@ pub data Node : Type 0 where
   MergeBehind : Node
   MergeFrom : Node
   MergeEnd : Node
-  -- IF: an expression is wanted, the first or another; it was read
-  IfWanted : (first : Bool) → Node
-  IfEnd : Node
+  -- expressions: the first is wanted, which may be missing, or one that may not; it was read
+  ValueWanted : (optional : Bool) → Node
+  ValueEnd : Node
   -- FOR: its local is wanted; it was read; the first expression of a range is wanted, and was read; its step; its end
   ForWanted : Node
   ForBehind : Node
@@ -62,19 +65,30 @@ pub data Node : Type 0 where
   KeptWanted : Node
   KeptBehind : Node
   NewEnd : Node
-  -- DO and GOTO, by what entries are named for: an entry is wanted, the first or another; its label was read; the name of its routine is wanted;
+  -- DO, GOTO and JOB, by what entries are named for: an entry is wanted, the first or another; its label was read; the name of its routine is wanted;
   -- the entry was read
   EntryWanted : (mode : Mode) (first : Bool) → Node
   LabelEnd : (mode : Mode) → Node
   RoutineWanted : (mode : Mode) → Node
   RoutineEnd : (mode : Mode) → Node
-  -- DO: an actual may stand there; it was read; the actuals were read
-  ActualWanted : Node
-  ActualEnd : Node
-  ActualsEnd : Node
-  -- the condition of an argument is wanted; it was read
+  -- DO and JOB: an actual may stand there; it was read; the actuals were read
+  ActualWanted : (mode : Mode) → Node
+  ActualEnd : (mode : Mode) → Node
+  ActualsEnd : (mode : Mode) → Node
+  -- JOB: the first colon of a timeout was read
+  WaitColon : Node
+  -- the condition of an argument, or its timeout, is wanted; it was read
   GuardWanted : (mode : Mode) → Node
   GuardEnd : (mode : Mode) → Node
+  -- LOCK: an argument is wanted, the first or another; its sign was read; a variable of a list is wanted; it was read; the
+  -- names were read; the timeout is wanted; it was read
+  LockWanted : (first : Bool) → Node
+  LockSigned : Node
+  LockListed : Node
+  LockBehind : Node
+  LockNamed : Node
+  LockTimed : Node
+  LockEnd : Node
 
 -- ---- what goes on
 
@@ -97,13 +111,20 @@ labels n = false
 -- the part that a token alone is where a label is wanted, or isn't
 abbrev pub part_at : Bool → Token → Option Part
 part_at true (Word w) = if nat_le (length w) name_limit then Some (Label w) else None
-part_at true (Digits d) = if nat_le (length d) text_limit then Some (Label d) else None
+part_at true (Digits d) = if nat_le (length d) TEXT_LIMIT then Some (Label d) else None
 part_at label t = part_of t
 
 -- where actuals may stand
 abbrev pub actuals_at : Mode → Option Node
-actuals_at Calls = Some ActualWanted
+actuals_at Calls = Some (ActualWanted Calls)
 actuals_at Jumps = None
+actuals_at Starts = Some (ActualWanted Starts)
+
+-- the place behind a colon there
+abbrev pub colon_at : Mode → Node
+colon_at Calls = GuardWanted Calls
+colon_at Jumps = GuardWanted Jumps
+colon_at Starts = WaitColon
 
 -- the place behind a part of one token, if it may stand here
 abbrev pub takes : Node → Part → Option Node
@@ -128,7 +149,7 @@ takes NameBehind (Put Close) = Some KillEnd
 takes KillEnd (Put Comma) = Some (KillWanted false)
 takes MergeBehind (Put Equals) = Some MergeFrom
 takes MergeEnd (Put Comma) = Some MergeInto
-takes IfEnd (Put Comma) = Some (IfWanted false)
+takes ValueEnd (Put Comma) = Some (ValueWanted false)
 takes ForBehind (Put Equals) = Some RangeWanted
 takes RangeEnd (Put Colon) = Some StepWanted
 takes RangeEnd (Put Comma) = Some RangeWanted
@@ -145,19 +166,29 @@ takes (EntryWanted mode first) (Label l) = Some (LabelEnd mode)
 takes (EntryWanted mode first) (Put Caret) = Some (RoutineWanted mode)
 takes (LabelEnd mode) (Put Caret) = Some (RoutineWanted mode)
 takes (LabelEnd mode) (Put Open) = actuals_at mode
-takes (LabelEnd mode) (Put Colon) = Some (GuardWanted mode)
+takes (LabelEnd mode) (Put Colon) = Some (colon_at mode)
 takes (LabelEnd mode) (Put Comma) = Some (EntryWanted mode false)
 takes (RoutineWanted mode) (Named w) = Some (RoutineEnd mode)
 takes (RoutineEnd mode) (Put Open) = actuals_at mode
-takes (RoutineEnd mode) (Put Colon) = Some (GuardWanted mode)
+takes (RoutineEnd mode) (Put Colon) = Some (colon_at mode)
 takes (RoutineEnd mode) (Put Comma) = Some (EntryWanted mode false)
-takes ActualWanted (Put Comma) = Some ActualWanted
-takes ActualWanted (Put Close) = Some ActualsEnd
-takes ActualEnd (Put Comma) = Some ActualWanted
-takes ActualEnd (Put Close) = Some ActualsEnd
-takes ActualsEnd (Put Colon) = Some (GuardWanted Calls)
-takes ActualsEnd (Put Comma) = Some (EntryWanted Calls false)
+takes (ActualWanted mode) (Put Comma) = Some (ActualWanted mode)
+takes (ActualWanted mode) (Put Close) = Some (ActualsEnd mode)
+takes (ActualEnd mode) (Put Comma) = Some (ActualWanted mode)
+takes (ActualEnd mode) (Put Close) = Some (ActualsEnd mode)
+takes (ActualsEnd mode) (Put Colon) = Some (colon_at mode)
+takes (ActualsEnd mode) (Put Comma) = Some (EntryWanted mode false)
+takes WaitColon (Put Colon) = Some (GuardWanted Starts)
 takes (GuardEnd mode) (Put Comma) = Some (EntryWanted mode false)
+takes (LockWanted first) (Put Plus) = Some LockSigned
+takes (LockWanted first) (Put Minus) = Some LockSigned
+takes (LockWanted first) (Put Open) = Some LockListed
+takes LockSigned (Put Open) = Some LockListed
+takes LockBehind (Put Comma) = Some LockListed
+takes LockBehind (Put Close) = Some LockNamed
+takes LockNamed (Put Colon) = Some LockTimed
+takes LockNamed (Put Comma) = Some (LockWanted false)
+takes LockEnd (Put Comma) = Some (LockWanted false)
 takes _ _ = None
 
 -- an expression or a variable, inside so many levels that the command opens, or a variable that is a local, and the place behind it
@@ -181,19 +212,24 @@ wants OutputWanted = Some (AnExpr 0 OutputEnd)
 wants (KillWanted first) = Some (AVar 0 KillEnd)
 wants MergeInto = Some (AVar 0 MergeBehind)
 wants MergeFrom = Some (AVar 0 MergeEnd)
-wants (IfWanted first) = Some (AnExpr 0 IfEnd)
+wants (ValueWanted optional) = Some (AnExpr 0 ValueEnd)
 wants ForWanted = Some (ALocal ForBehind)
 wants RangeWanted = Some (AnExpr 0 RangeEnd)
 wants StepWanted = Some (AnExpr 0 StepEnd)
 wants LimitWanted = Some (AnExpr 0 LimitEnd)
-wants ActualWanted = Some (AnExpr 1 ActualEnd)
+wants (ActualWanted mode) = Some (AnExpr 1 (ActualEnd mode))
 wants (GuardWanted mode) = Some (AnExpr 0 (GuardEnd mode))
+wants (LockWanted first) = Some (AVar 0 LockNamed)
+wants LockSigned = Some (AVar 0 LockNamed)
+wants LockListed = Some (AVar 0 LockBehind)
+wants LockTimed = Some (AnExpr 0 LockEnd)
 wants _ = None
 
 -- there may be no entry at all
 abbrev pub is_optional : Mode → Bool
 is_optional Calls = true
 is_optional Jumps = false
+is_optional Starts = false
 
 -- the arguments may end here
 abbrev pub ends : Node → Bool
@@ -203,8 +239,8 @@ ends MarksEnd = true
 ends (KillWanted first) = first
 ends KillEnd = true
 ends MergeEnd = true
-ends (IfWanted first) = first
-ends IfEnd = true
+ends (ValueWanted optional) = optional
+ends ValueEnd = true
 ends ForWanted = true
 ends RangeEnd = true
 ends StepEnd = true
@@ -214,33 +250,42 @@ ends NewEnd = true
 ends (EntryWanted mode first) = is_optional mode && first
 ends (LabelEnd mode) = true
 ends (RoutineEnd mode) = true
-ends ActualsEnd = true
+ends (ActualsEnd mode) = true
 ends (GuardEnd mode) = true
+ends (LockWanted first) = first
+ends LockNamed = true
+ends LockEnd = true
 ends _ = false
 
 -- ---- commands
 
--- the first place in the arguments of a command, if it may have some
-abbrev pub first_node : Keyword → Option Node
-first_node keyword.Set = Some (SetTarget false)
-first_node keyword.Write = Some OutputWanted
-first_node keyword.Halt = None
-first_node keyword.Kill = Some (KillWanted true)
-first_node keyword.Merge = Some MergeInto
-first_node keyword.If = Some (IfWanted true)
-first_node keyword.Else = None
-first_node keyword.For = Some ForWanted
-first_node keyword.Do = Some (EntryWanted Calls true)
-first_node keyword.Goto = Some (EntryWanted Jumps true)
-first_node keyword.Quit = None
-first_node keyword.New = Some (NewWanted true)
+-- the first place in the arguments of what a word begins, if it may have some
+abbrev pub first_node : Verb → Option Node
+first_node (Of keyword.Set) = Some (SetTarget false)
+first_node (Of keyword.Write) = Some OutputWanted
+first_node (Of keyword.Halt) = None
+first_node (Of keyword.Hang) = Some (ValueWanted false)
+first_node (Of keyword.Job) = Some (EntryWanted Starts true)
+first_node (Of keyword.Lock) = Some (LockWanted true)
+first_node (Of keyword.Kill) = Some (KillWanted true)
+first_node (Of keyword.Merge) = Some MergeInto
+first_node (Of keyword.If) = Some (ValueWanted true)
+first_node (Of keyword.Else) = None
+first_node (Of keyword.For) = Some ForWanted
+first_node (Of keyword.Do) = Some (EntryWanted Calls true)
+first_node (Of keyword.Goto) = Some (EntryWanted Jumps true)
+first_node (Of keyword.Quit) = None
+first_node (Of keyword.New) = Some (NewWanted true)
+first_node HaltOrHang = Some (ValueWanted true)
 
--- the command may have none
-abbrev pub may_be_bare : Keyword → Bool
-may_be_bare keyword.Set = false
-may_be_bare keyword.Write = false
-may_be_bare keyword.Merge = false
-may_be_bare keyword.Goto = false
+-- it may have none
+abbrev pub may_be_bare : Verb → Bool
+may_be_bare (Of keyword.Set) = false
+may_be_bare (Of keyword.Write) = false
+may_be_bare (Of keyword.Hang) = false
+may_be_bare (Of keyword.Job) = false
+may_be_bare (Of keyword.Merge) = false
+may_be_bare (Of keyword.Goto) = false
 may_be_bare _ = true
 
 -- ---- lists of parts
@@ -257,7 +302,7 @@ abbrev pub Fits : Node → List Part → Type 0
 Fits n [] = ends n ≡ true
 Fits n (p ∷ ps) = (next : Node) × Goes n p next × Fits next ps
 
--- they are the arguments of such a command
-abbrev pub IsForm : Keyword → List Part → Type 0
-IsForm k [] = may_be_bare k ≡ true
-IsForm k (p ∷ ps) = (n : Node) × (first_node k ≡ Some n) × Fits n (p ∷ ps)
+-- they are the arguments of what such a word begins
+abbrev pub IsForm : Verb → List Part → Type 0
+IsForm v [] = may_be_bare v ≡ true
+IsForm v (p ∷ ps) = (n : Node) × (first_node v ≡ Some n) × Fits n (p ∷ ps)

@@ -3,10 +3,11 @@ use Rattle.std.specs.Prelude.{ℕ, ◌≡◌, ◌-◌, ◌==◌, nat_le, Bool, t
 use Rattle.mj_ast.specs.declared.sign.Sign.TheVariants.{Caret, Colon, Comma, Open, Close, Dot}
 use Rattle.std.specs.List.{list_any}
 use Rattle.mj_ast.specs.declared.keyword.Keyword.{Keyword}
+use Rattle.mj_ast.specs.declared.keyword.Verb.{Verb}
 use Rattle.mj_ast.specs.Syntax.{Expr}
 use Rattle.mj_ast.specs.Tokens.{Token, Word, Called, Special, Digits, Signed, Blank, Comment}
 use Rattle.mj_ast.specs.Expressions.{Symbol, Mark, symbol, name_limit}
-use Rattle.mj_ast.specs.Commands.{Part, Text, Place, Control, keyword_of, is_conditional}
+use Rattle.mj_ast.specs.Commands.{Part, Text, Place, Control, verb_of, bare_of, meant, is_conditional}
 use Rattle.mj_expr.specs.Machine as phrase
 use Rattle.mj_line.specs.Forms.{Node, Want, AnExpr, AVar, ALocal, next_of, part_at, labels, takes, wants, ends, first_node, may_be_bare}
 use Rattle.mj_line.specs.Sentences.{Clause, Sentence}
@@ -37,18 +38,18 @@ pub data Spot : Type 0 where
   -- a comment was read
   Over : (l : Sentence) → Spot
   -- the word of a command was read
-  Worded : (l : Sentence) (keyword : Keyword) → Spot
+  Worded : (l : Sentence) (verb : Verb) → Spot
   -- and the colon of a postcondition
-  Asked : (l : Sentence) (keyword : Keyword) → Spot
+  Asked : (l : Sentence) (verb : Verb) → Spot
   -- its postcondition was read too, if it has one
-  Bare : (l : Sentence) (condition : Option Expr) (keyword : Keyword) → Spot
+  Bare : (l : Sentence) (condition : Option Expr) (verb : Verb) → Spot
   -- and a blank, and parts of arguments up to a place in them
-  Args : (l : Sentence) (condition : Option Expr) (keyword : Keyword) (done : List Part) (n : Node) → Spot
+  Args : (l : Sentence) (condition : Option Expr) (verb : Verb) (done : List Part) (n : Node) → Spot
 
 -- what a phrase is read for: a postcondition, or an argument
 pub data Goal : Type 0 where
-  Condition : (l : Sentence) (keyword : Keyword) → Goal
-  Argument : (l : Sentence) (condition : Option Expr) (keyword : Keyword) (done : List Part) (w : Want) → Goal
+  Condition : (l : Sentence) (verb : Verb) → Goal
+  Argument : (l : Sentence) (condition : Option Expr) (verb : Verb) (done : List Part) (w : Want) → Goal
 
 pub data State : Type 0 where
   At : (p : Spot) → State
@@ -79,12 +80,12 @@ abbrev pub with_clause : Sentence → Clause → Sentence
 with_clause l c = record { label = l.label; formals = l.formals; level = l.level; clauses = l.clauses ++ c ∷ [] }
 
 -- behind a command without arguments
-abbrev pub bare_rest : Sentence → Option Expr → Keyword → Rest
-bare_rest l condition k = record { line = with_clause l (clause condition k []); gap = 2; comment = 1 }
+abbrev pub bare_rest : Sentence → Option Expr → Verb → Rest
+bare_rest l condition verb = record { line = with_clause l (clause condition (bare_of verb) []); gap = 2; comment = 1 }
 
 -- behind its arguments, or behind one blank where there are none
-abbrev pub args_rest : Sentence → Option Expr → Keyword → List Part → Rest
-args_rest l condition k done = record { line = with_clause l (clause condition k done); gap = 1; comment = 0 }
+abbrev pub args_rest : Sentence → Option Expr → Verb → List Part → Rest
+args_rest l condition verb done = record { line = with_clause l (clause condition (meant verb done) done); gap = 1; comment = 0 }
 
 -- where an expression is wanted, and where a variable is
 abbrev pub expression_wanted : phrase.State
@@ -100,13 +101,13 @@ wanted (ALocal next) = variable_wanted
 
 -- the beginning of a phrase that is read for this
 abbrev pub start : Goal → phrase.State
-start (Condition l k) = expression_wanted
-start (Argument l condition k done w) = wanted w
+start (Condition l verb) = expression_wanted
+start (Argument l condition verb done w) = wanted w
 
 -- no phrase begins directly behind this one
 abbrev pub IsClosed : Goal → Type 0
-IsClosed (Condition l k) = Unit {0}
-IsClosed (Argument l condition k done w) = wants (next_of w) ≡ None
+IsClosed (Condition l verb) = Unit {0}
+IsClosed (Argument l condition verb done w) = wants (next_of w) ≡ None
 
 -- how many levels are open around it
 abbrev pub level_of : Want → ℕ
@@ -115,24 +116,24 @@ level_of (AVar level next) = level
 level_of (ALocal next) = 0
 
 abbrev pub level : Goal → ℕ
-level (Condition l k) = 0
-level (Argument l condition k done w) = level_of w
+level (Condition l verb) = 0
+level (Argument l condition verb done w) = level_of w
 
 -- the limits inside them
 abbrev pub inside : phrase.Limits → ℕ → phrase.Limits
 inside m n = record { depth = m.depth - n; width = m.width }
 
 -- the spot behind a phrase that was read for this; a phrase of another kind is none
-abbrev pub behind_want : Sentence → Option Expr → Keyword → List Part → Want → phrase.Phrase → Spot
-behind_want l condition k done (AnExpr level next) (phrase.Whole e) = Args l condition k (done ++ Text level e ∷ []) next
-behind_want l condition k done (AVar level next) (phrase.Target v) = Args l condition k (done ++ Place level v ∷ []) next
-behind_want l condition k done (ALocal next) (phrase.Target v) = Args l condition k (done ++ Control v ∷ []) next
-behind_want l condition k done w p = Begin
+abbrev pub behind_want : Sentence → Option Expr → Verb → List Part → Want → phrase.Phrase → Spot
+behind_want l condition verb done (AnExpr level next) (phrase.Whole e) = Args l condition verb (done ++ Text level e ∷ []) next
+behind_want l condition verb done (AVar level next) (phrase.Target v) = Args l condition verb (done ++ Place level v ∷ []) next
+behind_want l condition verb done (ALocal next) (phrase.Target v) = Args l condition verb (done ++ Control v ∷ []) next
+behind_want l condition verb done w p = Begin
 
 abbrev pub behind : Goal → phrase.Phrase → Spot
-behind (Condition l k) (phrase.Whole e) = Bare l (Some e) k
-behind (Condition l k) p = Begin
-behind (Argument l condition k done w) p = behind_want l condition k done w p
+behind (Condition l verb) (phrase.Whole e) = Bare l (Some e) verb
+behind (Condition l verb) p = Begin
+behind (Argument l condition verb done w) p = behind_want l condition verb done w p
 
 abbrev pub bare_rested : Bool → Rest → Option Rest
 bare_rested b r = if b then Some r else None
@@ -148,19 +149,19 @@ rested (FormalsEnd label names) = Some (record { line = headed label names; gap 
 rested (Indented l) = Some (record { line = l; gap = 0; comment = 0 })
 rested (Behind r) = Some r
 rested (Over l) = None
-rested (Worded l k) = bare_rested (may_be_bare k) (bare_rest l None k)
-rested (Asked l k) = None
-rested (Bare l condition k) = bare_rested (may_be_bare k) (bare_rest l condition k)
-rested (Args l condition k done n) = bare_rested (ends n) (args_rest l condition k done)
+rested (Worded l verb) = bare_rested (may_be_bare verb) (bare_rest l None verb)
+rested (Asked l verb) = None
+rested (Bare l condition verb) = bare_rested (may_be_bare verb) (bare_rest l condition verb)
+rested (Args l condition verb done n) = bare_rested (ends n) (args_rest l condition verb done)
 
 -- what a phrase may be read for there
-abbrev pub argument : Sentence → Option Expr → Keyword → List Part → Option Want → Option Goal
-argument l condition k done (Some w) = Some (Argument l condition k done w)
-argument l condition k done None = None
+abbrev pub argument : Sentence → Option Expr → Verb → List Part → Option Want → Option Goal
+argument l condition verb done (Some w) = Some (Argument l condition verb done w)
+argument l condition verb done None = None
 
 abbrev pub entry : Spot → Option Goal
-entry (Asked l k) = Some (Condition l k)
-entry (Args l condition k done n) = argument l condition k done (wants n)
+entry (Asked l verb) = Some (Condition l verb)
+entry (Args l condition verb done n) = argument l condition verb done (wants n)
 entry p = None
 
 -- ---- steps
@@ -172,21 +173,21 @@ pub data Next : Type 0 where
   Long : Next
 
 -- the arguments of a command, if it may have some
-abbrev pub opened : Sentence → Option Expr → Keyword → Option Node → Next
-opened l condition k (Some n) = Go (At (Args l condition k [] n))
-opened l condition k None = Stuck
+abbrev pub opened : Sentence → Option Expr → Verb → Option Node → Next
+opened l condition verb (Some n) = Go (At (Args l condition verb [] n))
+opened l condition verb None = Stuck
 
-abbrev pub arguments : Sentence → Option Expr → Keyword → Next
-arguments l condition k = opened l condition k (first_node k)
+abbrev pub arguments : Sentence → Option Expr → Verb → Next
+arguments l condition verb = opened l condition verb (first_node verb)
 
 -- behind a part of one token
-abbrev pub moved : Sentence → Option Expr → Keyword → List Part → Option Node → Next
-moved l condition k done (Some n) = Go (At (Args l condition k done n))
-moved l condition k done None = Stuck
+abbrev pub moved : Sentence → Option Expr → Verb → List Part → Option Node → Next
+moved l condition verb done (Some n) = Go (At (Args l condition verb done n))
+moved l condition verb done None = Stuck
 
-abbrev pub taken : Sentence → Option Expr → Keyword → List Part → Node → Option Part → Next
-taken l condition k done n (Some p) = moved l condition k (done ++ p ∷ []) (takes n p)
-taken l condition k done n None = Stuck
+abbrev pub taken : Sentence → Option Expr → Verb → List Part → Node → Option Part → Next
+taken l condition verb done n (Some p) = moved l condition verb (done ++ p ∷ []) (takes n p)
+taken l condition verb done n None = Stuck
 
 -- a name of a length that a name may have, which is none of these
 abbrev pub is_new : List (List ℕ) → List ℕ → Bool
@@ -211,22 +212,22 @@ own (FormalBehind label names) (Signed Close) = Go (At (FormalsEnd label names))
 own (FormalsEnd label names) Blank = Go (At (Indented (headed label names)))
 own (Indented l) Blank = Go (At (Indented l))
 own (Indented l) (Signed Dot) = Go (At (Indented (dotted l)))
-own (Worded l k) (Signed Colon) = if is_conditional k then Go (At (Asked l k)) else Stuck
-own (Worded l k) Blank = arguments l None k
-own (Bare l condition k) Blank = arguments l condition k
-own (Args l condition k done n) t = taken l condition k done n (part_at (labels n) t)
+own (Worded l verb) (Signed Colon) = if is_conditional (bare_of verb) then Go (At (Asked l verb)) else Stuck
+own (Worded l verb) Blank = arguments l None verb
+own (Bare l condition verb) Blank = arguments l condition verb
+own (Args l condition verb done n) t = taken l condition verb done n (part_at (labels n) t)
 own p k = Stuck
 
 -- a command begins
-abbrev pub begins : Sentence → Option Keyword → Next
-begins l (Some k) = Go (At (Worded l k))
+abbrev pub begins : Sentence → Option Verb → Next
+begins l (Some verb) = Go (At (Worded l verb))
 begins l None = Stuck
 
 -- behind a command
 abbrev pub on : Rest → Token → Next
 on r Blank = Go (At (Behind (record { line = r.line; gap = r.gap - 1; comment = r.comment - 1 })))
 on r (Comment text) = if r.comment == 0 then Go (At (Over r.line)) else Stuck
-on r (Word w) = if r.gap == 0 then begins r.line (keyword_of w) else Stuck
+on r (Word w) = if r.gap == 0 then begins r.line (verb_of w) else Stuck
 on r k = Stuck
 
 abbrev pub on_rested : Option Rest → Token → Next
@@ -264,8 +265,8 @@ may_want w x = true
 
 -- what a phrase that is read for this may begin with
 abbrev pub may_begin : Goal → Symbol → Bool
-may_begin (Condition l k) x = true
-may_begin (Argument l condition k done w) x = may_want w x
+may_begin (Condition l verb) x = true
+may_begin (Argument l condition verb done w) x = may_want w x
 
 -- a phrase begins, if one may
 abbrev pub entering : phrase.Limits → Option Goal → Token → Next

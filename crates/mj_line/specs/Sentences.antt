@@ -4,11 +4,11 @@ use Rattle.mj_ast.specs.declared.keyword.Keyword.{Keyword}
 use Rattle.mj_ast.specs.Syntax.{Expr, Step, Line}
 use Rattle.mj_ast.specs.Tokens.{Token, Word, Blank}
 use Rattle.mj_ast.specs.Expressions.{expr_nesting, expr_width}
-use Rattle.mj_ast.specs.Commands.{Part, keyword_of, keyword_for, command_parts, SpellsCondition, SpellsArguments, IsConditional, gap_of, comment_gap_of, greatest, part_nesting, part_width, condition_measure}
+use Rattle.mj_ast.specs.Commands.{Part, Leads, keyword_for, command_parts, SpellsCondition, SpellsArguments, IsConditional, gap_of, comment_gap_of, greatest, part_nesting, part_width, condition_measure}
 use Rattle.mj_ast.specs.Lines.{SpellsEnd, SpellsHead, comment_gap, gap_behind}
 use Rattle.mj_line.specs.Forms.{IsForm}
 
--- a command: its postcondition, its word and the parts of its arguments
+-- a command: its postcondition, which it is, and the parts of its arguments
 pub record Clause : Type 0 where
   pub condition : Option Expr
   pub keyword : Keyword
@@ -24,8 +24,8 @@ pub record Sentence : Type 0 where
 abbrev pub SpellsClause : List Token → Clause → Type 0
 SpellsClause ks c =
     (word : List ℕ) × (condition : List Token) × (arguments : List Token)
-    × (ks ≡ Word word ∷ (condition ++ arguments)) × (keyword_of word ≡ Some c.keyword)
-    × SpellsCondition condition c.condition × SpellsArguments arguments c.parts × IsForm c.keyword c.parts × IsConditional c.keyword c.condition
+    × (ks ≡ Word word ∷ (condition ++ arguments)) × (led : Leads word c.parts c.keyword)
+    × SpellsCondition condition c.condition × SpellsArguments arguments c.parts × IsForm led.0 c.parts × IsConditional c.keyword c.condition
 
 abbrev pub SpellsClauses : ℕ → ℕ → List Token → List Clause → Type 0
 SpellsClauses g c ks [] = SpellsEnd c ks

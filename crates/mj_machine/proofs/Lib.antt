@@ -1,3 +1,2 @@
 pub mod Operands
 pub mod Asks
-pub mod Altered

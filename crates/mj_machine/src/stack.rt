@@ -55,7 +55,7 @@ pub fn take_off(stack: &mut Vec<Text>, count: usize)
 
 /// Puts a value on.
 #[inline(always)]
-pub(crate) fn push(stack: &mut Vec<Text>, value: Text) -> Result<(), AllocError>
+pub fn push(stack: &mut Vec<Text>, value: Text) -> Result<(), AllocError>
     ensures ok { OnOk result (reverse stack.new.items ≡ value ∷ reverse stack.old.items) }
     ensures err { OnErr result (stack.new.items ≡ stack.old.items) }
 {
@@ -77,7 +77,7 @@ pub(crate) fn fold(stack: &mut Vec<Text>, value: Text)
 }
 
 /// Puts a value in the place of the `count` topmost operands.
-pub(crate) fn replace(stack: &mut Vec<Text>, count: usize, value: Text) -> Result<(), AllocError>
+pub fn replace(stack: &mut Vec<Text>, count: usize, value: Text) -> Result<(), AllocError>
     requires { count ≤ length stack.old.items }
     ensures ok { OnOk result (reverse stack.new.items ≡ value ∷ drop count (reverse stack.old.items)) }
     ensures err { OnErr result (stack.new.items ≡ stack.old.items) }
@@ -94,7 +94,7 @@ pub(crate) fn replace(stack: &mut Vec<Text>, count: usize, value: Text) -> Resul
 }
 
 /// The operands below the `count` topmost ones.
-pub(crate) fn under(stack: &[Text], count: usize) -> &[Text]
+pub fn under(stack: &[Text], count: usize) -> &[Text]
     requires { count ≤ length stack.now }
     ensures { reverse result.now ≡ drop count (reverse stack.now) }
 {
@@ -103,7 +103,7 @@ pub(crate) fn under(stack: &[Text], count: usize) -> &[Text]
 }
 
 /// The `count` topmost operands of those below `above` and then `more` others.
-pub(crate) fn below_both(stack: &[Text], above: usize, more: usize, count: usize) -> &[Text]
+pub fn below_both(stack: &[Text], above: usize, more: usize, count: usize) -> &[Text]
     requires { above + more + count ≤ length stack.now }
     ensures { result.now ≡ operands count (drop more (drop above (reverse stack.now))) }
 {

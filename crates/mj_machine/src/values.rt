@@ -21,7 +21,7 @@ use mj_text::{Failure, Text};
 use std::alloc::{AllocError, Global};
 
 /// Puts what an operator or a function gave in the place of its `count` operands, or fails.
-pub(crate) fn put_value(
+pub fn put_value(
     pc: usize,
     count: usize,
     value: Result<Text, Failure>,
@@ -50,7 +50,7 @@ pub(crate) fn put_value(
 }
 
 /// What a reply brought is put in the place of `count` operands, or it is a fault. The reply is counted, and taken.
-pub(crate) fn put_told(
+pub fn put_told(
     pc: usize,
     count: usize,
     value: Result<Text, Failure>,

@@ -7,7 +7,9 @@
 
 mod error;
 mod file;
+mod laws;
 mod routine;
 
 pub use error::{LoadError, RoutineName};
+pub use laws::{one_reason, read_or_refused};
 pub use routine::{LINE_LIMIT, ROUTINE_LIMIT, read};

@@ -356,10 +356,11 @@ fn lines_are_read_or_refused(rt: HostRuntime) -> Result<(), Fail> {
  W 1;c => ok
  H;c => L2 R:1:3
  H ;c => ok
- H W 1 => L2 R:1:4
+ H W 1 => L2 R:1:6
  H  W 1 => ok
- H 5 => L2 R:1:4
- HANG 5 => L2 R:1:2
+ H 5 => ok
+ HANG 5 => ok
+ HALT 5 => L2 R:1:7
  h:X=1  w:)X 1 => L2 R:1:11
  h:X=1  w:X 1 => ok
 A => ok

@@ -1,4 +1,5 @@
 use Rattle.std.proofs.Common.{◌∙◌}
+use Rattle.mj_ast.specs.Commands.{meant}
 use Rattle.mj_cmd.proofs.Follow.{reads_as_err, refuses_from, room_for, clause_is, step_written}
 use Rattle.mj_cmd.proofs.command.step.Goals as goal
 
@@ -13,4 +14,4 @@ pub returns-clause-reads : goal.returns-clause-reads
 returns-clause-reads c = λ m r o.
     let h = c.in_ok-condition.ensures.reads m r o in
     let a = c.in_ok-command.ensures.reads m (room_for c.args.phrases.limited m c.args.tokens.now c.in_ok-condition.rest.now c.in_ok-condition.ensures.shorter r) o h.0 in
-    (clause_is h.0 c.args.keyword a.0, λ l. step_written h.0 _ c.args.keyword a.0 _ (h.1 l) c.in_ok-command.ensures.named (a.1 l), h.2 ∙ a.2)
+    (clause_is h.0 (meant c.args.verb a.0) a.0, λ l. let i = a.1 l in step_written h.0 _ (meant c.args.verb a.0) a.0 _ (h.1 l) i.1 i.0, h.2 ∙ a.2)

@@ -21,32 +21,32 @@ pub returns-in-None : goal.returns-in-None
 returns-in-None c = λ m r o.
     let h = c.steps.invariant.goes m r o in
     refuses_from c.args.phrases.limited c.stuck.result _ _
-    (h.2 ∙ unknown_stuck m (with_steps o h.0) (tokens_seen c.steps.rest.now) (tokens_seen c.in-Some.behind.now) c.in-Some.word.now c.in-Some.ensures.0 (sym c.keyword_of.ensures ∙ c.in-None.is))
+    (h.2 ∙ unknown_stuck m (with_steps o h.0) (tokens_seen c.steps.rest.now) (tokens_seen c.in-Some.behind.now) c.in-Some.word.now c.in-Some.ensures.0 (sym c.verb_of.ensures ∙ c.in-None.is))
     (c.stuck.ensures c.args.phrases.limited)
 
-pub returns-in_err-read-in-Some-keyword_of : goal.returns-in_err-read-in-Some-keyword_of
-returns-in_err-read-in-Some-keyword_of c = λ m r o.
+pub returns-in_err-read-in-Some-verb_of : goal.returns-in_err-read-in-Some-verb_of
+returns-in_err-read-in-Some-verb_of c = λ m r o.
     let h = c.steps.invariant.goes m r o in
-    ends_as_err c.args.phrases.limited _ c.from_residual.result c.in_err-read-in-Some-keyword_of.field-0.0 m c.args.tokens.now _ _ c.from_residual.ensures.1
-    (refuses_from c.args.phrases.limited c.in_err-read-in-Some-keyword_of.field-0.0 _ _
-    (h.2 ∙ known_goes m (with_steps o h.0) (tokens_seen c.steps.rest.now) (tokens_seen c.in-Some.behind.now) c.in-Some.word.now c.in-Some-keyword_of.keyword c.in-Some.ensures.0 (sym c.keyword_of.ensures ∙ c.in-Some-keyword_of.is))
-    (c.in_err-read-in-Some-keyword_of.ensures.reads m (room_for c.args.phrases.limited m c.args.tokens.now c.in-Some.behind.now (omega (arith, c.in-Some.ensures.1, c.steps.invariant.falls)) r) (with_steps o h.0)))
+    ends_as_err c.args.phrases.limited _ c.from_residual.result c.in_err-read-in-Some-verb_of.field-0.0 m c.args.tokens.now _ _ c.from_residual.ensures.1
+    (refuses_from c.args.phrases.limited c.in_err-read-in-Some-verb_of.field-0.0 _ _
+    (h.2 ∙ known_goes m (with_steps o h.0) (tokens_seen c.steps.rest.now) (tokens_seen c.in-Some.behind.now) c.in-Some.word.now c.in-Some-verb_of.verb c.in-Some.ensures.0 (sym c.verb_of.ensures ∙ c.in-Some-verb_of.is))
+    (c.in_err-read-in-Some-verb_of.ensures.reads m (room_for c.args.phrases.limited m c.args.tokens.now c.in-Some.behind.now (omega (arith, c.in-Some.ensures.1, c.steps.invariant.falls)) r) (with_steps o h.0)))
 
 pub steps-preserved : goal.steps-preserved
 steps-preserved c = record {
   goes = λ m r o.
       let h = c.steps.invariant.goes m r o in
-      let a = c.in_ok-read-in-Some-keyword_of.ensures.reads m (room_for c.args.phrases.limited m c.args.tokens.now c.in-Some.behind.now (omega (arith, c.in-Some.ensures.1, c.steps.invariant.falls)) r) (with_steps o h.0) in (
+      let a = c.in_ok-read-in-Some-verb_of.ensures.reads m (room_for c.args.phrases.limited m c.args.tokens.now c.in-Some.behind.now (omega (arith, c.in-Some.ensures.1, c.steps.invariant.falls)) r) (with_steps o h.0) in (
         h.0 ++ a.0 ∷ [],
-        λ l. written_pushed c.steps.steps.items c.added.new.list.items c.in_ok-read-in-Some-keyword_of.read h.0 a.0 c.in_ok-added-in-Some-keyword_of.ensures (h.1 l) (a.1 l),
+        λ l. written_pushed c.steps.steps.items c.added.new.list.items c.in_ok-read-in-Some-verb_of.read h.0 a.0 c.in_ok-added-in-Some-verb_of.ensures (h.1 l) (a.1 l),
         h.2
-            ∙ known_goes m (with_steps o h.0) (tokens_seen c.steps.rest.now) (tokens_seen c.in-Some.behind.now) c.in-Some.word.now c.in-Some-keyword_of.keyword c.in-Some.ensures.0 (sym c.keyword_of.ensures ∙ c.in-Some-keyword_of.is)
+            ∙ known_goes m (with_steps o h.0) (tokens_seen c.steps.rest.now) (tokens_seen c.in-Some.behind.now) c.in-Some.word.now c.in-Some-verb_of.verb c.in-Some.ensures.0 (sym c.verb_of.ensures ∙ c.in-Some-verb_of.is)
             ∙ a.2
-            ∙ blanks_skip m (with_clause (with_steps o h.0) a.0) c.behind_blanks-in-Some-keyword_of.result.0 (tokens_seen c.in_ok-read-in-Some-keyword_of.behind.now) (tokens_seen c.behind_blanks-in-Some-keyword_of.result.1.now) c.in_ok-read-in-Some-keyword_of.ensures.parted c.behind_blanks-in-Some-keyword_of.ensures.none c.behind_blanks-in-Some-keyword_of.ensures.blanks
-            ∙ more_steps m o h.0 a.0 (tokens_seen c.behind_blanks-in-Some-keyword_of.result.1.now),
+            ∙ blanks_skip m (with_clause (with_steps o h.0) a.0) c.behind_blanks-in-Some-verb_of.result.0 (tokens_seen c.in_ok-read-in-Some-verb_of.behind.now) (tokens_seen c.behind_blanks-in-Some-verb_of.result.1.now) c.in_ok-read-in-Some-verb_of.ensures.parted c.behind_blanks-in-Some-verb_of.ensures.none c.behind_blanks-in-Some-verb_of.ensures.blanks
+            ∙ more_steps m o h.0 a.0 (tokens_seen c.behind_blanks-in-Some-verb_of.result.1.now),
       );
-  bare = c.behind_blanks-in-Some-keyword_of.ensures.none;
-  falls = omega (arith, c.behind_blanks-in-Some-keyword_of.ensures.count, c.in_ok-read-in-Some-keyword_of.ensures.shorter, c.in-Some.ensures.1, c.steps.invariant.falls);
+  bare = c.behind_blanks-in-Some-verb_of.ensures.none;
+  falls = omega (arith, c.behind_blanks-in-Some-verb_of.ensures.count, c.in_ok-read-in-Some-verb_of.ensures.shorter, c.in-Some.ensures.1, c.steps.invariant.falls);
 }
 
 pub returns-in-Ok : goal.returns-in-Ok

@@ -1,5 +1,5 @@
 use Rattle.std.proofs.Common.{◌≤◌, Option, length, List}
-use Rattle.mj_ast.specs.declared.keyword.Keyword.{Keyword}
+use Rattle.mj_ast.specs.declared.keyword.Verb.{Verb}
 use Rattle.mj_ast.specs.Syntax.{Expr}
 use Rattle.mj_ast.specs.Commands.{Part}
 use Rattle.mj_expr.specs.Machine.{Limits}
@@ -17,7 +17,7 @@ pub record SoFar (Goes : Type 0) (Some : Type 0) (Falls : Type 0) : Type 0 where
 
 abbrev pub invariant-commas : goal.invariant-commas
 invariant-commas g l = SoFar
-    ((m : Limits) → HasRoom l.phrases.limited m l.tokens → g.T.Item.begins (tokens_seen l.tokens) → (o : Sentence) → (condition : Option Expr) → (k : Keyword) → (done : List Part) → WentAs l.phrases.limited (λ ps. AreItems g.T.Item.spells ps l.items.items) m l.tokens g.T.Item.first_at l.rest g.T.Item.behind_at o condition k done)
+    ((q : g.T.Item.lists) → (m : Limits) → HasRoom l.phrases.limited m l.tokens → g.T.Item.begins q (tokens_seen l.tokens) → (o : Sentence) → (condition : Option Expr) → (k : Verb) → (done : List Part) → WentAs l.phrases.limited (λ ps. AreItems g.T.Item.spells ps l.items.items) m l.tokens (g.T.Item.first_at q) l.rest (g.T.Item.behind_at q) o condition k done)
     (1 ≤ length l.items.items)
     (length l.rest ≤ length l.tokens)
 

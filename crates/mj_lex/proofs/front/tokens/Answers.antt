@@ -4,6 +4,7 @@ use Rattle.mj_lex.specs.Seen.{placed, places_seen, token_seen}
 use Rattle.mj_lex.specs.declared.token.Lexeme as kept
 use Rattle.mj_lex.proofs.Tokenise.{placed_more, placed_all, places_seen-snoc}
 use Rattle.mj_lex.proofs.Longest.{tokenised}
+use Rattle.mj_lex.proofs.Once.{once}
 use Rattle.mj_lex.proofs.front.tokens.Goals as goal
 
 pub tokens-preserved : goal.tokens-preserved
@@ -29,3 +30,12 @@ returns-clause-placed c = placed_all (places_seen c.tokens.lexemes.items) (place
 
 pub returns-in_err-lexemes-clause-longest : goal.returns-in_err-lexemes-clause-longest
 returns-in_err-lexemes-clause-longest c = tokenised c.args.line.now
+
+pub returns-clause-only : goal.returns-clause-only
+returns-clause-only c = λ others h. once c.args.line.now others (lexemes c.args.line.now) h (tokenised c.args.line.now)
+
+pub returns-in_err-push-clause-only : goal.returns-in_err-push-clause-only
+returns-in_err-push-clause-only c = λ others h. once c.args.line.now others (lexemes c.args.line.now) h (tokenised c.args.line.now)
+
+pub returns-in_err-lexemes-clause-only : goal.returns-in_err-lexemes-clause-only
+returns-in_err-lexemes-clause-only c = λ others h. once c.args.line.now others (lexemes c.args.line.now) h (tokenised c.args.line.now)

@@ -2,7 +2,7 @@ use Rattle.std.proofs.Common.{false, inl, inr, refl, true}
 use Rattle.mj_cmd.proofs.call.CalledItem.read.Goals as goal
 
 pub returns-clause-first : goal.returns-clause-first
-returns-clause-first c = λ m r b. c.called.ensures.reads m r true (inr b)
+returns-clause-first c = λ q m r b. c.called.ensures.reads m r true (inr b)
 
 pub returns-clause-more : goal.returns-clause-more
-returns-clause-more c = λ m r. c.called.ensures.reads m r false (inl refl)
+returns-clause-more c = λ q m r. c.called.ensures.reads m r false (inl refl)

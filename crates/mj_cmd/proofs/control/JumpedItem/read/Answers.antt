@@ -2,7 +2,7 @@ use Rattle.std.proofs.Common.{false, true}
 use Rattle.mj_cmd.proofs.control.JumpedItem.read.Goals as goal
 
 pub returns-clause-first : goal.returns-clause-first
-returns-clause-first c = λ m r b. c.jump.ensures.reads m r true
+returns-clause-first c = λ q m r b. c.jump.ensures.reads m r true
 
 pub returns-clause-more : goal.returns-clause-more
-returns-clause-more c = λ m r. c.jump.ensures.reads m r false
+returns-clause-more c = λ q m r. c.jump.ensures.reads m r false

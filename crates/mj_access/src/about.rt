@@ -1,0 +1,208 @@
+// Functions of variables.
+
+ghost use Rattle.std.specs.Prelude.{◌≡◌, ◌+◌, ◌<◌, ◌^◌, true, false, option_copied, IfOk, OnErr, ◌≤◌, length};
+ghost use Rattle.mj_strfn.specs.Functions.{AnswersOrMemory};
+ghost use Rattle.mj_store.specs.Runs as runs;
+ghost use Rattle.mj_store.specs.Questions.{Content};
+ghost use Rattle.mj_semantics.specs.Functions.{optional};
+ghost use Rattle.mj_semantics.specs.Evaluation as evaluation;
+ghost use Rattle.mj_pcode.specs.declared.instr.Instr.TheVariants as instrs;
+ghost use Rattle.mj_access.specs.Asked as asked;
+ghost use Rattle.mj_machine.specs.Kept.{Does, DoesAlone, Obeys, ObeysAlone, Stays, with_value, replied};
+
+use crate::globals::{ask, at_hand};
+use crate::names::name_for;
+use crate::tellings::{asks, question, spelled, told_by, told_of};
+use mj_ask::Reply;
+use mj_ast::NameFunction;
+use mj_locals::perform;
+use mj_machine::quiet::fail;
+use mj_machine::values::{put_told, put_value};
+use mj_machine::{Control, Machine, Step, stack};
+use mj_pcode::Reference;
+use mj_store::{Access, Answer};
+use mj_subs::Name;
+use mj_text::{Failure, Text};
+use std::alloc::{AllocError, Global};
+
+/// The subscripts on the stack make a name that the function may be about, or fail.
+#[inline(never)]
+pub fn named(
+    alloc: Global,
+    pc: usize,
+    function: NameFunction,
+    reference: &Reference,
+    machine: &mut Machine,
+) -> Result<Step, AllocError>
+    requires next { pc + 1 < 2 ^ 64 }
+    requires enough { reference.now.count ≤ length machine.old.stack.items }
+    ensures ok { IfOk result (λ step. ObeysAlone (instrs.Named function reference.now) pc machine.old step machine.new) }
+    ensures err { OnErr result (Stays machine.old machine.new) }
+{
+    if let Err(fault) = name_for(
+        alloc,
+        function,
+        reference,
+        stack::topmost(&machine.stack, reference.count),
+    )? {
+        return Ok(fail(fault, machine));
+    }
+    machine.control = Control::At(pc + 1);
+    Ok(Step::Next)
+}
+
+/// What a function gives is put in the place of the `count` operands that it takes.
+#[inline(never)]
+pub fn about(
+    alloc: Global,
+    pc: usize,
+    function: NameFunction,
+    reference: &Reference,
+    count: usize,
+    machine: &mut Machine,
+    given: Option<&Reply>,
+) -> Result<Step, AllocError>
+    requires next { pc + 1 < 2 ^ 64 }
+    requires whole { reference.now.count ≤ count }
+    requires enough { count ≤ length machine.old.stack.items }
+    ensures ok { IfOk result (λ step. Obeys (instrs.About function reference.now count) pc machine.old (replied given.entry) step machine.new) }
+    ensures err { OnErr result (Stays machine.old machine.new) }
+{
+    let others = count - reference.count;
+    let subscripts = stack::topmost(stack::under(&machine.stack, others), reference.count);
+    let name = match name_for(alloc, function, reference, subscripts)? {
+        Ok(name) => name,
+        Err(fault) => return Ok(fail(fault, machine)),
+    };
+    let other = first(stack::topmost(&machine.stack, others))?;
+    inquire(
+        alloc,
+        pc,
+        function,
+        count,
+        name,
+        other.as_ref(),
+        machine,
+        given,
+    )
+}
+
+/// The first text, if there is one.
+fn first(texts: &[Text]) -> Result<Option<Text>, AllocError>
+    ensures { IfOk result (λ text. text ≡ optional 0 texts.now) }
+{
+    match texts.get(0) {
+        Some(text) => Ok(Some(text.try_clone()?)),
+        None => Ok(None),
+    }
+}
+
+/// The same for the name and what stands behind it.
+fn inquire(
+    alloc: Global,
+    pc: usize,
+    function: NameFunction,
+    count: usize,
+    name: Name,
+    other: Option<&Text>,
+    machine: &mut Machine,
+    given: Option<&Reply>,
+) -> Result<Step, AllocError>
+    requires next { pc + 1 < 2 ^ 64 }
+    requires enough { count ≤ length machine.old.stack.items }
+    ensures ok { IfOk result (λ step. Does (λ next. evaluation.about function name (option_copied other.entry) (with_value machine.old pc count next)) machine.old (replied given.entry) step machine.new) }
+    ensures err { OnErr result (Stays machine.old machine.new) }
+{
+    if !asks(function) {
+        let text = spelled(alloc, &name);
+        put_value(pc, count, text, machine)?;
+        return Ok(Step::Next);
+    }
+    let access = match question(function, name, other) {
+        Ok(access) => access,
+        Err(fault) => return Ok(fail(fault, machine)),
+    };
+    if access.name().is_global() {
+        return ask_global(alloc, pc, function, count, access, other, machine, given);
+    }
+    let step = ask_local(alloc, pc, function, count, &access, other, machine);
+    drop(access);
+    step
+}
+
+/// What the job's own variables answer to a question, which changes nothing.
+fn look_up(access: &Access, machine: &mut Machine) -> Result<Answer, AllocError>
+    requires local { (runs.name_of access.now).global ≡ false }
+    requires question { (content : Content) → runs.after_access access.now content ≡ content }
+    ensures answer { IfOk result (λ answer. answer ≡ runs.answer_of access.now machine.old.locals.now) }
+    ensures same { Stays machine.old machine.new }
+{
+    perform(&mut machine.locals, access)
+}
+
+/// What the function gives by the job's own variables.
+fn told_here(
+    alloc: Global,
+    function: NameFunction,
+    access: &Access,
+    other: Option<&Text>,
+    machine: &mut Machine,
+) -> Result<Text, Failure>
+    requires local { (runs.name_of access.now).global ≡ false }
+    requires question { (content : Content) → runs.after_access access.now content ≡ content }
+    ensures value { AnswersOrMemory (asked.made_of function (option_copied other.entry) (runs.answer_of access.now machine.old.locals.now)) result }
+    ensures same { Stays machine.old machine.new }
+{
+    let answer = look_up(access, machine)?;
+    told_of(alloc, function, other, &answer)
+}
+
+/// A question to the job's own variables.
+fn ask_local(
+    alloc: Global,
+    pc: usize,
+    function: NameFunction,
+    count: usize,
+    access: &Access,
+    other: Option<&Text>,
+    machine: &mut Machine,
+) -> Result<Step, AllocError>
+    requires next { pc + 1 < 2 ^ 64 }
+    requires local { (runs.name_of access.now).global ≡ false }
+    requires question { (content : Content) → runs.after_access access.now content ≡ content }
+    requires enough { count ≤ length machine.old.stack.items }
+    ensures ok { IfOk result (λ step. DoesAlone (λ next. asked.asked function (option_copied other.entry) access.now (with_value machine.old pc count next)) machine.old step machine.new) }
+    ensures err { OnErr result (Stays machine.old machine.new) }
+{
+    let value = told_here(alloc, function, access, other, machine);
+    put_value(pc, count, value, machine)?;
+    Ok(Step::Next)
+}
+
+/// A question to the globals.
+#[inline(never)]
+fn ask_global(
+    alloc: Global,
+    pc: usize,
+    function: NameFunction,
+    count: usize,
+    access: Access,
+    other: Option<&Text>,
+    machine: &mut Machine,
+    given: Option<&Reply>,
+) -> Result<Step, AllocError>
+    requires next { pc + 1 < 2 ^ 64 }
+    requires global { (runs.name_of access).global ≡ true }
+    requires enough { count ≤ length machine.old.stack.items }
+    ensures ok { IfOk result (λ step. Does (λ next. asked.asked function (option_copied other.entry) access (with_value machine.old pc count next)) machine.old (replied given.entry) step machine.new) }
+    ensures err { OnErr result (Stays machine.old machine.new) }
+{
+    match at_hand(machine, given) {
+        None => ask(alloc, access, machine),
+        Some(reply) => {
+            drop(access);
+            let value = told_by(alloc, function, other, reply);
+            put_told(pc, count, value, machine)
+        }
+    }
+}

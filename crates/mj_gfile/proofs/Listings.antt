@@ -1,0 +1,397 @@
+-- A listing is read as the globals that it lists, and nothing else is read.
+use Rattle.std.proofs.Common.{◌≡◌, ◌↔◌, ◌⊎◌, inl, inr, ◌∙◌, ◌+◌, ◌/◌, ◌%◌, ◌<◌, ◌≤◌, suc, ℕ, Bool, true, false, not, cond, ◌&&◌, ◌||◌, eqb, eqb-true, ne_eqb, List, [], ◌∷◌, ◌++◌, length, Option, Some, None, Result, Ok, Err, refl, sym, ap, subst, append_assoc, append-nil, arith}
+use Rattle.std.specs.Prelude.{T, IfOk, IfErr, nat_lt, nat_le, codes}
+use Rattle.std.specs.List.{list_all}
+use Rattle.std.specs.Char.{is_ascii_alphabetic, is_ascii_alphanumeric}
+use Rattle.std.specs.Str.{bytes_eq}
+use Rattle.std.specs.Cmp.Lexicographic.{bytes_decides}
+use Rattle.std.specs.declared.cmp.Ordering.{Ordering}
+use Rattle.std.specs.declared.cmp.Ordering.TheVariants.{Less, Equal, Greater}
+use Rattle.std.specs.Ordering.{is_lt}
+use Rattle.std.specs.FinMap.{is_sorted}
+use Rattle.std.specs.FinMap.Entries.{below_all}
+use Rattle.std.proofs.lemmas.Bool.Decides.{nat_tests}
+use Rattle.mj_num.specs.Number.{is_canonic}
+use Rattle.mj_subs.specs.Name.{Name, is_word}
+use Rattle.mj_subs.specs.Collation.{name_cmp}
+use Rattle.mj_subs.specs.Laws.Total.{name_cmp_total}
+use Rattle.mj_nref.specs.Spelling.{is_filled, word_text}
+use Rattle.mj_store.specs.Questions.{Content}
+use Rattle.mj_gfile.specs.declared.error.ReadError.{ReadError}
+use Rattle.mj_gfile.specs.declared.error.ReadError.TheVariants as error
+use Rattle.mj_gfile.specs.Spelling.{is_shown, digit_byte, quoted_byte, quoted_bytes, listed_text, listed_subscript, listed_rest, listed_subscripts, listed_name, listed_line, listed_lines, header, listing_of}
+use Rattle.mj_gfile.specs.Reading.{Whole, is_number_byte, is_word_byte, is_any_word, quoted_at, text_at, whole, whole_only, behind, assigned, value_of, with_value, valued, globally, name_in, line_of}
+use Rattle.mj_gfile.specs.Listing.{is_short, are_small, is_small, is_small_node, begun_by, lines_of, is_after, judged, node_of, before, followed, nodes_of, headed, reading_of, are_bytes, is_text, is_subscript, is_node, AreGlobals, IsReading}
+use Rattle.mj_gfile.proofs.QuotedTexts.{both_true, NoQuote, IsQuoted, quoted_at-quoted, quoted_at-IsQuoted}
+use Rattle.mj_gfile.proofs.NameFields.{canonic_numbers, more_pass, IsSub, AreSubs, name_in-listed, IsNameAt, IsNamed, name_in-IsNamed}
+
+-- ---- one line
+
+-- a line that can be spelled, of any size
+record IsSpelled (e : Name × List ℕ) : Type 0 where
+  global : e.0.global ≡ true
+  word : is_any_word e.0.word ≡ true
+  subs : AreSubs e.0.subscripts
+  text : are_bytes e.1 ≡ true
+
+-- a text that ends the line is its value
+value_read : (t : List ℕ) → are_bytes t ≡ true → value_of (61 ∷ listed_text t) ≡ Some t
+value_read t h = ap whole_only (quoted_at-quoted t [] h tt)
+
+line_text : (n : Name) (t : List ℕ) → n.global ≡ true → listed_line (n, t) ≡ 94 ∷ (n.word ++ (listed_subscripts n.subscripts ++ 61 ∷ listed_text t))
+line_text n t g =
+    ap (λ b. (word_text b n.word ++ listed_subscripts n.subscripts) ++ 61 ∷ listed_text t) g
+    ∙ ap (λ l. 94 ∷ l) (append_assoc n.word (listed_subscripts n.subscripts) (61 ∷ listed_text t))
+
+-- a spelled line is read
+line_of-listed : (e : Name × List ℕ) → IsSpelled e → line_of (listed_line e) ≡ Some e
+line_of-listed e k =
+    ap line_of (line_text e.0 e.1 k.global) ∙ ap valued (name_in-listed true e.0.word e.0.subscripts (listed_text e.1) k.word k.subs)
+    ∙ ap (with_value (record { global = true; word = e.0.word; subscripts = e.0.subscripts })) (value_read e.1 k.text)
+    ∙ ap (λ g. Some (record { global = g; word = e.0.word; subscripts = e.0.subscripts }, e.1)) (sym k.global)
+
+-- what a reading of a line says of the bytes
+abbrev IsLine : List ℕ → Option (Name × List ℕ) → Type 0
+IsLine bs None = Unit {0}
+IsLine bs (Some e) = (bs ≡ listed_line e) × IsSpelled e
+
+-- what a reading of a value says of the bytes
+abbrev IsValue : List ℕ → Option (List ℕ) → Type 0
+IsValue bs None = Unit {0}
+IsValue bs (Some t) = (bs ≡ 61 ∷ listed_text t) × (are_bytes t ≡ true)
+
+whole_value : (cs : List ℕ) (o : Option (List ℕ × List ℕ)) → IsQuoted cs o → IsValue (61 ∷ 34 ∷ cs) (whole_only o)
+whole_value cs None h = tt
+whole_value cs (Some (t, [])) h = (ap (λ l. 61 ∷ 34 ∷ l) h.0, h.1)
+whole_value cs (Some (t, c ∷ r)) h = tt
+
+text_value : (bs : List ℕ) → IsValue (61 ∷ bs) (whole_only (text_at bs))
+text_value [] = tt
+text_value (c ∷ cs) = by (eqb c 34) refl
+  where
+    by : (b : Bool) → eqb c 34 ≡ b → IsValue (61 ∷ c ∷ cs) (whole_only (cond b (quoted_at Whole cs) None))
+    by false e = tt
+    by true e = subst (λ d. IsValue (61 ∷ d ∷ cs) (whole_only (quoted_at Whole cs))) (sym (eqb-true c 34 e)) (whole_value cs (quoted_at Whole cs) (quoted_at-IsQuoted cs))
+
+value_of-IsValue : (bs : List ℕ) → IsValue bs (value_of bs)
+value_of-IsValue [] = tt
+value_of-IsValue (c ∷ cs) = by (eqb c 61) refl
+  where
+    by : (b : Bool) → eqb c 61 ≡ b → IsValue (c ∷ cs) (assigned (cond b (Some cs) None))
+    by false e = tt
+    by true e = subst (λ d. IsValue (d ∷ cs) (whole_only (text_at cs))) (sym (eqb-true c 61 e)) (text_value cs)
+
+valued_line : (cs : List ℕ) (n : Name) (r : List ℕ) (o : Option (List ℕ)) → IsNameAt true cs n r → IsValue r o → IsLine (94 ∷ cs) (with_value n o)
+valued_line cs n r None k h = tt
+valued_line cs n r (Some t) k h =
+    (ap (λ l. 94 ∷ l) (k.spells ∙ ap (λ x. n.word ++ (listed_subscripts n.subscripts ++ x)) h.0) ∙ sym (line_text n t k.kind),
+    record { global = k.kind; word = k.word; subs = k.subs; text = h.1 })
+
+named_line : (cs : List ℕ) (o : Option (Name × List ℕ)) → IsNamed true cs o → IsLine (94 ∷ cs) (valued o)
+named_line cs None h = tt
+named_line cs (Some p) h = valued_line cs p.0 p.1 (value_of p.1) h (value_of-IsValue p.1)
+
+-- what is read is a spelled line
+line_of-IsLine : (bs : List ℕ) → IsLine bs (line_of bs)
+line_of-IsLine [] = tt
+line_of-IsLine (c ∷ cs) = by (eqb c 94) refl
+  where
+    by : (b : Bool) → eqb c 94 ≡ b → IsLine (c ∷ cs) (globally (cond b (Some cs) None))
+    by false e = tt
+    by true e = subst (λ d. IsLine (d ∷ cs) (valued (name_in true cs))) (sym (eqb-true c 94 e)) (named_line cs (name_in true cs) (name_in-IsNamed true cs))
+
+-- ---- within the limits
+
+any_word : (w : List ℕ) → is_word w ≡ (is_any_word w && nat_le (length w) 31)
+any_word [] = refl
+any_word (c ∷ cs) = refl
+
+subs_of : (ss : List (List ℕ)) → list_all is_subscript ss ≡ true → AreSubs ss × (list_all is_short ss ≡ true)
+subs_of [] h = (tt, refl)
+subs_of (s ∷ ss) h =
+    let p = both_true (is_subscript s) (list_all is_subscript ss) h in
+    let q = both_true (is_filled s) (is_text s) p.0 in
+    let r = both_true (is_short s) (are_bytes s) q.1 in
+    let more = subs_of ss p.1 in
+    ((record { filled = q.0; bytes = r.1 }, more.0), (λ i. r.0 i && more.1 i))
+
+of_subs : (ss : List (List ℕ)) → AreSubs ss → list_all is_short ss ≡ true → list_all is_subscript ss ≡ true
+of_subs [] k h = refl
+of_subs (s ∷ ss) k h =
+    let p = both_true (is_short s) (list_all is_short ss) h in λ i. (k.0.filled i && (p.0 i && k.0.bytes i)) && of_subs ss k.1 p.1 i
+
+-- a node is spelled, and within the limits
+node_parts : (e : Name × List ℕ) → is_node e ≡ true → IsSpelled e × (is_small_node e ≡ true)
+node_parts e h =
+    let a = both_true (e.0.global && is_word e.0.word && nat_le (length e.0.subscripts) 31 && list_all is_subscript e.0.subscripts) (is_text e.1) h in
+    let b = both_true (e.0.global && is_word e.0.word && nat_le (length e.0.subscripts) 31) (list_all is_subscript e.0.subscripts) a.0 in
+    let c = both_true (e.0.global && is_word e.0.word) (nat_le (length e.0.subscripts) 31) b.0 in
+    let d = both_true e.0.global (is_word e.0.word) c.0 in
+    let w = both_true (is_any_word e.0.word) (nat_le (length e.0.word) 31) (sym (any_word e.0.word) ∙ d.1) in
+    let s = subs_of e.0.subscripts b.1 in
+    let t = both_true (is_short e.1) (are_bytes e.1) a.1 in
+    (record { global = d.0; word = w.0; subs = s.0; text = t.1 }, (λ i. (w.1 i && (c.1 i && s.1 i)) && t.0 i))
+
+node_whole : (e : Name × List ℕ) → IsSpelled e → is_small_node e ≡ true → is_node e ≡ true
+node_whole e k h =
+    let a = both_true (is_small e.0) (is_short e.1) h in
+    let b = both_true (nat_le (length e.0.word) 31) (are_small e.0.subscripts) a.0 in
+    let c = both_true (nat_le (length e.0.subscripts) 31) (list_all is_short e.0.subscripts) b.1 in
+    let w = any_word e.0.word ∙ (λ i. k.word i && b.0 i) in
+    λ i. (((k.global i && w i) && c.0 i) && of_subs e.0.subscripts k.subs c.1 i) && (a.1 i && k.text i)
+
+-- ---- lines
+
+-- no byte ends a line
+no_end : ℕ → Bool
+no_end c = not (eqb c 10)
+
+abbrev AreWithin : List ℕ → Type 0
+AreWithin bs = list_all no_end bs ≡ true
+
+within-append : (xs ys : List ℕ) → AreWithin xs → AreWithin ys → AreWithin (xs ++ ys)
+within-append [] ys h k = k
+within-append (x ∷ xs) ys h k = let p = both_true (no_end x) (list_all no_end xs) h in λ i. p.0 i && within-append xs ys p.1 k i
+
+above_ten : (c : ℕ) → 10 < c → no_end c ≡ true
+unfolding no_end
+above_ten c h = ap not (ne_eqb c 10 (λ e. omega arith))
+
+digit_above : (d : ℕ) → 10 < digit_byte d
+digit_above d = grind (arith, nat_tests)
+
+shown_above : (c : ℕ) → is_shown c ≡ true → 10 < c
+shown_above c h = grind (arith, nat_tests)
+
+number_above : (c : ℕ) → is_number_byte c ≡ true → no_end c ≡ true
+number_above c h = above_ten c (grind (arith, nat_tests))
+
+word_above : (c : ℕ) → is_ascii_alphanumeric c ≡ true → no_end c ≡ true
+word_above c h = above_ten c (grind (arith, nat_tests))
+
+head_above : (c : ℕ) → (is_ascii_alphabetic c || eqb c 37) ≡ true → no_end c ≡ true
+head_above c h = above_ten c (grind (arith, nat_tests))
+
+byte_within : (c : ℕ) (a b d : Bool) → is_shown c ≡ d → AreWithin (cond a (34 ∷ 34 ∷ []) (cond b (92 ∷ 92 ∷ []) (cond d (c ∷ []) (92 ∷ digit_byte (c / 16) ∷ digit_byte (c % 16) ∷ []))))
+unfolding no_end
+byte_within c true b d e = refl
+byte_within c false true d e = refl
+byte_within c false false true e = λ i. above_ten c (shown_above c e) i && true
+byte_within c false false false e = λ i. above_ten (digit_byte (c / 16)) (digit_above (c / 16)) i && (above_ten (digit_byte (c % 16)) (digit_above (c % 16)) i && true)
+
+quoted_within : (t : List ℕ) → AreWithin (quoted_bytes t)
+quoted_within [] = refl
+quoted_within (c ∷ t) = within-append (quoted_byte c) (quoted_bytes t) (byte_within c (eqb c 34) (eqb c 92) (is_shown c) refl) (quoted_within t)
+
+text_within : (t : List ℕ) → AreWithin (listed_text t)
+unfolding no_end
+text_within t = within-append (quoted_bytes t) (34 ∷ []) (quoted_within t) refl
+
+subscript_within : (s : List ℕ) → AreWithin (listed_subscript s)
+subscript_within s = by (is_canonic s) refl
+  where
+    by : (b : Bool) → is_canonic s ≡ b → AreWithin (cond b s (listed_text s))
+    by true e = more_pass is_number_byte no_end number_above s (canonic_numbers s e)
+    by false e = text_within s
+
+rest_within : (ss : List (List ℕ)) → AreWithin (listed_rest ss)
+unfolding no_end
+rest_within [] = refl
+rest_within (s ∷ ss) = within-append (listed_subscript s) (listed_rest ss) (subscript_within s) (rest_within ss)
+
+subscripts_within : (ss : List (List ℕ)) → AreWithin (listed_subscripts ss)
+unfolding no_end
+subscripts_within [] = refl
+subscripts_within (s ∷ ss) = within-append (listed_subscript s) (listed_rest ss) (subscript_within s) (rest_within ss)
+
+word_within : (w : List ℕ) → is_any_word w ≡ true → AreWithin w
+word_within [] h = refl
+word_within (c ∷ cs) h =
+    let p = both_true (is_ascii_alphabetic c || eqb c 37) (list_all is_ascii_alphanumeric cs) h in
+    λ i. head_above c p.0 i && more_pass is_ascii_alphanumeric no_end word_above cs p.1 i
+
+line_within : (e : Name × List ℕ) → IsSpelled e → AreWithin (listed_line e)
+unfolding no_end
+line_within e k =
+    subst AreWithin (sym (line_text e.0 e.1 k.global))
+    (within-append e.0.word (listed_subscripts e.0.subscripts ++ 61 ∷ listed_text e.1) (word_within e.0.word k.word)
+    (within-append (listed_subscripts e.0.subscripts) (61 ∷ listed_text e.1) (subscripts_within e.0.subscripts) (text_within e.1)))
+
+-- a line ends at the first byte 10
+line_first : (l r : List ℕ) → AreWithin l → lines_of (l ++ 10 ∷ r) ≡ (l, true) ∷ lines_of r
+unfolding no_end
+line_first [] r h = refl
+line_first (c ∷ l) r h = let p = both_true (not (eqb c 10)) (list_all no_end l) h in by (eqb c 10) p.0 (line_first l r p.1)
+  where
+    by : (b : Bool) → not b ≡ true → lines_of (l ++ 10 ∷ r) ≡ (l, true) ∷ lines_of r → cond b (([], true) ∷ lines_of (l ++ 10 ∷ r)) (begun_by c (lines_of (l ++ 10 ∷ r))) ≡ (c ∷ l, true) ∷ lines_of r
+    by true k rec = absurd cc
+    by false k rec = ap (begun_by c) rec
+
+-- the bytes of lines
+bytes_of : List (List ℕ × Bool) → List ℕ
+bytes_of [] = []
+bytes_of ((l, true) ∷ ls) = l ++ 10 ∷ bytes_of ls
+bytes_of ((l, false) ∷ ls) = l ++ bytes_of ls
+
+begun_bytes : (c : ℕ) (ls : List (List ℕ × Bool)) → bytes_of (begun_by c ls) ≡ c ∷ bytes_of ls
+unfolding bytes_of
+begun_bytes c [] = refl
+begun_bytes c ((l, true) ∷ ls) = refl
+begun_bytes c ((l, false) ∷ ls) = refl
+
+bytes-lines : (bs : List ℕ) → bytes_of (lines_of bs) ≡ bs
+unfolding bytes_of
+bytes-lines [] = refl
+bytes-lines (c ∷ cs) = by (eqb c 10) refl (bytes-lines cs)
+  where
+    by : (b : Bool) → eqb c 10 ≡ b → bytes_of (lines_of cs) ≡ cs → bytes_of (cond b (([], true) ∷ lines_of cs) (begun_by c (lines_of cs))) ≡ c ∷ cs
+    by true e rec = ap (λ l. 10 ∷ l) rec ∙ ap (λ d. d ∷ cs) (sym (eqb-true c 10 e))
+    by false e rec = begun_bytes c (lines_of cs) ∙ ap (λ l. c ∷ l) rec
+
+-- ---- order
+
+-- the names rise, from behind the last one
+abbrev Rises : Option Name → Content → Type 0
+Rises last [] = Unit {0}
+Rises last (e ∷ es) = (is_after last e.0 ≡ true) × Rises (Some e.0) es
+
+is_true : (b : Bool) → T b → b ≡ true
+is_true true p = refl
+is_true false p = absurd p
+
+so : (b : Bool) → b ≡ true → T b
+so b e = subst T (sym e) tt
+
+first_so : (a b : Bool) → T (a && b) → T a
+first_so true b p = tt
+first_so false b p = p
+
+second_so : (a b : Bool) → T (a && b) → T b
+second_so true b p = p
+second_so false b p = absurd p
+
+both_so : (a b : Bool) → T a → T b → T (a && b)
+both_so true b p q = q
+both_so false b p q = p
+
+less : (r : Ordering) → is_lt r ≡ true → r ≡ Less
+less Less e = refl
+less Equal e = absurd cc
+less Greater e = absurd cc
+
+below_trans : (m n : Name) (es : Content) → name_cmp m n ≡ Less → T (below_all name_cmp n es) → T (below_all name_cmp m es)
+below_trans m n [] l h = tt
+below_trans m n (e ∷ es) l h =
+    let next = name_cmp_total.trans m n e.0 l (less (name_cmp n e.0) (is_true (is_lt (name_cmp n e.0)) (first_so (is_lt (name_cmp n e.0)) (below_all name_cmp n es) h))) in
+    both_so (is_lt (name_cmp m e.0)) (below_all name_cmp m es) (so (is_lt (name_cmp m e.0)) (ap is_lt next)) (below_trans m n es l (second_so (is_lt (name_cmp n e.0)) (below_all name_cmp n es) h))
+
+rising_below : (m : Name) (es : Content) → Rises (Some m) es → T (below_all name_cmp m es)
+rising_below m [] h = tt
+rising_below m (e ∷ es) h =
+    both_so (is_lt (name_cmp m e.0)) (below_all name_cmp m es) (so (is_lt (name_cmp m e.0)) h.0) (below_trans m e.0 es (less (name_cmp m e.0) h.0) (rising_below e.0 es h.1))
+
+sorted_of : (last : Option Name) (es : Content) → Rises last es → T (is_sorted name_cmp es)
+sorted_of last [] h = tt
+sorted_of last (e ∷ es) h = both_so (below_all name_cmp e.0 es) (is_sorted name_cmp es) (rising_below e.0 es h.1) (sorted_of (Some e.0) es h.1)
+
+rises_of : (m : Name) (es : Content) → T (below_all name_cmp m es) → T (is_sorted name_cmp es) → Rises (Some m) es
+rises_of m [] h k = tt
+rises_of m (e ∷ es) h k =
+    (is_true (is_lt (name_cmp m e.0)) (first_so (is_lt (name_cmp m e.0)) (below_all name_cmp m es) h),
+    rises_of e.0 es (first_so (below_all name_cmp e.0 es) (is_sorted name_cmp es) k) (second_so (below_all name_cmp e.0 es) (is_sorted name_cmp es) k))
+
+rises_all : (es : Content) → T (is_sorted name_cmp es) → Rises None es
+rises_all [] k = tt
+rises_all (e ∷ es) k = (refl, rises_of e.0 es (first_so (below_all name_cmp e.0 es) (is_sorted name_cmp es) k) (second_so (below_all name_cmp e.0 es) (is_sorted name_cmp es) k))
+
+-- ---- listings
+
+judged_ok : (last : Option Name) (k : ℕ) (e : Name × List ℕ) → is_small_node e ≡ true → is_after last e.0 ≡ true → judged last k (Some e) ≡ Ok e
+judged_ok last k e s a = λ i. cond (s i) (cond (a i) (Ok e) (Err (error.Order k))) (Err (error.Limit k))
+
+-- the lines of globals are read
+nodes_of-listed : (last : Option Name) (k : ℕ) (es : Content) → list_all is_node es ≡ true → Rises last es → nodes_of last k (lines_of (listed_lines es)) ≡ Ok es
+nodes_of-listed last k [] h r = refl
+nodes_of-listed last k (e ∷ es) h r =
+    let p = both_true (is_node e) (list_all is_node es) h in
+    let q = node_parts e p.0 in
+    ap (nodes_of last k) (line_first (listed_line e) (listed_lines es) (line_within e q.0))
+    ∙ ap (λ o. followed (judged last k o) (λ d. nodes_of (Some d.0) (suc k) (lines_of (listed_lines es)))) (line_of-listed e q.0)
+    ∙ ap (λ o. followed o (λ d. nodes_of (Some d.0) (suc k) (lines_of (listed_lines es)))) (judged_ok last k e q.1 r.0)
+    ∙ ap (before e) (nodes_of-listed (Some e.0) (suc k) es p.1 r.1)
+
+-- the listing of globals is read as these
+reading_of-listing : (content : Content) → AreGlobals content → reading_of (listing_of content) ≡ Ok content
+unfolding no_end
+reading_of-listing content k = ap headed (line_first header (listed_lines content) refl) ∙ nodes_of-listed None 2 content k.nodes (rises_all content k.rise)
+
+-- what a reading of lines says of their bytes
+abbrev AreListed : Option Name → List (List ℕ × Bool) → Result Content ReadError → Type 0
+AreListed last ls (Err e) = Unit {0}
+AreListed last ls (Ok es) = (bytes_of ls ≡ listed_lines es) × (list_all is_node es ≡ true) × Rises last es
+
+one_more : (last : Option Name) (l : List ℕ) (ls : List (List ℕ × Bool)) (e : Name × List ℕ) (r : Result Content ReadError) → l ≡ listed_line e → is_node e ≡ true → is_after last e.0 ≡ true → AreListed (Some e.0) ls r → AreListed last ((l, true) ∷ ls) (before e r)
+unfolding bytes_of
+one_more last l ls e (Err x) is node after h = tt
+one_more last l ls e (Ok es) is node after h = ((λ i. is i ++ 10 ∷ h.0 i), (λ i. node i && h.1 i), (after, h.2))
+
+module _ (last : Option Name) (k : ℕ) (l : List ℕ) (ls : List (List ℕ × Bool)) (more : Name × List ℕ → Result Content ReadError) (rec : (e : Name × List ℕ) → AreListed (Some e.0) ls (more e)) where
+  in_place : (e : Name × List ℕ) (b : Bool) → is_after last e.0 ≡ b → l ≡ listed_line e → is_node e ≡ true → AreListed last ((l, true) ∷ ls) (followed (cond b (Ok e) (Err (error.Order k))) more)
+  in_place e true a is node = one_more last l ls e (more e) is node a (rec e)
+  in_place e false a is node = tt
+
+  in_limits : (e : Name × List ℕ) (b : Bool) → is_small_node e ≡ b → l ≡ listed_line e → IsSpelled e → AreListed last ((l, true) ∷ ls) (followed (cond b (cond (is_after last e.0) (Ok e) (Err (error.Order k))) (Err (error.Limit k))) more)
+  in_limits e true s is spelled = in_place e (is_after last e.0) refl is (node_whole e spelled s)
+  in_limits e false s is spelled = tt
+
+  line_listed : (o : Option (Name × List ℕ)) → IsLine l o → AreListed last ((l, true) ∷ ls) (followed (judged last k o) more)
+  line_listed None h = tt
+  line_listed (Some e) h = in_limits e (is_small_node e) refl h.0 h.1
+
+-- what is read of lines are lines of globals
+nodes_of-AreListed : (last : Option Name) (k : ℕ) (ls : List (List ℕ × Bool)) → AreListed last ls (nodes_of last k ls)
+unfolding bytes_of
+nodes_of-AreListed last k [] = (refl, refl, tt)
+nodes_of-AreListed last k ((l, false) ∷ ls) = tt
+nodes_of-AreListed last k ((l, true) ∷ ls) =
+    line_listed last k l ls (λ e. nodes_of (Some e.0) (suc k) ls) (λ e. nodes_of-AreListed (Some e.0) (suc k) ls) (line_of l) (line_of-IsLine l)
+
+-- what a reading says of the bytes
+abbrev IsListing : List ℕ → Result Content ReadError → Type 0
+IsListing bs (Err e) = Unit {0}
+IsListing bs (Ok es) = (bs ≡ listing_of es) × AreGlobals es
+
+behind_header : (l : List ℕ) (ls : List (List ℕ × Bool)) (r : Result Content ReadError) → l ≡ header → AreListed None ls r → IsListing (bytes_of ((l, true) ∷ ls)) r
+unfolding bytes_of
+behind_header l ls (Err e) is h = tt
+behind_header l ls (Ok es) is h = ((λ i. is i ++ 10 ∷ h.0 i), record { nodes = h.1; rise = sorted_of None es h.2 })
+
+headed-IsListing : (ls : List (List ℕ × Bool)) → IsListing (bytes_of ls) (headed ls)
+headed-IsListing [] = tt
+headed-IsListing ((l, false) ∷ ls) = tt
+headed-IsListing ((l, true) ∷ ls) = by (bytes_eq l header) refl
+  where
+    by : (b : Bool) → bytes_eq l header ≡ b → IsListing (bytes_of ((l, true) ∷ ls)) (cond b (nodes_of None 2 ls) (Err error.Header))
+    by false e = tt
+    by true e = behind_header l ls (nodes_of None 2 ls) ((bytes_decides l header).0 e) (nodes_of-AreListed None 2 ls)
+
+reading_of-IsListing : (bs : List ℕ) → IsListing bs (reading_of bs)
+reading_of-IsListing bs = subst (λ x. IsListing x (reading_of bs)) (bytes-lines bs) (headed-IsListing (lines_of bs))
+
+-- bytes are read as some globals exactly where they are the listing of these
+pub reading : (bs : List ℕ) → IsReading bs (reading_of bs)
+reading bs = record { lists = λ content. (λ e. subst (IsListing bs) e (reading_of-IsListing bs), λ h. ap reading_of h.0 ∙ reading_of-listing content h.1) }
+
+-- ---- what a call gives that reads so
+
+pub lists_them : (bs : List ℕ) (r : Result Content ReadError) → IfOk r (λ g. reading_of bs ≡ Ok g) → IfOk r (λ g. (bs ≡ listing_of g) × AreGlobals g)
+lists_them bs (Ok g) h = ((reading bs).lists g).0 h
+lists_them bs (Err e) h = tt
+
+pub lists_all : (bs : List ℕ) (r : Result Content ReadError) → IfErr r (λ e. (e ≡ error.Memory) ⊎ (reading_of bs ≡ Err e)) → (content : Content) → bs ≡ listing_of content → AreGlobals content → IfErr r (λ e. e ≡ error.Memory)
+lists_all bs (Ok g) h content is are = tt
+lists_all bs (Err e) h content is are = by h (((reading bs).lists content).1 (is, are))
+  where
+    by : (e ≡ error.Memory) ⊎ (reading_of bs ≡ Err e) → reading_of bs ≡ Ok content → e ≡ error.Memory
+    by (inl m) ok = m
+    by (inr x) ok = absurd cc

@@ -1,0 +1,9 @@
+-- What is read is what is listed.
+use Rattle.mj_gfile.proofs.Listings.{lists_them, lists_all}
+use Rattle.mj_gfile.proofs.reading.read.Goals as goal
+
+pub returns-clause-lists : goal.returns-clause-lists
+returns-clause-lists c = lists_them c.args.bytes.now c.read_lines.result c.read_lines.ensures.ok
+
+pub returns-clause-all : goal.returns-clause-all
+returns-clause-all c = lists_all c.args.bytes.now c.read_lines.result c.read_lines.ensures.err

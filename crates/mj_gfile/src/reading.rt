@@ -1,0 +1,63 @@
+// Listings are read.
+
+ghost use Rattle.std.specs.Prelude.{◌≡◌, ◌+◌, ◌<◌, ◌^◌, ◌⊎◌, None, length, IfOk, IfErr, Ok, Err};
+ghost use Rattle.mj_gfile.specs.declared.error.ReadError.TheVariants as error;
+ghost use Rattle.mj_store.specs.Questions.{Content};
+ghost use Rattle.mj_gfile.specs.Spelling.{listing_of};
+ghost use Rattle.mj_gfile.specs.Listing.{AreGlobals, lines_of, nodes_of, reading_of};
+
+use crate::HEADER;
+use crate::error::ReadError;
+use crate::line::{read_node, split_line};
+use mj_globs::Globals;
+use mj_store::Store;
+use std::alloc::Global;
+
+/// The globals that some bytes list. A listing of globals is refused for want of memory alone, and anything else by the first line that is
+/// none: in a line, one that isn't spelled so before one over a limit, and that before one out of order.
+pub fn read(alloc: Global, bytes: &[u8]) -> Result<Globals, ReadError>
+    ensures ok { IfOk result (λ globals. reading_of bytes.now ≡ Ok globals) }
+    ensures err { IfErr result (λ e. (e ≡ error.Memory) ⊎ (reading_of bytes.now ≡ Err e)) }
+    ensures lists { IfOk result (λ globals. (bytes.now ≡ listing_of globals) × AreGlobals globals) }
+    ensures all { (content : Content) → bytes.now ≡ listing_of content → AreGlobals content → IfErr result (λ e. e ≡ error.Memory) }
+{
+    read_lines(alloc, bytes)
+}
+
+// The globals that the header and the lines behind it list.
+fn read_lines(alloc: Global, bytes: &[u8]) -> Result<Globals, ReadError>
+    ensures ok { IfOk result (λ globals. reading_of bytes.now ≡ Ok globals) }
+    ensures err { IfErr result (λ e. (e ≡ error.Memory) ⊎ (reading_of bytes.now ≡ Err e)) }
+{
+    let Some((first, rest)) = split_line(bytes) else {
+        return Err(ReadError::Header);
+    };
+    if first != HEADER {
+        return Err(ReadError::Header);
+    }
+    read_nodes(alloc, rest)
+}
+
+// The globals that the lines behind the header list.
+fn read_nodes(alloc: Global, bytes: &[u8]) -> Result<Globals, ReadError>
+    requires { length bytes.now + 2 < 2 ^ 64 }
+    ensures ok { IfOk result (λ globals. nodes_of None 2 (lines_of bytes.now) ≡ Ok globals) }
+    ensures err { IfErr result (λ e. (e ≡ error.Memory) ⊎ (nodes_of None 2 (lines_of bytes.now) ≡ Err e)) }
+{
+    let mut globals = Globals::new(alloc);
+    let mut last = None;
+    let mut number = 2;
+    let mut rest = bytes;
+    while let Some((line, behind)) = split_line(rest) {
+        let (name, text) = read_node(alloc, line, number, last.as_ref())?;
+        globals.set(&name, &text)?;
+        last = Some(name);
+        number += 1;
+        rest = behind;
+    }
+    if rest.is_empty() {
+        Ok(globals)
+    } else {
+        Err(ReadError::Line(number))
+    }
+}
