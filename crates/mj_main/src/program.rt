@@ -52,7 +52,23 @@ fn obey<'a, R: Files + AllocGlobal, O: Write>(
             let ran = run_alone(rt, *start, files)?;
             show(&ran, out)
         }
+        Order::Check { files } => check(rt, files, out),
     }
+}
+
+// Loads the routines of these files, and says how many they are.
+fn check<'a, R: Files + AllocGlobal, O: Write>(
+    rt: &R,
+    files: &[&'a str],
+    out: &mut O,
+) -> Result<u8, Stop<'a>>
+    ensures { IfOk result (λ status. status ≤ 1) }
+{
+    loaded(rt, files)?;
+    let count = files.len();
+    let told = format!(in rt.alloc(); "ok {count}\n")?;
+    print(told.as_bytes(), out)?;
+    Ok(0)
 }
 
 // Runs one job alone, from this entry.

@@ -21,6 +21,10 @@ mod reading;
 #[cfg(test)]
 mod runs;
 #[cfg(test)]
+mod steps;
+#[cfg(test)]
 mod texts;
 #[cfg(test)]
 mod trees;
+#[cfg(test)]
+mod words;

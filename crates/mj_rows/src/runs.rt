@@ -4,7 +4,7 @@ use std::test::Fail;
 use std::{env, fs, io, process, str};
 
 // A new folder for the files of a test.
-fn folder(rt: &HostRuntime, test: &str) -> Result<String, Fail> {
+pub(crate) fn folder(rt: &HostRuntime, test: &str) -> Result<String, Fail> {
     let id = process::id(rt.process());
     let temporary = env::temp_dir(rt)?;
     let above = temporary.as_str();
@@ -24,7 +24,7 @@ pub(crate) struct Ran {
     pub(crate) status: u8,
 }
 
-fn run_words(rt: &HostRuntime, words: &[&str]) -> Ran {
+pub(crate) fn run_words(rt: &HostRuntime, words: &[&str]) -> Ran {
     let mut out = Vec::new(rt.alloc());
     let mut err = Vec::new(rt.alloc());
     let status = mj_main::run(rt, words, &mut io::empty(), &mut out, &mut err);

@@ -5,6 +5,7 @@
 
 mod order;
 mod read;
+mod texts;
 
 pub use order::{Order, Refusal};
 pub use read::read_words;

@@ -7,12 +7,14 @@ use std::alloc::AllocError;
 pub enum Order<'a> {
     /// to run these routines' files, with one job that starts at this entry
     Run { start: &'a str, files: Vec<&'a str> },
+    /// to load the routines of these files, and to say how many there are
+    Check { files: Vec<&'a str> },
 }
 
 /// Why words are no order.
 #[derive(Drop)]
 pub enum Refusal {
-    /// they ask for help, which is this text
+    /// they ask for help or for the version, which is this text
     Help(String),
     /// they are wrong, and this text says why
     Wrong(String),

@@ -1,6 +1,7 @@
 // The words of the command line.
 
 use crate::order::{Order, Refusal};
+use crate::texts::{CHECK_EXAMPLE, EXAMPLES, RUN_EXAMPLE, VERSION};
 use clap::error::ErrorKind;
 use clap::{Arg, ArgAction, ArgMatches, Command, Error};
 use std::alloc::{AllocError, Global};
@@ -29,6 +30,7 @@ fn ordered<'a, S: AsStr>(
     let matches = command.try_get_matches_from_mut(words)?;
     match matches.subcommand() {
         Some(("run", found)) => Ok(run_order(alloc, found)?),
+        Some(("check", found)) => Ok(check_order(alloc, found)?),
         _ => Err(command.error(ErrorKind::MissingSubcommand, "a command is required")?),
     }
 }
@@ -46,28 +48,53 @@ fn refusal(alloc: Global, error: &Error) -> Refusal {
 }
 
 fn run_order<'a>(alloc: Global, found: &ArgMatches<'a>) -> Result<Order<'a>, AllocError> {
-    let mut files = Vec::new(alloc);
-    if let Some(given) = found.get_strs("routines") {
-        files.extend_from_slice(given)?;
-    }
     let start = match found.get_str("start") {
         Some(start) => start,
         None => "",
     };
-    Ok(Order::Run { start, files })
+    Ok(Order::Run {
+        start,
+        files: files(alloc, found)?,
+    })
+}
+
+fn check_order<'a>(alloc: Global, found: &ArgMatches<'a>) -> Result<Order<'a>, AllocError> {
+    Ok(Order::Check {
+        files: files(alloc, found)?,
+    })
+}
+
+// The files of the routines.
+fn files<'a>(alloc: Global, found: &ArgMatches<'a>) -> Result<Vec<&'a str>, AllocError> {
+    let mut files = Vec::new(alloc);
+    if let Some(given) = found.get_strs("routines") {
+        files.extend_from_slice(given)?;
+    }
+    Ok(files)
 }
 
 fn command<'a>(alloc: Global) -> Result<Command<'a>, AllocError> {
     Command::new(alloc, "mj")
+        .version(VERSION)
         .about("An M (MUMPS) system, proved")
+        .after_help(EXAMPLES)
         .subcommand_required(true)
-        .subcommand(run_command(alloc)?)
+        .subcommand(run_command(alloc)?)?
+        .subcommand(check_command(alloc)?)
 }
 
 fn run_command<'a>(alloc: Global) -> Result<Command<'a>, AllocError> {
     Command::new(alloc, "run")
         .about("Runs routines, and prints what they write")
+        .after_help(RUN_EXAMPLE)
         .arg(start(alloc))?
+        .arg(routines(alloc))
+}
+
+fn check_command<'a>(alloc: Global) -> Result<Command<'a>, AllocError> {
+    Command::new(alloc, "check")
+        .about("Loads routines without running them, and prints how many there are")
+        .after_help(CHECK_EXAMPLE)
         .arg(routines(alloc))
 }
 

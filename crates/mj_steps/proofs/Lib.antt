@@ -1,0 +1,4 @@
+pub mod Lines
+pub mod Spelled
+pub mod Examples
+pub mod Turns
