@@ -1,0 +1,5 @@
+pub mod Examples
+mod Hearing
+pub mod Places
+pub mod Telling
+mod Outputs

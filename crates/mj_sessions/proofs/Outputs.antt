@@ -1,0 +1,173 @@
+-- Output by a log, entry by entry.
+use Rattle.std.specs.Prelude.{if◌then◌else◌}
+use Rattle.std.specs.Str.{bytes_eq}
+use Rattle.std.proofs.Common.{ℕ, zero, suc, ◌-◌, ◌+◌, ◌<◌, ◌≤◌, Bool, true, false, List, [], ◌∷◌, ◌++◌, Option, Some, None, ◌≡◌, refl, sym, ap, ◌∙◌, append_assoc, append-nil, drop, length, get_or, arith}
+use Rattle.mj_ask.specs.declared.ask.Ask.{Ask}
+use Rattle.mj_ask.specs.declared.ask.Ask.TheVariants as asks
+use Rattle.mj_ask.specs.declared.ask.Reply.{Reply}
+use Rattle.mj_ask.specs.declared.ask.Reply.TheVariants as replies
+use Rattle.std.proofs.lemmas.List.{drop_more, drop_all}
+use Rattle.mj_dev.specs.declared.device.Did.{Did}
+use Rattle.mj_dev.specs.declared.device.Did.TheVariants as did
+use Rattle.mj_dev.specs.Did.{bytes_of}
+use Rattle.mj_dev.specs.Talk.{Exchange, Begun, Written, LineRead, ByteRead, Ended, written_by}
+use Rattle.mj_sessions.specs.Events.{Log, exchange_on, talk_on, did_of, input_of, code_of}
+use Rattle.mj_sessions.specs.Follow.{is_end, output_on, output_of_log, ends_on, written_on}
+
+none_left : (talk : List Exchange) → output_on 0 talk ≡ []
+none_left [] = refl
+none_left (x ∷ talk) = refl
+
+-- a session ends
+end_of : (k : ℕ) (answer : Did) (talk : List Exchange) → output_on k (Ended answer ∷ talk) ≡ output_on (k - 1) talk
+end_of zero answer talk = sym (none_left talk)
+end_of (suc zero) answer talk = sym (none_left talk)
+end_of (suc (suc k)) answer talk = ap (λ n. output_on n talk) (let e : suc k ≡ suc (suc k) - 1 = omega arith in e)
+
+-- a call to the session that is looked at, or to another
+first_of : (x : Exchange) (talk : List Exchange) → is_end x ≡ false → output_on 1 (x ∷ talk) ≡ written_by x ++ output_on 1 talk
+first_of x talk on = ap (λ b. if b then [] else written_by x ++ output_on 1 talk) on
+
+later_of : (k : ℕ) (x : Exchange) (talk : List Exchange) → is_end x ≡ false → (k ≡ 1 → ⊥) → output_on k (x ∷ talk) ≡ output_on k talk
+later_of zero x talk on other = sym (none_left talk)
+later_of (suc zero) x talk on other = absurd (other refl)
+later_of (suc (suc k)) x talk on other = ap (λ b. output_on (if b then suc k else suc (suc k)) talk) on
+
+abbrev With : Option Exchange → List Exchange → List Exchange
+With o talk = elim o [ None ↦ talk | Some x ↦ x ∷ talk ]
+
+first_at : (b : Bool) (x : Exchange) (talk : List Exchange) → is_end x ≡ false → output_on 1 (With (if b then Some x else None) talk) ≡ (if b then written_by x else []) ++ output_on 1 talk
+first_at true x talk on = first_of x talk on
+first_at false x talk on = refl
+
+-- a call that writes nothing
+silent_at : (b : Bool) (x : Exchange) (talk : List Exchange) → is_end x ≡ false → written_by x ≡ [] → output_on 1 (With (if b then Some x else None) talk) ≡ output_on 1 talk
+silent_at true x talk on none = first_of x talk on ∙ ap (λ w. w ++ output_on 1 talk) none
+silent_at false x talk on none = refl
+
+unwritten : (b : Bool) (bytes : List ℕ) (reply : Reply) (talk : List Exchange) → bytes_of (did_of reply) bytes ≡ []
+    → output_on 1 (With (if b then Some (Written bytes (did_of reply)) else None) talk) ≡ output_on 1 talk
+unwritten b bytes reply talk none = silent_at b (Written bytes (did_of reply)) talk refl none
+
+written_at : (b : Bool) (bytes : List ℕ) (talk : List Exchange)
+    → output_on 1 (With (if b then Some (Written bytes did.Done) else None) talk) ≡ (if b then bytes else []) ++ output_on 1 talk
+written_at b bytes talk = first_at b (Written bytes did.Done) talk refl
+
+later_at : (k : ℕ) (b : Bool) (x : Exchange) (talk : List Exchange) → is_end x ≡ false → (k ≡ 1 → ⊥) → output_on k (With (if b then Some x else None) talk) ≡ output_on k talk
+later_at k true x talk on other = later_of k x talk on other
+later_at k false x talk on other = refl
+
+end_at : (k : ℕ) (b : Bool) (answer : Did) (talk : List Exchange) → b ≡ true → output_on k (With (if b then Some (Ended answer) else None) talk) ≡ output_on (k - 1) talk
+end_at k true answer talk is = end_of k answer talk
+end_at k false answer talk is = absurd (let no : false ≡ true = is in cc)
+
+still_at : (k : ℕ) (b : Bool) (answer : Did) (talk : List Exchange) → b ≡ false → output_on k (With (if b then Some (Ended answer) else None) talk) ≡ output_on k talk
+still_at k true answer talk is = absurd (let no : true ≡ false = is in cc)
+still_at k false answer talk is = refl
+
+module _ (name : List ℕ) (reply : Reply) (log : Log) where
+  abbrev talk : List Exchange
+  talk = talk_on name log
+
+  pub ended_by : (k : ℕ) (ask : Ask) → ends_on name ask ≡ true → output_on k (talk_on name ((ask, reply) ∷ log)) ≡ output_on (k - 1) talk
+  ended_by k (asks.DeviceEnd d) is = end_at k (bytes_eq d name) (did_of reply) talk is
+  ended_by k (asks.DeviceBegin d) is = absurd (let no : false ≡ true = is in cc)
+  ended_by k (asks.DeviceWrite d bytes) is = absurd (let no : false ≡ true = is in cc)
+  ended_by k (asks.DeviceLine d t) is = absurd (let no : false ≡ true = is in cc)
+  ended_by k (asks.DeviceByte d t) is = absurd (let no : false ≡ true = is in cc)
+  ended_by k (asks.Access a) is = absurd (let no : false ≡ true = is in cc)
+  ended_by k (asks.Try names t) is = absurd (let no : false ≡ true = is in cc)
+  ended_by k (asks.Unlock names) is = absurd (let no : false ≡ true = is in cc)
+  ended_by k asks.UnlockAll is = absurd (let no : false ≡ true = is in cc)
+  ended_by k (asks.Begin kind) is = absurd (let no : false ≡ true = is in cc)
+  ended_by k asks.Commit is = absurd (let no : false ≡ true = is in cc)
+  ended_by k asks.Rollback is = absurd (let no : false ≡ true = is in cc)
+  ended_by k (asks.Open d t) is = absurd (let no : false ≡ true = is in cc)
+  ended_by k (asks.Close d) is = absurd (let no : false ≡ true = is in cc)
+  ended_by k (asks.Start s t) is = absurd (let no : false ≡ true = is in cc)
+  ended_by k (asks.Rest t) is = absurd (let no : false ≡ true = is in cc)
+  ended_by k (asks.Halt f) is = absurd (let no : false ≡ true = is in cc)
+
+  pub later_by : (k : ℕ) (ask : Ask) → ends_on name ask ≡ false → (k ≡ 1 → ⊥) → output_on k (talk_on name ((ask, reply) ∷ log)) ≡ output_on k talk
+  later_by k (asks.DeviceEnd d) is other = still_at k (bytes_eq d name) (did_of reply) talk is
+  later_by k (asks.DeviceBegin d) is other = later_at k (bytes_eq d name) (Begun (did_of reply)) talk refl other
+  later_by k (asks.DeviceWrite d bytes) is other = later_at k (bytes_eq d name) (Written bytes (did_of reply)) talk refl other
+  later_by k (asks.DeviceLine d t) is other = later_at k (bytes_eq d name) (LineRead (input_of reply)) talk refl other
+  later_by k (asks.DeviceByte d t) is other = later_at k (bytes_eq d name) (ByteRead (code_of reply)) talk refl other
+  later_by k (asks.Access a) is other = refl
+  later_by k (asks.Try names t) is other = refl
+  later_by k (asks.Unlock names) is other = refl
+  later_by k asks.UnlockAll is other = refl
+  later_by k (asks.Begin kind) is other = refl
+  later_by k asks.Commit is other = refl
+  later_by k asks.Rollback is other = refl
+  later_by k (asks.Open d t) is other = refl
+  later_by k (asks.Close d) is other = refl
+  later_by k (asks.Start s t) is other = refl
+  later_by k (asks.Rest t) is other = refl
+  later_by k (asks.Halt f) is other = refl
+
+wrote_by : (name : List ℕ) (log : Log) (d bytes : List ℕ) (reply : Reply)
+    → output_on 1 (talk_on name ((asks.DeviceWrite d bytes, reply) ∷ log)) ≡ written_on name (asks.DeviceWrite d bytes) reply ++ output_on 1 (talk_on name log)
+wrote_by name log d bytes replies.Done = written_at (bytes_eq d name) bytes (talk_on name log)
+wrote_by name log d bytes (replies.Answer a) = unwritten (bytes_eq d name) bytes (replies.Answer a) (talk_on name log) refl
+wrote_by name log d bytes replies.Limit = unwritten (bytes_eq d name) bytes replies.Limit (talk_on name log) refl
+wrote_by name log d bytes replies.Got = unwritten (bytes_eq d name) bytes replies.Got (talk_on name log) refl
+wrote_by name log d bytes replies.Late = unwritten (bytes_eq d name) bytes replies.Late (talk_on name log) refl
+wrote_by name log d bytes replies.NoSession = unwritten (bytes_eq d name) bytes replies.NoSession (talk_on name log) refl
+wrote_by name log d bytes replies.Failed = unwritten (bytes_eq d name) bytes replies.Failed (talk_on name log) refl
+wrote_by name log d bytes replies.End = unwritten (bytes_eq d name) bytes replies.End (talk_on name log) refl
+wrote_by name log d bytes (replies.Line l) = unwritten (bytes_eq d name) bytes (replies.Line l) (talk_on name log) refl
+wrote_by name log d bytes (replies.Byte b) = unwritten (bytes_eq d name) bytes (replies.Byte b) (talk_on name log) refl
+wrote_by name log d bytes (replies.Job j) = unwritten (bytes_eq d name) bytes (replies.Job j) (talk_on name log) refl
+wrote_by name log d bytes (replies.Clash c) = unwritten (bytes_eq d name) bytes (replies.Clash c) (talk_on name log) refl
+
+pub first_by : (name : List ℕ) (log : Log) (ask : Ask) (reply : Reply) → ends_on name ask ≡ false
+    → output_on 1 (talk_on name ((ask, reply) ∷ log)) ≡ written_on name ask reply ++ output_on 1 (talk_on name log)
+first_by name log (asks.DeviceEnd d) reply is = still_at 1 (bytes_eq d name) (did_of reply) (talk_on name log) is
+first_by name log (asks.DeviceBegin d) reply is = silent_at (bytes_eq d name) (Begun (did_of reply)) (talk_on name log) refl refl
+first_by name log (asks.DeviceWrite d bytes) reply is = wrote_by name log d bytes reply
+first_by name log (asks.DeviceLine d t) reply is = silent_at (bytes_eq d name) (LineRead (input_of reply)) (talk_on name log) refl refl
+first_by name log (asks.DeviceByte d t) reply is = silent_at (bytes_eq d name) (ByteRead (code_of reply)) (talk_on name log) refl refl
+first_by name log (asks.Access a) reply is = refl
+first_by name log (asks.Try names t) reply is = refl
+first_by name log (asks.Unlock names) reply is = refl
+first_by name log asks.UnlockAll reply is = refl
+first_by name log (asks.Begin kind) reply is = refl
+first_by name log asks.Commit reply is = refl
+first_by name log asks.Rollback reply is = refl
+first_by name log (asks.Open d t) reply is = refl
+first_by name log (asks.Close d) reply is = refl
+first_by name log (asks.Start s t) reply is = refl
+first_by name log (asks.Rest t) reply is = refl
+first_by name log (asks.Halt f) reply is = refl
+
+-- ---- what the loop uses: the bytes so far, and those of the entries to come
+
+pub all_to_come : (log : Log) (name : List ℕ) (k : ℕ) (bytes : List ℕ) → bytes ≡ [] → bytes ++ output_on k (talk_on name (drop 0 log)) ≡ output_of_log log name k
+all_to_come log name k bytes none = ap (λ b. b ++ output_on k (talk_on name log)) none
+
+pub none_to_come : (log : Log) (name : List ℕ) (k left i : ℕ) (bytes : List ℕ) → length log ≤ i → bytes ++ output_on left (talk_on name (drop i log)) ≡ output_of_log log name k
+    → bytes ≡ output_of_log log name k
+none_to_come log name k left i bytes over so_far =
+    sym (append-nil bytes) ∙ ap (λ l. bytes ++ output_on left (talk_on name l)) (sym (drop_all i log over)) ∙ so_far
+
+module _ (log : Log) (name : List ℕ) (k left i : ℕ) (bytes : List ℕ) (entry : Ask × Reply) (below : i < length log) (is : entry ≡ get_or log i entry)
+    (so_far : bytes ++ output_on left (talk_on name (drop i log)) ≡ output_of_log log name k) where
+  front : bytes ++ output_on left (talk_on name (entry ∷ drop (i + 1) log)) ≡ output_of_log log name k
+  front = ap (λ l. bytes ++ output_on left (talk_on name l)) (ap (λ e. e ∷ drop (i + 1) log) is ∙ sym (drop_more log i entry below)) ∙ so_far
+
+  pub goes_end : ends_on name entry.0 ≡ true → (new : ℕ) → new ≡ left - 1 → bytes ++ output_on new (talk_on name (drop (i + 1) log)) ≡ output_of_log log name k
+  goes_end ends new less = ap (λ n. bytes ++ output_on n (talk_on name (drop (i + 1) log))) less ∙ ap (λ b. bytes ++ b) (sym (ended_by name entry.1 (drop (i + 1) log) left entry.0 ends)) ∙ front
+
+  pub goes_by : ends_on name entry.0 ≡ false → (left ≡ 1 → ⊥) → bytes ++ output_on left (talk_on name (drop (i + 1) log)) ≡ output_of_log log name k
+  goes_by ends other = ap (λ b. bytes ++ b) (sym (later_by name entry.1 (drop (i + 1) log) left entry.0 ends other)) ∙ front
+
+  pub goes_write : ends_on name entry.0 ≡ false → left ≡ 1 → (more : List ℕ) → more ≡ bytes ++ written_on name entry.0 entry.1
+      → more ++ output_on left (talk_on name (drop (i + 1) log)) ≡ output_of_log log name k
+  goes_write ends one more is' =
+      ap (λ b. b ++ output_on left (talk_on name (drop (i + 1) log))) is'
+      ∙ append_assoc bytes (written_on name entry.0 entry.1) (output_on left (talk_on name (drop (i + 1) log)))
+      ∙ ap (λ b. bytes ++ b) (ap (λ n. written_on name entry.0 entry.1 ++ output_on n (talk_on name (drop (i + 1) log))) one
+      ∙ sym (first_by name (drop (i + 1) log) entry.0 entry.1 ends) ∙ ap (λ n. output_on n (talk_on name (entry ∷ drop (i + 1) log))) (sym one))
+      ∙ front

@@ -1,0 +1,4 @@
+pub mod Events
+pub mod Follow
+pub mod Named
+pub mod Answers

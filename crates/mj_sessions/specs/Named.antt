@@ -1,0 +1,50 @@
+-- The sessions that a job has, by the names of their devices.
+use Rattle.std.specs.Prelude.{◌≡◌, ℕ, Bool, cond, List, [], ◌∷◌, Option, Some, None}
+use Rattle.std.specs.List.{find}
+use Rattle.std.specs.Str.{bytes_eq}
+use Rattle.mj_dev.specs.Heard.{Heard}
+use Rattle.mj_dev.specs.Shelves.{with_first}
+use Rattle.mj_dev.specs.Talk.{Exchange, beginning, stand_of}
+use Rattle.mj_sessions.specs.Events.{Log, talk_on}
+use Rattle.mj_sessions.specs.Follow.{Follow, taken_by}
+
+-- a session with the device of a name
+pub record Named : Type 0 where
+  pub name : List ℕ
+  pub session : Heard
+
+abbrev pub is_named : List ℕ → Named → Bool
+is_named name s = bytes_eq s.name name
+
+-- the session with the device of a name
+abbrev pub session_of : List ℕ → List Named → Option Named
+session_of name sessions = find (is_named name) sessions
+
+-- the session of a name is left so
+abbrev pub with_session : List ℕ → Heard → List Named → List Named
+with_session name session sessions = with_first (is_named name) (λ s. record s { session = session }) sessions
+
+-- the session of a name is gone
+abbrev pub without : List ℕ → List Named → List Named
+without name [] = []
+without name (s ∷ sessions) = cond (is_named name s) sessions (s ∷ without name sessions)
+
+-- the sessions, in order of opening, and for how many more there is room
+pub record Roomy : Type 0 where
+  pub sessions : List Named
+  pub room : ℕ
+
+-- no two have one name
+abbrev pub AreApart : List Named → Type 0
+AreApart [] = Unit {0}
+AreApart (s ∷ sessions) = (session_of s.name sessions ≡ None) × AreApart sessions
+
+-- by a talk, one session after the other, the session that isn't ended stands so and took just these bytes; where there is none, the talk
+-- stands where each begins
+abbrev pub Tells : List Exchange → Option Named → Type 0
+Tells talk None = Follow beginning talk beginning × (taken_by talk ≡ [])
+Tells talk (Some s) = Follow beginning talk (stand_of s.session) × (s.session.taken ≡ taken_by talk)
+
+-- the sessions are those of which this log tells
+abbrev pub AreTold : Log → List Named → Type 0
+AreTold log sessions = (name : List ℕ) → Tells (talk_on name log) (session_of name sessions)
