@@ -27,13 +27,13 @@ use Rattle.mj_sys.specs.System.{Recorded, IsKept, AreCounts, history_limit}
 use Rattle.mj_sys.specs.Told.{recorded}
 use Rattle.mj_sys.proofs.Opens.{same_job, other_job}
 
-yes_no : ◌≡◌ {A = Bool} true false → ⊥
+pub yes_no : ◌≡◌ {A = Bool} true false → ⊥
 yes_no e = cc
 
 -- ---- what is left doesn't depend on whether the ask was late
 
 module _ (s : Shared) where
-  left_busy : (timeout : Option ℤ) (late : Bool) → left_by s (busy s timeout late) ≡ s
+  pub left_busy : (timeout : Option ℤ) (late : Bool) → left_by s (busy s timeout late) ≡ s
   left_busy timeout late = at (is_over timeout late) where
     at : (b : Bool) → left_by s (cond b (Some (replies.Late, s)) None) ≡ s
     at true = refl
