@@ -1,5 +1,5 @@
 -- Rows keep their starts, whatever is served; and what is left, logged and counted of two histories that are joined.
-use Rattle.std.proofs.Common.{◌≡◌, ℕ, zero, suc, ◌+◌, ◌<◌, ◌≤◌, List, [], ◌∷◌, ◌++◌, length, get_or, Bool, true, false, cond, Option, Some, None, refl, sym, ap, ◌∙◌, subst, arith, length-append, eqb→eq}
+use Rattle.std.proofs.Common.{◌≡◌, ℕ, zero, suc, ◌+◌, ◌<◌, List, [], ◌∷◌, ◌++◌, length, get_or, Bool, true, false, cond, Option, Some, None, refl, sym, ap, ◌∙◌, subst, arith, length-append, eqb→eq}
 use Rattle.std.specs.Prelude.{ℤ, T, ◌==◌, slice_get, slice_set, if◌then◌else◌}
 use Rattle.std.specs.Str.{bytes_eq}
 use Rattle.std.proofs.Math.ListN.{get_or-append}
@@ -73,8 +73,7 @@ module _ (rows : List Row) (k : ℕ) (r : Row) (there : slice_get rows k ≡ Som
       let inside : j < length ending = omega (arith, long, within) in
       let same : j ≡ k = eqb→eq j k (subst T (sym e) tt) in
       let r' : Row = record r { ended = true } in
-      let one : row ≡ r = same_Some row r (sym is ∙ ap (λ i. slice_get rows i) same ∙ there) in
-      (
+      let one : row ≡ r = same_Some row r (sym is ∙ ap (λ i. slice_get rows i) same ∙ there) in (
         r',
         slice_get-get_or ending j r' inside ∙ ap Some (ap (λ i. get_or ending i r') same ∙ get_or-set_same rows k r' r' (subst (λ i. i < length rows) same within)),
         ap (λ (x : Row). x.start) (sym one),
@@ -82,8 +81,7 @@ module _ (rows : List Row) (k : ℕ) (r : Row) (there : slice_get rows k ≡ Som
   read j row false e is =
       let within = slice_get_within rows j row is in
       let long = length-set rows k (record r { ended = true }) in
-      let inside : j < length ending = omega (arith, long, within) in
-      (
+      let inside : j < length ending = omega (arith, long, within) in (
         row,
         slice_get-get_or ending j row inside
             ∙ ap Some (get_or-set_other rows k j (record r { ended = true }) row (differ j k e)) ∙ sym (slice_get-get_or rows j row within) ∙ is,
@@ -187,7 +185,7 @@ log_of_append job [] more = refl
 log_of_append job (e ∷ history) more = by (e.job == job) (log_of_append job history more) where
   by : (b : Bool) → log_of job (history ++ more) ≡ log_of job history ++ log_of job more
       → (if b then (e.ask, e.reply) ∷ log_of job (history ++ more) else log_of job (history ++ more))
-        ≡ (if b then (e.ask, e.reply) ∷ log_of job history else log_of job history) ++ log_of job more
+      ≡ (if b then (e.ask, e.reply) ∷ log_of job history else log_of job history) ++ log_of job more
   by true rest = ap (λ l. (e.ask, e.reply) ∷ l) rest
   by false rest = rest
 
