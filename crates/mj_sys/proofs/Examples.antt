@@ -11,7 +11,8 @@ use Rattle.mj_ask.specs.declared.ask.Reply.{Reply}
 use Rattle.mj_ask.specs.declared.ask.Reply.TheVariants as replies
 use Rattle.mj_locktab.specs.Locks.{count_of}
 use Rattle.mj_jobs.specs.Rows.{Row}
-use Rattle.mj_sys.specs.Devices.{Device, principal, holder_of}
+use Rattle.mj_dev.specs.Shelves.{principal}
+use Rattle.mj_sys.specs.Devices.{Device, holder_of}
 use Rattle.mj_sys.specs.Shared.{Shared, served}
 use Rattle.mj_sys.specs.declared.event.Event.{Event}
 use Rattle.mj_sys.specs.History.{History, left_by, state_of, AreServed, log_of, events_of}

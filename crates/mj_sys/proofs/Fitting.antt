@@ -89,9 +89,9 @@ served_fits answered s job (asks.Open name timeout) late h = open_fits s job nam
 served_fits answered s job (asks.Close name) late h = refl
 served_fits answered s job (asks.Start start timeout) late h = start_fits s start timeout
 served_fits answered s job (asks.Halt fault) late h = refl
-served_fits answered s job (asks.DeviceBegin device) late h = refl
-served_fits answered s job (asks.DeviceWrite device bytes) late h = refl
-served_fits answered s job (asks.DeviceLine device timeout) late h = absurd (let no : ⊥ = cc in no)
-served_fits answered s job (asks.DeviceByte device timeout) late h = absurd (let no : ⊥ = cc in no)
-served_fits answered s job (asks.DeviceEnd device) late h = refl
-served_fits answered s job (asks.Rest time) late h = refl
+served_fits answered s job (asks.DeviceBegin device) late h = tt
+served_fits answered s job (asks.DeviceWrite device bytes) late h = tt
+served_fits answered s job (asks.DeviceLine device timeout) late h = tt
+served_fits answered s job (asks.DeviceByte device timeout) late h = tt
+served_fits answered s job (asks.DeviceEnd device) late h = tt
+served_fits answered s job (asks.Rest time) late h = tt

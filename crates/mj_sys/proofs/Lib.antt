@@ -4,5 +4,6 @@ mod Each
 mod Opens
 mod Serving
 mod Placed
-mod Replays
+pub mod Replays
+pub mod Rows
 mod Together

@@ -1,14 +1,13 @@
 -- OPEN by cases.
-use Rattle.std.proofs.Common.{◌≡◌, ℕ, Bool, true, false, not, cond, List, [], ◌∷◌, Option, Some, None, refl, sym, ap, ◌∙◌, subst, eqb→eq, eq-eqb}
+use Rattle.std.proofs.Common.{◌≡◌, ℕ, Bool, true, false, List, Option, Some, None, refl, sym, ap, ◌∙◌, subst, eqb→eq, eq-eqb}
 use Rattle.std.specs.Prelude.{ℤ, T, nat_lt, ◌==◌, if◌then◌else◌}
 use Rattle.std.specs.Str.{bytes_eq}
 use Rattle.mj_ask.specs.declared.ask.Ask.TheVariants as asks
 use Rattle.mj_ask.specs.declared.ask.Reply.{Reply}
 use Rattle.mj_ask.specs.declared.ask.Reply.TheVariants as replies
 use Rattle.mj_dev.specs.Shelves.{principal}
-use Rattle.mj_sys.specs.Devices.{Device, Devices, device_at, with_device, opened_by, holder_of}
+use Rattle.mj_sys.specs.Devices.{Device, device_at, with_device, opened_by, holder_of}
 use Rattle.mj_sys.specs.Shared.{Shared, served, takes_session, is_over}
-use Rattle.mj_sys.specs.System.{Keeps}
 use Rattle.mj_sys.specs.Kept.{Service, Comes}
 use Rattle.mj_sys.specs.declared.served.Held.TheVariants as helds
 use Rattle.mj_sys.specs.declared.shared.Outcome.TheVariants as outcomes

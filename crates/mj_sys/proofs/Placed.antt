@@ -1,5 +1,5 @@
 -- The devices of a pool, by the place of a name.
-use Rattle.std.proofs.Common.{◌≡◌, ℕ, zero, suc, ◌+◌, ◌-◌, ◌<◌, ◌≤◌, Bool, true, false, cond, List, [], ◌∷◌, length, get_or, map, replicate, Option, Some, None, refl, sym, ap, ◌∙◌, subst, arith}
+use Rattle.std.proofs.Common.{◌≡◌, ℕ, zero, suc, ◌+◌, ◌-◌, ◌<◌, Bool, true, false, cond, List, [], ◌∷◌, length, get_or, map, replicate, Option, Some, None, refl, sym, ap, ◌∙◌, arith}
 use Rattle.std.specs.Prelude.{◌==◌, nat_lt}
 use Rattle.std.proofs.Math.ListN.{set}
 use Rattle.std.specs.List.{find, position}
@@ -9,7 +9,7 @@ use Rattle.std.proofs.lemmas.Slice.Eq.{bytes_eq-Decides}
 use Rattle.std.proofs.lemmas.List.Quantifiers.{position-Some}
 use Rattle.mj_dev.specs.Shelves.{Shelf, is_named, one_taken, after_take, left_of, principal}
 use Rattle.mj_dev.proofs.Shelves.{found-none, found-named, with_first-at}
-use Rattle.mj_sys.specs.Devices.{Device, Devices, device_at, sessions_of, with_device, is_held_by, opened_by, closed_by, freed}
+use Rattle.mj_sys.specs.Devices.{Device, device_at, with_device, opened_by, closed_by, freed}
 use Rattle.mj_sys.specs.Opening.{device_of, free_devices}
 use Rattle.mj_sys.specs.Kept.{devices_of, without}
 
@@ -109,7 +109,7 @@ closed_there p job name shelves holders at h same is =
     let d : Shelf = record { name = name; left = 0; taken = 0 } in
     let there = found name shelves at d is in
     changed_there p name (closed_by job) shelves holders at d h (get_or shelves at d) (without job (get_or holders at h)) same there
-        (closed_device p job (get_or shelves at d) (get_or holders at h))
+    (closed_device p job (get_or shelves at d) (get_or holders at h))
     ∙ ap (λ l. devices_of p l (set holders at (without job (get_or holders at h)))) (set-get_or shelves at d)
 
 pub freed_all : (p job : ℕ) (shelves : List Shelf) (holders : List (Option ℕ)) → freed (devices_of p shelves holders) job ≡ devices_of p shelves (map (without job) holders)
@@ -123,7 +123,7 @@ freed_all p job (s ∷ shelves) (k ∷ holders) =
 
 taken_if : (b : Bool) (p job : ℕ) (s : Shelf) → b ≡ false → 0 < s.left
     → ◌≡◌ {A = Device} (record { name = s.name; sessions = cond b p (s.left + s.taken); taken = cond b 0 s.taken + 1; holder = Some job })
-        (record { name = s.name; sessions = cond b p ((s.left - 1) + (s.taken + 1)); taken = cond b 0 (s.taken + 1); holder = Some job })
+    (record { name = s.name; sessions = cond b p ((s.left - 1) + (s.taken + 1)); taken = cond b 0 (s.taken + 1); holder = Some job })
 taken_if true p job s other some = absurd (let no : ⊥ = cc in no)
 taken_if false p job s other some =
     let with : ℕ → Device = λ n. record { name = s.name; sessions = n; taken = s.taken + 1; holder = Some job } in
@@ -136,9 +136,9 @@ pub opened_there : (p job : ℕ) (name : List ℕ) (shelves : List Shelf) (holde
 opened_there p job name shelves holders at s same is here other some =
     let there = found name shelves at s is in
     changed_there p name (opened_by job) shelves holders at s None (one_taken s) (Some job) same there
-        (ap (λ (x : Shelf). opened_by job (device_of p x (get_or holders at None))) (sym here) ∙ taken_if (bytes_eq s.name principal) p job s other some)
+    (ap (λ (x : Shelf). opened_by job (device_of p x (get_or holders at None))) (sym here) ∙ taken_if (bytes_eq s.name principal) p job s other some)
     ∙ ap (λ l. devices_of p l (set holders at (Some job)))
-        (ap (λ (x : Shelf). set shelves at (one_taken x)) here ∙ sym (with_first-at (is_named name) one_taken shelves at s there.within there.here there.before))
+    (ap (λ (x : Shelf). set shelves at (one_taken x)) here ∙ sym (with_first-at (is_named name) one_taken shelves at s there.within there.here there.before))
 
 -- What is known of a name other than the principal one at its place.
 pub record IsPlaced (p : ℕ) (name : List ℕ) (shelves : List Shelf) (holders : List (Option ℕ)) (at : ℕ) (h : Option ℕ) : Type 0 where
@@ -188,6 +188,7 @@ same_devices p (s ∷ shelves) [] = none (is_named principal s) where
 same_devices p (s ∷ shelves) (k ∷ holders) = by_name (is_named principal s) refl (same_devices p shelves holders) where
   with : ℕ → ℕ → Device
   with sessions taken = record { name = s.name; sessions = sessions; taken = taken; holder = k }
+
   by_name : (b : Bool) → is_named principal s ≡ b → devices_of p (after_take principal shelves) holders ≡ devices_of p shelves holders
       → devices_of p (cond b (one_taken s ∷ shelves) (s ∷ after_take principal shelves)) (k ∷ holders) ≡ device_of p s k ∷ devices_of p shelves holders
   by_name true is rest =

@@ -1,6 +1,6 @@
 -- A history goes on by an event that is served.
-use Rattle.std.proofs.Common.{◌≡◌, ℕ, zero, suc, ◌+◌, ◌-◌, ◌<◌, ◌≤◌, List, [], ◌∷◌, ◌++◌, length, get_or, Bool, true, false, cond, Option, Some, None, refl, sym, ap, ◌∙◌, subst, arith, length-append, eqb→eq, eq-eqb}
-use Rattle.std.specs.Prelude.{ℤ, T, nat_lt, ◌==◌, count_by, if◌then◌else◌}
+use Rattle.std.proofs.Common.{◌≡◌, ℕ, zero, suc, ◌+◌, ◌-◌, ◌<◌, ◌≤◌, List, [], ◌∷◌, ◌++◌, length, get_or, Bool, true, false, cond, Option, Some, None, refl, sym, ap, ◌∙◌, subst, arith, length-append, eqb→eq}
+use Rattle.std.specs.Prelude.{ℤ, T, nat_lt, ◌==◌, if◌then◌else◌}
 use Rattle.std.specs.Str.{bytes_eq}
 use Rattle.std.proofs.Math.ListN.{set}
 use Rattle.std.proofs.Math.ListN.{get_or-append}
@@ -27,13 +27,13 @@ use Rattle.mj_sys.specs.System.{Recorded, IsKept, AreCounts, history_limit}
 use Rattle.mj_sys.specs.Told.{recorded}
 use Rattle.mj_sys.proofs.Opens.{same_job, other_job}
 
-yes_no : ◌≡◌ {A = Bool} true false → ⊥
+pub yes_no : ◌≡◌ {A = Bool} true false → ⊥
 yes_no e = cc
 
 -- ---- what is left doesn't depend on whether the ask was late
 
 module _ (s : Shared) where
-  left_busy : (timeout : Option ℤ) (late : Bool) → left_by s (busy s timeout late) ≡ s
+  pub left_busy : (timeout : Option ℤ) (late : Bool) → left_by s (busy s timeout late) ≡ s
   left_busy timeout late = at (is_over timeout late) where
     at : (b : Bool) → left_by s (cond b (Some (replies.Late, s)) None) ≡ s
     at true = refl
@@ -55,19 +55,19 @@ module _ (s : Shared) where
 
   left_known : (job : ℕ) (name : List ℕ) (timeout : Option ℤ) (late : Bool) (d : Device) (holder : Option ℕ)
       → left_by s (elim holder [ None ↦ Some (open_free s job name d) | Some h ↦ cond (h == job) (Some (replies.Got, s)) (busy s timeout late) ])
-        ≡ left_by s (elim holder [ None ↦ Some (open_free s job name d) | Some h ↦ cond (h == job) (Some (replies.Got, s)) (busy s timeout true) ])
+      ≡ left_by s (elim holder [ None ↦ Some (open_free s job name d) | Some h ↦ cond (h == job) (Some (replies.Got, s)) (busy s timeout true) ])
   left_known job name timeout late d None = refl
   left_known job name timeout late d (Some h) = left_held (h == job) timeout late
 
   left_found : (job : ℕ) (name : List ℕ) (timeout : Option ℤ) (late : Bool) (found : Option Device)
       → left_by s (elim found [ None ↦ Some (replies.NoSession, s) | Some d ↦ open_known s job name timeout late d ])
-        ≡ left_by s (elim found [ None ↦ Some (replies.NoSession, s) | Some d ↦ open_known s job name timeout true d ])
+      ≡ left_by s (elim found [ None ↦ Some (replies.NoSession, s) | Some d ↦ open_known s job name timeout true d ])
   left_found job name timeout late None = refl
   left_found job name timeout late (Some d) = left_known job name timeout late d d.holder
 
   left_named : (job : ℕ) (name : List ℕ) (timeout : Option ℤ) (late b : Bool)
       → left_by s (cond b (Some (replies.Got, s)) (elim (device_at s.devices name) [ None ↦ Some (replies.NoSession, s) | Some d ↦ open_known s job name timeout late d ]))
-        ≡ left_by s (cond b (Some (replies.Got, s)) (elim (device_at s.devices name) [ None ↦ Some (replies.NoSession, s) | Some d ↦ open_known s job name timeout true d ]))
+      ≡ left_by s (cond b (Some (replies.Got, s)) (elim (device_at s.devices name) [ None ↦ Some (replies.NoSession, s) | Some d ↦ open_known s job name timeout true d ]))
   left_named job name timeout late true = refl
   left_named job name timeout late false = left_found job name timeout late (device_at s.devices name)
 

@@ -1,12 +1,12 @@
 -- What is kept and told where an ask is served.
-use Rattle.std.proofs.Common.{◌≡◌, ℕ, ◌-◌, ◌+◌, ◌<◌, List, [], ◌∷◌, ◌++◌, length, get_or, Bool, true, false, Option, Some, None, Result, Ok, Err, refl, sym, ap, ◌∙◌, subst}
+use Rattle.std.proofs.Common.{◌≡◌, ℕ, ◌-◌, ◌+◌, ◌<◌, List, [], ◌∷◌, ◌++◌, length, get_or, Bool, true, Some, Result, Ok, Err, refl, sym, ap, ◌∙◌, subst}
 use Rattle.std.specs.Result.{IfOk, OnErr}
 use Rattle.std.proofs.Math.ListN.{set}
 use Rattle.mj_ask.specs.declared.ask.Ask.{Ask}
 use Rattle.mj_ask.specs.declared.ask.Reply.{Reply}
 use Rattle.mj_ask.specs.declared.ask.Reply.TheVariants as replies
 use Rattle.mj_ask.specs.Fits.{is_shared}
-use Rattle.mj_dev.specs.Heard.{Heard, IsNew}
+use Rattle.mj_dev.specs.Heard.{Heard}
 use Rattle.mj_locktab.specs.Locks.{LocksApart}
 use Rattle.mj_jobs.specs.Rows.{IsLive}
 use Rattle.mj_sys.specs.declared.served.Refused.{Refused}
@@ -64,7 +64,7 @@ module _ (opening : Shared) (old : Service) (history : History) (counts : List �
     still_counted : AreCounts counts' after
     still_counted = subst (λ l. AreCounts l after) (sym written.1)
         (subst (λ r. AreCounts (set counts (claim.job - 1) (get_or counts (claim.job - 1) 0 + 1)) r) (sym is_recorded)
-            (counts_on counts (before opening old history counts claim ask late) claim.job ask reply ready.are ready.turn.numbered ready.turn.claimed))
+        (counts_on counts (before opening old history counts claim ask late) claim.job ask reply ready.are ready.turn.numbered ready.turn.claimed))
 
     is_served : served (state_of opening history) claim.job ask late ≡ Some (reply, state_of opening history')
     unfolding after

@@ -1,5 +1,5 @@
 -- What is kept beside each other stays together: the sessions of a pool, their holders and the rows.
-use Rattle.std.proofs.Common.{◌≡◌, ℕ, zero, suc, ◌+◌, ◌-◌, ◌<◌, ◌≤◌, Bool, true, false, cond, List, [], ◌∷◌, length, get_or, map, replicate, Option, Some, None, refl, sym, ap, ◌∙◌, subst, arith}
+use Rattle.std.proofs.Common.{◌≡◌, ℕ, zero, suc, ◌+◌, ◌-◌, ◌<◌, ◌≤◌, Bool, true, false, cond, List, [], ◌∷◌, length, map, replicate, Option, Some, None, refl, sym, ap, ◌∙◌, subst, arith}
 use Rattle.std.specs.List.{find}
 use Rattle.std.specs.Str.{bytes_eq}
 use Rattle.std.proofs.lemmas.Slice.Eq.{bytes_eq-Decides}
@@ -32,7 +32,7 @@ sessions_same p name (s ∷ shelves) [] (k ∷ holders') same = absurd (let no :
 sessions_same p name (s ∷ shelves) (k ∷ holders) [] same = absurd (let no : ⊥ = omega (arith, same) in no)
 sessions_same p name (s ∷ shelves) (k ∷ holders) (k' ∷ holders') same =
     at_first (bytes_eq s.name name) (device_of p s k) (device_of p s k') (device_at (devices_of p shelves holders) name) (device_at (devices_of p shelves holders') name)
-        (λ _. refl) (sessions_same p name shelves holders holders' (omega (arith, same)))
+    (λ _. refl) (sessions_same p name shelves holders holders' (omega (arith, same)))
 
 -- there are as many principal sessions, whichever was taken
 sessions_taken : (p : ℕ) (name : List ℕ) (shelves : List Shelf) (holders : List (Option ℕ))
@@ -45,14 +45,14 @@ sessions_taken p name (s ∷ shelves) [] = none_of (is_named name s) where
 sessions_taken p name (s ∷ shelves) (k ∷ holders) = one_of (is_named name s) (sessions_taken p name shelves holders) where
   one_of : (b : Bool) → sessions_of (devices_of p (after_take name shelves) holders) principal ≡ sessions_of (devices_of p shelves holders) principal
       → sessions_of (devices_of p (cond b (one_taken s ∷ shelves) (s ∷ after_take name shelves)) (k ∷ holders)) principal
-        ≡ sessions_of (devices_of p (s ∷ shelves) (k ∷ holders)) principal
+      ≡ sessions_of (devices_of p (s ∷ shelves) (k ∷ holders)) principal
   one_of true rest =
       let found = device_at (devices_of p shelves holders) principal in
       at_first (bytes_eq s.name principal) (device_of p (one_taken s) k) (device_of p s k) found found
-          (λ is. ap (λ b. cond b p ((s.left - 1) + (s.taken + 1))) is ∙ sym (ap (λ b. cond b p (s.left + s.taken)) is)) refl
+      (λ is. ap (λ b. cond b p ((s.left - 1) + (s.taken + 1))) is ∙ sym (ap (λ b. cond b p (s.left + s.taken)) is)) refl
   one_of false rest =
       at_first (bytes_eq s.name principal) (device_of p s k) (device_of p s k) (device_at (devices_of p (after_take name shelves) holders) principal)
-          (device_at (devices_of p shelves holders) principal) (λ _. refl) rest
+      (device_at (devices_of p shelves holders) principal) (λ _. refl) rest
 
 abbrev left_in : Option Shelf → ℕ
 left_in o = elim o [ None ↦ 0 | Some s ↦ s.left ]
@@ -146,10 +146,11 @@ principals_of p [] = refl
 principals_of p (s ∷ shelves) = by_name (bytes_eq s.name principal) refl (principals_of p shelves) where
   rest : Devices
   rest = devices_of p shelves (replicate (length shelves) None)
+
   by_name : (b : Bool) → bytes_eq s.name principal ≡ b
       → sessions_of rest principal ≡ elim (find (is_named principal) shelves) as (λ _. ℕ) [ None ↦ 0 | Some s ↦ p ]
       → sessions_in (cond b (Some (device_of p s None)) (device_at rest principal))
-        ≡ elim (cond b (Some s) (find (is_named principal) shelves)) as (λ _. ℕ) [ None ↦ 0 | Some s ↦ p ]
+      ≡ elim (cond b (Some s) (find (is_named principal) shelves)) as (λ _. ℕ) [ None ↦ 0 | Some s ↦ p ]
   by_name true is next = ap (λ b. cond b p (s.left + s.taken)) is
   by_name false is next = next
 

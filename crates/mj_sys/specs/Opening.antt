@@ -1,5 +1,5 @@
 -- What is shared when a system begins.
-use Rattle.std.specs.Prelude.{ℕ, ◌+◌, List, [], ◌∷◌, map, Option, None, if◌then◌else◌}
+use Rattle.std.specs.Prelude.{ℕ, ◌+◌, List, [], map, Option, None, if◌then◌else◌}
 use Rattle.std.specs.Str.{bytes_eq}
 use Rattle.mj_store.specs.Questions.{Content}
 use Rattle.mj_ask.specs.Started.{Started}

@@ -188,12 +188,7 @@ impl<D: Device> Shared<D> {
     }
 
     // Answers it by its kind.
-    fn answer(
-        &mut self,
-        job: u32,
-        ask: &Ask,
-        late: bool,
-    ) -> Result<Outcome<Session<D>>, AllocError>
+    fn answer(&mut self, job: u32, ask: &Ask, late: bool) -> Result<Outcome<Session<D>>, AllocError>
         requires { is_shared ask.now ≡ true }
         ensures ok { IfOk result (λ outcome. Comes self.old job ask.now late outcome self.new) }
         ensures err { OnErr result (self.new ≡ self.old) }
@@ -278,12 +273,7 @@ impl<D: Device> Shared<D> {
                 }
             },
             Some(holder) if holder == job => Ok(Outcome::Told(Reply::Got, Reply::Got)),
-            Some(holder) => Ok(busy(
-                timeout,
-                late,
-                holder,
-                Held::Device(name.try_clone()?),
-            )),
+            Some(holder) => Ok(busy(timeout, late, holder, Held::Device(name.try_clone()?))),
         }
     }
 

@@ -8,7 +8,7 @@ ghost use Rattle.mj_jobs.specs.Rows.{Row, row_at, IsLive, rows_limit};
 ghost use Rattle.mj_locktab.specs.Locks.{LocksApart};
 ghost use Rattle.mj_sys.specs.Opening.{opening_of};
 ghost use Rattle.mj_sys.specs.History.{state_of, AreServed, events_of, log_of};
-ghost use Rattle.mj_sys.specs.System.{history_limit};
+ghost use Rattle.mj_sys.specs.System.{history_limit, KeepsRows};
 ghost use Rattle.mj_sys.specs.Told.{Serves, IsRefused, IsTurn};
 ghost use Rattle.mj_sys.specs.Kept.{Goes, IsWritten, kept_reply, told_of};
 ghost use Rattle.mj_sys.specs.declared.served.Refused.TheVariants as refusals;
@@ -159,10 +159,11 @@ impl<D: Device, O: Opening> System<D, O> {
         self.shared.locks()
     }
 
-    /// How many rows there are, ended ones among them.
+    /// How many rows there are, ended ones among them. The rows of the opening are there still, each with its start.
     pub fn rows(&self) -> usize
         ensures value { result ≡ length (state_of O.opening self.now.history).rows }
         ensures bound { result ≤ rows_limit }
+        ensures kept { KeepsRows O.opening.rows (state_of O.opening self.now.history).rows }
     {
         self.shared.rows()
     }

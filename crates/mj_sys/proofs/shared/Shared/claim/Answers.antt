@@ -1,4 +1,4 @@
-use Rattle.std.proofs.Common.{◌≡◌, ◌<◌, List, refl, sym, ap, ◌∙◌, subst, arith}
+use Rattle.std.proofs.Common.{◌≡◌, ◌<◌, List, sym, ap, ◌∙◌, subst, arith}
 use Rattle.mj_dev.specs.Shelves.{left_of, after_take, principal}
 use Rattle.mj_jobs.specs.Rows.{Row}
 use Rattle.mj_sys.specs.Devices.{Devices}

@@ -12,7 +12,7 @@ pub invariant_of-self : goal.invariant_of-self
 invariant_of-self g c =
     let i = c.self.inside in
     with_holders i.principals i.pool i.holders.items (slice_set i.holders.items c.in-Some.place c.release.new.holder) i.jobs c.self.invariant
-        (length-set i.holders.items c.in-Some.place c.release.new.holder)
+    (length-set i.holders.items c.in-Some.place c.release.new.holder)
 
 pub returns-in-Some : goal.returns-in-Some
 returns-in-Some g c =
@@ -24,7 +24,7 @@ returns-in-Some g c =
     let closing : Service → Service = λ v. record { state = record v.state { devices = with_device v.state.devices name (closed_by job) }; claimed = v.claimed } in
     let there : position (is_named name) i.pool ≡ Some at = sym c.place.ensures ∙ c.in-Some.is in
     ap of (ap (λ h. devices_of i.principals i.pool (slice_set i.holders.items at h)) (c.release.ensures ∙ ap (without job) c.index_mut.ensures.value)
-        ∙ sym (closed_there i.principals job name i.pool i.holders.items at c.index_mut.result.now c.self.invariant.placed there))
+    ∙ sym (closed_there i.principals job name i.pool i.holders.items at c.index_mut.result.now c.self.invariant.placed there))
     ∙ ap closing c.self.view_is
 
 pub returns-in_default : goal.returns-in_default

@@ -25,9 +25,9 @@ invariant_of-self g c =
     let i = c.self.inside in
     let ended : Rows = c.end.new.self in
     let t = with_rows i.principals i.pool i.holders.items i.jobs ended c.self.invariant
-        (ap (λ (r : Rows). length r.rows) c.end.ensures ∙ length-ended i.jobs.rows c.args.job) (ap (λ (r : Rows). r.claimed) c.end.ensures) in
+    (ap (λ (r : Rows). length r.rows) c.end.ensures ∙ length-ended i.jobs.rows c.args.job) (ap (λ (r : Rows). r.claimed) c.end.ensures) in
     with_holders i.principals i.pool i.holders.items _ ended t
-        (ap (λ l. length l) (holders_are g c) ∙ length-map i.holders.items (without c.args.job))
+    (ap (λ l. length l) (holders_are g c) ∙ length-map i.holders.items (without c.args.job))
 
 pub returns : goal.returns
 returns g c =

@@ -1,4 +1,4 @@
-use Rattle.std.proofs.Common.{◌≡◌, Bool, true, false, Some, None, refl, sym, ap, ◌∙◌, subst, ◌<◌, slice_set, get_or}
+use Rattle.std.proofs.Common.{◌≡◌, true, false, Some, None, refl, sym, ap, ◌∙◌, subst, ◌<◌, slice_set, get_or}
 use Rattle.mj_ask.specs.declared.ask.Ask.TheVariants as asks
 use Rattle.mj_ask.specs.declared.ask.Reply.TheVariants as replies
 use Rattle.std.specs.List.{position}
@@ -104,4 +104,4 @@ returns-in_ok-try_clone-in-Some-2-clause-ok g c =
     let v : Service = record { state = record { globals = i.globals; locks = i.locks; devices = devices_of i.principals i.pool i.holders.items; rows = i.jobs.rows }; claimed = i.jobs.claimed } in
     rw (← c.self.view_is, c.busy.ensures)
     (others v a.job a.name.now a.timeout a.late d c.in-Some-2.holder c.in_ok-try_clone-in-Some-2.field-0 c.in_ok-try_clone-in-Some-2.ensures e p.device
-        (sym c.index.ensures ∙ c.in-Some-2.is) (λ is. c.if-holder-job.false (same_Some c.in-Some-index.holder c.in-Some-2.holder (sym c.in-Some-index.is ∙ c.in-Some-2.is) ∙ is)))
+    (sym c.index.ensures ∙ c.in-Some-2.is) (λ is. c.if-holder-job.false (same_Some c.in-Some-index.holder c.in-Some-2.holder (sym c.in-Some-index.is ∙ c.in-Some-2.is) ∙ is)))

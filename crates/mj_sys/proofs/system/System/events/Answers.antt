@@ -10,8 +10,8 @@ returns-in-None g c =
     let none = c.in-None.ensures in
     let is : job ≡ 0 = omega (arith, none) in
     sym (ap (λ (r : Recorded). events_of job r.history) (sym c.self.view_is)
-        ∙ ap (λ j. events_of j c.self.inside.history.items) is
-        ∙ none_of_0 g.O.Opening.opening c.self.inside.history.items c.self.invariant.0.served)
+    ∙ ap (λ j. events_of j c.self.inside.history.items) is
+    ∙ none_of_0 g.O.Opening.opening c.self.inside.history.items c.self.invariant.0.served)
 
 pub returns-in-None-get : goal.returns-in-None-get
 returns-in-None-get g c =
@@ -24,4 +24,4 @@ returns-in-None-get g c =
     let at = c.in-Some.ensures.1 in
     let above : i.shared.claimed < job = omega (arith, past, all, numbered, at) in
     sym (ap (λ (r : Recorded). events_of job r.history) (sym c.self.view_is)
-        ∙ no_events job i.history.items (c.self.invariant.0.unclaimed job above))
+    ∙ no_events job i.history.items (c.self.invariant.0.unclaimed job above))

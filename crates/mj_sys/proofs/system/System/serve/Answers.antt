@@ -1,6 +1,6 @@
-use Rattle.std.proofs.Common.{◌<◌, length, refl, sym, subst, arith}
+use Rattle.std.proofs.Common.{refl, sym, subst, arith}
 use Rattle.std.specs.Result.{IfOk}
-use Rattle.mj_sys.specs.System.{Recorded, history_limit}
+use Rattle.mj_sys.specs.System.{Recorded}
 use Rattle.mj_sys.specs.Told.{IsTurn, Serves}
 use Rattle.mj_sys.proofs.Serving.{IsReady, kept_if, serves_if}
 use Rattle.mj_sys.proofs.system.System.serve.Given.{Over}
@@ -24,12 +24,12 @@ pub invariant_of-self : goal.invariant_of-self
 invariant_of-self g c =
     let n = c.serve_next.new in
     kept_if g.O.Opening.opening c.self.inside.shared c.self.inside.history.items c.self.inside.counts.items c.args.claim.now c.args.ask.now c.args.late (ready g c)
-        n.shared n.history.items n.counts.items n.claim c.serve_next.ensures.apart c.serve_next.result c.serve_next.ensures.ok c.serve_next.ensures.kept
+    n.shared n.history.items n.counts.items n.claim c.serve_next.ensures.apart c.serve_next.result c.serve_next.ensures.ok c.serve_next.ensures.kept
 
 pub returns-clause-ok : goal.returns-clause-ok
 returns-clause-ok g c =
     let n = c.serve_next.new in
     let after : Recorded = record { history = n.history.items; claimed = n.shared.claimed } in
     subst (λ (r : Recorded). IfOk c.serve_next.result (λ t. Serves g.O.Opening.opening r c.args.claim.now c.args.ask.now c.args.late t after n.claim)) c.self.view_is
-        (serves_if g.O.Opening.opening c.self.inside.shared c.self.inside.history.items c.self.inside.counts.items c.args.claim.now c.args.ask.now c.args.late (ready g c)
-            n.shared n.history.items n.counts.items n.claim c.serve_next.ensures.apart c.serve_next.result c.serve_next.ensures.ok)
+    (serves_if g.O.Opening.opening c.self.inside.shared c.self.inside.history.items c.self.inside.counts.items c.args.claim.now c.args.ask.now c.args.late (ready g c)
+    n.shared n.history.items n.counts.items n.claim c.serve_next.ensures.apart c.serve_next.result c.serve_next.ensures.ok)
