@@ -58,11 +58,15 @@ pub fn ask_in_time(
     ensures err { OnErr result (Stays machine.old machine.new) }
 {
     if machine.replied >= STEPS_LIMIT {
+        drop(ask);
         return Ok(fail(Fault::Steps, machine));
     }
     match given {
         None => wait(alloc, ask),
-        Some(reply) => Ok(take(pc, count, timeout, reply, machine)),
+        Some(reply) => {
+            drop(ask);
+            Ok(take(pc, count, timeout, reply, machine))
+        }
     }
 }
 
