@@ -20,7 +20,11 @@ pub fn given_count(shape: &[bool]) -> usize
 }
 
 /// The values of actuals, of which these are given.
-pub fn spread(alloc: Global, shape: &[bool], values: &[Text]) -> Result<Vec<Option<Text>>, AllocError>
+pub fn spread(
+    alloc: Global,
+    shape: &[bool],
+    values: &[Text],
+) -> Result<Vec<Option<Text>>, AllocError>
     requires { machines.given_count shape.now ≤ length values.now }
     ensures { IfOk result (λ list. list.items ≡ machines.spread shape.now values.now) }
 {

@@ -71,13 +71,7 @@ pub fn ask_in_time(
 }
 
 // The reply is counted and taken.
-fn take(
-    pc: usize,
-    count: usize,
-    timeout: Option<Num>,
-    reply: &Reply,
-    machine: &mut Machine,
-) -> Step
+fn take(pc: usize, count: usize, timeout: Option<Num>, reply: &Reply, machine: &mut Machine) -> Step
     requires next { pc + 1 < 2 ^ 64 }
     requires enough { count ≤ length machine.old.stack.items }
     requires more { machine.old.replied < 1000000 }

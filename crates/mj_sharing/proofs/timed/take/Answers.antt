@@ -12,8 +12,11 @@ use Rattle.mj_sharing.proofs.timed.take.Goals as goal
 pub returns-then-is_limit : goal.returns-then-is_limit
 returns-then-is_limit c = (
   refl,
-  (tt, λ next n handle replies.
-      let old = c.args.machine.now in
-      let rest : Timed = without old c.args.pc c.args.count next in
-      ap (λ b. (if b then fault Limit else change (in_time c.args.timeout (not (is_late c.args.reply.now))) rest) n (handle None) (counted (state_of old)) replies) (sym c.is_limit.ensures ∙ c.if-is_limit.true)),
+  (
+    tt,
+    λ next n handle replies.
+        let old = c.args.machine.now in
+        let rest : Timed = without old c.args.pc c.args.count next in
+        ap (λ b. (if b then fault Limit else change (in_time c.args.timeout (not (is_late c.args.reply.now))) rest) n (handle None) (counted (state_of old)) replies) (sym c.is_limit.ensures ∙ c.if-is_limit.true),
+  ),
 )
