@@ -21,6 +21,8 @@ mod reading;
 #[cfg(test)]
 mod runs;
 #[cfg(test)]
+mod sharing;
+#[cfg(test)]
 mod steps;
 #[cfg(test)]
 mod texts;
