@@ -1,0 +1,2 @@
+pub mod Happen
+pub mod Woven
