@@ -21,7 +21,11 @@ fn what_is_shared_is_asked_for(rt: HostRuntime) -> Result<(), Fail> {
         (" H 0 W \"x\" H\n W 2\n", "x", 0),
         (" H:0  W 1 H:1  W 2\n", "1", 0),
         (" JOB A(1/0)\nA(X) QUIT\n", "F2 DIVIDE R:1\n", 1),
-        (" JOB A::\"9999999999999999999\"\nA QUIT\n", "F4 RANGE R:1\n", 1),
+        (
+            " JOB A::\"9999999999999999999\"\nA QUIT\n",
+            "F4 RANGE R:1\n",
+            1,
+        ),
     ] {
         let ran = row(&rt, "sharing", bytes)?;
         assert_eq!(rt; str::from_utf8(&ran.out)?, out);

@@ -85,7 +85,10 @@ impl Stepped for Told<'_> {
             return Err(Refused::Memory);
         }
         match self.answers.get((step.job as usize).saturating_sub(1)) {
-            Some(answers) => answers[before.min(answers.len() - 1)],
+            Some(answers) => match answers.get(before) {
+                Some(answer) => *answer,
+                None => answers.last().copied().unwrap_or(Err(Refused::NoJob)),
+            },
             None => Err(Refused::NoJob),
         }
     }

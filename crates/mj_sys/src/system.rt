@@ -94,8 +94,8 @@ impl<D: Device, O: Opening> System<D, O> {
     }
 
     /// Serves an ask of a claim's job. Where it is busy for another job, and has a timeout that is over, or is said to be `late`, it is told
-    /// that it is late. What can be refused is refused in this order: a claim of another system or of another time, a history that is full,
-    /// and memory; then nothing changes.
+    /// that it is late. What can be refused is refused in this order: a claim that has no row here, whose job has ended or has another number of
+    /// events, a history that is full, and memory; then nothing changes.
     pub fn serve(
         &mut self,
         claim: &mut Claim,
