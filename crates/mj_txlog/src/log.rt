@@ -166,6 +166,7 @@ impl TxLog {
         ensures unchanged { OnErr result (self.new ≡ self.old) }
     {
         if self.is_full() {
+            drop(unlock);
             return Ok(Answer::Limit);
         }
         self.entries.push(Entry::Unlock(unlock))?;
