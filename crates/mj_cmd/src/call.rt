@@ -113,16 +113,27 @@ fn called<'a, 't>(
     ensures reads { (m : Limits) → HasRoom phrases.limited m tokens.now → (first : Bool) → (first ≡ false) ⊎ HasOther (tokens_seen tokens.now) → PassesAs phrases.limited (λ ps x. IsWrittenCall ps (called_of x.0)) (λ x. x.1.now) result m tokens.now (EntryWanted Calls first) (GuardEnd Calls) }
 {
     let (target, rest) = entry(phrases, tokens)?;
-    let (actuals, rest) = passed(phrases, rest)?;
-    let (condition, rest) = guard(phrases, rest)?;
-    Ok((
-        Called {
-            target,
-            actuals,
-            condition,
+    match passed(phrases, rest) {
+        Ok((actuals, rest)) => match guard(phrases, rest) {
+            Ok((condition, rest)) => Ok((
+                Called {
+                    target,
+                    actuals,
+                    condition,
+                },
+                rest,
+            )),
+            Err(stop) => {
+                drop(target);
+                drop(actuals);
+                Err(stop)
+            }
         },
-        rest,
-    ))
+        Err(stop) => {
+            drop(target);
+            Err(stop)
+        }
+    }
 }
 
 impl Item for Called {
@@ -181,16 +192,27 @@ fn started<'a, 't>(
     ensures reads { (m : Limits) → HasRoom phrases.limited m tokens.now → (first : Bool) → PassesAs phrases.limited (λ ps x. IsWrittenStart ps (started_of x.0)) (λ x. x.1.now) result m tokens.now (EntryWanted Starts first) (GuardEnd Starts) }
 {
     let (target, rest) = entry(phrases, tokens)?;
-    let (actuals, rest) = passed(phrases, rest)?;
-    let (timeout, rest) = wait(phrases, rest)?;
-    Ok((
-        Started {
-            target,
-            actuals,
-            timeout,
+    match passed(phrases, rest) {
+        Ok((actuals, rest)) => match wait(phrases, rest) {
+            Ok((timeout, rest)) => Ok((
+                Started {
+                    target,
+                    actuals,
+                    timeout,
+                },
+                rest,
+            )),
+            Err(stop) => {
+                drop(target);
+                drop(actuals);
+                Err(stop)
+            }
         },
-        rest,
-    ))
+        Err(stop) => {
+            drop(target);
+            Err(stop)
+        }
+    }
 }
 
 impl Item for Started {

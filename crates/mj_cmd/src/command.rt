@@ -242,6 +242,11 @@ pub fn step<'a, 't>(
     ensures reads { (m : Limits) → HasRoom phrases.limited m tokens.now → (o : Sentence) → ReadsAs phrases.limited (λ c x. IsWrittenStep c (step_of x.0)) (λ x. x.1.now) result m tokens.now (At (Worded o verb)) (λ c. At (Behind (record { line = with_clause o c; gap = 1; comment = 0 }))) }
 {
     let (condition, rest) = condition(phrases, verb, tokens)?;
-    let (command, rest) = command(phrases, verb, rest)?;
-    Ok((Step { condition, command }, rest))
+    match command(phrases, verb, rest) {
+        Ok((command, rest)) => Ok((Step { condition, command }, rest)),
+        Err(stop) => {
+            drop(condition);
+            Err(stop)
+        }
+    }
 }

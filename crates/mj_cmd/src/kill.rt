@@ -123,11 +123,17 @@ fn merged<'a, 't>(
 {
     let (into, rest) = phrases.variable(0, tokens)?;
     match behind_equals(rest) {
-        None => Err(stuck(rest)),
-        Some(behind) => {
-            let (from, rest) = phrases.variable(0, behind)?;
-            Ok((Merged { into, from }, rest))
+        None => {
+            drop(into);
+            Err(stuck(rest))
         }
+        Some(behind) => match phrases.variable(0, behind) {
+            Ok((from, rest)) => Ok((Merged { into, from }, rest)),
+            Err(stop) => {
+                drop(into);
+                Err(stop)
+            }
+        },
     }
 }
 

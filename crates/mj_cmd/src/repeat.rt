@@ -18,7 +18,8 @@ use mj_ast::{Range, Variable};
 use mj_expr::Stop;
 use mj_lex::Lexeme;
 
-/// A value; or numbers, by the first, the step and perhaps the last, with colons between them.
+/// A value; or numbers, by the first, the step and perhaps the last, with colons between them. What was read before a refusal is given to
+/// `drop`: a function at whose ends expressions are dropped by themselves takes a long proof.
 fn range<'a, 't>(
     phrases: Phrases,
     tokens: &'t [Lexeme<'a>],
@@ -29,16 +30,23 @@ fn range<'a, 't>(
     let (first, rest) = phrases.expression(0, tokens)?;
     match behind_colon(rest) {
         None => Ok((Range::One(first), rest)),
-        Some(behind) => {
-            let (step, rest) = phrases.expression(0, behind)?;
-            match behind_colon(rest) {
+        Some(behind) => match phrases.expression(0, behind) {
+            Ok((step, rest)) => match behind_colon(rest) {
                 None => Ok((Range::Endless(first, step), rest)),
-                Some(behind) => {
-                    let (last, rest) = phrases.expression(0, behind)?;
-                    Ok((Range::UpTo(first, step, last), rest))
-                }
+                Some(behind) => match phrases.expression(0, behind) {
+                    Ok((last, rest)) => Ok((Range::UpTo(first, step, last), rest)),
+                    Err(stop) => {
+                        drop(first);
+                        drop(step);
+                        Err(stop)
+                    }
+                },
+            },
+            Err(stop) => {
+                drop(first);
+                Err(stop)
             }
-        }
+        },
     }
 }
 

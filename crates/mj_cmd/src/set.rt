@@ -156,7 +156,8 @@ fn targets<'a, 't>(
     }
 }
 
-/// Destinations, `=` and the value.
+/// Destinations, `=` and the value. Destinations that are refused behind are given to `drop`: a function at whose ends they are dropped by
+/// themselves takes a long proof.
 fn assignment<'a, 't>(
     phrases: Phrases,
     tokens: &'t [Lexeme<'a>],
@@ -166,11 +167,17 @@ fn assignment<'a, 't>(
 {
     let (targets, rest) = targets(phrases, tokens)?;
     match behind_equals(rest) {
-        None => Err(stuck(rest)),
-        Some(behind) => {
-            let (value, rest) = phrases.expression(0, behind)?;
-            Ok((Assignment { targets, value }, rest))
+        None => {
+            drop(targets);
+            Err(stuck(rest))
         }
+        Some(behind) => match phrases.expression(0, behind) {
+            Ok((value, rest)) => Ok((Assignment { targets, value }, rest)),
+            Err(stop) => {
+                drop(targets);
+                Err(stop)
+            }
+        },
     }
 }
 

@@ -1,7 +1,9 @@
 // The list of a transaction's accesses.
 
-ghost use Rattle.std.specs.Prelude.{◌≡◌, ◌≤◌, [], true, length, IfOk, OnOk, OnErr};
-ghost use Rattle.mj_txlog.specs.Accesses.{is_write, is_full, reply_in, with_reply, with_unlock, unlock_reply, with_gained};
+ghost use Rattle.std.specs.Prelude.{◌≡◌, ◌≤◌, [], false, true, length, IfOk, OnOk, OnErr};
+ghost use Rattle.mj_store.specs.Runs.{answer_of};
+ghost use Rattle.mj_txlog.specs.declared.entry.Entry.TheVariants.{Access as access_entry};
+ghost use Rattle.mj_txlog.specs.Accesses.{is_write, is_full, reply_in, seen, with_entry, with_reply, with_unlock, unlock_reply, with_gained};
 
 use crate::answers::copy_of;
 use crate::entry::{Entry, Unlock, is_refused, is_write};
@@ -87,12 +89,59 @@ impl TxLog {
             return self.write(access);
         }
         if self.is_full() {
+            drop(access);
             return Ok(Answer::Limit);
         }
-        let answer = answer(self.alloc, globals, &self.entries, &access)?;
-        let kept = copy_of(self.alloc, &answer)?;
-        self.entries.push(Entry::Access(access, kept))?;
-        Ok(answer)
+        match self.answers(globals, &access) {
+            Ok((answer, kept)) => self.append(access, answer, kept),
+            Err(refused) => {
+                drop(access);
+                Err(refused)
+            }
+        }
+    }
+
+    // The answer to a read, to be given and to be kept. Here and below, what isn't given on is given to `drop`: a function at whose end
+    // an access or an answer is dropped by itself takes a long proof.
+    fn answers(&self, globals: &Globals, read: &Access) -> Result<(Answer, Answer), AllocError>
+        requires { is_write read.now ≡ false }
+        ensures given { IfOk result (λ x. x.0 ≡ answer_of read.now (seen globals.now self.now.accesses)) }
+        ensures kept { IfOk result (λ x. x.1 ≡ answer_of read.now (seen globals.now self.now.accesses)) }
+    {
+        let answer = answer(self.alloc, globals, &self.entries, read)?;
+        match copy_of(self.alloc, &answer) {
+            Ok(kept) => Ok((answer, kept)),
+            Err(refused) => {
+                drop(answer);
+                Err(refused)
+            }
+        }
+    }
+
+    // Appends an access with the answer that is kept, and gives the other one.
+    fn append(&mut self, access: Access, answer: Answer, kept: Answer) -> Result<Answer, AllocError>
+        requires { is_full self.old ≡ false }
+        ensures answer { IfOk result (λ a. a ≡ answer) }
+        ensures appended { OnOk result (self.new ≡ with_entry self.old (access_entry access kept)) }
+        ensures unchanged { OnErr result (self.new ≡ self.old) }
+    {
+        match self.push(Entry::Access(access, kept)) {
+            Ok(()) => Ok(answer),
+            Err(refused) => {
+                drop(answer);
+                Err(refused)
+            }
+        }
+    }
+
+    // Appends an entry.
+    fn push(&mut self, entry: Entry) -> Result<(), AllocError>
+        requires { is_full self.old ≡ false }
+        ensures appended { OnOk result (self.new ≡ with_entry self.old entry) }
+        ensures unchanged { OnErr result (self.new ≡ self.old) }
+    {
+        self.entries.push(entry)?;
+        Ok(())
     }
 
     /// Makes a write in the transaction, as `see` does, for which no globals are wanted.
@@ -103,9 +152,10 @@ impl TxLog {
         ensures unchanged { OnErr result (self.new ≡ self.old) }
     {
         if self.is_full() || is_refused(&access) {
+            drop(access);
             return Ok(Answer::Limit);
         }
-        self.entries.push(Entry::Access(access, Answer::Done))?;
+        self.push(Entry::Access(access, Answer::Done))?;
         Ok(Answer::Done)
     }
 
@@ -116,6 +166,7 @@ impl TxLog {
         ensures unchanged { OnErr result (self.new ≡ self.old) }
     {
         if self.is_full() {
+            drop(unlock);
             return Ok(Answer::Limit);
         }
         self.entries.push(Entry::Unlock(unlock))?;

@@ -46,16 +46,35 @@ fn seen_answer(
     requires { is_write read.now ≡ false }
     ensures { IfOk result (λ a. a ≡ answer_of read.now (seen globals.now earlier.now)) }
 {
-    globals.rises();
     let reach = reach_of(alloc, read)?;
-    if !is_any_meeting(earlier, &reach) {
+    let answer = answer_at(alloc, globals, earlier, read, &reach);
+    drop(reach);
+    answer
+}
+
+// The same where that name is at hand. The name is given to `drop` above, and the store here: a function at whose ends either is dropped
+// by itself takes a long proof.
+fn answer_at(
+    alloc: Global,
+    globals: &Globals,
+    earlier: &[Entry],
+    read: &Access,
+    reach: &Name,
+) -> Result<Answer, AllocError>
+    requires read { is_write read.now ≡ false }
+    requires reach { reach.now ≡ reach_of read.now }
+    ensures { IfOk result (λ a. a ≡ answer_of read.now (seen globals.now earlier.now)) }
+{
+    globals.rises();
+    if !is_any_meeting(earlier, reach) {
         let found = look(globals, read)?;
         return Ok(found);
     }
-    let below = seen_below(alloc, globals, earlier, &reach)?;
+    let below = seen_below(alloc, globals, earlier, reach)?;
     below.rises();
-    let found_below = look(&below, read)?;
-    Ok(found_below)
+    let found = look(&below, read);
+    drop(below);
+    found
 }
 
 // The answer to a read.
