@@ -20,7 +20,7 @@ use Rattle.mj_sys.specs.Devices.{Device, device_at}
 use Rattle.mj_sys.specs.Shared.{Shared, tried, busy, has_room, started, open_free, open_known, served}
 
 -- a reply of some service fits
-abbrev Fit : Ask → Option (Reply × Shared) → Type 0
+abbrev pub Fit : Ask → Option (Reply × Shared) → Type 0
 Fit ask None = ⊤
 Fit ask (Some r) = fits ask r.0 ≡ true
 

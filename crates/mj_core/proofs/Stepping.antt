@@ -1,0 +1,213 @@
+-- One job goes on.
+use Rattle.std.specs.Prelude.{◌⊎◌, if◌then◌else◌, Result, Ok, Err, IfOk, IfErr, OnErr}
+use Rattle.std.proofs.Common.{◌≡◌, ℕ, ◌+◌, ◌≤◌, ◌^◌, min, List, [], ◌∷◌, ◌++◌, Bool, true, false, Option, Some, None, refl, sym, ap, ◌∙◌, subst, append-nil, eq-eqb, inl, inr, cond, arith}
+use Rattle.std.proofs.Math.Nat.{le-min}
+use Rattle.mj_ask.specs.declared.ask.Ask.{Ask}
+use Rattle.mj_ask.specs.declared.ask.Reply.{Reply}
+use Rattle.mj_ask.specs.declared.ask.Reply.TheVariants as replies
+use Rattle.mj_ask.specs.Fits.{fits, is_shared, timeout_of}
+use Rattle.mj_semantics.specs.Job.{Start}
+use Rattle.mj_load.specs.Image.{Loaded, routines_of}
+use Rattle.mj_jobs.specs.Rows.{Row, row_at, IsLive}
+use Rattle.mj_jobvm.specs.Run.{Log, Run}
+use Rattle.mj_jobvm.specs.declared.job.Turn.TheVariants as turns
+use Rattle.mj_jobvm.specs.Told.{Told}
+use Rattle.mj_semantics.specs.State.{places}
+use Rattle.mj_jobvm.specs.Jobs.{Running, IsRunOf}
+use Rattle.mj_sessions.specs.Answers.{is_over}
+use Rattle.mj_sessions.specs.Named.{Named, AreTold}
+use Rattle.mj_sys.specs.declared.event.Event.{Event}
+use Rattle.mj_sys.specs.Shared.{Shared, served}
+use Rattle.mj_sys.specs.History.{History, state_of, events_of}
+use Rattle.mj_sys.specs.System.{Recorded, Claimed}
+use Rattle.mj_sys.specs.Told.{recorded}
+use Rattle.mj_sys.proofs.Rows.{rows_kept, state_of_append, events_of_append}
+use Rattle.mj_events.specs.Happen.{shared_of}
+use Rattle.mj_core.specs.declared.slot.Made.{Made}
+use Rattle.mj_core.specs.declared.slot.Made.TheVariants as made
+use Rattle.mj_core.specs.Runs.{start_in}
+use Rattle.mj_core.specs.declared.seen.Refusal.{Refusal}
+use Rattle.mj_core.specs.declared.seen.Refusal.TheVariants as refusals
+use Rattle.mj_core.specs.Gives.{fuel, Makes, IsTold}
+use Rattle.mj_core.specs.Ties.{IsTied, Steps, IsRefused, Tells, Talks, Shares, IsMuted, GoesOnBy}
+
+-- nothing but the place in the private run changes
+pub tied_same : (image : Loaded) (opening : Shared) (old new : Recorded) (claim claim' : Claimed) (job mid job' : Running) (xs xs' : List Named) → IsTied image opening old claim job xs
+    → IsRunOf image (start_in claim.job claim.start) mid → mid.run.log ≡ job.run.log → new ≡ old → claim' ≡ claim → job' ≡ mid → xs' ≡ xs → IsTied image opening new claim' job' xs'
+tied_same image opening old new claim claim' job mid job' xs xs' tied run log same claims jobs sessions =
+    let T : Log → Type 0 = λ l. AreTold l xs in
+    let here : IsTied image opening old claim mid xs = record {
+      numbered = tied.numbered;
+      claimed = tied.claimed;
+      row = tied.row;
+      counted = tied.counted;
+      run = run;
+      told = subst T (sym log) tied.told;
+    } in
+    let P : Recorded → Type 0 = λ r. IsTied image opening r claim mid xs in
+    let Q : Claimed → Type 0 = λ c. IsTied image opening new c mid xs in
+    let R : Running → Type 0 = λ j. IsTied image opening new claim' j xs in
+    let S : List Named → Type 0 = λ l. IsTied image opening new claim' job' l in
+    subst S (sym sessions) (subst R (sym jobs) (subst Q (sym claims) (subst P (sym same) here)))
+
+module _ (image : Loaded) (opening : Shared) (old : Recorded) (claim : Claimed) (job mid job' : Running) (xs xs' : List Named) (tied : IsTied image opening old claim job xs)
+    (run : IsRunOf image (start_in claim.job claim.start) mid) (log : mid.run.log ≡ job.run.log) (a : Ask) (reply : Reply) (goes : GoesOnBy mid a reply job')
+    (told : AreTold mid.run.log xs → AreTold (mid.run.log ++ (a, reply) ∷ []) xs') where
+  told_on : AreTold job'.run.log xs'
+  told_on =
+      let T : Log → Type 0 = λ l. AreTold l xs in
+      let U : Log → Type 0 = λ l. AreTold l xs' in
+      subst U (sym goes.0) (told (subst T (sym log) tied.told))
+
+  log_on : job'.run.log ≡ job.run.log ++ (a, reply) ∷ []
+  log_on = goes.0 ∙ ap (λ l. l ++ (a, reply) ∷ []) log
+
+  -- a session told it
+  pub tied_talk : (new : Recorded) (claim' : Claimed) → new ≡ old → claim' ≡ claim → IsTied image opening new claim' job' xs'
+  tied_talk new claim' same claims =
+      let here : IsTied image opening old claim job' xs' = record {
+        numbered = tied.numbered;
+        claimed = tied.claimed;
+        row = tied.row;
+        counted = tied.counted;
+        run = goes.1 image (start_in claim.job claim.start) run;
+        told = told_on;
+      } in
+      let P : Recorded → Type 0 = λ r. IsTied image opening r claim job' xs' in
+      let Q : Claimed → Type 0 = λ c. IsTied image opening new c job' xs' in
+      subst Q (sym claims) (subst P (sym same) here)
+
+  -- the system served it
+  abbrev event : Event
+  event = record { job = claim.job; ask = a; reply = reply }
+
+  one_event : events_of claim.job (event ∷ []) ≡ 1
+  one_event = ap (λ b. 0 + cond b 1 0) (eq-eqb claim.job claim.job refl)
+
+  row_on : (row : Row) × (row_at (state_of opening (old.history ++ event ∷ [])).rows claim.job ≡ Some row) × (row.start ≡ claim.start)
+  row_on =
+      let kept = (rows_kept (state_of opening old.history) (event ∷ [])).starts claim.job tied.row.0 tied.row.1 in
+      (kept.0, ap (λ (s : Shared). row_at s.rows claim.job) (state_of_append opening old.history (event ∷ [])) ∙ kept.1, kept.2 ∙ tied.row.2)
+
+  pub tied_share : (new : Recorded) (claim' : Claimed) → new ≡ recorded old claim.job a reply → claim' ≡ record claim { events = claim.events + 1 } → IsTied image opening new claim' job' xs'
+  tied_share new claim' same claims =
+      let here : IsTied image opening (recorded old claim.job a reply) (record claim { events = claim.events + 1 }) job' xs' = record {
+        numbered = tied.numbered;
+        claimed = tied.claimed;
+        row = row_on;
+        counted = ap (λ n. n + 1) tied.counted ∙ sym (events_of_append claim.job old.history (event ∷ []) ∙ ap (λ n. events_of claim.job old.history + n) one_event);
+        run = goes.1 image (start_in claim.job claim.start) run;
+        told = told_on;
+      } in
+      let P : Recorded → Type 0 = λ r. IsTied image opening r (record claim { events = claim.events + 1 }) job' xs' in
+      let Q : Claimed → Type 0 = λ c. IsTied image opening new c job' xs' in
+      subst Q (sym claims) (subst P (sym same) here)
+
+-- which ask it is
+pub same_ask : (pending : Option Ask) (a b : Ask) → pending ≡ Some a → pending ≡ Some b → a ≡ b
+same_ask pending a b p q = let same : Some a ≡ Some b = sym p ∙ q in cc
+
+module _ (image : Loaded) (opening : Shared) (old new : Recorded) (claim claim' : Claimed) (job mid job' : Running) (xs xs' : List Named) (late : Bool)
+    (tied : IsTied image opening old claim job xs) (run : IsRunOf image (start_in claim.job claim.start) mid) (log : mid.run.log ≡ job.run.log)
+    (live : IsLive (state_of opening old.history).rows claim.job)
+    (b : Ask) (pending : mid.run.pending ≡ Some b) (makes : Makes (routines_of image) (start_in claim.job claim.start) mid.run.log b) where
+  abbrev start : Start
+  start = start_in claim.job claim.start
+
+  abbrev Goal : Made → Type 0
+  Goal m = Steps (routines_of image) opening claim.job start late old job.run.log m new job'.run.log × IsTied image opening new claim' job' xs'
+
+  makes_it : (a : Ask) → mid.run.pending ≡ Some a → Makes (routines_of image) start job.run.log a
+  makes_it a is =
+      let P : Ask → Type 0 = λ x. Makes (routines_of image) start mid.run.log x in
+      let Q : Log → Type 0 = λ l. Makes (routines_of image) start l a in
+      subst Q log (subst P (same_ask mid.run.pending b a pending is) makes)
+
+  by_talk : (m : Made) (a : Ask) → mid.run.pending ≡ Some a → is_shared a ≡ false → Talks mid xs a late m job' xs' → new ≡ old → claim' ≡ claim → Goal m
+  by_talk made.Event a is unshared t same claims =
+      let history : new.history ≡ old.history ++ shared_of (record { job = claim.job; ask = a; reply = t.0 } ∷ []) =
+      ap (λ (r : Recorded). r.history) same ∙ sym (append-nil old.history)
+      ∙ sym (ap (λ c. old.history ++ (if c then record { job = claim.job; ask = a; reply = t.0 } ∷ [] else [])) unshared) in (
+        (
+          a,
+          t.0,
+          makes_it a is,
+          live,
+          record { fit = t.1; shared = λ h. absurd (let no : true ≡ false = sym h ∙ unshared in cc); in_time = λ h. t.2 },
+          log_on image opening old claim job mid job' xs xs' tied run log a t.0 t.3 t.4,
+          history,
+        ),
+        tied_talk image opening old claim job mid job' xs xs' tied run log a t.0 t.3 t.4 new claim' same claims,
+      )
+  by_talk (made.Busy holder held) a is unshared t same claims = absurd t
+  by_talk made.NotYet a is unshared t same claims =
+      ((a, makes_it a is, t.0, t.1, same, ap (λ (j : Running). j.run.log) t.2 ∙ log), tied_same image opening old new claim claim' job mid job' xs xs' tied run log same claims t.2 t.3)
+  by_talk made.Unfit a is unshared t same claims =
+      ((a, makes_it a is, same, ap (λ (j : Running). j.run.log) t.0 ∙ log), tied_same image opening old new claim claim' job mid job' xs xs' tied run log same claims t.0 t.1)
+  by_talk made.Ran a is unshared t same claims = absurd t
+  by_talk made.Ended a is unshared t same claims = absurd t
+
+  by_share : (m : Made) (a : Ask) → mid.run.pending ≡ Some a → is_shared a ≡ true → Shares opening old claim mid xs a late m new claim' job' xs' → Goal m
+  by_share made.Event a is shared t =
+      let history : new.history ≡ old.history ++ shared_of (record { job = claim.job; ask = a; reply = t.0 } ∷ []) =
+      ap (λ (r : Recorded). r.history) t.3
+      ∙ sym (ap (λ c. old.history ++ (if c then record { job = claim.job; ask = a; reply = t.0 } ∷ [] else [])) shared) in (
+        (
+          a,
+          t.0,
+          makes_it a is,
+          live,
+          record { fit = t.1; shared = λ h. t.2; in_time = λ h. absurd (let no : true ≡ false = sym shared ∙ h in cc) },
+          log_on image opening old claim job mid job' xs xs' tied run log a t.0 t.5 t.6,
+          history,
+        ),
+        tied_share image opening old claim job mid job' xs xs' tied run log a t.0 t.5 t.6 new claim' t.3 t.4,
+      )
+  by_share (made.Busy holder held) a is shared t =
+      ((a, makes_it a is, t.0, t.1, t.2, ap (λ (j : Running). j.run.log) t.4 ∙ log), tied_same image opening old new claim claim' job mid job' xs xs' tied run log t.2 t.3 t.4 t.5)
+  by_share made.NotYet a is shared t = absurd t
+  by_share made.Unfit a is shared t =
+      ((a, makes_it a is, t.0, ap (λ (j : Running). j.run.log) t.2 ∙ log), tied_same image opening old new claim claim' job mid job' xs xs' tied run log t.0 t.1 t.2 t.3)
+  by_share made.Ran a is shared t = absurd t
+  by_share made.Ended a is shared t = absurd t
+
+  pub stepped : (m : Made) → Tells opening old claim mid xs late m new claim' job' xs' → Goal m
+  stepped m tells = by tells.2 where
+    by : ((is_shared tells.0 ≡ false) × Talks mid xs tells.0 late m job' xs' × (new ≡ old) × (claim' ≡ claim))
+        ⊎ ((is_shared tells.0 ≡ true) × Shares opening old claim mid xs tells.0 late m new claim' job' xs') → Goal m
+    by (inl t) = by_talk m tells.0 tells.1 t.0 t.1 t.2 t.3
+    by (inr t) = by_share m tells.0 tells.1 t.0 t.1
+
+  -- the same of what a call of `ask` gives
+  pub stepped_ok : (r : Result Made Refusal) → IfOk r (λ m. Tells opening old claim mid xs late m new claim' job' xs')
+      → IfOk r (λ m. Steps (routines_of image) opening claim.job start late old job.run.log m new job'.run.log)
+  stepped_ok (Ok m) tells = (stepped m tells).0
+  stepped_ok (Err why) tells = tt
+
+  muted : (why : Refusal) → IsMuted mid late why → IsRefused (routines_of image) start job.run.log late why
+  muted refusals.NotTimed is = (is.0, (is.1.0, makes_it is.1.0 is.1.1, is.1.2))
+  muted refusals.Memory is = tt
+  muted refusals.NoJob is = absurd is
+  muted refusals.Ended is = absurd is
+  muted refusals.Full is = absurd is
+
+  pub stepped_err : (r : Result Made Refusal) → IfErr r (λ why. IsMuted mid late why) → IfErr r (λ why. IsRefused (routines_of image) start job.run.log late why)
+  stepped_err (Ok m) is = tt
+  stepped_err (Err why) is = muted why is
+
+  pub stepped_tied : (r : Result Made Refusal) → IfOk r (λ m. Tells opening old claim mid xs late m new claim' job' xs')
+      → OnErr r ((new ≡ old) × (claim' ≡ claim) × (job' ≡ mid) × (xs' ≡ xs)) → IsTied image opening new claim' job' xs'
+  stepped_tied (Ok m) tells kept = (stepped m tells).1
+  stepped_tied (Err why) tells kept = tied_same image opening old new claim claim' job mid job' xs xs' tied run log kept.0 kept.1 kept.2 kept.3
+
+-- a step lets a job go on for all its turns
+pub fuel_counted : (old new : ℕ) → new ≡ min (old + 10000) (2 ^ 63) → fuel ≤ new
+fuel_counted old new is =
+    let P : ℕ → Type 0 = λ n. fuel ≤ n in
+    let much : 10000 ≤ old + 10000 = omega arith in
+    let little : 10000 ≤ 2 ^ 63 = omega arith in
+    subst P (sym is) (le-min much little)
+
+-- what a job's run needs
+pub needed : (image : Loaded) (start : Start) (run : Run) → Told (routines_of image) start turns.Asks run → (a : Ask) × (run.pending ≡ Some a) × Makes (routines_of image) start run.log a
+needed image start run t = (t.0, t.1, (t.2.0, run.at.state.locals, places run.at.state, t.2.1))
