@@ -1,2 +1,3 @@
 mod Telling
 mod Stepping
+mod Histories
