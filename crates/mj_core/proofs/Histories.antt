@@ -6,7 +6,6 @@ use Rattle.std.proofs.lemmas.Option.{slice_get-map, none-some, same_Some}
 use Rattle.mj_load.specs.Image.{Loaded, routines_of}
 use Rattle.mj_jobs.specs.Rows.{Row, row_at}
 use Rattle.mj_jobvm.specs.Run.{Log, IsTrace, begins}
-use Rattle.mj_ask.specs.Started.{Started}
 use Rattle.mj_dev.specs.Talk.{Stand, beginning, stand_of}
 use Rattle.mj_sessions.specs.Events.{talk_on}
 use Rattle.mj_sessions.specs.Follow.{Follow, AreTalks}
@@ -42,6 +41,18 @@ module _ (image : Loaded) (opening : Shared) (system : Recorded) (slots : List P
   pub none_past : (k : ℕ) → slice_get slots k ≡ None → log_of (suc k) history ≡ []
   none_past k past = silent_past (logs_of slots) k order (slice_get-map (λ (s : Placed). s.job.run.log) slots k ∙ ap (option_map (λ (s : Placed). s.job.run.log)) past)
 
+  -- a slot's job starts as its row says
+  pub starts : (k : ℕ) (slot : Placed) (row : Row) → slice_get slots k ≡ Some slot → row_at (state_of opening history).rows (suc k) ≡ Some row
+      → start_in slot.claim.job slot.claim.start ≡ start_in (suc k) row.start
+  starts k slot row here is =
+      let at = kept.tied k slot here in
+      let claimed = at.placed.row in
+      let row_there : row_at (state_of opening system.history).rows slot.claim.job ≡ Some row =
+      ap (λ (s : Shared). row_at s.rows slot.claim.job) (sym same_state) ∙ ap (λ j. row_at (state_of opening history).rows j) at.numbered ∙ is in
+      let one : claimed.0 ≡ row = same_Some claimed.0 row (sym claimed.1 ∙ row_there) in
+      let start : slot.claim.start ≡ row.start = sym claimed.2 ∙ ap (λ (r : Row). r.start) one in
+      ap (λ j. start_in j slot.claim.start) at.numbered ∙ ap (λ s. start_in (suc k) s) start
+
   trace_at : (job : ℕ) (row : Row) → row_at (state_of opening history).rows job ≡ Some row → IsTrace (routines_of image) (start_in job row.start) (log_of job history)
   trace_at zero row is = absurd (none-some row is)
   trace_at (suc k) row is = by (slice_get slots k) refl where
@@ -49,14 +60,8 @@ module _ (image : Loaded) (opening : Shared) (system : Recorded) (slots : List P
     by None past = subst (λ l. IsTrace (routines_of image) (start_in (suc k) row.start) l) (sym (none_past k past)) begins
     by (Some slot) here =
         let at = kept.tied k slot here in
-        let claimed = at.placed.row in
-        let row_there : row_at (state_of opening system.history).rows slot.claim.job ≡ Some row =
-        ap (λ (s : Shared). row_at s.rows slot.claim.job) (sym same_state) ∙ ap (λ j. row_at (state_of opening history).rows j) at.numbered ∙ is in
-        let one : claimed.0 ≡ row = same_Some claimed.0 row (sym claimed.1 ∙ row_there) in
-        let start : slot.claim.start ≡ row.start = sym claimed.2 ∙ ap (λ (r : Row). r.start) one in
-        let P : ℕ → Type 0 = λ j. IsTrace (routines_of image) (start_in j slot.claim.start) slot.job.run.log in
-        let Q : Started → Type 0 = λ s. IsTrace (routines_of image) (start_in (suc k) s) slot.job.run.log in
-        subst (λ l. IsTrace (routines_of image) (start_in (suc k) row.start) l) (sym at.logged) (subst Q start (subst P at.numbered at.placed.run.1.trace))
+        subst (λ l. IsTrace (routines_of image) (start_in (suc k) row.start) l) (sym at.logged)
+        (subst (λ s. IsTrace (routines_of image) s slot.job.run.log) (starts k slot row here is) at.placed.run.1.trace)
 
   talks_at : (job : ℕ) → AreTalks (log_of job history)
   talks_at zero = subst (λ l. AreTalks l) (sym (silent_zero (logs_of slots) order)) (λ name. (beginning, refl))

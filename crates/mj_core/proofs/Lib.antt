@@ -1,3 +1,4 @@
 mod Telling
 mod Stepping
 mod Histories
+mod Keeping
