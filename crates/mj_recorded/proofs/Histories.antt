@@ -1,10 +1,9 @@
 -- Event by event, a run can be written.
-use Rattle.std.proofs.Common.{◌≡◌, ℕ, zero, suc, Bool, true, false, List, [], ◌∷◌, ◌++◌, Option, Some, None, refl, sym, ap, ◌∙◌, subst}
+use Rattle.std.proofs.Common.{◌≡◌, ℕ, zero, suc, Bool, true, false, List, [], ◌∷◌, ◌++◌, Option, Some, refl, sym, ap, ◌∙◌, subst}
 use Rattle.std.specs.Prelude.{◌==◌, if◌then◌else◌}
 use Rattle.std.specs.List.{list_all}
 use Rattle.std.proofs.lemmas.List.{append_assoc, append-nil}
 use Rattle.std.proofs.lemmas.Bool.{eq-eqb}
-use Rattle.mj_ask.specs.declared.ask.Ask.{Ask}
 use Rattle.mj_ask.specs.declared.ask.Reply.{Reply}
 use Rattle.mj_ask.specs.Started.{Started}
 use Rattle.mj_ask.specs.Fits.{fits, is_shared}
@@ -13,20 +12,18 @@ use Rattle.mj_ask.specs.Formed.{is_ask, is_reply}
 use Rattle.mj_ask.proofs.Lists.{and_true}
 use Rattle.mj_ast.specs.Syntax.{Routine}
 use Rattle.mj_rou.specs.Words.{Each, IsRoutineWorded}
-use Rattle.mj_semantics.specs.Job.{Start}
 use Rattle.mj_written.proofs.Runs.{are_written}
 use Rattle.mj_jobs.specs.Rows.{Row, row_at, IsLive}
-use Rattle.mj_jobvm.specs.Run.{Log, replies_of, IsTrace}
+use Rattle.mj_jobvm.specs.Run.{replies_of}
 use Rattle.mj_sys.specs.declared.event.Event.{Event}
 use Rattle.mj_sys.specs.Shared.{Shared, served}
 use Rattle.mj_sys.specs.History.{History, IsServed, after, state_of, log_of}
-use Rattle.mj_sys.specs.System.{KeepsRows}
 use Rattle.mj_sys.proofs.Replays.{state_with}
 use Rattle.mj_sys.proofs.Rows.{rows_kept, state_of_append, log_of_append}
 use Rattle.mj_events.specs.Happen.{Happens, AllHappen}
 use Rattle.mj_core.specs.Runs.{IsRun, start_in}
 use Rattle.mj_recorded.specs.Laws.{IsWritten, IsStarted, IsFormed}
-use Rattle.mj_recorded.proofs.Traces.{Makes, makes}
+use Rattle.mj_recorded.proofs.Traces.{makes}
 use Rattle.mj_recorded.proofs.Serving.{Tells, one_of, joined, serves, leaves, unshared}
 
 -- a job's replies in a history that can be written

@@ -1,8 +1,7 @@
 -- What is told can be written, and what is shared stays formed.
-use Rattle.std.proofs.Common.{◌≡◌, ℕ, zero, suc, Bool, true, false, ◌||◌, ◌&&◌, cond, List, [], ◌∷◌, ◌++◌, Option, Some, None, refl, sym, subst}
-use Rattle.std.specs.Prelude.{⊤, ℤ, IsTrue, pos, int_le, nat_lt, ◌==◌, slice_get, slice_set, not}
+use Rattle.std.proofs.Common.{◌≡◌, ℕ, zero, suc, Bool, true, false, ◌||◌, cond, List, [], ◌∷◌, ◌++◌, Option, Some, None, refl, sym, subst}
+use Rattle.std.specs.Prelude.{⊤, ℤ, pos, int_le, nat_lt, ◌==◌, slice_get, slice_set}
 use Rattle.std.specs.Str.{bytes_eq}
-use Rattle.mj_subs.specs.Name.{Name}
 use Rattle.mj_store.specs.Runs.{name_of}
 use Rattle.mj_store.specs.declared.access.Access.{Access}
 use Rattle.mj_store.specs.declared.access.Answer.{Answer}
