@@ -8,7 +8,7 @@ use Rattle.mj_txn.specs.declared.changed.Changed.{Changed}
 use Rattle.mj_txn.specs.declared.committing.Outcome.TheVariants as outcome
 use Rattle.mj_txn.specs.Commits.{Hold, Differs, changes_of}
 use Rattle.mj_txn.proofs.Replies.{told_some, exact, changes_seen, none_deep}
-use Rattle.mj_txn.proofs.committing.commit.Goals as goal
+use Rattle.mj_txn.proofs.committing.made.Goals as goal
 
 pub returns-in-Some-clause-exactly : goal.returns-in-Some-clause-exactly
 returns-in-Some-clause-exactly c =
