@@ -12,7 +12,6 @@ use Rattle.mj_store.specs.declared.access.Access.{Access}
 use Rattle.mj_store.specs.declared.access.Access.TheVariants as accesses
 use Rattle.mj_store.specs.declared.access.Answer.{Answer}
 use Rattle.mj_store.specs.declared.access.Answer.TheVariants as answers_are
-use Rattle.mj_ask.specs.Started.{Started}
 use Rattle.mj_ask.specs.Written.{entry_text}
 use Rattle.mj_ask.specs.declared.ask.Kind.{Kind}
 use Rattle.mj_ask.specs.declared.ask.Kind.TheVariants as kinds
