@@ -1,0 +1,5 @@
+pub mod Locals
+pub mod Names
+pub mod States
+pub mod Words
+pub mod Runs

@@ -1,0 +1,95 @@
+-- What a job holds stays formed.
+use Rattle.std.proofs.Common.{◌≡◌, ℕ, zero, suc, ◌-◌, Bool, true, false, not, List, [], ◌∷◌, length, take, drop, Option, Some, None, refl}
+use Rattle.std.specs.Prelude.{ℤ}
+use Rattle.std.specs.List.{list_any, filter}
+use Rattle.std.specs.Option.{unwrap_or}
+use Rattle.std.specs.Str.{bytes_eq}
+use Rattle.mj_subs.specs.Name.{is_word}
+use Rattle.mj_store.specs.Questions.{Subtree}
+use Rattle.mj_store.specs.Changes.{after_set}
+use Rattle.mj_ask.specs.Formed.{is_subtree}
+use Rattle.mj_ast.specs.Routines.{IsName}
+use Rattle.mj_semantics.specs.State.{Locals, Words, Only, Saved, Frame, State, covers, put_back, undone, newed, plain_name, bound, passed, popped, spare, set_test, hold}
+use Rattle.mj_semantics.specs.Sharing.{in_time}
+use Rattle.mj_rou.specs.Words.{Each}
+use Rattle.mj_written.specs.Formed.{are_locals}
+use Rattle.mj_written.proofs.Locals.{set_stays, some_stay, put_in}
+use Rattle.mj_written.proofs.Names.{word_is, local_is}
+
+-- what a NEW saved is formed
+abbrev pub IsSaved : Saved → Type 0
+IsSaved v = are_locals v.locals ≡ true
+
+-- the locals are formed, those that were saved, and what a MERGE has in hand
+pub record IsFormed (s : State) : Type 0 where
+  pub locals : are_locals s.locals ≡ true
+  pub saved : Each IsSaved s.saved
+  pub held : is_subtree s.held ≡ true
+
+first_ones : (k : ℕ) (list : List Saved) → Each IsSaved list → Each IsSaved (take k list)
+first_ones zero list h = tt
+first_ones (suc k) [] h = tt
+first_ones (suc k) (v ∷ list) h = (h.0, first_ones k list h.1)
+
+others : (k : ℕ) (list : List Saved) → Each IsSaved list → Each IsSaved (drop k list)
+others zero list h = h
+others (suc k) [] h = tt
+others (suc k) (v ∷ list) h = others k list h.1
+
+back : (v : Saved) (now : Locals) → IsSaved v → are_locals now ≡ true → are_locals (put_back v now) ≡ true
+back v now h k =
+    put_in (filter (λ e. covers v.words e.0.word) v.locals) (filter (λ e. not (covers v.words e.0.word)) now)
+    (some_stay (covers v.words) v.locals h) (some_stay (λ w. not (covers v.words w)) now k)
+
+undoes : (list : List Saved) (now : Locals) → Each IsSaved list → are_locals now ≡ true → are_locals (undone list now) ≡ true
+undoes [] now h k = k
+undoes (v ∷ list) now h k = undoes list (put_back v now) h.1 (back v now h.0 k)
+
+pub pops : (s : State) → IsFormed s → IsFormed (popped s)
+pops s h = by s.frames
+  where
+    by : (fs : List Frame) → IsFormed (elim fs [
+      | [] ↦ s
+      | f ∷ fs ↦ record s {
+        locals = undone (take (length s.saved - f.height) s.saved) s.locals;
+        saved = drop (length s.saved - f.height) s.saved;
+        test = unwrap_or f.test s.test;
+        frames = fs;
+      }
+    ])
+    by [] = h
+    by (f ∷ fs) = record {
+      locals = undoes (take (length s.saved - f.height) s.saved) s.locals (first_ones (length s.saved - f.height) s.saved h.saved) h.locals;
+      saved = others (length s.saved - f.height) s.saved h.saved;
+      held = h.held;
+    }
+
+pub news : (words : Words) (s : State) → IsFormed s → IsFormed (newed words s)
+news words s h = record {
+  locals = some_stay (λ w. not (covers words w)) s.locals h.locals;
+  saved = (some_stay (covers words) s.locals h.locals, h.saved);
+  held = h.held;
+}
+
+binds : (formals : List (List ℕ)) (vs : List (Option (List ℕ))) (locals : Locals) → Each IsName formals → are_locals locals ≡ true → are_locals (bound formals vs locals) ≡ true
+binds [] vs locals n h = h
+binds (x ∷ xs) [] locals n h = h
+binds (x ∷ xs) (None ∷ vs) locals n h = binds xs vs locals n.1 h
+binds (x ∷ xs) (Some v ∷ vs) locals n h =
+    binds xs vs (after_set locals (plain_name x) v) n.1
+    (set_stays (plain_name x) v locals (local_is (plain_name x) refl (record { word = word_is x n.0; few = refl; filled = refl })) h)
+
+pub passes_on : (formals : List (List ℕ)) (vs : List (Option (List ℕ))) (s : State) → Each IsName formals → IsFormed s → IsFormed (passed formals vs s)
+passes_on formals vs s n h =
+    let k : IsFormed (newed (Only formals) s) = news (Only formals) s h in
+    record { locals = binds formals vs (newed (Only formals) s).locals n k.locals; saved = k.saved; held = k.held }
+
+pub spares : (words : List (List ℕ)) (s : State) → IsFormed s → IsFormed (spare words s)
+spares words s h = record { locals = some_stay (λ w. list_any (bytes_eq w) words) s.locals h.locals; saved = h.saved; held = h.held }
+
+pub holds_on : (nodes : Subtree) (s : State) → is_subtree nodes ≡ true → IsFormed s → IsFormed (hold nodes s)
+holds_on nodes s n h = record { locals = h.locals; saved = h.saved; held = n }
+
+pub times : (timeout : Option ℤ) (b : Bool) (s : State) → IsFormed s → IsFormed (in_time timeout b s)
+times None b s h = h
+times (Some n) b s h = record { locals = h.locals; saved = h.saved; held = h.held }
