@@ -47,7 +47,14 @@ pub fn one(
 fn shown(alloc: Global, job: Job, globals: Globals) -> Result<One, AllocError>
     ensures { IfOk result (λ one. one ≡ record { log = job.run.log; globals = globals; output = output_of job.run.log }) }
 {
-    let output = output(alloc, job.log())?;
+    let output = match output(alloc, job.log()) {
+        Ok(output) => output,
+        Err(refused) => {
+            drop(job);
+            drop(globals);
+            return Err(refused);
+        }
+    };
     Ok(One {
         job,
         globals,

@@ -50,7 +50,11 @@ where
             globals,
             save,
         } => match run_alone(rt, *start, files, *globals) {
-            Ok(ran) => finish(rt, &ran, *save, out, err),
+            Ok(ran) => {
+                let status = finish(rt, &ran, *save, out, err);
+                drop(ran);
+                status
+            }
             Err(stop) => stopped(&stop, err),
         },
         Order::Check { files } => match check(rt, files, out) {
