@@ -2,5 +2,6 @@ pub mod Written
 pub mod Started
 pub mod Formed
 pub mod Fits
+pub mod Late
 pub mod Keeping
 pub mod Fitting

@@ -1,2 +1,4 @@
 mod Telling
 mod Stepping
+mod Histories
+mod Keeping

@@ -14,7 +14,7 @@ use Rattle.mj_jobvm.specs.declared.job.Turn.TheVariants as turns
 use Rattle.mj_jobvm.specs.Told.{Told}
 use Rattle.mj_semantics.specs.State.{places}
 use Rattle.mj_jobvm.specs.Jobs.{Running, IsRunOf}
-use Rattle.mj_sessions.specs.Answers.{is_over}
+use Rattle.mj_ask.specs.Late.{is_over}
 use Rattle.mj_sessions.specs.Named.{Named, AreTold}
 use Rattle.mj_sys.specs.declared.event.Event.{Event}
 use Rattle.mj_sys.specs.Shared.{Shared, served}

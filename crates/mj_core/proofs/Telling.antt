@@ -9,7 +9,8 @@ use Rattle.mj_ask.specs.declared.ask.Reply.TheVariants as replies
 use Rattle.mj_ask.specs.Fits.{fits, is_shared, timeout_of}
 use Rattle.mj_sessions.specs.declared.answer.Answer.{Answer}
 use Rattle.mj_sessions.specs.declared.answer.Answer.TheVariants as answers
-use Rattle.mj_sessions.specs.Answers.{Answers, Asked, Ends, IsEnding, IsReading, is_over}
+use Rattle.mj_ask.specs.Late.{is_over}
+use Rattle.mj_sessions.specs.Answers.{Answers, Asked, Ends, IsEnding, IsReading}
 use Rattle.mj_sessions.specs.Named.{Named, is_named, session_of, with_session}
 use Rattle.mj_dev.specs.Heard.{Heard}
 use Rattle.mj_sys.specs.Shared.{Shared, served}

@@ -10,7 +10,8 @@ use Rattle.mj_semantics.specs.Outcome as outcomes
 use Rattle.mj_semantics.specs.Job.{Start, next}
 use Rattle.mj_jobs.specs.Rows.{Row, row_at, IsLive}
 use Rattle.mj_jobvm.specs.Run.{Log, replies_of, GoesOn, HasEnded}
-use Rattle.mj_sessions.specs.Answers.{IsReading, is_over}
+use Rattle.mj_ask.specs.Late.{is_over}
+use Rattle.mj_sessions.specs.Answers.{IsReading}
 use Rattle.mj_sys.specs.declared.event.Event.{Event}
 use Rattle.mj_sys.specs.Shared.{Shared, served}
 use Rattle.mj_sys.specs.History.{History, state_of, log_of}

@@ -11,7 +11,8 @@ use Rattle.mj_load.specs.Image.{Loaded}
 use Rattle.mj_jobs.specs.Rows.{Row, row_at, IsLive}
 use Rattle.mj_jobvm.specs.Run.{Log, GoesOn, HasEnded}
 use Rattle.mj_jobvm.specs.Jobs.{Running, IsRunOf}
-use Rattle.mj_sessions.specs.Answers.{IsReading, is_over}
+use Rattle.mj_ask.specs.Late.{is_over}
+use Rattle.mj_sessions.specs.Answers.{IsReading}
 use Rattle.mj_sessions.specs.Named.{Named, Roomy, session_of, AreTold}
 use Rattle.mj_sys.specs.declared.event.Event.{Event}
 use Rattle.mj_sys.specs.Shared.{Shared, served}

@@ -1,2 +1,3 @@
 pub mod Happen
 pub mod Weave
+pub mod Logs

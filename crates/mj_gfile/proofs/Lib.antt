@@ -3,4 +3,5 @@ pub mod Longer
 pub mod Joined
 pub mod Lines
 pub mod Nodes
+mod Global
 pub mod InOrder

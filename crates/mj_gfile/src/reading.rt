@@ -1,6 +1,7 @@
 // Listings are read.
 
-ghost use Rattle.std.specs.Prelude.{◌≡◌, ◌+◌, ◌<◌, ◌^◌, ◌⊎◌, None, length, IfOk, IfErr, Ok, Err};
+ghost use Rattle.std.specs.Prelude.{◌≡◌, ◌+◌, ◌<◌, ◌^◌, ◌⊎◌, true, None, length, IfOk, IfErr, Ok, Err};
+ghost use Rattle.std.specs.List.{list_all};
 ghost use Rattle.mj_gfile.specs.declared.error.ReadError.TheVariants as error;
 ghost use Rattle.mj_store.specs.Questions.{Content};
 ghost use Rattle.mj_gfile.specs.Spelling.{listing_of};
@@ -19,6 +20,7 @@ pub fn read(alloc: Global, bytes: &[u8]) -> Result<Globals, ReadError>
     ensures ok { IfOk result (λ globals. reading_of bytes.now ≡ Ok globals) }
     ensures err { IfErr result (λ e. (e ≡ error.Memory) ⊎ (reading_of bytes.now ≡ Err e)) }
     ensures lists { IfOk result (λ globals. (bytes.now ≡ listing_of globals) × AreGlobals globals) }
+    ensures global { IfOk result (λ globals. list_all (λ e. e.0.global) globals ≡ true) }
     ensures all { (content : Content) → bytes.now ≡ listing_of content → AreGlobals content → IfErr result (λ e. e ≡ error.Memory) }
 {
     read_lines(alloc, bytes)

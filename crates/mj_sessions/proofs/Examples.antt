@@ -12,7 +12,7 @@ use Rattle.mj_dev.specs.declared.talk.State.TheVariants as states
 use Rattle.mj_dev.specs.Talk.{Exchange, Begun, Written, LineRead, ByteRead, Ended, beginning}
 use Rattle.mj_sessions.specs.Events.{Log, talk_on}
 use Rattle.mj_sessions.specs.Follow.{Follow, taken_by, output_of_log}
-use Rattle.mj_sessions.specs.Answers.{is_over}
+use Rattle.mj_ask.specs.Late.{is_over}
 
 abbrev zero : List ℕ
 zero = codes "0"

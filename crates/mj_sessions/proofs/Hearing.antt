@@ -15,7 +15,8 @@ use Rattle.mj_dev.specs.Heard.{Heard, Begins, Writes, Lines, Bytes, Firsts}
 use Rattle.mj_dev.specs.Did.{IsAnswered}
 use Rattle.mj_dev.specs.declared.talk.State.{State}
 use Rattle.mj_dev.specs.Talk.{Exchange, Begun, Written, LineRead, ByteRead, Ended, Talks, Goes, Allows, stand_of}
-use Rattle.mj_sessions.specs.Answers.{Hears, IsEnding, is_over, answer_to, answer_to_line, answer_to_byte}
+use Rattle.mj_ask.specs.Late.{is_over}
+use Rattle.mj_sessions.specs.Answers.{Hears, IsEnding, answer_to, answer_to_line, answer_to_byte}
 
 module _ (device : List ℕ) (old new : Heard) (usable : old.state ≡ states.Open) where
   pub begun : (late : Bool) (d : Did) → Begins old d new → Hears old (asks.DeviceBegin device) late (answer_to d) new

@@ -1,10 +1,11 @@
 -- What comes of an ask that a job's own sessions serve, or none.
-use Rattle.std.specs.Prelude.{◌≡◌, ℕ, ℤ, int_le, pos, List, Bool, true, false, ◌||◌, Option, Some, None, ◌⊎◌, if◌then◌else◌}
+use Rattle.std.specs.Prelude.{◌≡◌, ℕ, List, Bool, true, false, Option, Some, None, ◌⊎◌, if◌then◌else◌}
 use Rattle.mj_ask.specs.declared.ask.Ask.{Ask}
 use Rattle.mj_ask.specs.declared.ask.Ask.TheVariants as asks
 use Rattle.mj_ask.specs.declared.ask.Reply.{Reply}
 use Rattle.mj_ask.specs.declared.ask.Reply.TheVariants as replies
 use Rattle.mj_ask.specs.Fits.{fits, timeout_of}
+use Rattle.mj_ask.specs.Late.{is_over}
 use Rattle.mj_dev.specs.declared.device.Did.{Did}
 use Rattle.mj_dev.specs.declared.device.Did.TheVariants as did
 use Rattle.mj_dev.specs.declared.device.Input.{Input}
@@ -32,10 +33,6 @@ IsCall (asks.DeviceWrite device bytes) = Unit {0}
 IsCall (asks.DeviceLine device timeout) = Unit {0}
 IsCall (asks.DeviceByte device timeout) = Unit {0}
 IsCall _ = ⊥
-
--- a timeout is over: it is 0 or less, or the job was stepped late
-abbrev pub is_over : Option ℤ → Bool → Bool
-is_over timeout late = elim timeout [ None ↦ false | Some t ↦ late || int_le t (pos 0) ]
 
 -- what is told of a call that reads nothing
 abbrev pub answer_to : Did → Answer

@@ -1,7 +1,8 @@
 // What comes of an ask to a session.
 
 ghost use Rattle.std.specs.Prelude.{◌≡◌};
-ghost use Rattle.mj_sessions.specs.Answers.{is_over, answer_to, answer_to_line, answer_to_byte, not_yet};
+ghost use Rattle.mj_ask.specs.Late.{is_over};
+ghost use Rattle.mj_sessions.specs.Answers.{answer_to, answer_to_line, answer_to_byte, not_yet};
 
 use mj_ask::Reply;
 use mj_dev::{Code, Did, Input};

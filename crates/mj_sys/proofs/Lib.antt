@@ -1,6 +1,7 @@
 pub mod Examples
 pub mod Fitting
 mod Each
+mod Global
 mod Opens
 mod Serving
 mod Placed

@@ -7,7 +7,8 @@ use Rattle.mj_ask.specs.declared.ask.Reply.{Reply}
 use Rattle.mj_ask.specs.declared.ask.Reply.TheVariants as replies
 use Rattle.mj_dev.specs.Shelves.{principal}
 use Rattle.mj_sys.specs.Devices.{Device, device_at, with_device, opened_by, holder_of}
-use Rattle.mj_sys.specs.Shared.{Shared, served, takes_session, is_over}
+use Rattle.mj_ask.specs.Late.{is_over}
+use Rattle.mj_sys.specs.Shared.{Shared, served, takes_session}
 use Rattle.mj_sys.specs.Kept.{Service, Comes}
 use Rattle.mj_sys.specs.declared.served.Held.TheVariants as helds
 use Rattle.mj_sys.specs.declared.shared.Outcome.TheVariants as outcomes

@@ -21,10 +21,12 @@ use Rattle.mj_locktab.specs.Locks.{Locks, LocksApart}
 use Rattle.mj_locktab.specs.Tries.{outcome_of, after_try}
 use Rattle.mj_sys.specs.declared.event.Event.{Event}
 use Rattle.mj_sys.specs.Devices.{Device, device_at}
-use Rattle.mj_sys.specs.Shared.{Shared, is_over, busy, tried, open_free, open_known, served}
+use Rattle.mj_ask.specs.Late.{is_over}
+use Rattle.mj_sys.specs.Shared.{Shared, are_global, busy, tried, open_free, open_known, served}
 use Rattle.mj_sys.specs.History.{History, left_by, after, state_of, IsServed, AreServed, events_of, log_of}
 use Rattle.mj_sys.specs.System.{Recorded, IsKept, AreCounts, history_limit}
 use Rattle.mj_sys.specs.Told.{recorded}
+use Rattle.mj_sys.proofs.Global.{stays_global}
 use Rattle.mj_sys.proofs.Opens.{same_job, other_job}
 
 pub yes_no : ◌≡◌ {A = Bool} true false → ⊥
@@ -168,6 +170,7 @@ module _ (opening state : Shared) (old : Recorded) (job : ℕ) (ask : Ask) (late
       record {
         replay = replayed;
         served = served_with opening old.history event kept.served (subst (λ s. IsServed s event) kept.replay here);
+        global = subst (λ (s : Shared). are_global s.globals ≡ true) (left state job ask late reply new told) (stays_global state kept.global job ask);
         apart = apart;
         unclaimed = λ other above. log_with other old.history event
             ∙ nothing (log_of other old.history) (log_of other (event ∷ [])) (kept.unclaimed other above) (not_of other event (λ same. omega (arith, mine, above, same)));
@@ -226,6 +229,7 @@ module _ (opening state : Shared) (counts : List ℕ) (seen : Recorded) (kept : 
   kept_wider new same = record {
     replay = same ∙ kept.replay;
     served = kept.served;
+    global = subst (λ (s : Shared). are_global s.globals ≡ true) (sym same) kept.global;
     apart = subst (λ (s : Shared). LocksApart s.locks) (sym same) kept.apart;
     unclaimed = λ job above. kept.unclaimed job (omega (arith, above, next));
     within = kept.within;

@@ -1,10 +1,12 @@
 -- What all jobs share, and how it answers.
-use Rattle.std.specs.Prelude.{ℕ, ◌+◌, ℤ, int_le, pos, nat_lt, ◌==◌, List, [], ◌∷◌, ◌++◌, Bool, false, ◌&&◌, ◌||◌, Option, Some, None, length, is_none, if◌then◌else◌}
+use Rattle.std.specs.Prelude.{ℕ, ◌+◌, ℤ, nat_lt, ◌==◌, List, [], ◌∷◌, ◌++◌, Bool, false, ◌&&◌, Option, Some, None, length, is_none, if◌then◌else◌}
 use Rattle.std.specs.Str.{bytes_eq}
+use Rattle.std.specs.List.{list_all}
 use Rattle.mj_store.specs.Questions.{Content}
 use Rattle.mj_store.specs.Runs.{name_of, answer_of, after_access}
 use Rattle.mj_store.specs.declared.access.Access.{Access}
 use Rattle.mj_ask.specs.Started.{Started}
+use Rattle.mj_ask.specs.Late.{is_over}
 use Rattle.mj_ask.specs.declared.ask.Ask.{Ask}
 use Rattle.mj_ask.specs.declared.ask.Ask.TheVariants as asks
 use Rattle.mj_ask.specs.declared.ask.Reply.{Reply}
@@ -25,13 +27,13 @@ pub record Shared : Type 0 where
   pub devices : Devices
   pub rows : List Row
 
--- an ask that is busy is told that it is late where it has a timeout that is over: it is 0 or less, or the job was stepped late. Else it
--- is told nothing yet
-abbrev pub is_over : Option ℤ → Bool → Bool
-is_over timeout late = elim timeout [ None ↦ false | Some t ↦ late || int_le t (pos 0) ]
-
+-- an ask that is busy is told that it is late where its timeout is over. Else it is told nothing yet
 abbrev pub busy : Shared → Option ℤ → Bool → Option (Reply × Shared)
 busy s timeout late = if is_over timeout late then Some (replies.Late, s) else None
+
+-- only names of globals have texts there. So a local name is absent from it
+abbrev pub are_global : Content → Bool
+are_global content = list_all (λ e. e.0.global) content
 
 -- the globals after an access: only a global's name is changed
 abbrev pub changed : Access → Content → Content

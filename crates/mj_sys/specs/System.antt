@@ -1,5 +1,5 @@
 -- What is seen of the system, and what its type keeps.
-use Rattle.std.specs.Prelude.{◌≡◌, ℕ, suc, ◌<◌, ◌≤◌, List, length, [], Some}
+use Rattle.std.specs.Prelude.{◌≡◌, ℕ, suc, ◌<◌, ◌≤◌, List, length, [], Some, true}
 use Rattle.std.specs.List.{slice_index_or}
 use Rattle.mj_ask.specs.Started.{Started}
 use Rattle.mj_ask.specs.declared.ask.Ask.{Ask}
@@ -10,7 +10,7 @@ use Rattle.mj_locktab.specs.Tries.{IsInTheWay}
 use Rattle.mj_sys.specs.declared.served.Held.{Held}
 use Rattle.mj_sys.specs.declared.served.Held.TheVariants as helds
 use Rattle.mj_sys.specs.Devices.{holder_of}
-use Rattle.mj_sys.specs.Shared.{Shared}
+use Rattle.mj_sys.specs.Shared.{Shared, are_global}
 use Rattle.mj_sys.specs.History.{History, state_of, AreServed, events_of, log_of}
 
 -- the most events of a history (this profile)
@@ -28,11 +28,12 @@ pub record Claimed : Type 0 where
   pub start : Started
   pub events : ℕ
 
--- What is shared is what the history leaves, each event of which was served; no name of one job overlaps a name of another; and a row
--- that isn't claimed has no events.
+-- What is shared is what the history leaves, each event of which was served; only names of globals have texts in it; no name of one job
+-- overlaps a name of another; and a row that isn't claimed has no events.
 pub record IsKept (opening state : Shared) (seen : Recorded) : Type 0 where
   pub replay : state ≡ state_of opening seen.history
   pub served : AreServed opening seen.history
+  pub global : are_global state.globals ≡ true
   pub apart : LocksApart state.locks
   pub unclaimed : (job : ℕ) → seen.claimed < job → log_of job seen.history ≡ []
   pub within : length seen.history ≤ history_limit

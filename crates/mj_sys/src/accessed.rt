@@ -14,8 +14,8 @@ use mj_subs::{Name, SUBSCRIPT_LIMIT, Subs};
 use mj_text::{Failure, Fault, Text};
 use std::alloc::AllocError;
 
-// What an access is told, once for the job and once for the history. A local name has no place in globals: it is absent there, and to change
-// it is done without a change.
+// What an access is told, once for the job and once for the history. A local name has no place in what is shared, and to change it is done
+// without a change.
 pub fn answer(globals: &mut Globals, access: &Access) -> Result<(Reply, Reply), AllocError>
     ensures told { IfOk result (λ told. told ≡ (replies.Answer (answer_of access.now globals.old), replies.Answer (answer_of access.now globals.old))) }
     ensures after { OnOk result (globals.new ≡ changed access.now globals.old) }

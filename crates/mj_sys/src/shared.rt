@@ -3,6 +3,7 @@
 ghost use Rattle.std.specs.Prelude.{◌≡◌, ◌+◌, ◌≤◌, ◌↔◌, ℤ, length, map, replicate, true, None, Some, if◌then◌else◌, IfOk, IfErr, OnErr, IfSome, IfNone, IsTrue};
 ghost use Rattle.std.specs.Str.{bytes_eq};
 ghost use Rattle.mj_ask.specs.Fits.{is_shared};
+ghost use Rattle.mj_ask.specs.Late.{is_over};
 ghost use Rattle.mj_ask.specs.declared.ask.Ask.TheVariants as asks;
 ghost use Rattle.mj_dev.specs.Heard.{IsNew};
 ghost use Rattle.mj_dev.specs.Shelves.{principal, left_of};
@@ -10,7 +11,7 @@ ghost use Rattle.mj_jobs.specs.Rows.{Row, row_at, IsLive};
 ghost use Rattle.mj_locktab.specs.Locks.{LocksApart};
 ghost use Rattle.mj_ask.specs.declared.ask.Reply.TheVariants as replies;
 ghost use Rattle.mj_sys.specs.Devices.{with_device, closed_by};
-ghost use Rattle.mj_sys.specs.Shared.{is_over, halted};
+ghost use Rattle.mj_sys.specs.Shared.{halted};
 ghost use Rattle.mj_sys.specs.declared.shared.Outcome.TheVariants as outcomes;
 ghost use Rattle.mj_sys.specs.Opening.{opening_of};
 ghost use Rattle.mj_sys.specs.Kept.{Comes, without};

@@ -7,6 +7,7 @@ ghost use Rattle.mj_dev.specs.Shelves.{principal, left_of};
 ghost use Rattle.mj_jobs.specs.Rows.{Row, row_at, IsLive, rows_limit};
 ghost use Rattle.mj_locktab.specs.Locks.{LocksApart};
 ghost use Rattle.mj_sys.specs.Opening.{opening_of};
+ghost use Rattle.mj_sys.specs.Shared.{are_global};
 ghost use Rattle.mj_sys.specs.History.{state_of, AreServed, events_of, log_of};
 ghost use Rattle.mj_sys.specs.System.{history_limit, KeepsRows};
 ghost use Rattle.mj_sys.specs.Told.{Serves, IsRefused, IsTurn};
@@ -51,7 +52,8 @@ impl<D: Device, O: Opening> Model for System<D, O> {
 }
 
 impl<D: Device, O: Opening> System<D, O> {
-    /// A system with no events yet, and a row for each of the starts. At want of memory all comes back that it was to be made of.
+    /// A system with no events yet, and a row for each of the starts. Only names of globals may have texts in its globals, as in those that
+    /// a listing of globals gives. At want of memory all comes back that it was to be made of.
     pub fn new(
         alloc: Global,
         globals: Globals,
@@ -59,6 +61,7 @@ impl<D: Device, O: Opening> System<D, O> {
         starts: Vec<Start>,
     ) -> Result<System<D, O>, Unmade<D>>
         requires opening { opening_of globals pool starts.items ≡ O.opening }
+        requires global { are_global globals ≡ true }
         requires some { 1 ≤ length starts.items }
         requires few { length starts.items ≤ rows_limit }
         requires fits { length starts.items ≤ left_of principal pool }
@@ -94,8 +97,9 @@ impl<D: Device, O: Opening> System<D, O> {
     }
 
     /// Serves an ask of a claim's job. Where it is busy for another job, and has a timeout that is over, or is said to be `late`, it is told
-    /// that it is late. What can be refused is refused in this order: a claim that has no row here, whose job has ended or has another number of
-    /// events, a history that is full, and memory; then nothing changes.
+    /// that it is late. What can be refused is refused in this order: a claim whose row wasn't claimed here, whose job has ended or has another
+    /// number of events, a history that is full, and memory; then nothing changes. A claim doesn't know whose it is: one of another system is
+    /// refused only where it is told apart by these.
     pub fn serve(
         &mut self,
         claim: &mut Claim,
@@ -144,9 +148,11 @@ impl<D: Device, O: Opening> System<D, O> {
         &self.history
     }
 
-    /// The globals: those that the history leaves.
+    /// The globals: those that the history leaves. Only names of globals have texts there, so that a question on a local name is answered as
+    /// on one without a text.
     pub fn globals(&self) -> &Globals
-        ensures { result.now ≡ (state_of O.opening self.now.history).globals }
+        ensures which { result.now ≡ (state_of O.opening self.now.history).globals }
+        ensures global { are_global result.now ≡ true }
     {
         self.shared.globals()
     }

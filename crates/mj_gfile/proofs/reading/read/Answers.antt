@@ -1,5 +1,6 @@
 -- What is read is what is listed.
 use Rattle.mj_gfile.specs.Laws.Listings.{lists_them, lists_all}
+use Rattle.mj_gfile.proofs.Global.{all_global}
 use Rattle.mj_gfile.proofs.reading.read.Goals as goal
 
 pub returns-clause-lists : goal.returns-clause-lists
@@ -7,3 +8,6 @@ returns-clause-lists c = lists_them c.args.bytes.now c.read_lines.result c.read_
 
 pub returns-clause-all : goal.returns-clause-all
 returns-clause-all c = lists_all c.args.bytes.now c.read_lines.result c.read_lines.ensures.err
+
+pub returns-clause-global : goal.returns-clause-global
+returns-clause-global c = all_global c.args.bytes.now c.read_lines.result (lists_them c.args.bytes.now c.read_lines.result c.read_lines.ensures.ok)

@@ -1,0 +1,60 @@
+-- What a core keeps.
+use Rattle.std.specs.Prelude.{◌≡◌, ℕ, zero, suc, ◌≤◌, List, [], ◌∷◌, length, map, slice_get, Option, Some, None}
+use Rattle.std.specs.Option.{is_some}
+use Rattle.mj_ask.specs.declared.ask.Ask.{Ask}
+use Rattle.mj_ask.specs.declared.ask.Reply.{Reply}
+use Rattle.mj_load.specs.Image.{Loaded}
+use Rattle.mj_jobs.specs.Rows.{Row, row_at}
+use Rattle.mj_sessions.specs.Named.{Named, session_of}
+use Rattle.mj_sys.specs.declared.event.Event.{Event}
+use Rattle.mj_sys.specs.Shared.{Shared}
+use Rattle.mj_sys.specs.History.{History, state_of, log_of}
+use Rattle.mj_sys.specs.System.{Recorded, Claimed, history_limit}
+use Rattle.mj_events.specs.declared.happened.Happened.{Happened}
+use Rattle.mj_events.specs.Happen.{AllHappen, shared_of}
+use Rattle.mj_events.specs.Woven.{Logs, woven, AreThere}
+use Rattle.mj_core.specs.Having.{has_session}
+use Rattle.mj_core.specs.Ties.{Placed, IsPlaced}
+
+-- the logs of jobs
+abbrev pub logs_of : List Placed → Logs
+logs_of slots = map (λ s. s.job.run.log) slots
+
+-- for so many jobs the turns that each was let go on for since its last reply: one without a slot for none
+abbrev pub turns_of : ℕ → List Placed → List ℕ
+turns_of zero slots = []
+turns_of (suc n) [] = 0 ∷ turns_of n []
+turns_of (suc n) (slot ∷ slots) = slot.job.run.spent ∷ turns_of n slots
+
+-- as many rows were claimed as have a slot; and one more, where it waits for it, by a claim that has had no event
+abbrev pub IsClaimed : Shared → Recorded → ℕ → Option Claimed → Type 0
+IsClaimed opening system n None = system.claimed ≡ n
+IsClaimed opening system n (Some claim) =
+    (system.claimed ≡ suc n) × (claim.job ≡ suc n) × (claim.events ≡ 0)
+    × ((row : Row) × (row_at (state_of opening system.history).rows claim.job ≡ Some row) × (row.start ≡ claim.start))
+
+-- a job has just the sessions that its history says
+abbrev pub AreHeld : Shared → ℕ → History → List Named → Type 0
+AreHeld opening job history xs = (name : List ℕ) → is_some (session_of name xs) ≡ has_session opening job name history
+
+-- a slot is that of this job, tied to the system, and the history of all jobs has its log, and says which sessions it has
+pub record IsAt (image : Loaded) (opening : Shared) (system : Recorded) (history : History) (job : ℕ) (slot : Placed) : Type 0 where
+  pub numbered : slot.claim.job ≡ job
+  pub placed : IsPlaced image opening system slot
+  pub logged : log_of job history ≡ slot.job.run.log
+  pub held : AreHeld opening job history slot.sessions.sessions
+
+-- The history that is woven of the jobs' logs has what the system served; each slot is that of the job at its place; each event of it came where it
+-- could; and the jobs of the first rows, which were claimed, have a slot, but for one that may wait for it.
+pub record AreKept (image : Loaded) (opening : Shared) (system : Recorded) (slots : List Placed) (waiting : Option Claimed) (order : List Happened) : Type 0 where
+  pub history : shared_of (woven (logs_of slots) order) ≡ system.history
+  pub tied : (k : ℕ) (slot : Placed) → slice_get slots k ≡ Some slot → IsAt image opening system (woven (logs_of slots) order) (suc k) slot
+  pub happen : AllHappen opening (woven (logs_of slots) order)
+  pub there : AreThere (logs_of slots) order
+  pub claimed : IsClaimed opening system (length slots) waiting
+  pub within : length order ≤ history_limit
+
+-- an event as it is shown: its job, what that asked, and what it was told
+abbrev pub shown_event : Option (ℕ × Ask × Reply) → Option Event
+shown_event None = None
+shown_event (Some e) = Some (record { job = e.0; ask = e.1; reply = e.2 })

@@ -1,0 +1,33 @@
+-- What is seen of many jobs on one thread.
+use Rattle.std.specs.Prelude.{ℕ, zero, suc, List, Bool, true, false, slice_set}
+use Rattle.std.specs.List.{slice_index_or}
+use Rattle.mj_load.specs.Image.{Loaded}
+use Rattle.mj_sys.specs.History.{History}
+
+-- The routines; the history of all events; and for each job that there may be, the first job first, whether a step saw its end, and how many turns
+-- its steps let it go on for since its last reply.
+pub record Shown : Type 0 where
+  pub image : Loaded
+  pub history : History
+  pub over : List Bool
+  pub spent : List ℕ
+
+-- whether the end of a job was seen
+abbrev pub was_over : List Bool → ℕ → Bool
+was_over over zero = false
+was_over over (suc k) = slice_index_or over k false
+
+-- the end of a job was seen now
+abbrev pub with_over : List Bool → ℕ → List Bool
+with_over over zero = over
+with_over over (suc k) = slice_set over k true
+
+-- the turns that a job was let go on for
+abbrev pub spent_by : List ℕ → ℕ → ℕ
+spent_by spent zero = 0
+spent_by spent (suc k) = slice_index_or spent k 0
+
+-- a job was let go on for so many turns
+abbrev pub with_spent : List ℕ → ℕ → ℕ → List ℕ
+with_spent spent zero turns = spent
+with_spent spent (suc k) turns = slice_set spent k turns

@@ -1,0 +1,150 @@
+-- Only names of globals have texts in what is shared, whatever is served.
+use Rattle.std.proofs.Common.{◌≡◌, ℕ, ◌==◌, Bool, true, false, cond, ◌&&◌, List, [], ◌∷◌, length, ◌+◌, ◌++◌, Option, Some, None, refl}
+use Rattle.std.specs.Prelude.{ℤ, nat_lt}
+use Rattle.std.specs.Str.{bytes_eq}
+use Rattle.std.specs.Option.{is_none}
+use Rattle.std.specs.declared.cmp.Ordering.{Ordering}
+use Rattle.std.specs.declared.cmp.Ordering.TheVariants.{Less, Equal, Greater}
+use Rattle.std.specs.FinMap.{put}
+use Rattle.std.specs.FinMap.Entries.{by_order}
+use Rattle.mj_subs.specs.Name.{Name}
+use Rattle.mj_subs.specs.Collation.{name_cmp}
+use Rattle.mj_store.specs.Questions.{Content, Subtree, rest_of}
+use Rattle.mj_store.specs.Changes.{after_set, after_kill, followed_by, after_put, is_too_deep}
+use Rattle.mj_store.specs.Runs.{name_of, after_access}
+use Rattle.mj_store.specs.declared.access.Access.{Access}
+use Rattle.mj_store.specs.declared.access.Access.TheVariants as accesses
+use Rattle.mj_ask.specs.Started.{Started}
+use Rattle.mj_ask.specs.Late.{is_over}
+use Rattle.mj_ask.specs.declared.ask.Ask.{Ask}
+use Rattle.mj_ask.specs.declared.ask.Ask.TheVariants as asks
+use Rattle.mj_ask.specs.declared.ask.Reply.{Reply}
+use Rattle.mj_ask.specs.declared.ask.Reply.TheVariants as replies
+use Rattle.mj_dev.specs.Shelves.{principal}
+use Rattle.mj_jobs.specs.Rows.{opened}
+use Rattle.mj_locktab.specs.declared.taken.Taken.{Taken}
+use Rattle.mj_locktab.specs.declared.taken.Taken.TheVariants as takes
+use Rattle.mj_locktab.specs.Locks.{Locks}
+use Rattle.mj_locktab.specs.Tries.{outcome_of, after_try}
+use Rattle.mj_sys.specs.Devices.{Device, device_at, with_device, opened_by}
+use Rattle.mj_sys.specs.Shared.{Shared, are_global, changed, busy, tried, open_free, open_known, has_room, served}
+use Rattle.mj_sys.specs.History.{left_by}
+
+-- ---- what an access to a global leaves
+
+both_true : (a b : Bool) → (a && b) ≡ true → (a ≡ true) × (b ≡ true)
+both_true true b e = (refl, e)
+both_true false b e = absurd cc
+
+and_true : (a b : Bool) → a ≡ true → b ≡ true → (a && b) ≡ true
+and_true a b p q = λ i. p i && q i
+
+set_global : (n : Name) (text : List ℕ) (es : Content) → n.global ≡ true → are_global es ≡ true → are_global (put name_cmp n text es) ≡ true
+set_global n text [] g h = and_true n.global true g refl
+set_global n text (e ∷ es) g h =
+    let k = both_true e.0.global (are_global es) h in
+    by (name_cmp n e.0) k (set_global n text es g k.1)
+  where
+    by : (o : Ordering) → (e.0.global ≡ true) × (are_global es ≡ true) → are_global (put name_cmp n text es) ≡ true
+        → are_global (by_order o ((n, text) ∷ e ∷ es) ((e.0, text) ∷ es) (e ∷ put name_cmp n text es)) ≡ true
+    by Less k next = and_true n.global (e.0.global && are_global es) g (and_true e.0.global (are_global es) k.0 k.1)
+    by Equal k next = and_true e.0.global (are_global es) k.0 k.1
+    by Greater k next = and_true e.0.global (are_global (put name_cmp n text es)) k.0 next
+
+kill_global : (n : Name) (es : Content) → are_global es ≡ true → are_global (after_kill es n) ≡ true
+kill_global n [] h = refl
+kill_global n (e ∷ es) h =
+    let k = both_true e.0.global (are_global es) h in
+    by (is_none (rest_of n e.0)) k.0 (kill_global n es k.1)
+  where
+    by : (b : Bool) → e.0.global ≡ true → are_global (after_kill es n) ≡ true → are_global (cond b (e ∷ after_kill es n) (after_kill es n)) ≡ true
+    by true g next = and_true e.0.global (are_global (after_kill es n)) g next
+    by false g next = next
+
+put_global : (n : Name) (nodes : Subtree) (es : Content) → n.global ≡ true → are_global es ≡ true → are_global (after_put es n nodes) ≡ true
+put_global n [] es g h = h
+put_global n (e ∷ nodes) es g h = put_global n nodes (after_set es (followed_by n e.0) e.1) g (set_global (followed_by n e.0) e.1 es g h)
+
+if_deep : (b : Bool) (n : Name) (nodes : Subtree) (es : Content) → n.global ≡ true → are_global es ≡ true → are_global (cond b es (after_put es n nodes)) ≡ true
+if_deep true n nodes es g h = h
+if_deep false n nodes es g h = put_global n nodes es g h
+
+pub access_global : (a : Access) (es : Content) → (name_of a).global ≡ true → are_global es ≡ true → are_global (after_access a es) ≡ true
+access_global (accesses.Value n) es g h = h
+access_global (accesses.Data n) es g h = h
+access_global (accesses.Order n way) es g h = h
+access_global (accesses.Query n) es g h = h
+access_global (accesses.Subtree n) es g h = h
+access_global (accesses.Set n text) es g h = set_global n text es g h
+access_global (accesses.Kill n) es g h = kill_global n es h
+access_global (accesses.Put n nodes) es g h = if_deep (is_too_deep n nodes) n nodes es g h
+
+changed_global : (a : Access) (es : Content) → are_global es ≡ true → are_global (changed a es) ≡ true
+changed_global a es h = by ((name_of a).global) refl where
+  by : (b : Bool) → (name_of a).global ≡ b → are_global (cond b (after_access a es) es) ≡ true
+  by true e = access_global a es e h
+  by false e = h
+
+-- ---- what an ask leaves
+
+module _ (s : Shared) (h : are_global s.globals ≡ true) where
+  abbrev Stays : Option (Reply × Shared) → Type 0
+  Stays o = are_global (left_by s o).globals ≡ true
+
+  by_busy : (timeout : Option ℤ) → Stays (busy s timeout true)
+  by_busy timeout = by (is_over timeout true) where
+    by : (b : Bool) → Stays (cond b (Some (replies.Late, s)) None)
+    by true = h
+    by false = h
+
+  by_try : (job : ℕ) (timeout : Option ℤ) (taken : Taken) (locks : Locks) → Stays (tried s job timeout true taken locks)
+  by_try job timeout takes.Got locks = h
+  by_try job timeout (takes.Busy holder name) locks = by_busy timeout
+  by_try job timeout takes.Limit locks = h
+
+  by_free : (b : Bool) (job : ℕ) (name : List ℕ)
+      → Stays (Some (cond b (replies.Got, record s { devices = with_device s.devices name (opened_by job) }) (replies.NoSession, s)))
+  by_free true job name = h
+  by_free false job name = h
+
+  by_held : (b : Bool) (timeout : Option ℤ) → Stays (cond b (Some (replies.Got, s)) (busy s timeout true))
+  by_held true timeout = h
+  by_held false timeout = by_busy timeout
+
+  by_known : (job : ℕ) (name : List ℕ) (timeout : Option ℤ) (d : Device) (holder : Option ℕ)
+      → Stays (elim holder [ None ↦ Some (open_free s job name d) | Some k ↦ cond (k == job) (Some (replies.Got, s)) (busy s timeout true) ])
+  by_known job name timeout d None = by_free (nat_lt d.taken d.sessions) job name
+  by_known job name timeout d (Some k) = by_held (k == job) timeout
+
+  by_found : (job : ℕ) (name : List ℕ) (timeout : Option ℤ) (found : Option Device)
+      → Stays (elim found [ None ↦ Some (replies.NoSession, s) | Some d ↦ open_known s job name timeout true d ])
+  by_found job name timeout None = h
+  by_found job name timeout (Some d) = by_known job name timeout d d.holder
+
+  by_name : (job : ℕ) (name : List ℕ) (timeout : Option ℤ) (b : Bool)
+      → Stays (cond b (Some (replies.Got, s)) (elim (device_at s.devices name) [ None ↦ Some (replies.NoSession, s) | Some d ↦ open_known s job name timeout true d ]))
+  by_name job name timeout true = h
+  by_name job name timeout false = by_found job name timeout (device_at s.devices name)
+
+  by_start : (b : Bool) (start : Started) → Stays (Some (cond b (replies.Job (length s.rows + 1), record s { rows = s.rows ++ opened start ∷ [] }) (replies.Limit, s)))
+  by_start true start = h
+  by_start false start = h
+
+  pub stays_global : (job : ℕ) (ask : Ask) → Stays (served s job ask true)
+  stays_global job (asks.Access a) = changed_global a s.globals h
+  stays_global job (asks.Try names timeout) = by_try job timeout (outcome_of s.locks job names) (after_try s.locks job names)
+  stays_global job (asks.Unlock names) = h
+  stays_global job asks.UnlockAll = h
+  stays_global job (asks.Open name timeout) = by_name job name timeout (bytes_eq name principal)
+  stays_global job (asks.Close name) = h
+  stays_global job (asks.Start start timeout) = by_start (has_room s) start
+  stays_global job (asks.Halt fault) = h
+  stays_global job (asks.Begin kind) = h
+  stays_global job asks.Commit = h
+  stays_global job asks.Rollback = h
+  stays_global job (asks.DeviceBegin device) = h
+  stays_global job (asks.DeviceWrite device bytes) = h
+  stays_global job (asks.DeviceLine device timeout) = h
+  stays_global job (asks.DeviceByte device timeout) = h
+  stays_global job (asks.DeviceEnd device) = h
+  stays_global job (asks.Rest time) = h
