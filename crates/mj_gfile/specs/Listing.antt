@@ -5,6 +5,7 @@ use Rattle.std.specs.List.{list_all}
 use Rattle.std.specs.Str.{bytes_eq}
 use Rattle.std.specs.FinMap.{is_sorted}
 use Rattle.std.specs.Ordering.{is_lt}
+use Rattle.mj_text.specs.declared.text.TheConstants.{TEXT_LIMIT}
 use Rattle.mj_subs.specs.Name.{Name, is_word}
 use Rattle.mj_subs.specs.Collation.{name_cmp}
 use Rattle.mj_nref.specs.Spelling.{is_filled}
@@ -20,7 +21,7 @@ use Rattle.mj_gfile.specs.Reading.{line_of}
 
 -- a text is within its limit
 abbrev pub is_short : List ℕ → Bool
-is_short t = nat_le (length t) 32767
+is_short t = nat_le (length t) TEXT_LIMIT
 
 -- a list of subscripts is within its limit, and each of them is
 abbrev pub are_small : List (List ℕ) → Bool

@@ -35,64 +35,64 @@ waits image start job turn is told =
     subst IsSome (sym asks.1) refl
 
 -- a job before its first call
-pub stands_first : (image : Loaded) (start : Start) (job : Running) (globals : Content) → IsRunOf image start job
-    → job.run.log ≡ [] → job.run.spent ≡ 0 → globals ≡ [] → Stands image start 0 job globals
-stands_first image start job globals r log spent left =
-    let P : Log → Type 0 = λ l. Served [] l in
+pub stands_first : (image : Loaded) (start : Start) (job : Running) (opening : Content) → IsRunOf image start job
+    → job.run.log ≡ [] → job.run.spent ≡ 0 → Stands image start opening 0 job opening
+stands_first image start job opening r log spent =
+    let P : Log → Type 0 = λ l. Served opening l in
     record {
       run = r;
       served = subst P (sym log) tt;
-      left = left ∙ ap (globals_of []) (sym log);
+      left = ap (globals_of opening) (sym log);
       made = made_none image start job log spent;
     }
 
-module _ (image : Loaded) (start : Start) (calls : ℕ) (job : Running) (globals : Content) (s : Stands image start calls job globals) where
-  pub stands_as : (same : Running) (left : Content) → same ≡ job → left ≡ globals → Stands image start calls same left
+module _ (image : Loaded) (start : Start) (opening : Content) (calls : ℕ) (job : Running) (globals : Content) (s : Stands image start opening calls job globals) where
+  pub stands_as : (same : Running) (left : Content) → same ≡ job → left ≡ globals → Stands image start opening calls same left
   stands_as same left e f =
-      let P : Running → Type 0 = λ j. Stands image start calls j globals in
-      let Q : Content → Type 0 = λ g. Stands image start calls same g in
+      let P : Running → Type 0 = λ j. Stands image start opening calls j globals in
+      let Q : Content → Type 0 = λ g. Stands image start opening calls same g in
       subst Q (sym f) (subst P (sym e) s)
 
   -- turns that add nothing to the log, of a call that asks or ends
-  pub stands_on : (new : Running) → IsRunOf image start new → new.run.log ≡ job.run.log → new.run.spent ≡ job.run.spent → Stands image start calls new globals
+  pub stands_on : (new : Running) → IsRunOf image start new → new.run.log ≡ job.run.log → new.run.spent ≡ job.run.spent → Stands image start opening calls new globals
   stands_on new r e spent =
-      let P : Log → Type 0 = λ l. Served [] l in
+      let P : Log → Type 0 = λ l. Served opening l in
       record {
         run = r;
         served = subst P (sym e) s.served;
-        left = s.left ∙ ap (globals_of []) (sym e);
+        left = s.left ∙ ap (globals_of opening) (sym e);
         made = made_still image start job calls s.made new e spent;
       }
 
   -- a call that ran
   pub stands_ran : (new : Running) → IsRunOf image start new → new.run.log ≡ job.run.log → new.run.spent ≡ min (job.run.spent + fuel) (2 ^ 63)
-      → Stands image start (calls + 1) new globals
+      → Stands image start opening (calls + 1) new globals
   stands_ran new r e spent =
-      let P : Log → Type 0 = λ l. Served [] l in
+      let P : Log → Type 0 = λ l. Served opening l in
       record {
         run = r;
         served = subst P (sym e) s.served;
-        left = s.left ∙ ap (globals_of []) (sym e);
+        left = s.left ∙ ap (globals_of opening) (sym e);
         made = made_ran image start job calls s.made new e spent;
       }
 
   -- a reply of the service
   pub stands_replied : (new : Running) (left : Content) (a : Ask) (r : Reply) → IsRunOf image start new
       → new.run.log ≡ job.run.log ++ (a, r) ∷ [] → new.run.spent ≡ 0 → r ≡ reply_to globals a → left ≡ globals_after globals a
-      → Stands image start (calls + 1) new left
+      → Stands image start opening (calls + 1) new left
   stands_replied new left a r is e spent reply after =
-      let P : Log → Type 0 = λ l. Served [] l in
+      let P : Log → Type 0 = λ l. Served opening l in
       record {
         run = is;
-        served = subst P (sym e) (served_with [] job.run.log a r s.served (reply ∙ ap (λ g. reply_to g a) s.left));
-        left = after ∙ ap (λ g. globals_after g a) s.left ∙ sym (globals_with [] job.run.log a r) ∙ ap (globals_of []) (sym e);
+        served = subst P (sym e) (served_with opening job.run.log a r s.served (reply ∙ ap (λ g. reply_to g a) s.left));
+        left = after ∙ ap (λ g. globals_after g a) s.left ∙ sym (globals_with opening job.run.log a r) ∙ ap (globals_of opening) (sym e);
         made = made_asked image start job calls s.made new a r s.run e spent;
       }
 
   -- what is seen of it
-  pub alone_is : (one : Shown) → one ≡ record { log = job.run.log; globals = globals; output = output_of job.run.log } → IsAlone (routines_of image) start one
+  pub alone_is : (one : Shown) → one ≡ record { log = job.run.log; globals = globals; output = output_of job.run.log } → IsAlone (routines_of image) start opening one
   alone_is one e =
-      let P : Shown → Type 0 = λ o. IsAlone (routines_of image) start o in
+      let P : Shown → Type 0 = λ o. IsAlone (routines_of image) start opening o in
       subst P (sym e) (record { trace = s.run.1.trace; served = s.served; globals = s.left; output = refl })
 
   pub ended_is : (one : Shown) → one ≡ record { log = job.run.log; globals = globals; output = output_of job.run.log }

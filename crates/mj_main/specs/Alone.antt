@@ -19,19 +19,19 @@ pub record Shown : Type 0 where
   pub globals : Content
   pub output : List ℕ
 
--- where a job stands that runs alone, after so many calls of `advance` that let it go on, and the globals there
-pub record Stands (image : Loaded) (start : Start) (calls : ℕ) (job : Running) (globals : Content) : Type 0 where
+-- where a job stands that runs alone over these globals, after so many calls of `advance` that let it go on, and the globals there
+pub record Stands (image : Loaded) (start : Start) (opening : Content) (calls : ℕ) (job : Running) (globals : Content) : Type 0 where
   pub run : IsRunOf image start job
-  pub served : Served [] job.run.log
-  pub left : globals ≡ globals_of [] job.run.log
+  pub served : Served opening job.run.log
+  pub left : globals ≡ globals_of opening job.run.log
   pub made : Made (routines_of image) start job.run calls
 
--- it ran the routines from its start, over no globals: its log is a trace, each of its replies is the service's, the globals
+-- it ran the routines from its start, over the globals that it found: its log is a trace, each of its replies is the service's, the globals
 -- are those after its asks, and the bytes are the output of its log
-pub record IsAlone (routines : List Routine) (start : Start) (one : Shown) : Type 0 where
+pub record IsAlone (routines : List Routine) (start : Start) (opening : Content) (one : Shown) : Type 0 where
   pub trace : IsTrace routines start one.log
-  pub served : Served [] one.log
-  pub globals : one.globals ≡ globals_of [] one.log
+  pub served : Served opening one.log
+  pub globals : one.globals ≡ globals_of opening one.log
   pub output : one.output ≡ output_of one.log
 
 -- the job ended by a fault

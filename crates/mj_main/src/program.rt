@@ -3,7 +3,8 @@
 ghost use Rattle.std.specs.Prelude.{◌≤◌, IfOk};
 
 use crate::alone::one;
-use crate::ended::Alone;
+use crate::ended::{Alone, One};
+use crate::listings::{listed, save};
 use crate::routines::loaded;
 use crate::stop::{FAILED, FAULTED, Stop, WORDS};
 use mj_ask::Entry;
@@ -14,8 +15,8 @@ use std::io::{Read, Write};
 use std::rt::Files;
 
 /// Does what the words ask for, of which the first is the program's name, and gives the exit status: 0; 1 where a job faulted; 2
-/// where a routine is refused; 3 where the words are wrong; 4 where memory or a file fails. What the job writes goes to `out`; a
-/// refusal goes to `err`, on one line, but the text on wrong words, which is clap's.
+/// where a routine or a listing is refused; 3 where the words are wrong; 4 where memory or a file fails. What the job writes goes to `out`; a
+/// refusal goes to `err`, on one line, but the text on wrong words, which is clap's. The globals that the job left are written after its output.
 pub fn run<R, S, I, O, E>(rt: &R, words: &[S], _input: &mut I, out: &mut O, err: &mut E) -> u8
 where
     R: Files + AllocGlobal,
@@ -25,35 +26,80 @@ where
     E: Write,
     ensures { result ≤ 4 }
 {
-    let done = match read_words(rt.alloc(), words) {
-        Ok(order) => obey(rt, &order, out),
-        Err(refusal) => tell(&refusal, out, err),
-    };
-    match done {
-        Ok(status) => status,
-        Err(stop) => {
-            // Where this can't be written either, the status alone tells.
-            let _ = writeln!(err, "{stop}");
-            stop.status()
-        }
+    match read_words(rt.alloc(), words) {
+        Ok(order) => obey(rt, &order, out, err),
+        Err(refusal) => match tell(&refusal, out, err) {
+            Ok(status) => status,
+            Err(stop) => stopped(&stop, err),
+        },
     }
 }
 
 // Does it, and gives the exit status.
-fn obey<'a, R: Files + AllocGlobal, O: Write>(
-    rt: &R,
-    order: &Order<'a>,
-    out: &mut O,
-) -> Result<u8, Stop<'a>>
-    ensures { IfOk result (λ status. status ≤ 1) }
+fn obey<R, O, E>(rt: &R, order: &Order<'_>, out: &mut O, err: &mut E) -> u8
+where
+    R: Files + AllocGlobal,
+    O: Write,
+    E: Write,
+    ensures { result ≤ 4 }
 {
     match order {
-        Order::Run { start, files } => {
-            let ran = run_alone(rt, *start, files)?;
-            show(&ran, out)
-        }
-        Order::Check { files } => check(rt, files, out),
+        Order::Run {
+            start,
+            files,
+            globals,
+            save,
+        } => match run_alone(rt, *start, files, *globals) {
+            Ok(ran) => {
+                let status = finish(rt, &ran, *save, out, err);
+                drop(ran);
+                status
+            }
+            Err(stop) => stopped(&stop, err),
+        },
+        Order::Check { files } => match check(rt, files, out) {
+            Ok(status) => status,
+            Err(stop) => stopped(&stop, err),
+        },
     }
+}
+
+// Writes what a job wrote, and then the globals that it left, and gives the exit status: the greatest where several apply.
+fn finish<R, O, E>(rt: &R, ran: &Alone, file: Option<&str>, out: &mut O, err: &mut E) -> u8
+where
+    R: Files + AllocGlobal,
+    O: Write,
+    E: Write,
+    ensures { result ≤ 4 }
+{
+    let shown = match show(ran, out) {
+        Ok(status) => status,
+        Err(stop) => stopped(&stop, err),
+    };
+    match save(rt, seen(ran).globals(), file) {
+        Ok(()) => shown,
+        Err(stop) => {
+            let saved = stopped(&stop, err);
+            if saved > shown { saved } else { shown }
+        }
+    }
+}
+
+// What is seen of a job, however it went.
+fn seen(ran: &Alone) -> &One {
+    match ran {
+        Alone::Ended(done) => done,
+        Alone::Stopped(done) => done,
+    }
+}
+
+// Says why the program stops, and gives the exit status.
+fn stopped<E: Write>(stop: &Stop<'_>, err: &mut E) -> u8
+    ensures { result ≤ 4 }
+{
+    // Where this can't be written either, the status alone tells.
+    let _ = writeln!(err, "{stop}");
+    stop.status()
 }
 
 // Loads the routines of these files, and says how many they are.
@@ -71,15 +117,17 @@ fn check<'a, R: Files + AllocGlobal, O: Write>(
     Ok(0)
 }
 
-// Runs one job alone, from this entry.
+// Runs one job alone, from this entry, over the globals that a file lists.
 fn run_alone<'a, R: Files + AllocGlobal>(
     rt: &R,
     start: &'a str,
     files: &[&'a str],
+    globals: Option<&'a str>,
 ) -> Result<Alone, Stop<'a>> {
     let entry = entry(rt.alloc(), start)?;
     let image = loaded(rt, files)?;
-    match one(rt.alloc(), &image, entry, u64::MAX) {
+    let opening = listed(rt, globals)?;
+    match one(rt.alloc(), &image, entry, opening, u64::MAX) {
         Ok(ran) => Ok(ran),
         Err(_) => Err(Stop::Memory),
     }

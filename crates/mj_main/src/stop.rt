@@ -3,6 +3,7 @@
 ghost use Rattle.std.specs.Prelude.{◌≡◌, ◌≤◌};
 ghost use Rattle.mj_main.specs.Statuses.{status_of};
 
+use mj_gfile::ReadError;
 use mj_rou::LoadError;
 use mj_text::{Digits, Text};
 use std::alloc::AllocError;
@@ -27,6 +28,9 @@ pub enum Stop<'a> {
     /// a routine has the name of an earlier one
     #[error("L4 {0}")]
     Twice(Word),
+    /// a listing of globals is refused
+    #[error("{0}")]
+    Listing(ReadError),
     /// a job isn't over after as many turns as the program lets it go on for
     #[error("full")]
     Full,
@@ -43,7 +47,7 @@ impl<'a> From<AllocError> for Stop<'a> {
 
 /// The exit status of a run in which a job faulted.
 pub const FAULTED: u8 = 1;
-/// The exit status where a routine is refused.
+/// The exit status where a routine or a listing is refused.
 pub const REFUSED: u8 = 2;
 /// The exit status where the command line is wrong.
 pub const WORDS: u8 = 3;
@@ -57,7 +61,7 @@ impl Stop<'_> {
         ensures bound { result ≤ 4 }
     {
         match self {
-            Stop::Name(_) | Stop::Routine(_) | Stop::Twice(_) => REFUSED,
+            Stop::Name(_) | Stop::Routine(_) | Stop::Twice(_) | Stop::Listing(_) => REFUSED,
             Stop::Value(_) => WORDS,
             Stop::File(_) | Stop::Full | Stop::Memory => FAILED,
         }

@@ -11,6 +11,8 @@ mod functions;
 #[cfg(test)]
 mod grammar;
 #[cfg(test)]
+mod listings;
+#[cfg(test)]
 mod locals;
 #[cfg(test)]
 mod names;

@@ -70,9 +70,9 @@ unlock_reply t = cond (is_full t) answer.Limit answer.Done
 abbrev pub with_unlock : Transaction → Unlock → Transaction
 with_unlock t u = cond (is_full t) t (with_entry t (entry.Unlock u))
 
--- one count more that was gained
-abbrev pub with_gained : Transaction → Name → Transaction
-with_gained t n = record t { gained = t.gained ++ n ∷ [] }
+-- one count more that was gained of each name, for each of its places in the list
+abbrev pub with_gained : Transaction → List Name → Transaction
+with_gained t names = record t { gained = t.gained ++ names }
 
 -- all subscripts but the last
 abbrev pub front_of : List (List ℕ) → List (List ℕ)

@@ -7,6 +7,7 @@ ghost use Rattle.mj_txlog.specs.Accesses.{is_write, is_full, reply_in, seen, wit
 
 use crate::answers::copy_of;
 use crate::entry::{Entry, Unlock, is_refused, is_write};
+use crate::names::copies_of;
 use crate::sight::answer;
 use mj_globs::Globals;
 use mj_store::{Access, Answer};
@@ -173,12 +174,13 @@ impl TxLog {
         Ok(Answer::Done)
     }
 
-    /// One count more of a lock, that a rollback gives back.
-    pub fn gain(&mut self, name: Name) -> Result<(), AllocError>
-        ensures gained { OnOk result (self.new ≡ with_gained self.old name) }
+    /// One count more of the lock of each name, which a rollback gives back: all of them, or none.
+    pub fn gain(&mut self, names: &[Name]) -> Result<(), AllocError>
+        ensures gained { OnOk result (self.new ≡ with_gained self.old names.now) }
         ensures unchanged { OnErr result (self.new ≡ self.old) }
     {
-        self.gained.push(name)?;
+        let mut copies = copies_of(self.alloc, names)?;
+        self.gained.append(&mut copies)?;
         Ok(())
     }
 

@@ -1,6 +1,6 @@
 // Lists of names.
 
-ghost use Rattle.std.specs.Prelude.{◌≡◌, ◌++◌, ◌∷◌, [], if◌then◌else◌, is_ok};
+ghost use Rattle.std.specs.Prelude.{◌≡◌, ◌++◌, ◌∷◌, [], if◌then◌else◌, is_ok, IfOk};
 
 use mj_subs::Name;
 use std::alloc::{AllocError, Global};
@@ -31,6 +31,15 @@ impl NameList {
         }
     }
 
+    /// These names.
+    pub fn of(alloc: Global, names: &[Name]) -> Result<NameList, AllocError>
+        ensures { IfOk result (λ list. list ≡ names.now) }
+    {
+        Ok(NameList {
+            list: copies_of(alloc, names)?,
+        })
+    }
+
     /// The names, in order.
     pub fn as_slice(&self) -> &[Name]
         ensures { result.now ≡ self.now }
@@ -45,4 +54,15 @@ impl NameList {
         self.list.push(name)?;
         Ok(())
     }
+}
+
+// The same names once more.
+pub(crate) fn copies_of(alloc: Global, names: &[Name]) -> Result<Vec<Name>, AllocError>
+    ensures { IfOk result (λ copies. copies.items ≡ names.now) }
+{
+    let mut copies = Vec::with_capacity(alloc, names.len())?;
+    for name in names {
+        copies.push(name.try_clone()?)?;
+    }
+    Ok(copies)
 }

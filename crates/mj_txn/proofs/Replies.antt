@@ -27,7 +27,7 @@ pub told_none : {A : Type 0} (P : Type 0) (Q : A → Type 0) (r : Option A) → 
 told_none P Q None h e = h
 told_none P Q (Some y) h e = absurd cc
 
-append_nil : {A : Type 0} (xs : List A) → xs ++ [] ≡ xs
+pub append_nil : {A : Type 0} (xs : List A) → xs ++ [] ≡ xs
 append_nil [] = refl
 append_nil (x ∷ xs) = ap (λ ys. x ∷ ys) (append_nil xs)
 

@@ -1,1 +1,3 @@
 pub mod Commits
+pub mod Testing
+pub mod Closing

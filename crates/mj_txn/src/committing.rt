@@ -2,6 +2,7 @@
 
 ghost use Rattle.std.specs.Prelude.{◌≡◌, ◌↔◌, true, [], IfOk, OnErr};
 ghost use Rattle.mj_txn.specs.Commits.{Hold, CommitsAs, after_commit};
+ghost use Rattle.mj_txn.specs.Testing.{outcome_of};
 ghost use Rattle.mj_txn.specs.declared.committing.Outcome.TheVariants as outcome;
 
 use crate::changed::{Changed, first_changed};
@@ -23,8 +24,19 @@ pub enum Outcome {
 /// Commits the transaction. A SERIAL one is done exactly where each of its reads, asked now on the globals with its own writes before that
 /// read, has the answer that it had, and otherwise the first read that has another answer is named. Where it is done all writes are made,
 /// and else none. The transaction itself stays as it is: what waits for its commit, and what a rollback gives back, is the caller's to do.
-#[tactic(auto, using(crate::proofs::Replies::exact))]
 pub fn commit(log: &TxLog, globals: &mut Globals) -> Result<Outcome, AllocError>
+    ensures outcome { IfOk result (λ r. CommitsAs log.now globals.old r) }
+    ensures exactly { IfOk result (λ r. (r ≡ outcome.Done) ↔ (log.now.serial ≡ true → Hold globals.old [] log.now.accesses)) }
+    ensures told { IfOk result (λ r. r ≡ outcome_of log.now globals.old) }
+    ensures globals { IfOk result (λ r. globals.new ≡ after_commit log.now globals.old r) }
+    ensures unchanged { OnErr result (globals.new ≡ globals.old) }
+{
+    made(log, globals)
+}
+
+// The same, by what holds of what comes of it.
+#[tactic(auto, using(crate::proofs::Replies::exact))]
+fn made(log: &TxLog, globals: &mut Globals) -> Result<Outcome, AllocError>
     ensures outcome { IfOk result (λ r. CommitsAs log.now globals.old r) }
     ensures exactly { IfOk result (λ r. (r ≡ outcome.Done) ↔ (log.now.serial ≡ true → Hold globals.old [] log.now.accesses)) }
     ensures globals { IfOk result (λ r. globals.new ≡ after_commit log.now globals.old r) }

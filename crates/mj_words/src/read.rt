@@ -55,6 +55,8 @@ fn run_order<'a>(alloc: Global, found: &ArgMatches<'a>) -> Result<Order<'a>, All
     Ok(Order::Run {
         start,
         files: files(alloc, found)?,
+        globals: found.get_str("globals"),
+        save: found.get_str("save"),
     })
 }
 
@@ -88,6 +90,8 @@ fn run_command<'a>(alloc: Global) -> Result<Command<'a>, AllocError> {
         .about("Runs routines, and prints what they write")
         .after_help(RUN_EXAMPLE)
         .arg(start(alloc))?
+        .arg(globals(alloc))?
+        .arg(save(alloc))?
         .arg(routines(alloc))
 }
 
@@ -105,6 +109,22 @@ fn start<'a>(alloc: Global) -> Arg<'a> {
         .help("Where the job starts: label^ROUTINE or ^ROUTINE")
         .action(ArgAction::Set)
         .required(true)
+}
+
+fn globals<'a>(alloc: Global) -> Arg<'a> {
+    Arg::new(alloc, "globals")
+        .long("globals")
+        .value_name("FILE")
+        .help("The listing of the globals that are there at first")
+        .action(ArgAction::Set)
+}
+
+fn save<'a>(alloc: Global) -> Arg<'a> {
+    Arg::new(alloc, "save")
+        .long("save")
+        .value_name("FILE")
+        .help("Where the listing of the globals that are left is written")
+        .action(ArgAction::Set)
 }
 
 fn routines<'a>(alloc: Global) -> Arg<'a> {

@@ -12,14 +12,15 @@ Examples:
 Exit statuses:
   0  all is done
   1  the job faulted
-  2  a routine was refused
+  2  a routine or a listing of globals was refused
   3  the words of the command line are wrong
   4  memory was refused, or a file failed";
 
 /// What stands below the help of `run`.
 pub const RUN_EXAMPLE: &str = "\
-Example, from the label LATER of the routine in R.m:
-  mj run --start LATER^R R.m _TOOL.m";
+Examples, from the label LATER of the routine in R.m, and over globals that are kept in a file:
+  mj run --start LATER^R R.m _TOOL.m
+  mj run --start ^R --globals DATA --save DATA R.m";
 
 /// What stands below the help of `check`.
 pub const CHECK_EXAMPLE: &str = "\

@@ -1,5 +1,5 @@
 -- Names of trees are names that can be written, and so are the names that a job makes of them.
-use Rattle.std.proofs.Common.{◌≡◌, ℕ, zero, suc, ◌==◌, ◌≤◌, Bool, true, false, not, cond, ◌&&◌, ◌||◌, List, [], ◌∷◌, ◌++◌, length, Option, Some, None, Result, Ok, Err, inl, inr, refl, sym, ap, subst, arith}
+use Rattle.std.proofs.Common.{◌≡◌, ℕ, suc, ◌==◌, ◌≤◌, Bool, true, false, cond, ◌&&◌, ◌||◌, List, [], ◌∷◌, length, Option, Some, None, Result, Ok, Err, inl, inr, refl, subst, arith}
 use Rattle.std.specs.Prelude.{nat_lt, nat_le, IsTrue}
 use Rattle.std.specs.List.{list_all, All}
 use Rattle.std.specs.Char.{is_ascii_alphanumeric, is_ascii_digit}
@@ -8,21 +8,20 @@ use Rattle.mj_text.specs.declared.fault.Fault.{Fault}
 use Rattle.mj_text.specs.declared.fault.Fault.TheVariants.{Subscript, Limit}
 use Rattle.mj_text.specs.declared.text.TheConstants.{TEXT_LIMIT}
 use Rattle.mj_subs.specs.Name.{Name, is_word}
-use Rattle.mj_ask.specs.declared.entry.Entry.{Entry}
 use Rattle.mj_ask.specs.Written.{is_label, is_entry}
 use Rattle.mj_ask.specs.Formed.{are_filled, are_filled_before_last, is_name, is_global_name, is_search_name}
 use Rattle.mj_ask.proofs.Lists.{and_true}
 use Rattle.mj_ast.specs.declared.expr.Scope.{Scope}
 use Rattle.mj_ast.specs.declared.function.NameFunction.{NameFunction}
 use Rattle.mj_ast.specs.declared.function.NameFunction.TheVariants as names
-use Rattle.mj_ast.specs.Tokens.{IsWord, AreDigits, is_digit, continues_word}
+use Rattle.mj_ast.specs.Tokens.{is_digit, continues_word}
 use Rattle.mj_ast.specs.Routines.{IsName}
 use Rattle.mj_ast.specs.Syntax.{Target}
-use Rattle.mj_ast.specs.Commands.{Part, entry_parts, target_parts}
+use Rattle.mj_ast.specs.Commands.{entry_parts, target_parts}
 use Rattle.mj_semantics.specs.Lines.{Here, entry_of}
 use Rattle.mj_semantics.specs.Evaluation.{has_empty, is_global, before_last, named_by, name_of, named_for}
 use Rattle.mj_rou.specs.Words.{Each, IsLabel, IsPartWorded}
-use Rattle.mj_written.proofs.Locals.{IsLocal, local_whole}
+use Rattle.mj_written.proofs.Locals.{local_whole}
 use Rattle.mj_written.specs.Formed.{is_local_name}
 
 -- ---- words

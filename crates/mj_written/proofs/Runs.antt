@@ -1,5 +1,5 @@
 -- What a job asks can be written: through expressions, commands and lines, where the names in them are words.
-use Rattle.std.proofs.Common.{◌≡◌, ℕ, zero, suc, ◌+◌, ◌-◌, List, [], ◌∷◌, ◌++◌, length, map, Bool, true, false, Option, Some, None, Result, Ok, refl, subst}
+use Rattle.std.proofs.Common.{◌≡◌, ℕ, zero, suc, ◌+◌, ◌-◌, List, [], ◌∷◌, ◌++◌, length, map, Bool, true, false, Option, Some, None, refl, subst}
 use Rattle.std.specs.Prelude.{ℤ, nat_lt, nat_eq, slice_get, if◌then◌else◌}
 use Rattle.std.specs.List.{list_all}
 use Rattle.std.specs.Str.{bytes_eq}
@@ -22,7 +22,7 @@ use Rattle.mj_ast.specs.Syntax.{Expr, Chain, Tails, Done, Then, Operand, Literal
 use Rattle.mj_ast.specs.Expressions.{Symbol, Name as NameSymbol, Mark, scoped, expr_symbols, tails_symbols, operand_symbols, variable_symbols, list_symbols, more_symbols, choices_symbols}
 use Rattle.mj_ast.specs.Commands.{Part, Put, Text, with_commas, behind_commas, more_parts, destination_parts, targets_parts, assignment_parts, output_parts, killed_parts, merged_parts, value_parts, target_parts, guard_parts, wait_parts, actual_parts, actuals_parts, called_parts, jumped_parts, started_parts, mode_parts, variable_parts, lock_names_parts, locked_parts, range_parts, command_parts}
 use Rattle.mj_semantics.specs.State.{State, Locals, Place, principal, level_of, special_value, set_test, spare, passed, popped, pushed, at_place, may_go}
-use Rattle.mj_semantics.specs.Outcome.{Outcome, Needs, More, Timed, no_restart, turn}
+use Rattle.mj_semantics.specs.Outcome.{Outcome, Needs, Timed, no_restart, turn}
 use Rattle.mj_semantics.specs.Lines.{Here, place_at, next_line, line_before, lines_of, line_at, levels_of, line_number, entered, entry_of}
 use Rattle.mj_semantics.specs.Points.{Leave, Ways, Loop, Once, Always, By, Point, AtLine, Called, Jumped, Pass, Started, Points}
 use Rattle.mj_semantics.specs.Functions.{call_value, optional}

@@ -1,15 +1,14 @@
 -- What a job holds stays formed.
-use Rattle.std.proofs.Common.{◌≡◌, ℕ, zero, suc, ◌-◌, Bool, true, false, not, List, [], ◌∷◌, length, take, drop, Option, Some, None, refl}
+use Rattle.std.proofs.Common.{◌≡◌, ℕ, zero, suc, ◌-◌, Bool, true, not, List, [], ◌∷◌, length, take, drop, Option, Some, None, refl}
 use Rattle.std.specs.Prelude.{ℤ}
 use Rattle.std.specs.List.{list_any, filter}
 use Rattle.std.specs.Option.{unwrap_or}
 use Rattle.std.specs.Str.{bytes_eq}
-use Rattle.mj_subs.specs.Name.{is_word}
 use Rattle.mj_store.specs.Questions.{Subtree}
 use Rattle.mj_store.specs.Changes.{after_set}
 use Rattle.mj_ask.specs.Formed.{is_subtree}
 use Rattle.mj_ast.specs.Routines.{IsName}
-use Rattle.mj_semantics.specs.State.{Locals, Words, Only, Saved, Frame, State, covers, put_back, undone, newed, plain_name, bound, passed, popped, spare, set_test, hold}
+use Rattle.mj_semantics.specs.State.{Locals, Words, Only, Saved, Frame, State, covers, put_back, undone, newed, plain_name, bound, passed, popped, spare, hold}
 use Rattle.mj_semantics.specs.Sharing.{in_time}
 use Rattle.mj_rou.specs.Words.{Each}
 use Rattle.mj_written.specs.Formed.{are_locals}

@@ -1,6 +1,6 @@
 -- What a run asks can be written: the words that runs are made of keep this.
-use Rattle.std.proofs.Common.{◌≡◌, ℕ, zero, suc, List, [], ◌∷◌, length, Bool, true, false, Option, Some, None, Result, Ok, Err, refl, sym, subst, ap, arith}
-use Rattle.std.specs.Prelude.{ℤ, pos, int_lt, ◌+ℤ◌, not, cond, ◌&&◌, nat_lt, nat_le, if◌then◌else◌}
+use Rattle.std.proofs.Common.{◌≡◌, ℕ, zero, suc, List, [], ◌∷◌, length, Bool, true, false, Option, Some, None, Result, Ok, Err, refl, arith}
+use Rattle.std.specs.Prelude.{ℤ, pos, int_lt, ◌+ℤ◌, not, cond, nat_lt, nat_le, if◌then◌else◌}
 use Rattle.std.specs.List.{list_all}
 use Rattle.std.proofs.lemmas.Bool.{lt-ltb}
 use Rattle.mj_text.specs.declared.text.TheConstants.{TEXT_LIMIT}
@@ -26,7 +26,7 @@ use Rattle.mj_ask.specs.declared.ask.Reply.TheVariants as replies_are
 use Rattle.mj_ask.specs.declared.entry.Entry.{Entry}
 use Rattle.mj_ask.specs.Fits.{is_late}
 use Rattle.mj_ask.specs.Written.{is_entry}
-use Rattle.mj_ask.specs.Formed.{are_filled, is_name, is_global_name, is_subtree, are_names, is_access, is_ask, is_answer, is_reply}
+use Rattle.mj_ask.specs.Formed.{are_filled, is_name, is_global_name, is_subtree, are_names, is_access, is_ask, is_reply}
 use Rattle.mj_ask.proofs.Lists.{both_true, and_true}
 use Rattle.mj_ast.specs.declared.routine.LockMode.{LockMode}
 use Rattle.mj_ast.specs.declared.routine.LockMode.TheVariants as mode
@@ -35,8 +35,8 @@ use Rattle.mj_ast.specs.declared.function.NameFunction.TheVariants as names
 use Rattle.mj_ast.specs.Syntax.{Renewed, Fresh, Kept}
 use Rattle.mj_strfn.specs.Functions.{assigned_pieces, set_piece_value}
 use Rattle.mj_semantics.specs.State.{State, Only, AllBut, accessed, wrote, broke, counted, hold, has_failed, principal, ending_order, is_at_mark, newed}
-use Rattle.mj_semantics.specs.Outcome.{Outcome, Needs, Ended, More, Handler, Timed, turn, turns, look, change, asking, over, no_restart, until, restartable, halt, ends, end, fault_bytes, fault, steps_limit, ask, tell, is_failed, to_device, need, given}
-use Rattle.mj_semantics.specs.Names.{direction_of, spelled, asks, question, told}
+use Rattle.mj_semantics.specs.Outcome.{Outcome, Needs, Ended, More, Handler, Timed, turn, turns, look, change, asking, over, no_restart, until, restartable, halt, ends, end, fault_bytes, fault, steps_limit, ask, is_failed, to_device, need, given}
+use Rattle.mj_semantics.specs.Names.{direction_of, spelled, told}
 use Rattle.mj_semantics.specs.Functions.{needed, optional}
 use Rattle.mj_semantics.specs.Accesses.{answer_told, answered, access, value_told, nodes_told}
 use Rattle.mj_semantics.specs.Evaluation.{read, about}

@@ -1,0 +1,32 @@
+-- What holds of every run of many jobs.
+use Rattle.std.specs.Prelude.{◌≡◌, true, List}
+use Rattle.mj_ask.specs.Written.{is_entry}
+use Rattle.mj_ask.specs.Formed.{is_ask, is_reply}
+use Rattle.mj_ask.specs.Fitting.{is_content}
+use Rattle.mj_ast.specs.Syntax.{Routine}
+use Rattle.mj_rou.specs.Words.{Each, IsRoutineWorded}
+use Rattle.mj_jobs.specs.Rows.{Row}
+use Rattle.mj_sys.specs.declared.event.Event.{Event}
+use Rattle.mj_sys.specs.Shared.{Shared}
+use Rattle.mj_sys.specs.History.{History, state_of}
+use Rattle.mj_core.specs.Runs.{IsRun}
+
+-- an event can be written: its ask can, and its reply
+abbrev pub IsWritten : Event → Type 0
+IsWritten e = (is_ask e.ask ≡ true) × (is_reply e.reply ≡ true)
+
+-- a job starts at an entry that can be written
+abbrev pub IsStarted : Row → Type 0
+IsStarted row = is_entry row.start.entry ≡ true
+
+-- what is shared is formed: the names of its globals rise, each that of a global, and each job starts at an entry that can be written
+pub record IsFormed (s : Shared) : Type 0 where
+  pub globals : is_content s.globals ≡ true
+  pub rows : Each IsStarted s.rows
+
+-- Each event of a run of routines whose names are words, as they are in routines that were read, can be written, where what is shared at its
+-- opening is formed; and so is what is shared behind it.
+abbrev pub AreRecorded : Type 0
+AreRecorded =
+    (image : List Routine) (opening : Shared) (history : History) → Each IsRoutineWorded image → IsFormed opening → IsRun image opening history
+    → Each IsWritten history × IsFormed (state_of opening history)

@@ -1,0 +1,8 @@
+use Rattle.std.proofs.Common.{◌≡◌, ◌++◌, drop}
+use Rattle.mj_trace.specs.Spelling.{rest_of_nodes}
+use Rattle.mj_trace.proofs.fields.put_subtree.Given as goal
+
+abbrev pub invariant-loop-node : goal.invariant-loop-node
+invariant-loop-node l = record {
+  all : l.bytes.items ++ rest_of_nodes (drop l.node-index l.rest) ≡ l.initial.bytes.items ++ rest_of_nodes l.rest;
+}

@@ -1,0 +1,160 @@
+// How an open transaction serves its job's asks, and how it is closed.
+
+ghost use Rattle.std.specs.Prelude.{◌≡◌, ◌∷◌, [], IfOk, OnOk, OnErr};
+ghost use Rattle.mj_locktab.specs.Tries.{outcome_of as try_of, after_try};
+ghost use Rattle.mj_txn.specs.Closing.{is_local_write, told_in, after_told, after_taken, unlocked, unlocked_by, rolled_back, committed, clash_of};
+ghost use Rattle.mj_ask.specs.declared.ask.Reply.TheVariants as replies;
+ghost use Rattle.mj_txlog.specs.Accesses.{unlock_reply, with_unlock};
+ghost use Rattle.mj_txlog.specs.declared.entry.Unlock.TheVariants as unlocks;
+
+use crate::changed::Changed;
+use crate::committing::{Outcome, commit};
+use mj_ask::{Clash, Kept, Reply};
+use mj_globs::Globals;
+use mj_locktab::{LockTable, Taken};
+use mj_store::{Access, Answer};
+use mj_subs::Name;
+use mj_txlog::{Entry, NameList, TxLog, Unlock, is_refused, is_write};
+use std::alloc::AllocError;
+
+/// Makes an access of the job in its transaction. A change of a local name is done without a change, and is no access of the transaction.
+pub fn access(log: &mut TxLog, globals: &Globals, access: &Access) -> Result<Answer, AllocError>
+    ensures answer { IfOk result (λ a. a ≡ told_in log.old globals.now access.now) }
+    ensures log { OnOk result (log.new ≡ after_told log.old globals.now access.now) }
+    ensures unchanged { OnErr result (log.new ≡ log.old) }
+{
+    if is_local_write(access) {
+        return Ok(if is_refused(access) {
+            Answer::Limit
+        } else {
+            Answer::Done
+        });
+    }
+    log.see(globals, access.try_clone()?)
+}
+
+// Whether it is a change of a local name.
+fn is_local_write(access: &Access) -> bool
+    ensures { result ≡ is_local_write access.now }
+{
+    is_write(access) && !access.name().is_global()
+}
+
+/// Takes each name once more for each of its places in the list, or none of them, as a try elsewhere; what it takes is gained by the
+/// transaction.
+pub fn try_take(
+    log: &mut TxLog,
+    locks: &mut LockTable,
+    job: u32,
+    names: &[Name],
+) -> Result<Taken, AllocError>
+    ensures taken { IfOk result (λ taken. taken ≡ try_of locks.old job names.now) }
+    ensures locks { OnOk result (locks.new ≡ after_try locks.old job names.now) }
+    ensures log { IfOk result (λ taken. log.new ≡ after_taken log.old names.now taken) }
+    ensures unchanged { OnErr result ((locks.new ≡ locks.old) × (log.new ≡ log.old)) }
+{
+    locks.keeps();
+    match locks.try_take(job, names)? {
+        Taken::Got => match log.gain(names) {
+            Ok(()) => Ok(Taken::Got),
+            Err(refused) => {
+                locks.give(job, names);
+                Err(refused)
+            }
+        },
+        Taken::Busy { holder, name } => Ok(Taken::Busy { holder, name }),
+        Taken::Limit => Ok(Taken::Limit),
+    }
+}
+
+/// An unlock of the names, which waits for the commit. Past the limit of accesses it is answered that it passes one, and doesn't.
+pub fn unlock(log: &mut TxLog, names: &[Name]) -> Result<Answer, AllocError>
+    ensures answer { IfOk result (λ a. a ≡ unlock_reply log.old) }
+    ensures waits { OnOk result (log.new ≡ with_unlock log.old (unlocks.Names names.now)) }
+    ensures unchanged { OnErr result (log.new ≡ log.old) }
+{
+    let list = NameList::of(log.allocator(), names)?;
+    log.unlock(Unlock::Names(list))
+}
+
+/// Rolls the transaction back: the counts that it gained go back, and the unlocks that waited are forgotten.
+pub fn roll_back(log: &TxLog, locks: &mut LockTable, job: u32)
+    ensures { locks.new ≡ rolled_back log.now job locks.old }
+{
+    locks.give(job, log.gained());
+}
+
+/// Commits the transaction, or rolls it back where it clashes. The reply is there twice, once for the job and once for who writes it down. Where
+/// memory is refused nothing has changed.
+pub fn close(
+    log: &TxLog,
+    globals: &mut Globals,
+    locks: &mut LockTable,
+    job: u32,
+) -> Result<(Reply, Reply), AllocError>
+    ensures reply { IfOk result (λ told. told.0 ≡ (committed log.now job globals.old locks.old).reply) }
+    ensures again { IfOk result (λ told. told.1 ≡ told.0) }
+    ensures globals { OnOk result (globals.new ≡ (committed log.now job globals.old locks.old).globals) }
+    ensures locks { OnOk result (locks.new ≡ (committed log.now job globals.old locks.old).locks) }
+    ensures unchanged { OnErr result ((globals.new ≡ globals.old) × (locks.new ≡ locks.old)) }
+{
+    match commit(log, globals)? {
+        Outcome::Done => {
+            unlock_waiting(log.entries(), locks, job);
+            Ok((Reply::Done, Reply::Done))
+        }
+        Outcome::Clash(changed) => {
+            let told = clash_twice(changed)?;
+            roll_back(log, locks, job);
+            Ok(told)
+        }
+    }
+}
+
+// What a clash is told, twice.
+fn clash_twice(changed: Changed) -> Result<(Reply, Reply), AllocError>
+    ensures one { IfOk result (λ told. told.0 ≡ replies.Clash (clash_of changed)) }
+    ensures other { IfOk result (λ told. told.1 ≡ replies.Clash (clash_of changed)) }
+{
+    let Changed { place, then, now } = changed;
+    let clash = Clash {
+        place,
+        then: Kept::of(then),
+        now: Kept::of(now),
+    };
+    match clash.try_clone() {
+        Ok(copy) => Ok((Reply::Clash(clash), Reply::Clash(copy))),
+        Err(refused) => {
+            drop(clash);
+            Err(refused)
+        }
+    }
+}
+
+// Makes the unlocks that waited, in order.
+fn unlock_waiting(entries: &[Entry], locks: &mut LockTable, job: u32)
+    ensures { locks.new ≡ unlocked locks.old job entries.now }
+{
+    for entry in entries {
+        unlock_by(entry, locks, job);
+    }
+}
+
+// Makes the unlock that an entry is, if it is one.
+fn unlock_by(entry: &Entry, locks: &mut LockTable, job: u32)
+    ensures { locks.new ≡ unlocked locks.old job (entry.now ∷ []) }
+{
+    if let Entry::Unlock(unlock) = entry {
+        unlock_one(unlock, locks, job);
+    }
+}
+
+// Makes one of them.
+fn unlock_one(unlock: &Unlock, locks: &mut LockTable, job: u32)
+    ensures { locks.new ≡ unlocked_by locks.old job unlock.now }
+{
+    match unlock {
+        Unlock::Names(names) => locks.give(job, names.as_slice()),
+        Unlock::All => locks.give_all(job),
+    }
+}
