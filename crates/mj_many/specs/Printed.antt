@@ -1,0 +1,36 @@
+-- What is printed of many jobs (this profile). Byte 10 ends a line, and `:` is byte 58.
+use Rattle.std.specs.Prelude.{ℕ, zero, suc, ◌==◌, Bool, false, not, List, [], ◌∷◌, ◌++◌, Option, None, Some, reverse, decimal, codes, if◌then◌else◌}
+
+-- there are bytes, and they don't end a line
+abbrev pub lacks_end : List ℕ → Bool
+lacks_end bytes = elim (reverse bytes) [ [] ↦ false | last ∷ _ ↦ not (last == 10) ]
+
+-- what one job wrote, beside others: a line with its number, its bytes, and a line end where they lack it
+abbrev pub part : ℕ → List ℕ → List ℕ
+part job bytes = codes "--- job " ++ decimal job ++ 10 ∷ (bytes ++ (if lacks_end bytes then 10 ∷ [] else []))
+
+-- what the first of many jobs wrote, in order of their numbers
+abbrev pub parts : (ℕ → List ℕ) → ℕ → List ℕ
+parts output zero = []
+parts output (suc jobs) = parts output jobs ++ part (suc jobs) (output (suc jobs))
+
+-- what is printed of so many jobs: of one its bytes alone
+abbrev pub printed : (ℕ → List ℕ) → ℕ → List ℕ
+printed output jobs = if jobs == 1 then output 1 else parts output jobs
+
+-- where a job stands: a routine and a line of it, or nowhere
+abbrev pub place_text : Option (List ℕ × ℕ) → List ℕ
+place_text None = codes "-"
+place_text (Some place) = place.0 ++ 58 ∷ decimal place.1
+
+-- who has what a job waits for, and where that one stands
+abbrev pub held_by : ℕ → Option (List ℕ × ℕ) → List ℕ
+held_by holder place = codes ", held by job " ++ decimal holder ++ codes " at " ++ place_text place ++ 10 ∷ []
+
+-- the line on a job that waits for what another has
+abbrev pub wait_line : ℕ → List ℕ → ℕ → Option (List ℕ × ℕ) → List ℕ
+wait_line job what holder place = codes "job " ++ decimal job ++ codes " waits for " ++ what ++ held_by holder place
+
+-- the line on a job that waits for something to read
+abbrev pub idle_line : ℕ → List ℕ
+idle_line job = codes "job " ++ decimal job ++ codes " waits for input" ++ 10 ∷ []
