@@ -47,6 +47,18 @@ fn over(rt: &HostRuntime, test: &str, bytes: &str, listing: &str) -> Result<Left
     })
 }
 
+// Runs a routine of a file from its first line, with a listing that is read or written.
+fn with_listing(rt: &HostRuntime, option: &str, listing: &str, file: &str) -> Result<Left, Fail> {
+    let words = ["mj", "run", "--start", "^R", option, listing, file];
+    let ran = run_words(rt, &words);
+    Ok(Left {
+        out: String::from_utf8(ran.out)?,
+        err: String::from_utf8(ran.err)?,
+        status: ran.status,
+        saved: None,
+    })
+}
+
 #[test]
 fn globals_come_in_and_go_out(rt: HostRuntime) -> Result<(), Fail> {
     for (bytes, listing, out, saved, status) in [
@@ -115,23 +127,14 @@ fn listing_files_fail(rt: HostRuntime) -> Result<(), Fail> {
     fs::write(&rt, file.as_str(), " WRITE 1,X")?;
     let missing = format!(in rt.alloc(); "{folder}/missing/globals")?;
     let err = format!(in rt.alloc(); "file {missing}\n")?;
-    for (option, out) in [("--globals", ""), ("--save", "1\nF1 UNDEF R:1\n")] {
-        let ran = run_words(
-            &rt,
-            &[
-                "mj",
-                "run",
-                "--start",
-                "^R",
-                option,
-                missing.as_str(),
-                file.as_str(),
-            ],
-        );
-        assert_eq!(rt; String::from_utf8(ran.out)?.as_str(), out);
-        assert_eq!(rt; String::from_utf8(ran.err)?.as_str(), err.as_str());
-        assert_eq!(rt; ran.status, 4);
-    }
+    let read = with_listing(&rt, "--globals", missing.as_str(), file.as_str())?;
+    assert_eq!(rt; read.out.as_str(), "");
+    assert_eq!(rt; read.err.as_str(), err.as_str());
+    assert_eq!(rt; read.status, 4);
+    let written = with_listing(&rt, "--save", missing.as_str(), file.as_str())?;
+    assert_eq!(rt; written.out.as_str(), "1\nF1 UNDEF R:1\n");
+    assert_eq!(rt; written.err.as_str(), err.as_str());
+    assert_eq!(rt; written.status, 4);
     fs::remove_dir_all(&rt, folder.as_str())?;
     Ok(())
 }
