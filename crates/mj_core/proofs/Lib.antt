@@ -1,4 +1,13 @@
+mod Behind
 mod Telling
 mod Stepping
 mod Histories
 mod Keeping
+mod Views
+mod Giving
+mod Going
+mod Admitting
+mod Readying
+mod Answering
+mod Answered
+mod Readied

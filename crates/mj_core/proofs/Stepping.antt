@@ -1,7 +1,6 @@
 -- One job goes on.
-use Rattle.std.specs.Prelude.{◌⊎◌, if◌then◌else◌, Result, Ok, Err, IfOk, IfErr, OnErr}
-use Rattle.std.proofs.Common.{◌≡◌, ℕ, ◌+◌, ◌≤◌, ◌^◌, min, List, [], ◌∷◌, ◌++◌, Bool, true, false, Option, Some, None, refl, sym, ap, ◌∙◌, subst, append-nil, eq-eqb, inl, inr, cond, arith}
-use Rattle.std.proofs.Math.Nat.{le-min}
+use Rattle.std.specs.Prelude.{◌⊎◌, ◌&&◌, is_none, if◌then◌else◌, Result, Ok, Err, IfOk, IfErr, OnErr}
+use Rattle.std.proofs.Common.{◌≡◌, ℕ, ◌+◌, ◌≤◌, List, [], ◌∷◌, ◌++◌, Bool, true, false, Option, Some, None, refl, sym, ap, ◌∙◌, subst, append-nil, eq-eqb, inl, inr, cond, arith}
 use Rattle.mj_ask.specs.declared.ask.Ask.{Ask}
 use Rattle.mj_ask.specs.declared.ask.Reply.{Reply}
 use Rattle.mj_ask.specs.declared.ask.Reply.TheVariants as replies
@@ -28,8 +27,8 @@ use Rattle.mj_core.specs.declared.slot.Made.TheVariants as made
 use Rattle.mj_core.specs.Runs.{start_in}
 use Rattle.mj_core.specs.declared.seen.Refusal.{Refusal}
 use Rattle.mj_core.specs.declared.seen.Refusal.TheVariants as refusals
-use Rattle.mj_core.specs.Gives.{fuel, Makes, IsTold}
-use Rattle.mj_core.specs.Ties.{IsTied, Steps, IsRefused, Tells, Talks, Shares, IsMuted, GoesOnBy}
+use Rattle.mj_core.specs.Gives.{fuel, Makes, IsTimely, IsTold, IsRefused}
+use Rattle.mj_core.specs.Ties.{Placed, IsTied, Steps, IsStill, Tells, Talks, Shares, IsMuted, GoesOnBy}
 
 -- nothing but the place in the private run changes
 pub tied_same : (image : Loaded) (opening : Shared) (old new : Recorded) (claim claim' : Claimed) (job mid job' : Running) (xs xs' : List Named) → IsTied image opening old claim job xs
@@ -110,12 +109,22 @@ same_ask pending a b p q = let same : Some a ≡ Some b = sym p ∙ q in cc
 module _ (image : Loaded) (opening : Shared) (old new : Recorded) (claim claim' : Claimed) (job mid job' : Running) (xs xs' : List Named) (late : Bool)
     (tied : IsTied image opening old claim job xs) (run : IsRunOf image (start_in claim.job claim.start) mid) (log : mid.run.log ≡ job.run.log)
     (live : IsLive (state_of opening old.history).rows claim.job)
-    (b : Ask) (pending : mid.run.pending ≡ Some b) (makes : Makes (routines_of image) (start_in claim.job claim.start) mid.run.log b) where
+    (b : Ask) (pending : mid.run.pending ≡ Some b) (makes : Makes (routines_of image) (start_in claim.job claim.start) mid.run.log b)
+    (spent : mid.run.spent ≡ job.run.spent) (room room' : ℕ) where
   abbrev start : Start
   start = start_in claim.job claim.start
 
+  abbrev slot : Placed
+  slot = record { claim = claim; job = job; sessions = record { sessions = xs; room = room } }
+
+  abbrev slot' : Placed
+  slot' = record { claim = claim'; job = job'; sessions = record { sessions = xs'; room = room' } }
+
   abbrev Goal : Made → Type 0
-  Goal m = Steps (routines_of image) opening claim.job start late old job.run.log m new job'.run.log × IsTied image opening new claim' job' xs'
+  Goal m = Steps (routines_of image) opening late old slot m new slot' × IsTied image opening new claim' job' xs'
+
+  still : job' ≡ mid → xs' ≡ xs → IsStill slot slot'
+  still jobs sessions = (ap (λ (j : Running). j.run.log) jobs ∙ log, ap (λ (j : Running). j.run.spent) jobs ∙ spent, sessions)
 
   makes_it : (a : Ask) → mid.run.pending ≡ Some a → Makes (routines_of image) start job.run.log a
   makes_it a is =
@@ -123,64 +132,71 @@ module _ (image : Loaded) (opening : Shared) (old new : Recorded) (claim claim' 
       let Q : Log → Type 0 = λ l. Makes (routines_of image) start l a in
       subst Q log (subst P (same_ask mid.run.pending b a pending is) makes)
 
-  by_talk : (m : Made) (a : Ask) → mid.run.pending ≡ Some a → is_shared a ≡ false → Talks mid xs a late m job' xs' → new ≡ old → claim' ≡ claim → Goal m
-  by_talk made.Event a is unshared t same claims =
-      let history : new.history ≡ old.history ++ shared_of (record { job = claim.job; ask = a; reply = t.0 } ∷ []) =
-      ap (λ (r : Recorded). r.history) same ∙ sym (append-nil old.history)
-      ∙ sym (ap (λ c. old.history ++ (if c then record { job = claim.job; ask = a; reply = t.0 } ∷ [] else [])) unshared) in (
+  by_talk : (m : Made) (a : Ask) → mid.run.pending ≡ Some a → IsTimely late a → is_shared a ≡ false → Talks mid xs a late m job' xs' → new ≡ old → claim' ≡ claim → Goal m
+  by_talk made.Event a is timely unshared t same claims =
+      let e : Event = record { job = claim.job; ask = a; reply = t.0 } in
+      let history : old.history ≡ old.history ++ shared_of (e ∷ []) =
+      sym (append-nil old.history) ∙ sym (ap (λ c. old.history ++ (if c then e ∷ [] else [])) unshared) in
+      let system : new ≡ record old { history = old.history ++ shared_of (e ∷ []) } = same ∙ ap (λ h. record old { history = h }) history in (
         (
           a,
           t.0,
           makes_it a is,
+          timely,
           live,
           record { fit = t.1; shared = λ h. absurd (let no : true ≡ false = sym h ∙ unshared in cc); in_time = λ h. t.2 },
           log_on image opening old claim job mid job' xs xs' tied run log a t.0 t.3 t.4,
-          history,
+          t.3.2,
+          t.5 (state_of opening old.history),
+          system,
         ),
         tied_talk image opening old claim job mid job' xs xs' tied run log a t.0 t.3 t.4 new claim' same claims,
       )
-  by_talk (made.Busy holder held) a is unshared t same claims = absurd t
-  by_talk made.NotYet a is unshared t same claims =
-      ((a, makes_it a is, t.0, t.1, same, ap (λ (j : Running). j.run.log) t.2 ∙ log), tied_same image opening old new claim claim' job mid job' xs xs' tied run log same claims t.2 t.3)
-  by_talk made.Unfit a is unshared t same claims =
-      ((a, makes_it a is, same, ap (λ (j : Running). j.run.log) t.0 ∙ log), tied_same image opening old new claim claim' job mid job' xs xs' tied run log same claims t.0 t.1)
-  by_talk made.Ran a is unshared t same claims = absurd t
-  by_talk made.Ended a is unshared t same claims = absurd t
+  by_talk (made.Busy holder held) a is timely unshared t same claims = absurd t
+  by_talk made.NotYet a is timely unshared t same claims =
+      ((a, makes_it a is, timely, t.0, t.1, t.2, same, still t.3 t.4), tied_same image opening old new claim claim' job mid job' xs xs' tied run log same claims t.3 t.4)
+  by_talk made.Unfit a is timely unshared t same claims =
+      ((a, makes_it a is, timely, inl t.0, same, still t.1 t.2), tied_same image opening old new claim claim' job mid job' xs xs' tied run log same claims t.1 t.2)
+  by_talk made.Ran a is timely unshared t same claims = absurd t
+  by_talk made.Ended a is timely unshared t same claims = absurd t
 
-  by_share : (m : Made) (a : Ask) → mid.run.pending ≡ Some a → is_shared a ≡ true → Shares opening old claim mid xs a late m new claim' job' xs' → Goal m
-  by_share made.Event a is shared t =
-      let history : new.history ≡ old.history ++ shared_of (record { job = claim.job; ask = a; reply = t.0 } ∷ []) =
-      ap (λ (r : Recorded). r.history) t.3
-      ∙ sym (ap (λ c. old.history ++ (if c then record { job = claim.job; ask = a; reply = t.0 } ∷ [] else [])) shared) in (
+  by_share : (m : Made) (a : Ask) → mid.run.pending ≡ Some a → IsTimely late a → is_shared a ≡ true → Shares opening old claim mid xs a late m new claim' job' xs' → Goal m
+  by_share made.Event a is timely shared t =
+      let e : Event = record { job = claim.job; ask = a; reply = t.0 } in
+      let system : new ≡ record old { history = old.history ++ shared_of (e ∷ []) } =
+      t.3 ∙ sym (ap (λ c. record old { history = old.history ++ (if c then e ∷ [] else []) }) shared) in (
         (
           a,
           t.0,
           makes_it a is,
+          timely,
           live,
           record { fit = t.1; shared = λ h. t.2; in_time = λ h. absurd (let no : true ≡ false = sym shared ∙ h in cc) },
           log_on image opening old claim job mid job' xs xs' tied run log a t.0 t.5 t.6,
-          history,
+          t.5.2,
+          t.7,
+          system,
         ),
         tied_share image opening old claim job mid job' xs xs' tied run log a t.0 t.5 t.6 new claim' t.3 t.4,
       )
-  by_share (made.Busy holder held) a is shared t =
-      ((a, makes_it a is, t.0, t.1, t.2, ap (λ (j : Running). j.run.log) t.4 ∙ log), tied_same image opening old new claim claim' job mid job' xs xs' tied run log t.2 t.3 t.4 t.5)
-  by_share made.NotYet a is shared t = absurd t
-  by_share made.Unfit a is shared t =
-      ((a, makes_it a is, t.0, ap (λ (j : Running). j.run.log) t.2 ∙ log), tied_same image opening old new claim claim' job mid job' xs xs' tied run log t.0 t.1 t.2 t.3)
-  by_share made.Ran a is shared t = absurd t
-  by_share made.Ended a is shared t = absurd t
+  by_share (made.Busy holder held) a is timely shared t =
+      ((a, makes_it a is, timely, t.0, t.1, t.2, still t.4 t.5), tied_same image opening old new claim claim' job mid job' xs xs' tied run log t.2 t.3 t.4 t.5)
+  by_share made.NotYet a is timely shared t = absurd t
+  by_share made.Unfit a is timely shared t =
+      ((a, makes_it a is, timely, inr t.0, t.1, still t.3 t.4), tied_same image opening old new claim claim' job mid job' xs xs' tied run log t.1 t.2 t.3 t.4)
+  by_share made.Ran a is timely shared t = absurd t
+  by_share made.Ended a is timely shared t = absurd t
 
   pub stepped : (m : Made) → Tells opening old claim mid xs late m new claim' job' xs' → Goal m
-  stepped m tells = by tells.2 where
+  stepped m tells = by tells.3 where
     by : ((is_shared tells.0 ≡ false) × Talks mid xs tells.0 late m job' xs' × (new ≡ old) × (claim' ≡ claim))
         ⊎ ((is_shared tells.0 ≡ true) × Shares opening old claim mid xs tells.0 late m new claim' job' xs') → Goal m
-    by (inl t) = by_talk m tells.0 tells.1 t.0 t.1 t.2 t.3
-    by (inr t) = by_share m tells.0 tells.1 t.0 t.1
+    by (inl t) = by_talk m tells.0 tells.1 tells.2 t.0 t.1 t.2 t.3
+    by (inr t) = by_share m tells.0 tells.1 tells.2 t.0 t.1
 
   -- the same of what a call of `ask` gives
   pub stepped_ok : (r : Result Made Refusal) → IfOk r (λ m. Tells opening old claim mid xs late m new claim' job' xs')
-      → IfOk r (λ m. Steps (routines_of image) opening claim.job start late old job.run.log m new job'.run.log)
+      → IfOk r (λ m. Steps (routines_of image) opening late old slot m new slot')
   stepped_ok (Ok m) tells = (stepped m tells).0
   stepped_ok (Err why) tells = tt
 
@@ -195,19 +211,15 @@ module _ (image : Loaded) (opening : Shared) (old new : Recorded) (claim claim' 
   stepped_err (Ok m) is = tt
   stepped_err (Err why) is = muted why is
 
+  pub stepped_still : (r : Result Made Refusal) → OnErr r ((new ≡ old) × (claim' ≡ claim) × (job' ≡ mid) × (xs' ≡ xs)) → OnErr r ((new ≡ old) × IsStill slot slot')
+  stepped_still (Ok m) kept = tt
+  stepped_still (Err why) kept = (kept.0, still kept.2 kept.3)
+
   pub stepped_tied : (r : Result Made Refusal) → IfOk r (λ m. Tells opening old claim mid xs late m new claim' job' xs')
       → OnErr r ((new ≡ old) × (claim' ≡ claim) × (job' ≡ mid) × (xs' ≡ xs)) → IsTied image opening new claim' job' xs'
   stepped_tied (Ok m) tells kept = (stepped m tells).1
   stepped_tied (Err why) tells kept = tied_same image opening old new claim claim' job mid job' xs xs' tied run log kept.0 kept.1 kept.2 kept.3
 
--- a step lets a job go on for all its turns
-pub fuel_counted : (old new : ℕ) → new ≡ min (old + 10000) (2 ^ 63) → fuel ≤ new
-fuel_counted old new is =
-    let P : ℕ → Type 0 = λ n. fuel ≤ n in
-    let much : 10000 ≤ old + 10000 = omega arith in
-    let little : 10000 ≤ 2 ^ 63 = omega arith in
-    subst P (sym is) (le-min much little)
-
 -- what a job's run needs
-pub needed : (image : Loaded) (start : Start) (run : Run) → Told (routines_of image) start turns.Asks run → (a : Ask) × (run.pending ≡ Some a) × Makes (routines_of image) start run.log a
-needed image start run t = (t.0, t.1, (t.2.0, run.at.state.locals, places run.at.state, t.2.1))
+pub needed : (image : Loaded) (from : Start) (run : Run) → Told (routines_of image) from turns.Asks run → (a : Ask) × (run.pending ≡ Some a) × Makes (routines_of image) from run.log a
+needed image from run t = (t.0, t.1, (t.2.0, run.at.state.locals, places run.at.state, t.2.1))

@@ -11,10 +11,12 @@ use Rattle.mj_sessions.specs.declared.answer.Answer.{Answer}
 use Rattle.mj_sessions.specs.declared.answer.Answer.TheVariants as answers
 use Rattle.mj_ask.specs.Late.{is_over}
 use Rattle.mj_sessions.specs.Answers.{Answers, Asked, Ends, IsEnding, IsReading}
+use Rattle.mj_sessions.specs.Events.{device_of}
 use Rattle.mj_sessions.specs.Named.{Named, is_named, session_of, with_session}
 use Rattle.mj_dev.specs.Heard.{Heard}
 use Rattle.mj_sys.specs.Shared.{Shared, served}
 use Rattle.mj_sys.proofs.Fitting.{Fit, served_fits}
+use Rattle.mj_core.specs.Ties.{IsQuietOf, IsShut}
 
 -- by the system
 pub fits_served : (s : Shared) (job : ℕ) (ask : Ask) (late : Bool) (reply : Reply) (t : Shared) → is_shared ask ≡ true → served s job ask late ≡ Some (reply, t) → fits ask reply ≡ true
@@ -78,16 +80,16 @@ left_so : (name : List ℕ) (xs new : List Named) (s : Named) (h : Heard) → se
 left_so name xs new s h is same new_is = new_is ∙ ap (λ k. with_session name k xs) same ∙ with_same name xs s is
 
 abbrev Waits : List Named → List Named → Ask → Bool → Type 0
-Waits xs new ask late = IsReading ask × (is_over (timeout_of ask) late ≡ false) × (new ≡ xs)
+Waits xs new ask late = IsReading ask × (is_over (timeout_of ask) late ≡ false) × IsQuietOf xs ask × (new ≡ xs)
 
 module _ (xs new : List Named) (late : Bool) where
-  call_waits : (device : List ℕ) (ask : Ask) → Asked device xs ask late answers.NotYet new → Waits xs new ask late
-  call_waits device ask (inl absent) = absurd (let no : answers.NotYet ≡ answers.Unfit = absent.1 in cc)
-  call_waits device ask (inr t) = (t.2.1.1, t.2.1.3, left_so device xs new t.0 t.2.0 t.1 t.2.1.4 t.2.2)
+  call_waits : (device : List ℕ) (ask : Ask) → device_of ask ≡ Some device → Asked device xs ask late answers.NotYet new → Waits xs new ask late
+  call_waits device ask of (inl absent) = absurd (let no : answers.NotYet ≡ answers.Unfit = absent.1 in cc)
+  call_waits device ask of (inr t) = (t.2.1.1, t.2.1.3, (device, of, (t.0, t.1, t.2.1.0, t.2.1.2)), left_so device xs new t.0 t.2.0 t.1 t.2.1.4 t.2.2)
 
-  call_unfit : (device : List ℕ) (ask : Ask) → Asked device xs ask late answers.Unfit new → new ≡ xs
-  call_unfit device ask (inl absent) = absent.2
-  call_unfit device ask (inr t) = left_so device xs new t.0 t.2.0 t.1 t.2.1.1 t.2.2
+  call_unfit : (device : List ℕ) (ask : Ask) → device_of ask ≡ Some device → Asked device xs ask late answers.Unfit new → IsShut xs ask × (new ≡ xs)
+  call_unfit device ask of (inl absent) = ((device, of, inl absent.0), absent.2)
+  call_unfit device ask of (inr t) = ((device, of, inr (t.0, t.1, t.2.1.0)), left_so device xs new t.0 t.2.0 t.1 t.2.1.1 t.2.2)
 
   call_short : (device : List ℕ) (ask : Ask) → Asked device xs ask late answers.Memory new → new ≡ xs
   call_short device ask (inl absent) = absurd (let no : answers.Memory ≡ answers.Unfit = absent.1 in cc)
@@ -99,8 +101,8 @@ module _ (xs new : List Named) (late : Bool) where
     by (inl is) = never replies.Done is
     by (inr is) = never replies.Failed is
 
-  end_unfit : (device : List ℕ) → Ends device xs answers.Unfit new → new ≡ xs
-  end_unfit device (inl absent) = absent.2
+  end_unfit : (device : List ℕ) → Ends device xs answers.Unfit new → IsShut xs (asks.DeviceEnd device) × (new ≡ xs)
+  end_unfit device (inl absent) = ((device, refl, inl absent.0), absent.2)
   end_unfit device (inr t) = absurd (not_told answers.Unfit t.0.session (λ r q. cc) t.2)
 
   end_waits : (device : List ℕ) → Ends device xs answers.NotYet new → ⊥
@@ -112,10 +114,10 @@ module _ (xs new : List Named) (late : Bool) where
   end_short device (inr t) = not_told answers.Memory t.0.session (λ r q. cc) t.2
 
   pub waits_answer : (ask : Ask) → Answers xs ask late answers.NotYet new → Waits xs new ask late
-  waits_answer (asks.DeviceBegin d) a = call_waits d (asks.DeviceBegin d) a
-  waits_answer (asks.DeviceWrite d bytes) a = call_waits d (asks.DeviceWrite d bytes) a
-  waits_answer (asks.DeviceLine d t) a = call_waits d (asks.DeviceLine d t) a
-  waits_answer (asks.DeviceByte d t) a = call_waits d (asks.DeviceByte d t) a
+  waits_answer (asks.DeviceBegin d) a = call_waits d (asks.DeviceBegin d) refl a
+  waits_answer (asks.DeviceWrite d bytes) a = call_waits d (asks.DeviceWrite d bytes) refl a
+  waits_answer (asks.DeviceLine d t) a = call_waits d (asks.DeviceLine d t) refl a
+  waits_answer (asks.DeviceByte d t) a = call_waits d (asks.DeviceByte d t) refl a
   waits_answer (asks.DeviceEnd d) a = absurd (end_waits d a)
   waits_answer (asks.Rest t) a = absurd (let no : answers.NotYet ≡ answers.Told replies.Done = a.0 in cc)
   waits_answer (asks.Access x) a = absurd a
@@ -130,13 +132,13 @@ module _ (xs new : List Named) (late : Bool) where
   waits_answer (asks.Start s t) a = absurd a
   waits_answer (asks.Halt f) a = absurd a
 
-  pub unfit_answer : (ask : Ask) → Answers xs ask late answers.Unfit new → new ≡ xs
-  unfit_answer (asks.DeviceBegin d) a = call_unfit d (asks.DeviceBegin d) a
-  unfit_answer (asks.DeviceWrite d bytes) a = call_unfit d (asks.DeviceWrite d bytes) a
-  unfit_answer (asks.DeviceLine d t) a = call_unfit d (asks.DeviceLine d t) a
-  unfit_answer (asks.DeviceByte d t) a = call_unfit d (asks.DeviceByte d t) a
+  pub unfit_answer : (ask : Ask) → Answers xs ask late answers.Unfit new → IsShut xs ask × (new ≡ xs)
+  unfit_answer (asks.DeviceBegin d) a = call_unfit d (asks.DeviceBegin d) refl a
+  unfit_answer (asks.DeviceWrite d bytes) a = call_unfit d (asks.DeviceWrite d bytes) refl a
+  unfit_answer (asks.DeviceLine d t) a = call_unfit d (asks.DeviceLine d t) refl a
+  unfit_answer (asks.DeviceByte d t) a = call_unfit d (asks.DeviceByte d t) refl a
   unfit_answer (asks.DeviceEnd d) a = end_unfit d a
-  unfit_answer (asks.Rest t) a = a.1
+  unfit_answer (asks.Rest t) a = absurd (let no : answers.Unfit ≡ answers.Told replies.Done = a.0 in cc)
   unfit_answer (asks.Access x) a = absurd a
   unfit_answer (asks.Try names t) a = absurd a
   unfit_answer (asks.Unlock names) a = absurd a

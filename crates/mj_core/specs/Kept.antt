@@ -1,5 +1,6 @@
 -- What a core keeps.
-use Rattle.std.specs.Prelude.{◌≡◌, ℕ, zero, suc, ◌≤◌, List, [], ◌∷◌, length, map, slice_get, Option, Some, None}
+use Rattle.std.specs.Prelude.{◌≡◌, ℕ, zero, suc, ◌≤◌, List, [], ◌∷◌, length, map, slice_get, Bool, Option, Some, None}
+use Rattle.std.specs.Borrow.{Bor}
 use Rattle.std.specs.Option.{is_some}
 use Rattle.mj_ask.specs.declared.ask.Ask.{Ask}
 use Rattle.mj_ask.specs.declared.ask.Reply.{Reply}
@@ -14,6 +15,7 @@ use Rattle.mj_events.specs.declared.happened.Happened.{Happened}
 use Rattle.mj_events.specs.Happen.{AllHappen, shared_of}
 use Rattle.mj_events.specs.Woven.{Logs, woven, AreThere}
 use Rattle.mj_core.specs.Having.{has_session}
+use Rattle.mj_core.specs.Shown.{Shown}
 use Rattle.mj_core.specs.Ties.{Placed, IsPlaced}
 
 -- the logs of jobs
@@ -25,6 +27,15 @@ abbrev pub turns_of : ℕ → List Placed → List ℕ
 turns_of zero slots = []
 turns_of (suc n) [] = 0 ∷ turns_of n []
 turns_of (suc n) (slot ∷ slots) = slot.job.run.spent ∷ turns_of n slots
+
+-- what is seen of a core, for so many jobs
+abbrev pub shown : Loaded → List Placed → List Happened → List Bool → ℕ → Shown
+shown image slots order over n = record { image = image; history = woven (logs_of slots) order; over = over; spent = turns_of n slots }
+
+-- the claim of a row that waits for its slot
+abbrev pub claim_of : {C S : Type 0} → Option (C × S) → Option C
+claim_of None = None
+claim_of (Some waiting) = Some waiting.0
 
 -- as many rows were claimed as have a slot; and one more, where it waits for it, by a claim that has had no event
 abbrev pub IsClaimed : Shared → Recorded → ℕ → Option Claimed → Type 0
@@ -55,6 +66,6 @@ pub record AreKept (image : Loaded) (opening : Shared) (system : Recorded) (slot
   pub within : length order ≤ history_limit
 
 -- an event as it is shown: its job, what that asked, and what it was told
-abbrev pub shown_event : Option (ℕ × Ask × Reply) → Option Event
+abbrev pub shown_event : Option (ℕ × Bor Ask × Bor Reply) → Option Event
 shown_event None = None
-shown_event (Some e) = Some (record { job = e.0; ask = e.1; reply = e.2 })
+shown_event (Some e) = Some (record { job = e.0; ask = e.1.now; reply = e.2.now })

@@ -1,6 +1,6 @@
 pub mod Runs
-pub mod Gives
-pub mod Ties
 pub mod Shown
 pub mod Having
+pub mod Gives
+pub mod Ties
 pub mod Kept

@@ -9,6 +9,8 @@
 
 mod seen;
 mod slot;
+mod together;
 
 pub use seen::{Refusal, Seen, Step, Way};
 pub use slot::{FUEL, Made, Slot, step_slot};
+pub use together::Core;

@@ -8,8 +8,8 @@ ghost use Rattle.mj_load.specs.Image.{routines_of};
 ghost use Rattle.mj_sys.specs.History.{state_of};
 ghost use Rattle.mj_sys.specs.System.{history_limit};
 ghost use Rattle.mj_sys.specs.Told.{IsTurn};
-ghost use Rattle.mj_core.specs.Runs.{start_in};
-ghost use Rattle.mj_core.specs.Ties.{IsPlaced, Steps, IsRefused, Tells, Talks, Shares, IsMuted, IsPlace};
+ghost use Rattle.mj_core.specs.Gives.{IsRefused};
+ghost use Rattle.mj_core.specs.Ties.{IsPlaced, start_of, Steps, IsStill, Tells, Talks, Shares, IsMuted, IsPlace, IsUnplaced};
 
 use crate::seen::Refusal;
 use mj_ask::{Ask, Reply};
@@ -61,9 +61,9 @@ pub fn step_slot<D: Device, O: Opening>(
     requires tied { IsPlaced image.now O.opening system.old slot.old }
     requires live { IsLive (state_of O.opening system.old.history).rows slot.old.claim.job }
     requires room { length system.old.history < history_limit }
-    ensures gives { IfOk result (λ made. Steps (routines_of image.now) O.opening slot.old.claim.job (start_in slot.old.claim.job slot.old.claim.start) late system.old slot.old.job.run.log made system.new slot.new.job.run.log) }
-    ensures refused { IfErr result (λ why. IsRefused (routines_of image.now) (start_in slot.old.claim.job slot.old.claim.start) slot.old.job.run.log late why) }
-    ensures kept { OnErr result ((system.new ≡ system.old) × (slot.new.job.run.log ≡ slot.old.job.run.log)) }
+    ensures gives { IfOk result (λ made. Steps (routines_of image.now) O.opening late system.old slot.old made system.new slot.new) }
+    ensures refused { IfErr result (λ why. IsRefused (routines_of image.now) (start_of slot.old) slot.old.job.run.log late why) }
+    ensures kept { OnErr result ((system.new ≡ system.old) × IsStill slot.old slot.new) }
     ensures tied { IsPlaced image.now O.opening system.new slot.new }
     ensures claim { (slot.new.claim.job ≡ slot.old.claim.job) × (slot.new.claim.start ≡ slot.old.claim.start) }
 {
@@ -129,7 +129,7 @@ fn talk<D: Device>(job: &mut Job, sessions: &mut Sessions<D>, late: bool) -> Res
     }
 }
 
-// Lets the system serve what a job asks, and tells it. A device that the job has already isn't asked for.
+// Lets the system serve what a job asks, and tells it. What would give the job a session with a device with which it has one isn't served.
 fn share<D: Device, O: Opening>(
     system: &mut System<D, O>,
     claim: &mut Claim,
@@ -146,7 +146,7 @@ fn share<D: Device, O: Opening>(
     let Some(ask) = job.ask() else {
         unreachable!();
     };
-    let place = match place_for(sessions, ask) {
+    let place = match place_for(sessions, ask, system.takes_session(ask)) {
         Ok(place) => place,
         Err(Unplaced::Taken) => return Ok(Made::Unfit),
         Err(Unplaced::Memory) => return Err(Refusal::Memory),
@@ -177,11 +177,19 @@ enum Unplaced {
     Memory,
 }
 
-// A place for the session that an ask may get, if it is one for a device, and the name for it.
-fn place_for<D: Device>(sessions: &mut Sessions<D>, ask: &Ask) -> Result<Option<Text>, Unplaced>
+// A place for the session that goes to the job by an ask, where one does, and the name for it.
+fn place_for<D: Device>(
+    sessions: &mut Sessions<D>,
+    ask: &Ask,
+    takes: bool,
+) -> Result<Option<Text>, Unplaced>
     ensures sessions { sessions.new.sessions ≡ sessions.old.sessions }
-    ensures place { IfOk result (λ place. IsPlace sessions.new ask.now place) }
+    ensures place { IfOk result (λ place. takes ≡ true → IsPlace sessions.new ask.now place) }
+    ensures none { IfErr result (λ why. (takes ≡ true) × IsUnplaced sessions.old.sessions ask.now why) }
 {
+    if !takes {
+        return Ok(None);
+    }
     let Ask::Open(name, _) = ask else {
         return Ok(None);
     };

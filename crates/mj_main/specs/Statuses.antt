@@ -1,5 +1,8 @@
 -- The exit statuses of the program.
-use Rattle.std.specs.Prelude.{ℕ}
+use Rattle.std.specs.Prelude.{ℕ, Bool, false, ◌||◌, is_some, [], ◌∷◌}
+use Rattle.mj_ask.specs.declared.ask.Ask.{Ask}
+use Rattle.mj_ask.specs.declared.ask.Ask.TheVariants as asks
+use Rattle.mj_sys.specs.History.{History}
 use Rattle.mj_main.specs.declared.stop.Stop.{Stop}
 use Rattle.mj_main.specs.declared.stop.Stop.TheVariants as stops
 
@@ -12,5 +15,18 @@ status_of (stops.Name file) = 2
 status_of (stops.Routine refusal) = 2
 status_of (stops.Twice name) = 2
 status_of (stops.Listing refusal) = 2
+status_of (stops.Steps refusal) = 2
+status_of (stops.Step why step) = 2
+status_of stops.Stuck = 4
 status_of stops.Full = 4
 status_of stops.Memory = 4
+
+-- a job ended by a fault
+abbrev pub is_fault : Ask → Bool
+is_fault (asks.Halt fault) = is_some fault
+is_fault _ = false
+
+-- some job of the history did
+abbrev pub has_faulted : History → Bool
+has_faulted [] = false
+has_faulted (e ∷ history) = is_fault e.ask || has_faulted history

@@ -1,22 +1,36 @@
 // The program.
 
-ghost use Rattle.std.specs.Prelude.{◌≤◌, IfOk};
+ghost use Rattle.std.specs.Prelude.{◌≡◌, ◌≤◌, length, IfOk};
+ghost use Rattle.mj_dev.specs.Shelves.{principal, left_of};
+ghost use Rattle.mj_jobs.specs.Rows.{rows_limit};
+ghost use Rattle.mj_sys.specs.Opening.{opening_of};
 
-use crate::alone::one;
-use crate::ended::{Alone, One};
+use crate::begin::{principals, starts, steps};
+use crate::jobs::Jobs;
 use crate::listings::{listed, save};
 use crate::routines::loaded;
-use crate::stop::{FAILED, FAULTED, Stop, WORDS};
-use mj_ask::Entry;
-use mj_words::{Order, Refusal, read_words};
-use std::alloc::Global;
+use crate::stop::{FAULTED, Stop, WORDS};
+use mj_ask::Start;
+use mj_core::Core;
+use mj_dev::{Memory, Pool};
+use mj_globs::Globals;
+use mj_jobs::ROWS_LIMIT;
+use mj_load::Image;
+use mj_steps::{Ending, Step, step_by, step_in_turn};
+use mj_sys::Opening;
+use mj_words::{Order, Refusal, Run, read_words};
 use std::convert::AsStr;
 use std::io::{Read, Write};
+use std::marker::Brand;
 use std::rt::Files;
 
+/// The most steps that are made where no file says them.
+const STEPS_LIMIT: usize = 1_000_000;
+
 /// Does what the words ask for, of which the first is the program's name, and gives the exit status: 0; 1 where a job faulted; 2
-/// where a routine or a listing is refused; 3 where the words are wrong; 4 where memory or a file fails. What the job writes goes to `out`; a
-/// refusal goes to `err`, on one line, but the text on wrong words, which is clap's. The globals that the job left are written after its output.
+/// where a routine, a listing, a file of steps or a step is refused; 3 where the words are wrong; 4 where memory or a file fails, where all jobs
+/// wait, or where they went on for too long; the greatest where several apply. What the jobs write goes to `out`; a refusal goes to `err`, on one
+/// line, but the text on wrong words, which is clap's. The globals that are left are written after the output.
 pub fn run<R, S, I, O, E>(rt: &R, words: &[S], _input: &mut I, out: &mut O, err: &mut E) -> u8
 where
     R: Files + AllocGlobal,
@@ -27,7 +41,11 @@ where
     ensures { result ≤ 4 }
 {
     match read_words(rt.alloc(), words) {
-        Ok(order) => obey(rt, &order, out, err),
+        Ok(Order::Run(order)) => run_jobs(rt, &order, out, err),
+        Ok(Order::Check { files }) => match check(rt, &files, out) {
+            Ok(status) => status,
+            Err(stop) => stopped(&stop, err),
+        },
         Err(refusal) => match tell(&refusal, out, err) {
             Ok(status) => status,
             Err(stop) => stopped(&stop, err),
@@ -35,62 +53,141 @@ where
     }
 }
 
-// Does it, and gives the exit status.
-fn obey<R, O, E>(rt: &R, order: &Order<'_>, out: &mut O, err: &mut E) -> u8
+// What a run begins with.
+#[derive(Drop)]
+struct Beginning {
+    steps: Option<Vec<Step>>,
+    image: Image,
+    globals: Globals,
+    pool: Pool<Memory>,
+    starts: Vec<Start>,
+}
+
+// Runs jobs, and gives the exit status.
+fn run_jobs<R, O, E>(rt: &R, order: &Run<'_>, out: &mut O, err: &mut E) -> u8
 where
     R: Files + AllocGlobal,
     O: Write,
     E: Write,
     ensures { result ≤ 4 }
 {
-    match order {
-        Order::Run {
-            start,
-            files,
-            globals,
-            save,
-        } => match run_alone(rt, *start, files, *globals) {
-            Ok(ran) => {
-                let status = finish(rt, &ran, *save, out, err);
-                drop(ran);
-                status
+    match begin(rt, order) {
+        Ok(begin) => {
+            let Beginning {
+                steps,
+                image,
+                globals,
+                pool,
+                starts,
+            } = begin;
+            if starts.is_empty() || starts.len() > ROWS_LIMIT || !pool.fits(starts.len() as u32) {
+                return stopped(&Stop::Memory, err);
             }
-            Err(stop) => stopped(&stop, err),
-        },
-        Order::Check { files } => match check(rt, files, out) {
-            Ok(status) => status,
-            Err(stop) => stopped(&stop, err),
-        },
+            over::<R, O, E, Brand>(rt, order, steps, image, globals, pool, starts, out, err)
+        }
+        Err(stop) => stopped(&stop, err),
     }
 }
 
-// Writes what a job wrote, and then the globals that it left, and gives the exit status: the greatest where several apply.
-fn finish<R, O, E>(rt: &R, ran: &Alone, file: Option<&str>, out: &mut O, err: &mut E) -> u8
+// Reads all that a run begins with. The first that is refused ends it.
+fn begin<'a, R: Files + AllocGlobal>(rt: &R, order: &Run<'a>) -> Result<Beginning, Stop<'a>> {
+    let starts = starts(rt.alloc(), &order.starts)?;
+    let steps = steps(rt, order.steps)?;
+    let image = loaded(rt, &order.files)?;
+    let globals = listed(rt, order.globals)?;
+    let pool = principals(rt.alloc())?;
+    Ok(Beginning {
+        steps,
+        image,
+        globals,
+        pool,
+        starts,
+    })
+}
+
+// Steps the jobs, and writes what comes of them.
+fn over<R, O, E, G>(
+    rt: &R,
+    order: &Run<'_>,
+    steps: Option<Vec<Step>>,
+    image: Image,
+    globals: Globals,
+    pool: Pool<Memory>,
+    starts: Vec<Start>,
+    out: &mut O,
+    err: &mut E,
+) -> u8
 where
     R: Files + AllocGlobal,
     O: Write,
     E: Write,
+    G: Opening,
+    requires opening { opening_of globals pool starts.items ≡ G.opening }
+    requires some { 1 ≤ length starts.items }
+    requires few { length starts.items ≤ rows_limit }
+    requires fits { length starts.items ≤ left_of principal pool }
     ensures { result ≤ 4 }
 {
-    let shown = match show(ran, out) {
+    let Ok(core) = Core::<Memory, G>::new(rt.alloc(), image, globals, pool, starts) else {
+        return stopped(&Stop::Memory, err);
+    };
+    let mut jobs = Jobs { core };
+    let ending = match &steps {
+        None => step_in_turn(&mut jobs, STEPS_LIMIT),
+        Some(steps) => step_by(&mut jobs, steps),
+    };
+    finish(rt, &mut jobs, ending, order, out, err)
+}
+
+// Writes what the jobs wrote, then why they were stopped, then the globals that they left, and gives the exit status: the greatest where several
+// apply.
+fn finish<R, O, E, G>(
+    rt: &R,
+    jobs: &mut Jobs<G>,
+    ending: Ending,
+    order: &Run<'_>,
+    out: &mut O,
+    err: &mut E,
+) -> u8
+where
+    R: Files + AllocGlobal,
+    O: Write,
+    E: Write,
+    G: Opening,
+    ensures { result ≤ 4 }
+{
+    let shown = match show(rt, jobs, out) {
         Ok(status) => status,
         Err(stop) => stopped(&stop, err),
     };
-    match save(rt, seen(ran).globals(), file) {
-        Ok(()) => shown,
-        Err(stop) => {
-            let saved = stopped(&stop, err);
-            if saved > shown { saved } else { shown }
+    let ended = match Stop::of_ending(ending) {
+        None => 0,
+        Some(stop) => stopped(&stop, err),
+    };
+    if ending == Ending::Stuck && order.why {
+        if let Ok(lines) = jobs.waits(rt.alloc()) {
+            // Where this can't be written, the status alone tells.
+            let _ = err.write_all(&lines);
         }
     }
+    let saved = match save(rt, jobs.globals(), order.save) {
+        Ok(()) => 0,
+        Err(stop) => stopped(&stop, err),
+    };
+    shown.max(ended).max(saved)
 }
 
-// What is seen of a job, however it went.
-fn seen(ran: &Alone) -> &One {
-    match ran {
-        Alone::Ended(done) => done,
-        Alone::Stopped(done) => done,
-    }
+// Writes what the jobs wrote, and says whether one faulted.
+fn show<'a, R, O, G>(rt: &R, jobs: &Jobs<G>, out: &mut O) -> Result<u8, Stop<'a>>
+where
+    R: Files + AllocGlobal,
+    O: Write,
+    G: Opening,
+    ensures { IfOk result (λ status. status ≤ 1) }
+{
+    let bytes = jobs.printed(rt.alloc())?;
+    print(&bytes, out)?;
+    Ok(if jobs.has_faulted() { FAULTED } else { 0 })
 }
 
 // Says why the program stops, and gives the exit status.
@@ -115,46 +212,6 @@ fn check<'a, R: Files + AllocGlobal, O: Write>(
     let told = format!(in rt.alloc(); "ok {count}\n")?;
     print(told.as_bytes(), out)?;
     Ok(0)
-}
-
-// Runs one job alone, from this entry, over the globals that a file lists.
-fn run_alone<'a, R: Files + AllocGlobal>(
-    rt: &R,
-    start: &'a str,
-    files: &[&'a str],
-    globals: Option<&'a str>,
-) -> Result<Alone, Stop<'a>> {
-    let entry = entry(rt.alloc(), start)?;
-    let image = loaded(rt, files)?;
-    let opening = listed(rt, globals)?;
-    match one(rt.alloc(), &image, entry, opening, u64::MAX) {
-        Ok(ran) => Ok(ran),
-        Err(_) => Err(Stop::Memory),
-    }
-}
-
-// The entry that a word names.
-fn entry<'a>(alloc: Global, word: &'a str) -> Result<Entry, Stop<'a>> {
-    match Entry::read(alloc, word.as_bytes())? {
-        Some(entry) => Ok(entry),
-        None => Err(Stop::Value(word)),
-    }
-}
-
-// Writes what a job wrote, and gives the exit status.
-fn show<'a, O: Write>(ran: &Alone, out: &mut O) -> Result<u8, Stop<'a>>
-    ensures { IfOk result (λ status. status ≤ 1) }
-{
-    match ran {
-        Alone::Ended(done) => {
-            print(done.output(), out)?;
-            Ok(if done.has_faulted() { FAULTED } else { 0 })
-        }
-        Alone::Stopped(done) => {
-            print(done.output(), out)?;
-            Err(Stop::Full)
-        }
-    }
 }
 
 // The text on words that are no order: help, which was asked for, or what is wrong.

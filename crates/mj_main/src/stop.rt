@@ -5,6 +5,7 @@ ghost use Rattle.mj_main.specs.Statuses.{status_of};
 
 use mj_gfile::ReadError;
 use mj_rou::LoadError;
+use mj_steps::{Ending, Refused, StepsError};
 use mj_text::{Digits, Text};
 use std::alloc::AllocError;
 use std::{fmt, str};
@@ -31,7 +32,16 @@ pub enum Stop<'a> {
     /// a listing of globals is refused
     #[error("{0}")]
     Listing(ReadError),
-    /// a job isn't over after as many turns as the program lets it go on for
+    /// a file of steps is refused
+    #[error("{0}")]
+    Steps(StepsError),
+    /// a step is refused; steps count from 1
+    #[error("{why} at step {step}")]
+    Step { why: Refused, step: usize },
+    /// all jobs wait, and none for what it asks with a timeout
+    #[error("stuck")]
+    Stuck,
+    /// there are as many events as there may be, or as many steps were made
     #[error("full")]
     Full,
     /// an allocation was refused
@@ -54,6 +64,26 @@ pub const WORDS: u8 = 3;
 /// The exit status where memory or a file fails, or a job goes on for too long.
 pub const FAILED: u8 = 4;
 
+impl<'a> Stop<'a> {
+    /// Why stepping ended before its end, if it did.
+    pub fn of_ending(ending: Ending) -> Option<Stop<'a>> {
+        match ending {
+            Ending::Over => None,
+            Ending::Stuck => Some(Stop::Stuck),
+            Ending::Full => Some(Stop::Full),
+            Ending::Refused {
+                why: Refused::Full,
+                ..
+            } => Some(Stop::Full),
+            Ending::Refused {
+                why: Refused::Memory,
+                ..
+            } => Some(Stop::Memory),
+            Ending::Refused { why, step } => Some(Stop::Step { why, step }),
+        }
+    }
+}
+
 impl Stop<'_> {
     /// The exit status that goes with it.
     pub fn status(&self) -> u8
@@ -62,8 +92,9 @@ impl Stop<'_> {
     {
         match self {
             Stop::Name(_) | Stop::Routine(_) | Stop::Twice(_) | Stop::Listing(_) => REFUSED,
+            Stop::Steps(_) | Stop::Step { .. } => REFUSED,
             Stop::Value(_) => WORDS,
-            Stop::File(_) | Stop::Full | Stop::Memory => FAILED,
+            Stop::File(_) | Stop::Stuck | Stop::Full | Stop::Memory => FAILED,
         }
     }
 }

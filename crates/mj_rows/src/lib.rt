@@ -15,6 +15,8 @@ mod listings;
 #[cfg(test)]
 mod locals;
 #[cfg(test)]
+mod many;
+#[cfg(test)]
 mod names;
 #[cfg(test)]
 mod operators;

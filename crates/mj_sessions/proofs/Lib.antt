@@ -3,3 +3,4 @@ mod Hearing
 pub mod Places
 pub mod Telling
 mod Outputs
+pub mod There

@@ -1,12 +1,13 @@
 // The sessions that a job has.
 
-ghost use Rattle.std.specs.Prelude.{◌≡◌, ◌<◌, ◌+◌, ◌≤◌, ◌++◌, ◌∷◌, [], Some, None, false, true, position, is_some, IfOk, IfSome, IfNone, OnErr};
+ghost use Rattle.std.specs.Prelude.{◌≡◌, ◌<◌, ◌+◌, ◌≤◌, ◌++◌, ◌∷◌, [], ℕ, List, Some, None, false, true, position, is_some, if◌then◌else◌, IfOk, IfSome, IfNone, OnErr};
 ghost use Rattle.mj_ask.specs.Fits.{is_shared};
 ghost use Rattle.mj_dev.specs.Heard.{IsNew};
 ghost use Rattle.mj_sessions.specs.Answers.{Answers, Asked, Ends, IsCall};
 ghost use Rattle.mj_ask.specs.declared.ask.Ask as asks;
 ghost use Rattle.mj_ask.specs.declared.ask.Reply as replies;
 ghost use Rattle.mj_sessions.specs.Events.{Log};
+ghost use Rattle.mj_sessions.specs.Follow.{ends_on};
 ghost use Rattle.mj_sessions.specs.Named.{is_named, session_of, AreTold};
 
 use crate::answer::Answer;
@@ -89,6 +90,7 @@ impl<D: Device> Sessions<D> {
         requires { is_shared ask.now ≡ false }
         ensures answers { Answers self.old.sessions ask.now late result self.new.sessions }
         ensures told { (log : Log) (reply : replies.Reply) → result ≡ Answer.Told reply → AreTold log self.old.sessions → AreTold (log ++ (ask.now, reply) ∷ []) self.new.sessions }
+        ensures there { (name : List ℕ) (reply : replies.Reply) → result ≡ Answer.Told reply → is_some (session_of name self.new.sessions) ≡ (if ends_on name ask.now then false else is_some (session_of name self.old.sessions)) }
     {
         let _held = &self.held;
         self.asked(ask, late)

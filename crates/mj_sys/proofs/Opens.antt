@@ -56,6 +56,11 @@ module _ (s : Shared) (job : ℕ) (name : List ℕ) (timeout : Option ℤ) (late
   busy_by d h e there held other soon =
       (rw (e, there, held, other_job h job other, soon) refl, ap (λ (o : Option Device). elim o as (λ _. Option ℕ) [ None ↦ None | Some x ↦ x.holder ]) there ∙ held)
 
+-- where nobody holds it, one goes to the job if one is left
+pub free : (s : Shared) (name : List ℕ) (timeout : Option ℤ) (d : Device) → bytes_eq name principal ≡ false → device_at s.devices name ≡ Some d → d.holder ≡ None
+    → takes_session s (asks.Open name timeout) ≡ nat_lt d.taken d.sessions
+free s name timeout d e there nobody = rw (e, there, nobody) refl
+
 -- what a busy device comes to
 module _ (v : Service) (job : ℕ) (name : List ℕ) (timeout : Option ℤ) (late : Bool) (d : Device) (h : ℕ) where
   pub others : (n : List ℕ) → n ≡ name → bytes_eq name principal ≡ false → device_at v.state.devices name ≡ Some d → d.holder ≡ Some h → (h ≡ job → ⊥)

@@ -176,6 +176,12 @@ some_left p s k other some = at (bytes_eq s.name principal) other where
   at true is = absurd (let no : ⊥ = cc in no)
   at false is = grind (arith, some)
 
+pub by_left : (p : ℕ) (s : Shelf) (k : Option ℕ) → bytes_eq s.name principal ≡ false → nat_lt (device_of p s k).taken (device_of p s k).sessions ≡ nat_lt 0 s.left
+by_left p s k other = by (nat_lt 0 s.left) refl where
+  by : (b : Bool) → nat_lt 0 s.left ≡ b → nat_lt (device_of p s k).taken (device_of p s k).sessions ≡ nat_lt 0 s.left
+  by true is = some_left p s k other (grind (arith, is)) ∙ sym is
+  by false is = none_left p s k other (grind (arith, is)) ∙ sym is
+
 -- ---- rows that are claimed, and the beginning
 
 -- a principal session that goes to its job changes no device

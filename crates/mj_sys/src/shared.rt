@@ -11,7 +11,7 @@ ghost use Rattle.mj_jobs.specs.Rows.{Row, row_at, IsLive};
 ghost use Rattle.mj_locktab.specs.Locks.{LocksApart};
 ghost use Rattle.mj_ask.specs.declared.ask.Reply.TheVariants as replies;
 ghost use Rattle.mj_sys.specs.Devices.{with_device, closed_by};
-ghost use Rattle.mj_sys.specs.Shared.{halted};
+ghost use Rattle.mj_sys.specs.Shared.{halted, takes_session};
 ghost use Rattle.mj_sys.specs.declared.shared.Outcome.TheVariants as outcomes;
 ghost use Rattle.mj_sys.specs.Opening.{opening_of};
 ghost use Rattle.mj_sys.specs.Kept.{Comes, without};
@@ -150,6 +150,25 @@ impl<D: Device> Shared<D> {
         ensures { IsTrue result ↔ IsLive self.now.state.rows job }
     {
         self.jobs.is_live(job)
+    }
+
+    // Whether a session goes to a job by this ask: it is to open a device that nobody holds, and of which a session is left.
+    pub fn takes_session(&self, ask: &Ask) -> bool
+        ensures { result ≡ takes_session self.now.state ask.now }
+    {
+        let Ask::Open(name, _) = ask else {
+            return false;
+        };
+        if is_principal(self.alloc, name) {
+            return false;
+        }
+        let Some(place) = self.pool.place(name) else {
+            return false;
+        };
+        match self.holders[place] {
+            None => self.pool.left(name) > 0,
+            Some(_) => false,
+        }
     }
 
     // The lowest row that isn't claimed, which is claimed now, with its job's principal session; none where all are.

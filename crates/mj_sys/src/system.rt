@@ -7,7 +7,7 @@ ghost use Rattle.mj_dev.specs.Shelves.{principal, left_of};
 ghost use Rattle.mj_jobs.specs.Rows.{Row, row_at, IsLive, rows_limit};
 ghost use Rattle.mj_locktab.specs.Locks.{LocksApart};
 ghost use Rattle.mj_sys.specs.Opening.{opening_of};
-ghost use Rattle.mj_sys.specs.Shared.{are_global};
+ghost use Rattle.mj_sys.specs.Shared.{are_global, takes_session};
 ghost use Rattle.mj_sys.specs.History.{state_of, AreServed, events_of, log_of};
 ghost use Rattle.mj_sys.specs.System.{history_limit, KeepsRows};
 ghost use Rattle.mj_sys.specs.Told.{Serves, IsRefused, IsTurn};
@@ -94,6 +94,13 @@ impl<D: Device, O: Opening> System<D, O> {
         };
         self.counts.push_reserved(0);
         Ok(Some((Claim::new(claimed.job, claimed.start), session)))
+    }
+
+    /// Whether a session would go to the job whose ask this is, if it were served now. One that has the device already gets it without one.
+    pub fn takes_session(&self, ask: &Ask) -> bool
+        ensures { result ≡ takes_session (state_of O.opening self.now.history) ask.now }
+    {
+        self.shared.takes_session(ask)
     }
 
     /// Serves an ask of a claim's job. Where it is busy for another job, and has a timeout that is over, or is said to be `late`, it is told

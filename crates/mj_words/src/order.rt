@@ -5,18 +5,27 @@ use std::alloc::AllocError;
 /// What the words ask for.
 #[derive(Drop)]
 pub enum Order<'a> {
-    /// to run these routines' files, with one job that starts at this entry, over the globals that a file lists, and to write those
-    /// that it leaves to a file
-    Run {
-        start: &'a str,
-        files: Vec<&'a str>,
-        globals: Option<&'a str>,
-        save: Option<&'a str>,
-    },
+    /// to run jobs
+    Run(Run<'a>),
     /// to load the routines of these files, and to say how many there are
-    Check {
-        files: Vec<&'a str>,
-    },
+    Check { files: Vec<&'a str> },
+}
+
+/// Jobs that are to run.
+#[derive(Drop)]
+pub struct Run<'a> {
+    /// where the first jobs start, one for each; at least one
+    pub starts: Vec<&'a str>,
+    /// the files of the routines
+    pub files: Vec<&'a str>,
+    /// the file that lists the globals that are there at first
+    pub globals: Option<&'a str>,
+    /// the file to which the listing of the globals that are left goes
+    pub save: Option<&'a str>,
+    /// the file of the steps; without one the jobs are stepped in turn
+    pub steps: Option<&'a str>,
+    /// whether to say, where all jobs wait, what each waits for
+    pub why: bool,
 }
 
 /// Why words are no order.

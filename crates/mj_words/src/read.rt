@@ -1,7 +1,7 @@
 // The words of the command line.
 
-use crate::order::{Order, Refusal};
-use crate::texts::{CHECK_EXAMPLE, EXAMPLES, RUN_EXAMPLE, VERSION};
+use crate::order::{Order, Refusal, Run};
+use crate::texts::{CHECK_EXAMPLE, EXAMPLES, RUN_EXAMPLE, STEP_EXAMPLE, VERSION};
 use clap::error::ErrorKind;
 use clap::{Arg, ArgAction, ArgMatches, Command, Error};
 use std::alloc::{AllocError, Global};
@@ -29,7 +29,7 @@ fn ordered<'a, S: AsStr>(
 ) -> Result<Order<'a>, Error> {
     let matches = command.try_get_matches_from_mut(words)?;
     match matches.subcommand() {
-        Some(("run", found)) => Ok(run_order(alloc, found)?),
+        Some(("run", found)) | Some(("step", found)) => Ok(run_order(alloc, found)?),
         Some(("check", found)) => Ok(check_order(alloc, found)?),
         _ => Err(command.error(ErrorKind::MissingSubcommand, "a command is required")?),
     }
@@ -47,17 +47,20 @@ fn refusal(alloc: Global, error: &Error) -> Refusal {
     }
 }
 
+// An option that the command hasn't counts as one that isn't given.
 fn run_order<'a>(alloc: Global, found: &ArgMatches<'a>) -> Result<Order<'a>, AllocError> {
-    let start = match found.get_str("start") {
-        Some(start) => start,
-        None => "",
-    };
-    Ok(Order::Run {
-        start,
+    let mut starts = Vec::new(alloc);
+    if let Some(given) = found.get_strs("start") {
+        starts.extend_from_slice(given)?;
+    }
+    Ok(Order::Run(Run {
+        starts,
         files: files(alloc, found)?,
         globals: found.get_str("globals"),
         save: found.get_str("save"),
-    })
+        steps: found.get_str("steps"),
+        why: found.get_flag("why"),
+    }))
 }
 
 fn check_order<'a>(alloc: Global, found: &ArgMatches<'a>) -> Result<Order<'a>, AllocError> {
@@ -82,13 +85,26 @@ fn command<'a>(alloc: Global) -> Result<Command<'a>, AllocError> {
         .after_help(EXAMPLES)
         .subcommand_required(true)
         .subcommand(run_command(alloc)?)?
+        .subcommand(step_command(alloc)?)?
         .subcommand(check_command(alloc)?)
 }
 
 fn run_command<'a>(alloc: Global) -> Result<Command<'a>, AllocError> {
     Command::new(alloc, "run")
-        .about("Runs routines, and prints what they write")
+        .about("Runs jobs, and prints what they write")
         .after_help(RUN_EXAMPLE)
+        .arg(start(alloc))?
+        .arg(globals(alloc))?
+        .arg(save(alloc))?
+        .arg(routines(alloc))
+}
+
+fn step_command<'a>(alloc: Global) -> Result<Command<'a>, AllocError> {
+    Command::new(alloc, "step")
+        .about("Runs jobs by single steps, in turn or as a file says, and prints what they write")
+        .after_help(STEP_EXAMPLE)
+        .arg(steps(alloc))?
+        .arg(why(alloc))?
         .arg(start(alloc))?
         .arg(globals(alloc))?
         .arg(save(alloc))?
@@ -106,9 +122,26 @@ fn start<'a>(alloc: Global) -> Arg<'a> {
     Arg::new(alloc, "start")
         .long("start")
         .value_name("ENTRY")
-        .help("Where the job starts: label^ROUTINE or ^ROUTINE")
-        .action(ArgAction::Set)
+        .help("Where a job starts: label^ROUTINE or ^ROUTINE; once for each of 1 to 255 jobs")
+        .action(ArgAction::Append)
         .required(true)
+}
+
+fn steps<'a>(alloc: Global) -> Arg<'a> {
+    Arg::new(alloc, "steps")
+        .long("steps")
+        .value_name("FILE")
+        .help(
+            "The steps, one a line: the number of a job, and `late` behind it where its timeout is over",
+        )
+        .action(ArgAction::Set)
+}
+
+fn why<'a>(alloc: Global) -> Arg<'a> {
+    Arg::new(alloc, "why")
+        .long("why")
+        .help("Says, where all jobs wait, what each waits for")
+        .action(ArgAction::SetTrue)
 }
 
 fn globals<'a>(alloc: Global) -> Arg<'a> {

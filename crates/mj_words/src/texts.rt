@@ -7,20 +7,28 @@ pub const VERSION: &str = "0.1.0, proved by rattle-kit-13b logic dac8208d650f15b
 pub const EXAMPLES: &str = "\
 Examples:
   mj run --start ^R R.m
+  mj step --steps STEPS --start A^R --start B^R R.m
   mj check R.m _TOOL.m
 
 Exit statuses:
   0  all is done
-  1  the job faulted
-  2  a routine or a listing of globals was refused
+  1  a job faulted
+  2  a routine, a listing of globals or a file of steps was refused, or a step was
   3  the words of the command line are wrong
-  4  memory was refused, or a file failed";
+  4  memory was refused, a file failed, all jobs wait, or they went on for too long";
 
 /// What stands below the help of `run`.
 pub const RUN_EXAMPLE: &str = "\
-Examples, from the label LATER of the routine in R.m, and over globals that are kept in a file:
+Examples, from the label LATER of the routine in R.m, two jobs, and one over globals that are kept in a file:
   mj run --start LATER^R R.m _TOOL.m
+  mj run --start A^R --start B^R R.m
   mj run --start ^R --globals DATA --save DATA R.m";
+
+/// What stands below the help of `step`.
+pub const STEP_EXAMPLE: &str = "\
+Examples, by the steps in a file (`1`, `2` and `1 late` are such lines), and in turn:
+  mj step --steps STEPS --start A^R --start B^R R.m
+  mj step --why --start A^R --start B^R R.m";
 
 /// What stands below the help of `check`.
 pub const CHECK_EXAMPLE: &str = "\

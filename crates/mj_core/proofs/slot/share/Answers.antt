@@ -1,4 +1,4 @@
-use Rattle.std.proofs.Common.{◌≡◌, ◌++◌, ◌∷◌, [], List, true, Some, refl, sym, subst}
+use Rattle.std.proofs.Common.{◌≡◌, ◌++◌, ◌∷◌, [], ℕ, List, true, Option, Some, refl, sym, ap, ◌∙◌, subst}
 use Rattle.mj_ask.specs.declared.ask.Ask.{Ask}
 use Rattle.mj_ask.specs.declared.ask.Reply.TheVariants as replies
 use Rattle.mj_ask.specs.Fits.{fits, is_shared}
@@ -10,6 +10,12 @@ use Rattle.mj_sys.specs.Told.{Serves}
 use Rattle.mj_sys.specs.History.{state_of}
 use Rattle.mj_core.proofs.Telling.{fits_served}
 use Rattle.mj_core.proofs.Stepping.{same_ask}
+use Rattle.mj_core.specs.Ties.{IsPlace}
+use Rattle.mj_core.proofs.Behind.{unmoved, there_more, moved}
+use Rattle.std.specs.Str.{bytes_eq}
+use Rattle.std.specs.Prelude.{◌&&◌, if◌then◌else◌}
+use Rattle.std.specs.Option.{is_some}
+use Rattle.mj_sessions.specs.Named.{session_of}
 use Rattle.mj_core.proofs.slot.share.Goals as goal
 
 pub answer-requires : goal.answer-requires
@@ -46,8 +52,10 @@ returns-in-Ok-Reply-clause-ok g c =
         serves.tells.0,
         serves.records.0,
         serves.records.1,
-        (c.answer.ensures.log ask pending, c.answer.ensures.run),
+        (c.answer.ensures.log ask pending, c.answer.ensures.run, c.answer.ensures.spent),
         (λ told. subst P (sym c.place_for.ensures.sessions) (told_shared c.args.job.now.run.log c.args.sessions.now.sessions ask reply shared told)),
+        (λ name. ap (λ l. is_some (session_of name l)) c.place_for.ensures.sessions
+            ∙ sym (unmoved (state_of opening c.args.system.now.history) name ask (is_some (session_of name c.args.sessions.now.sessions)) shared serves.tells.1)),
       ),
     )
 
@@ -63,6 +71,8 @@ returns-in-Some-place-clause-ok g c =
     let serves = subst S c.in-Ok-Opened.field-0-is c.in-Ok-Opened.ensures.ok in
     let fit : fits ask reply ≡ true = fits_served (state_of opening c.args.system.now.history) c.args.claim.now.job ask c.args.late reply (state_of opening c.serve.new.self.history)
     shared serves.tells.0 in
+    let O : Option (List ℕ) → Type 0 = λ o. IsPlace c.place_for.new.sessions ask o in
+    let place : IsPlace c.place_for.new.sessions ask (Some c.in-Some-place.name) = subst O c.in-Some-place.is (c.in-Ok.ensures.place (c.takes_session.ensures ∙ serves.tells.1)) in
     let P : List Named → Type 0 = λ l. AreTold c.args.job.now.run.log l in (
       ask,
       pending,
@@ -72,7 +82,11 @@ returns-in-Some-place-clause-ok g c =
         serves.tells.0,
         serves.records.0,
         serves.records.1,
-        (c.answer-in-Ok-Opened.ensures.log ask pending, c.answer-in-Ok-Opened.ensures.run),
+        (c.answer-in-Ok-Opened.ensures.log ask pending, c.answer-in-Ok-Opened.ensures.run, c.answer-in-Ok-Opened.ensures.spent),
         (λ told. c.open.ensures.told c.args.job.now.run.log ask reply shared (subst P (sym c.place_for.ensures.sessions) told)),
+        (λ name. ap (λ l. is_some (session_of name l)) c.open.ensures.sessions
+            ∙ there_more name c.place_for.new.sessions.sessions (record { name = c.in-Some-place.name; session = c.in-Ok-Opened.session })
+            ∙ ap (λ l. if bytes_eq c.in-Some-place.name name && true then true else is_some (session_of name l)) c.place_for.ensures.sessions
+            ∙ sym (moved (state_of opening c.args.system.now.history) name ask (is_some (session_of name c.args.sessions.now.sessions)) c.place_for.new.sessions c.in-Some-place.name serves.tells.1 place)),
       ),
     )

@@ -1,0 +1,453 @@
+// Many jobs over one system.
+
+ghost use Rattle.std.specs.Prelude.{◌≡◌, ◌<◌, ◌≤◌, ℕ, suc, List, [], length, replicate, Bool, true, false, Option, Some, None, IsSome, slice_get, vec_len, vec_capacity, IfOk, IfErr, OnOk, OnErr, IfSome, IfNone};
+ghost use Rattle.mj_load.specs.Image.{routines_of};
+ghost use Rattle.mj_dev.specs.Heard.{IsNew};
+ghost use Rattle.mj_dev.specs.Shelves.{principal, left_of};
+ghost use Rattle.mj_jobs.specs.Rows.{Row, row_at, rows_limit, IsLive};
+ghost use Rattle.mj_jobvm.specs.Jobs.{IsRunOf};
+ghost use Rattle.mj_locktab.specs.Locks.{LocksApart};
+ghost use Rattle.mj_sys.specs.History.{state_of, log_of};
+ghost use Rattle.mj_sys.specs.Opening.{opening_of};
+ghost use Rattle.mj_sys.specs.Shared.{are_global};
+ghost use Rattle.mj_sys.specs.System.{Claimed, history_limit};
+ghost use Rattle.mj_events.specs.Woven.{woven};
+ghost use Rattle.mj_core.specs.Runs.{IsRun, start_in, out_of};
+ghost use Rattle.mj_core.specs.Gives.{Gives, Made as StepGives, Readies, RunGives, GivesReady};
+ghost use Rattle.mj_core.specs.Kept.{AreKept, logs_of, turns_of, claim_of, shown, shown_event};
+
+use crate::seen::{Refusal, Seen, Step, Way};
+use crate::slot::{FUEL, Made, Slot, step_slot};
+use mj_ask::{Ask, Reply, Start};
+use mj_dev::{Device, Pool, Session};
+use mj_events::Happened;
+use mj_globs::Globals;
+use mj_jobs::ROWS_LIMIT;
+use mj_jobvm::{Job, Turn};
+use mj_load::Image;
+use mj_locktab::LockTable;
+use mj_sessions::{Sessions, output};
+use mj_sys::{Claim, HISTORY_LIMIT, Opening, System, Unmade};
+use mj_text::Text;
+use std::alloc::{AllocError, Global};
+use std::marker::Model;
+
+/// The routines, the system, and the jobs with their sessions, on one thread.
+#[derive(Drop)]
+pub struct Core<D: Device, O: Opening> {
+    alloc: Global,
+    image: Image,
+    system: System<D, O>,
+    // the jobs whose rows were claimed, by their numbers
+    slots: Vec<Slot<D>>,
+    // a row that was claimed, and whose job isn't started yet for want of memory
+    waiting: Option<(Claim, Session<D>)>,
+    // which entry of which job's log came when
+    order: Vec<Happened>,
+    // of each job that there may be, whether its end was seen
+    over: Vec<bool>,
+}
+
+impl<D: Device, O: Opening> Model for Core<D, O> {
+    ghost use Rattle.std.specs.Coded.{codes};
+    ghost use Rattle.std.specs.Prelude.{◌≡◌, length, IfSome};
+    ghost use Rattle.mj_ast.specs.contracts.routine.Routine as routine;
+    ghost use Rattle.mj_pcode.specs.contracts.instr.Unit as unit;
+    ghost use Rattle.mj_dev.specs.Heard.{IsNew};
+    ghost use Rattle.mj_events.specs.Woven.{woven};
+    ghost use Rattle.mj_core.specs.Shown.{Shown};
+    ghost use Rattle.mj_core.specs.Kept.{AreKept, logs_of, turns_of, claim_of};
+
+    ghost Value = { Shown };
+
+    ghost coded = { Prim.hlevel (codes, routine.the_row.coded, unit.the_row.coded) };
+
+    ghost view = { λ c. record {
+      image = c.image;
+      history = woven (logs_of c.slots.items) c.order.items;
+      over = c.over.items;
+      spent = turns_of 255 c.slots.items;
+    } };
+
+    ghost invariant = { λ c.
+        AreKept c.image O.opening c.system c.slots.items (claim_of c.waiting) c.order.items
+        × (length c.over.items ≡ 255)
+        × IfSome c.waiting (λ w. IsNew w.1) };
+}
+
+impl<D: Device, O: Opening> Core<D, O> {
+    /// A core of a system of which nothing was asked yet, with a row for each of the starts. Only names of globals may have texts in its globals.
+    /// At want of memory all comes back that the system was to be made of.
+    pub fn new(
+        alloc: Global,
+        image: Image,
+        globals: Globals,
+        pool: Pool<D>,
+        starts: Vec<Start>,
+    ) -> Result<Core<D, O>, Unmade<D>>
+        requires opening { opening_of globals pool starts.items ≡ O.opening }
+        requires global { are_global globals ≡ true }
+        requires some { 1 ≤ length starts.items }
+        requires few { length starts.items ≤ rows_limit }
+        requires fits { length starts.items ≤ left_of principal pool }
+        ensures ok { IfOk result (λ core. core ≡ record { image = image; history = []; over = replicate 255 false; spent = replicate 255 0 }) }
+        ensures globals { IfErr result (λ back. back.globals ≡ globals) }
+        ensures pool { IfErr result (λ back. back.pool ≡ pool) }
+        ensures starts { IfErr result (λ back. back.starts.items ≡ starts.items) }
+    {
+        let Ok(over) = nobody_over(alloc) else {
+            return Err(Unmade {
+                globals,
+                pool,
+                starts,
+            });
+        };
+        let system = System::new(alloc, globals, pool, starts)?;
+        Ok(Core {
+            alloc,
+            image,
+            system,
+            slots: Vec::new(alloc),
+            waiting: None,
+            order: Vec::new(alloc),
+            over,
+        })
+    }
+
+    /// Makes a step: the job goes on for at most 10,000 turns to its next ask, which is served. Where it isn't made, nothing is asked or told.
+    pub fn step(&mut self, step: Step) -> Result<Seen, Refusal>
+        ensures { Gives O.opening self.old step result self.new }
+    {
+        let Some(at) = self.place(step.job) else {
+            return Err(Refusal::NoJob);
+        };
+        if self.over[at] {
+            return Err(Refusal::Ended);
+        }
+        if self.order.len() >= HISTORY_LIMIT {
+            return Err(Refusal::Full);
+        }
+        if !self.system.is_live(step.job) {
+            self.over[at] = true;
+            return Ok(Seen::Ended);
+        }
+        let Ok(()) = self.order.reserve(1) else {
+            return Err(Refusal::Memory);
+        };
+        let Ok(()) = admit(
+            self.alloc,
+            &self.image,
+            &mut self.system,
+            &mut self.slots,
+            &mut self.waiting,
+            &self.order,
+            at,
+        ) else {
+            return Err(Refusal::Memory);
+        };
+        go(
+            &self.image,
+            &mut self.system,
+            &mut self.slots,
+            &mut self.order,
+            &mut self.over,
+            at,
+            step.way == Way::Late,
+        )
+    }
+
+    /// Makes every step in order, and gives one answer for each. Room for the answers is taken first.
+    pub fn run(&mut self, steps: &[Step]) -> Result<Vec<Result<Seen, Refusal>>, AllocError>
+        ensures gives { IfOk result (λ answers. RunGives O.opening self.old steps.now answers.items self.new) }
+        ensures run { IsRun (routines_of self.new.image) O.opening self.new.history }
+        ensures apart { LocksApart (state_of O.opening self.new.history).locks }
+        ensures err { OnErr result (self.new ≡ self.old) }
+    {
+        let answers = self.answers(steps);
+        // what is kept behind each step is kept behind the last
+        let _events = self.len();
+        let _locks = self.locks();
+        answers
+    }
+
+    // Makes every step in order.
+    fn answers(&mut self, steps: &[Step]) -> Result<Vec<Result<Seen, Refusal>>, AllocError>
+        ensures gives { IfOk result (λ answers. RunGives O.opening self.old steps.now answers.items self.new) }
+        ensures err { OnErr result (self.new ≡ self.old) }
+    {
+        let mut answers = Vec::with_capacity(self.alloc, steps.len())?;
+        for step in steps {
+            let answer = self.step(*step);
+            answers.push_reserved(answer);
+        }
+        Ok(answers)
+    }
+
+    /// Lets a job go on for at most 10,000 turns to its next ask, and serves nothing.
+    pub fn ready(&mut self, job: u32) -> Result<Turn, Refusal>
+        ensures { GivesReady O.opening self.old job result self.new }
+    {
+        let Some(at) = self.place(job) else {
+            return Err(Refusal::NoJob);
+        };
+        if self.over[at] {
+            return Err(Refusal::Ended);
+        }
+        if !self.system.is_live(job) {
+            return Ok(Turn::Ended);
+        }
+        let Ok(()) = admit(
+            self.alloc,
+            &self.image,
+            &mut self.system,
+            &mut self.slots,
+            &mut self.waiting,
+            &self.order,
+            at,
+        ) else {
+            return Err(Refusal::Memory);
+        };
+        go_ready(&self.image, &self.system, &mut self.slots, &self.order, at)
+    }
+
+    /// How many events there are. The history is a run, whatever steps were made.
+    pub fn len(&self) -> usize
+        ensures value { result ≡ length self.now.history }
+        ensures run { IsRun (routines_of self.now.image) O.opening self.now.history }
+    {
+        self.order.len()
+    }
+
+    /// The event at a place of the history, from 0: its job, what that asked, and what it was told.
+    pub fn event(&self, at: usize) -> Option<(u32, &Ask, &Reply)>
+        ensures { shown_event result ≡ slice_get self.now.history at }
+    {
+        let happened = self.order.get(at)?;
+        let slot = self.slots.get(happened.job as usize - 1)?;
+        let (ask, reply) = slot.job.log().get(happened.at)?;
+        Some((happened.job, ask, reply))
+    }
+
+    /// The globals: those that the history leaves.
+    pub fn globals(&self) -> &Globals
+        ensures { result.now ≡ (state_of O.opening self.now.history).globals }
+    {
+        self.system.globals()
+    }
+
+    /// Who holds which names: as the history leaves it. No name of one job overlaps a name of another.
+    pub fn locks(&self) -> &LockTable
+        ensures replay { result.now ≡ (state_of O.opening self.now.history).locks }
+        ensures apart { LocksApart result.now }
+    {
+        self.system.locks()
+    }
+
+    /// How many jobs there are, ended ones among them.
+    pub fn jobs(&self) -> usize
+        ensures value { result ≡ length (state_of O.opening self.now.history).rows }
+        ensures bound { result ≤ rows_limit }
+    {
+        self.system.rows()
+    }
+
+    /// A job that was stepped or made ready, or one before it. It runs the routines from its row's start, and its log is what the history has of
+    /// it: so what it shows of itself, its locals, its frames, its place and what it asks, is what stands there in its private run.
+    pub fn job(&self, job: u32) -> Option<&Job>
+        ensures none { IfNone result (log_of job self.now.history ≡ []) }
+        ensures log { IfSome result (λ found. found.now.run.log ≡ log_of job self.now.history) }
+        ensures run { IfSome result (λ found. (row : Row) × (row_at (state_of O.opening self.now.history).rows job ≡ Some row) × IsRunOf self.now.image (start_in job row.start) found.now) }
+    {
+        match (job as usize).checked_sub(1) {
+            None => None,
+            Some(at) => match self.slots.get(at) {
+                None => None,
+                Some(slot) => Some(&slot.job),
+            },
+        }
+    }
+
+    /// The bytes that a session of a job took which it had under this name: the first is 1.
+    pub fn out(&self, job: u32, name: &Text, session: u32) -> Result<Vec<u8>, AllocError>
+        ensures { IfOk result (λ bytes. bytes.items ≡ out_of self.now.history job name.now session) }
+    {
+        match self.job(job) {
+            None => Ok(Vec::new(self.alloc)),
+            Some(found) => output(self.alloc, found.log(), name, session),
+        }
+    }
+
+    // Where a job's slot is, or will be; none where it has no row.
+    fn place(&self, job: u32) -> Option<usize>
+        ensures none { IfNone result (row_at (state_of O.opening self.now.history).rows job ≡ None) }
+        ensures some { IfSome result (λ at. (job ≡ suc at) × (at < 255) × IsSome (row_at (state_of O.opening self.now.history).rows job)) }
+    {
+        let at = (job as usize).checked_sub(1)?;
+        if at < self.system.rows() {
+            Some(at)
+        } else {
+            None
+        }
+    }
+}
+
+// Gives each row up to this place a slot. Where memory is refused, those that have one keep it.
+fn admit<D: Device, O: Opening>(
+    alloc: Global,
+    image: &Image,
+    system: &mut System<D, O>,
+    slots: &mut Vec<Slot<D>>,
+    waiting: &mut Option<(Claim, Session<D>)>,
+    order: &[Happened],
+    at: usize,
+) -> Result<(), AllocError>
+    requires kept { AreKept image.now O.opening system.old slots.old.items (claim_of waiting.old) order.now }
+    requires new { IfSome waiting.old (λ w. IsNew w.1) }
+    requires few { at < 255 }
+    requires row { at < length (state_of O.opening system.old.history).rows }
+    ensures kept { AreKept image.now O.opening system.new slots.new.items (claim_of waiting.new) order.now }
+    ensures new { IfSome waiting.new (λ w. IsNew w.1) }
+    ensures history { system.new.history ≡ system.old.history }
+    ensures woven { woven (logs_of slots.new.items) order.now ≡ woven (logs_of slots.old.items) order.now }
+    ensures turns { (n : ℕ) → turns_of n slots.new.items ≡ turns_of n slots.old.items }
+    ensures there { OnOk result (at < length slots.new.items) }
+{
+    for _ in slots.len()..at + 1 {
+        claim_next(image, system, slots, waiting, order)?;
+        start_next(alloc, image, system, slots, waiting, order)?;
+    }
+    Ok(())
+}
+
+// Claims the next row, if none waits for its slot yet.
+fn claim_next<D: Device, O: Opening>(
+    image: &Image,
+    system: &mut System<D, O>,
+    slots: &[Slot<D>],
+    waiting: &mut Option<(Claim, Session<D>)>,
+    order: &[Happened],
+) -> Result<(), AllocError>
+    requires kept { AreKept image.now O.opening system.old slots.now (claim_of waiting.old) order.now }
+    requires new { IfSome waiting.old (λ w. IsNew w.1) }
+    requires row { length slots.now < length (state_of O.opening system.old.history).rows }
+    ensures kept { AreKept image.now O.opening system.new slots.now (claim_of waiting.new) order.now }
+    ensures new { IfSome waiting.new (λ w. IsNew w.1) }
+    ensures history { system.new.history ≡ system.old.history }
+    ensures waits { OnOk result (IsSome waiting.new) }
+{
+    if waiting.is_none() {
+        *waiting = system.claim()?;
+    }
+    Ok(())
+}
+
+// Gives the row that waits a slot, with its principal session.
+fn start_next<D: Device, O: Opening>(
+    alloc: Global,
+    image: &Image,
+    system: &System<D, O>,
+    slots: &mut Vec<Slot<D>>,
+    waiting: &mut Option<(Claim, Session<D>)>,
+    order: &[Happened],
+) -> Result<(), AllocError>
+    requires kept { AreKept image.now O.opening system.now slots.old.items (claim_of waiting.old) order.now }
+    requires new { IfSome waiting.old (λ w. IsNew w.1) }
+    requires waits { IsSome waiting.old }
+    ensures kept { AreKept image.now O.opening system.now slots.new.items (claim_of waiting.new) order.now }
+    ensures new { IfSome waiting.new (λ w. IsNew w.1) }
+    ensures woven { woven (logs_of slots.new.items) order.now ≡ woven (logs_of slots.old.items) order.now }
+    ensures turns { (n : ℕ) → turns_of n slots.new.items ≡ turns_of n slots.old.items }
+    ensures more { OnOk result (length slots.new.items ≡ suc (length slots.old.items)) }
+    ensures same { OnErr result (length slots.new.items ≡ length slots.old.items) }
+{
+    slots.reserve(1)?;
+    let mut sessions = Sessions::new(alloc);
+    sessions.reserve()?;
+    let Some((claim, _)) = &*waiting else {
+        unreachable!();
+    };
+    let (entry, values) = claim.start().try_clone()?.into_parts();
+    let Some((claim, session)) = waiting.take() else {
+        unreachable!();
+    };
+    sessions.open(Text::from_number(alloc, 0), session);
+    let job = Job::start(alloc, image, claim.job(), entry, values);
+    slots.push_reserved(Slot {
+        claim,
+        job,
+        sessions,
+    });
+    Ok(())
+}
+
+// Makes a step of a live job that has a slot, and writes down what happened, and whose end was seen.
+fn go<D: Device, O: Opening>(
+    image: &Image,
+    system: &mut System<D, O>,
+    slots: &mut [Slot<D>],
+    order: &mut Vec<Happened>,
+    over: &mut [bool],
+    at: usize,
+    late: bool,
+) -> Result<Seen, Refusal>
+    requires few { at < 255 }
+    requires there { at < length slots.old }
+    requires all { length over.old ≡ 255 }
+    requires kept { (waiting : Option Claimed) × AreKept image.now O.opening system.old slots.old waiting order.old.items }
+    requires live { IsLive (state_of O.opening system.old.history).rows (suc at) }
+    requires short { length order.old.items < history_limit }
+    requires room { vec_len order.old < vec_capacity order.old }
+    ensures kept { (waiting : Option Claimed) → AreKept image.now O.opening system.old slots.old waiting order.old.items → AreKept image.now O.opening system.new slots.new waiting order.new.items }
+    ensures made { (row : Row) → row_at (state_of O.opening (woven (logs_of slots.old) order.old.items)).rows (suc at) ≡ Some row → StepGives O.opening (shown image.now slots.old order.old.items over.old 255) (suc at) row late result (shown image.now slots.new order.new.items over.new 255) }
+{
+    let slot = &mut slots[at];
+    let happened = Happened {
+        job: at as u32 + 1,
+        at: slot.job.log().len(),
+    };
+    match step_slot(image, system, slot, late)? {
+        Made::Event => {
+            let place = order.len();
+            order.push_reserved(happened);
+            Ok(Seen::Event(place))
+        }
+        Made::Busy(holder, held) => Ok(Seen::Busy { holder, held }),
+        Made::NotYet => Ok(Seen::NotYet),
+        Made::Unfit => Ok(Seen::Unfit),
+        Made::Ran => Ok(Seen::Ran),
+        Made::Ended => {
+            over[at] = true;
+            Ok(Seen::Ended)
+        }
+    }
+}
+
+// Lets a job that has a slot go on to its next ask.
+fn go_ready<D: Device, O: Opening>(
+    image: &Image,
+    system: &System<D, O>,
+    slots: &mut [Slot<D>],
+    order: &[Happened],
+    at: usize,
+) -> Result<Turn, Refusal>
+    requires few { at < 255 }
+    requires there { at < length slots.old }
+    requires kept { (waiting : Option Claimed) × AreKept image.now O.opening system.now slots.old waiting order.now }
+    ensures kept { (waiting : Option Claimed) → AreKept image.now O.opening system.now slots.old waiting order.now → AreKept image.now O.opening system.now slots.new waiting order.now }
+    ensures readies { (over : List Bool) → (row : Row) → row_at (state_of O.opening (woven (logs_of slots.old) order.now)).rows (suc at) ≡ Some row → Readies O.opening (shown image.now slots.old order.now over 255) (suc at) row result (shown image.now slots.new order.now over 255) }
+{
+    let slot = &mut slots[at];
+    match slot.job.advance(image, FUEL) {
+        Ok(turn) => Ok(turn),
+        Err(_) => Err(Refusal::Memory),
+    }
+}
+
+// As many jobs as there may be, none of which was seen to end.
+fn nobody_over(alloc: Global) -> Result<Vec<bool>, AllocError>
+    ensures { IfOk result (λ over. over.items ≡ replicate 255 false) }
+{
+    let mut over = Vec::new(alloc);
+    over.resize(ROWS_LIMIT, false)?;
+    Ok(over)
+}

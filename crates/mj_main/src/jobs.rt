@@ -1,0 +1,154 @@
+// Many jobs, as they are stepped and shown.
+
+ghost use Rattle.std.specs.Prelude.{◌≡◌, ℕ, length, IfOk};
+ghost use Rattle.mj_sys.specs.History.{state_of};
+ghost use Rattle.mj_core.specs.Runs.{out_of};
+ghost use Rattle.mj_many.specs.Printed.{printed};
+ghost use Rattle.mj_main.specs.Statuses.{has_faulted};
+ghost use Rattle.mj_dev.specs.Shelves.{principal};
+
+use mj_ask::Ask;
+use mj_core::{Core, Refusal, Seen};
+use mj_dev::Memory;
+use mj_gfile::{put_name, put_text};
+use mj_globs::Globals;
+use mj_many::{put_idle, put_part, put_wait};
+use mj_steps::{Refused, Standing, Step, Stepped, Way};
+use mj_sys::{Held, Opening};
+use mj_text::Text;
+use std::alloc::{AllocError, Global};
+
+/// Jobs over a core, whose devices are in memory.
+#[derive(Drop)]
+pub struct Jobs<O: Opening> {
+    pub core: Core<Memory, O>,
+}
+
+impl<O: Opening> Stepped for Jobs<O> {
+    fn jobs(&self) -> usize {
+        self.core.jobs()
+    }
+
+    fn step(&mut self, step: Step) -> Result<Standing, Refused> {
+        match self.core.step(core_step(step)) {
+            Ok(seen) => Ok(self.standing(step.job, &seen)),
+            Err(Refusal::NoJob) => Err(Refused::NoJob),
+            Err(Refusal::NotTimed) => Err(Refused::NotTimed),
+            Err(Refusal::Ended) => Err(Refused::Ended),
+            Err(Refusal::Full) => Err(Refused::Full),
+            Err(Refusal::Memory) => Err(Refused::Memory),
+        }
+    }
+}
+
+impl<O: Opening> Jobs<O> {
+    // Where a job stands of whose step this was seen.
+    fn standing(&self, job: u32, seen: &Seen) -> Standing {
+        match seen {
+            Seen::Event(_) | Seen::Ran | Seen::Unfit => Standing::Goes,
+            Seen::Ended => Standing::Ended,
+            Seen::Busy { .. } | Seen::NotYet => {
+                if self.is_timed(job) {
+                    Standing::WaitsTimed
+                } else {
+                    Standing::Waits
+                }
+            }
+        }
+    }
+
+    // Whether the job asks with a timeout.
+    fn is_timed(&self, job: u32) -> bool {
+        let Some(found) = self.core.job(job) else {
+            return false;
+        };
+        match found.ask() {
+            None => false,
+            Some(ask) => ask.timeout().is_some(),
+        }
+    }
+
+    /// What the principal sessions of all jobs took, as it is printed.
+    pub fn printed(&self, alloc: Global) -> Result<Vec<u8>, AllocError>
+        ensures { IfOk result (λ bytes. bytes.items ≡ printed (λ job. out_of self.now.core.history job principal 1) (length (state_of O.opening self.now.core.history).rows)) }
+    {
+        let name = Text::from_number(alloc, 0);
+        let jobs = self.core.jobs() as u32;
+        if jobs == 1 {
+            return self.core.out(1, &name, 1);
+        }
+        let mut bytes = Vec::new(alloc);
+        'jobs: for done in 0..jobs {
+            let output = self.core.out(done + 1, &name, 1)?;
+            put_part(&mut bytes, done + 1, &output)?;
+        }
+        Ok(bytes)
+    }
+
+    /// Whether a job ended by a fault.
+    pub fn has_faulted(&self) -> bool
+        ensures { result ≡ has_faulted self.now.core.history }
+    {
+        'events: for at in 0..self.core.len() {
+            if let Some((_, Ask::Halt(Some(_)), _)) = self.core.event(at) {
+                return true;
+            }
+        }
+        false
+    }
+
+    /// The globals that they left.
+    pub fn globals(&self) -> &Globals {
+        self.core.globals()
+    }
+
+    /// A line for each job that waits: for what, and who has it. Each is stepped once more, which changes nothing, since all wait.
+    pub fn waits(&mut self, alloc: Global) -> Result<Vec<u8>, AllocError> {
+        let mut bytes = Vec::new(alloc);
+        'jobs: for done in 0..self.core.jobs() as u32 {
+            self.put_wait(&mut bytes, done + 1)?;
+        }
+        Ok(bytes)
+    }
+
+    // The line of one job, if it waits.
+    fn put_wait(&mut self, bytes: &mut Vec<u8>, job: u32) -> Result<(), AllocError> {
+        let step = mj_core::Step {
+            job,
+            way: mj_core::Way::Go,
+        };
+        match self.core.step(step) {
+            Ok(Seen::Busy { holder, held }) => {
+                let what = held_bytes(*bytes.allocator(), &held)?;
+                let place = match self.core.job(holder) {
+                    None => None,
+                    Some(found) => found.place(),
+                };
+                put_wait(bytes, job, &what, holder, place)
+            }
+            Ok(Seen::NotYet) => put_idle(bytes, job),
+            _ => Ok(()),
+        }
+    }
+}
+
+// The same step, of a core.
+fn core_step(step: Step) -> mj_core::Step {
+    mj_core::Step {
+        job: step.job,
+        way: match step.way {
+            Way::Go => mj_core::Way::Go,
+            Way::Late => mj_core::Way::Late,
+        },
+    }
+}
+
+// What is held, as a listing has it: a name, or a device in quotes.
+fn held_bytes(alloc: Global, held: &Held) -> Result<Vec<u8>, AllocError> {
+    let mut bytes = Vec::new(alloc);
+    match held {
+        Held::Name(name) => put_name(&mut bytes, name)?,
+        Held::Device(device) => put_text(&mut bytes, device)?,
+    }
+    Ok(bytes)
+}
