@@ -1,11 +1,13 @@
 -- The code of each piece has at each place the operands and the FORs that it needs there, and leads to places of its own.
 use Rattle.std.proofs.Common.{◌≡◌, ℕ, ◌+◌, ◌-◌, ◌≤◌, List, [], ◌∷◌, ◌++◌, length, map, Option, Some, None, refl, sym, ap, ◌∙◌, subst, arith, length-append}
 use Rattle.std.specs.Prelude.{⊤}
-use Rattle.mj_ast.specs.Syntax.{Expr, Chain, Tails, Done, Then, Operand, Literal, Value, Intrinsic, Unary, Group, Call, Select, Variable, Var, Exprs, No, More, Choices, Last, Before, Destination, Plain, Pieces, Targets, One, Several, Assignment, Killed, Gone, Spared, Merged, Output, Shown, Format, Called, Jumped, Started, LockNames, Lone, Together, Locked, Range, Single, Endless, UpTo, Renewed, Fresh, Kept, Command, Set, Write, Halt, Hang, Job, Lock, Kill, Merge, If, Else, For, Forever, Do, Goto, Quit, New, Step, Line, About}
+use Rattle.mj_ast.specs.Syntax.{Expr, Chain, Tails, Done, Then, Operand, Literal, Value, Intrinsic, Unary, Group, Call, Select, Variable, Var, Exprs, No, More, Choices, Last, Before, Destination, Plain, Pieces, Targets, One, Several, Assignment, Killed, Gone, Spared, Merged, Output, Shown, Format, Coded, Called, Jumped, Started, Locked, Opened, Received, Input, Prompted, Arranged, Into, Range, Single, Endless, UpTo, Renewed, Fresh, Kept, Command, Set, Write, Halt, Hang, Job, Lock, OpenDevice, UseDevice, CloseDevice, Read, Kill, Merge, If, Else, For, Forever, Do, Goto, Quit, New, Step, Line, About}
 use Rattle.mj_semantics.specs.Lines.{Here, next_line, entry_of}
 use Rattle.mj_pcode.specs.declared.instr.Depth.{Depth}
 use Rattle.mj_pcode.specs.declared.instr.Reference.{Reference}
 use Rattle.mj_pcode.specs.declared.instr.Wait.{Wait}
+use Rattle.mj_ast.specs.declared.routine.Mark.{Mark}
+use Rattle.mj_ast.specs.declared.routine.ReadMode.{ReadMode}
 use Rattle.mj_ast.specs.declared.routine.LockMode.{LockMode}
 use Rattle.mj_ast.specs.declared.routine.LockMode.TheVariants.{Whole, Plus, Minus}
 use Rattle.mj_pcode.specs.declared.instr.Span.TheVariants as span
@@ -13,7 +15,7 @@ use Rattle.mj_pcode.specs.declared.instr.Instr.{Instr}
 use Rattle.mj_pcode.specs.declared.instr.Instr.TheVariants as instr
 use Rattle.mj_pcode.specs.Machine.{given_count, wait_size, counts}
 use Rattle.mj_pcode.specs.Checked.{Footing, footing, bare, behind, Holds, Fits}
-use Rattle.mj_asm.specs.Code.{count, reference, expr_code, tails_code, operand_code, choices_code, subscripts_code, exprs_code, size, sizes, destination_code, destinations_code, store_code, stores_code, targets_code, assignment_code, assignments_code, names_code, kill_code, kills_code, kill_all_code, merge_code, merges_code, output_code, outputs_code, renewed_code, news_code, new_all_code, actuals_code, shape_of, timeout_code, wait_of, hang_code, hangs_code, start_code, jobs_code, name_code, variables_code, lock_variables, taking_code, lock_code, locks_code, lock_all_code, code_if, call_code, calls_code, do_code, jump_code, jumps_code, quit_code, ifs_code, if_code, else_code, range_code, ranges_code, body_code, for_code, command_code, and_then, obey_code, steps_code, line_code, lines_code}
+use Rattle.mj_asm.specs.Code.{count, reference, expr_code, tails_code, operand_code, choices_code, subscripts_code, exprs_code, size, sizes, destination_code, destinations_code, store_code, stores_code, targets_code, assignment_code, assignments_code, names_code, kill_code, kills_code, kill_all_code, merge_code, merges_code, format_code, output_code, outputs_code, renewed_code, news_code, new_all_code, actuals_code, shape_of, timeout_code, wait_of, hang_code, hangs_code, start_code, jobs_code, name_code, variables_code, lock_variables, taking_code, lock_code, locks_code, lock_all_code, open_code, opens_code, use_code, uses_code, close_code, closes_code, taken_code, receive_code, input_code, inputs_code, code_if, call_code, calls_code, do_code, jump_code, jumps_code, quit_code, ifs_code, if_code, else_code, range_code, ranges_code, body_code, for_code, command_code, and_then, obey_code, steps_code, line_code, lines_code}
 
 -- what the place behind code holds
 abbrev pub reached : Footing → List Instr → Footing
@@ -270,12 +272,24 @@ module _ (fs : List Footing) where
         let ca = assignment_code pc a in
         both pc (at 0) (at 0) (at 0) ca (assignments_code (pc + length ca) list) (targets_go a.targets a.value pc 0) (assignments_go list (pc + length ca))
 
+    -- a value, and an instruction that takes it off and leads only to the next
+    taken_goes : (e : Expr) (i : Instr) → behind i (at (0 + 1)) ≡ at (0 + 1 - 1) → ((pc : ℕ) → Fits fs pc i (at (0 + 1))) → Passes (λ pc. expr_code pc e ++ i ∷ [])
+    taken_goes e i leaves fits pc =
+        let ce = expr_code pc e in
+        both pc (at 0) (at (0 + 1)) (at 0) ce (i ∷ []) (expr_goes e pc 0)
+        (one (pc + length ce) (at (0 + 1)) (at 0) i (leaves ∙ same (0 + 1 - 1) 0 (omega arith)) (fits (pc + length ce)))
+
+    format_goes : (marks : List Mark) (o : Option Expr) → Passes (λ pc. format_code pc marks o)
+    format_goes marks None pc = one pc (at 0) (at 0) (instr.Format marks) refl (tt, tt)
+    format_goes marks (Some e) pc = taken_goes e (instr.Tab marks) refl (λ q. (omega arith, tt)) pc
+
     output_goes : (o : Output) → Passes (λ pc. output_code pc o)
     output_goes (Shown e) pc =
         let ce = expr_code pc e in
         both pc (at 0) (at (0 + 1)) (at 0) ce (instr.Write ∷ []) (expr_goes e pc 0)
         (one (pc + length ce) (at (0 + 1)) (at 0) instr.Write (same (0 + 1 - 1) 0 (omega arith)) (omega arith, tt))
-    output_goes (Format marks) pc = one pc (at 0) (at 0) (instr.Format marks) refl (tt, tt)
+    output_goes (Format l) pc = format_goes l.marks l.column pc
+    output_goes (Coded e) pc = taken_goes e instr.WriteByte refl (λ q. (omega arith, tt)) pc
 
     outputs_go : (list : List Output) → Passes (λ pc. outputs_code pc list)
     outputs_go [] pc = nothing pc (at 0)
@@ -437,6 +451,89 @@ module _ (fs : List Footing) where
     lock_all_goes [] pc = one pc (at 0) (at 0) instr.UnlockAll refl (tt, tt)
     lock_all_goes (l ∷ list) pc = locks_go (l ∷ list) pc
 
+    open_goes : (o : Opened) → Passes (λ pc. open_code pc o)
+    open_goes o pc =
+        let ce = expr_code pc o.device in
+        let pw = pc + length ce in
+        let cw = timeout_code pw o.timeout in
+        let w = wait_of o.timeout in
+        let n = wait_size w in
+        let d = 0 + 1 + n in
+        let i = instr.Obtain w in
+        let at_begin = pw + length cw + 1 in
+        let e : at_begin + length (instr.BeginSession ∷ []) ≡ pw + length cw + 2 = omega arith in
+        let gone : at 0 ≡ at (d - (1 + n)) = same 0 (d - (1 + n)) (omega arith) in
+        both pc (at 0) (at (0 + 1)) (at 0) ce (cw ++ i ∷ instr.BeginSession ∷ []) (expr_goes o.device pc 0)
+        (both pw (at (0 + 1)) (at d) (at 0) cw (i ∷ instr.BeginSession ∷ []) (timeout_goes o.timeout pw (0 + 1))
+        (led (pw + length cw) (at d) (at (0 + 1)) (at 0) i (instr.BeginSession ∷ []) (same (d - n) (0 + 1) (omega arith))
+        (λ l h. (omega arith, subst (λ f. Holds fs (pw + length cw + 2) f) gone (subst (λ p. Holds fs p (at 0)) e h)))
+        (one at_begin (at (0 + 1)) (at 0) instr.BeginSession (same (0 + 1 - 1) 0 (omega arith)) (omega arith, tt))))
+
+    opens_go : (list : List Opened) → Passes (λ pc. opens_code pc list)
+    opens_go [] pc = nothing pc (at 0)
+    opens_go (o ∷ list) pc =
+        let co = open_code pc o in
+        both pc (at 0) (at 0) (at 0) co (opens_code (pc + length co) list) (open_goes o pc) (opens_go list (pc + length co))
+
+    uses_go : (es : List Expr) → Passes (λ pc. uses_code pc es)
+    uses_go [] pc = nothing pc (at 0)
+    uses_go (e ∷ es) pc =
+        let cu = use_code pc e in
+        both pc (at 0) (at 0) (at 0) cu (uses_code (pc + length cu) es) (taken_goes e instr.Use refl (λ q. (omega arith, tt)) pc) (uses_go es (pc + length cu))
+
+    close_goes : (e : Expr) → Passes (λ pc. close_code pc e)
+    close_goes e pc =
+        let ce = expr_code pc e in
+        let pe = pc + length ce in
+        let rest = instr.GiveUpFailed ∷ instr.GiveUp ∷ [] in
+        let well : pe + 1 + 1 ≡ pe + 2 = omega arith in
+        let past : pe + 1 + length rest ≡ pe + 3 = omega arith in
+        let gone : at 0 ≡ at (0 + 1 - 1) = same 0 (0 + 1 - 1) (omega arith) in
+        both pc (at 0) (at (0 + 1)) (at 0) ce (instr.EndSession ∷ rest) (expr_goes e pc 0)
+        (led pe (at (0 + 1)) (at (0 + 1)) (at 0) instr.EndSession rest refl
+        (λ l h. (omega arith, (subst (λ p. Holds fs p (at (0 + 1))) well (laid_here (pe + 1 + 1) (at (0 + 1)) (instr.GiveUp ∷ []) l.1), subst (λ f. Holds fs (pe + 3) f) gone (subst (λ p. Holds fs p (at 0)) past h))))
+        (on (pe + 1) (at (0 + 1)) (at (0 + 1)) (at 0) instr.GiveUpFailed (instr.GiveUp ∷ []) refl (omega arith, tt)
+        (one (pe + 1 + 1) (at (0 + 1)) (at 0) instr.GiveUp (same (0 + 1 - 1) 0 (omega arith)) (omega arith, tt))))
+
+    closes_go : (es : List Expr) → Passes (λ pc. closes_code pc es)
+    closes_go [] pc = nothing pc (at 0)
+    closes_go (e ∷ es) pc =
+        let cc = close_code pc e in
+        both pc (at 0) (at 0) (at 0) cc (closes_code (pc + length cc) es) (close_goes e pc) (closes_go es (pc + length cc))
+
+    taking_off : (m : ReadMode) (w : Wait) (r : Reference) (pc d : ℕ) → d ≡ r.count + wait_size w → Goes pc (taken_code m w r) (at d) (at 0)
+    taking_off m w r pc d e =
+        let n = r.count in
+        let depth : Depth = record { above = 1; taken = n + 1 } in
+        on pc (at d) (at (n + 1)) (at 0) (instr.Read m w) (instr.Store r depth ∷ []) (same (d - wait_size w + 1) (n + 1) (omega (arith, e))) (omega (arith, e), tt)
+        (one (pc + 1) (at (n + 1)) (at 0) (instr.Store r depth) (same (n + 1 - (n + 1)) 0 (omega arith)) ((omega arith, omega arith, omega arith), tt))
+
+    receive_goes : (r : Received) → Passes (λ pc. receive_code pc r)
+    receive_goes r pc =
+        let v = r.variable in
+        let n = (reference v).count in
+        let cv = name_code pc v in
+        let pw = pc + length cv in
+        let cw = timeout_code pw r.timeout in
+        let w = wait_of r.timeout in
+        let ct = taken_code r.mode w (reference v) in
+        both pc (at 0) (at (0 + n)) (at 0) cv (cw ++ ct) (name_goes v pc 0)
+        (both pw (at (0 + n)) (at (0 + n + wait_size w)) (at 0) cw ct (timeout_goes r.timeout pw (0 + n))
+        (taking_off r.mode w (reference v) (pw + length cw) (0 + n + wait_size w) (omega arith)))
+
+    input_goes : (i : Input) → Passes (λ pc. input_code pc i)
+    input_goes (Prompted text) pc =
+        on pc (at 0) (at (0 + 1)) (at 0) (instr.Push text) (instr.Write ∷ []) refl (tt, tt)
+        (one (pc + 1) (at (0 + 1)) (at 0) instr.Write (same (0 + 1 - 1) 0 (omega arith)) (omega arith, tt))
+    input_goes (Arranged l) pc = format_goes l.marks l.column pc
+    input_goes (Into r) pc = receive_goes r pc
+
+    inputs_go : (list : List Input) → Passes (λ pc. inputs_code pc list)
+    inputs_go [] pc = nothing pc (at 0)
+    inputs_go (i ∷ list) pc =
+        let ci = input_code pc i in
+        both pc (at 0) (at 0) (at 0) ci (inputs_code (pc + length ci) list) (input_goes i pc) (inputs_go list (pc + length ci))
+
     -- code behind a test, which leads past it
     tested : (pc : ℕ) (e : Expr) (i : Instr) (rest : List Instr) → behind i (at (0 + 1)) ≡ at (0 + 1 - 1)
         → (Holds fs (pc + length (expr_code pc e) + 1 + length rest) (at (0 + 1 - 1)) → Fits fs (pc + length (expr_code pc e)) i (at (0 + 1)))
@@ -493,6 +590,10 @@ module _ (fs : List Footing) where
     command_goes here out (Hang es) closes pc = hangs_go es pc
     command_goes here out (Job list) closes pc = jobs_go here list pc
     command_goes here out (Lock list) closes pc = lock_all_goes list pc
+    command_goes here out (OpenDevice list) closes pc = opens_go list pc
+    command_goes here out (UseDevice es) closes pc = uses_go es pc
+    command_goes here out (CloseDevice es) closes pc = closes_go es pc
+    command_goes here out (Read list) closes pc = inputs_go list pc
     command_goes here out (Kill list) closes pc = kill_all_goes list pc
     command_goes here out (Merge list) closes pc = merges_go list pc
     command_goes here out (If es) closes pc = nothing pc (at 0)
@@ -604,6 +705,10 @@ module _ (fs : List Footing) where
   obey_goes here (Hang es) c rest goes k out closes pc = then_goes here c (Hang es) rest goes k out closes pc
   obey_goes here (Job list) c rest goes k out closes pc = then_goes here c (Job list) rest goes k out closes pc
   obey_goes here (Lock list) c rest goes k out closes pc = then_goes here c (Lock list) rest goes k out closes pc
+  obey_goes here (OpenDevice list) c rest goes k out closes pc = then_goes here c (OpenDevice list) rest goes k out closes pc
+  obey_goes here (UseDevice es) c rest goes k out closes pc = then_goes here c (UseDevice es) rest goes k out closes pc
+  obey_goes here (CloseDevice es) c rest goes k out closes pc = then_goes here c (CloseDevice es) rest goes k out closes pc
+  obey_goes here (Read list) c rest goes k out closes pc = then_goes here c (Read list) rest goes k out closes pc
   obey_goes here (Kill list) c rest goes k out closes pc = then_goes here c (Kill list) rest goes k out closes pc
   obey_goes here (Merge list) c rest goes k out closes pc = then_goes here c (Merge list) rest goes k out closes pc
   obey_goes here (If es) c rest goes k out closes pc = if_goes k es (λ p. rest p out) (goes k out closes) pc

@@ -30,7 +30,7 @@ text =
           record { condition = None; command = Set (record { targets = One (Plain (Var Global (codes "X") (More (Chain (lit 49) Done) No))); value = Chain (lit 50) (Then Add (lit 51) Done) } ∷ []) }
           ∷ record {
             condition = Some (Chain (Value (Var Local (codes "Y") No)) (Then (Is Equal) (lit 52) Done));
-            command = Write (Shown (Chain (lit 53) Done) ∷ Format (NewLine ∷ NewLine ∷ []) ∷ []);
+            command = Write (Shown (Chain (lit 53) Done) ∷ Format (record { marks = NewLine ∷ NewLine ∷ []; column = None }) ∷ []);
           } ∷ [];
     }
     ∷ record { label = Some (codes "B"); formals = []; level = 1; steps = [] }

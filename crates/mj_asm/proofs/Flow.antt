@@ -7,13 +7,13 @@ use Rattle.mj_num.specs.Number.{reading}
 use Rattle.mj_oper.specs.Operators.{truth_value}
 use Rattle.mj_ask.specs.declared.entry.Entry.{Entry}
 use Rattle.mj_ast.specs.declared.expr.Scope.TheVariants.{Local}
-use Rattle.mj_ast.specs.Syntax.{Expr, Variable, Called, Jumped, Range, Single, Endless, UpTo, Command, Set, Write, Halt, Hang, Job, Lock, Kill, Merge, If, Else, For, Forever, Do, Goto, Quit, New, Step, Line, Routine}
+use Rattle.mj_ast.specs.Syntax.{Expr, Variable, Called, Jumped, Range, Single, Endless, UpTo, Command, Set, Write, Halt, Hang, Job, Lock, OpenDevice, UseDevice, CloseDevice, Read, Kill, Merge, If, Else, For, Forever, Do, Goto, Quit, New, Step, Line, Routine}
 use Rattle.mj_semantics.specs.State.{State, Place, level_of, may_go, set_test, pushed, popped}
 use Rattle.mj_semantics.specs.Outcome.{Timed, turn, look, change, given, fault, end}
 use Rattle.mj_semantics.specs.Lines.{Here, place_at, next_line, entry_of, entered, levels_of}
 use Rattle.mj_semantics.specs.Evaluation.{when, name_of, ev_actuals, ev_local}
 use Rattle.mj_semantics.specs.Points.{Leave, Ways, Once as PassesOnce, Always as PassesAlways, By as PassesBy, Points, AtLine, Called as CalledAt, Jumped as JumpedAt, Pass}
-use Rattle.mj_semantics.specs.Commands.{again, if_test, ifs, if_all, ranges, calls, block, do_all, jumps, quit_frame, assign_all, output_all, hang_all, start_all, lock_all, kill_all, merge_all, new_all, obey, obey_all}
+use Rattle.mj_semantics.specs.Commands.{again, if_test, ifs, if_all, ranges, calls, block, do_all, jumps, quit_frame, assign_all, output_all, hang_all, start_all, lock_all, open_all, use_all, close_all, read_all, kill_all, merge_all, new_all, obey, obey_all}
 use Rattle.mj_semantics.specs.Job.{points_of, jump, in_pass}
 use Rattle.mj_pcode.specs.declared.instr.Span.TheVariants as span
 use Rattle.mj_pcode.specs.declared.instr.Instr.{Instr}
@@ -27,7 +27,7 @@ use Rattle.mj_asm.specs.Code.{reference, expr_code, subscripts_code, actuals_cod
 use Rattle.mj_asm.specs.Correct.{Agree, next_of, DoLines, IsFound, LeadAlike}
 use Rattle.mj_asm.specs.Laws.{after_one, Leaves, same_place, at_found, call_follows}
 use Rattle.mj_pcode.proofs.Agree.{if_at, look_at, change_at, deeper_at, quit_frame_at, given_at, store_at, if_test_at, again_at, first_at, reading_two_at}
-use Rattle.mj_asm.proofs.Follows.{HasAt, has_front, has_back, from, acts, one, moved, expr_follows, onto, operands_are, rest_below, assigns_follow, outputs_follow, hangs_follow, jobs_follow, lock_all_follows, kill_all_follows, merges_follow, new_all_follows, actuals_follow, local_follows, when_follows}
+use Rattle.mj_asm.proofs.Follows.{HasAt, has_front, has_back, from, acts, one, moved, expr_follows, onto, operands_are, rest_below, assigns_follow, outputs_follow, hangs_follow, jobs_follow, lock_all_follows, opens_follow, uses_follow, closes_follow, inputs_follow, kill_all_follows, merges_follow, new_all_follows, actuals_follow, local_follows, when_follows}
 
 -- what holds for so many turns holds for fewer
 pub fewer_turns : (b m : ℕ) (f g : Timed) → m ≤ b → Agree b f g → Agree m f g
@@ -430,6 +430,18 @@ module _ (image : List Routine) (units : List unit.Unit) (alike : LeadAlike imag
     step_follows (Lock list) c steps f b d deep lines loops out ways pc has h quits leaves =
         rest_follows (Lock list) c (lock_all (points_of image d) here list (obey_all (points_of image d) here steps ways)) steps f b d deep lines loops out ways pc has h quits leaves
         (λ p has' after. lock_all_follows units u (in_frame loops) at b (points_of image d) here list p [] _ has' after)
+    step_follows (OpenDevice list) c steps f b d deep lines loops out ways pc has h quits leaves =
+        rest_follows (OpenDevice list) c (open_all (points_of image d) here list (obey_all (points_of image d) here steps ways)) steps f b d deep lines loops out ways pc has h quits leaves
+        (λ p has' after. opens_follow units u (in_frame loops) at b (points_of image d) here list p [] _ has' after)
+    step_follows (UseDevice es) c steps f b d deep lines loops out ways pc has h quits leaves =
+        rest_follows (UseDevice es) c (use_all (points_of image d) here es (obey_all (points_of image d) here steps ways)) steps f b d deep lines loops out ways pc has h quits leaves
+        (λ p has' after. uses_follow units u (in_frame loops) at b (points_of image d) here es p [] _ has' after)
+    step_follows (CloseDevice es) c steps f b d deep lines loops out ways pc has h quits leaves =
+        rest_follows (CloseDevice es) c (close_all (points_of image d) here es (obey_all (points_of image d) here steps ways)) steps f b d deep lines loops out ways pc has h quits leaves
+        (λ p has' after. closes_follow units u (in_frame loops) at b (points_of image d) here es p [] _ has' after)
+    step_follows (Read list) c steps f b d deep lines loops out ways pc has h quits leaves =
+        rest_follows (Read list) c (read_all (points_of image d) here list (obey_all (points_of image d) here steps ways)) steps f b d deep lines loops out ways pc has h quits leaves
+        (λ p has' after. inputs_follow units u (in_frame loops) at b (points_of image d) here list p [] _ has' after)
     step_follows (Kill list) c steps f b d deep lines loops out ways pc has h quits leaves =
         rest_follows (Kill list) c (kill_all (points_of image d) here list (obey_all (points_of image d) here steps ways)) steps f b d deep lines loops out ways pc has h quits leaves
         (λ p has' after. kill_all_follows units u (in_frame loops) at b (points_of image d) here list p [] _ has' after)

@@ -7,21 +7,23 @@ use Rattle.mj_num.specs.Number.{reading}
 use Rattle.mj_subs.specs.Name.{Name}
 use Rattle.mj_text.specs.Failing.{then_value}
 use Rattle.mj_oper.specs.Operators.{binary_value, unary_value, truth_value}
-use Rattle.mj_text.specs.declared.fault.Fault.TheVariants.{Select as NoTrue}
-use Rattle.mj_ast.specs.Syntax.{Expr, Chain, Tails, Done, Then, Operand, Literal, Value, Intrinsic, Unary, Group, Call, Select, Variable, Var, Exprs, No, More, Choices, Last, Before, Destination, Plain, Pieces, Targets, One, Several, Assignment, Killed, Gone, Spared, Merged, Output, Shown, Format, Started, LockNames, Lone, Together, Locked, Renewed, Fresh, Kept, About}
+use Rattle.mj_text.specs.declared.fault.Fault.TheVariants.{Select as NoTrue, Device}
+use Rattle.mj_ast.specs.Syntax.{Expr, Chain, Tails, Done, Then, Operand, Literal, Value, Intrinsic, Unary, Group, Call, Select, Variable, Var, Exprs, No, More, Choices, Last, Before, Destination, Plain, Pieces, Targets, One, Several, Assignment, Killed, Gone, Spared, Merged, Output, Shown, Format, Coded, Started, LockNames, Lone, Together, Locked, Opened, Received, Input, Prompted, Arranged, Into, Renewed, Fresh, Kept, About}
 use Rattle.mj_semantics.specs.Functions.{call_value, optional}
 use Rattle.mj_semantics.specs.State.{Only, AllBut, spare, newed, special_value}
 use Rattle.mj_semantics.specs.Outcome.{Timed, turn, given, fault}
 use Rattle.mj_semantics.specs.Lines.{Here, entry_of}
-use Rattle.mj_semantics.specs.Sharing.{hang, start_job, unlock_all, take_names, give_names, lock}
+use Rattle.mj_semantics.specs.Sharing.{start_job, take_names, give_names, lock}
+use Rattle.mj_semantics.specs.Devices.{obtain, begin_session, open_device, give_up, close, read_input}
 use Rattle.mj_semantics.specs.Points.{Points}
 use Rattle.mj_semantics.specs.Evaluation.{ev, ev_tails, ev_operand, ev_choices, ev_name, ev_all, name_of, read, when, ev_named, ev_local, ev_actuals, named_for, about}
 use Rattle.mj_ast.specs.declared.function.NameFunction.{NameFunction}
 use Rattle.mj_ast.specs.declared.expr.Scope.TheVariants.{Local}
-use Rattle.mj_semantics.specs.Commands.{Aim, Whole, Part, ev_destination, ev_destinations, store, renew, put, put_all, assign_to, assign, assign_all, remove, named, kill, kill_list, kill_all, take_nodes, put_nodes, merge, merge_all, ev_timeout, hang_all, start_all, ev_names, ev_lock_names, lock_one, lock_list, lock_all, mark_byte, output, output_all, renewal, new_list, new_all}
+use Rattle.mj_semantics.specs.Commands.{Aim, Whole, Part, ev_destination, ev_destinations, store, renew, put, put_all, assign_to, assign, assign_all, remove, named, kill, kill_list, kill_all, take_nodes, put_nodes, merge, merge_all, ev_timeout, hang_all, start_all, ev_names, ev_lock_names, lock_list, lock_all, open_all, use_all, close_all, receive, input, read_all, mark_byte, write, arrange, output, output_all, renewal, new_list, new_all}
 use Rattle.mj_pcode.specs.declared.instr.Reference.{Reference}
 use Rattle.mj_pcode.specs.declared.instr.Depth.{Depth}
 use Rattle.mj_pcode.specs.declared.instr.Wait.{Wait}
+use Rattle.mj_ast.specs.declared.routine.Mark.{Mark}
 use Rattle.mj_ast.specs.declared.routine.LockMode.{LockMode}
 use Rattle.mj_ast.specs.declared.routine.LockMode.TheVariants as mode
 use Rattle.mj_pcode.specs.declared.instr.Instr.{Instr}
@@ -29,9 +31,9 @@ use Rattle.mj_pcode.specs.declared.instr.Instr.TheVariants as instr
 use Rattle.mj_pcode.specs.declared.instr.Unit as unit
 use Rattle.mj_pcode.specs.Context.{Context}
 use Rattle.mj_pcode.specs.Machine.{Stack, top, act, act_in, exec, operands, spread, given_count, wait_size, waits, counts, names_on}
-use Rattle.mj_asm.specs.Code.{count, reference, expr_code, tails_code, operand_code, choices_code, subscripts_code, exprs_code, size, sizes, destination_code, destinations_code, store_code, stores_code, targets_code, assignment_code, assignments_code, kill_code, kills_code, kill_all_code, merge_code, merges_code, output_code, outputs_code, code_if, names_code, renewed_code, news_code, new_all_code, actuals_code, shape_of, timeout_code, wait_of, hang_code, hangs_code, start_code, jobs_code, name_code, variables_code, lock_variables, taking_code, lock_code, locks_code, lock_all_code}
+use Rattle.mj_asm.specs.Code.{count, reference, expr_code, tails_code, operand_code, choices_code, subscripts_code, exprs_code, size, sizes, destination_code, destinations_code, store_code, stores_code, targets_code, assignment_code, assignments_code, kill_code, kills_code, kill_all_code, merge_code, merges_code, format_code, output_code, outputs_code, code_if, names_code, renewed_code, news_code, new_all_code, actuals_code, shape_of, timeout_code, wait_of, hang_code, hangs_code, start_code, jobs_code, name_code, variables_code, lock_variables, taking_code, lock_code, locks_code, lock_all_code, open_code, opens_code, use_code, uses_code, close_code, closes_code, taken_code, receive_code, input_code, inputs_code}
 use Rattle.mj_asm.specs.Correct.{Agree}
-use Rattle.mj_pcode.proofs.Agree.{if_at, look_at, change_at, given_at, read_at, store_at, renew_at, remove_at, take_nodes_at, put_nodes_at, write_at, about_at, hang_at, start_job_at, unlock_all_at, take_names_at, give_names_at}
+use Rattle.mj_pcode.proofs.Agree.{if_at, look_at, change_at, given_at, read_at, store_at, renew_at, remove_at, take_nodes_at, put_nodes_at, write_at, about_at, hang_at, start_job_at, unlock_all_at, take_names_at, give_names_at, tab_at, write_code_at, obtain_at, begin_session_at, use_device_at, end_session_at, give_up_at, read_input_at}
 
 -- the instructions stand in the code at this place
 abbrev pub HasAt : List Instr → ℕ → List Instr → Type 0
@@ -541,14 +543,27 @@ module _ (units : List unit.Unit) (u : unit.Unit) (ctx : Context) (there : slice
           merge_follows m pc stack _ (has_front code pc cm _ has)
           (merges_follow list (pc + length cm) stack rest (has_back code pc cm _ has) (moved _ _ stack rest (seam pc cm (merges_code (pc + length cm) list)) k))
 
+      format_follows : (marks : List Mark) (o : Option Expr) (pc : ℕ) (stack : Stack) (rest : Timed) → HasAt code pc (format_code pc marks o) → Agree b (from (pc + length (format_code pc marks o)) stack) rest → Agree b (from pc stack) (arrange points here marks o rest)
+      format_follows marks None pc stack rest has k =
+          one pc stack (instr.Format marks) _ has.0 (λ n lt. write_at n (map mark_byte marks) (λ q. exec units n ctx (pc + 1) stack) rest (k.by n (omega arith)))
+      format_follows marks (Some e) pc stack rest has k =
+          let ce = expr_code pc e in
+          expr_follows e pc stack _ (has_front code pc ce _ has) (λ v.
+          one (pc + length ce) (v ∷ stack) (instr.Tab marks) _ (has_back code pc ce _ has).0 (λ n lt.
+          tab_at n marks v (λ q. exec units n ctx (pc + length ce + 1) stack) rest ((moved _ _ stack rest (end_of pc ce (instr.Tab marks)) k).by n (omega arith))))
+
       output_follows : (o : Output) (pc : ℕ) (stack : Stack) (rest : Timed) → HasAt code pc (output_code pc o) → Agree b (from (pc + length (output_code pc o)) stack) rest → Agree b (from pc stack) (output points here o rest)
       output_follows (Shown e) pc stack rest has k =
           let ce = expr_code pc e in
           expr_follows e pc stack _ (has_front code pc ce _ has) (λ v.
           one (pc + length ce) (v ∷ stack) instr.Write _ (has_back code pc ce _ has).0 (λ n lt.
           write_at n v (λ q. exec units n ctx (pc + length ce + 1) stack) rest ((moved _ _ stack rest (end_of pc ce instr.Write) k).by n (omega arith))))
-      output_follows (Format marks) pc stack rest has k =
-          one pc stack (instr.Format marks) _ has.0 (λ n lt. write_at n (map mark_byte marks) (λ q. exec units n ctx (pc + 1) stack) rest (k.by n (omega arith)))
+      output_follows (Format l) pc stack rest has k = format_follows l.marks l.column pc stack rest has k
+      output_follows (Coded e) pc stack rest has k =
+          let ce = expr_code pc e in
+          expr_follows e pc stack _ (has_front code pc ce _ has) (λ v.
+          one (pc + length ce) (v ∷ stack) instr.WriteByte _ (has_back code pc ce _ has).0 (λ n lt.
+          write_code_at n v (λ q. exec units n ctx (pc + length ce + 1) stack) rest ((moved _ _ stack rest (end_of pc ce instr.WriteByte) k).by n (omega arith))))
 
       pub outputs_follow : (list : List Output) (pc : ℕ) (stack : Stack) (rest : Timed) → HasAt code pc (outputs_code pc list) → Agree b (from (pc + length (outputs_code pc list)) stack) rest → Agree b (from pc stack) (output_all points here list rest)
       outputs_follow [] pc stack rest has k = moved pc (pc + 0) stack rest (omega arith) k
@@ -728,6 +743,120 @@ module _ (units : List unit.Unit) (u : unit.Unit) (ctx : Context) (there : slice
       lock_all_follows [] pc stack rest has k =
           one pc stack instr.UnlockAll _ has.0 (λ n lt. unlock_all_at n (λ q. exec units n ctx (pc + 1) stack) rest (k.by n (omega arith)))
       lock_all_follows (l ∷ list) pc stack rest has k = locks_follow (l ∷ list) pc stack rest has k
+
+      open_follows : (o : Opened) (pc : ℕ) (stack : Stack) (rest : Timed) → HasAt code pc (open_code pc o) → Agree b (from (pc + length (open_code pc o)) stack) rest
+          → Agree b (from pc stack) (ev points here o.device (λ v. ev_timeout points here o.timeout (λ t. turn (open_device v t rest))))
+      open_follows o pc stack rest has k =
+          let ce = expr_code pc o.device in
+          let pw = pc + length ce in
+          let cw = timeout_code pw o.timeout in
+          let w = wait_of o.timeout in
+          let i = instr.Obtain w in
+          let last = i ∷ instr.BeginSession ∷ [] in
+          let back = has_back code pc ce (cw ++ last) has in
+          let there_is = has_back code pw cw last back in
+          let at = pw + length cw in
+          let len : at + 2 ≡ pc + length (ce ++ (cw ++ last)) = omega (arith, length-append ce (cw ++ last), length-append cw last) in
+          let len' : at + 1 + 1 ≡ pc + length (ce ++ (cw ++ last)) = omega (arith, len) in
+          expr_follows o.device pc stack _ (has_front code pc ce _ has) (λ v.
+          timeout_follows o.timeout pw (v ∷ stack) _ (has_front code pw cw _ back) (λ t st l.
+          one at st i (open_device v t rest) there_is.0 (λ n lt.
+          let past : Timed = λ m. exec units n ctx (at + 2) (drop (1 + wait_size w) st) in
+          let begun : Stack → Timed = λ base m. exec units n ctx (at + 1) base in
+          waited o.timeout t st (v ∷ stack) l (λ z. obtain (top (drop (wait_size w) st)) z past (begun (drop (wait_size w) st))) n
+          ∙ ap (λ base. obtain (top base) t past (begun base) n) (below_wait o.timeout t st (v ∷ stack) l)
+          ∙ obtain_at n v t past rest (begun (v ∷ stack)) (turn (begin_session v rest))
+          ((over (at + 2) (drop (1 + wait_size w) st) stack rest (below_more o.timeout t st (v ∷ stack) 1 l) (moved _ _ stack rest len k)).by n (omega arith))
+          ((one (at + 1) (v ∷ stack) instr.BeginSession (begin_session v rest) there_is.1.0 (λ m lt'.
+          begin_session_at m v (λ q. exec units m ctx (at + 1 + 1) stack) rest ((moved _ _ stack rest len' k).by m (omega arith)))).by n (omega arith)))))
+
+      pub opens_follow : (list : List Opened) (pc : ℕ) (stack : Stack) (rest : Timed) → HasAt code pc (opens_code pc list) → Agree b (from (pc + length (opens_code pc list)) stack) rest → Agree b (from pc stack) (open_all points here list rest)
+      opens_follow [] pc stack rest has k = moved pc (pc + 0) stack rest (omega arith) k
+      opens_follow (o ∷ list) pc stack rest has k =
+          let co = open_code pc o in
+          open_follows o pc stack (open_all points here list rest) (has_front code pc co _ has)
+          (opens_follow list (pc + length co) stack rest (has_back code pc co _ has) (moved _ _ stack rest (seam pc co (opens_code (pc + length co) list)) k))
+
+      pub uses_follow : (es : List Expr) (pc : ℕ) (stack : Stack) (rest : Timed) → HasAt code pc (uses_code pc es) → Agree b (from (pc + length (uses_code pc es)) stack) rest → Agree b (from pc stack) (use_all points here es rest)
+      uses_follow [] pc stack rest has k = moved pc (pc + 0) stack rest (omega arith) k
+      uses_follow (e ∷ es) pc stack rest has k =
+          let ce = expr_code pc e in
+          let cu = use_code pc e in
+          let front = has_front code pc cu _ has in
+          expr_follows e pc stack _ (has_front code pc ce _ front) (λ v.
+          one (pc + length ce) (v ∷ stack) instr.Use _ (has_back code pc ce _ front).0 (λ n lt.
+          use_device_at n v (λ q. exec units n ctx (pc + length ce + 1) stack) (use_all points here es rest)
+          ((moved _ _ stack (use_all points here es rest) (end_of pc ce instr.Use)
+          (uses_follow es (pc + length cu) stack rest (has_back code pc cu _ has) (moved _ _ stack rest (seam pc cu (uses_code (pc + length cu) es)) k))).by n (omega arith))))
+
+      close_follows : (e : Expr) (pc : ℕ) (stack : Stack) (rest : Timed) → HasAt code pc (close_code pc e) → Agree b (from (pc + length (close_code pc e)) stack) rest
+          → Agree b (from pc stack) (ev points here e (λ v. turn (close v rest)))
+      close_follows e pc stack rest has k =
+          let ce = expr_code pc e in
+          let pe = pc + length ce in
+          let last = instr.EndSession ∷ instr.GiveUpFailed ∷ instr.GiveUp ∷ [] in
+          let there_is = has_back code pc ce last has in
+          let len : pe + 3 ≡ pc + length (ce ++ last) = omega (arith, length-append ce last) in
+          let len' : pe + 1 + 1 + 1 ≡ pc + length (ce ++ last) = omega (arith, len) in
+          expr_follows e pc stack _ (has_front code pc ce _ has) (λ v.
+          one pe (v ∷ stack) instr.EndSession (close v rest) there_is.0 (λ n lt.
+          end_session_at n v (λ q. exec units n ctx (pe + 3) stack) rest
+          (λ q. exec units n ctx (pe + 1) (v ∷ stack)) (turn (give_up v (fault Device)))
+          (λ q. exec units n ctx (pe + 2) (v ∷ stack)) (turn (give_up v rest))
+          ((moved _ _ stack rest len k).by n (omega arith))
+          ((one (pe + 1) (v ∷ stack) instr.GiveUpFailed (give_up v (fault Device)) there_is.1.0 (λ m lt'. refl)).by n (omega arith))
+          ((moved (pe + 2) (pe + 1 + 1) (v ∷ stack) (turn (give_up v rest)) (omega arith)
+          (one (pe + 1 + 1) (v ∷ stack) instr.GiveUp (give_up v rest) there_is.1.1.0 (λ m lt'.
+          give_up_at m v (λ q. exec units m ctx (pe + 1 + 1 + 1) stack) rest ((moved _ _ stack rest len' k).by m (omega arith))))).by n (omega arith))))
+
+      pub closes_follow : (es : List Expr) (pc : ℕ) (stack : Stack) (rest : Timed) → HasAt code pc (closes_code pc es) → Agree b (from (pc + length (closes_code pc es)) stack) rest → Agree b (from pc stack) (close_all points here es rest)
+      closes_follow [] pc stack rest has k = moved pc (pc + 0) stack rest (omega arith) k
+      closes_follow (e ∷ es) pc stack rest has k =
+          let cc = close_code pc e in
+          close_follows e pc stack (close_all points here es rest) (has_front code pc cc _ has)
+          (closes_follow es (pc + length cc) stack rest (has_back code pc cc _ has) (moved _ _ stack rest (seam pc cc (closes_code (pc + length cc) es)) k))
+
+      receive_follows : (r : Received) (pc : ℕ) (stack : Stack) (rest : Timed) → HasAt code pc (receive_code pc r) → Agree b (from (pc + length (receive_code pc r)) stack) rest → Agree b (from pc stack) (receive points here r rest)
+      receive_follows r pc stack rest has k =
+          let v = r.variable in
+          let ref = reference v in
+          let cs = subscripts_code pc v in
+          let cn = name_code pc v in
+          let pw = pc + length cn in
+          let cw = timeout_code pw r.timeout in
+          let w = wait_of r.timeout in
+          let depth : Depth = record { above = 1; taken = ref.count + 1 } in
+          let last = taken_code r.mode w ref in
+          let front = has_front code pc cn (cw ++ last) has in
+          let back = has_back code pc cn (cw ++ last) has in
+          let there_is = has_back code pw cw last back in
+          let at = pw + length cw in
+          let len : at + 1 + 1 ≡ pc + length (cn ++ (cw ++ last)) = omega (arith, length-append cn (cw ++ last), length-append cw last) in
+          checked v pc stack _ (has_front code pc cs _ front) (has_back code pc cs _ front).0 (λ x ss many e.
+          moved _ _ (onto ss stack) _ (end_of pc cs (instr.Check ref))
+          (timeout_follows r.timeout pw (onto ss stack) _ (has_front code pw cw _ back) (λ t st l.
+          one at st (instr.Read r.mode w) (read_input r.mode t (λ u. turn (store x u rest))) there_is.0 (λ n lt.
+          let behind : Stack → List ℕ → Timed = λ base u m. exec units n ctx (at + 1) (u ∷ base) in
+          waited r.timeout t st (onto ss stack) l (λ z. read_input r.mode z (behind (drop (wait_size w) st))) n
+          ∙ ap (λ base. read_input r.mode t (behind base) n) (below_wait r.timeout t st (onto ss stack) l)
+          ∙ read_input_at n r.mode t (behind (onto ss stack)) (λ u. turn (store x u rest)) (λ u.
+          (stored ref depth x ss (at + 1) (u ∷ onto ss stack) stack rest many e refl there_is.1.0
+          (over (at + 1 + 1) (drop (ref.count + 1) (u ∷ onto ss stack)) stack rest (drop_more ref.count u (onto ss stack) ∙ rest_below ss stack ref.count many) (moved _ _ stack rest len k))).by n (omega arith))))))
+
+      input_follows : (i : Input) (pc : ℕ) (stack : Stack) (rest : Timed) → HasAt code pc (input_code pc i) → Agree b (from (pc + length (input_code pc i)) stack) rest → Agree b (from pc stack) (input points here i rest)
+      input_follows (Prompted text) pc stack rest has k =
+          one pc stack (instr.Push text) (turn (write text rest)) has.0 (λ n lt.
+          (one (pc + 1) (text ∷ stack) instr.Write (write text rest) has.1.0 (λ m lt'.
+          write_at m text (λ q. exec units m ctx (pc + 1 + 1) stack) rest ((moved (pc + 1 + 1) _ stack rest (omega arith) k).by m (omega arith)))).by n (omega arith))
+      input_follows (Arranged l) pc stack rest has k = format_follows l.marks l.column pc stack rest has k
+      input_follows (Into r) pc stack rest has k = receive_follows r pc stack rest has k
+
+      pub inputs_follow : (list : List Input) (pc : ℕ) (stack : Stack) (rest : Timed) → HasAt code pc (inputs_code pc list) → Agree b (from (pc + length (inputs_code pc list)) stack) rest → Agree b (from pc stack) (read_all points here list rest)
+      inputs_follow [] pc stack rest has k = moved pc (pc + 0) stack rest (omega arith) k
+      inputs_follow (i ∷ list) pc stack rest has k =
+          let ci = input_code pc i in
+          input_follows i pc stack (read_all points here list rest) (has_front code pc ci _ has)
+          (inputs_follow list (pc + length ci) stack rest (has_back code pc ci _ has) (moved _ _ stack rest (seam pc ci (inputs_code (pc + length ci) list)) k))
 
       -- the subscripts of a FOR's local, and the instruction that takes its name
       pub local_follows : (v : Variable) (i : Instr) (pc : ℕ) (stack : Stack) (rest : Name → Timed) → HasAt code pc (subscripts_code pc v) → slice_get code (pc + length (subscripts_code pc v)) ≡ Some i → ((ss : List (List ℕ)) (n : ℕ) → n < b → length ss ≡ (reference v).count → acts i (pc + length (subscripts_code pc v)) (onto ss stack) n n ≡ given (name_of Local (reference v).word ss) rest n) → Agree b (from pc stack) (ev_local points here v rest)

@@ -1,6 +1,8 @@
 -- The instructions of each piece of a routine.
 use Rattle.std.specs.Prelude.{ℕ, ◌+◌, List, [], ◌∷◌, ◌++◌, Option, Some, None, Bool, true, false, length, map}
-use Rattle.mj_ast.specs.Syntax.{Expr, Chain, Tails, Done, Then, Operand, Literal, Value, Intrinsic, Unary, Group, Call, Select, Variable, Var, Exprs, No, More, Choices, Last, Before, Destination, Plain, Pieces, Targets, One, Several, Assignment, Killed, Gone, Spared, Merged, Output, Shown, Format, Called, Jumped, Started, LockNames, Lone, Together, Locked, Range, Single, Endless, UpTo, Renewed, Fresh, Kept, Command, Set, Write, Halt, Hang, Job, Lock, Kill, Merge, If, Else, For, Forever, Do, Goto, Quit, New, Step, Line, About}
+use Rattle.mj_ast.specs.Syntax.{Expr, Chain, Tails, Done, Then, Operand, Literal, Value, Intrinsic, Unary, Group, Call, Select, Variable, Var, Exprs, No, More, Choices, Last, Before, Destination, Plain, Pieces, Targets, One, Several, Assignment, Killed, Gone, Spared, Merged, Output, Shown, Format, Coded, Called, Jumped, Started, LockNames, Lone, Together, Locked, Opened, Received, Input, Prompted, Arranged, Into, Range, Single, Endless, UpTo, Renewed, Fresh, Kept, Command, Set, Write, Halt, Hang, Job, Lock, OpenDevice, UseDevice, CloseDevice, Read, Kill, Merge, If, Else, For, Forever, Do, Goto, Quit, New, Step, Line, About}
+use Rattle.mj_ast.specs.declared.routine.Mark.{Mark}
+use Rattle.mj_ast.specs.declared.routine.ReadMode.{ReadMode}
 use Rattle.mj_ast.specs.declared.routine.LockMode.{LockMode}
 use Rattle.mj_ast.specs.declared.routine.LockMode.TheVariants.{Whole, Plus, Minus}
 use Rattle.mj_semantics.specs.Lines.{Here, next_line, entry_of}
@@ -111,9 +113,15 @@ abbrev pub assignments_code : ℕ → List Assignment → List Instr
 assignments_code pc [] = []
 assignments_code pc (a ∷ list) = assignment_code pc a ++ assignments_code (pc + length (assignment_code pc a)) list
 
+-- a format, of which the column has its value first
+abbrev pub format_code : ℕ → List Mark → Option Expr → List Instr
+format_code pc marks None = instr.Format marks ∷ []
+format_code pc marks (Some e) = expr_code pc e ++ instr.Tab marks ∷ []
+
 abbrev pub output_code : ℕ → Output → List Instr
 output_code pc (Shown e) = expr_code pc e ++ instr.Write ∷ []
-output_code pc (Format marks) = instr.Format marks ∷ []
+output_code pc (Format l) = format_code pc l.marks l.column
+output_code pc (Coded e) = expr_code pc e ++ instr.WriteByte ∷ []
 
 abbrev pub outputs_code : ℕ → List Output → List Instr
 outputs_code pc [] = []
@@ -239,6 +247,51 @@ abbrev pub lock_all_code : ℕ → List Locked → List Instr
 lock_all_code pc [] = instr.UnlockAll ∷ []
 lock_all_code pc (l ∷ list) = locks_code pc (l ∷ list)
 
+-- an argument of OPEN: the name of its device, and then its timeout; the session begins where the job gets the device
+abbrev pub open_code : ℕ → Opened → List Instr
+open_code pc o =
+    let wait = pc + length (expr_code pc o.device) in
+    expr_code pc o.device ++ (timeout_code wait o.timeout ++ instr.Obtain (wait_of o.timeout) ∷ instr.BeginSession ∷ [])
+
+abbrev pub opens_code : ℕ → List Opened → List Instr
+opens_code pc [] = []
+opens_code pc (o ∷ list) = open_code pc o ++ opens_code (pc + length (open_code pc o)) list
+
+abbrev pub use_code : ℕ → Expr → List Instr
+use_code pc e = expr_code pc e ++ instr.Use ∷ []
+
+abbrev pub uses_code : ℕ → List Expr → List Instr
+uses_code pc [] = []
+uses_code pc (e ∷ es) = use_code pc e ++ uses_code (pc + length (use_code pc e)) es
+
+-- an argument of CLOSE: the session ends, and the device is given up where that failed, or where it didn't
+abbrev pub close_code : ℕ → Expr → List Instr
+close_code pc e = expr_code pc e ++ instr.EndSession ∷ instr.GiveUpFailed ∷ instr.GiveUp ∷ []
+
+abbrev pub closes_code : ℕ → List Expr → List Instr
+closes_code pc [] = []
+closes_code pc (e ∷ es) = close_code pc e ++ closes_code (pc + length (close_code pc e)) es
+
+-- what is read, and where it goes: the subscripts of a variable lie below it
+abbrev pub taken_code : ReadMode → Wait → Reference → List Instr
+taken_code m w r = instr.Read m w ∷ instr.Store r (record { above = 1; taken = r.count + 1 }) ∷ []
+
+-- the variable that READ gives its value, and then the timeout
+abbrev pub receive_code : ℕ → Received → List Instr
+receive_code pc r =
+    let wait = pc + length (name_code pc r.variable) in
+    name_code pc r.variable ++ (timeout_code wait r.timeout ++ taken_code r.mode (wait_of r.timeout) (reference r.variable))
+
+-- an argument of READ
+abbrev pub input_code : ℕ → Input → List Instr
+input_code pc (Prompted text) = instr.Push text ∷ instr.Write ∷ []
+input_code pc (Arranged l) = format_code pc l.marks l.column
+input_code pc (Into r) = receive_code pc r
+
+abbrev pub inputs_code : ℕ → List Input → List Instr
+inputs_code pc [] = []
+inputs_code pc (i ∷ list) = input_code pc i ++ inputs_code (pc + length (input_code pc i)) list
+
 -- code that begins at pc, behind a postcondition, which leads past it
 abbrev pub code_if : ℕ → Option Expr → (ℕ → List Instr) → List Instr
 code_if pc None code = code pc
@@ -330,6 +383,10 @@ command_code here pc out Halt = instr.Halt ∷ []
 command_code here pc out (Hang es) = hangs_code pc es
 command_code here pc out (Job list) = jobs_code here pc list
 command_code here pc out (Lock list) = lock_all_code pc list
+command_code here pc out (OpenDevice list) = opens_code pc list
+command_code here pc out (UseDevice es) = uses_code pc es
+command_code here pc out (CloseDevice es) = closes_code pc es
+command_code here pc out (Read list) = inputs_code pc list
 command_code here pc out (Kill list) = kill_all_code pc list
 command_code here pc out (Merge list) = merges_code pc list
 command_code here pc out (If es) = []
@@ -355,6 +412,10 @@ obey_code here pc out Halt c rest = and_then here pc out c Halt rest
 obey_code here pc out (Hang es) c rest = and_then here pc out c (Hang es) rest
 obey_code here pc out (Job list) c rest = and_then here pc out c (Job list) rest
 obey_code here pc out (Lock list) c rest = and_then here pc out c (Lock list) rest
+obey_code here pc out (OpenDevice list) c rest = and_then here pc out c (OpenDevice list) rest
+obey_code here pc out (UseDevice es) c rest = and_then here pc out c (UseDevice es) rest
+obey_code here pc out (CloseDevice es) c rest = and_then here pc out c (CloseDevice es) rest
+obey_code here pc out (Read list) c rest = and_then here pc out c (Read list) rest
 obey_code here pc out (Kill list) c rest = and_then here pc out c (Kill list) rest
 obey_code here pc out (Merge list) c rest = and_then here pc out c (Merge list) rest
 obey_code here pc out (If es) c rest = if_code pc es (λ p. rest p out)

@@ -2,21 +2,22 @@
 
 ghost use Rattle.std.specs.Prelude.{◌≡◌, ◌<◌, ◌+◌, ◌^◌, [], ◌∷◌, ◌++◌, length, map, slice_set, option_map, IfOk, OnOk};
 ghost use Rattle.mj_pcode.specs.Checked.{IsChecked};
-ghost use Rattle.mj_ast.specs.Trees.{expr_of, variable_of, assignment_of, killed_of, merged_of, output_of, called_of, jumped_of, range_of, renewed_of, command_of, step_of, line_of, routine_of};
-ghost use Rattle.mj_asm.specs.Code.{assignment_code, assignments_code, names_code, kill_code, kills_code, kill_all_code, merge_code, merges_code, output_code, outputs_code, code_if, command_code, steps_code, if_code, ifs_code, else_code, for_code, body_code, range_code, ranges_code, do_code, call_code, jumps_code, jump_code, new_all_code, renewed_code, line_code};
+ghost use Rattle.mj_ast.specs.Trees.{expr_of, variable_of, assignment_of, killed_of, merged_of, called_of, jumped_of, range_of, renewed_of, command_of, step_of, line_of, routine_of};
+ghost use Rattle.mj_asm.specs.Code.{assignment_code, assignments_code, names_code, kill_code, kills_code, kill_all_code, merge_code, merges_code, code_if, command_code, steps_code, if_code, ifs_code, else_code, for_code, body_code, range_code, ranges_code, do_code, call_code, jumps_code, jump_code, new_all_code, renewed_code, line_code};
 ghost use Rattle.mj_asm.specs.Sites.{here_of};
 ghost use Rattle.mj_asm.specs.Correct.{with_labels, IsUnitOf};
 
+use crate::devices::{emit_closes, emit_inputs, emit_opens, emit_outputs, emit_uses};
 use crate::entries::{emit_actuals, entry_of};
 use crate::expr::{aim, change, emit_expr, emit_subscripts, put, reference};
 use crate::sharing::{emit_hangs, emit_jobs, emit_lock_all};
 use crate::site::Site;
 use crate::targets::{emit_name, emit_one, emit_several};
 use mj_ast::{
-    Assignment, Called, Command, Expr, Jumped, Killed, Line, Merged, Output, Range, Renewed,
-    Routine, Step, Targets, Variable,
+    Assignment, Called, Command, Expr, Jumped, Killed, Line, Merged, Range, Renewed, Routine, Step,
+    Targets, Variable,
 };
-use mj_pcode::{Head, Instr, Labels, LineStart, Marks, Span, Unit, Words};
+use mj_pcode::{Head, Instr, Labels, LineStart, Span, Unit, Words};
 use mj_text::Text;
 use std::alloc::{AllocError, Global};
 
@@ -282,6 +283,10 @@ fn emit_command(
         Command::Hang(times) => emit_hangs(code, times),
         Command::Job(list) => emit_jobs(site, code, list),
         Command::Lock(list) => emit_lock_all(site.alloc, code, list),
+        Command::Open(list) => emit_opens(code, list),
+        Command::Use(names) => emit_uses(code, names),
+        Command::Close(names) => emit_closes(code, names),
+        Command::Read(list) => emit_inputs(site.alloc, code, list),
         Command::Kill(list) => emit_kill_all(site.alloc, code, list),
         Command::Merge(list) => emit_merges(code, list),
         Command::Do(list) => emit_do(site, code, list),
@@ -413,30 +418,6 @@ fn emit_assignment(code: &mut Vec<Instr>, assignment: &Assignment) -> Result<(),
     match &assignment.targets {
         Targets::One(destination) => emit_one(code, destination, &assignment.value),
         Targets::Several(list) => emit_several(code, list, &assignment.value),
-    }
-}
-
-fn emit_outputs(alloc: Global, code: &mut Vec<Instr>, outputs: &[Output]) -> Result<(), AllocError>
-    ensures { OnOk result (code.new.items ≡ code.old.items ++ outputs_code (length code.old.items) (map output_of outputs.now)) }
-{
-    for output in outputs {
-        emit_output(alloc, code, output)?;
-    }
-    Ok(())
-}
-
-fn emit_output(alloc: Global, code: &mut Vec<Instr>, output: &Output) -> Result<(), AllocError>
-    ensures { OnOk result (code.new.items ≡ code.old.items ++ output_code (length code.old.items) (output_of output.now)) }
-{
-    match output {
-        Output::Value(e) => {
-            emit_expr(code, e)?;
-            put(code, Instr::Write)
-        }
-        Output::Format(marks) => {
-            let marks = Marks::copied(alloc, marks)?;
-            put(code, Instr::Format(marks))
-        }
     }
 }
 

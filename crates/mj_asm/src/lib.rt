@@ -4,6 +4,7 @@
 // `IsUnitOf` of `specs/Correct.antt`.
 #![tactic(auto)]
 
+mod devices;
 mod emit;
 mod entries;
 mod expr;

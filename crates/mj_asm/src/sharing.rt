@@ -31,8 +31,8 @@ fn emit_hang(code: &mut Vec<Instr>, time: &Expr) -> Result<(), AllocError>
     put(code, Instr::Hang)
 }
 
-// How long an argument may wait, which is looked at once it has its value.
-fn emit_timeout(code: &mut Vec<Instr>, timeout: &Option<Expr>) -> Result<Wait, AllocError>
+/// How long an argument may wait, which is looked at once it has its value.
+pub fn emit_timeout(code: &mut Vec<Instr>, timeout: &Option<Expr>) -> Result<Wait, AllocError>
     ensures code { OnOk result (code.new.items ≡ code.old.items ++ timeout_code (length code.old.items) (option_map expr_of timeout.now)) }
     ensures wait { IfOk result (λ wait. wait ≡ wait_of (option_map expr_of timeout.now)) }
 {

@@ -1,15 +1,16 @@
 -- Rows of the table of what is left out: a token that stands for a construct by its row, and one that doesn't.
 use Rattle.std.specs.Fmt.{digits}
-use Rattle.std.proofs.Common.{Some, ◌≡◌, ◌∷◌, [], None, true, false, inl, lit≤, refl, codes}
+use Rattle.std.proofs.Common.{Some, ◌≡◌, ◌∷◌, ◌++◌, ℕ, List, Option, [], None, true, false, inl, inr, lit≤, refl, codes}
 use Rattle.mj_ast.specs.declared.construct.Construct.TheVariants as construct
-use Rattle.mj_ast.specs.declared.sign.Sign.TheVariants.{Star, Slash, OpenBracket, Exclamation, Open, Close, Comma, Colon, Dot}
+use Rattle.mj_ast.specs.declared.sign.Sign.TheVariants.{Star, Hash, Slash, OpenBracket, Exclamation, Open, Close, Comma, Colon, Dot}
 use Rattle.mj_ast.specs.declared.routine.Mark.TheVariants.{NewLine}
+use Rattle.mj_ast.specs.declared.routine.ReadMode.TheVariants.{Line}
+use Rattle.mj_ast.specs.declared.expr.Scope.TheVariants.{Local}
 use Rattle.mj_ast.specs.declared.keyword.Keyword.TheVariants as keyword
 use Rattle.mj_ast.specs.declared.keyword.Verb.TheVariants.{Of}
-use Rattle.mj_ast.specs.declared.function.Special.TheVariants as special
-use Rattle.mj_ast.specs.Syntax.{Expr, Chain, Done, Literal, Intrinsic, Shown, Format, Write, Started, Job}
-use Rattle.mj_ast.specs.Tokens.{Word, Called, Special, Digits, Signed, Stray, lexemes, tokens}
-use Rattle.mj_ast.specs.LeftOut.{Fits, MayStand}
+use Rattle.mj_ast.specs.Syntax.{Expr, Variable, Var, No, Chain, Done, Literal, Shown, Format, Write, Started, Job, Opened, OpenDevice, UseDevice, Prompted, Arranged, Into, Read}
+use Rattle.mj_ast.specs.Tokens.{Token, Word, Called, Special, Digits, Quoted, Signed, Stray, lexemes, tokens}
+use Rattle.mj_ast.specs.LeftOut.{Fits, MayStand, EndsInCommand}
 
 wrong : false ≡ true → ⊥
 wrong e = cc
@@ -123,9 +124,8 @@ no_reference h = wrong h.0
 no_offset : Fits construct.EntryOffset (tokens (codes " D A^R")) (Signed Comma) [] → ⊥
 no_offset h = wrong h.0
 
-no_parameters : Fits construct.ProcessParameters (tokens (codes " J A")) (Signed Colon) [] → ⊥
-unfolding lexemes
-no_parameters h = wrong h.0
+no_read_length : Fits construct.ReadLength (tokens (codes " R X")) (Signed Colon) [] → ⊥
+no_read_length h = wrong h.0
 
 no_extract : Fits construct.SetExtract (tokens (codes " S ")) (Called (codes "P")) [] → ⊥
 no_extract h = wrong h.0
@@ -134,30 +134,50 @@ no_command : Fits construct.Command (tokens (codes " ")) (Word (codes "HANG")) [
 no_command h = wrong h.0
 
 no_space : Fits construct.MnemonicSpace (tokens (codes " W ")) (Signed Star) [] → ⊥
-no_space h = wrong h.0
+no_space (inl h) = wrong h.0
+no_space (inr h) = wrong h.0
 
--- behind ` W ` an operand may begin, and so may a run of `!`
-operand : MayStand (tokens (codes " W ")) (Special (codes "T"))
+-- the last of some tokens
+nothing_behind : (k : Token) (ks : List Token) (t : Token) → [] ≡ ks ++ t ∷ [] → ⊥
+nothing_behind k [] t e = cc
+nothing_behind k (x ∷ ks) t e = cc
+
+last_same : (ks ls : List Token) (s t : Token) → ks ++ s ∷ [] ≡ ls ++ t ∷ [] → s ≡ t
+last_same [] [] s t e = cc
+last_same [] (l ∷ ls) s t e = absurd (nothing_behind s ls t cc)
+last_same (k ∷ ks) [] s t e = absurd (nothing_behind t ks s cc)
+last_same (k ∷ ks) (l ∷ ls) s t e = last_same ks ls s t cc
+
+no_colon : (w : List ℕ) → Word w ≡ Signed Colon → ⊥
+no_colon w e = cc
+
+-- the `:` itself isn't behind one
+no_parameters : Fits construct.ProcessParameters (tokens (codes " J A")) (Signed Colon) [] → ⊥
 unfolding lexemes
-operand = record {
+no_parameters h = no_colon (codes "A") (last_same (tokens (codes " J ")) h.0 (Word (codes "A")) (Signed Colon) h.1)
+
+-- behind ` W ` a text in quotes may stand, and so may a run of `!`
+text : MayStand (tokens (codes " W ")) (Quoted [])
+unfolding lexemes
+text = record {
   rest = [];
-  line = record { label = None; formals = []; level = 1; steps = record { condition = None; command = Write (Shown (Chain (Intrinsic special.Test) Done) ∷ []) } ∷ [] };
+  line = record { label = None; formals = []; level = 1; steps = record { condition = None; command = Write (Shown (Chain (Literal []) Done) ∷ []) } ∷ [] };
   spells = (
-    record { label = None; formals = []; level = 1; steps = record { condition = None; command = Write (Shown (Chain (Intrinsic special.Test) Done) ∷ []) } ∷ [] },
+    record { label = None; formals = []; level = 1; steps = record { condition = None; command = Write (Shown (Chain (Literal []) Done) ∷ []) } ∷ [] },
     (
       [],
-      tokens (codes " W $T"),
+      tokens (codes " W \"\""),
       0,
       refl,
       record { front = []; names = []; indent = []; cut = refl; label_is = refl; formals_are = (refl, refl); dots_are = refl },
       refl,
       (
         1,
-        tokens (codes "W $T"),
+        tokens (codes "W \"\""),
         [],
         lit≤ tt,
         refl,
-        (codes "W", [], tokens (codes " $T"), refl, (Of keyword.Write, refl, refl), refl, (tokens (codes "$T"), refl, (tokens (codes "$T"), [], refl, (refl, refl), refl)), refl, tt),
+        (codes "W", [], tokens (codes " \"\""), refl, (Of keyword.Write, refl, refl), refl, (tokens (codes "\"\""), refl, (tokens (codes "\"\""), [], refl, (refl, refl), refl)), refl, tt),
         inl (0, refl),
       ),
     ),
@@ -169,9 +189,9 @@ marks : MayStand (tokens (codes " W ")) (Signed Exclamation)
 unfolding lexemes
 marks = record {
   rest = [];
-  line = record { label = None; formals = []; level = 1; steps = record { condition = None; command = Write (Format (NewLine ∷ []) ∷ []) } ∷ [] };
+  line = record { label = None; formals = []; level = 1; steps = record { condition = None; command = Write (Format (record { marks = NewLine ∷ []; column = None }) ∷ []) } ∷ [] };
   spells = (
-    record { label = None; formals = []; level = 1; steps = record { condition = None; command = Write (Format (NewLine ∷ []) ∷ []) } ∷ [] },
+    record { label = None; formals = []; level = 1; steps = record { condition = None; command = Write (Format (record { marks = NewLine ∷ []; column = None }) ∷ []) } ∷ [] },
     (
       [],
       tokens (codes " W !"),
@@ -195,22 +215,83 @@ marks = record {
 
 mnemonic_space : Fits construct.MnemonicSpace (tokens (codes " W ")) (Signed Slash) []
 unfolding lexemes
-mnemonic_space = (refl, (operand, marks))
+mnemonic_space = inr (refl, (text, marks))
+
+-- the same behind ` R `, where no other operand may stand
+prompt : MayStand (tokens (codes " R ")) (Quoted [])
+unfolding lexemes
+prompt = record {
+  rest = [];
+  line = record { label = None; formals = []; level = 1; steps = record { condition = None; command = Read (Prompted [] ∷ []) } ∷ [] };
+  spells = (
+    record { label = None; formals = []; level = 1; steps = record { condition = None; command = Read (Prompted [] ∷ []) } ∷ [] },
+    (
+      [],
+      tokens (codes " R \"\""),
+      0,
+      refl,
+      record { front = []; names = []; indent = []; cut = refl; label_is = refl; formals_are = (refl, refl); dots_are = refl },
+      refl,
+      (
+        1,
+        tokens (codes "R \"\""),
+        [],
+        lit≤ tt,
+        refl,
+        (codes "R", [], tokens (codes " \"\""), refl, (Of keyword.Read, refl, refl), refl, (tokens (codes "\"\""), refl, (tokens (codes "\"\""), [], refl, (refl, lit≤ tt), refl)), refl, tt),
+        inl (0, refl),
+      ),
+    ),
+    refl,
+  );
+}
+
+read_marks : MayStand (tokens (codes " R ")) (Signed Exclamation)
+unfolding lexemes
+read_marks = record {
+  rest = [];
+  line = record { label = None; formals = []; level = 1; steps = record { condition = None; command = Read (Arranged (record { marks = NewLine ∷ []; column = None }) ∷ []) } ∷ [] };
+  spells = (
+    record { label = None; formals = []; level = 1; steps = record { condition = None; command = Read (Arranged (record { marks = NewLine ∷ []; column = None }) ∷ []) } ∷ [] },
+    (
+      [],
+      tokens (codes " R !"),
+      0,
+      refl,
+      record { front = []; names = []; indent = []; cut = refl; label_is = refl; formals_are = (refl, refl); dots_are = refl },
+      refl,
+      (
+        1,
+        tokens (codes "R !"),
+        [],
+        lit≤ tt,
+        refl,
+        (codes "R", [], tokens (codes " !"), refl, (Of keyword.Read, refl, refl), refl, (tokens (codes "!"), refl, (tokens (codes "!"), [], refl, refl, refl)), refl, tt),
+        inl (0, refl),
+      ),
+    ),
+    refl,
+  );
+}
+
+read_space : Fits construct.MnemonicSpace (tokens (codes " R ")) (Signed Slash) []
+unfolding lexemes
+read_space = inr (refl, (prompt, read_marks))
 
 -- behind ` J A:` a second `:` may stand
 abbrev one : Expr
 one = Chain (Literal (49 ∷ [])) Done
 
-abbrev start : Started
-start = record { target = record { label = Some (codes "A"); routine = None }; actuals = []; timeout = Some one }
+abbrev start : Option Expr → Started
+start timeout = record { target = record { label = Some (codes "A"); routine = None }; actuals = []; timeout = timeout }
 
 second_colon : MayStand (tokens (codes " J A:")) (Signed Colon)
 unfolding lexemes digits
 second_colon = record {
   rest = tokens (codes "1");
-  line = record { label = None; formals = []; level = 1; steps = record { condition = None; command = Job (start ∷ []) } ∷ [] };
+  line = record { label = None; formals = []; level = 1; steps = record { condition = None; command = Job (start (Some one) ∷ []) } ∷ [] };
   spells = (
-    record { label = None; formals = []; level = 1; steps = record { condition = None; command = Job (start ∷ []) } ∷ [] },
+    record { label = None; formals = []; level = 1; steps = record { condition = None; command = Job (start (Some one) ∷ []) } ∷ [] },
     (
       [],
       tokens (codes " J A::1"),
@@ -224,27 +305,7 @@ second_colon = record {
         [],
         lit≤ tt,
         refl,
-        (
-          codes "J",
-          [],
-          tokens (codes " A::1"),
-          refl,
-          (Of keyword.Job, refl, refl),
-          refl,
-          (
-            tokens (codes "A::1"),
-            refl,
-            (
-              tokens (codes "A"),
-              tokens (codes "::1"),
-              refl,
-              inl (refl, lit≤ tt),
-              (Signed Colon ∷ [], tokens (codes ":1"), refl, refl, (Signed Colon ∷ [], tokens (codes "1"), refl, refl, (tokens (codes "1"), [], refl, (refl, refl), refl))),
-            ),
-          ),
-          refl,
-          tt,
-        ),
+        (codes "J", [], tokens (codes " A::1"), refl, (Of keyword.Job, refl, refl), refl, (tokens (codes "A::1"), refl, (tokens (codes "A"), tokens (codes "::1"), refl, inl (refl, lit≤ tt), (Signed Colon ∷ [], tokens (codes ":1"), refl, refl, (Signed Colon ∷ [], tokens (codes "1"), refl, refl, (tokens (codes "1"), [], refl, (refl, refl), refl))))), refl, tt),
         inl (0, refl),
       ),
     ),
@@ -252,6 +313,236 @@ second_colon = record {
   );
 }
 
+job : EndsInCommand keyword.Job (tokens (codes " J A"))
+unfolding lexemes
+job = record {
+  single = refl;
+  line = record { label = None; formals = []; level = 1; steps = record { condition = None; command = Job (start None ∷ []) } ∷ [] };
+  spells = (
+    record { label = None; formals = []; level = 1; steps = record { condition = None; command = Job (start None ∷ []) } ∷ [] },
+    (
+      [],
+      tokens (codes " J A"),
+      0,
+      refl,
+      record { front = []; names = []; indent = []; cut = refl; label_is = refl; formals_are = (refl, refl); dots_are = refl },
+      refl,
+      (
+        1,
+        tokens (codes "J A"),
+        [],
+        lit≤ tt,
+        refl,
+        (codes "J", [], tokens (codes " A"), refl, (Of keyword.Job, refl, refl), refl, (tokens (codes "A"), refl, (tokens (codes "A"), [], refl, inl (refl, lit≤ tt), refl)), refl, tt),
+        inl (0, refl),
+      ),
+    ),
+    refl,
+  );
+  last = refl;
+}
+
 process_parameters : Fits construct.ProcessParameters (tokens (codes " J A:")) (Word (codes "X")) []
 unfolding lexemes
-process_parameters = (refl, second_colon)
+process_parameters = (tokens (codes " J A"), refl, job, second_colon)
+
+-- behind ` O 1:` too
+abbrev device : Option Expr → Opened
+device timeout = record { device = one; timeout = timeout }
+
+device_colon : MayStand (tokens (codes " O 1:")) (Signed Colon)
+unfolding lexemes digits
+device_colon = record {
+  rest = tokens (codes "1");
+  line = record { label = None; formals = []; level = 1; steps = record { condition = None; command = OpenDevice (device (Some one) ∷ []) } ∷ [] };
+  spells = (
+    record { label = None; formals = []; level = 1; steps = record { condition = None; command = OpenDevice (device (Some one) ∷ []) } ∷ [] },
+    (
+      [],
+      tokens (codes " O 1::1"),
+      0,
+      refl,
+      record { front = []; names = []; indent = []; cut = refl; label_is = refl; formals_are = (refl, refl); dots_are = refl },
+      refl,
+      (
+        1,
+        tokens (codes "O 1::1"),
+        [],
+        lit≤ tt,
+        refl,
+        (codes "O", [], tokens (codes " 1::1"), refl, (Of keyword.Open, refl, refl), refl, (tokens (codes "1::1"), refl, (tokens (codes "1"), tokens (codes "::1"), refl, (refl, refl), (Signed Colon ∷ [], tokens (codes ":1"), refl, refl, (Signed Colon ∷ [], tokens (codes "1"), refl, refl, (tokens (codes "1"), [], refl, (refl, refl), refl))))), refl, tt),
+        inl (0, refl),
+      ),
+    ),
+    refl,
+  );
+}
+
+opening : EndsInCommand keyword.Open (tokens (codes " O 1"))
+unfolding lexemes digits
+opening = record {
+  single = refl;
+  line = record { label = None; formals = []; level = 1; steps = record { condition = None; command = OpenDevice (device None ∷ []) } ∷ [] };
+  spells = (
+    record { label = None; formals = []; level = 1; steps = record { condition = None; command = OpenDevice (device None ∷ []) } ∷ [] },
+    (
+      [],
+      tokens (codes " O 1"),
+      0,
+      refl,
+      record { front = []; names = []; indent = []; cut = refl; label_is = refl; formals_are = (refl, refl); dots_are = refl },
+      refl,
+      (
+        1,
+        tokens (codes "O 1"),
+        [],
+        lit≤ tt,
+        refl,
+        (codes "O", [], tokens (codes " 1"), refl, (Of keyword.Open, refl, refl), refl, (tokens (codes "1"), refl, (tokens (codes "1"), [], refl, (refl, refl), refl)), refl, tt),
+        inl (0, refl),
+      ),
+    ),
+    refl,
+  );
+  last = refl;
+}
+
+device_parameters : Fits construct.DeviceParameters (tokens (codes " O 1:")) (Word (codes "X")) []
+unfolding lexemes
+device_parameters = inr (tokens (codes " O 1"), refl, opening, device_colon)
+
+open_timed : EndsInCommand keyword.Open (tokens (codes " O 1::1"))
+unfolding lexemes digits
+open_timed = record {
+  single = refl;
+  line = record { label = None; formals = []; level = 1; steps = record { condition = None; command = OpenDevice (device (Some one) ∷ []) } ∷ [] };
+  spells = (
+    record { label = None; formals = []; level = 1; steps = record { condition = None; command = OpenDevice (device (Some one) ∷ []) } ∷ [] },
+    (
+      [],
+      tokens (codes " O 1::1"),
+      0,
+      refl,
+      record { front = []; names = []; indent = []; cut = refl; label_is = refl; formals_are = (refl, refl); dots_are = refl },
+      refl,
+      (
+        1,
+        tokens (codes "O 1::1"),
+        [],
+        lit≤ tt,
+        refl,
+        (codes "O", [], tokens (codes " 1::1"), refl, (Of keyword.Open, refl, refl), refl, (tokens (codes "1::1"), refl, (tokens (codes "1"), tokens (codes "::1"), refl, (refl, refl), (Signed Colon ∷ [], tokens (codes ":1"), refl, refl, (Signed Colon ∷ [], tokens (codes "1"), refl, refl, (tokens (codes "1"), [], refl, (refl, refl), refl))))), refl, tt),
+        inl (0, refl),
+      ),
+    ),
+    refl,
+  );
+  last = refl;
+}
+
+third_colon : Fits construct.MnemonicSpace (tokens (codes " O 1::1")) (Signed Colon) []
+unfolding lexemes
+third_colon = inl (refl, inr open_timed)
+
+next_colon : Fits construct.MnemonicSpace (tokens (codes " O 1::")) (Signed Colon) []
+unfolding lexemes
+next_colon = inl (refl, inl (tokens (codes " O 1:"), refl, (tokens (codes " O 1"), refl, opening, device_colon)))
+
+-- behind an argument of USE
+using : EndsInCommand keyword.Use (tokens (codes " U 1"))
+unfolding lexemes digits
+using = record {
+  single = refl;
+  line = record { label = None; formals = []; level = 1; steps = record { condition = None; command = UseDevice (one ∷ []) } ∷ [] };
+  spells = (
+    record { label = None; formals = []; level = 1; steps = record { condition = None; command = UseDevice (one ∷ []) } ∷ [] },
+    (
+      [],
+      tokens (codes " U 1"),
+      0,
+      refl,
+      record { front = []; names = []; indent = []; cut = refl; label_is = refl; formals_are = (refl, refl); dots_are = refl },
+      refl,
+      (
+        1,
+        tokens (codes "U 1"),
+        [],
+        lit≤ tt,
+        refl,
+        (codes "U", [], tokens (codes " 1"), refl, (Of keyword.Use, refl, refl), refl, (tokens (codes "1"), refl, (tokens (codes "1"), [], refl, (refl, refl), refl)), refl, tt),
+        inl (0, refl),
+      ),
+    ),
+    refl,
+  );
+  last = refl;
+}
+
+use_parameters : Fits construct.DeviceParameters (tokens (codes " U 1")) (Signed Colon) []
+unfolding lexemes
+use_parameters = inl (refl, inl using)
+
+-- a `:` may stand behind ` R X`
+abbrev x : Variable
+x = Var Local (codes "X") No
+
+timeout : MayStand (tokens (codes " R X")) (Signed Colon)
+unfolding lexemes digits
+timeout = record {
+  rest = tokens (codes "1");
+  line = record { label = None; formals = []; level = 1; steps = record { condition = None; command = Read (Into (record { mode = Line; variable = x; timeout = Some one }) ∷ []) } ∷ [] };
+  spells = (
+    record { label = None; formals = []; level = 1; steps = record { condition = None; command = Read (Into (record { mode = Line; variable = x; timeout = Some one }) ∷ []) } ∷ [] },
+    (
+      [],
+      tokens (codes " R X:1"),
+      0,
+      refl,
+      record { front = []; names = []; indent = []; cut = refl; label_is = refl; formals_are = (refl, refl); dots_are = refl },
+      refl,
+      (
+        1,
+        tokens (codes "R X:1"),
+        [],
+        lit≤ tt,
+        refl,
+        (codes "R", [], tokens (codes " X:1"), refl, (Of keyword.Read, refl, refl), refl, (tokens (codes "X:1"), refl, (tokens (codes "X"), tokens (codes ":1"), refl, (refl, refl), (Signed Colon ∷ [], tokens (codes "1"), refl, refl, (tokens (codes "1"), [], refl, (refl, refl), refl)))), refl, tt),
+        inl (0, refl),
+      ),
+    ),
+    refl,
+  );
+}
+
+read : EndsInCommand keyword.Read (tokens (codes " R X"))
+unfolding lexemes
+read = record {
+  single = refl;
+  line = record { label = None; formals = []; level = 1; steps = record { condition = None; command = Read (Into (record { mode = Line; variable = x; timeout = None }) ∷ []) } ∷ [] };
+  spells = (
+    record { label = None; formals = []; level = 1; steps = record { condition = None; command = Read (Into (record { mode = Line; variable = x; timeout = None }) ∷ []) } ∷ [] },
+    (
+      [],
+      tokens (codes " R X"),
+      0,
+      refl,
+      record { front = []; names = []; indent = []; cut = refl; label_is = refl; formals_are = (refl, refl); dots_are = refl },
+      refl,
+      (
+        1,
+        tokens (codes "R X"),
+        [],
+        lit≤ tt,
+        refl,
+        (codes "R", [], tokens (codes " X"), refl, (Of keyword.Read, refl, refl), refl, (tokens (codes "X"), refl, (tokens (codes "X"), [], refl, (refl, refl), refl)), refl, tt),
+        inl (0, refl),
+      ),
+    ),
+    refl,
+  );
+  last = refl;
+}
+
+read_length : Fits construct.ReadLength (tokens (codes " R X")) (Signed Hash) []
+unfolding lexemes
+read_length = (refl, (read, timeout))

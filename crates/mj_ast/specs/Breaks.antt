@@ -1,7 +1,7 @@
 -- Which commands are BREAK, at which a debugger stops. None is yet.
 use Rattle.std.specs.Prelude.{Bool, false}
 use Rattle.std.specs.List.{list_any}
-use Rattle.mj_ast.specs.Syntax.{Command, Set, Write, Halt, Hang, Job, Lock, Kill, Merge, If, Else, For, Forever, Do, Goto, Quit, New, Line}
+use Rattle.mj_ast.specs.Syntax.{Command, Set, Write, Halt, Hang, Job, Lock, Kill, Merge, If, Else, For, Forever, Do, Goto, Quit, New, OpenDevice, UseDevice, CloseDevice, Read, Line}
 
 -- whether a command is BREAK
 abbrev pub is_break : Command → Bool
@@ -21,6 +21,10 @@ is_break (Do arguments) = false
 is_break (Goto arguments) = false
 is_break Quit = false
 is_break (New arguments) = false
+is_break (OpenDevice arguments) = false
+is_break (UseDevice arguments) = false
+is_break (CloseDevice arguments) = false
+is_break (Read arguments) = false
 
 -- whether one of a line's commands is BREAK
 abbrev pub holds_break : Line → Bool

@@ -5,7 +5,8 @@
 --   SET         targets "=" expression, and more behind commas
 --   targets     = destination | "(" destination {"," destination} ")"
 --   destination = variable | "$PIECE" "(" variable "," expression ["," expression ["," expression]] ")"
---   WRITE       an expression or a run of "!", and more behind commas
+--   WRITE       an expression, a format or "*" expression, and more behind commas
+--   format      = ("!" | "#") {"!" | "#"} ["?" expression] | "?" expression
 --   HALT        no arguments
 --   HANG        an expression, and more behind commas
 --   KILL        nothing, or a variable or names in parentheses with commas between them, and more behind commas
@@ -19,6 +20,9 @@
 --               and more behind commas
 --   GOTO        an entry and [":" expression], and more behind commas
 --   NEW         nothing, or a name or names in parentheses with commas between them, and more behind commas
+--   OPEN        an expression and [":" ":" expression], and more behind commas
+--   USE, CLOSE  an expression, and more behind commas
+--   READ        a quoted text, a format or ["*"] variable [":" expression], and more behind commas
 --   entry       = label | label "^" name | "^" name
 --   label       = name | digits
 --   actuals     = "(" [[expression] {"," [expression]}] ")"
@@ -26,23 +30,25 @@
 --   range       = expression [":" expression [":" expression]]
 --
 -- IF, ELSE and FOR have no ":" expression behind their word. The word `H` is HALT without arguments, and HANG with some.
-use Rattle.std.specs.Prelude.{◌≡◌, ◌⊎◌, ℕ, ◌+◌, ◌-◌, ◌≤◌, nat_le, Bool, true, false, ◌&&◌, if◌then◌else◌, List, [], ◌∷◌, ◌++◌, length, map, max, Option, Some, None, bytes_eq, codes}
+use Rattle.std.specs.Prelude.{◌≡◌, ◌⊎◌, ℕ, ◌+◌, ◌-◌, ◌≤◌, nat_le, Bool, true, false, ◌&&◌, ◌||◌, if◌then◌else◌, List, [], ◌∷◌, ◌++◌, length, map, max, Option, Some, None, bytes_eq, codes}
 use Rattle.mj_text.specs.declared.text.TheConstants.{TEXT_LIMIT}
 use Rattle.mj_ast.specs.declared.sign.Sign.{Sign}
-use Rattle.mj_ast.specs.declared.sign.Sign.TheVariants.{Plus, Minus, Equals, Comma, Colon, Exclamation, Caret, Open, Close}
+use Rattle.mj_ast.specs.declared.sign.Sign.TheVariants.{Plus, Minus, Star, Hash, Equals, Comma, Colon, Exclamation, Question, Caret, Open, Close}
 use Rattle.mj_ast.specs.declared.expr.Scope.TheVariants.{Local, Global}
 use Rattle.mj_ast.specs.declared.function.Function.TheVariants.{Piece}
 use Rattle.mj_ast.specs.declared.function.Callee.TheVariants.{Texts}
 use Rattle.mj_ast.specs.declared.routine.Mark.{Mark}
-use Rattle.mj_ast.specs.declared.routine.Mark.TheVariants.{NewLine}
+use Rattle.mj_ast.specs.declared.routine.Mark.TheVariants.{NewLine, NewPage}
 use Rattle.mj_ast.specs.declared.routine.LockMode.{LockMode}
 use Rattle.mj_ast.specs.declared.routine.LockMode.TheVariants as lock
+use Rattle.mj_ast.specs.declared.routine.ReadMode.{ReadMode}
+use Rattle.mj_ast.specs.declared.routine.ReadMode.TheVariants as read
 use Rattle.mj_ast.specs.declared.keyword.Keyword.{Keyword}
 use Rattle.mj_ast.specs.declared.keyword.Keyword.TheVariants as keyword
 use Rattle.mj_ast.specs.declared.keyword.Verb.{Verb}
 use Rattle.mj_ast.specs.declared.keyword.Verb.TheVariants.{Of, HaltOrHang}
-use Rattle.mj_ast.specs.Syntax.{Expr, Exprs, No, More, Variable, Var, Destination, Plain, Pieces, Targets, One, Several, Assignment, Killed, Gone, Spared, Merged, Output, Shown, Format, Target, Called, Jumped, Started, LockNames, Lone, Together, Locked, Range, Single, Endless, UpTo, Renewed, Fresh, Kept, Command, Set, Write, Halt, Hang, Job, Lock, Kill, Merge, If, Else, For, Forever, Do, Goto, Quit, New, Step}
-use Rattle.mj_ast.specs.Tokens.{Token, Word, Called as CalledWord, Digits, Signed, Blank}
+use Rattle.mj_ast.specs.Syntax.{Expr, Exprs, No, More, Variable, Var, Destination, Plain, Pieces, Targets, One, Several, Assignment, Killed, Gone, Spared, Merged, Layout, Output, Shown, Format, Coded, Received, Input, Prompted, Arranged, Into, Opened, Target, Called, Jumped, Started, LockNames, Lone, Together, Locked, Range, Single, Endless, UpTo, Renewed, Fresh, Kept, Command, Set, Write, Halt, Hang, Job, Lock, Kill, Merge, If, Else, For, Forever, Do, Goto, Quit, New, OpenDevice, UseDevice, CloseDevice, Read, Step}
+use Rattle.mj_ast.specs.Tokens.{Token, Word, Called as CalledWord, Digits, Quoted, Signed, Blank}
 use Rattle.mj_ast.specs.Expressions.{Spells, expressions, variables, callee_of, name_limit, count, expr_nesting, variable_nesting, expr_width, variable_width}
 
 -- ---- the words of commands
@@ -69,7 +75,11 @@ command_words =
     ∷ (codes "DO", Of keyword.Do) ∷ (codes "D", Of keyword.Do)
     ∷ (codes "GOTO", Of keyword.Goto) ∷ (codes "G", Of keyword.Goto)
     ∷ (codes "QUIT", Of keyword.Quit) ∷ (codes "Q", Of keyword.Quit)
-    ∷ (codes "NEW", Of keyword.New) ∷ (codes "N", Of keyword.New) ∷ []
+    ∷ (codes "NEW", Of keyword.New) ∷ (codes "N", Of keyword.New)
+    ∷ (codes "OPEN", Of keyword.Open) ∷ (codes "O", Of keyword.Open)
+    ∷ (codes "USE", Of keyword.Use) ∷ (codes "U", Of keyword.Use)
+    ∷ (codes "CLOSE", Of keyword.Close) ∷ (codes "C", Of keyword.Close)
+    ∷ (codes "READ", Of keyword.Read) ∷ (codes "R", Of keyword.Read) ∷ []
 
 -- what stands beside the word in the table
 abbrev pub looked_up : List ℕ → List (List ℕ × Verb) → Option Verb
@@ -107,16 +117,21 @@ keyword_for (Do arguments) = keyword.Do
 keyword_for (Goto arguments) = keyword.Goto
 keyword_for Quit = keyword.Quit
 keyword_for (New arguments) = keyword.New
+keyword_for (OpenDevice arguments) = keyword.Open
+keyword_for (UseDevice arguments) = keyword.Use
+keyword_for (CloseDevice arguments) = keyword.Close
+keyword_for (Read arguments) = keyword.Read
 
 -- ---- what arguments are made of
 
--- A part of the arguments of a command: a sign, a name, a label, `$PIECE` with a `(` behind it, an expression, a variable or the
--- local of FOR. An expression and a variable stand inside so many levels that the command itself opens.
+-- A part of the arguments of a command: a sign, a name, a label, `$PIECE` with a `(` behind it, a text in quotes alone, an expression, a
+-- variable or the local of FOR. An expression and a variable stand inside so many levels that the command itself opens.
 pub data Part : Type 0 where
   Put : (s : Sign) → Part
   Named : (word : List ℕ) → Part
   Label : (label : List ℕ) → Part
   PieceCall : Part
+  Prompt : (value : List ℕ) → Part
   Text : (level : ℕ) (e : Expr) → Part
   Place : (level : ℕ) (v : Variable) → Part
   Control : (v : Variable) → Part
@@ -151,10 +166,20 @@ assignment_parts a = targets_parts a.targets ++ Put Equals ∷ Text 0 a.value �
 -- the sign of a format mark
 abbrev pub mark_part : Mark → Part
 mark_part NewLine = Put Exclamation
+mark_part NewPage = Put Hash
+
+-- the column that is filled up to
+abbrev pub column_parts : Option Expr → List Part
+column_parts None = []
+column_parts (Some e) = Put Question ∷ Text 0 e ∷ []
+
+abbrev pub layout_parts : Layout → List Part
+layout_parts l = map mark_part l.marks ++ column_parts l.column
 
 abbrev pub output_parts : Output → List Part
 output_parts (Shown e) = Text 0 e ∷ []
-output_parts (Format marks) = map mark_part marks
+output_parts (Format l) = layout_parts l
+output_parts (Coded e) = Put Star ∷ Text 0 e ∷ []
 
 abbrev pub name_parts : List ℕ → List Part
 name_parts word = Named word ∷ []
@@ -183,7 +208,7 @@ entry_parts None (Some word) = routine_parts (Some word)
 abbrev pub target_parts : Target → List Part
 target_parts t = entry_parts t.label t.routine
 
--- the postcondition of an argument, or how long one of LOCK may wait
+-- the postcondition of an argument, or how long one of LOCK or READ may wait
 abbrev pub guard_parts : Option Expr → List Part
 guard_parts None = []
 guard_parts (Some e) = Put Colon ∷ Text 0 e ∷ []
@@ -207,7 +232,7 @@ as_called j = record { target = j.target; actuals = []; condition = j.condition 
 abbrev pub jumped_parts : Jumped → List Part
 jumped_parts j = called_parts (as_called j)
 
--- how long an argument of JOB may wait
+-- how long an argument of JOB or OPEN may wait
 abbrev pub wait_parts : Option Expr → List Part
 wait_parts None = []
 wait_parts (Some e) = Put Colon ∷ Put Colon ∷ Text 0 e ∷ []
@@ -230,6 +255,22 @@ lock_names_parts (Together list) = Put Open ∷ (with_commas variable_parts list
 
 abbrev pub locked_parts : Locked → List Part
 locked_parts l = mode_parts l.mode ++ (lock_names_parts l.names ++ guard_parts l.timeout)
+
+-- how much READ takes
+abbrev pub read_mode_parts : ReadMode → List Part
+read_mode_parts read.Line = []
+read_mode_parts read.Byte = Put Star ∷ []
+
+abbrev pub received_parts : Received → List Part
+received_parts r = read_mode_parts r.mode ++ Place 0 r.variable ∷ guard_parts r.timeout
+
+abbrev pub input_parts : Input → List Part
+input_parts (Prompted value) = Prompt value ∷ []
+input_parts (Arranged l) = layout_parts l
+input_parts (Into r) = received_parts r
+
+abbrev pub opened_parts : Opened → List Part
+opened_parts o = Text 0 o.device ∷ wait_parts o.timeout
 
 abbrev pub range_parts : Range → List Part
 range_parts (Single a) = Text 0 a ∷ []
@@ -257,6 +298,10 @@ command_parts (Do list) = with_commas called_parts list
 command_parts (Goto list) = with_commas jumped_parts list
 command_parts Quit = []
 command_parts (New list) = with_commas renewed_parts list
+command_parts (OpenDevice list) = with_commas opened_parts list
+command_parts (UseDevice list) = with_commas value_parts list
+command_parts (CloseDevice list) = with_commas value_parts list
+command_parts (Read list) = with_commas input_parts list
 
 -- ---- which trees commands have
 
@@ -284,9 +329,23 @@ are_targets (Several list) = has_items list && every is_destination list
 abbrev pub is_assignment : Assignment → Bool
 is_assignment a = are_targets a.targets
 
+abbrev pub is_there : {A : Type 0} → Option A → Bool
+is_there None = false
+is_there (Some x) = true
+
+-- a mark or a column, or both
+abbrev pub is_layout : Layout → Bool
+is_layout l = has_items l.marks || is_there l.column
+
 abbrev pub is_output : Output → Bool
 is_output (Shown e) = true
-is_output (Format marks) = has_items marks
+is_output (Format l) = is_layout l
+is_output (Coded e) = true
+
+abbrev pub is_input : Input → Bool
+is_input (Prompted value) = true
+is_input (Arranged l) = is_layout l
+is_input (Into r) = true
 
 abbrev pub is_killed : Killed → Bool
 is_killed (Gone v) = true
@@ -343,6 +402,10 @@ is_formed (Do list) = every is_called list
 is_formed (Goto list) = has_items list && every is_jumped list
 is_formed Quit = true
 is_formed (New list) = every is_renewed list
+is_formed (OpenDevice list) = has_items list
+is_formed (UseDevice list) = has_items list
+is_formed (CloseDevice list) = has_items list
+is_formed (Read list) = has_items list && every is_input list
 
 -- behind its word a `:` and a condition may stand
 abbrev pub is_conditional : Keyword → Bool
@@ -380,6 +443,7 @@ SpellsPart ks (Put s) = ks ≡ Signed s ∷ []
 SpellsPart ks (Named word) = (ks ≡ Word word ∷ []) × (length word ≤ name_limit)
 SpellsPart ks (Label label) = ((ks ≡ Word label ∷ []) × (length label ≤ name_limit)) ⊎ ((ks ≡ Digits label ∷ []) × (length label ≤ TEXT_LIMIT))
 SpellsPart ks PieceCall = (word : List ℕ) × (ks ≡ CalledWord word ∷ []) × (length word ≤ name_limit) × (callee_of word ≡ Some (Texts Piece))
+SpellsPart ks (Prompt value) = (ks ≡ Quoted value ∷ []) × (length value ≤ TEXT_LIMIT)
 SpellsPart ks (Text level e) = Spells expressions ks e
 SpellsPart ks (Place level v) = Spells variables ks v
 SpellsPart ks (Control v) = Spells variables ks v

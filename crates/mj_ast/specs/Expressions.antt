@@ -65,7 +65,13 @@ callee_of w =
 
 -- the special variable that a `$` word names, if none may stand behind it
 abbrev pub special_of : List ℕ → Option special.Special
-special_of w = if is_named w (codes "JOB") (codes "J") then Some specials.Job else if is_named w (codes "TEST") (codes "T") then Some specials.Test else None
+special_of w =
+    if is_named w (codes "IO") (codes "I") then Some specials.Io
+    else if is_named w (codes "JOB") (codes "J") then Some specials.Job
+    else if is_named w (codes "TEST") (codes "T") then Some specials.Test
+    else if is_named w (codes "X") (codes "X") then Some specials.X
+    else if is_named w (codes "Y") (codes "Y") then Some specials.Y
+    else None
 
 -- the least number of arguments
 abbrev pub least : Function → ℕ

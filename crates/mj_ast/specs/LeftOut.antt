@@ -13,8 +13,11 @@
 --   structured        `$` directly behind `^`, a word behind it or not
 --   by reference      `.` and a word where an actual may begin
 --   entry offset      `+` behind the label of an entry
+--   read length       `#` behind a variable of READ
+--   device parameters  `:` behind an argument of USE or CLOSE; what stands behind the first `:` of an argument of OPEN and isn't a second
+--                     one
 --   process parameters  what stands behind the first `:` of an argument of JOB and isn't a second one
---   mnemonic space    `/` where an argument of WRITE may begin
+--   mnemonic space    the third `:` of an argument of OPEN; `/` where an argument of WRITE or READ may begin
 --   set extract       `$EXTRACT(` as a destination
 --   justify decimals  the second comma in `$JUSTIFY`
 --   query backward    the first comma in `$QUERY`
@@ -33,7 +36,7 @@
 use Rattle.std.specs.Prelude.{◌≡◌, ◌⊎◌, ℕ, ◌+◌, ◌-◌, ◌==◌, Bool, true, false, not, ◌&&◌, ◌||◌, List, [], ◌∷◌, ◌++◌, reverse, take, drop, Option, Some, None, codes}
 use Rattle.mj_ast.specs.declared.construct.Construct.{Construct}
 use Rattle.mj_ast.specs.declared.construct.Construct.TheVariants as construct
-use Rattle.mj_ast.specs.declared.sign.Sign.TheVariants.{Plus, Minus, Star, Slash, Underscore, OpenBracket, Exclamation, Apostrophe, Question, NegatedQuestion, Caret, Open, Close, Comma, Colon, Dot}
+use Rattle.mj_ast.specs.declared.sign.Sign.TheVariants.{Plus, Minus, Star, Hash, Slash, Underscore, OpenBracket, Exclamation, Apostrophe, Question, NegatedQuestion, Caret, Open, Close, Comma, Colon, Dot}
 use Rattle.mj_ast.specs.declared.function.Function.TheVariants.{Extract, Justify}
 use Rattle.mj_ast.specs.declared.function.NameFunction.TheVariants as names
 use Rattle.mj_ast.specs.declared.function.Callee.{Callee}
@@ -61,6 +64,8 @@ name_of construct.Environment = codes "environment"
 name_of construct.Structured = codes "structured"
 name_of construct.ByReference = codes "by reference"
 name_of construct.EntryOffset = codes "entry offset"
+name_of construct.ReadLength = codes "read length"
+name_of construct.DeviceParameters = codes "device parameters"
 name_of construct.ProcessParameters = codes "process parameters"
 name_of construct.MnemonicSpace = codes "mnemonic space"
 name_of construct.SetExtract = codes "set extract"
@@ -114,6 +119,10 @@ is_dot t = false
 abbrev pub is_star : Token → Bool
 is_star (Signed Star) = true
 is_star t = false
+
+abbrev pub is_hash : Token → Bool
+is_hash (Signed Hash) = true
+is_hash t = false
 
 abbrev pub is_slash : Token → Bool
 is_slash (Signed Slash) = true
@@ -198,9 +207,9 @@ MayBeOperator front = MayStand front (Signed Underscore)
 abbrev pub MayBeginActual : List Token → Type 0
 MayBeginActual front = MayBeginOperand front × MayStand front (Signed Close)
 
--- An argument of WRITE may begin: an operand may, and so may a run of `!`, which is a binary operator where no operand may.
+-- An argument of WRITE or READ may begin: a text in quotes may, and so may a run of `!`, which is a binary operator where no text may.
 abbrev pub MayBeginOutput : List Token → Type 0
-MayBeginOutput front = MayBeginOperand front × MayStand front (Signed Exclamation)
+MayBeginOutput front = MayStand front (Quoted []) × MayStand front (Signed Exclamation)
 
 -- the label of an entry was read: a word or digits with a `^` behind them are one
 abbrev pub is_label : Token → Bool
@@ -208,10 +217,6 @@ is_label t = is_word t || is_digits t
 
 abbrev pub IsBehindLabel : List Token → Type 0
 IsBehindLabel front = (ends_in is_label front ≡ true) × MayStand front (Signed Caret)
-
--- behind the first `:` of an argument of JOB: only there may a `:` stand behind another
-abbrev pub IsBehindColon : List Token → Type 0
-IsBehindColon front = (ends_in is_colon front ≡ true) × MayStand front (Signed Colon)
 
 -- A destination may begin, or an operand: both may be a call of `$PIECE`. An operand may be one of `$EXTRACT` too.
 abbrev pub MayBeginDestination : List Token → Type 0
@@ -304,14 +309,10 @@ is_exponent t = false
 abbrev pub is_later : List ℕ → Bool
 is_later w =
     is_named w (codes "BREAK") (codes "B")
-    || (is_named w (codes "CLOSE") (codes "C")
-    || (is_named w (codes "OPEN") (codes "O")
-    || (is_named w (codes "READ") (codes "R")
     || (is_named w (codes "TCOMMIT") (codes "TC")
     || (is_named w (codes "TRESTART") (codes "TRE")
     || (is_named w (codes "TROLLBACK") (codes "TRO")
-    || (is_named w (codes "TSTART") (codes "TS")
-    || is_named w (codes "USE") (codes "U"))))))))
+    || is_named w (codes "TSTART") (codes "TS"))))
 
 abbrev pub has_verb : Option Verb → Bool
 has_verb None = false
@@ -377,6 +378,30 @@ pub record IsLast (ks : List Token) (last : Option Keyword) : Type 0 where
 abbrev pub IsBehindCommand : Keyword → List Token → Type 0
 IsBehindCommand keyword front = (before : List Token) × (front ≡ before ++ Blank ∷ []) × EndsInCommand keyword before
 
+-- ---- colons of arguments
+
+-- Behind the first `:` of an argument that ends in such a command: only there may a `:` stand behind another.
+abbrev pub IsBehindColon : Keyword → List Token → Type 0
+IsBehindColon keyword front =
+    (before : List Token) × (front ≡ before ++ Signed Colon ∷ []) × EndsInCommand keyword before × MayStand front (Signed Colon)
+
+-- behind an argument of USE or CLOSE
+abbrev pub IsBehindDevice : List Token → Type 0
+IsBehindDevice front = EndsInCommand keyword.Use front ⊎ EndsInCommand keyword.Close front
+
+-- behind the second `:` of an argument of OPEN
+abbrev pub IsBehindColons : List Token → Type 0
+IsBehindColons front = (before : List Token) × (front ≡ before ++ Signed Colon ∷ []) × IsBehindColon keyword.Open before
+
+-- Where a third `:` of an argument of OPEN would stand: behind two others, or behind an argument. One without a timeout goes on with a
+-- `:`, so that no line is stuck there.
+abbrev pub IsBehindTimeout : List Token → Type 0
+IsBehindTimeout front = IsBehindColons front ⊎ EndsInCommand keyword.Open front
+
+-- behind a variable of READ: only there may a `:` stand behind an argument of it
+abbrev pub IsBehindInput : List Token → Type 0
+IsBehindInput front = EndsInCommand keyword.Read front × MayStand front (Signed Colon)
+
 -- ---- an argument of QUIT
 
 -- the token may begin an expression or an indirection
@@ -413,8 +438,11 @@ Fits construct.Environment front t behind = ((is_bracket t || is_bar t) && ends_
 Fits construct.Structured front t behind = (has_dollar t && ends_in is_caret front) ≡ true
 Fits construct.ByReference front t behind = ((is_dot t && starts is_word behind) ≡ true) × MayBeginActual front
 Fits construct.EntryOffset front t behind = (is_plus t ≡ true) × IsBehindLabel front
-Fits construct.ProcessParameters front t behind = IsBehindColon front
-Fits construct.MnemonicSpace front t behind = (is_slash t ≡ true) × MayBeginOutput front
+Fits construct.ReadLength front t behind = (is_hash t ≡ true) × IsBehindInput front
+Fits construct.DeviceParameters front t behind = ((is_colon t ≡ true) × IsBehindDevice front) ⊎ IsBehindColon keyword.Open front
+Fits construct.ProcessParameters front t behind = IsBehindColon keyword.Job front
+Fits construct.MnemonicSpace front t behind =
+    ((is_colon t ≡ true) × IsBehindTimeout front) ⊎ ((is_slash t ≡ true) × MayBeginOutput front)
 Fits construct.SetExtract front t behind = (is_extract (called t) ≡ true) × MayBeginDestination front
 Fits construct.JustifyDecimals front t behind = is_comma_in is_justify 1 front t ≡ true
 Fits construct.QueryBackward front t behind = is_comma_in is_query 0 front t ≡ true
@@ -429,8 +457,8 @@ Fits construct.Extrinsic front t behind = is_two_dollars t behind ≡ true
 abbrev pub rows : List Construct
 rows =
     construct.Indirection ∷ construct.Fraction ∷ construct.Exponent ∷ construct.Power ∷ construct.Pattern ∷ construct.Naked
-    ∷ construct.Environment ∷ construct.Structured ∷ construct.ByReference ∷ construct.EntryOffset ∷ construct.ProcessParameters
-    ∷ construct.MnemonicSpace ∷ construct.SetExtract ∷ construct.JustifyDecimals ∷ construct.QueryBackward ∷ construct.NameDepth ∷ construct.OrderNames
+    ∷ construct.Environment ∷ construct.Structured ∷ construct.ByReference ∷ construct.EntryOffset ∷ construct.ReadLength
+    ∷ construct.DeviceParameters ∷ construct.ProcessParameters ∷ construct.MnemonicSpace ∷ construct.SetExtract ∷ construct.JustifyDecimals ∷ construct.QueryBackward ∷ construct.NameDepth ∷ construct.OrderNames
     ∷ construct.Function ∷ construct.Variable ∷ construct.Command ∷ construct.Extrinsic ∷ []
 
 -- the first of the rows that fits there, if one does

@@ -8,6 +8,7 @@ use Rattle.mj_oper.specs.declared.op.Op.{Op}
 use Rattle.mj_oper.specs.declared.op.UnaryOp.{UnaryOp}
 use Rattle.mj_ast.specs.declared.routine.Mark.{Mark}
 use Rattle.mj_ast.specs.declared.routine.LockMode.{LockMode}
+use Rattle.mj_ast.specs.declared.routine.ReadMode.{ReadMode}
 
 mutual
   -- an operand, and then operators with theirs, which are applied from left to right
@@ -72,10 +73,33 @@ pub record Merged : Type 0 where
   pub into : Variable
   pub from : Variable
 
--- an argument of WRITE: the text of an expression, or a run of format marks
+-- a format: a run of marks, and the column that is filled up to behind them, if there is one
+pub record Layout : Type 0 where
+  pub marks : List Mark
+  pub column : Option Expr
+
+-- an argument of WRITE: the text of an expression, a format, or the byte of a code
 pub data Output : Type 0 where
   Shown : (e : Expr) → Output
-  Format : (marks : List Mark) → Output
+  Format : (layout : Layout) → Output
+  Coded : (code : Expr) → Output
+
+-- what READ takes: a line or the code of a byte, the variable that gets it, and how long it may wait, if that is limited
+pub record Received : Type 0 where
+  pub mode : ReadMode
+  pub variable : Variable
+  pub timeout : Option Expr
+
+-- an argument of READ: a text in quotes or a format, which are written, or what is taken
+pub data Input : Type 0 where
+  Prompted : (value : List ℕ) → Input
+  Arranged : (layout : Layout) → Input
+  Into : (r : Received) → Input
+
+-- an argument of OPEN: the name of a device, and how long it may wait, if that is limited
+pub record Opened : Type 0 where
+  pub device : Expr
+  pub timeout : Option Expr
 
 -- where control may go: a label, in this routine where none is named, or the first line of a routine
 pub record Target : Type 0 where
@@ -140,6 +164,10 @@ pub data Command : Type 0 where
   Goto : (arguments : List Jumped) → Command
   Quit : Command
   New : (arguments : List Renewed) → Command
+  OpenDevice : (arguments : List Opened) → Command
+  UseDevice : (arguments : List Expr) → Command
+  CloseDevice : (arguments : List Expr) → Command
+  Read : (arguments : List Input) → Command
 
 -- a command with its postcondition, if it has one
 pub record Step : Type 0 where

@@ -15,6 +15,11 @@ use Rattle.mj_ast.specs.declared.routine.Killed.TheVariants as killed
 use Rattle.mj_ast.specs.declared.routine.Merged as merged
 use Rattle.mj_ast.specs.declared.routine.Output as kept_output
 use Rattle.mj_ast.specs.declared.routine.Output.TheVariants as output
+use Rattle.mj_ast.specs.declared.routine.Layout as layout
+use Rattle.mj_ast.specs.declared.routine.Received as received
+use Rattle.mj_ast.specs.declared.routine.Input as kept_input
+use Rattle.mj_ast.specs.declared.routine.Input.TheVariants as input
+use Rattle.mj_ast.specs.declared.routine.Opened as opened
 use Rattle.mj_ast.specs.declared.routine.Target as target
 use Rattle.mj_ast.specs.declared.routine.Called as called
 use Rattle.mj_ast.specs.declared.routine.Jumped as jumped
@@ -31,7 +36,7 @@ use Rattle.mj_ast.specs.declared.routine.Command.TheVariants as command
 use Rattle.mj_ast.specs.declared.routine.Step as step
 use Rattle.mj_ast.specs.declared.routine.Line as line
 use Rattle.mj_ast.specs.declared.routine.Routine as routine
-use Rattle.mj_ast.specs.Syntax.{Expr, Chain, Tails, Done, Then, Operand, Literal, Value, Unary, Group, Call, Select, Variable, Var, Exprs, No, More, Choices, Last, Before, Destination, Plain, Pieces, Targets, One, Several, Assignment, Killed, Gone, Spared, Merged, Output, Shown, Format, Target, Called, Jumped, Started, LockNames, Lone, Together, Locked, Range, Single, Endless, UpTo, Renewed, Fresh, Kept, Command, Set, Write, Halt, Hang, Job, Lock, Kill, Merge, If, Else, For, Forever, Do, Goto, Quit, New, Step, Line, Routine, About, Intrinsic}
+use Rattle.mj_ast.specs.Syntax.{Expr, Chain, Tails, Done, Then, Operand, Literal, Value, Unary, Group, Call, Select, Variable, Var, Exprs, No, More, Choices, Last, Before, Destination, Plain, Pieces, Targets, One, Several, Assignment, Killed, Gone, Spared, Merged, Layout, Output, Shown, Format, Coded, Received, Input, Prompted, Arranged, Into, Opened, Target, Called, Jumped, Started, LockNames, Lone, Together, Locked, Range, Single, Endless, UpTo, Renewed, Fresh, Kept, Command, Set, Write, Halt, Hang, Job, Lock, Kill, Merge, If, Else, For, Forever, Do, Goto, Quit, New, OpenDevice, UseDevice, CloseDevice, Read, Step, Line, Routine, About, Intrinsic}
 
 abbrev mutual
   pub operand_of : operand.Operand → Operand
@@ -90,9 +95,24 @@ killed_of (killed.Except words) = Spared words.items
 abbrev pub merged_of : merged.Merged → Merged
 merged_of m = record { into = variable_of m.into; from = variable_of m.from }
 
+abbrev pub layout_of : layout.Layout → Layout
+layout_of l = record { marks = l.marks.items; column = option_map expr_of l.column }
+
 abbrev pub output_of : kept_output.Output → Output
 output_of (output.Value e) = Shown (expr_of e)
-output_of (output.Format marks) = Format marks.items
+output_of (output.Format l) = Format (layout_of l)
+output_of (output.Code e) = Coded (expr_of e)
+
+abbrev pub received_of : received.Received → Received
+received_of r = record { mode = r.mode; variable = variable_of r.variable; timeout = option_map expr_of r.timeout }
+
+abbrev pub input_of : kept_input.Input → Input
+input_of (input.Prompt value) = Prompted value
+input_of (input.Format l) = Arranged (layout_of l)
+input_of (input.Into r) = Into (received_of r)
+
+abbrev pub opened_of : opened.Opened → Opened
+opened_of o = record { device = expr_of o.device; timeout = option_map expr_of o.timeout }
 
 abbrev pub target_of : target.Target → Target
 target_of t = record { label = t.label; routine = t.routine }
@@ -139,6 +159,10 @@ command_of (command.Do v) = Do (map called_of v.items)
 command_of (command.Goto v) = Goto (map jumped_of v.items)
 command_of command.Quit = Quit
 command_of (command.New v) = New (map renewed_of v.items)
+command_of (command.Open v) = OpenDevice (map opened_of v.items)
+command_of (command.Use v) = UseDevice (map expr_of v.items)
+command_of (command.Close v) = CloseDevice (map expr_of v.items)
+command_of (command.Read v) = Read (map input_of v.items)
 
 abbrev pub step_of : step.Step → Step
 step_of s = record { condition = option_map expr_of s.condition; command = command_of s.command }

@@ -28,7 +28,11 @@ impl Command {
             | Command::Do(_)
             | Command::Goto(_)
             | Command::Quit
-            | Command::New(_) => false,
+            | Command::New(_)
+            | Command::Open(_)
+            | Command::Use(_)
+            | Command::Close(_)
+            | Command::Read(_) => false,
         }
     }
 }

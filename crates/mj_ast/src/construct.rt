@@ -27,9 +27,13 @@ pub enum Construct {
     ByReference,
     /// `+` behind the label of an entry
     EntryOffset,
+    /// `#` behind a variable of READ
+    ReadLength,
+    /// `:` behind an argument of USE or CLOSE, or what stands behind the first `:` of an argument of OPEN and isn't a second one
+    DeviceParameters,
     /// what stands behind the first `:` of an argument of JOB and isn't a second one
     ProcessParameters,
-    /// `/` where an argument of WRITE may begin
+    /// the third `:` of an argument of OPEN, or `/` where an argument of WRITE or READ may begin
     MnemonicSpace,
     /// `$EXTRACT(` as a destination
     SetExtract,
@@ -69,6 +73,8 @@ impl Construct {
             Construct::Structured => "structured",
             Construct::ByReference => "by reference",
             Construct::EntryOffset => "entry offset",
+            Construct::ReadLength => "read length",
+            Construct::DeviceParameters => "device parameters",
             Construct::ProcessParameters => "process parameters",
             Construct::MnemonicSpace => "mnemonic space",
             Construct::SetExtract => "set extract",

@@ -45,10 +45,16 @@ pub enum NameFunction {
 /// A special variable.
 #[derive(Clone, Copy, PartialEq, Eq, Debug)]
 pub enum Special {
+    /// `$IO`: the name of the current device
+    Io,
     /// `$JOB`: the number of the job
     Job,
     /// `$TEST`: whether the last condition of an IF was true
     Test,
+    /// `$X`: the column of the current device
+    X,
+    /// `$Y`: the row of the current device
+    Y,
 }
 
 /// What a `$` word with arguments behind it names.

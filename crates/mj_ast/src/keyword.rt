@@ -18,6 +18,10 @@ pub enum Keyword {
     Goto,
     Quit,
     New,
+    Open,
+    Use,
+    Close,
+    Read,
 }
 
 /// What a word is that commands begin with.

@@ -17,7 +17,8 @@ pub use expr::{Choice, Expr, Operand, Scope, Tail, Variable};
 pub use function::{Callee, Function, NameFunction, Special};
 pub use keyword::{Keyword, Verb};
 pub use routine::{
-    Assignment, Called, Command, Destination, Jumped, Killed, Line, LockMode, LockNames, Locked,
-    Mark, Merged, Output, Range, Renewed, Routine, Started, Step, Target, Targets,
+    Assignment, Called, Command, Destination, Input, Jumped, Killed, Layout, Line, LockMode,
+    LockNames, Locked, Mark, Merged, Opened, Output, Range, ReadMode, Received, Renewed, Routine,
+    Started, Step, Target, Targets,
 };
 pub use sign::Sign;

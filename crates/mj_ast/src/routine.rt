@@ -48,6 +48,15 @@ pub struct Merged {
 pub enum Mark {
     /// `!`
     NewLine,
+    /// `#`
+    NewPage,
+}
+
+/// A format: a run of marks, and the column that is filled up to behind them, if there is one. It has one of the two at least.
+#[derive(Drop)]
+pub struct Layout {
+    pub marks: Vec<Mark>,
+    pub column: Option<Expr>,
 }
 
 /// An argument of WRITE.
@@ -55,8 +64,45 @@ pub enum Mark {
 pub enum Output {
     /// the text of an expression
     Value(Expr),
-    /// a run of format marks, not empty
-    Format(Vec<Mark>),
+    /// a format
+    Format(Layout),
+    /// the byte of a code
+    Code(Expr),
+}
+
+/// What an argument of READ takes from the device.
+#[derive(Clone, Copy, PartialEq, Eq, Debug)]
+pub enum ReadMode {
+    /// a line
+    Line,
+    /// `*`: the code of a byte
+    Byte,
+}
+
+/// What READ takes: how much, the variable that gets it, and how long it may wait, if that is limited.
+#[derive(Drop)]
+pub struct Received {
+    pub mode: ReadMode,
+    pub variable: Variable,
+    pub timeout: Option<Expr>,
+}
+
+/// An argument of READ.
+#[derive(Drop)]
+pub enum Input {
+    /// a text in quotes, which is written
+    Prompt(Text),
+    /// a format, which is written
+    Format(Layout),
+    /// what is taken
+    Into(Received),
+}
+
+/// An argument of OPEN: the name of a device, and how long it may wait, if that is limited.
+#[derive(Drop)]
+pub struct Opened {
+    pub device: Expr,
+    pub timeout: Option<Expr>,
 }
 
 /// Where control may go: a line by its label, in this routine where none is named, or a routine's first line. At least one of
@@ -163,6 +209,10 @@ pub enum Command {
     Quit,
     /// without arguments it is all locals
     New(Vec<Renewed>),
+    Open(Vec<Opened>),
+    Use(Vec<Expr>),
+    Close(Vec<Expr>),
+    Read(Vec<Input>),
 }
 
 /// A command with its postcondition, if it has one. IF, ELSE and FOR have none.

@@ -8,3 +8,4 @@ pub mod Words
 pub mod Front
 pub mod Lists
 pub mod Locks
+pub mod Layouts

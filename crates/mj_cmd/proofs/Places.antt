@@ -55,25 +55,6 @@ pub from_untaken : (ks : List Token) → Untaken MergeFrom ks
 from_untaken ks = untaken_by MergeFrom ks refl (λ w. refl) refl (no_sign MergeFrom ks (λ s. refl))
 
 -- the other places, by what doesn't stand in front
-marks_sign : (ks : List Token) → HasNoComma ks → HasNoMark ks → SignUntaken MarksEnd ks
-marks_sign [] h i = tt
-marks_sign (Signed Comma ∷ ks) h i = absurd h
-marks_sign (Signed Exclamation ∷ ks) h i = absurd i
-marks_sign (Signed s ∷ ks) h i = refl
-marks_sign (t ∷ ks) h i = tt
-
-pub marks_untaken : (ks : List Token) → HasNoComma ks → HasNoMark ks → Untaken MarksEnd ks
-marks_untaken ks h i = untaken_by MarksEnd ks refl (λ w. refl) refl (marks_sign ks h i)
-
-wanted_sign : (ks : List Token) → HasNoMark ks → SignUntaken OutputWanted ks
-wanted_sign [] i = tt
-wanted_sign (Signed Exclamation ∷ ks) i = absurd i
-wanted_sign (Signed s ∷ ks) i = refl
-wanted_sign (t ∷ ks) i = tt
-
-pub wanted_untaken : (ks : List Token) → HasNoMark ks → Untaken OutputWanted ks
-wanted_untaken ks i = untaken_by OutputWanted ks refl (λ w. refl) refl (wanted_sign ks i)
-
 opens_sign : (listed : Bool) (ks : List Token) → HasNoOpen ks → SignUntaken (PieceOpens listed) ks
 opens_sign listed [] i = tt
 opens_sign listed (Signed Open ∷ ks) i = absurd i
@@ -343,40 +324,3 @@ listed_names false ks h i = names_untaken ks h i
 pub went_listed : (new : Bool) (limited : Bool) (m : Limits) (ls rest : List Lexeme) (w t : List ℕ) (o : Sentence) (condition : Option Expr) (k : Verb) (done : List Part) → tokens_seen ls ≡ Word w ∷ tokens_seen rest → length w ≤ 31 → t ≡ w → Went limited (Named t ∷ []) m ls (name_wanted new) rest (name_behind new) o condition k done
 went_listed true limited m ls rest w t o condition k done l h e = went_word limited m KeptWanted KeptBehind ls rest w t o condition k done refl refl l h e
 went_listed false limited m ls rest w t o condition k done l h e = went_name limited m ls rest w t o condition k done l h e
-
--- ---- format marks
-
-marks_go : (m : Limits) (o : Sentence) (condition : Option Expr) (k : Verb) (done : List Part) (n : ℕ) (ks : List Token) → run m (replicate n (Signed Exclamation) ++ ks) (At (Args o condition k done MarksEnd)) ≡ run m ks (At (Args o condition k (done ++ map mark_part (replicate n NewLine)) MarksEnd))
-marks_go m o condition k done zero ks = ap (λ (ps : List Part). run m ks (At (Args o condition k ps MarksEnd))) (sym (append-nil done))
-marks_go m o condition k done (suc n) ks =
-    marks_go m o condition k (done ++ Put Exclamation ∷ []) n ks
-    ∙ ap (λ (ps : List Part). run m ks (At (Args o condition k ps MarksEnd))) (append_assoc done (Put Exclamation ∷ []) (map mark_part (replicate n NewLine)))
-
--- marks are one like the other
-all_marks : (xs : List Mark) → xs ≡ replicate (length xs) NewLine
-all_marks [] = refl
-all_marks (NewLine ∷ xs) = ap (λ (ys : List Mark). NewLine ∷ ys) (all_marks xs)
-
-pub marks_all : (m : Limits) (o : Sentence) (condition : Option Expr) (k : Verb) (done : List Part) (n : ℕ) (xs : List Mark) (ks rest : List Token) → 0 < n → length xs ≡ n → ks ≡ replicate n (Signed Exclamation) ++ rest → run m ks (At (Args o condition k done OutputWanted)) ≡ run m rest (At (Args o condition k (done ++ map mark_part xs) MarksEnd))
-marks_all m o condition k done zero xs ks rest h l e = absurd (omega arith)
-marks_all m o condition k done (suc n) xs ks rest h l e =
-    ap (λ (zs : List Token). run m zs (At (Args o condition k done OutputWanted))) e
-    ∙ marks_go m o condition k (done ++ Put Exclamation ∷ []) n rest
-    ∙ ap (λ (ps : List Part). run m rest (At (Args o condition k ps MarksEnd))) (append_assoc done (Put Exclamation ∷ []) (map mark_part (replicate n NewLine)))
-    ∙ ap (λ (i : ℕ). run m rest (At (Args o condition k (done ++ map mark_part (replicate i NewLine)) MarksEnd))) (sym l)
-    ∙ ap (λ (ys : List Mark). run m rest (At (Args o condition k (done ++ map mark_part ys) MarksEnd))) (sym (all_marks xs))
-
-pub no_marks : (n : ℕ) (ks rest : List Token) → n ≤ 0 → ks ≡ replicate n (Signed Exclamation) ++ rest → HasNoMark rest → HasNoMark ks
-no_marks zero ks rest l e h = let P : List Token → Type 0 = λ zs. HasNoMark zs in subst P (sym e) h
-no_marks (suc n) ks rest l e h = absurd (omega arith)
-
--- where an argument of WRITE ends, a comma leads on, and else nothing does
-
--- behind a run of them it is as behind an expression
-pub marks_same : (m : Limits) (ks : List Token) → HasNoMark ks → SameAt m MarksEnd OutputEnd ks
-marks_same m [] h o condition k done = refl
-marks_same m (Word w ∷ ks) h o condition k done = name_neither m MarksEnd OutputEnd w ks o condition k done (nat_le (length w) 31) (on_rested (Some (args_rest o condition k done)) (Word w)) refl refl
-marks_same m (Called w ∷ ks) h o condition k done = piece_neither m MarksEnd OutputEnd w ks o condition k done (part_of (Called w)) (on_rested (Some (args_rest o condition k done)) (Called w)) (called_apart MarksEnd (callee_of w) (nat_le (length w) 31) refl) (called_apart OutputEnd (callee_of w) (nat_le (length w) 31) refl)
-marks_same m (Signed Exclamation ∷ ks) h o condition k done = absurd h
-marks_same m (Signed s ∷ ks) h o condition k done = refl
-marks_same m (t ∷ ks) h o condition k done = refl

@@ -6,8 +6,8 @@ use Rattle.mj_ast.specs.Commands.{PieceCall}
 use Rattle.mj_line.specs.Forms.{part_of}
 use Rattle.mj_line.specs.Sentences.{Sentence}
 use Rattle.mj_line.specs.Machine.{Spot, Begin, Labelled, FormalsEnd, empty_line, headed}
-use Rattle.mj_ast.specs.declared.sign.Sign.TheVariants.{Plus, Minus, Equals, Comma, Colon, Exclamation, Caret, Open, Close, Dot}
-use Rattle.mj_ast.specs.Tokens.{Token, Word, Digits, Signed, Blank, Comment}
+use Rattle.mj_ast.specs.declared.sign.Sign.TheVariants.{Plus, Minus, Star, Hash, Equals, Comma, Colon, Exclamation, Question, Caret, Open, Close, Dot}
+use Rattle.mj_ast.specs.Tokens.{Token, Word, Digits, Quoted, Signed, Blank, Comment}
 
 -- such a token doesn't
 abbrev pub HasNoComma : List Token → Type 0
@@ -66,7 +66,33 @@ HasNoName ks = Unit {0}
 
 abbrev pub HasNoMark : List Token → Type 0
 HasNoMark (Signed Exclamation ∷ ks) = ⊥
+HasNoMark (Signed Hash ∷ ks) = ⊥
 HasNoMark ks = Unit {0}
+
+abbrev pub HasNoQuestion : List Token → Type 0
+HasNoQuestion (Signed Question ∷ ks) = ⊥
+HasNoQuestion ks = Unit {0}
+
+abbrev pub HasNoStar : List Token → Type 0
+HasNoStar (Signed Star ∷ ks) = ⊥
+HasNoStar ks = Unit {0}
+
+-- what a format begins with stands in front
+abbrev pub StartsLayout : List Token → Type 0
+StartsLayout (Signed Exclamation ∷ ks) = Unit {0}
+StartsLayout (Signed Hash ∷ ks) = Unit {0}
+StartsLayout (Signed Question ∷ ks) = Unit {0}
+StartsLayout ks = ⊥
+
+-- a `?` stands in front
+abbrev pub StartsQuestion : List Token → Type 0
+StartsQuestion (Signed Question ∷ ks) = Unit {0}
+StartsQuestion ks = ⊥
+
+-- a text in quotes, of a length that a text may have
+abbrev pub HasNoQuoted : List Token → Type 0
+HasNoQuoted (Quoted v ∷ ks) = length v ≤ TEXT_LIMIT → ⊥
+HasNoQuoted ks = Unit {0}
 
 abbrev pub HasNoDot : List Token → Type 0
 HasNoDot (Signed Dot ∷ ks) = ⊥

@@ -4,7 +4,7 @@ use Rattle.std.proofs.Common.{inl, inr}
 use Rattle.mj_ast.specs.declared.sign.Sign.{Sign}
 use Rattle.mj_ast.specs.declared.sign.Sign.TheVariants.{Close, Comma}
 use Rattle.mj_ast.specs.Commands.{Part, Put, Named, PieceCall}
-use Rattle.mj_line.specs.Forms.{Mode, Node, SetBehind, SetEnd, OutputEnd, KillEnd, MergeEnd, ValueEnd, LimitEnd, NewEnd, GuardEnd, ActualEnd, LockEnd, LockBehind, labels, takes, wants, ends}
+use Rattle.mj_line.specs.Forms.{Mode, Talk, Node, DeviceWaited, SetBehind, SetEnd, OutputEnd, KillEnd, MergeEnd, ValueEnd, LimitEnd, NewEnd, GuardEnd, ActualEnd, LockEnd, LockBehind, labels, takes, wants, ends}
 
 -- Items with commas between them, the parts of each such.
 abbrev pub AreItems : {X : Type 0} → (List Part → X → Type 0) → List Part → List X → Type 0
@@ -44,9 +44,13 @@ set_comma : comma_or SetEnd
 set_comma Comma = inr refl
 set_comma s = inl refl
 
-output_comma : comma_or OutputEnd
-output_comma Comma = inr refl
-output_comma s = inl refl
+output_comma : (talk : Talk) → comma_or (OutputEnd talk)
+output_comma talk Comma = inr refl
+output_comma talk s = inl refl
+
+device_comma : comma_or DeviceWaited
+device_comma Comma = inr refl
+device_comma s = inl refl
 
 kill_comma : comma_or KillEnd
 kill_comma Comma = inr refl
@@ -94,8 +98,11 @@ locked_comma s = inl refl
 pub set_over : IsOver SetEnd
 set_over = record { shut = record { unlabelled = refl; unnamed = λ w. refl; pieceless = refl; alone = refl }; comma = set_comma }
 
-pub output_over : IsOver OutputEnd
-output_over = record { shut = record { unlabelled = refl; unnamed = λ w. refl; pieceless = refl; alone = refl }; comma = output_comma }
+pub output_over : (talk : Talk) → IsOver (OutputEnd talk)
+output_over talk = record { shut = record { unlabelled = refl; unnamed = λ w. refl; pieceless = refl; alone = refl }; comma = output_comma talk }
+
+pub device_over : IsOver DeviceWaited
+device_over = record { shut = record { unlabelled = refl; unnamed = λ w. refl; pieceless = refl; alone = refl }; comma = device_comma }
 
 pub kill_over : IsOver KillEnd
 kill_over = record { shut = record { unlabelled = refl; unnamed = λ w. refl; pieceless = refl; alone = refl }; comma = kill_comma }

@@ -1,13 +1,18 @@
 -- What stands inside arguments.
 use Rattle.std.specs.Prelude.{◌≡◌, ◌⊎◌, ℕ, zero, suc, ◌-◌, Bool, true, false, List, [], ◌∷◌, ◌++◌}
-use Rattle.mj_ast.specs.declared.sign.Sign.TheVariants.{Plus, Minus, Open, Close}
+use Rattle.mj_ast.specs.declared.sign.Sign.{Sign}
+use Rattle.mj_ast.specs.declared.sign.Sign.TheVariants.{Plus, Minus, Star, Hash, Exclamation, Open, Close}
+use Rattle.mj_ast.specs.declared.routine.Mark.{Mark}
+use Rattle.mj_ast.specs.declared.routine.Mark.TheVariants.{NewLine, NewPage}
+use Rattle.mj_ast.specs.declared.routine.ReadMode.{ReadMode}
+use Rattle.mj_ast.specs.declared.routine.ReadMode.TheVariants.{Line, Byte}
 use Rattle.mj_ast.specs.Syntax.{Destination, Plain, Pieces}
 use Rattle.mj_ast.specs.Tokens.{Token, Signed}
 use Rattle.mj_ast.specs.declared.routine.LockMode.{LockMode}
 use Rattle.mj_ast.specs.declared.routine.LockMode.TheVariants.{Whole, Plus as Added, Minus as Taken}
 use Rattle.mj_ast.specs.Commands.{Part, Put, Place, more_parts}
-use Rattle.mj_line.specs.Forms.{Mode, Jumps, Node, PieceComma, PieceBehind, NameWanted, NameBehind, KillEnd, KeptWanted, KeptBehind, NewEnd, RoutineEnd, ActualEnd, ActualsEnd, LockWanted, LockSigned}
-use Rattle.mj_cmd.specs.Heads.{HasNoOpen, HasNoPlus, HasNoMinus, HasOther}
+use Rattle.mj_line.specs.Forms.{Mode, Jumps, Talk, Node, OutputWanted, MarksEnd, PieceComma, PieceBehind, NameWanted, NameBehind, KillEnd, KeptWanted, KeptBehind, NewEnd, RoutineEnd, ActualEnd, ActualsEnd, LockWanted, LockSigned}
+use Rattle.mj_cmd.specs.Heads.{HasNoOpen, HasNoPlus, HasNoMinus, HasNoMark, HasOther, StartsQuestion}
 
 -- what stands behind the word of `$PIECE`
 abbrev pub opened_parts : Destination → List Part
@@ -55,6 +60,20 @@ lock_node mode first = LockSigned
 abbrev pub MayBeNamed : LockMode → Bool → List Token → Type 0
 MayBeNamed Whole first ks = HasNoPlus ks × HasNoMinus ks × ((first ≡ false) ⊎ HasOther ks)
 MayBeNamed mode first ks = Unit {0}
+
+-- what READ takes, as it is spelled
+abbrev pub read_tokens : ReadMode → List Token
+read_tokens Line = []
+read_tokens Byte = Signed Star ∷ []
+
+-- the sign of a format mark
+abbrev pub mark_sign : Mark → Sign
+mark_sign NewLine = Exclamation
+mark_sign NewPage = Hash
+
+-- there the column of a format may stand: behind its marks, or where none stands before it
+abbrev pub MayBeColumn : Talk → Node → List Token → Type 0
+MayBeColumn talk n ks = ((n ≡ MarksEnd talk) × HasNoMark ks) ⊎ ((n ≡ OutputWanted talk) × StartsQuestion ks)
 
 -- inside a list no other list begins
 abbrev pub NotListed : Bool → List Token → Type 0

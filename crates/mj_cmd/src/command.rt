@@ -67,6 +67,10 @@ fn may_be_bare(verb: Verb) -> bool
                 | Keyword::Job
                 | Keyword::Merge
                 | Keyword::Goto
+                | Keyword::Open
+                | Keyword::Use
+                | Keyword::Close
+                | Keyword::Read
         ),
         Verb::HaltOrHang => true,
     }
@@ -104,6 +108,10 @@ fn bare(alloc: Global, keyword: Keyword) -> Command
         Keyword::Goto => Command::Goto(Vec::new(alloc)),
         Keyword::Quit => Command::Quit,
         Keyword::New => Command::New(Vec::new(alloc)),
+        Keyword::Open => Command::Open(Vec::new(alloc)),
+        Keyword::Use => Command::Use(Vec::new(alloc)),
+        Keyword::Close => Command::Close(Vec::new(alloc)),
+        Keyword::Read => Command::Read(Vec::new(alloc)),
     }
 }
 
@@ -165,6 +173,22 @@ fn with_own<'a, 't>(
         Keyword::New => {
             let (arguments, rest) = arguments(phrases, behind)?;
             Ok((Command::New(arguments), rest))
+        }
+        Keyword::Open => {
+            let (arguments, rest) = arguments(phrases, behind)?;
+            Ok((Command::Open(arguments), rest))
+        }
+        Keyword::Use => {
+            let (arguments, rest) = arguments(phrases, behind)?;
+            Ok((Command::Use(arguments), rest))
+        }
+        Keyword::Close => {
+            let (arguments, rest) = arguments(phrases, behind)?;
+            Ok((Command::Close(arguments), rest))
+        }
+        Keyword::Read => {
+            let (arguments, rest) = arguments(phrases, behind)?;
+            Ok((Command::Read(arguments), rest))
         }
         Keyword::For => {
             let (counter, ranges, rest) = repeated(phrases, behind)?;

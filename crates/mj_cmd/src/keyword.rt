@@ -66,5 +66,17 @@ pub fn verb_of(word: &[u8]) -> Option<Verb>
     if is_spelled(word, b"NEW") || is_spelled(word, b"N") {
         return Some(Verb::Of(Keyword::New));
     }
+    if is_spelled(word, b"OPEN") || is_spelled(word, b"O") {
+        return Some(Verb::Of(Keyword::Open));
+    }
+    if is_spelled(word, b"USE") || is_spelled(word, b"U") {
+        return Some(Verb::Of(Keyword::Use));
+    }
+    if is_spelled(word, b"CLOSE") || is_spelled(word, b"C") {
+        return Some(Verb::Of(Keyword::Close));
+    }
+    if is_spelled(word, b"READ") || is_spelled(word, b"R") {
+        return Some(Verb::Of(Keyword::Read));
+    }
     None
 }

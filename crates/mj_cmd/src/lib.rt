@@ -7,14 +7,17 @@
 mod call;
 mod command;
 mod control;
+mod device;
 mod formals;
 mod keyword;
 mod kill;
+mod layout;
 mod lines;
 mod list;
 mod lock;
 mod parts;
 mod phrase;
+mod read;
 mod repeat;
 mod set;
 mod write;

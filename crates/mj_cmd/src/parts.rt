@@ -2,19 +2,21 @@
 
 ghost use Rattle.std.specs.Prelude.{◌≡◌, List, Some, false, true, ◌∷◌, ◌++◌, ◌+◌, ◌<◌, ◌≤◌, Bool, IfErr, IfOk, MatchOption, length, nat_le, if◌then◌else◌, replicate, ℕ};
 ghost use Rattle.mj_expr.specs.declared.stop.Stop.TheVariants.{Stuck, Long};
-ghost use Rattle.mj_ast.specs.Tokens.{Blank, Called, Signed, Word};
+ghost use Rattle.mj_ast.specs.Tokens.{Blank, Called, Quoted, Signed, Word};
 ghost use Rattle.mj_ast.specs.Commands.{PieceCall};
 ghost use Rattle.mj_line.specs.Forms.{part_of};
-ghost use Rattle.mj_ast.specs.declared.sign.Sign.TheVariants.{Caret, Close, Colon, Comma, Dot, Equals, Exclamation, Minus, Open, Plus};
+ghost use Rattle.mj_ast.specs.declared.sign.Sign.TheVariants.{Caret, Close, Colon, Comma, Dot, Equals, Minus, Open, Plus, Question, Star};
+ghost use Rattle.mj_cmd.specs.Parts.{mark_sign};
 ghost use Rattle.mj_lex.specs.Seen.{tokens_seen};
 ghost use Rattle.mj_line.specs.Machine.{refused};
 ghost use Rattle.mj_cmd.specs.Reads.{Refuses};
-ghost use Rattle.mj_cmd.specs.Heads.{HasNoBlank, HasNoCaret, HasNoClose, HasNoColon, HasNoComma, HasNoDot, HasNoEquals, HasNoLabel, HasNoMark, HasNoMinus, HasNoName, HasNoOpen, HasNoPiece, HasNoPlus, HasNoWord, HasOther, HasParted, StartsLabel};
+ghost use Rattle.mj_cmd.specs.Heads.{HasNoBlank, HasNoCaret, HasNoClose, HasNoColon, HasNoComma, HasNoDot, HasNoEquals, HasNoLabel, HasNoMark, HasNoMinus, HasNoName, HasNoOpen, HasNoPiece, HasNoPlus, HasNoQuestion, HasNoQuoted, HasNoStar, HasNoWord, HasOther, HasParted, StartsLabel};
 
-use mj_ast::{Callee, Function, Sign};
+use mj_ast::{Callee, Function, Mark, Sign};
 use mj_expr::{Stop, callee};
-use mj_lex::{Lexeme, Token, next};
-use mj_text::TEXT_LIMIT;
+use mj_lex::{Lexeme, Token, next, unquoted};
+use mj_text::{Failure, TEXT_LIMIT, Text};
+use std::alloc::{AllocError, Global};
 
 /// The most bytes of a word.
 pub const WORD_LIMIT: usize = 31;
@@ -200,13 +202,51 @@ pub fn behind_colon<'a, 't>(tokens: &'t [Lexeme<'a>]) -> Option<&'t [Lexeme<'a>]
     }
 }
 
-/// What follows a `!`, if it stands in front.
-pub fn behind_mark<'a, 't>(tokens: &'t [Lexeme<'a>]) -> Option<&'t [Lexeme<'a>]>
-    ensures { MatchOption result (HasNoMark (tokens_seen tokens.now)) (λ x. (tokens_seen tokens.now ≡ Signed Exclamation ∷ tokens_seen x.now) × (length tokens.now ≡ length x.now + 1)) }
+/// The format mark in front, and what follows it.
+pub fn behind_mark<'a, 't>(tokens: &'t [Lexeme<'a>]) -> Option<(Mark, &'t [Lexeme<'a>])>
+    ensures { MatchOption result (HasNoMark (tokens_seen tokens.now)) (λ x. (tokens_seen tokens.now ≡ Signed (mark_sign x.0) ∷ tokens_seen x.1.now) × (length x.1.now < length tokens.now)) }
 {
     match next(tokens) {
-        Some((Token::Sign(Sign::Exclamation), rest)) => Some(rest),
+        Some((Token::Sign(Sign::Exclamation), rest)) => Some((Mark::NewLine, rest)),
+        Some((Token::Sign(Sign::Hash), rest)) => Some((Mark::NewPage, rest)),
         _ => None,
+    }
+}
+
+/// What follows a `?`, if it stands in front.
+pub fn behind_question<'a, 't>(tokens: &'t [Lexeme<'a>]) -> Option<&'t [Lexeme<'a>]>
+    ensures { MatchOption result (HasNoQuestion (tokens_seen tokens.now)) (λ x. (tokens_seen tokens.now ≡ Signed Question ∷ tokens_seen x.now) × (length x.now < length tokens.now)) }
+{
+    match next(tokens) {
+        Some((Token::Sign(Sign::Question), rest)) => Some(rest),
+        _ => None,
+    }
+}
+
+/// What follows a `*`, if it stands in front.
+pub fn behind_star<'a, 't>(tokens: &'t [Lexeme<'a>]) -> Option<&'t [Lexeme<'a>]>
+    ensures { MatchOption result (HasNoStar (tokens_seen tokens.now)) (λ x. (tokens_seen tokens.now ≡ Signed Star ∷ tokens_seen x.now) × (length x.now < length tokens.now)) }
+{
+    match next(tokens) {
+        Some((Token::Sign(Sign::Star), rest)) => Some(rest),
+        _ => None,
+    }
+}
+
+/// The text in quotes in front, and what follows it.
+pub fn behind_quoted<'a, 't>(
+    alloc: Global,
+    tokens: &'t [Lexeme<'a>],
+) -> Result<Option<(Text, &'t [Lexeme<'a>])>, AllocError>
+    ensures { IfOk result (λ q. MatchOption q (HasNoQuoted (tokens_seen tokens.now)) (λ x. (tokens_seen tokens.now ≡ Quoted x.0 ∷ tokens_seen x.1.now) × (length x.0 ≤ TEXT_LIMIT) × (length x.1.now < length tokens.now))) }
+{
+    match next(tokens) {
+        Some((Token::Quoted(bytes), rest)) => match unquoted(alloc, bytes) {
+            Ok(text) => Ok(Some((text, rest))),
+            Err(Failure::Fault(_)) => Ok(None),
+            Err(Failure::Memory) => Err(AllocError),
+        },
+        _ => Ok(None),
     }
 }
 

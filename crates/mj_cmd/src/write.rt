@@ -1,66 +1,51 @@
 // The arguments of WRITE.
 
-ghost use Rattle.std.specs.Prelude.{◌≡◌, ◌+◌, ◌++◌, ◌≤◌, IfOk, length, refl, replicate};
+ghost use Rattle.std.specs.Prelude.{◌≡◌, ◌≤◌, IfOk, length, refl};
 ghost use Rattle.mj_ast.specs.Commands.{output_parts};
-ghost use Rattle.mj_ast.specs.Tokens.{Signed};
 ghost use Rattle.mj_ast.specs.Trees.{output_of};
-ghost use Rattle.mj_ast.specs.declared.sign.Sign.TheVariants.{Exclamation};
 ghost use Rattle.mj_expr.specs.Machine.{Limits};
 ghost use Rattle.mj_lex.specs.Seen.{tokens_seen};
-ghost use Rattle.mj_line.specs.Forms.{OutputEnd, OutputWanted};
-ghost use Rattle.mj_cmd.specs.Heads.{HasNoMark};
+ghost use Rattle.mj_line.specs.Forms.{OutputEnd, OutputWanted, Writes};
 ghost use Rattle.mj_cmd.specs.Reads.{HasRoom, Passes};
 
+use crate::layout::{begins_layout, layout};
 use crate::list::{Argument, Item};
-use crate::parts::behind_mark;
+use crate::parts::behind_star;
 use crate::phrase::Phrases;
-use mj_ast::{Mark, Output};
+use mj_ast::Output;
 use mj_expr::Stop;
 use mj_lex::Lexeme;
 
-/// How many `!` stand in front, and what follows them.
-fn marks<'a, 't>(tokens: &'t [Lexeme<'a>]) -> (usize, &'t [Lexeme<'a>])
-    ensures marks { tokens_seen tokens.now ≡ replicate result.0 (Signed Exclamation) ++ tokens_seen result.1.now }
-    ensures none { HasNoMark (tokens_seen result.1.now) }
-    ensures count { result.0 + length result.1.now ≡ length tokens.now }
-{
-    match behind_mark(tokens) {
-        None => (0, tokens),
-        Some(behind) => {
-            let mut count = 1;
-            let mut rest = behind;
-            'marks: while let Some(more) = behind_mark(rest) {
-                count += 1;
-                rest = more;
-            }
-            (count, rest)
-        }
-    }
-}
-
-/// A format, or an expression.
+/// A format, the code of a byte behind a `*`, or an expression.
 fn output<'a, 't>(
     phrases: Phrases,
     tokens: &'t [Lexeme<'a>],
 ) -> Result<(Output, &'t [Lexeme<'a>]), Stop>
     ensures shorter { IfOk result (λ x. length x.1.now ≤ length tokens.now) }
-    ensures reads { (m : Limits) → HasRoom phrases.limited m tokens.now → Passes phrases.limited (λ x. output_parts (output_of x.0)) (λ x. x.1.now) result m tokens.now OutputWanted OutputEnd }
+    ensures reads { (m : Limits) → HasRoom phrases.limited m tokens.now → Passes phrases.limited (λ x. output_parts (output_of x.0)) (λ x. x.1.now) result m tokens.now (OutputWanted Writes) (OutputEnd Writes) }
 {
-    let (count, rest) = marks(tokens);
-    if count > 0 {
-        let marks = vec![in phrases.alloc; Mark::NewLine; count]?;
-        return Ok((Output::Format(marks), rest));
+    if begins_layout(tokens) {
+        let (layout, rest) = layout(phrases, tokens)?;
+        return Ok((Output::Format(layout), rest));
     }
-    let (value, rest) = phrases.expression(0, tokens)?;
-    Ok((Output::Value(value), rest))
+    match behind_star(tokens) {
+        Some(behind) => {
+            let (code, rest) = phrases.expression(0, behind)?;
+            Ok((Output::Code(code), rest))
+        }
+        None => {
+            let (value, rest) = phrases.expression(0, tokens)?;
+            Ok((Output::Value(value), rest))
+        }
+    }
 }
 
 impl Item for Output {
-    ghost first_at = { λ _. OutputWanted };
+    ghost first_at = { λ _. OutputWanted Writes };
 
-    ghost more_at = { λ _. OutputWanted };
+    ghost more_at = { λ _. OutputWanted Writes };
 
-    ghost behind_at = { λ _. OutputEnd };
+    ghost behind_at = { λ _. OutputEnd Writes };
 
     ghost begins = { λ _ _. Unit {0} };
 
@@ -79,5 +64,5 @@ impl Item for Output {
 impl Argument for Output {
     ghost use Rattle.mj_cmd.specs.Lists.{output_over};
 
-    ghost over = { λ _. output_over };
+    ghost over = { λ _. output_over Writes };
 }

@@ -171,10 +171,16 @@ pub fn callee(word: &[u8]) -> Option<Callee>
 pub fn special(word: &[u8]) -> Option<Special>
     ensures { result ≡ special_of word.now }
 {
-    if is_word(word, b"JOB", b"J") {
+    if is_word(word, b"IO", b"I") {
+        Some(Special::Io)
+    } else if is_word(word, b"JOB", b"J") {
         Some(Special::Job)
     } else if is_word(word, b"TEST", b"T") {
         Some(Special::Test)
+    } else if is_word(word, b"X", b"X") {
+        Some(Special::X)
+    } else if is_word(word, b"Y", b"Y") {
+        Some(Special::Y)
     } else {
         None
     }

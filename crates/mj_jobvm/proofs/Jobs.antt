@@ -1,5 +1,5 @@
 -- A job stays at a point of its routines' run.
-use Rattle.std.proofs.Common.{◌≡◌, ℕ, suc, ◌+◌, ◌≤◌, List, [], ◌∷◌, ◌++◌, Option, Some, None, Bool, true, false, inl, inr, refl, sym, ap, ◌∙◌, subst, arith, append-nil}
+use Rattle.std.proofs.Common.{◌≡◌, ℕ, suc, ◌+◌, ◌≤◌, List, [], ◌∷◌, ◌++◌, drop, Option, Some, None, Bool, true, false, inl, inr, refl, sym, ap, ◌∙◌, subst, arith, append-nil}
 use Rattle.std.specs.Prelude.{IsTrue, nat_lt}
 use Rattle.std.proofs.lemmas.Bool.{ltb-true, ltb-false}
 use Rattle.mj_text.specs.declared.fault.Fault.{Fault}
@@ -34,8 +34,7 @@ idle_left : (code : Code) (control : Control) (c : Context) (stack : Stack) (bac
 idle_left code controls.Begin c stack back s replies = refl
 idle_left code (controls.At pc) c stack back s replies = refl
 idle_left code (controls.Faulted f) c stack back s replies = refl
-idle_left code (controls.Closing f) c stack back s replies = idle_ends (ending_order s.devices) f back s replies
-idle_left code (controls.Halting f) c stack back s replies = refl
+idle_left code (controls.Closing done f) c stack back s replies = idle_ends (drop done (ending_order s.devices)) f back s replies
 idle_left code controls.Over c stack back s replies = refl
 
 idle : (code : Code) (at : Standing) (replies : List Reply) → onward code 0 at replies ≡ More

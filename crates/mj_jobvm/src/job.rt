@@ -22,6 +22,7 @@ use mj_frames::{Frame, Frames};
 use mj_load::Image;
 use mj_locals::Locals;
 use mj_machine::{Control, Machine, Step};
+use mj_open::Devices;
 use mj_pcode::Unit;
 use mj_store::Nodes;
 use mj_text::Text;
@@ -230,9 +231,7 @@ fn opening(alloc: Global, job: u32) -> Machine
         unit: 0,
         loops: Vec::new(alloc),
         calls: Vec::new(alloc),
-        column: 0,
-        row: 0,
-        failed: false,
+        devices: Devices::new(alloc),
         replied: 0,
         held: Nodes::new(alloc),
     }

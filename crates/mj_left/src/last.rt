@@ -35,6 +35,10 @@ fn keyword_for(command: &Command) -> Keyword
         Command::Goto(_) => Keyword::Goto,
         Command::Quit => Keyword::Quit,
         Command::New(_) => Keyword::New,
+        Command::Open(_) => Keyword::Open,
+        Command::Use(_) => Keyword::Use,
+        Command::Close(_) => Keyword::Close,
+        Command::Read(_) => Keyword::Read,
     }
 }
 

@@ -69,6 +69,8 @@ fn named(
         Construct::Structured,
         Construct::ByReference,
         Construct::EntryOffset,
+        Construct::ReadLength,
+        Construct::DeviceParameters,
         Construct::ProcessParameters,
         Construct::MnemonicSpace,
         Construct::SetExtract,

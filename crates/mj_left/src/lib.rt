@@ -5,6 +5,7 @@
 // out by reading the tokens before it once more, with one behind them that could begin it.
 #![tactic(auto)]
 
+mod devices;
 mod last;
 mod left;
 mod quit;

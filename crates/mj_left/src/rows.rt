@@ -1,24 +1,26 @@
 // The rows of the table of what is left out by name.
 
 ghost use Rattle.std.specs.Prelude.{◌≡◌, ◌⊎◌, ◌&&◌, ◌||◌, IfOk, reverse, true};
-ghost use Rattle.mj_ast.specs.LeftOut.{Fits, IsBehindLabel, MayBeOperator, MayBeginActual, MayBeginCommand, MayBeginDestination, MayBeginName, MayBeginOperand, MayBeginOutput, called as the_called, ends_in, has_dollar as the_dollar, is_at as the_at, is_bar as the_bar, is_bracket as the_bracket, is_caret as the_caret, is_close as the_close, is_comma as the_comma, is_comma_in, is_digits as the_digits, is_dot as the_dot, is_exponent, is_extract as the_extract, is_justify as the_justify, is_match as the_match, is_name as the_name, is_no_function, is_no_variable, is_open as the_open, is_order_name as the_order_name, is_plus as the_plus, is_query as the_query, is_slash as the_slash, is_star as the_star, is_two_dollars, is_unknown as the_unknown, is_word as the_word, starts};
+ghost use Rattle.mj_ast.specs.LeftOut.{Fits, IsBehindColon, IsBehindDevice, IsBehindInput, IsBehindLabel, IsBehindTimeout, MayBeOperator, MayBeginActual, MayBeginCommand, MayBeginDestination, MayBeginName, MayBeginOperand, MayBeginOutput, called as the_called, ends_in, has_dollar as the_dollar, is_at as the_at, is_bar as the_bar, is_bracket as the_bracket, is_caret as the_caret, is_close as the_close, is_colon as the_colon, is_comma as the_comma, is_comma_in, is_digits as the_digits, is_dot as the_dot, is_exponent, is_extract as the_extract, is_hash as the_hash, is_justify as the_justify, is_match as the_match, is_name as the_name, is_no_function, is_no_variable, is_open as the_open, is_order_name as the_order_name, is_plus as the_plus, is_query as the_query, is_slash as the_slash, is_star as the_star, is_two_dollars, is_unknown as the_unknown, is_word as the_word, starts};
+ghost use Rattle.mj_ast.specs.declared.keyword.Keyword.TheVariants.{Open};
 ghost use Rattle.mj_lex.specs.Seen.{token_seen, tokens_seen};
 ghost use Rattle.mj_left.specs.Fronts.{IsFront, Says};
 
+use crate::devices::{is_behind_colon, is_behind_device, is_behind_input, is_behind_timeout};
 use crate::stand::{
-    is_behind_colon, is_behind_label, may_be_operator, may_begin_actual, may_begin_command,
-    may_begin_destination, may_begin_name, may_begin_operand, may_begin_output,
+    is_behind_label, may_be_operator, may_begin_actual, may_begin_command, may_begin_destination,
+    may_begin_name, may_begin_operand, may_begin_output,
 };
 use crate::tokens::{
     ends_in_caret, ends_in_digits, ends_in_star, has_dollar, is_at, is_bar, is_bracket, is_close,
-    is_comma, is_dollar, is_dot, is_negated_question, is_open, is_plus, is_question, is_slash,
-    is_star, starts_digits, starts_dollar, starts_word,
+    is_colon, is_comma, is_dollar, is_dot, is_hash, is_negated_question, is_open, is_plus,
+    is_question, is_slash, is_star, starts_digits, starts_dollar, starts_word,
 };
 use crate::words::{
     called, innermost, is_e, is_extract, is_justify, is_later, is_name, is_order_name, is_query,
     is_variable,
 };
-use mj_ast::Construct;
+use mj_ast::{Construct, Keyword};
 use mj_cmd::verb_of;
 use mj_expr::callee;
 use mj_lex::{Lexeme, Token};
@@ -141,8 +143,52 @@ fn entry_offset(alloc: Global, front: &[Lexeme], token: Token) -> Result<bool, A
     is_behind_label(alloc, front)
 }
 
-/// `/` where an argument of WRITE may begin.
-fn mnemonic_space(alloc: Global, front: &[Lexeme], token: Token) -> Result<bool, AllocError>
+/// `#` behind a variable of READ.
+fn read_length(alloc: Global, front: &[Lexeme], token: Token) -> Result<bool, AllocError>
+    requires { IsFront (tokens_seen front.now) }
+    ensures { IfOk result (λ b. Says b ((the_hash (token_seen token.entry) ≡ true) × IsBehindInput (tokens_seen front.now))) }
+{
+    if !is_hash(token) {
+        return Ok(false);
+    }
+    is_behind_input(alloc, front)
+}
+
+/// `:` behind an argument of USE or CLOSE.
+fn second_parameters(alloc: Global, front: &[Lexeme], token: Token) -> Result<bool, AllocError>
+    requires { IsFront (tokens_seen front.now) }
+    ensures { IfOk result (λ b. Says b ((the_colon (token_seen token.entry) ≡ true) × IsBehindDevice (tokens_seen front.now))) }
+{
+    if !is_colon(token) {
+        return Ok(false);
+    }
+    is_behind_device(alloc, front)
+}
+
+/// The same, or what stands behind the first `:` of an argument of OPEN.
+fn device_parameters(alloc: Global, front: &[Lexeme], token: Token) -> Result<bool, AllocError>
+    requires { IsFront (tokens_seen front.now) }
+    ensures { IfOk result (λ b. Says b (((the_colon (token_seen token.entry) ≡ true) × IsBehindDevice (tokens_seen front.now)) ⊎ IsBehindColon Open (tokens_seen front.now))) }
+{
+    if second_parameters(alloc, front, token)? {
+        return Ok(true);
+    }
+    is_behind_colon(alloc, Keyword::Open, front)
+}
+
+/// The third `:` of an argument of OPEN.
+fn third_colon(alloc: Global, front: &[Lexeme], token: Token) -> Result<bool, AllocError>
+    requires { IsFront (tokens_seen front.now) }
+    ensures { IfOk result (λ b. Says b ((the_colon (token_seen token.entry) ≡ true) × IsBehindTimeout (tokens_seen front.now))) }
+{
+    if !is_colon(token) {
+        return Ok(false);
+    }
+    is_behind_timeout(alloc, front)
+}
+
+/// `/` where an argument of WRITE or READ may begin.
+fn output_space(alloc: Global, front: &[Lexeme], token: Token) -> Result<bool, AllocError>
     requires { IsFront (tokens_seen front.now) }
     ensures { IfOk result (λ b. Says b ((the_slash (token_seen token.entry) ≡ true) × MayBeginOutput (tokens_seen front.now))) }
 {
@@ -150,6 +196,17 @@ fn mnemonic_space(alloc: Global, front: &[Lexeme], token: Token) -> Result<bool,
         return Ok(false);
     }
     may_begin_output(alloc, front)
+}
+
+/// One of the two.
+fn mnemonic_space(alloc: Global, front: &[Lexeme], token: Token) -> Result<bool, AllocError>
+    requires { IsFront (tokens_seen front.now) }
+    ensures { IfOk result (λ b. Says b (((the_colon (token_seen token.entry) ≡ true) × IsBehindTimeout (tokens_seen front.now)) ⊎ ((the_slash (token_seen token.entry) ≡ true) × MayBeginOutput (tokens_seen front.now)))) }
+{
+    if third_colon(alloc, front, token)? {
+        return Ok(true);
+    }
+    output_space(alloc, front, token)
 }
 
 /// `$EXTRACT(` where a destination may begin.
@@ -264,7 +321,9 @@ pub fn fits(
         Construct::Structured => Ok(structured(front, token)),
         Construct::ByReference => by_reference(alloc, front, token, behind),
         Construct::EntryOffset => entry_offset(alloc, front, token),
-        Construct::ProcessParameters => is_behind_colon(alloc, front),
+        Construct::ReadLength => read_length(alloc, front, token),
+        Construct::DeviceParameters => device_parameters(alloc, front, token),
+        Construct::ProcessParameters => is_behind_colon(alloc, Keyword::Job, front),
         Construct::MnemonicSpace => mnemonic_space(alloc, front, token),
         Construct::SetExtract => set_extract(alloc, front, token),
         Construct::JustifyDecimals => Ok(justify_decimals(front, token)),

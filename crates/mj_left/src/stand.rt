@@ -3,13 +3,11 @@
 ghost use Rattle.std.specs.Prelude.{◌≡◌, ◌⊎◌, IfOk, codes, true};
 ghost use Rattle.mj_ast.specs.declared.sign.Sign.TheVariants.{Caret, Close, Colon, Exclamation, Underscore};
 ghost use Rattle.mj_ast.specs.Tokens.{Called, Signed, Special, Word};
-ghost use Rattle.mj_ast.specs.LeftOut.{IsBehindColon, IsBehindLabel, MayBeOperator, MayBeginActual, MayBeginCommand, MayBeginDestination, MayBeginName, MayBeginOperand, MayBeginOutput, MayStand, is_in_formals as in_formals};
+ghost use Rattle.mj_ast.specs.LeftOut.{IsBehindLabel, MayBeOperator, MayBeginActual, MayBeginCommand, MayBeginDestination, MayBeginName, MayBeginOperand, MayBeginOutput, MayStand, is_in_formals as in_formals};
 ghost use Rattle.mj_lex.specs.Seen.{token_seen, tokens_seen};
 ghost use Rattle.mj_left.specs.Fronts.{IsFront, IsProbe, Says};
 
-use crate::tokens::{
-    ends_in_blank_or_dot, ends_in_colon, ends_in_label, ends_in_open_or_comma, has_no_blank,
-};
+use crate::tokens::{ends_in_blank_or_dot, ends_in_label, ends_in_open_or_comma, has_no_blank};
 use mj_ast::Sign;
 use mj_cmd::line;
 use mj_expr::Stop;
@@ -81,12 +79,12 @@ pub fn may_begin_actual(alloc: Global, front: &[Lexeme]) -> Result<bool, AllocEr
     may_stand(alloc, front, Token::Sign(Sign::Close))
 }
 
-/// Whether an argument of WRITE may begin.
+/// Whether an argument of WRITE or READ may begin.
 pub fn may_begin_output(alloc: Global, front: &[Lexeme]) -> Result<bool, AllocError>
     requires { IsFront (tokens_seen front.now) }
     ensures { IfOk result (λ b. Says b (MayBeginOutput (tokens_seen front.now))) }
 {
-    if !may_begin_operand(alloc, front)? {
+    if !may_stand(alloc, front, Token::Quoted(b""))? {
         return Ok(false);
     }
     may_stand(alloc, front, Token::Sign(Sign::Exclamation))
@@ -103,14 +101,11 @@ pub fn is_behind_label(alloc: Global, front: &[Lexeme]) -> Result<bool, AllocErr
     may_stand(alloc, front, Token::Sign(Sign::Caret))
 }
 
-/// Whether the first `:` of an argument of JOB was read.
-pub fn is_behind_colon(alloc: Global, front: &[Lexeme]) -> Result<bool, AllocError>
+/// Whether a `:` may stand.
+pub fn may_be_colon(alloc: Global, front: &[Lexeme]) -> Result<bool, AllocError>
     requires { IsFront (tokens_seen front.now) }
-    ensures { IfOk result (λ b. Says b (IsBehindColon (tokens_seen front.now))) }
+    ensures { IfOk result (λ b. Says b (MayStand (tokens_seen front.now) (Signed Colon))) }
 {
-    if !ends_in_colon(front) {
-        return Ok(false);
-    }
     may_stand(alloc, front, Token::Sign(Sign::Colon))
 }
 

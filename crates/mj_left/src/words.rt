@@ -32,14 +32,10 @@ pub fn is_later(word: &[u8]) -> bool
     ensures { result ≡ the_later word.now }
 {
     is_either(word, b"BREAK", b"B")
-        || is_either(word, b"CLOSE", b"C")
-        || is_either(word, b"OPEN", b"O")
-        || is_either(word, b"READ", b"R")
         || is_either(word, b"TCOMMIT", b"TC")
         || is_either(word, b"TRESTART", b"TRE")
         || is_either(word, b"TROLLBACK", b"TRO")
         || is_either(word, b"TSTART", b"TS")
-        || is_either(word, b"USE", b"U")
 }
 
 /// Whether it is the word of a variable, those that the reader doesn't read yet among them.

@@ -13,7 +13,7 @@ use Rattle.mj_ast.specs.declared.expr.Scope.TheVariants.{Local, Global}
 use Rattle.mj_ast.specs.Syntax.{Expr, Variable, Var}
 use Rattle.mj_ast.specs.Tokens.{Token, Word, Digits, Signed, Blank, Comment, Called, Special, Quoted, Unclosed, Stray}
 use Rattle.mj_ast.specs.Expressions.{Symbol, Constant, Inherent, Name, Applied, Overlong, Mark, Other, symbol, expr_symbols, variable_symbols, expr_nesting, expr_width, callee_of}
-use Rattle.mj_ast.specs.Commands.{Part, Put, Named, Label, PieceCall, Text, Place, Control, is_local, SpellsPart, SpellsParts, SpellsCondition, SpellsArguments, IsConditional, greatest, part_nesting, part_width, condition_measure, gap_of, comment_gap_of, verb_of, bare_of, meant, is_conditional}
+use Rattle.mj_ast.specs.Commands.{Part, Put, Named, Label, PieceCall, Prompt, Text, Place, Control, is_local, SpellsPart, SpellsParts, SpellsCondition, SpellsArguments, IsConditional, greatest, part_nesting, part_width, condition_measure, gap_of, comment_gap_of, verb_of, bare_of, meant}
 use Rattle.mj_ast.specs.Lines.{SpellsEnd, SpellsLabel, comment_gap, SpellsFormals, SpellsDots, comma_names, name_tokens, gap_behind}
 use Rattle.mj_expr.specs.Machine.{Limits}
 use Rattle.mj_expr.specs.Machine as phrase
@@ -22,7 +22,7 @@ use Rattle.mj_expr.proofs.Complete.{Ceases, complete_phrase}
 use Rattle.mj_line.specs.Forms.{next_of, Node, Want, AnExpr, AVar, ALocal, piece_part, part_of, part_at, labels, takes, wants, ends, first_node, may_be_bare, Fits, IsForm}
 use Rattle.mj_line.specs.Sentences.{Clause, Sentence, SpellsClause, SpellsClauses, SpellsSentence, clause_nesting, clause_width, IsWithin}
 use Rattle.mj_line.specs.Machine.{Rest, Spot, Begin, Behind, Worded, Asked, Bare, Args, Goal, Condition, Argument, At, In, empty_line, labelled, clause, with_clause, bare_rest, args_rest, expression_wanted, start, wanted, may_want, may_begin, level, level_of, inside, behind, bare_rested, rested, argument, entry, Next, Go, Stuck, Deep, Long, opened, moved, taken, begins, on, on_rested, first, spot_step, phrase_step, in_step, entering, step, ended_at, ended_spot, Accept, run, turn, Labelled, FormalsOpened, FormalWanted, FormalBehind, FormalsEnd, Indented, headed, dotted, is_new}
-use Rattle.mj_line.proofs.Tables.{conditional_bare, label_wanted, name_wanted, shut, first_ends, followed, FollowsWant, apart_at, part_taken}
+use Rattle.mj_line.proofs.Tables.{conditional_bare, label_wanted, name_wanted, prompt_wanted, shut, first_ends, followed, FollowsWant, apart_at, part_taken}
 use Rattle.mj_line.proofs.Formals.{AreNew, formals_new, dotted_by, dotted_is}
 use Rattle.mj_line.proofs.Leaves.{want_kind}
 use Rattle.mj_line.proofs.Facts.{lift_accept, plain_step, start_stuck}
@@ -307,6 +307,10 @@ called_at : (b : Bool) (w : List ℕ) → length w ≤ 31 → callee_of w ≡ So
 called_at true w h e = called_part w h e
 called_at false w h e = called_part w h e
 
+quoted_at : (b : Bool) (v : List ℕ) → b ≡ true → length v ≤ 32767 → part_at b (Quoted v) ≡ Some (Prompt v)
+quoted_at true v e h = ap (λ (b : Bool). cond b (Some (Prompt v)) None) (let e : nat_le (length v) 32767 ≡ true = grind (arith, nat_tests) in e)
+quoted_at false v e h = absurd (let f : false ≡ true = e in cc)
+
 label_run : (m : Limits) (o : Sentence) (condition : Option Expr) (k : Verb) (done : List Part) (n next : Node) (z : List ℕ) (front rest : List Token) {whole : List Token} → takes n (Label z) ≡ Some next → SpellsPart front (Label z) → whole ≡ front ++ rest →
     run m whole (At (Args o condition k done n)) ≡ run m rest (At (Args o condition k (done ++ Label z ∷ []) next))
 label_run m o condition k done n next z front rest f (inl s) w =
@@ -342,6 +346,11 @@ complete_args (PieceCall ∷ ps) m o condition k done n front rest f s d w h =
     ∙ token_run m o condition k done n f.0 (Called s.3.0) PieceCall (s.1 ++ rest) (called_at (labels n) s.3.0 s.3.2 s.3.3) f.1
     ∙ complete_args ps m o condition k (done ++ PieceCall ∷ []) f.0 s.1 rest f.2 s.4 (omega arith) (omega arith) h
     ∙ ap (λ (qs : List Part). run m rest (At (Behind (args_rest o condition k qs)))) (append_assoc done (PieceCall ∷ []) ps)
+complete_args (Prompt z ∷ ps) m o condition k done n front rest f s d w h =
+    ap (λ (ks : List Token). run m (ks ++ rest) (At (Args o condition k done n))) (s.2 ∙ ap (λ (ks : List Token). ks ++ s.1) s.3.0)
+    ∙ token_run m o condition k done n f.0 (Quoted z) (Prompt z) (s.1 ++ rest) (quoted_at (labels n) z (prompt_wanted n f.0 z f.1) s.3.1) f.1
+    ∙ complete_args ps m o condition k (done ++ Prompt z ∷ []) f.0 s.1 rest f.2 s.4 (omega arith) (omega arith) h
+    ∙ ap (λ (qs : List Part). run m rest (At (Behind (args_rest o condition k qs)))) (append_assoc done (Prompt z ∷ []) ps)
 complete_args (Text lv e ∷ ps) m o condition k done n front rest f s d w h =
     let a = AnExpr lv f.0 in
     ap (λ (ks : List Token). run m (ks ++ rest) (At (Args o condition k done n))) s.2

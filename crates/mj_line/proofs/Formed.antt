@@ -1,20 +1,22 @@
 -- Trees have parts of the table, and no two have the same.
 use Rattle.std.proofs.Common.{◌≡◌, ℕ, zero, suc, ◌≤◌, nat_le, List, [], ◌∷◌, ◌++◌, refl, ap, sym, ◌∙◌, subst, Bool, true, false, append_assoc, arith, Option, Some, None, map}
-use Rattle.std.specs.Prelude.{◌&&◌}
+use Rattle.std.specs.Prelude.{◌&&◌, ◌||◌}
 use Rattle.std.proofs.lemmas.Bool.Decides.{nat_tests}
-use Rattle.mj_ast.specs.declared.sign.Sign.TheVariants.{Plus, Minus, Equals, Comma, Colon, Caret, Open, Close}
+use Rattle.mj_ast.specs.declared.sign.Sign.TheVariants.{Plus, Minus, Star, Question, Equals, Comma, Colon, Caret, Open, Close}
 use Rattle.mj_ast.specs.declared.routine.Mark.{Mark}
-use Rattle.mj_ast.specs.declared.routine.Mark.TheVariants.{NewLine}
+use Rattle.mj_ast.specs.declared.routine.Mark.TheVariants.{NewLine, NewPage}
 use Rattle.mj_ast.specs.declared.keyword.Keyword.{Keyword}
 use Rattle.mj_ast.specs.declared.keyword.Keyword.TheVariants as keyword
 use Rattle.mj_ast.specs.declared.keyword.Verb.{Verb}
 use Rattle.mj_ast.specs.declared.keyword.Verb.TheVariants.{Of, HaltOrHang}
 use Rattle.mj_ast.specs.declared.routine.LockMode.{LockMode}
+use Rattle.mj_ast.specs.declared.routine.ReadMode.{ReadMode}
+use Rattle.mj_ast.specs.declared.routine.ReadMode.TheVariants.{Line, Byte}
 use Rattle.mj_ast.specs.declared.routine.LockMode.TheVariants.{Whole, Plus as Added, Minus as Taken}
-use Rattle.mj_ast.specs.Syntax.{Expr, Exprs, No, More, Variable, Destination, Plain, Pieces, Targets, One, Several, Assignment, Killed, Gone, Spared, Merged, Output, Shown, Format, Called, Jumped, Started, LockNames, Lone, Together, Locked, Range, Single, Endless, UpTo, Renewed, Fresh, Kept, Command, Set, Write, Halt, Hang, Job, Lock, Kill, Merge, If, Else, For, Forever, Do, Goto, Quit, New}
+use Rattle.mj_ast.specs.Syntax.{Expr, Exprs, No, More, Variable, Destination, Plain, Pieces, Targets, One, Several, Assignment, Killed, Gone, Spared, Merged, Layout, Output, Shown, Format, Coded, Input, Prompted, Arranged, Into, Opened, Called, Jumped, Started, LockNames, Lone, Together, Locked, Range, Single, Endless, UpTo, Renewed, Fresh, Kept, Command, Set, Write, Halt, Hang, Job, Lock, Kill, Merge, If, Else, For, Forever, Do, Goto, Quit, New, OpenDevice, UseDevice, CloseDevice, Read}
 use Rattle.mj_ast.specs.Expressions.{count}
-use Rattle.mj_ast.specs.Commands.{Part, Put, Named, Label, PieceCall, Text, Place, Control, meant, with_commas, behind_commas, value_parts, entry_parts, target_parts, guard_parts, actual_parts, actuals_parts, called_parts, as_called, jumped_parts, wait_parts, started_parts, mode_parts, variable_parts, lock_names_parts, locked_parts, range_parts, renewed_parts, is_local, is_bare, is_entry, is_called, is_jumped, is_started, are_lock_names, is_locked, is_renewed, more_parts, destination_parts, targets_parts, assignment_parts, mark_part, output_parts, name_parts, killed_parts, merged_parts, command_parts, keyword_for, every, is_destination, are_targets, is_assignment, is_output, is_killed, is_formed}
-use Rattle.mj_line.specs.Forms.{Mode, Calls, Jumps, Starts, Node, SetTarget, PieceOpens, PieceVariable, PieceComma, PieceText, PieceBehind, SetBehind, SetValue, SetEnd, OutputWanted, OutputEnd, MarksEnd, KillWanted, NameWanted, NameBehind, KillEnd, MergeInto, MergeBehind, MergeFrom, MergeEnd, ValueWanted, ValueEnd, ForWanted, ForBehind, RangeWanted, RangeEnd, StepWanted, StepEnd, LimitWanted, LimitEnd, NewWanted, KeptWanted, KeptBehind, NewEnd, EntryWanted, LabelEnd, RoutineWanted, RoutineEnd, ActualWanted, ActualEnd, ActualsEnd, WaitColon, GuardWanted, GuardEnd, LockWanted, LockSigned, LockListed, LockBehind, LockNamed, LockTimed, LockEnd, actuals_at, colon_at, takes, ends, first_node, Want, AVar, wants, Goes, Fits, IsForm}
+use Rattle.mj_ast.specs.Commands.{Part, Put, Named, Label, PieceCall, Prompt, Text, Place, Control, meant, behind_commas, value_parts, entry_parts, target_parts, guard_parts, actual_parts, actuals_parts, called_parts, as_called, jumped_parts, wait_parts, started_parts, mode_parts, variable_parts, lock_names_parts, locked_parts, range_parts, renewed_parts, is_local, is_bare, is_entry, is_called, is_jumped, is_started, are_lock_names, is_locked, is_renewed, more_parts, destination_parts, targets_parts, assignment_parts, mark_part, column_parts, layout_parts, output_parts, read_mode_parts, input_parts, opened_parts, name_parts, killed_parts, merged_parts, command_parts, keyword_for, every, is_destination, are_targets, is_assignment, has_items, is_there, is_layout, is_output, is_input, is_killed, is_formed}
+use Rattle.mj_line.specs.Forms.{Mode, Calls, Jumps, Starts, Node, SetTarget, PieceOpens, PieceVariable, PieceComma, PieceText, PieceBehind, SetBehind, SetValue, SetEnd, Talk, Writes, Reads, OutputWanted, OutputEnd, MarksEnd, ColumnWanted, CodeWanted, IntoWanted, IntoEnd, IntoTimed, DeviceWanted, DeviceEnd, DeviceColon, DeviceTimed, DeviceWaited, KillWanted, NameWanted, NameBehind, KillEnd, MergeInto, MergeBehind, MergeFrom, MergeEnd, ValueWanted, ValueEnd, ForWanted, ForBehind, RangeWanted, RangeEnd, StepWanted, StepEnd, LimitWanted, LimitEnd, NewWanted, KeptWanted, KeptBehind, NewEnd, EntryWanted, LabelEnd, RoutineWanted, RoutineEnd, ActualWanted, ActualEnd, ActualsEnd, WaitColon, GuardWanted, GuardEnd, LockWanted, LockSigned, LockListed, LockBehind, LockNamed, LockTimed, LockEnd, actuals_at, colon_at, takes, ends, first_node, AVar, wants, Goes, Fits, IsForm}
 use Rattle.mj_line.proofs.Tables.{none_some, some_same}
 
 -- ---- tests
@@ -95,25 +97,97 @@ assignments_fit : (list : List Assignment) → every is_assignment list ≡ true
 assignments_fit [] h = refl
 assignments_fit (a ∷ list) h = (SetTarget false, refl, assignment_fits a (behind_commas assignment_parts list) (first_of (is_assignment a) (every is_assignment list) h) (assignments_fit list (second_of (is_assignment a) (every is_assignment list) h)))
 
-marks_fit : (marks : List Mark) (rest : List Part) → Fits MarksEnd rest → Fits MarksEnd (map mark_part marks ++ rest)
-marks_fit [] rest f = f
-marks_fit (NewLine ∷ marks) rest f = (MarksEnd, refl, marks_fit marks rest f)
+-- ---- what is written, and what is read by
 
--- outputs behind an expression, and behind marks
-record Outputs (list : List Output) : Type 0 where
-  text : Fits OutputEnd (behind_commas output_parts list)
-  marks : Fits MarksEnd (behind_commas output_parts list)
+abbrev pub Speech : Talk → Type 0
+Speech Writes = Output
+Speech Reads = Input
 
-output_fits : (x : Output) (list : List Output) → is_output x ≡ true → Outputs list → Fits OutputWanted (output_parts x ++ behind_commas output_parts list)
-output_fits (Shown e) list h f = (OutputEnd, refl, f.text)
-output_fits (Format []) list h f = false_true h
-output_fits (Format (NewLine ∷ marks)) list h f = (MarksEnd, refl, marks_fit marks (behind_commas output_parts list) f.marks)
+abbrev pub speech_parts : (talk : Talk) → Speech talk → List Part
+speech_parts Writes x = output_parts x
+speech_parts Reads x = input_parts x
 
-outputs_fit : (list : List Output) → every is_output list ≡ true → Outputs list
-outputs_fit [] h = record { text = refl; marks = refl }
-outputs_fit (x ∷ list) h =
-    let f = output_fits x list (first_of (is_output x) (every is_output list) h) (outputs_fit list (second_of (is_output x) (every is_output list) h)) in
-    record { text = (OutputWanted, refl, f); marks = (OutputWanted, refl, f) }
+abbrev pub is_speech : (talk : Talk) → Speech talk → Bool
+is_speech Writes x = is_output x
+is_speech Reads x = is_input x
+
+-- where such an argument may end
+record SpeechEnd (talk : Talk) (n : Node) : Type 0 where
+  ends_here : ends n ≡ true
+  comma : takes n (Put Comma) ≡ Some (OutputWanted talk)
+
+-- what follows one, at each place where it may end
+abbrev SpeechTail : Talk → List Part → Type 0
+SpeechTail talk rest = (n : Node) → SpeechEnd talk n → Fits n rest
+
+at_output : (talk : Talk) (rest : List Part) → SpeechTail talk rest → Fits (OutputEnd talk) rest
+at_output talk rest f = f (OutputEnd talk) (record { ends_here = refl; comma = refl })
+
+marks_fit : (talk : Talk) (marks : List Mark) (rest : List Part) → Fits (MarksEnd talk) rest → Fits (MarksEnd talk) (map mark_part marks ++ rest)
+marks_fit talk [] rest f = f
+marks_fit talk (NewLine ∷ marks) rest f = (MarksEnd talk, refl, marks_fit talk marks rest f)
+marks_fit talk (NewPage ∷ marks) rest f = (MarksEnd talk, refl, marks_fit talk marks rest f)
+
+column_fits : (talk : Talk) (column : Option Expr) (rest : List Part) → SpeechTail talk rest → Fits (MarksEnd talk) (column_parts column ++ rest)
+column_fits talk None rest f = f (MarksEnd talk) (record { ends_here = refl; comma = refl })
+column_fits talk (Some e) rest f = (ColumnWanted talk, refl, (OutputEnd talk, refl, at_output talk rest f))
+
+format_fits : (talk : Talk) (marks : List Mark) (column : Option Expr) (rest : List Part) → has_items marks || is_there column ≡ true → SpeechTail talk rest → Fits (OutputWanted talk) (map mark_part marks ++ (column_parts column ++ rest))
+format_fits talk [] None rest h f = false_true h
+format_fits talk [] (Some e) rest h f = (ColumnWanted talk, refl, (OutputEnd talk, refl, at_output talk rest f))
+format_fits talk (NewLine ∷ marks) column rest h f = (MarksEnd talk, refl, marks_fit talk marks (column_parts column ++ rest) (column_fits talk column rest f))
+format_fits talk (NewPage ∷ marks) column rest h f = (MarksEnd talk, refl, marks_fit talk marks (column_parts column ++ rest) (column_fits talk column rest f))
+
+layout_fits : (talk : Talk) (l : Layout) (rest : List Part) → is_layout l ≡ true → SpeechTail talk rest → Fits (OutputWanted talk) (layout_parts l ++ rest)
+layout_fits talk l rest h f =
+    let P : List Part → Type 0 = λ ps. Fits (OutputWanted talk) ps in
+    subst P (sym (append_assoc (map mark_part l.marks) (column_parts l.column) rest)) (format_fits talk l.marks l.column rest h f)
+
+output_fits : (x : Output) (rest : List Part) → is_output x ≡ true → SpeechTail Writes rest → Fits (OutputWanted Writes) (output_parts x ++ rest)
+output_fits (Shown e) rest h f = (OutputEnd Writes, refl, at_output Writes rest f)
+output_fits (Format l) rest h f = layout_fits Writes l rest h f
+output_fits (Coded e) rest h f = (CodeWanted, refl, (OutputEnd Writes, refl, at_output Writes rest f))
+
+input_timed : (timeout : Option Expr) (rest : List Part) → SpeechTail Reads rest → Fits IntoEnd (guard_parts timeout ++ rest)
+input_timed None rest f = f IntoEnd (record { ends_here = refl; comma = refl })
+input_timed (Some e) rest f = (IntoTimed, refl, (OutputEnd Reads, refl, at_output Reads rest f))
+
+received_fits : (mode : ReadMode) (v : Variable) (timeout : Option Expr) (rest : List Part) → SpeechTail Reads rest → Fits (OutputWanted Reads) ((read_mode_parts mode ++ Place 0 v ∷ guard_parts timeout) ++ rest)
+received_fits Line v timeout rest f = (IntoEnd, refl, input_timed timeout rest f)
+received_fits Byte v timeout rest f = (IntoWanted, refl, (IntoEnd, refl, input_timed timeout rest f))
+
+input_fits : (x : Input) (rest : List Part) → is_input x ≡ true → SpeechTail Reads rest → Fits (OutputWanted Reads) (input_parts x ++ rest)
+input_fits (Prompted v) rest h f = (OutputEnd Reads, refl, at_output Reads rest f)
+input_fits (Arranged l) rest h f = layout_fits Reads l rest h f
+input_fits (Into r) rest h f = received_fits r.mode r.variable r.timeout rest f
+
+speech_fits : (talk : Talk) (x : Speech talk) (rest : List Part) → is_speech talk x ≡ true → SpeechTail talk rest → Fits (OutputWanted talk) (speech_parts talk x ++ rest)
+speech_fits Writes x rest h f = output_fits x rest h f
+speech_fits Reads x rest h f = input_fits x rest h f
+
+speeches_fit : (talk : Talk) (list : List (Speech talk)) → every (is_speech talk) list ≡ true → SpeechTail talk (behind_commas (speech_parts talk) list)
+speeches_fit talk [] h = λ n p. p.ends_here
+speeches_fit talk (x ∷ list) h =
+    let tail = speeches_fit talk list (second_of (is_speech talk x) (every (is_speech talk) list) h) in
+    λ n p. (OutputWanted talk, p.comma, speech_fits talk x (behind_commas (speech_parts talk) list) (first_of (is_speech talk x) (every (is_speech talk) list) h) tail)
+
+-- devices behind one, with its timeout or without
+record Devices (list : List Opened) : Type 0 where
+  first : Fits DeviceEnd (behind_commas opened_parts list)
+  timed : Fits DeviceWaited (behind_commas opened_parts list)
+
+wait_fits : (timeout : Option Expr) (list : List Opened) → Devices list → Fits DeviceEnd (wait_parts timeout ++ behind_commas opened_parts list)
+wait_fits None list f = f.first
+wait_fits (Some e) list f = (DeviceColon, refl, (DeviceTimed, refl, (DeviceWaited, refl, f.timed)))
+
+device_fits : (x : Opened) (list : List Opened) → Devices list → Fits DeviceWanted (opened_parts x ++ behind_commas opened_parts list)
+device_fits x list f = (DeviceEnd, refl, wait_fits x.timeout list f)
+
+devices_fit : (list : List Opened) → Devices list
+devices_fit [] = record { first = refl; timed = refl }
+devices_fit (x ∷ list) =
+    let f = device_fits x list (devices_fit list) in
+    record { first = (DeviceWanted, refl, f); timed = (DeviceWanted, refl, f) }
 
 names_fit : (ws : List (List ℕ)) (rest : List Part) → Fits KillEnd rest → Fits NameBehind (behind_commas name_parts ws ++ Put Close ∷ rest)
 names_fit [] rest f = (KillEnd, refl, f)
@@ -391,10 +465,24 @@ pub killed_some : (x : Killed) (rest : List Part) → IsSome (killed_parts x ++ 
 killed_some (Gone v) rest = (Place 0 v, rest, refl)
 killed_some (Spared ws) rest = (Put Open, _, refl)
 
+layout_some : (marks : List Mark) (column : Option Expr) (rest : List Part) → has_items marks || is_there column ≡ true → IsSome ((map mark_part marks ++ column_parts column) ++ rest)
+layout_some [] None rest h = false_true h
+layout_some [] (Some e) rest h = (Put Question, _, refl)
+layout_some (m ∷ ms) column rest h = (mark_part m, _, refl)
+
 pub output_some : (x : Output) (rest : List Part) → is_output x ≡ true → IsSome (output_parts x ++ rest)
 output_some (Shown e) rest h = (Text 0 e, rest, refl)
-output_some (Format []) rest h = false_true h
-output_some (Format (m ∷ ms)) rest h = (mark_part m, _, refl)
+output_some (Format l) rest h = layout_some l.marks l.column rest h
+output_some (Coded e) rest h = (Put Star, _, refl)
+
+received_some : (mode : ReadMode) (v : Variable) (timeout : Option Expr) (rest : List Part) → IsSome ((read_mode_parts mode ++ Place 0 v ∷ guard_parts timeout) ++ rest)
+received_some Line v timeout rest = (Place 0 v, _, refl)
+received_some Byte v timeout rest = (Put Star, _, refl)
+
+pub input_some : (x : Input) (rest : List Part) → is_input x ≡ true → IsSome (input_parts x ++ rest)
+input_some (Prompted v) rest h = (Prompt v, rest, refl)
+input_some (Arranged l) rest h = layout_some l.marks l.column rest h
+input_some (Into r) rest h = received_some r.mode r.variable r.timeout rest
 
 pub entry_some : (l v : Option (List ℕ)) (rest : List Part) → IsSome (entry_parts l v ++ rest)
 entry_some None None rest = (Put Caret, rest, refl)
@@ -431,7 +519,7 @@ own_form (Set (a ∷ list)) h =
 own_form (Write []) h = false_true h
 own_form (Write (x ∷ list)) h =
     let s = output_some x (behind_commas output_parts list) (first_of (is_output x) (every is_output list) h) in
-    as_form (Of keyword.Write) OutputWanted s.0 s.1 (output_parts x ++ behind_commas output_parts list) refl s.2 (output_fits x list (first_of (is_output x) (every is_output list) h) (outputs_fit list (second_of (is_output x) (every is_output list) h)))
+    as_form (Of keyword.Write) (OutputWanted Writes) s.0 s.1 (output_parts x ++ behind_commas output_parts list) refl s.2 (output_fits x (behind_commas output_parts list) (first_of (is_output x) (every is_output list) h) (speeches_fit Writes list (second_of (is_output x) (every is_output list) h)))
 own_form Halt h = refl
 own_form (Hang []) h = false_true h
 own_form (Hang (x ∷ list)) h = (ValueWanted false, refl, (ValueEnd, refl, ifs_fit list))
@@ -470,6 +558,16 @@ own_form (New []) h = refl
 own_form (New (x ∷ list)) h =
     let s = renewed_some x (behind_commas renewed_parts list) in
     as_form (Of keyword.New) (NewWanted true) s.0 s.1 (renewed_parts x ++ behind_commas renewed_parts list) refl s.2 (renewed_fits true x (behind_commas renewed_parts list) (first_of (is_renewed x) (every is_renewed list) h) (news_fit list (second_of (is_renewed x) (every is_renewed list) h)))
+own_form (OpenDevice []) h = false_true h
+own_form (OpenDevice (x ∷ list)) h = (DeviceWanted, refl, (DeviceEnd, refl, wait_fits x.timeout list (devices_fit list)))
+own_form (UseDevice []) h = false_true h
+own_form (UseDevice (x ∷ list)) h = (ValueWanted false, refl, (ValueEnd, refl, ifs_fit list))
+own_form (CloseDevice []) h = false_true h
+own_form (CloseDevice (x ∷ list)) h = (ValueWanted false, refl, (ValueEnd, refl, ifs_fit list))
+own_form (Read []) h = false_true h
+own_form (Read (x ∷ list)) h =
+    let s = input_some x (behind_commas input_parts list) (first_of (is_input x) (every is_input list) h) in
+    as_form (Of keyword.Read) (OutputWanted Reads) s.0 s.1 (input_parts x ++ behind_commas input_parts list) refl s.2 (input_fits x (behind_commas input_parts list) (first_of (is_input x) (every is_input list) h) (speeches_fit Reads list (second_of (is_input x) (every is_input list) h)))
 own_form (Merge []) h = false_true h
 own_form (Merge (x ∷ list)) h = (MergeInto, refl, (MergeBehind, refl, (MergeFrom, refl, (MergeEnd, refl, merges_fit list))))
 
@@ -481,6 +579,7 @@ value_goes (Put s) next e = absurd (none_some next e)
 value_goes (Named w) next e = absurd (none_some next e)
 value_goes (Label w) next e = absurd (none_some next e)
 value_goes PieceCall next e = absurd (none_some next e)
+value_goes (Prompt v) next e = absurd (none_some next e)
 value_goes (Text l x) next e = e
 value_goes (Place l v) next e = e
 value_goes (Control v) next e = e
@@ -490,6 +589,7 @@ value_back (Put s) next e = absurd (none_some next e)
 value_back (Named w) next e = absurd (none_some next e)
 value_back (Label w) next e = absurd (none_some next e)
 value_back PieceCall next e = absurd (none_some next e)
+value_back (Prompt v) next e = absurd (none_some next e)
 value_back (Text l x) next e = e
 value_back (Place l v) next e = e
 value_back (Control v) next e = e

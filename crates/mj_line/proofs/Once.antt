@@ -1,16 +1,18 @@
 -- No two trees have the same parts.
 use Rattle.std.proofs.Common.{◌≡◌, ℕ, Option, Some, None, List, [], ◌∷◌, ◌++◌, refl, ap, sym, ◌∙◌, subst, Bool, true, false, append_assoc, append-nil, map}
 use Rattle.std.specs.Prelude.{◌&&◌, if◌then◌else◌}
-use Rattle.mj_ast.specs.declared.sign.Sign.TheVariants.{Plus, Minus, Equals, Comma, Colon, Exclamation, Caret, Open, Close}
+use Rattle.mj_ast.specs.declared.sign.Sign.TheVariants.{Plus, Minus, Star, Hash, Equals, Comma, Colon, Exclamation, Question, Caret, Open, Close}
 use Rattle.mj_ast.specs.declared.routine.Mark.{Mark}
-use Rattle.mj_ast.specs.declared.routine.Mark.TheVariants.{NewLine}
+use Rattle.mj_ast.specs.declared.routine.Mark.TheVariants.{NewLine, NewPage}
 use Rattle.mj_ast.specs.declared.keyword.Keyword.TheVariants as keyword
+use Rattle.mj_ast.specs.declared.routine.ReadMode.{ReadMode}
+use Rattle.mj_ast.specs.declared.routine.ReadMode.TheVariants.{Line, Byte}
 use Rattle.mj_ast.specs.declared.routine.LockMode.{LockMode}
 use Rattle.mj_ast.specs.declared.routine.LockMode.TheVariants.{Whole, Plus as Added, Minus as Taken}
-use Rattle.mj_ast.specs.Syntax.{Expr, Exprs, No, More, Variable, Destination, Plain, Pieces, Targets, One, Several, Assignment, Killed, Gone, Spared, Merged, Output, Shown, Format, Command, Target, Called, Jumped, Started, LockNames, Lone, Together, Locked, Range, Single, Endless, UpTo, Renewed, Fresh, Kept, Set, Write, Halt, Hang, Job, Lock, Kill, Merge, If, Else, For, Forever, Do, Goto, Quit, New}
-use Rattle.mj_ast.specs.Commands.{Part, Put, Named, Label, PieceCall, Text, Place, Control, with_commas, behind_commas, more_parts, destination_parts, targets_parts, assignment_parts, mark_part, output_parts, name_parts, killed_parts, merged_parts, value_parts, entry_parts, routine_parts, guard_parts, actual_parts, actuals_parts, called_parts, as_called, jumped_parts, wait_parts, started_parts, mode_parts, variable_parts, lock_names_parts, locked_parts, range_parts, renewed_parts, command_parts, keyword_for, has_items, every, is_output, is_formed}
+use Rattle.mj_ast.specs.Syntax.{Expr, Exprs, No, More, Variable, Destination, Plain, Pieces, Targets, One, Several, Assignment, Killed, Gone, Spared, Merged, Layout, Output, Shown, Format, Coded, Received, Input, Prompted, Arranged, Into, Opened, OpenDevice, UseDevice, CloseDevice, Read, Command, Target, Called, Jumped, Started, LockNames, Lone, Together, Locked, Range, Single, Endless, UpTo, Renewed, Fresh, Kept, Set, Write, Halt, Hang, Job, Lock, Kill, Merge, If, Else, For, Forever, Do, Goto, Quit, New}
+use Rattle.mj_ast.specs.Commands.{Part, Put, Named, Label, PieceCall, Prompt, Text, Place, Control, with_commas, behind_commas, more_parts, destination_parts, targets_parts, assignment_parts, mark_part, column_parts, layout_parts, output_parts, read_mode_parts, input_parts, opened_parts, is_input, name_parts, killed_parts, merged_parts, value_parts, entry_parts, routine_parts, guard_parts, actual_parts, actuals_parts, called_parts, as_called, jumped_parts, wait_parts, started_parts, mode_parts, variable_parts, lock_names_parts, locked_parts, range_parts, renewed_parts, command_parts, keyword_for, has_items, every, is_output, is_formed}
 use Rattle.mj_line.specs.Forms.{Mode, Calls, Jumps, Starts}
-use Rattle.mj_line.proofs.Formed.{first_of, entered_parts, guards_of, entered_cut, entered_some, as_entered, locked_cut, locked_some, renewed_some, assignment_some, killed_some, output_some, IsSome}
+use Rattle.mj_line.proofs.Formed.{first_of, entered_parts, guards_of, entered_cut, entered_some, as_entered, locked_cut, locked_some, renewed_some, assignment_some, killed_some, output_some, input_some, IsSome}
 
 -- ---- heads and tails
 
@@ -157,25 +159,101 @@ assignment_tells x y r s h i e =
     let c = targets_tell x.targets y.targets x.value y.value r s (sym (append_assoc (targets_parts x.targets) (Put Equals ∷ Text 0 x.value ∷ []) r) ∙ e ∙ append_assoc (targets_parts y.targets) (Put Equals ∷ Text 0 y.value ∷ []) s) in
     (assignment_made x y c.0 c.1, c.2)
 
-mark_end : {A : Type 0} (r ps : List Part) → IsTail r → r ≡ Put Exclamation ∷ ps → A
-mark_end r ps h e = absurd (subst IsTail e h)
+-- what may stand behind marks: a column, or what may follow an item
+abbrev IsColumn : List Part → Type 0
+IsColumn [] = Unit {0}
+IsColumn (Put Question ∷ ps) = Unit {0}
+IsColumn (Put Comma ∷ ps) = Unit {0}
+IsColumn (Put Close ∷ ps) = Unit {0}
+IsColumn ps = ⊥
 
-text_end : {A : Type 0} (r ps : List Part) (e : Expr) → IsTail r → r ≡ Text 0 e ∷ ps → A
-text_end r ps x h e = absurd (subst IsTail e h)
+-- what a format, or what follows an item, begins with
+abbrev IsLaid : List Part → Type 0
+IsLaid [] = Unit {0}
+IsLaid (Put Exclamation ∷ ps) = Unit {0}
+IsLaid (Put Hash ∷ ps) = Unit {0}
+IsLaid (Put Question ∷ ps) = Unit {0}
+IsLaid (Put Comma ∷ ps) = Unit {0}
+IsLaid (Put Close ∷ ps) = Unit {0}
+IsLaid ps = ⊥
 
-marks_tell : (ms ns : List Mark) (r s : List Part) → IsTail r → IsTail s → map mark_part ms ++ r ≡ map mark_part ns ++ s → Same ms ns r s
+tail_column : (r : List Part) → IsTail r → IsColumn r
+tail_column [] h = tt
+tail_column (Put Comma ∷ ps) h = tt
+tail_column (Put Close ∷ ps) h = tt
+tail_column (p ∷ ps) h = absurd h
+
+column_column : (c : Option Expr) (r : List Part) → IsTail r → IsColumn (column_parts c ++ r)
+column_column None r h = tail_column r h
+column_column (Some e) r h = tt
+
+column_laid : (r : List Part) → IsColumn r → IsLaid r
+column_laid [] h = tt
+column_laid (Put Question ∷ ps) h = tt
+column_laid (Put Comma ∷ ps) h = tt
+column_laid (Put Close ∷ ps) h = tt
+column_laid (p ∷ ps) h = absurd h
+
+marks_laid : (ms : List Mark) (r : List Part) → IsColumn r → IsLaid (map mark_part ms ++ r)
+marks_laid [] r h = column_laid r h
+marks_laid (NewLine ∷ ms) r h = tt
+marks_laid (NewPage ∷ ms) r h = tt
+
+layout_cut : (l : Layout) (r : List Part) → layout_parts l ++ r ≡ map mark_part l.marks ++ (column_parts l.column ++ r)
+layout_cut l r = append_assoc (map mark_part l.marks) (column_parts l.column) r
+
+layout_laid : (l : Layout) (r : List Part) → IsTail r → IsLaid (layout_parts l ++ r)
+layout_laid l r h = subst IsLaid (sym (layout_cut l r)) (marks_laid l.marks (column_parts l.column ++ r) (column_column l.column r h))
+
+mark_end : {A : Type 0} (r ps : List Part) → IsColumn r → r ≡ Put Exclamation ∷ ps → A
+mark_end r ps h e = absurd (subst IsColumn e h)
+
+page_end : {A : Type 0} (r ps : List Part) → IsColumn r → r ≡ Put Hash ∷ ps → A
+page_end r ps h e = absurd (subst IsColumn e h)
+
+marks_tell : (ms ns : List Mark) (r s : List Part) → IsColumn r → IsColumn s → map mark_part ms ++ r ≡ map mark_part ns ++ s → Same ms ns r s
 marks_tell [] [] r s h i e = (refl, e)
 marks_tell [] (NewLine ∷ ns) r s h i e = mark_end r _ h e
+marks_tell [] (NewPage ∷ ns) r s h i e = page_end r _ h e
 marks_tell (NewLine ∷ ms) [] r s h i e = mark_end s _ i (sym e)
+marks_tell (NewPage ∷ ms) [] r s h i e = page_end s _ i (sym e)
 marks_tell (NewLine ∷ ms) (NewLine ∷ ns) r s h i e = let a = marks_tell ms ns r s h i (tail_same e) in (ap (λ (zs : List Mark). NewLine ∷ zs) a.0, a.1)
+marks_tell (NewLine ∷ ms) (NewPage ∷ ns) r s h i e = absurd (let f : Put Exclamation ∷ (map mark_part ms ++ r) ≡ Put Hash ∷ (map mark_part ns ++ s) = e in cc)
+marks_tell (NewPage ∷ ms) (NewLine ∷ ns) r s h i e = absurd (let f : Put Hash ∷ (map mark_part ms ++ r) ≡ Put Exclamation ∷ (map mark_part ns ++ s) = e in cc)
+marks_tell (NewPage ∷ ms) (NewPage ∷ ns) r s h i e = let a = marks_tell ms ns r s h i (tail_same e) in (ap (λ (zs : List Mark). NewPage ∷ zs) a.0, a.1)
+
+question_tail : {A : Type 0} (r ps : List Part) → IsTail r → r ≡ Put Question ∷ ps → A
+question_tail r ps h e = absurd (subst IsTail e h)
+
+column_tells : (c d : Option Expr) (r s : List Part) → IsTail r → IsTail s → column_parts c ++ r ≡ column_parts d ++ s → Same c d r s
+column_tells None None r s h i e = (refl, e)
+column_tells None (Some y) r s h i e = question_tail r _ h e
+column_tells (Some x) None r s h i e = question_tail s _ i (sym e)
+column_tells (Some x) (Some y) r s h i e = let f = tail_same e in (ap (λ (z : Expr). Some z) (text_same f), tail_same f)
+
+layout_made : (a b : Layout) → a.marks ≡ b.marks → a.column ≡ b.column → a ≡ b
+layout_made a b e f = ap (λ (ms : List Mark). let l : Layout = record { marks = ms; column = a.column } in l) e ∙ ap (λ (c : Option Expr). let l : Layout = record { marks = b.marks; column = c } in l) f
+
+layout_tells : Tells layout_parts
+layout_tells x y r s h i e =
+    let a = marks_tell x.marks y.marks (column_parts x.column ++ r) (column_parts y.column ++ s) (column_column x.column r h) (column_column y.column s i) (sym (layout_cut x r) ∙ e ∙ layout_cut y s) in
+    let c = column_tells x.column y.column r s h i a.1 in
+    (layout_made x y a.0 c.0, c.1)
+
+-- what is no format
+unlaid : {A : Type 0} (ps qs : List Part) → (IsLaid ps → ⊥) → IsLaid qs → ps ≡ qs → A
+unlaid ps qs n h e = absurd (n (subst IsLaid (sym e) h))
 
 output_tells : Tells output_parts
 output_tells (Shown a) (Shown b) r s h i e = (ap Shown (text_same e), tail_same e)
-output_tells (Shown a) (Format []) r s h i e = text_end s r a i (sym e)
-output_tells (Shown a) (Format (NewLine ∷ ns)) r s h i e = absurd (let f : Text 0 a ∷ r ≡ Put Exclamation ∷ _ = e in cc)
-output_tells (Format []) (Shown b) r s h i e = text_end r s b h e
-output_tells (Format (NewLine ∷ ms)) (Shown b) r s h i e = absurd (let f : Put Exclamation ∷ _ ≡ Text 0 b ∷ s = e in cc)
-output_tells (Format ms) (Format ns) r s h i e = let a = marks_tell ms ns r s h i e in (ap Format a.0, a.1)
+output_tells (Shown a) (Format l) r s h i e = unlaid (Text 0 a ∷ r) (layout_parts l ++ s) (λ z. z) (layout_laid l s i) e
+output_tells (Shown a) (Coded b) r s h i e = absurd (let f : Text 0 a ∷ r ≡ Put Star ∷ Text 0 b ∷ s = e in cc)
+output_tells (Format l) (Shown b) r s h i e = unlaid (Text 0 b ∷ s) (layout_parts l ++ r) (λ z. z) (layout_laid l r h) (sym e)
+output_tells (Format l) (Format k) r s h i e = let a = layout_tells l k r s h i e in (ap Format a.0, a.1)
+output_tells (Format l) (Coded b) r s h i e = unlaid (Put Star ∷ Text 0 b ∷ s) (layout_parts l ++ r) (λ z. z) (layout_laid l r h) (sym e)
+output_tells (Coded a) (Shown b) r s h i e = absurd (let f : Put Star ∷ Text 0 a ∷ r ≡ Text 0 b ∷ s = e in cc)
+output_tells (Coded a) (Format l) r s h i e = unlaid (Put Star ∷ Text 0 a ∷ r) (layout_parts l ++ s) (λ z. z) (layout_laid l s i) e
+output_tells (Coded a) (Coded b) r s h i e = let f = tail_same e in (ap Coded (text_same f), tail_same f)
 
 names_tell : (ws vs : List (List ℕ)) (r s : List Part) → with_commas name_parts ws ++ Put Close ∷ r ≡ with_commas name_parts vs ++ Put Close ∷ s → Same ws vs r s
 names_tell [] [] r s e = (refl, tail_same e)
@@ -412,6 +490,70 @@ locked_tells x y r s h i e =
     let c = guard_tells x.timeout y.timeout r s h i a.2 in
     (locked_made x y a.0 a.1 c.0, c.1)
 
+-- ---- what is read, and devices
+
+prompt_same : {a b : List ℕ} {ps qs : List Part} → Prompt a ∷ ps ≡ Prompt b ∷ qs → a ≡ b
+prompt_same e = cc
+
+-- what is read begins with a variable or a `*`
+abbrev IsTaken : List Part → Type 0
+IsTaken (Place l v ∷ ps) = Unit {0}
+IsTaken (Put Star ∷ ps) = Unit {0}
+IsTaken ps = ⊥
+
+abbrev taken_parts : ReadMode → Variable → Option Expr → List Part
+taken_parts mode v c = read_mode_parts mode ++ Place 0 v ∷ guard_parts c
+
+is_taken : (mode : ReadMode) (v : Variable) (c : Option Expr) (r : List Part) → IsTaken (taken_parts mode v c ++ r)
+is_taken Line v c r = tt
+is_taken Byte v c r = tt
+
+untaken : {A : Type 0} (ps qs : List Part) → (IsTaken ps → ⊥) → IsTaken qs → ps ≡ qs → A
+untaken ps qs n h e = absurd (n (subst IsTaken (sym e) h))
+
+laid_untaken : (ps : List Part) → IsLaid ps → IsTaken ps → ⊥
+laid_untaken [] h i = i
+laid_untaken (Put Star ∷ ps) h i = h
+laid_untaken (Place l v ∷ ps) h i = h
+laid_untaken (p ∷ ps) h i = i
+
+-- a variable and a timeout tell which they are
+timed_tell : (v w : Variable) (c d : Option Expr) (r s : List Part) → IsTail r → IsTail s → Place 0 v ∷ (guard_parts c ++ r) ≡ Place 0 w ∷ (guard_parts d ++ s) → (v ≡ w) × (c ≡ d) × (r ≡ s)
+timed_tell v w c d r s h i e = let a = guard_tells c d r s h i (tail_same e) in (place_same e, a.0, a.1)
+
+taken_tell : (m n : ReadMode) (v w : Variable) (c d : Option Expr) (r s : List Part) → IsTail r → IsTail s → taken_parts m v c ++ r ≡ taken_parts n w d ++ s → (m ≡ n) × (v ≡ w) × (c ≡ d) × (r ≡ s)
+taken_tell Line Line v w c d r s h i e = let a = timed_tell v w c d r s h i e in (refl, a.0, a.1, a.2)
+taken_tell Line Byte v w c d r s h i e = absurd (let f : Place 0 v ∷ (guard_parts c ++ r) ≡ Put Star ∷ Place 0 w ∷ (guard_parts d ++ s) = e in cc)
+taken_tell Byte Line v w c d r s h i e = absurd (let f : Put Star ∷ Place 0 v ∷ (guard_parts c ++ r) ≡ Place 0 w ∷ (guard_parts d ++ s) = e in cc)
+taken_tell Byte Byte v w c d r s h i e = let a = timed_tell v w c d r s h i (tail_same e) in (refl, a.0, a.1, a.2)
+
+received_made : (a b : Received) → a.mode ≡ b.mode → a.variable ≡ b.variable → a.timeout ≡ b.timeout → a ≡ b
+received_made a b e f g =
+    ap (λ (m : ReadMode). let c : Received = record { mode = m; variable = a.variable; timeout = a.timeout } in c) e
+    ∙ ap (λ (v : Variable). let c : Received = record { mode = b.mode; variable = v; timeout = a.timeout } in c) f
+    ∙ ap (λ (x : Option Expr). let c : Received = record { mode = b.mode; variable = b.variable; timeout = x } in c) g
+
+input_tells : Tells input_parts
+input_tells (Prompted v) (Prompted w) r s h i e = (ap Prompted (prompt_same e), tail_same e)
+input_tells (Prompted v) (Arranged l) r s h i e = unlaid (Prompt v ∷ r) (layout_parts l ++ s) (λ z. z) (layout_laid l s i) e
+input_tells (Prompted v) (Into y) r s h i e = untaken (Prompt v ∷ r) (taken_parts y.mode y.variable y.timeout ++ s) (λ z. z) (is_taken y.mode y.variable y.timeout s) e
+input_tells (Arranged l) (Prompted w) r s h i e = unlaid (Prompt w ∷ s) (layout_parts l ++ r) (λ z. z) (layout_laid l r h) (sym e)
+input_tells (Arranged l) (Arranged k) r s h i e = let a = layout_tells l k r s h i e in (ap Arranged a.0, a.1)
+input_tells (Arranged l) (Into y) r s h i e = untaken (layout_parts l ++ r) (taken_parts y.mode y.variable y.timeout ++ s) (laid_untaken (layout_parts l ++ r) (layout_laid l r h)) (is_taken y.mode y.variable y.timeout s) e
+input_tells (Into x) (Prompted w) r s h i e = untaken (Prompt w ∷ s) (taken_parts x.mode x.variable x.timeout ++ r) (λ z. z) (is_taken x.mode x.variable x.timeout r) (sym e)
+input_tells (Into x) (Arranged k) r s h i e = untaken (layout_parts k ++ s) (taken_parts x.mode x.variable x.timeout ++ r) (laid_untaken (layout_parts k ++ s) (layout_laid k s i)) (is_taken x.mode x.variable x.timeout r) (sym e)
+input_tells (Into x) (Into y) r s h i e =
+    let a = taken_tell x.mode y.mode x.variable y.variable x.timeout y.timeout r s h i e in
+    (ap Into (received_made x y a.0 a.1 a.2), a.3)
+
+opened_made : (a b : Opened) → a.device ≡ b.device → a.timeout ≡ b.timeout → a ≡ b
+opened_made a b e f = ap (λ (x : Expr). let o : Opened = record { device = x; timeout = a.timeout } in o) e ∙ ap (λ (c : Option Expr). let o : Opened = record { device = b.device; timeout = c } in o) f
+
+opened_tells : Tells opened_parts
+opened_tells x y r s h i e =
+    let a = wait_tells x.timeout y.timeout r s h i (tail_same e) in
+    (opened_made x y (text_same e) a.0, a.1)
+
 -- ---- commands
 
 nil_some : {A : Type 0} (qs : List Part) → IsSome qs → [] ≡ qs → A
@@ -444,6 +586,11 @@ writes_tell [] ys h e = absurd (let f : false ≡ true = h in cc)
 writes_tell (x ∷ xs) [] h e = nil_some _ (output_some x (behind_commas output_parts xs) (first_of (is_output x) (every is_output xs) h)) (sym e)
 writes_tell (x ∷ xs) (y ∷ ys) h e = whole_tells output_parts output_tells x y xs ys e
 
+reads_tell : (xs ys : List Input) → has_items xs && every is_input xs ≡ true → with_commas input_parts xs ≡ with_commas input_parts ys → xs ≡ ys
+reads_tell [] ys h e = absurd (let f : false ≡ true = h in cc)
+reads_tell (x ∷ xs) [] h e = nil_some _ (input_some x (behind_commas input_parts xs) (first_of (is_input x) (every is_input xs) h)) (sym e)
+reads_tell (x ∷ xs) (y ∷ ys) h e = whole_tells input_parts input_tells x y xs ys e
+
 -- items that have parts each
 abbrev AllSome : {A : Type 0} → (A → List Part) → Type 0
 AllSome {A = A} parts = (x : A) (rest : List Part) → IsSome (parts x ++ rest)
@@ -456,6 +603,9 @@ lists_tell parts t n (x ∷ xs) (y ∷ ys) e = whole_tells parts t x y xs ys e
 
 value_some : AllSome value_parts
 value_some x rest = (Text 0 x, rest, refl)
+
+opened_some : AllSome opened_parts
+opened_some x rest = (Text 0 x.device, _, refl)
 
 jumped_some : AllSome jumped_parts
 jumped_some x rest = entered_some Jumps (as_called x) rest
@@ -541,6 +691,22 @@ new_once : (xs : List Renewed) (d : Command) → keyword.New ≡ keyword_for d �
 new_once xs (New ys) k e = ap New (lists_tell renewed_parts renewed_tells renewed_some xs ys e)
 new_once xs d k e = absurd (let z : keyword.New ≡ keyword_for d = k in cc)
 
+open_once : (xs : List Opened) (d : Command) → keyword.Open ≡ keyword_for d → with_commas opened_parts xs ≡ command_parts d → OpenDevice xs ≡ d
+open_once xs (OpenDevice ys) k e = ap OpenDevice (lists_tell opened_parts opened_tells opened_some xs ys e)
+open_once xs d k e = absurd (let z : keyword.Open ≡ keyword_for d = k in cc)
+
+use_once : (xs : List Expr) (d : Command) → keyword.Use ≡ keyword_for d → with_commas value_parts xs ≡ command_parts d → UseDevice xs ≡ d
+use_once xs (UseDevice ys) k e = ap UseDevice (lists_tell value_parts value_tells value_some xs ys e)
+use_once xs d k e = absurd (let z : keyword.Use ≡ keyword_for d = k in cc)
+
+close_once : (xs : List Expr) (d : Command) → keyword.Close ≡ keyword_for d → with_commas value_parts xs ≡ command_parts d → CloseDevice xs ≡ d
+close_once xs (CloseDevice ys) k e = ap CloseDevice (lists_tell value_parts value_tells value_some xs ys e)
+close_once xs d k e = absurd (let z : keyword.Close ≡ keyword_for d = k in cc)
+
+read_once : (xs : List Input) (d : Command) → has_items xs && every is_input xs ≡ true → keyword.Read ≡ keyword_for d → with_commas input_parts xs ≡ command_parts d → Read xs ≡ d
+read_once xs (Read ys) f k e = ap Read (reads_tell xs ys f e)
+read_once xs d f k e = absurd (let z : keyword.Read ≡ keyword_for d = k in cc)
+
 -- ONCE
 pub command_once : (c d : Command) → is_formed c ≡ true → keyword_for c ≡ keyword_for d → command_parts c ≡ command_parts d → c ≡ d
 command_once (Set xs) d f k e = set_once xs d k e
@@ -559,3 +725,7 @@ command_once (Do xs) d f k e = do_once xs d k e
 command_once (Goto xs) d f k e = goto_once xs d k e
 command_once Quit d f k e = quit_once d k
 command_once (New xs) d f k e = new_once xs d k e
+command_once (OpenDevice xs) d f k e = open_once xs d k e
+command_once (UseDevice xs) d f k e = use_once xs d k e
+command_once (CloseDevice xs) d f k e = close_once xs d k e
+command_once (Read xs) d f k e = read_once xs d f k e

@@ -1,17 +1,16 @@
 -- What stands from each place of the table on, in the words of trees, and how a part goes before it.
 use Rattle.std.proofs.Common.{◌≡◌, ℕ, ◌≤◌, nat_le, List, [], ◌∷◌, ◌++◌, refl, ap, sym, ◌∙◌, subst, Bool, true, false, append_assoc, arith, Option, Some, None, map, ◌⊎◌}
-use Rattle.std.specs.Prelude.{◌&&◌}
+use Rattle.std.specs.Prelude.{◌&&◌, ◌||◌}
 use Rattle.std.proofs.lemmas.Bool.Decides.{nat_tests}
-use Rattle.mj_ast.specs.declared.sign.Sign.TheVariants.{Plus, Minus, Equals, Comma, Colon, Open, Close}
+use Rattle.mj_ast.specs.declared.sign.Sign.TheVariants.{Equals, Comma, Colon, Open, Close}
 use Rattle.mj_ast.specs.declared.routine.Mark.{Mark}
 use Rattle.mj_ast.specs.declared.routine.LockMode.{LockMode}
-use Rattle.mj_ast.specs.declared.routine.LockMode.TheVariants.{Whole, Plus as Added, Minus as Taken}
-use Rattle.mj_ast.specs.Syntax.{Expr, Exprs, Variable, Destination, Plain, Pieces, Targets, One, Several, Assignment, Killed, Spared, Merged, Output, Called, Locked, LockNames, Lone, Together, Range, Renewed, Kept}
+use Rattle.mj_ast.specs.Syntax.{Expr, Exprs, Variable, Destination, Plain, Pieces, Targets, One, Several, Assignment, Killed, Spared, Merged, Layout, Format, Arranged, Opened, Called, Locked, LockNames, Lone, Together, Range, Renewed, Kept}
 use Rattle.mj_ast.specs.Expressions.{count}
-use Rattle.mj_ast.specs.Commands.{Part, Put, Named, PieceCall, Text, Place, Control, with_commas, behind_commas, value_parts, routine_parts, entry_parts, guard_parts, actual_parts, actuals_parts, mode_parts, variable_parts, lock_names_parts, locked_parts, range_parts, renewed_parts, is_local, is_bare, is_entry, is_called, are_lock_names, is_locked, is_renewed, more_parts, destination_parts, targets_parts, assignment_parts, mark_part, output_parts, name_parts, killed_parts, merged_parts, has_items, every, is_destination, are_targets, is_assignment, is_output, is_killed}
-use Rattle.mj_line.specs.Forms.{Mode, Calls, Jumps, Starts, colon_at, is_optional, Node, SetTarget, PieceOpens, PieceVariable, PieceComma, PieceText, PieceBehind, SetBehind, SetValue, SetEnd, OutputWanted, OutputEnd, MarksEnd, KillWanted, NameWanted, NameBehind, KillEnd, MergeInto, MergeBehind, MergeFrom, MergeEnd, ValueWanted, ValueEnd, ForWanted, ForBehind, RangeWanted, RangeEnd, StepWanted, StepEnd, LimitWanted, LimitEnd, NewWanted, KeptWanted, KeptBehind, NewEnd, EntryWanted, LabelEnd, RoutineWanted, RoutineEnd, ActualWanted, ActualEnd, ActualsEnd, WaitColon, GuardWanted, GuardEnd, LockWanted, LockSigned, LockListed, LockBehind, LockNamed, LockTimed, LockEnd, AnExpr, AVar, ALocal}
+use Rattle.mj_ast.specs.Commands.{Part, Put, Named, PieceCall, Text, Place, Control, with_commas, behind_commas, value_parts, routine_parts, entry_parts, guard_parts, actual_parts, actuals_parts, mode_parts, variable_parts, lock_names_parts, locked_parts, range_parts, renewed_parts, is_local, is_bare, is_entry, is_called, are_lock_names, is_locked, is_renewed, more_parts, destination_parts, targets_parts, assignment_parts, mark_part, column_parts, layout_parts, wait_parts, opened_parts, name_parts, killed_parts, merged_parts, has_items, every, is_destination, are_targets, is_assignment, is_there, is_layout, is_killed}
+use Rattle.mj_line.specs.Forms.{Mode, Calls, Jumps, Starts, colon_at, is_optional, Node, SetTarget, PieceOpens, PieceVariable, PieceComma, PieceText, PieceBehind, SetBehind, SetValue, SetEnd, Talk, Writes, Reads, OutputWanted, OutputEnd, MarksEnd, ColumnWanted, CodeWanted, IntoWanted, IntoEnd, IntoTimed, DeviceWanted, DeviceEnd, DeviceColon, DeviceTimed, DeviceWaited, KillWanted, NameWanted, NameBehind, KillEnd, MergeInto, MergeBehind, MergeFrom, MergeEnd, ValueWanted, ValueEnd, ForWanted, ForBehind, RangeWanted, RangeEnd, StepWanted, StepEnd, LimitWanted, LimitEnd, NewWanted, KeptWanted, KeptBehind, NewEnd, EntryWanted, LabelEnd, RoutineWanted, RoutineEnd, ActualWanted, ActualEnd, ActualsEnd, WaitColon, GuardWanted, GuardEnd, LockWanted, LockSigned, LockListed, LockBehind, LockNamed, LockTimed, LockEnd, AnExpr, AVar, ALocal}
 use Rattle.mj_line.proofs.Tables.{some_same}
-use Rattle.mj_line.proofs.Formed.{Plainly, PlainOne, entered_parts, guards_of, entered_cut, bare_guard, locked_cut, three}
+use Rattle.mj_line.proofs.Formed.{Speech, speech_parts, is_speech, Plainly, PlainOne, entered_parts, guards_of, entered_cut, bare_guard, locked_cut, three}
 
 -- ---- tests
 
@@ -112,9 +111,19 @@ Shape (PieceBehind listed more) ps = (es : Exprs) × (rest : List Part) × (more
 Shape (SetBehind listed) ps = After listed ps
 Shape SetValue ps = (e : Expr) × (list : List Assignment) × (Text 0 e ∷ behind_commas assignment_parts list ≡ ps) × (every is_assignment list ≡ true)
 Shape SetEnd ps = (list : List Assignment) × (behind_commas assignment_parts list ≡ ps) × (every is_assignment list ≡ true)
-Shape OutputWanted ps = (x : Output) × (xs : List Output) × (output_parts x ++ behind_commas output_parts xs ≡ ps) × (is_output x ≡ true) × (every is_output xs ≡ true)
-Shape OutputEnd ps = (xs : List Output) × (behind_commas output_parts xs ≡ ps) × (every is_output xs ≡ true)
-Shape MarksEnd ps = (marks : List Mark) × (xs : List Output) × (map mark_part marks ++ behind_commas output_parts xs ≡ ps) × (every is_output xs ≡ true)
+Shape (OutputWanted talk) ps = (x : Speech talk) × (xs : List (Speech talk)) × (speech_parts talk x ++ behind_commas (speech_parts talk) xs ≡ ps) × (is_speech talk x ≡ true) × (every (is_speech talk) xs ≡ true)
+Shape (OutputEnd talk) ps = (xs : List (Speech talk)) × (behind_commas (speech_parts talk) xs ≡ ps) × (every (is_speech talk) xs ≡ true)
+Shape (MarksEnd talk) ps = (marks : List Mark) × (column : Option Expr) × (xs : List (Speech talk)) × (map mark_part marks ++ (column_parts column ++ behind_commas (speech_parts talk) xs) ≡ ps) × (every (is_speech talk) xs ≡ true)
+Shape (ColumnWanted talk) ps = (e : Expr) × (xs : List (Speech talk)) × (Text 0 e ∷ behind_commas (speech_parts talk) xs ≡ ps) × (every (is_speech talk) xs ≡ true)
+Shape CodeWanted ps = (e : Expr) × (xs : List (Speech Writes)) × (Text 0 e ∷ behind_commas (speech_parts Writes) xs ≡ ps) × (every (is_speech Writes) xs ≡ true)
+Shape IntoWanted ps = (v : Variable) × (c : Option Expr) × (xs : List (Speech Reads)) × (Place 0 v ∷ (guard_parts c ++ behind_commas (speech_parts Reads) xs) ≡ ps) × (every (is_speech Reads) xs ≡ true)
+Shape IntoEnd ps = (c : Option Expr) × (xs : List (Speech Reads)) × (guard_parts c ++ behind_commas (speech_parts Reads) xs ≡ ps) × (every (is_speech Reads) xs ≡ true)
+Shape IntoTimed ps = (e : Expr) × (xs : List (Speech Reads)) × (Text 0 e ∷ behind_commas (speech_parts Reads) xs ≡ ps) × (every (is_speech Reads) xs ≡ true)
+Shape DeviceWanted ps = (x : Opened) × (xs : List Opened) × (opened_parts x ++ behind_commas opened_parts xs ≡ ps)
+Shape DeviceEnd ps = (c : Option Expr) × (xs : List Opened) × (wait_parts c ++ behind_commas opened_parts xs ≡ ps)
+Shape DeviceColon ps = (e : Expr) × (xs : List Opened) × (Put Colon ∷ Text 0 e ∷ behind_commas opened_parts xs ≡ ps)
+Shape DeviceTimed ps = (e : Expr) × (xs : List Opened) × (Text 0 e ∷ behind_commas opened_parts xs ≡ ps)
+Shape DeviceWaited ps = (xs : List Opened) × (behind_commas opened_parts xs ≡ ps)
 Shape (KillWanted first) ps = (xs : List Killed) × (with_commas killed_parts xs ≡ ps) × (every is_killed xs ≡ true) × (first ≡ false → has_items xs ≡ true)
 Shape NameWanted ps = (w : List ℕ) × (ws : List (List ℕ)) × (xs : List Killed) × (Named w ∷ (behind_commas name_parts ws ++ (Put Close ∷ behind_commas killed_parts xs)) ≡ ps) × (every is_killed xs ≡ true)
 Shape NameBehind ps = (ws : List (List ℕ)) × (xs : List Killed) × (behind_commas name_parts ws ++ (Put Close ∷ behind_commas killed_parts xs) ≡ ps) × (every is_killed xs ≡ true)
@@ -266,6 +275,27 @@ next_item parts ps (x ∷ xs) e h = before (Put Comma) (parts x ++ behind_commas
 
 pub kept_at : (w : List ℕ) (ws : List (List ℕ)) (rest ps : List Part) → Named w ∷ (behind_commas name_parts ws ++ (Put Close ∷ rest)) ≡ ps → renewed_parts (Kept (w ∷ ws)) ++ rest ≡ Put Open ∷ ps
 kept_at w ws rest ps e = spared_at w ws rest ps e
+
+-- ---- formats
+
+-- a format as an argument
+abbrev arranged : (talk : Talk) → Layout → Speech talk
+arranged Writes l = Format l
+arranged Reads l = Arranged l
+
+arranged_parts : (talk : Talk) (l : Layout) → speech_parts talk (arranged talk l) ≡ layout_parts l
+arranged_parts Writes l = refl
+arranged_parts Reads l = refl
+
+arranged_right : (talk : Talk) (l : Layout) → is_speech talk (arranged talk l) ≡ is_layout l
+arranged_right Writes l = refl
+arranged_right Reads l = refl
+
+pub format_at : (talk : Talk) (marks : List Mark) (column : Option Expr) (xs : List (Speech talk)) (ps : List Part) → map mark_part marks ++ (column_parts column ++ behind_commas (speech_parts talk) xs) ≡ ps → has_items marks || is_there column ≡ true → every (is_speech talk) xs ≡ true → Shape (OutputWanted talk) ps
+format_at talk marks column xs ps e h f =
+    let l : Layout = record { marks = marks; column = column } in
+    let rest = behind_commas (speech_parts talk) xs in
+    (arranged talk l, xs, ap (λ (zs : List Part). zs ++ rest) (arranged_parts talk l) ∙ append_assoc (map mark_part marks) (column_parts column) rest ∙ e, arranged_right talk l ∙ h, f)
 
 -- ---- calls and jumps
 

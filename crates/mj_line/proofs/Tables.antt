@@ -1,10 +1,10 @@
 -- What is known of the table of arguments, each fact by a look at every row.
-use Rattle.std.proofs.Common.{◌≡◌, ℕ, zero, suc, ◌≤◌, nat_le, List, [], ◌∷◌, length, refl, sym, ◌∙◌, subst, Bool, true, false, arith, Option, Some, None, ◌⊎◌, inl, inr, lit≤}
+use Rattle.std.proofs.Common.{◌≡◌, ℕ, zero, suc, ◌≤◌, nat_le, List, [], ◌∷◌, length, refl, ap, sym, ◌∙◌, subst, Bool, true, false, arith, Option, Some, None, ◌⊎◌, inl, inr, lit≤}
 use Rattle.std.specs.Prelude.{cond}
 use Rattle.std.proofs.lemmas.Bool.Decides.{nat_tests}
 use Rattle.std.specs.Fmt.{digits}
 use Rattle.mj_ast.specs.declared.sign.Sign.{Sign}
-use Rattle.mj_ast.specs.declared.sign.Sign.TheVariants.{Plus, Minus, Equals, Comma, Colon, Exclamation, Open, Close}
+use Rattle.mj_ast.specs.declared.sign.Sign.TheVariants.{Plus, Minus, Star, Hash, Equals, Comma, Colon, Exclamation, Question, Open, Close}
 use Rattle.mj_ast.specs.declared.expr.Scope.TheVariants.{Local}
 use Rattle.mj_ast.specs.declared.function.Function.TheVariants.{Piece}
 use Rattle.mj_ast.specs.declared.function.Callee.{Callee}
@@ -13,11 +13,11 @@ use Rattle.mj_ast.specs.declared.keyword.Verb.{Verb}
 use Rattle.mj_ast.specs.declared.keyword.Keyword.TheVariants as keyword
 use Rattle.mj_ast.specs.declared.keyword.Verb.TheVariants.{Of, HaltOrHang}
 use Rattle.mj_ast.specs.Syntax.{Expr, Chain, Done, Literal, Variable, Var, No}
-use Rattle.mj_ast.specs.Tokens.{Token, Word, Called, Digits, Signed}
-use Rattle.mj_ast.specs.Expressions.{symbol, function_symbol, callee_of, Overlong, Mark, Spells, expressions}
-use Rattle.mj_ast.specs.Commands.{bare_of, meant, is_conditional, IsConditional, Part, Put, Named, Label, PieceCall, Text, Place, Control, SpellsPart, SpellsParts, greatest, part_nesting, part_width}
+use Rattle.mj_ast.specs.Tokens.{Token, Word, Called, Digits, Quoted, Signed}
+use Rattle.mj_ast.specs.Expressions.{Constant, Other, symbol, function_symbol, callee_of, Overlong, Mark, Spells, expressions}
+use Rattle.mj_ast.specs.Commands.{bare_of, meant, is_conditional, IsConditional, Part, Put, Named, Label, PieceCall, Prompt, Text, Place, Control, SpellsPart, SpellsParts, greatest, part_nesting, part_width}
 use Rattle.mj_expr.specs.Machine as phrase
-use Rattle.mj_line.specs.Forms.{Mode, Starts, Node, SetTarget, PieceOpens, PieceVariable, PieceComma, PieceText, PieceBehind, SetBehind, SetValue, SetEnd, OutputWanted, OutputEnd, MarksEnd, KillWanted, NameWanted, NameBehind, KillEnd, MergeInto, MergeBehind, MergeFrom, MergeEnd, ValueWanted, ValueEnd, ForWanted, ForBehind, RangeWanted, RangeEnd, StepWanted, StepEnd, LimitWanted, LimitEnd, NewWanted, KeptWanted, KeptBehind, NewEnd, EntryWanted, LabelEnd, RoutineWanted, RoutineEnd, ActualWanted, ActualEnd, ActualsEnd, WaitColon, GuardWanted, GuardEnd, LockWanted, LockSigned, LockListed, LockBehind, LockNamed, LockTimed, LockEnd, Want, AnExpr, AVar, ALocal, next_of, piece_part, part_of, part_at, labels, takes, wants, ends, first_node, may_be_bare, Goes, Fits}
+use Rattle.mj_line.specs.Forms.{Mode, Starts, Node, SetTarget, PieceOpens, PieceVariable, PieceComma, PieceText, PieceBehind, SetBehind, SetValue, SetEnd, Talk, Writes, Reads, OutputWanted, OutputEnd, MarksEnd, ColumnWanted, CodeWanted, IntoWanted, IntoEnd, IntoTimed, DeviceWanted, DeviceEnd, DeviceColon, DeviceTimed, DeviceWaited, KillWanted, NameWanted, NameBehind, KillEnd, MergeInto, MergeBehind, MergeFrom, MergeEnd, ValueWanted, ValueEnd, ForWanted, ForBehind, RangeWanted, RangeEnd, StepWanted, StepEnd, LimitWanted, LimitEnd, NewWanted, KeptWanted, KeptBehind, NewEnd, EntryWanted, LabelEnd, RoutineWanted, RoutineEnd, ActualWanted, ActualEnd, ActualsEnd, WaitColon, GuardWanted, GuardEnd, LockWanted, LockSigned, LockListed, LockBehind, LockNamed, LockTimed, LockEnd, Want, AnExpr, AVar, ALocal, next_of, piece_part, part_of, part_at, labels, takes, wants, ends, first_node, may_be_bare, Goes, Fits}
 use Rattle.mj_line.specs.Machine.{wanted, level_of}
 
 pub none_some : {A : Type 0} (x : A) → None ≡ Some x → ⊥
@@ -37,7 +37,14 @@ all_small (SetTarget listed) = omega arith
 all_small (PieceVariable listed) = omega arith
 all_small (PieceText listed more) = omega arith
 all_small SetValue = omega arith
-all_small OutputWanted = omega arith
+all_small (OutputWanted Writes) = omega arith
+all_small (OutputWanted Reads) = omega arith
+all_small (ColumnWanted talk) = omega arith
+all_small CodeWanted = omega arith
+all_small IntoWanted = omega arith
+all_small IntoTimed = omega arith
+all_small DeviceWanted = omega arith
+all_small DeviceTimed = omega arith
 all_small (KillWanted first) = omega arith
 all_small MergeInto = omega arith
 all_small MergeFrom = omega arith
@@ -83,6 +90,10 @@ called_alone : (w : List ℕ) (p : Part) (b : Bool) → nat_le (length w) 31 ≡
 called_alone w p true h e = callee_alone w p (callee_of w) (let s : length w ≤ 31 = grind (arith, nat_tests) in s) refl e
 called_alone w p false h e = absurd (none_some p e)
 
+quoted_alone : (v : List ℕ) (p : Part) (b : Bool) → nat_le (length v) 32767 ≡ b → cond b (Some (Prompt v)) None ≡ Some p → Alone (Quoted v) p
+quoted_alone v p true h e = let P : Part → Type 0 = λ q. Alone (Quoted v) q in subst P (some_same (Prompt v) p e) (record { spells = (refl, (let s : length v ≤ 32767 = grind (arith, nat_tests) in s)); token = tt })
+quoted_alone v p false h e = absurd (none_some p e)
+
 pub alone : (t : Token) (p : Part) → part_of t ≡ Some p → Alone t p
 alone (Signed s) p e = let P : Part → Type 0 = λ q. Alone (Signed s) q in subst P (some_same (Put s) p e) (record { spells = refl; token = tt })
 alone (Word w) p e = word_alone w p (nat_le (length w) 31) refl e
@@ -103,6 +114,7 @@ alone_at true (Word w) p e = label_alone w p (nat_le (length w) 31) refl e
 alone_at true (Digits d) p e = digits_alone d p (nat_le (length d) 32767) refl e
 alone_at true (Signed z) p e = alone (Signed z) p e
 alone_at true (Called w) p e = alone (Called w) p e
+alone_at true (Quoted v) p e = quoted_alone v p (nat_le (length v) 32767) refl e
 alone_at true t p e = absurd (none_some p e)
 alone_at false t p e = alone t p e
 
@@ -112,6 +124,7 @@ token_goes n next (Put s) h e = e
 token_goes n next (Named w) h e = e
 token_goes n next (Label w) h e = e
 token_goes n next PieceCall h e = e
+token_goes n next (Prompt v) h e = e
 token_goes n next (Text level x) h e = absurd h
 token_goes n next (Place level v) h e = absurd h
 token_goes n next (Control v) h e = absurd h
@@ -121,6 +134,7 @@ token_nesting (Put s) h = refl
 token_nesting (Named w) h = refl
 token_nesting (Label w) h = refl
 token_nesting PieceCall h = refl
+token_nesting (Prompt v) h = refl
 token_nesting (Text level x) h = absurd h
 token_nesting (Place level v) h = absurd h
 token_nesting (Control v) h = absurd h
@@ -130,6 +144,7 @@ token_width (Put s) h = refl
 token_width (Named w) h = refl
 token_width (Label w) h = refl
 token_width PieceCall h = refl
+token_width (Prompt v) h = refl
 token_width (Text level x) h = absurd h
 token_width (Place level v) h = absurd h
 token_width (Control v) h = absurd h
@@ -157,6 +172,10 @@ all_bare (Of keyword.For) = λ e. refl
 all_bare (Of keyword.Do) = λ e. refl
 all_bare (Of keyword.Goto) = λ e. e
 all_bare (Of keyword.New) = λ e. refl
+all_bare (Of keyword.Open) = λ e. e
+all_bare (Of keyword.Use) = λ e. e
+all_bare (Of keyword.Close) = λ e. e
+all_bare (Of keyword.Read) = λ e. e
 all_bare HaltOrHang = λ e. refl
 all_bare k = refl
 
@@ -194,38 +213,58 @@ label_wanted (SetBehind false) next l e = absurd (none_some next e)
 label_wanted (SetBehind true) next l e = absurd (none_some next e)
 label_wanted n next l e = absurd (none_some next e)
 
+-- and a text in quotes where it may stand alone
+pub prompt_wanted : (n next : Node) (v : List ℕ) → takes n (Prompt v) ≡ Some next → labels n ≡ true
+prompt_wanted (OutputWanted Reads) next v e = refl
+prompt_wanted (OutputWanted Writes) next v e = absurd (none_some next e)
+prompt_wanted (SetTarget false) next v e = absurd (none_some next e)
+prompt_wanted (SetTarget true) next v e = absurd (none_some next e)
+prompt_wanted (PieceBehind listed zero) next v e = absurd (none_some next e)
+prompt_wanted (PieceBehind listed (suc more)) next v e = absurd (none_some next e)
+prompt_wanted (SetBehind false) next v e = absurd (none_some next e)
+prompt_wanted (SetBehind true) next v e = absurd (none_some next e)
+prompt_wanted n next v e = absurd (none_some next e)
+
 pub name_wanted : (n next : Node) (w : List ℕ) → takes n (Named w) ≡ Some next → labels n ≡ false
 name_wanted (EntryWanted mode first) next w e = absurd (none_some next e)
+name_wanted (OutputWanted talk) next w e = absurd (none_some next e)
 name_wanted n next w e = refl
 
--- nor where a phrase is
+-- nor where a phrase is, but for a text in quotes
 abbrev IsUnlabelled : Node → Option Want → Type 0
 IsUnlabelled n None = Unit {0}
-IsUnlabelled n (Some w) = labels n ≡ false
+IsUnlabelled n (Some w) = (labels n ≡ false) ⊎ (n ≡ OutputWanted Reads)
 
 all_unlabelled : (n : Node) → IsUnlabelled n (wants n)
-all_unlabelled (SetTarget listed) = refl
-all_unlabelled (PieceVariable listed) = refl
-all_unlabelled (PieceText listed more) = refl
-all_unlabelled SetValue = refl
-all_unlabelled OutputWanted = refl
-all_unlabelled (KillWanted first) = refl
-all_unlabelled MergeInto = refl
-all_unlabelled MergeFrom = refl
-all_unlabelled (ValueWanted first) = refl
-all_unlabelled ForWanted = refl
-all_unlabelled RangeWanted = refl
-all_unlabelled StepWanted = refl
-all_unlabelled LimitWanted = refl
-all_unlabelled (ActualWanted mode) = refl
-all_unlabelled (GuardWanted mode) = refl
-all_unlabelled (LockWanted first) = refl
-all_unlabelled LockSigned = refl
-all_unlabelled LockListed = refl
-all_unlabelled LockTimed = refl
+all_unlabelled (SetTarget listed) = inl refl
+all_unlabelled (PieceVariable listed) = inl refl
+all_unlabelled (PieceText listed more) = inl refl
+all_unlabelled SetValue = inl refl
+all_unlabelled (OutputWanted Writes) = inl refl
+all_unlabelled (OutputWanted Reads) = inr refl
+all_unlabelled (ColumnWanted talk) = inl refl
+all_unlabelled CodeWanted = inl refl
+all_unlabelled IntoWanted = inl refl
+all_unlabelled IntoTimed = inl refl
+all_unlabelled DeviceWanted = inl refl
+all_unlabelled DeviceTimed = inl refl
+all_unlabelled (KillWanted first) = inl refl
+all_unlabelled MergeInto = inl refl
+all_unlabelled MergeFrom = inl refl
+all_unlabelled (ValueWanted first) = inl refl
+all_unlabelled ForWanted = inl refl
+all_unlabelled RangeWanted = inl refl
+all_unlabelled StepWanted = inl refl
+all_unlabelled LimitWanted = inl refl
+all_unlabelled (ActualWanted mode) = inl refl
+all_unlabelled (GuardWanted mode) = inl refl
+all_unlabelled (LockWanted first) = inl refl
+all_unlabelled LockSigned = inl refl
+all_unlabelled LockListed = inl refl
+all_unlabelled LockTimed = inl refl
 all_unlabelled n = tt
 
-pub unlabelled : (n : Node) (w : Want) → wants n ≡ Some w → labels n ≡ false
+pub unlabelled : (n : Node) (w : Want) → wants n ≡ Some w → (labels n ≡ false) ⊎ (n ≡ OutputWanted Reads)
 unlabelled n w e = let P : Option Want → Type 0 = λ q. IsUnlabelled n q in subst P e (all_unlabelled n)
 
 -- ---- what follows a phrase
@@ -262,10 +301,27 @@ set_follows (Put Comma) m e = tt
 set_follows (Control v) m e = absurd (none_some _ e.0)
 set_follows p m e = absurd (none_some _ e)
 
-output_follows : (p : Part) (m : Node) → Goes OutputEnd p m → FollowsText p
-output_follows (Put Comma) m e = tt
-output_follows (Control v) m e = absurd (none_some _ e.0)
-output_follows p m e = absurd (none_some _ e)
+output_follows : (talk : Talk) (p : Part) (m : Node) → Goes (OutputEnd talk) p m → FollowsText p
+output_follows talk (Put Comma) m e = tt
+output_follows talk (Control v) m e = absurd (none_some _ e.0)
+output_follows talk p m e = absurd (none_some _ e)
+
+received_follows : (p : Part) (m : Node) → Goes IntoEnd p m → FollowsPlace p
+received_follows (Put Comma) m e = tt
+received_follows (Put Colon) m e = tt
+received_follows (Control v) m e = absurd (none_some _ e.0)
+received_follows p m e = absurd (none_some _ e)
+
+device_follows : (p : Part) (m : Node) → Goes DeviceEnd p m → FollowsText p
+device_follows (Put Comma) m e = tt
+device_follows (Put Colon) m e = tt
+device_follows (Control v) m e = absurd (none_some _ e.0)
+device_follows p m e = absurd (none_some _ e)
+
+waited_follows : (p : Part) (m : Node) → Goes DeviceWaited p m → FollowsText p
+waited_follows (Put Comma) m e = tt
+waited_follows (Control v) m e = absurd (none_some _ e.0)
+waited_follows p m e = absurd (none_some _ e)
 
 target_follows : (listed : Bool) (p : Part) (m : Node) → Goes (SetBehind listed) p m → FollowsPlace p
 target_follows listed (Put Equals) m e = tt
@@ -359,7 +415,14 @@ all_followed (SetTarget listed) = λ p m e. target_follows listed p m e
 all_followed (PieceVariable listed) = λ p m e. comma_follows listed p m e
 all_followed (PieceText listed more) = λ p m e. piece_follows listed more p m e
 all_followed SetValue = λ p m e. set_follows p m e
-all_followed OutputWanted = λ p m e. output_follows p m e
+all_followed (OutputWanted Writes) = λ p m e. output_follows Writes p m e
+all_followed (OutputWanted Reads) = λ p m e. received_follows p m e
+all_followed (ColumnWanted talk) = λ p m e. output_follows talk p m e
+all_followed CodeWanted = λ p m e. output_follows Writes p m e
+all_followed IntoWanted = λ p m e. received_follows p m e
+all_followed IntoTimed = λ p m e. output_follows Reads p m e
+all_followed DeviceWanted = λ p m e. device_follows p m e
+all_followed DeviceTimed = λ p m e. waited_follows p m e
 all_followed (KillWanted first) = λ p m e. kill_follows p m e
 all_followed MergeInto = λ p m e. into_follows p m e
 all_followed MergeFrom = λ p m e. from_follows p m e
@@ -390,7 +453,14 @@ all_shut (SetTarget listed) = refl
 all_shut (PieceVariable listed) = refl
 all_shut (PieceText listed more) = refl
 all_shut SetValue = refl
-all_shut OutputWanted = refl
+all_shut (OutputWanted Writes) = refl
+all_shut (OutputWanted Reads) = refl
+all_shut (ColumnWanted talk) = refl
+all_shut CodeWanted = refl
+all_shut IntoWanted = refl
+all_shut IntoTimed = refl
+all_shut DeviceWanted = refl
+all_shut DeviceTimed = refl
 all_shut (KillWanted first) = refl
 all_shut MergeInto = refl
 all_shut MergeFrom = refl
@@ -429,6 +499,10 @@ all_ends (Of keyword.For) = λ e. refl
 all_ends (Of keyword.Do) = λ e. refl
 all_ends (Of keyword.Goto) = λ e. e
 all_ends (Of keyword.New) = λ e. refl
+all_ends (Of keyword.Open) = λ e. e
+all_ends (Of keyword.Use) = λ e. e
+all_ends (Of keyword.Close) = λ e. e
+all_ends (Of keyword.Read) = λ e. e
 all_ends HaltOrHang = λ e. refl
 all_ends k = tt
 
@@ -465,6 +539,10 @@ called_sought : (q : Option Callee) (b : Bool) → phrase.seek phrase.AsTarget (
 called_sought q true = callee_sought q
 called_sought q false = refl
 
+quoted_sought : (v : List ℕ) (b : Bool) → phrase.seek phrase.AsTarget (cond b (Constant v) Other) ≡ phrase.Stuck
+quoted_sought v true = refl
+quoted_sought v false = refl
+
 -- a variable is wanted
 abbrev SignApart : phrase.Limits → Node → Sign → Type 0
 SignApart m n s = (phrase.seek phrase.AsTarget (Mark s) ≡ phrase.Stuck) ⊎ (takes n (Put s) ≡ None)
@@ -500,9 +578,19 @@ kill_sign : (m : phrase.Limits) (first : Bool) (s : Sign) → SignApart m (KillW
 kill_sign m first Open = inl refl
 kill_sign m first s = inr refl
 
-output_sign : (m : phrase.Limits) (s : Sign) → WantApart m OutputWanted s
+output_sign : (m : phrase.Limits) (s : Sign) → WantApart m (OutputWanted Writes) s
 output_sign m Exclamation = inl refl
+output_sign m Hash = inl refl
+output_sign m Question = inl refl
+output_sign m Star = inl refl
 output_sign m s = inr refl
+
+input_sign : (m : phrase.Limits) (s : Sign) → SignApart m (OutputWanted Reads) s
+input_sign m Exclamation = inl refl
+input_sign m Hash = inl refl
+input_sign m Question = inl refl
+input_sign m Star = inl refl
+input_sign m s = inr refl
 
 actual_sign : (m : phrase.Limits) (mode : Mode) (s : Sign) → WantApart m (ActualWanted mode) s
 actual_sign m mode Comma = inl refl
@@ -524,7 +612,14 @@ all_apart m (SetTarget listed) t = place_apart m (SetTarget listed) 0 (SetBehind
 all_apart m (PieceVariable listed) t = place_apart m (PieceVariable listed) 1 (PieceComma listed) t (λ w. refl) (λ s. inr refl)
 all_apart m (PieceText listed more) t = text_apart m (PieceText listed more) 1 (PieceBehind listed more) t (λ w. refl) refl (λ s. inr refl)
 all_apart m SetValue t = text_apart m SetValue 0 SetEnd t (λ w. refl) refl (λ s. inr refl)
-all_apart m OutputWanted t = text_apart m OutputWanted 0 OutputEnd t (λ w. refl) refl (output_sign m)
+all_apart m (OutputWanted Writes) t = text_apart m (OutputWanted Writes) 0 (OutputEnd Writes) t (λ w. refl) refl (output_sign m)
+all_apart m (OutputWanted Reads) t = place_apart m (OutputWanted Reads) 0 IntoEnd t (λ w. refl) (input_sign m)
+all_apart m (ColumnWanted talk) t = text_apart m (ColumnWanted talk) 0 (OutputEnd talk) t (λ w. refl) refl (λ s. inr refl)
+all_apart m CodeWanted t = text_apart m CodeWanted 0 (OutputEnd Writes) t (λ w. refl) refl (λ s. inr refl)
+all_apart m IntoWanted t = place_apart m IntoWanted 0 IntoEnd t (λ w. refl) (λ s. inr refl)
+all_apart m IntoTimed t = text_apart m IntoTimed 0 (OutputEnd Reads) t (λ w. refl) refl (λ s. inr refl)
+all_apart m DeviceWanted t = text_apart m DeviceWanted 0 DeviceEnd t (λ w. refl) refl (λ s. inr refl)
+all_apart m DeviceTimed t = text_apart m DeviceTimed 0 DeviceWaited t (λ w. refl) refl (λ s. inr refl)
 all_apart m (KillWanted first) t = place_apart m (KillWanted first) 0 KillEnd t (λ w. refl) (kill_sign m first)
 all_apart m MergeInto t = place_apart m MergeInto 0 MergeBehind t (λ w. refl) (λ s. inr refl)
 all_apart m MergeFrom t = place_apart m MergeFrom 0 MergeEnd t (λ w. refl) (λ s. inr refl)
@@ -544,10 +639,30 @@ all_apart m n t = tt
 pub apart : (m : phrase.Limits) (n : Node) (t : Token) (w : Want) → wants n ≡ Some w → (phrase.step m (wanted w) (symbol t) ≡ phrase.Stuck) ⊎ (part_taken n (part_of t) ≡ None)
 apart m n t w e = let P : Option Want → Type 0 = λ q. IsApart m n t q in subst P e (all_apart m n t)
 
+-- where a text in quotes may stand alone, and a variable may begin
+label_apart : (w : List ℕ) (b : Bool) → part_taken (OutputWanted Reads) (cond b (Some (Label w)) None) ≡ None
+label_apart w true = refl
+label_apart w false = refl
+
+read_apart : (m : phrase.Limits) (t : Token) → (phrase.seek phrase.AsTarget (symbol t) ≡ phrase.Stuck) ⊎ (part_taken (OutputWanted Reads) (part_at true t) ≡ None)
+read_apart m (Word w) = inr (label_apart w (nat_le (length w) 31))
+read_apart m (Digits d) = inr (label_apart d (nat_le (length d) 32767))
+read_apart m (Called w) = inl (called_sought (callee_of w) (nat_le (length w) 31))
+read_apart m (Quoted v) = inl (quoted_sought v (nat_le (length v) 32767))
+read_apart m (Signed s) = input_sign m s
+read_apart m t = inr refl
+
 pub apart_at : (m : phrase.Limits) (n : Node) (t : Token) (w : Want) → wants n ≡ Some w → (phrase.step m (wanted w) (symbol t) ≡ phrase.Stuck) ⊎ (part_taken n (part_at (labels n) t) ≡ None)
-apart_at m n t w e =
-    let P : Bool → Type 0 = λ b. (phrase.step m (wanted w) (symbol t) ≡ phrase.Stuck) ⊎ (part_taken n (part_at b t) ≡ None) in
-    subst P (sym (unlabelled n w e)) (apart m n t w e)
+apart_at m n t w e = by (unlabelled n w e)
+  where
+    by : (labels n ≡ false) ⊎ (n ≡ OutputWanted Reads) → (phrase.step m (wanted w) (symbol t) ≡ phrase.Stuck) ⊎ (part_taken n (part_at (labels n) t) ≡ None)
+    by (inl h) =
+        let P : Bool → Type 0 = λ b. (phrase.step m (wanted w) (symbol t) ≡ phrase.Stuck) ⊎ (part_taken n (part_at b t) ≡ None) in
+        subst P (sym h) (apart m n t w e)
+    by (inr h) =
+        let Q : Want → Type 0 = λ x. (phrase.step m (wanted x) (symbol t) ≡ phrase.Stuck) ⊎ (part_taken (OutputWanted Reads) (part_at true t) ≡ None) in
+        let P : Node → Type 0 = λ x. (phrase.step m (wanted w) (symbol t) ≡ phrase.Stuck) ⊎ (part_taken x (part_at (labels x) t) ≡ None) in
+        subst P (sym h) (subst Q (some_same (AVar 0 IntoEnd) w (ap wants (sym h) ∙ e)) (read_apart m t))
 
 -- ---- a way to the end of the arguments
 
@@ -663,9 +778,19 @@ finish (PieceBehind listed more) = piece_finish listed more
 finish (SetBehind listed) = behind_finish listed
 finish SetValue = value_finish
 finish SetEnd = at_end SetEnd refl
-finish OutputWanted = text_before OutputWanted OutputEnd 0 (omega arith) refl (at_end OutputEnd refl)
-finish OutputEnd = at_end OutputEnd refl
-finish MarksEnd = at_end MarksEnd refl
+finish (OutputWanted talk) = sign_before (OutputWanted talk) (MarksEnd talk) Exclamation refl (at_end (MarksEnd talk) refl)
+finish (OutputEnd talk) = at_end (OutputEnd talk) refl
+finish (MarksEnd talk) = at_end (MarksEnd talk) refl
+finish (ColumnWanted talk) = text_before (ColumnWanted talk) (OutputEnd talk) 0 (omega arith) refl (at_end (OutputEnd talk) refl)
+finish CodeWanted = text_before CodeWanted (OutputEnd Writes) 0 (omega arith) refl (at_end (OutputEnd Writes) refl)
+finish IntoWanted = place_before IntoWanted IntoEnd 0 (omega arith) refl (at_end IntoEnd refl)
+finish IntoEnd = at_end IntoEnd refl
+finish IntoTimed = text_before IntoTimed (OutputEnd Reads) 0 (omega arith) refl (at_end (OutputEnd Reads) refl)
+finish DeviceWanted = text_before DeviceWanted DeviceEnd 0 (omega arith) refl (at_end DeviceEnd refl)
+finish DeviceEnd = at_end DeviceEnd refl
+finish DeviceColon = sign_before DeviceColon DeviceTimed Colon refl (text_before DeviceTimed DeviceWaited 0 (omega arith) refl (at_end DeviceWaited refl))
+finish DeviceTimed = text_before DeviceTimed DeviceWaited 0 (omega arith) refl (at_end DeviceWaited refl)
+finish DeviceWaited = at_end DeviceWaited refl
 finish (KillWanted first) = place_before (KillWanted first) KillEnd 0 (omega arith) refl (at_end KillEnd refl)
 finish NameWanted = token_before NameWanted NameBehind (Word (65 ∷ [])) (Named (65 ∷ [])) refl (record { spells = (refl, lit≤ tt); token = tt }) kill_closes
 finish NameBehind = kill_closes

@@ -1,24 +1,28 @@
 -- Commands and the parts that they are spelled by: the table has exactly the parts of trees, and each tree its own.
 use Rattle.std.proofs.Common.{◌≡◌, ℕ, zero, suc, List, [], ◌∷◌, ◌++◌, refl, ap, sym, ◌∙◌, Bool, true, false, append_assoc, arith, Option, Some, None, map, inl, inr}
-use Rattle.mj_ast.specs.declared.sign.Sign.TheVariants.{Plus, Minus, Equals, Comma, Colon, Exclamation, Caret, Open, Close}
-use Rattle.mj_ast.specs.declared.routine.Mark.TheVariants.{NewLine}
+use Rattle.mj_ast.specs.declared.sign.Sign.TheVariants.{Plus, Minus, Star, Hash, Equals, Comma, Colon, Exclamation, Question, Caret, Open, Close}
+use Rattle.mj_ast.specs.declared.routine.Mark.TheVariants.{NewLine, NewPage}
 use Rattle.mj_ast.specs.declared.keyword.Keyword.{Keyword}
 use Rattle.mj_ast.specs.declared.keyword.Keyword.TheVariants as keyword
 use Rattle.mj_ast.specs.declared.keyword.Verb.TheVariants.{Of}
+use Rattle.mj_ast.specs.declared.routine.ReadMode.TheVariants.{Line, Byte}
 use Rattle.mj_ast.specs.declared.routine.LockMode.TheVariants.{Whole, Plus as Added, Minus as Taken}
-use Rattle.mj_ast.specs.Syntax.{Expr, No, More, Gone, Spared, Shown, Format, Called, Jumped, Started, Locked, Range, Single, Endless, UpTo, Fresh, Kept, Command, Set, Write, Halt, Hang, Job, Lock, Kill, Merge, If, Else, For, Forever, Do, Goto, Quit, New}
-use Rattle.mj_ast.specs.Commands.{Part, Put, Named, Label, PieceCall, Text, Place, Control, with_commas, behind_commas, value_parts, routine_parts, actual_parts, as_called, jumped_parts, started_parts, variable_parts, lock_names_parts, guard_parts, locked_parts, range_parts, renewed_parts, is_local, is_bare, is_called, is_jumped, is_started, is_locked, more_parts, targets_parts, assignment_parts, mark_part, output_parts, name_parts, killed_parts, merged_parts, command_parts, keyword_for, has_items, every, are_targets, is_assignment, is_output, is_formed}
-use Rattle.mj_line.specs.Forms.{Mode, Calls, Jumps, Starts, Node, SetTarget, PieceOpens, PieceVariable, PieceComma, PieceText, PieceBehind, SetBehind, SetValue, SetEnd, OutputWanted, OutputEnd, MarksEnd, KillWanted, NameWanted, NameBehind, KillEnd, MergeInto, MergeBehind, MergeFrom, MergeEnd, ValueWanted, ValueEnd, ForWanted, ForBehind, RangeWanted, RangeEnd, StepWanted, StepEnd, LimitWanted, LimitEnd, NewWanted, KeptWanted, KeptBehind, NewEnd, EntryWanted, LabelEnd, RoutineWanted, RoutineEnd, ActualWanted, ActualEnd, ActualsEnd, WaitColon, GuardWanted, GuardEnd, LockWanted, LockSigned, LockListed, LockBehind, LockNamed, LockTimed, LockEnd, actuals_at, colon_at, ends, first_node, may_be_bare, Goes, Fits, IsForm}
+use Rattle.mj_ast.specs.Syntax.{Expr, No, More, Gone, Spared, Shown, Coded, Prompted, Into, Opened, Called, Jumped, Started, Range, Single, Endless, UpTo, Fresh, Kept, Command, Set, Write, Halt, Hang, Job, Lock, Kill, Merge, If, Else, For, Forever, Do, Goto, Quit, New, OpenDevice, UseDevice, CloseDevice, Read}
+use Rattle.mj_ast.specs.Commands.{Part, Put, Named, Label, PieceCall, Prompt, Text, Place, Control, with_commas, behind_commas, value_parts, routine_parts, actual_parts, as_called, jumped_parts, started_parts, variable_parts, guard_parts, locked_parts, range_parts, renewed_parts, is_local, is_bare, is_called, is_jumped, is_started, more_parts, targets_parts, assignment_parts, mark_part, column_parts, wait_parts, opened_parts, name_parts, killed_parts, merged_parts, command_parts, keyword_for, has_items, every, are_targets, is_assignment, is_formed}
+use Rattle.mj_line.specs.Forms.{Mode, Calls, Jumps, Starts, Node, SetTarget, PieceOpens, PieceVariable, PieceComma, PieceText, PieceBehind, SetBehind, SetValue, SetEnd, Talk, Writes, Reads, OutputWanted, OutputEnd, MarksEnd, ColumnWanted, CodeWanted, IntoWanted, IntoEnd, IntoTimed, DeviceWanted, DeviceEnd, DeviceColon, DeviceTimed, DeviceWaited, KillWanted, NameWanted, NameBehind, KillEnd, MergeInto, MergeBehind, MergeFrom, MergeEnd, ValueWanted, ValueEnd, ForWanted, ForBehind, RangeWanted, RangeEnd, StepWanted, StepEnd, LimitWanted, LimitEnd, NewWanted, KeptWanted, KeptBehind, NewEnd, EntryWanted, LabelEnd, RoutineWanted, RoutineEnd, ActualWanted, ActualEnd, ActualsEnd, WaitColon, GuardWanted, GuardEnd, LockWanted, LockSigned, LockListed, LockBehind, LockNamed, LockTimed, LockEnd, actuals_at, colon_at, ends, first_node, may_be_bare, Goes, Fits, IsForm}
 use Rattle.mj_line.proofs.Tables.{none_some}
-use Rattle.mj_line.proofs.Formed.{Plainly, PlainOne, entered_parts, as_entered, jumps, starts}
-use Rattle.mj_line.proofs.Shapes.{true_false, false_true, both, first_of, second_of, Acted, limit_parts, step_parts, Shape, at_node, text_node, place_node, local_node, text_wrong, place_wrong, local_text, local_place, text_local, place_of_local, before, text_zero, text_one, place_zero, place_one, piece_aims, plain_aims, several_aims, more_aims, assignment_at, next_kill, spared_at, next_item, kept_at, plain_none, none_others, others_guard, guard_acted, comma_others, colon_guard, open_acted, entries_at, timed_none, timed_comma, timed_colon, naming_one, naming_several, locks_at}
+use Rattle.mj_line.proofs.Formed.{speech_parts, is_speech, Plainly, entered_parts, as_entered, jumps, starts}
+use Rattle.mj_line.proofs.Shapes.{true_false, false_true, both, first_of, second_of, Acted, limit_parts, step_parts, Shape, at_node, text_node, place_node, local_node, text_wrong, place_wrong, local_text, local_place, text_local, place_of_local, before, text_zero, text_one, place_zero, place_one, piece_aims, plain_aims, several_aims, more_aims, format_at, assignment_at, next_kill, spared_at, next_item, kept_at, plain_none, none_others, others_guard, guard_acted, comma_others, colon_guard, open_acted, entries_at, timed_none, timed_comma, timed_colon, naming_one, naming_several, locks_at}
 
 -- ---- what stands from each place on is of that shape
 
 shape_end : (n : Node) → ends n ≡ true → Shape n []
 shape_end SetEnd f = ([], refl, refl)
-shape_end OutputEnd f = ([], refl, refl)
-shape_end MarksEnd f = ([], [], refl, refl)
+shape_end (OutputEnd talk) f = ([], refl, refl)
+shape_end (MarksEnd talk) f = ([], None, [], refl, refl)
+shape_end IntoEnd f = (None, [], refl, refl)
+shape_end DeviceEnd f = (None, [], refl)
+shape_end DeviceWaited f = ([], refl)
 shape_end (KillWanted first) f = ([], refl, refl, λ e. true_false (sym f ∙ e))
 shape_end KillEnd f = ([], refl, refl)
 shape_end MergeEnd f = ([], refl)
@@ -135,34 +139,162 @@ set_part (Put Comma) ps next e h =
 set_part (Control v) ps next e h = absurd (none_some _ e.0)
 set_part p ps next e h = absurd (none_some _ e)
 
-output_part : (p : Part) (ps : List Part) (next : Node) → Goes OutputWanted p next → Shape next ps → Shape OutputWanted (p ∷ ps)
-output_part (Text l v) ps next e h =
-    let x = text_node 0 l OutputEnd next ps e h in
+write_part : (p : Part) (ps : List Part) (next : Node) → Goes (OutputWanted Writes) p next → Shape next ps → Shape (OutputWanted Writes) (p ∷ ps)
+write_part (Text l v) ps next e h =
+    let x = text_node 0 l (OutputEnd Writes) next ps e h in
     let c = x.0 in
-    (Shown v, c.0, text_zero l v (behind_commas output_parts c.0) ps x.1 c.1, refl, c.2)
-output_part (Put Exclamation) ps next e h =
-    let x = at_node MarksEnd next ps e h in
-    (Format (NewLine ∷ x.0), x.1, before (Put Exclamation) (map mark_part x.0 ++ behind_commas output_parts x.1) ps x.2, refl, x.3)
-output_part (Place l x) ps next e h = absurd (place_wrong e)
-output_part (Control v) ps next e h = absurd (local_text e.0)
-output_part p ps next e h = absurd (none_some _ e)
+    (Shown v, c.0, text_zero l v (behind_commas (speech_parts Writes) c.0) ps x.1 c.1, refl, c.2)
+write_part (Put Exclamation) ps next e h =
+    let x = at_node (MarksEnd Writes) next ps e h in
+    format_at Writes (NewLine ∷ x.0) x.1 x.2 (Put Exclamation ∷ ps) (before (Put Exclamation) (map mark_part x.0 ++ (column_parts x.1 ++ behind_commas (speech_parts Writes) x.2)) ps x.3) refl x.4
+write_part (Put Hash) ps next e h =
+    let x = at_node (MarksEnd Writes) next ps e h in
+    format_at Writes (NewPage ∷ x.0) x.1 x.2 (Put Hash ∷ ps) (before (Put Hash) (map mark_part x.0 ++ (column_parts x.1 ++ behind_commas (speech_parts Writes) x.2)) ps x.3) refl x.4
+write_part (Put Question) ps next e h =
+    let x = at_node (ColumnWanted Writes) next ps e h in
+    format_at Writes [] (Some x.0) x.1 (Put Question ∷ ps) (before (Put Question) (Text 0 x.0 ∷ behind_commas (speech_parts Writes) x.1) ps x.2) refl x.3
+write_part (Put Star) ps next e h =
+    let x = at_node CodeWanted next ps e h in
+    (Coded x.0, x.1, before (Put Star) (Text 0 x.0 ∷ behind_commas (speech_parts Writes) x.1) ps x.2, refl, x.3)
+write_part (Place l x) ps next e h = absurd (place_wrong e)
+write_part (Control v) ps next e h = absurd (local_text e.0)
+write_part p ps next e h = absurd (none_some _ e)
 
-output_end : (p : Part) (ps : List Part) (next : Node) → Goes OutputEnd p next → Shape next ps → Shape OutputEnd (p ∷ ps)
-output_end (Put Comma) ps next e h =
-    let x = at_node OutputWanted next ps e h in
-    (x.0 ∷ x.1, before (Put Comma) (output_parts x.0 ++ behind_commas output_parts x.1) ps x.2, both (is_output x.0) (every is_output x.1) x.3 x.4)
-output_end (Control v) ps next e h = absurd (none_some _ e.0)
-output_end p ps next e h = absurd (none_some _ e)
+read_part : (p : Part) (ps : List Part) (next : Node) → Goes (OutputWanted Reads) p next → Shape next ps → Shape (OutputWanted Reads) (p ∷ ps)
+read_part (Place l v) ps next e h =
+    let x = place_node 0 l IntoEnd next ps e h in
+    let c = x.0 in
+    (Into (record { mode = Line; variable = v; timeout = c.0 }), c.1, place_zero l v (guard_parts c.0 ++ behind_commas (speech_parts Reads) c.1) ps x.1 c.2, refl, c.3)
+read_part (Put Exclamation) ps next e h =
+    let x = at_node (MarksEnd Reads) next ps e h in
+    format_at Reads (NewLine ∷ x.0) x.1 x.2 (Put Exclamation ∷ ps) (before (Put Exclamation) (map mark_part x.0 ++ (column_parts x.1 ++ behind_commas (speech_parts Reads) x.2)) ps x.3) refl x.4
+read_part (Put Hash) ps next e h =
+    let x = at_node (MarksEnd Reads) next ps e h in
+    format_at Reads (NewPage ∷ x.0) x.1 x.2 (Put Hash ∷ ps) (before (Put Hash) (map mark_part x.0 ++ (column_parts x.1 ++ behind_commas (speech_parts Reads) x.2)) ps x.3) refl x.4
+read_part (Put Question) ps next e h =
+    let x = at_node (ColumnWanted Reads) next ps e h in
+    format_at Reads [] (Some x.0) x.1 (Put Question ∷ ps) (before (Put Question) (Text 0 x.0 ∷ behind_commas (speech_parts Reads) x.1) ps x.2) refl x.3
+read_part (Put Star) ps next e h =
+    let x = at_node IntoWanted next ps e h in
+    (Into (record { mode = Byte; variable = x.0; timeout = x.1 }), x.2, before (Put Star) (Place 0 x.0 ∷ (guard_parts x.1 ++ behind_commas (speech_parts Reads) x.2)) ps x.3, refl, x.4)
+read_part (Prompt v) ps next e h =
+    let x = at_node (OutputEnd Reads) next ps e h in
+    (Prompted v, x.0, before (Prompt v) (behind_commas (speech_parts Reads) x.0) ps x.1, refl, x.2)
+read_part (Text l x) ps next e h = absurd (text_wrong e)
+read_part (Control v) ps next e h = absurd (local_place e.0)
+read_part p ps next e h = absurd (none_some _ e)
 
-marks_end : (p : Part) (ps : List Part) (next : Node) → Goes MarksEnd p next → Shape next ps → Shape MarksEnd (p ∷ ps)
-marks_end (Put Exclamation) ps next e h =
-    let x = at_node MarksEnd next ps e h in
-    (NewLine ∷ x.0, x.1, before (Put Exclamation) (map mark_part x.0 ++ behind_commas output_parts x.1) ps x.2, x.3)
-marks_end (Put Comma) ps next e h =
-    let x = at_node OutputWanted next ps e h in
-    ([], x.0 ∷ x.1, before (Put Comma) (output_parts x.0 ++ behind_commas output_parts x.1) ps x.2, both (is_output x.0) (every is_output x.1) x.3 x.4)
-marks_end (Control v) ps next e h = absurd (none_some _ e.0)
-marks_end p ps next e h = absurd (none_some _ e)
+output_end : (talk : Talk) (p : Part) (ps : List Part) (next : Node) → Goes (OutputEnd talk) p next → Shape next ps → Shape (OutputEnd talk) (p ∷ ps)
+output_end talk (Put Comma) ps next e h =
+    let x = at_node (OutputWanted talk) next ps e h in
+    (x.0 ∷ x.1, before (Put Comma) (speech_parts talk x.0 ++ behind_commas (speech_parts talk) x.1) ps x.2, both (is_speech talk x.0) (every (is_speech talk) x.1) x.3 x.4)
+output_end talk (Control v) ps next e h = absurd (none_some _ e.0)
+output_end talk p ps next e h = absurd (none_some _ e)
+
+marks_end : (talk : Talk) (p : Part) (ps : List Part) (next : Node) → Goes (MarksEnd talk) p next → Shape next ps → Shape (MarksEnd talk) (p ∷ ps)
+marks_end talk (Put Exclamation) ps next e h =
+    let x = at_node (MarksEnd talk) next ps e h in
+    (NewLine ∷ x.0, x.1, x.2, before (Put Exclamation) (map mark_part x.0 ++ (column_parts x.1 ++ behind_commas (speech_parts talk) x.2)) ps x.3, x.4)
+marks_end talk (Put Hash) ps next e h =
+    let x = at_node (MarksEnd talk) next ps e h in
+    (NewPage ∷ x.0, x.1, x.2, before (Put Hash) (map mark_part x.0 ++ (column_parts x.1 ++ behind_commas (speech_parts talk) x.2)) ps x.3, x.4)
+marks_end talk (Put Question) ps next e h =
+    let x = at_node (ColumnWanted talk) next ps e h in
+    ([], Some x.0, x.1, before (Put Question) (Text 0 x.0 ∷ behind_commas (speech_parts talk) x.1) ps x.2, x.3)
+marks_end talk (Put Comma) ps next e h =
+    let x = at_node (OutputWanted talk) next ps e h in
+    ([], None, x.0 ∷ x.1, before (Put Comma) (speech_parts talk x.0 ++ behind_commas (speech_parts talk) x.1) ps x.2, both (is_speech talk x.0) (every (is_speech talk) x.1) x.3 x.4)
+marks_end talk (Control v) ps next e h = absurd (none_some _ e.0)
+marks_end talk p ps next e h = absurd (none_some _ e)
+
+column_part : (talk : Talk) (p : Part) (ps : List Part) (next : Node) → Goes (ColumnWanted talk) p next → Shape next ps → Shape (ColumnWanted talk) (p ∷ ps)
+column_part talk (Text l v) ps next e h =
+    let x = text_node 0 l (OutputEnd talk) next ps e h in
+    let c = x.0 in
+    (v, c.0, text_zero l v (behind_commas (speech_parts talk) c.0) ps x.1 c.1, c.2)
+column_part talk (Place l x) ps next e h = absurd (place_wrong e)
+column_part talk (Control v) ps next e h = absurd (local_text e.0)
+column_part talk p ps next e h = absurd (none_some _ e)
+
+code_part : (p : Part) (ps : List Part) (next : Node) → Goes CodeWanted p next → Shape next ps → Shape CodeWanted (p ∷ ps)
+code_part (Text l v) ps next e h =
+    let x = text_node 0 l (OutputEnd Writes) next ps e h in
+    let c = x.0 in
+    (v, c.0, text_zero l v (behind_commas (speech_parts Writes) c.0) ps x.1 c.1, c.2)
+code_part (Place l x) ps next e h = absurd (place_wrong e)
+code_part (Control v) ps next e h = absurd (local_text e.0)
+code_part p ps next e h = absurd (none_some _ e)
+
+star_part : (p : Part) (ps : List Part) (next : Node) → Goes IntoWanted p next → Shape next ps → Shape IntoWanted (p ∷ ps)
+star_part (Place l v) ps next e h =
+    let x = place_node 0 l IntoEnd next ps e h in
+    let c = x.0 in
+    (v, c.0, c.1, place_zero l v (guard_parts c.0 ++ behind_commas (speech_parts Reads) c.1) ps x.1 c.2, c.3)
+star_part (Text l x) ps next e h = absurd (text_wrong e)
+star_part (Control v) ps next e h = absurd (local_place e.0)
+star_part p ps next e h = absurd (none_some _ e)
+
+received_end : (p : Part) (ps : List Part) (next : Node) → Goes IntoEnd p next → Shape next ps → Shape IntoEnd (p ∷ ps)
+received_end (Put Colon) ps next e h =
+    let x = at_node IntoTimed next ps e h in
+    (Some x.0, x.1, before (Put Colon) (Text 0 x.0 ∷ behind_commas (speech_parts Reads) x.1) ps x.2, x.3)
+received_end (Put Comma) ps next e h =
+    let x = at_node (OutputWanted Reads) next ps e h in
+    (None, x.0 ∷ x.1, before (Put Comma) (speech_parts Reads x.0 ++ behind_commas (speech_parts Reads) x.1) ps x.2, both (is_speech Reads x.0) (every (is_speech Reads) x.1) x.3 x.4)
+received_end (Control v) ps next e h = absurd (none_some _ e.0)
+received_end p ps next e h = absurd (none_some _ e)
+
+received_timed : (p : Part) (ps : List Part) (next : Node) → Goes IntoTimed p next → Shape next ps → Shape IntoTimed (p ∷ ps)
+received_timed (Text l v) ps next e h =
+    let x = text_node 0 l (OutputEnd Reads) next ps e h in
+    let c = x.0 in
+    (v, c.0, text_zero l v (behind_commas (speech_parts Reads) c.0) ps x.1 c.1, c.2)
+received_timed (Place l x) ps next e h = absurd (place_wrong e)
+received_timed (Control v) ps next e h = absurd (local_text e.0)
+received_timed p ps next e h = absurd (none_some _ e)
+
+device_part : (p : Part) (ps : List Part) (next : Node) → Goes DeviceWanted p next → Shape next ps → Shape DeviceWanted (p ∷ ps)
+device_part (Text l v) ps next e h =
+    let x = text_node 0 l DeviceEnd next ps e h in
+    let c = x.0 in
+    let o : Opened = record { device = v; timeout = c.0 } in
+    (o, c.1, text_zero l v (wait_parts c.0 ++ behind_commas opened_parts c.1) ps x.1 c.2)
+device_part (Place l x) ps next e h = absurd (place_wrong e)
+device_part (Control v) ps next e h = absurd (local_text e.0)
+device_part p ps next e h = absurd (none_some _ e)
+
+device_end : (p : Part) (ps : List Part) (next : Node) → Goes DeviceEnd p next → Shape next ps → Shape DeviceEnd (p ∷ ps)
+device_end (Put Colon) ps next e h =
+    let x = at_node DeviceColon next ps e h in
+    (Some x.0, x.1, before (Put Colon) (Put Colon ∷ Text 0 x.0 ∷ behind_commas opened_parts x.1) ps x.2)
+device_end (Put Comma) ps next e h =
+    let x = at_node DeviceWanted next ps e h in
+    (None, x.0 ∷ x.1, before (Put Comma) (opened_parts x.0 ++ behind_commas opened_parts x.1) ps x.2)
+device_end (Control v) ps next e h = absurd (none_some _ e.0)
+device_end p ps next e h = absurd (none_some _ e)
+
+device_colon : (p : Part) (ps : List Part) (next : Node) → Goes DeviceColon p next → Shape next ps → Shape DeviceColon (p ∷ ps)
+device_colon (Put Colon) ps next e h =
+    let x = at_node DeviceTimed next ps e h in
+    (x.0, x.1, before (Put Colon) (Text 0 x.0 ∷ behind_commas opened_parts x.1) ps x.2)
+device_colon (Control v) ps next e h = absurd (none_some _ e.0)
+device_colon p ps next e h = absurd (none_some _ e)
+
+device_timed : (p : Part) (ps : List Part) (next : Node) → Goes DeviceTimed p next → Shape next ps → Shape DeviceTimed (p ∷ ps)
+device_timed (Text l v) ps next e h =
+    let x = text_node 0 l DeviceWaited next ps e h in
+    let c = x.0 in
+    (v, c.0, text_zero l v (behind_commas opened_parts c.0) ps x.1 c.1)
+device_timed (Place l x) ps next e h = absurd (place_wrong e)
+device_timed (Control v) ps next e h = absurd (local_text e.0)
+device_timed p ps next e h = absurd (none_some _ e)
+
+device_waited : (p : Part) (ps : List Part) (next : Node) → Goes DeviceWaited p next → Shape next ps → Shape DeviceWaited (p ∷ ps)
+device_waited (Put Comma) ps next e h =
+    let x = at_node DeviceWanted next ps e h in
+    (x.0 ∷ x.1, before (Put Comma) (opened_parts x.0 ++ behind_commas opened_parts x.1) ps x.2)
+device_waited (Control v) ps next e h = absurd (none_some _ e.0)
+device_waited p ps next e h = absurd (none_some _ e)
 
 kill_part : (first : Bool) (p : Part) (ps : List Part) (next : Node) → Goes (KillWanted first) p next → Shape next ps → Shape (KillWanted first) (p ∷ ps)
 kill_part first (Place l v) ps next e h =
@@ -510,9 +642,20 @@ shape_part (SetBehind false) p ps next e h = behind_part p ps next e h
 shape_part (SetBehind true) p ps next e h = listed_behind p ps next e h
 shape_part SetValue p ps next e h = value_part p ps next e h
 shape_part SetEnd p ps next e h = set_part p ps next e h
-shape_part OutputWanted p ps next e h = output_part p ps next e h
-shape_part OutputEnd p ps next e h = output_end p ps next e h
-shape_part MarksEnd p ps next e h = marks_end p ps next e h
+shape_part (OutputWanted Writes) p ps next e h = write_part p ps next e h
+shape_part (OutputWanted Reads) p ps next e h = read_part p ps next e h
+shape_part (OutputEnd talk) p ps next e h = output_end talk p ps next e h
+shape_part (MarksEnd talk) p ps next e h = marks_end talk p ps next e h
+shape_part (ColumnWanted talk) p ps next e h = column_part talk p ps next e h
+shape_part CodeWanted p ps next e h = code_part p ps next e h
+shape_part IntoWanted p ps next e h = star_part p ps next e h
+shape_part IntoEnd p ps next e h = received_end p ps next e h
+shape_part IntoTimed p ps next e h = received_timed p ps next e h
+shape_part DeviceWanted p ps next e h = device_part p ps next e h
+shape_part DeviceEnd p ps next e h = device_end p ps next e h
+shape_part DeviceColon p ps next e h = device_colon p ps next e h
+shape_part DeviceTimed p ps next e h = device_timed p ps next e h
+shape_part DeviceWaited p ps next e h = device_waited p ps next e h
 shape_part (KillWanted first) p ps next e h = kill_part first p ps next e h
 shape_part NameWanted p ps next e h = name_part p ps next e h
 shape_part NameBehind p ps next e h = name_behind p ps next e h
@@ -626,6 +769,10 @@ some_bare keyword.Do e = record { command = Do []; formed = refl; named = refl; 
 some_bare keyword.Goto e = false_true e
 some_bare keyword.Quit e = record { command = Quit; formed = refl; named = refl; parts = refl }
 some_bare keyword.New e = record { command = New []; formed = refl; named = refl; parts = refl }
+some_bare keyword.Open e = false_true e
+some_bare keyword.Use e = false_true e
+some_bare keyword.Close e = false_true e
+some_bare keyword.Read e = false_true e
 
 for_made : (ps : List Part) → Shape ForWanted ps → Made keyword.For ps
 for_made ps (inl e) = record { command = Forever; formed = refl; named = refl; parts = sym e }
@@ -642,8 +789,8 @@ some_made keyword.Set ps n e h =
       parts = assignment_at x.0 a.0 (behind_commas assignment_parts a.1) x.1 ps a.2 x.2;
     }
 some_made keyword.Write ps n e h =
-    let x = at_node OutputWanted n ps e h in
-    record { command = Write (x.0 ∷ x.1); formed = both (is_output x.0) (every is_output x.1) x.3 x.4; named = refl; parts = x.2 }
+    let x = at_node (OutputWanted Writes) n ps e h in
+    record { command = Write (x.0 ∷ x.1); formed = both (is_speech Writes x.0) (every (is_speech Writes) x.1) x.3 x.4; named = refl; parts = x.2 }
 some_made keyword.Halt ps n e h = absurd (none_some n e)
 some_made keyword.Hang ps n e h =
     let x = at_node (ValueWanted false) n ps e h in
@@ -681,6 +828,18 @@ some_made keyword.Quit ps n e h = absurd (none_some n e)
 some_made keyword.New ps n e h =
     let x = at_node (NewWanted true) n ps e h in
     record { command = New x.0; formed = x.2; named = refl; parts = x.1 }
+some_made keyword.Open ps n e h =
+    let x = at_node DeviceWanted n ps e h in
+    record { command = OpenDevice (x.0 ∷ x.1); formed = refl; named = refl; parts = x.2 }
+some_made keyword.Use ps n e h =
+    let x = at_node (ValueWanted false) n ps e h in
+    record { command = UseDevice x.0; formed = x.2 refl; named = refl; parts = x.1 }
+some_made keyword.Close ps n e h =
+    let x = at_node (ValueWanted false) n ps e h in
+    record { command = CloseDevice x.0; formed = x.2 refl; named = refl; parts = x.1 }
+some_made keyword.Read ps n e h =
+    let x = at_node (OutputWanted Reads) n ps e h in
+    record { command = Read (x.0 ∷ x.1); formed = both (is_speech Reads x.0) (every (is_speech Reads) x.1) x.3 x.4; named = refl; parts = x.2 }
 some_made keyword.Kill ps n e h =
     let x = at_node (KillWanted true) n ps e h in
     record { command = Kill x.0; formed = x.2; named = refl; parts = x.1 }

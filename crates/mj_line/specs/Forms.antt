@@ -1,16 +1,16 @@
 -- The arguments of commands as a table: the places in them, and what goes on at each.
 use Rattle.std.specs.Prelude.{◌≡◌, ℕ, suc, nat_le, if◌then◌else◌, Bool, true, false, ◌&&◌, List, [], ◌∷◌, length, Option, Some, None}
-use Rattle.mj_ast.specs.declared.sign.Sign.TheVariants.{Plus, Minus, Equals, Comma, Colon, Exclamation, Caret, Open, Close}
+use Rattle.mj_ast.specs.declared.sign.Sign.TheVariants.{Plus, Minus, Star, Hash, Equals, Comma, Colon, Exclamation, Question, Caret, Open, Close}
 use Rattle.mj_ast.specs.declared.function.Function.TheVariants.{Piece}
 use Rattle.mj_ast.specs.declared.function.Callee.{Callee}
 use Rattle.mj_ast.specs.declared.function.Callee.TheVariants.{Texts}
 use Rattle.mj_ast.specs.declared.keyword.Keyword.TheVariants as keyword
 use Rattle.mj_ast.specs.declared.keyword.Verb.{Verb}
 use Rattle.mj_ast.specs.declared.keyword.Verb.TheVariants.{Of, HaltOrHang}
-use Rattle.mj_ast.specs.Tokens.{Token, Word, Called, Digits, Signed}
+use Rattle.mj_ast.specs.Tokens.{Token, Word, Called, Digits, Quoted, Signed}
 use Rattle.mj_ast.specs.Expressions.{callee_of, name_limit}
 use Rattle.mj_text.specs.declared.text.TheConstants.{TEXT_LIMIT}
-use Rattle.mj_ast.specs.Commands.{Part, Put, Named, Label, PieceCall, Text, Place, Control, is_local}
+use Rattle.mj_ast.specs.Commands.{Part, Put, Named, Label, PieceCall, Prompt, Text, Place, Control, is_local}
 
 -- ---- places
 
@@ -19,6 +19,11 @@ pub data Mode : Type 0 where
   Calls : Mode
   Jumps : Mode
   Starts : Mode
+
+-- what arguments with formats are for: to be written, or to be read by
+pub data Talk : Type 0 where
+  Writes : Talk
+  Reads : Talk
 
 pub data Node : Type 0 where
   -- SET: a destination is wanted, inside a list in parentheses or not
@@ -34,10 +39,23 @@ pub data Node : Type 0 where
   SetBehind : (listed : Bool) → Node
   SetValue : Node
   SetEnd : Node
-  -- WRITE: an argument is wanted; an expression was read; format marks were read
-  OutputWanted : Node
-  OutputEnd : Node
-  MarksEnd : Node
+  -- WRITE and READ: an argument is wanted; it was read up to its end; format marks were read; the column behind a `?` is wanted
+  OutputWanted : (talk : Talk) → Node
+  OutputEnd : (talk : Talk) → Node
+  MarksEnd : (talk : Talk) → Node
+  ColumnWanted : (talk : Talk) → Node
+  -- WRITE: the code behind a `*` is wanted
+  CodeWanted : Node
+  -- READ: the variable behind a `*` is wanted; a variable was read; its timeout is wanted
+  IntoWanted : Node
+  IntoEnd : Node
+  IntoTimed : Node
+  -- OPEN: a device is wanted; it was read; the first colon of its timeout was read; the timeout is wanted; it was read
+  DeviceWanted : Node
+  DeviceEnd : Node
+  DeviceColon : Node
+  DeviceTimed : Node
+  DeviceWaited : Node
   -- KILL: an argument is wanted, the first or another; a name of a list; such a name was read; an argument was read
   KillWanted : (first : Bool) → Node
   NameWanted : Node
@@ -103,15 +121,17 @@ part_of (Word w) = if nat_le (length w) name_limit then Some (Named w) else None
 part_of (Called w) = if nat_le (length w) name_limit then piece_part (callee_of w) else None
 part_of _ = None
 
--- a label is wanted here, a name or digits
+-- a label is wanted here, a name or digits, or a text in quotes may stand alone
 abbrev pub labels : Node → Bool
 labels (EntryWanted mode first) = true
+labels (OutputWanted Reads) = true
 labels n = false
 
--- the part that a token alone is where a label is wanted, or isn't
+-- the part that a token alone is where a label or a text in quotes is wanted, or isn't
 abbrev pub part_at : Bool → Token → Option Part
 part_at true (Word w) = if nat_le (length w) name_limit then Some (Label w) else None
 part_at true (Digits d) = if nat_le (length d) TEXT_LIMIT then Some (Label d) else None
+part_at true (Quoted v) = if nat_le (length v) TEXT_LIMIT then Some (Prompt v) else None
 part_at label t = part_of t
 
 -- where actuals may stand
@@ -126,6 +146,16 @@ colon_at Calls = GuardWanted Calls
 colon_at Jumps = GuardWanted Jumps
 colon_at Starts = WaitColon
 
+-- the place behind a `*` that an argument begins with
+abbrev pub star_at : Talk → Node
+star_at Writes = CodeWanted
+star_at Reads = IntoWanted
+
+-- a text in quotes alone is an argument of READ
+abbrev pub prompt_at : Talk → Option Node
+prompt_at Writes = None
+prompt_at Reads = Some (OutputEnd Reads)
+
 -- the place behind a part of one token, if it may stand here
 abbrev pub takes : Node → Part → Option Node
 takes (SetTarget listed) PieceCall = Some (PieceOpens listed)
@@ -138,10 +168,22 @@ takes (SetBehind false) (Put Equals) = Some SetValue
 takes (SetBehind true) (Put Comma) = Some (SetTarget true)
 takes (SetBehind true) (Put Close) = Some (SetBehind false)
 takes SetEnd (Put Comma) = Some (SetTarget false)
-takes OutputWanted (Put Exclamation) = Some MarksEnd
-takes OutputEnd (Put Comma) = Some OutputWanted
-takes MarksEnd (Put Exclamation) = Some MarksEnd
-takes MarksEnd (Put Comma) = Some OutputWanted
+takes (OutputWanted talk) (Put Exclamation) = Some (MarksEnd talk)
+takes (OutputWanted talk) (Put Hash) = Some (MarksEnd talk)
+takes (OutputWanted talk) (Put Question) = Some (ColumnWanted talk)
+takes (OutputWanted talk) (Put Star) = Some (star_at talk)
+takes (OutputWanted talk) (Prompt v) = prompt_at talk
+takes (OutputEnd talk) (Put Comma) = Some (OutputWanted talk)
+takes (MarksEnd talk) (Put Exclamation) = Some (MarksEnd talk)
+takes (MarksEnd talk) (Put Hash) = Some (MarksEnd talk)
+takes (MarksEnd talk) (Put Question) = Some (ColumnWanted talk)
+takes (MarksEnd talk) (Put Comma) = Some (OutputWanted talk)
+takes IntoEnd (Put Colon) = Some IntoTimed
+takes IntoEnd (Put Comma) = Some (OutputWanted Reads)
+takes DeviceEnd (Put Colon) = Some DeviceColon
+takes DeviceEnd (Put Comma) = Some DeviceWanted
+takes DeviceColon (Put Colon) = Some DeviceTimed
+takes DeviceWaited (Put Comma) = Some DeviceWanted
 takes (KillWanted first) (Put Open) = Some NameWanted
 takes NameWanted (Named w) = Some NameBehind
 takes NameBehind (Put Comma) = Some NameWanted
@@ -208,7 +250,14 @@ wants (SetTarget listed) = Some (AVar 0 (SetBehind listed))
 wants (PieceVariable listed) = Some (AVar 1 (PieceComma listed))
 wants (PieceText listed more) = Some (AnExpr 1 (PieceBehind listed more))
 wants SetValue = Some (AnExpr 0 SetEnd)
-wants OutputWanted = Some (AnExpr 0 OutputEnd)
+wants (OutputWanted Writes) = Some (AnExpr 0 (OutputEnd Writes))
+wants (OutputWanted Reads) = Some (AVar 0 IntoEnd)
+wants (ColumnWanted talk) = Some (AnExpr 0 (OutputEnd talk))
+wants CodeWanted = Some (AnExpr 0 (OutputEnd Writes))
+wants IntoWanted = Some (AVar 0 IntoEnd)
+wants IntoTimed = Some (AnExpr 0 (OutputEnd Reads))
+wants DeviceWanted = Some (AnExpr 0 DeviceEnd)
+wants DeviceTimed = Some (AnExpr 0 DeviceWaited)
 wants (KillWanted first) = Some (AVar 0 KillEnd)
 wants MergeInto = Some (AVar 0 MergeBehind)
 wants MergeFrom = Some (AVar 0 MergeEnd)
@@ -234,8 +283,11 @@ is_optional Starts = false
 -- the arguments may end here
 abbrev pub ends : Node → Bool
 ends SetEnd = true
-ends OutputEnd = true
-ends MarksEnd = true
+ends (OutputEnd talk) = true
+ends (MarksEnd talk) = true
+ends IntoEnd = true
+ends DeviceEnd = true
+ends DeviceWaited = true
 ends (KillWanted first) = first
 ends KillEnd = true
 ends MergeEnd = true
@@ -262,7 +314,7 @@ ends _ = false
 -- the first place in the arguments of what a word begins, if it may have some
 abbrev pub first_node : Verb → Option Node
 first_node (Of keyword.Set) = Some (SetTarget false)
-first_node (Of keyword.Write) = Some OutputWanted
+first_node (Of keyword.Write) = Some (OutputWanted Writes)
 first_node (Of keyword.Halt) = None
 first_node (Of keyword.Hang) = Some (ValueWanted false)
 first_node (Of keyword.Job) = Some (EntryWanted Starts true)
@@ -276,6 +328,10 @@ first_node (Of keyword.Do) = Some (EntryWanted Calls true)
 first_node (Of keyword.Goto) = Some (EntryWanted Jumps true)
 first_node (Of keyword.Quit) = None
 first_node (Of keyword.New) = Some (NewWanted true)
+first_node (Of keyword.Open) = Some DeviceWanted
+first_node (Of keyword.Use) = Some (ValueWanted false)
+first_node (Of keyword.Close) = Some (ValueWanted false)
+first_node (Of keyword.Read) = Some (OutputWanted Reads)
 first_node HaltOrHang = Some (ValueWanted true)
 
 -- it may have none
@@ -286,6 +342,10 @@ may_be_bare (Of keyword.Hang) = false
 may_be_bare (Of keyword.Job) = false
 may_be_bare (Of keyword.Merge) = false
 may_be_bare (Of keyword.Goto) = false
+may_be_bare (Of keyword.Open) = false
+may_be_bare (Of keyword.Use) = false
+may_be_bare (Of keyword.Close) = false
+may_be_bare (Of keyword.Read) = false
 may_be_bare _ = true
 
 -- ---- lists of parts

@@ -1,12 +1,10 @@
 // What the instructions do that ask.
 
 ghost use Rattle.std.specs.Prelude.{◌≡◌, ◌+◌, ◌<◌, ◌≤◌, ◌^◌, length, IfOk, OnErr};
-ghost use Rattle.mj_semantics.specs.State as states;
 ghost use Rattle.mj_semantics.specs.Outcome as told;
 ghost use Rattle.mj_semantics.specs.Commands as commands;
 ghost use Rattle.mj_machine.specs.Kept.{Does, IsWaiting, Stays, without, replied};
 
-use crate::column::{column_after, row_after};
 use crate::control::Control;
 use crate::machine::{Machine, STEPS_LIMIT, Step};
 use crate::quiet::fail;
@@ -14,13 +12,6 @@ use crate::stack;
 use mj_ask::{Ask, Reply};
 use mj_text::{Digits, Fault, Text};
 use std::alloc::{AllocError, Global};
-
-/// The name of the principal device.
-pub fn principal(alloc: Global) -> Text
-    ensures { result ≡ states.principal }
-{
-    Text::from_number(alloc, 0)
-}
 
 /// The job waits for the reply to an ask.
 pub fn wait(alloc: Global, ask: Ask) -> Result<Step, AllocError>
@@ -64,18 +55,19 @@ pub(crate) fn put_out(
         return Ok(fail(Fault::Steps, machine));
     }
     match given {
-        None => wait(alloc, Ask::DeviceWrite(principal(alloc), text)),
+        None => {
+            let device = machine.devices.current(alloc)?;
+            wait(alloc, Ask::DeviceWrite(device, text))
+        }
         Some(reply) => {
             machine.replied += 1;
             if is_failed(reply) {
-                machine.failed = true;
+                machine.devices.fail_current();
                 machine.control = Control::Faulted(Fault::Device);
                 return Ok(Step::Took);
             }
             let mut digits = Digits::new();
-            let bytes = text.bytes(&mut digits);
-            machine.column = column_after(machine.column, bytes);
-            machine.row = row_after(machine.row, bytes);
+            machine.devices.write(text.bytes(&mut digits));
             stack::take_off(&mut machine.stack, count);
             machine.control = Control::At(pc + 1);
             Ok(Step::Took)

@@ -11,10 +11,8 @@ pub enum Control {
     At(usize),
     /// a fault is told of
     Faulted(Fault),
-    /// its principal session ends
-    Closing(Option<Fault>),
-    /// it ends
-    Halting(Option<Fault>),
+    /// so many of its sessions have ended: the next one ends, or, where there is none, the job
+    Closing(usize, Option<Fault>),
     /// nothing
     Over,
 }

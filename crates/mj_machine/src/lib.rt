@@ -11,7 +11,6 @@
 
 pub mod asking;
 pub mod calls;
-mod column;
 mod control;
 pub mod format;
 mod machine;

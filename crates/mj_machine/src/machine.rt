@@ -1,11 +1,12 @@
 // A job's machine: where it stands, and how a turn of it goes.
 
-ghost use Rattle.std.specs.Prelude.{◌*◌, ◌≤◌};
+ghost use Rattle.std.specs.Prelude.{◌≤◌};
 
 use crate::control::Control;
 use mj_ask::Ask;
 use mj_frames::{Call, Frames, Loop};
 use mj_locals::Locals;
+use mj_open::Devices;
 use mj_store::Nodes;
 use mj_text::Text;
 
@@ -30,15 +31,12 @@ pub struct Machine {
     pub loops: Vec<Loop>,
     // where the frames below go on, the topmost last
     pub calls: Vec<Call>,
-    // of the principal device: `$X`, `$Y`, and whether a call of its session failed
-    pub column: u64,
-    pub row: u64,
-    pub failed: bool,
+    pub devices: Devices,
     // asks that were replied to
     pub replied: u64,
     // what a MERGE has read and not put yet
     pub held: Nodes,
-    ghost bounded: { (column ≤ 32767 * replied) × (row ≤ 32767 * replied) × (replied ≤ 1000000) },
+    ghost bounded: { (devices.writes ≤ replied) × (replied ≤ 1000000) },
 }
 
 /// How a turn goes. It is small, so that a turn that asks nothing moves little.

@@ -107,6 +107,6 @@ pub fn jump(target: usize, machine: &mut Machine) -> Step
 pub fn halt(machine: &mut Machine) -> Step
     ensures { (pc : ℕ) → ObeysAlone instrs.Halt pc machine.old result machine.new }
 {
-    machine.control = Control::Closing(None);
+    machine.control = Control::Closing(0, None);
     Step::Next
 }

@@ -6,7 +6,7 @@ use crate::references::References;
 use crate::shape::Shape;
 use crate::words::Words;
 use mj_ask::Entry;
-use mj_ast::{Function, NameFunction, Scope, Special};
+use mj_ast::{Function, NameFunction, ReadMode, Scope, Special};
 use mj_oper::{Op, UnaryOp};
 use mj_text::Text;
 
@@ -98,6 +98,10 @@ pub enum Instr {
     Write,
     /// writes what the marks of a format stand for
     Format(Marks),
+    /// takes a number off, and writes what the marks of a format stand for, and then spaces up to the column of this number
+    Tab(Marks),
+    /// takes a number off, and writes the byte of this code
+    WriteByte,
     /// takes a truth value off, and goes on at the instruction with this number where it is false
     Unless(usize),
     /// goes on at the instruction with this number
@@ -118,6 +122,22 @@ pub enum Instr {
     Lock(References, Wait),
     /// takes the timeout off, if there is one, and the subscripts of the variables, and gives up their names
     Unlock(References, Wait),
+    /// takes the timeout off, if there is one; then the topmost operand is the name of a device, which the job takes. Where it has that
+    /// one open already, or doesn't get it in time, the name is taken off, and the next instruction is passed over
+    Obtain(Wait),
+    /// takes the name of a device off, and begins its session
+    BeginSession,
+    /// takes the name of an open device off, which becomes the current one
+    Use,
+    /// ends the session of the device whose name is the topmost operand. Where it doesn't end well the next instruction follows, else the one
+    /// behind that; where it is the principal device, or the job hasn't this one open, the name is taken off, and both are passed over
+    EndSession,
+    /// gives up the name of a device, which is the topmost operand; the job is over, since its session didn't end well
+    GiveUpFailed,
+    /// takes the name of a device off, and gives it up
+    GiveUp,
+    /// takes the timeout off, if there is one, and puts on what the current device gives: a line, or the code of a byte
+    Read(ReadMode, Wait),
     /// takes a truth value off, which `$TEST` becomes, and goes on at the instruction with this number where it is false
     Decide(usize),
     /// goes on at the instruction with this number where `$TEST` is false

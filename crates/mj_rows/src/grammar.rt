@@ -31,6 +31,26 @@ A;c => L2 R:1:2
  S $P(X,1,2,3,4)=1 => L2 R:1:14
  W 1,!!,X => ok
  W !X => L2 R:1:5
+ W #!?5,*65,?X,# => ok
+ W ? => L2 R:1:5
+ W !,?5#6,!?7_8 => ok
+ W ** => L7 R:1:5 power
+ W $IO,$i,$X,$x,$Y => ok
+ O X,Y::5 W 1 => ok
+ OPEN => L2 R:1:6
+ O X:: => L2 R:1:7
+ O X: => L2 R:1:6
+ U X,\"F\" W 1 => ok
+ USE => L2 R:1:5
+ C X,\"F\" W 1 => ok
+ CLOSE => L2 R:1:7
+ R:X \"a\",!#?3,X:5,*^Y(1),^Z W 1 => ok
+ READ => L2 R:1:6
+ R 5 => L2 R:1:4
+ R \"a\"_X => L2 R:1:7
+ R X_1 => L2 R:1:5
+ R X:1:2 => L2 R:1:7
+ R *5 => L2 R:1:5
  W 1, => L2 R:1:6
  HALT => ok
  HALT 1 => L2 R:1:7
@@ -144,6 +164,22 @@ fn each_refusal_is_given(rt: HostRuntime) -> Result<(), Fail> {
  HANG @X => L7 R:1:7 indirection
  HANG .5 => L7 R:1:7 fraction
  WRITE /X => L7 R:1:8 mnemonic space
+ READ /X => L7 R:1:7 mnemonic space
+ R X,/X => L7 R:1:6 mnemonic space
+ O X::: => L7 R:1:7 mnemonic space
+ O X::1: => L7 R:1:8 mnemonic space
+ READ X#5 => L7 R:1:8 read length
+ R *X(1)#5 => L7 R:1:9 read length
+ R \"a\"#5 => L2 R:1:7
+ R #5 => L2 R:1:5
+ USE X:1 => L7 R:1:7 device parameters
+ CLOSE X::1 => L7 R:1:9 device parameters
+ O X:1 => L7 R:1:6 device parameters
+ O X:;c => L7 R:1:6 device parameters
+ R @X => L7 R:1:4 indirection
+ O @X => L7 R:1:4 indirection
+ R $H => L7 R:1:4 variable
+ R $L(X) => L2 R:1:4
  SET $EXTRACT(X,1)=2 => L7 R:1:6 set extract
  WRITE $JUSTIFY(1,2,3) => L7 R:1:20 justify decimals
  WRITE $QUERY(X,-1) => L7 R:1:16 query backward
@@ -155,11 +191,6 @@ fn each_refusal_is_given(rt: HostRuntime) -> Result<(), Fail> {
  WRITE $$A => L7 R:1:8 extrinsic
  QUIT 1 => L7 R:1:7 extrinsic
  BREAK => L2 R:1:2
- USE X => L2 R:1:2
- WRITE # => L2 R:1:8
- WRITE ?5 => L2 R:1:8
- WRITE *5 => L2 R:1:8
- WRITE $X => L2 R:1:8
 ";
     let wrong = wrong_rows(rt.alloc(), rows)?;
     assert_eq!(rt; wrong.as_str(), "");

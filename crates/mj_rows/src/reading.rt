@@ -114,7 +114,7 @@ fn values_that_are_left_out_are_named(rt: HostRuntime) -> Result<(), Fail> {
  W 1e5 => L2 R:1:5
  W 1F5 => L2 R:1:5
  W 2**3 => L7 R:1:6 power
- W **3 => L2 R:1:4
+ W **3 => L7 R:1:5 power
  I X?1N => L7 R:1:5 pattern
  W X'?1N => L7 R:1:5 pattern
  W X'? => L7 R:1:5 pattern
@@ -122,7 +122,8 @@ fn values_that_are_left_out_are_named(rt: HostRuntime) -> Result<(), Fail> {
  W $L(X'?1N) => L7 R:1:8 pattern
  S X=Y'?1N => L7 R:1:7 pattern
  W 1?1N => L7 R:1:5 pattern
- W ?1N => L2 R:1:4
+ W ?1N => L2 R:1:6
+ W !?1N => L2 R:1:7
  W '?1N => L2 R:1:4
  W ''?1N => L2 R:1:5
  W X''?1N => L2 R:1:5

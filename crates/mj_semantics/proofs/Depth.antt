@@ -9,17 +9,18 @@ use Rattle.mj_ask.specs.declared.ask.Ask.TheVariants.{DeviceBegin}
 use Rattle.mj_ask.specs.declared.ask.Reply.{Reply}
 use Rattle.mj_ask.specs.declared.entry.Entry.{Entry}
 use Rattle.mj_ast.specs.declared.expr.Scope.TheVariants.{Local}
+use Rattle.mj_ast.specs.declared.routine.Mark.{Mark}
 use Rattle.mj_ast.specs.declared.function.NameFunction.{NameFunction}
-use Rattle.mj_ast.specs.Syntax.{Expr, Chain, Tails, Done, Then, Operand, Literal, Value, Intrinsic, Unary, Group, Call, About, Select, Variable, Var, Exprs, No, More as Another, Choices, Last, Before, Destination, Plain, Pieces, Targets, One, Several, Assignment, Killed, Gone, Spared, Merged, Output, Shown, Format, Called as Calling, Jumped as Jumping, Started as Starting, LockNames, Lone, Together, Locked, Range, Single, Endless, UpTo, Command, Set, Write, Halt, Hang, Job, Lock, Kill, Merge, If, Else, For, Forever, Do, Goto, Quit, New, Step, Line, Routine}
+use Rattle.mj_ast.specs.Syntax.{Expr, Chain, Tails, Done, Then, Operand, Literal, Value, Intrinsic, Unary, Group, Call, About, Select, Variable, Var, Exprs, No, More as Another, Choices, Last, Before, Destination, Plain, Pieces, Targets, One, Several, Assignment, Killed, Gone, Spared, Merged, Output, Shown, Format, Coded, Called as Calling, Jumped as Jumping, Started as Starting, LockNames, Lone, Together, Locked, Opened, Received, Input, Prompted, Arranged, Into, Range, Single, Endless, UpTo, Command, Set, Write, Halt, Hang, Job, Lock, OpenDevice, UseDevice, CloseDevice, Read, Kill, Merge, If, Else, For, Forever, Do, Goto, Quit, New, Step, Line, Routine}
 use Rattle.mj_semantics.specs.State.{State, principal, level_of, special_value, set_test, spare, passed, popped, pushed, at_place, may_go}
 use Rattle.mj_semantics.specs.Outcome.{Outcome, More, Handler, Timed, no_restart, turn}
 use Rattle.mj_semantics.specs.Lines.{Here, place_at, next_line, line_before, line_at, levels_of, entered, entry_of}
 use Rattle.mj_semantics.specs.Points.{Leave, Ways, Loop, Point, AtLine, Called, Jumped, Pass, Started, Points}
 use Rattle.mj_semantics.specs.Functions.{call_value, optional}
 use Rattle.mj_semantics.specs.Evaluation.{name_of, named_for, ev, ev_tails, ev_operand, ev_choices, ev_name, ev_named, ev_all, ev_actuals, ev_local, when}
-use Rattle.mj_semantics.specs.Commands.{Aim, Whole, Part, mark_byte, quit_frame, ev_destination, ev_destinations, assign_to, assign_all, kill, kill_list, kill_all, merge, merge_all, output, output_all, ev_timeout, hang_all, start_all, ev_names, ev_lock_names, lock_list, lock_all, ifs, ranges, calls, block, jumps, do_all, if_all, obey, obey_all}
+use Rattle.mj_semantics.specs.Commands.{Aim, Whole, Part, mark_byte, quit_frame, ev_destination, ev_destinations, assign_to, assign_all, kill, kill_list, kill_all, merge, merge_all, arrange, output, output_all, ev_timeout, hang_all, start_all, ev_names, ev_lock_names, lock_list, lock_all, open_all, use_all, close_all, receive, input, read_all, ifs, ranges, calls, block, jumps, do_all, if_all, obey, obey_all}
 use Rattle.mj_semantics.specs.Job.{quit_before, obey_line, call, jump, in_pass, at_point, points_of, Start, start, opening, run, next}
-use Rattle.mj_semantics.proofs.Words.{Stays, spent, same, Back, Keeps, none_back, less, no_turns, turned, a_turn, some_turns, looked, changed, chosen, ended, faulted, is_given, to_its_device, restarts, reads, is_about, stores, puts, puts_all, removes, names_keep, takes_nodes, puts_nodes, news_all, quits_frame, goes_deeper, writes, tests, goes_again, begins, reads_two, hangs, starts_job, unlocks_all, locks}
+use Rattle.mj_semantics.proofs.Words.{Stays, spent, same, Back, Keeps, none_back, less, no_turns, turned, a_turn, some_turns, looked, changed, chosen, ended, faulted, is_given, to_its_device, restarts, reads, is_about, stores, puts, puts_all, removes, names_keep, takes_nodes, puts_nodes, news_all, quits_frame, goes_deeper, writes, tabs, writes_code, tests, goes_again, begins, reads_two, hangs, starts_job, unlocks_all, locks, opens, uses, closes, reads_input}
 
 data KeepsQuit (more b : ℕ) : Option Timed → Option Timed → Type 0 where
   no_for : KeepsQuit more b None None
@@ -140,9 +141,14 @@ module _ (more b : ℕ) (P Q : Points) (keeps : KeepsPoints more b P Q) (here : 
   merges_all [] l = l
   merges_all (m ∷ list) l = merges m (merges_all list l)
 
+  arranges : (marks : List Mark) (o : Option Expr) {f g : Timed} → Keeps more (suc b) f g → Keeps more (suc b) (arrange P here marks o f) (arrange Q here marks o g)
+  arranges marks None l = a_turn (writes (map mark_byte marks) l)
+  arranges marks (Some e) l = evaluates e (λ v. a_turn (tabs marks v l))
+
   outputs : (o : Output) {f g : Timed} → Keeps more (suc b) f g → Keeps more (suc b) (output P here o f) (output Q here o g)
   outputs (Shown e) l = evaluates e (λ v. a_turn (writes v l))
-  outputs (Format marks) l = a_turn (writes (map mark_byte marks) l)
+  outputs (Format layout) l = arranges layout.marks layout.column l
+  outputs (Coded e) l = evaluates e (λ v. a_turn (writes_code v l))
 
   outputs_all : (list : List Output) {f g : Timed} → Keeps more (suc b) f g → Keeps more (suc b) (output_all P here list f) (output_all Q here list g)
   outputs_all [] l = l
@@ -176,6 +182,30 @@ module _ (more b : ℕ) (P Q : Points) (keeps : KeepsPoints more b P Q) (here : 
   locks_all : (list : List Locked) {f g : Timed} → Keeps more (suc b) f g → Keeps more (suc b) (lock_all P here list f) (lock_all Q here list g)
   locks_all [] l = a_turn (unlocks_all l)
   locks_all (x ∷ list) l = locks_list (x ∷ list) l
+
+  opens_all : (list : List Opened) {f g : Timed} → Keeps more (suc b) f g → Keeps more (suc b) (open_all P here list f) (open_all Q here list g)
+  opens_all [] l = l
+  opens_all (o ∷ list) l = evaluates o.device (λ v. timeout_keeps o.timeout (λ t. a_turn (opens v t (opens_all list l))))
+
+  uses_all : (es : List Expr) {f g : Timed} → Keeps more (suc b) f g → Keeps more (suc b) (use_all P here es f) (use_all Q here es g)
+  uses_all [] l = l
+  uses_all (e ∷ es) l = evaluates e (λ v. a_turn (uses v (uses_all es l)))
+
+  closes_all : (es : List Expr) {f g : Timed} → Keeps more (suc b) f g → Keeps more (suc b) (close_all P here es f) (close_all Q here es g)
+  closes_all [] l = l
+  closes_all (e ∷ es) l = evaluates e (λ v. a_turn (closes v (closes_all es l)))
+
+  receives : (r : Received) {f g : Timed} → Keeps more (suc b) f g → Keeps more (suc b) (receive P here r f) (receive Q here r g)
+  receives r l = name_keeps r.variable (λ x. timeout_keeps r.timeout (λ t. a_turn (reads_input r.mode t (λ v. a_turn (stores x v l)))))
+
+  inputs : (i : Input) {f g : Timed} → Keeps more (suc b) f g → Keeps more (suc b) (input P here i f) (input Q here i g)
+  inputs (Prompted text) l = outputs (Shown (Chain (Literal text) Done)) l
+  inputs (Arranged layout) l = arranges layout.marks layout.column l
+  inputs (Into r) l = receives r l
+
+  inputs_all : (list : List Input) {f g : Timed} → Keeps more (suc b) f g → Keeps more (suc b) (read_all P here list f) (read_all Q here list g)
+  inputs_all [] l = l
+  inputs_all (i ∷ list) l = inputs i (inputs_all list l)
 
   ifs_keep : (es : List Expr) {f g f' g' : Timed} → Keeps more (suc b) f g → Keeps more (suc b) f' g' → Keeps more (suc b) (ifs P here es f f') (ifs Q here es g g')
   ifs_keep [] l m = m
@@ -226,6 +256,10 @@ module _ (more b : ℕ) (P Q : Points) (keeps : KeepsPoints more b P Q) (here : 
   obeys (Hang es) o body w l = where_so o (hangs_all es l) l
   obeys (Job list) o body w l = where_so o (starts_all list l) l
   obeys (Lock list) o body w l = where_so o (locks_all list l) l
+  obeys (OpenDevice list) o body w l = where_so o (opens_all list l) l
+  obeys (UseDevice es) o body w l = where_so o (uses_all es l) l
+  obeys (CloseDevice es) o body w l = where_so o (closes_all es l) l
+  obeys (Read list) o body w l = where_so o (inputs_all list l) l
   obeys (Kill list) o body w l = where_so o (kills_all list l) l
   obeys (Merge list) o body w l = where_so o (merges_all list l) l
   obeys (If es) o body w l = if_keeps es w.line_end l

@@ -6,7 +6,8 @@ use Rattle.mj_ask.specs.declared.ask.Ask.TheVariants as ask
 use Rattle.mj_ask.specs.declared.ask.Reply.TheVariants as reply
 use Rattle.mj_ast.specs.Syntax.{Line}
 use Rattle.mj_semantics.specs.State.{State, OpenDevice, Frame, Mark, principal, untouched, ending_order, wrote, broke, dropped}
-use Rattle.mj_semantics.specs.Outcome.{Outcome, Needs, Ended, More, Handler, no_restart, over, restartable, settled, go_back, close}
+use Rattle.mj_semantics.specs.Outcome.{Outcome, Needs, Ended, More, Handler, no_restart, over, restartable, settled, go_back}
+use Rattle.mj_semantics.specs.Devices.{close}
 use Rattle.mj_semantics.specs.Commands.{quit_frame}
 use Rattle.mj_semantics.specs.Job.{next, opening}
 use Rattle.mj_semantics.proofs.Talk.{asks, line, text, get, write, image_of, first_at, spot}

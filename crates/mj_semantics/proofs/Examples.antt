@@ -11,8 +11,8 @@ use Rattle.mj_oper.specs.declared.op.Op.TheVariants.{Add, Multiply, Divide, Join
 use Rattle.mj_oper.specs.declared.op.TruthOp.TheVariants.{Equal}
 use Rattle.mj_oper.specs.declared.op.UnaryOp.TheVariants.{Minus}
 use Rattle.mj_ast.specs.declared.routine.Mark.TheVariants.{NewLine}
-use Rattle.mj_ast.specs.Syntax.{Chain, Done, Then, Value, Unary, No, More, Plain, Pieces, Several, One, Gone, Spared, Set, Write, Shown, Format, Halt, Kill, Merge, About, Var}
-use Rattle.mj_semantics.proofs.Talk.{asks, cmd, cmd_if, line, one, lit, local, local_at, global, global_at, name, name_at, to, set, show}
+use Rattle.mj_ast.specs.Syntax.{Chain, Done, Then, Value, Unary, No, More, Plain, Pieces, Several, One, Gone, Spared, Set, Write, Shown, Halt, Kill, Merge, About, Var}
+use Rattle.mj_semantics.proofs.Talk.{asks, cmd, cmd_if, line, one, lit, local, local_at, global, global_at, name, name_at, to, set, show, marks}
 use Rattle.mj_ast.specs.declared.expr.Scope.TheVariants.{Global}
 use Rattle.mj_ast.specs.declared.function.NameFunction.TheVariants as names
 use Rattle.mj_store.specs.declared.store.Direction.TheVariants.{Backward}
@@ -27,7 +27,7 @@ done k replies = replicate k reply.Done ++ replies
 -- SET ^A=2+3*4 WRITE ^A,! HALT
 first_run : asks (
     line (cmd (Set (record { targets = to (global (codes "A")); value = Chain (lit (codes "2")) (Then Add (lit (codes "3")) (Then Multiply (lit (codes "4")) Done)) } ∷ []))
-    ∷ cmd (Write (Shown (one (Value (global (codes "A")))) ∷ Format (NewLine ∷ []) ∷ [])) ∷ cmd Halt ∷ []) ∷ [])
+    ∷ cmd (Write (Shown (one (Value (global (codes "A")))) ∷ marks (NewLine ∷ []) ∷ [])) ∷ cmd Halt ∷ []) ∷ [])
     (done 1 (reply.Answer answer.Done ∷ reply.Answer (answer.Value (Some (codes "20"))) ∷ done 4 []))
     ≡ ask.DeviceBegin zero_name ∷ ask.Access (access.Set (name (codes "A")) (codes "20")) ∷ ask.Access (access.Value (name (codes "A")))
     ∷ ask.DeviceWrite zero_name (codes "20") ∷ ask.DeviceWrite zero_name (10 ∷ []) ∷ ask.DeviceEnd zero_name ∷ ask.Halt None ∷ []
@@ -54,7 +54,7 @@ no_line = refl
 
 -- WRITE "a",! / WRITE:1=2 "b" WRITE:"x"=0 "c" WRITE:-3 "d" / HALT:"0" WRITE "" WRITE:1 "e"
 conditions : asks (
-    line (cmd (Write (Shown (one (lit (codes "a"))) ∷ Format (NewLine ∷ []) ∷ [])) ∷ [])
+    line (cmd (Write (Shown (one (lit (codes "a"))) ∷ marks (NewLine ∷ []) ∷ [])) ∷ [])
     ∷ line (cmd_if (Chain (lit (codes "1")) (Then (Is Equal) (lit (codes "2")) Done)) (Write (Shown (one (lit (codes "b"))) ∷ []))
     ∷ cmd_if (Chain (lit (codes "x")) (Then (Is Equal) (lit (codes "0")) Done)) (Write (Shown (one (lit (codes "c"))) ∷ []))
     ∷ cmd_if (one (Unary Minus (lit (codes "3")))) (Write (Shown (one (lit (codes "d"))) ∷ [])) ∷ [])

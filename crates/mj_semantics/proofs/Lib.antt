@@ -6,3 +6,4 @@ pub mod Words
 pub mod Depth
 pub mod Devices
 pub mod Sharing
+pub mod Sessions

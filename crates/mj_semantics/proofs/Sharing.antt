@@ -1,5 +1,5 @@
 -- What routines with HANG, JOB, LOCK and `$JOB` ask, by computing. The text of each stands above it, a `/` between its lines.
-use Rattle.std.specs.Prelude.{◌≡◌, refl, ℕ, ℤ, pos, true, false, List, [], ◌∷◌, ◌++◌, Option, Some, None, Bool, codes, replicate}
+use Rattle.std.specs.Prelude.{◌≡◌, refl, ℕ, ℤ, pos, List, [], ◌∷◌, ◌++◌, Option, Some, None, codes, replicate}
 use Rattle.std.specs.Fmt.{digits}
 use Rattle.mj_text.specs.declared.fault.Fault.{Fault}
 use Rattle.mj_text.specs.declared.fault.Fault.TheVariants as faults
@@ -15,11 +15,11 @@ use Rattle.mj_oper.specs.declared.op.UnaryOp.TheVariants.{Minus}
 use Rattle.mj_ast.specs.declared.function.Special.TheVariants as special
 use Rattle.mj_ast.specs.declared.routine.LockMode.{LockMode}
 use Rattle.mj_ast.specs.declared.routine.LockMode.TheVariants as mode
-use Rattle.mj_ast.specs.Syntax.{Expr, Chain, Done, Then, Literal, Value, Intrinsic, Unary, LockNames, Lone, Together, Locked, Target, Started, Hang, Job, Lock, Step, Line}
-use Rattle.mj_semantics.specs.State.{State, principal, plain_name}
+use Rattle.mj_ast.specs.Syntax.{Expr, Chain, Done, Then, Literal, Value, Intrinsic, Unary, LockNames, Lone, Together, Locked, Target, Started, Hang, Job, Lock, Step}
+use Rattle.mj_semantics.specs.State.{principal, plain_name}
 use Rattle.mj_semantics.specs.Outcome.{Needs, More, no_restart, end}
 use Rattle.mj_semantics.specs.Points.{AtLine}
-use Rattle.mj_semantics.specs.Job.{opening, points_of, next}
+use Rattle.mj_semantics.specs.Job.{opening, points_of}
 use Rattle.mj_semantics.proofs.Talk.{asks, asked, turns, cmd, cmd_if, line, one, local, local_at, global, global_at, name, name_at, text, get, test, write, here, there, top, image_of, spot}
 
 -- the asks of a job of one line, where the replies are that it is done, these, and again that it is done

@@ -9,8 +9,9 @@ use Rattle.mj_ast.specs.declared.function.NameFunction.TheVariants as names
 use Rattle.mj_ask.specs.declared.ask.Ask.{Ask}
 use Rattle.mj_ask.specs.declared.ask.Reply.{Reply}
 use Rattle.mj_subs.specs.Name.{Name}
+use Rattle.mj_ast.specs.declared.routine.Mark.{Mark}
 use Rattle.mj_ast.specs.declared.expr.Scope.TheVariants.{Local, Global}
-use Rattle.mj_ast.specs.Syntax.{Expr, Chain, Done, Operand, Literal, Value, Intrinsic, About, Variable, Var, No, More as Another, Targets, One, Plain, Assignment, Output, Shown, Target, Called, Jumped, Command, Set, Write, Step, Line, Routine}
+use Rattle.mj_ast.specs.Syntax.{Expr, Chain, Done, Operand, Literal, Value, Intrinsic, About, Variable, Var, No, More as Another, Targets, One, Plain, Assignment, Output, Shown, Format, Target, Called, Jumped, Command, Set, Write, Step, Line, Routine}
 use Rattle.mj_semantics.specs.Outcome.{Outcome, Needs, Ended, More, no_restart, end}
 use Rattle.mj_semantics.specs.State.{Frame, Place}
 use Rattle.mj_semantics.specs.Points.{AtLine}
@@ -85,6 +86,10 @@ set t e = record { targets = t; value = e }
 -- an operand that is written
 abbrev pub show : Operand → Output
 show x = Shown (one x)
+
+-- a format of marks alone
+abbrev pub marks : List Mark → Output
+marks list = Format (record { marks = list; column = None })
 
 -- Words to write routines with.
 

@@ -20,10 +20,12 @@ use Rattle.mj_ask.specs.declared.entry.Entry.{Entry}
 use Rattle.mj_ask.specs.Fits.{is_late}
 use Rattle.mj_ast.specs.declared.routine.LockMode.{LockMode}
 use Rattle.mj_ast.specs.declared.routine.LockMode.TheVariants as mode
+use Rattle.mj_ast.specs.declared.routine.Mark.{Mark}
+use Rattle.mj_ast.specs.declared.routine.ReadMode.{ReadMode}
 use Rattle.mj_ast.specs.declared.function.NameFunction.{NameFunction}
 use Rattle.mj_ast.specs.Syntax.{Renewed, Fresh, Kept}
 use Rattle.mj_strfn.specs.Functions.{assigned_pieces, set_piece_value}
-use Rattle.mj_semantics.specs.State.{State, Only, AllBut, accessed, wrote, broke, counted, hold, has_failed, principal, ending_order, is_at_mark, newed}
+use Rattle.mj_semantics.specs.State.{State, Only, AllBut, accessed, wrote, broke, counted, hold, column_at, has_failed, principal, devices_limit, ending_order, is_open, may_close, with_device, used, dropped, is_at_mark, newed}
 use Rattle.mj_semantics.specs.Outcome.{Outcome, More, Handler, Timed, turn, turns, look, change, asking, over, no_restart, until, restartable, settled, go_back, halt, ends, end, fault, steps_limit, ask, tell, is_failed, to_device, need, given}
 use Rattle.mj_semantics.specs.Names.{spelled, asks, question, told}
 use Rattle.mj_semantics.specs.Functions.{needed, optional}
@@ -31,7 +33,8 @@ use Rattle.mj_semantics.specs.Accesses.{answer_told, answered, access, value_tol
 use Rattle.mj_semantics.specs.Evaluation.{read, about}
 use Rattle.mj_semantics.specs.Points.{Loop, Once, Always, By}
 use Rattle.mj_semantics.specs.Sharing.{is_limit, in_time, served, out_of_transaction, hang, start_job, unlock_all, take_names, give_names, lock}
-use Rattle.mj_semantics.specs.Commands.{Aim, Whole, Part, store, or_empty, renewed, renew, put, put_all, remove, named, take_nodes, put_these, put_nodes, renewal, new_list, new_all, frames_limit, quit_frame, deeper, write, if_test, is_within, stepped, again, first, reading_two}
+use Rattle.mj_semantics.specs.Devices.{is_got, has_no_session, obtain, open_device, use_device, close, is_input, input_ask, input_told, read_input}
+use Rattle.mj_semantics.specs.Commands.{Aim, Whole, Part, store, or_empty, renewed, renew, put, put_all, remove, named, take_nodes, put_these, put_nodes, renewal, new_list, new_all, frames_limit, quit_frame, deeper, write, tab_bytes, tab, coded, write_code, if_test, is_within, stepped, again, first, reading_two}
 
 -- what a run comes to with more turns, beside what it comes to with some: the same, or these were used up
 pub data Stays (o : Outcome) : Outcome → Type 0 where
@@ -225,6 +228,12 @@ writes [] l = l
 writes (x ∷ bytes) l =
     chosen (nat_lt TEXT_LIMIT (length (x ∷ bytes))) faulted (looked (λ s. to_its_device s.current (ask_kinds.DeviceWrite s.current (x ∷ bytes)) (λ r. changed {c = wrote (x ∷ bytes)} l)))
 
+pub tabs : {more b : ℕ} (marks : List Mark) (v : List ℕ) {f g : Timed} → Keeps more b f g → Keeps more b (tab marks v f) (tab marks v g)
+tabs marks v l = is_given (reading v) (λ n. looked (λ s. writes (tab_bytes marks n (column_at s.current s)) l))
+
+pub writes_code : {more b : ℕ} (v : List ℕ) {f g : Timed} → Keeps more b f g → Keeps more b (write_code v f) (write_code v g)
+writes_code v l = is_given (reading v) (λ n. is_given (coded n) (λ bytes. writes bytes l))
+
 pub tests : {more b : ℕ} (t : Bool) {f g f' g' : Timed} → Keeps more b f g → Keeps more b f' g' → Keeps more b (if_test t f f') (if_test t g g')
 tests true l m = looked (λ s. chosen s.test m l)
 tests false l m = looked (λ s. chosen s.test l m)
@@ -275,3 +284,30 @@ pub locks : {more b : ℕ} (m : LockMode) (xs : List Name) (timeout : Option ℤ
 locks mode.Whole xs timeout l = a_turn (unlocks_all (a_turn (takes_names xs timeout l)))
 locks mode.Plus xs timeout l = a_turn (takes_names xs timeout l)
 locks mode.Minus xs timeout l = a_turn (gives_names xs timeout l)
+
+-- OPEN, USE, CLOSE and READ.
+
+obtains : {more b : ℕ} (name : List ℕ) (timeout : Option ℤ) {f g f' g' : Timed} → Keeps more b f g → Keeps more b f' g' → Keeps more b (obtain name timeout f f') (obtain name timeout g g')
+obtains name timeout l m = looked (λ s.
+    chosen (is_open name s) (changed {c = in_time timeout true} l)
+    (chosen (nat_lt devices_limit (length s.devices)) faulted
+    (asked (ask_kinds.Open name timeout) (λ r.
+    chosen (has_no_session r) faulted
+    (chosen (is_got r) (changed {c = in_time timeout true} (changed {c = with_device name} m)) (changed {c = in_time timeout false} l))))))
+
+pub opens : {more b : ℕ} (name : List ℕ) (timeout : Option ℤ) {f g : Timed} → Keeps more b f g → Keeps more b (open_device name timeout f) (open_device name timeout g)
+opens name timeout l = obtains name timeout l (a_turn (to_its_device name (ask_kinds.DeviceBegin name) (λ r. l)))
+
+pub uses : {more b : ℕ} (name : List ℕ) {f g : Timed} → Keeps more b f g → Keeps more b (use_device name f) (use_device name g)
+uses name l = looked (λ s. chosen (is_open name s) (changed {c = used name} l) faulted)
+
+pub closes : {more b : ℕ} (name : List ℕ) {f g : Timed} → Keeps more b f g → Keeps more b (close name f) (close name g)
+closes name l = looked (λ s.
+    chosen (may_close name s)
+    (asked (ask_kinds.DeviceEnd name) (λ r. changed {c = dropped name}
+    (chosen (is_failed r) (a_turn (told_of (ask_kinds.Close name) faulted)) (a_turn (told_of (ask_kinds.Close name) l)))))
+    l)
+
+pub reads_input : {more b : ℕ} (m : ReadMode) (timeout : Option ℤ) {f g : List ℕ → Timed} → ((v : List ℕ) → Keeps more b (f v) (g v)) → Keeps more b (read_input m timeout f) (read_input m timeout g)
+reads_input m timeout l = looked (λ s.
+    to_its_device s.current (input_ask m s.current timeout) (λ r. changed {c = in_time timeout (is_input r)} (l (input_told m r))))

@@ -1,7 +1,8 @@
 -- What the commands of a line do (ISO/IEC 11756:1999, 8.2).
-use Rattle.std.specs.Prelude.{ℕ, ◌+◌, ℤ, int_le, ◌+ℤ◌, pos, negsuc, List, [], ◌∷◌, Option, Some, None, Bool, true, false, length, map, nat_lt, if◌then◌else◌}
+use Rattle.std.specs.Prelude.{ℕ, ◌+◌, ◌-◌, ℤ, int_le, ◌+ℤ◌, pos, negsuc, List, [], ◌∷◌, ◌++◌, Option, Some, None, Bool, true, false, Result, Ok, Err, length, map, replicate, nat_lt, if◌then◌else◌}
 use Rattle.mj_text.specs.declared.text.TheConstants.{TEXT_LIMIT}
-use Rattle.mj_text.specs.declared.fault.Fault.TheVariants.{QuitInTransaction, Length, Overlap, ForIndex, Depth}
+use Rattle.mj_text.specs.declared.fault.Fault.{Fault}
+use Rattle.mj_text.specs.declared.fault.Fault.TheVariants.{QuitInTransaction, Length, Overlap, ForIndex, Char, Depth}
 use Rattle.mj_num.specs.Number.{reading, sum_of, canonic_text}
 use Rattle.mj_oper.specs.Operators.{truth_value}
 use Rattle.mj_subs.specs.Name.{Name, overlaps}
@@ -9,16 +10,17 @@ use Rattle.mj_store.specs.Questions.{Subtree}
 use Rattle.mj_store.specs.declared.access.Access.TheVariants as accesses
 use Rattle.mj_ask.specs.declared.ask.Ask.TheVariants as asks
 use Rattle.mj_ast.specs.declared.routine.Mark.{Mark}
-use Rattle.mj_ast.specs.declared.routine.Mark.TheVariants.{NewLine}
-use Rattle.mj_ast.specs.Syntax.{Expr, Destination, Plain, Pieces, Targets, One, Several, Assignment, Killed, Gone, Spared, Merged, Output, Shown, Format, Called, Jumped, Started, LockNames, Lone, Together, Locked, Range, Single, Endless, UpTo, Renewed, Fresh, Kept, Variable, Command, Set, Write, Halt, Hang, Job, Lock, Kill, Merge, If, Else, For, Forever, Do, Goto, Quit, New, Step}
-use Rattle.mj_strfn.specs.Functions.{assigned_pieces, set_piece_value}
-use Rattle.mj_semantics.specs.State.{Only, AllBut, wrote, spare, hold, level_of, is_at_mark, set_test, newed, pushed, popped}
+use Rattle.mj_ast.specs.declared.routine.Mark.TheVariants.{NewLine, NewPage}
+use Rattle.mj_ast.specs.Syntax.{Expr, Chain, Done, Literal, Destination, Plain, Pieces, Targets, One, Several, Assignment, Killed, Gone, Spared, Merged, Output, Shown, Format, Coded, Called, Jumped, Started, LockNames, Lone, Together, Locked, Opened, Received, Input, Prompted, Arranged, Into, Range, Single, Endless, UpTo, Renewed, Fresh, Kept, Variable, Command, Set, Write, Halt, Hang, Job, Lock, OpenDevice, UseDevice, CloseDevice, Read, Kill, Merge, If, Else, For, Forever, Do, Goto, Quit, New, Step}
+use Rattle.mj_strfn.specs.Functions.{place, assigned_pieces, set_piece_value}
+use Rattle.mj_semantics.specs.State.{Only, AllBut, column_at, column_after, wrote, spare, hold, level_of, is_at_mark, set_test, newed, pushed, popped}
 use Rattle.mj_semantics.specs.Outcome.{Timed, turn, look, change, to_device, need, given, end, fault}
 use Rattle.mj_semantics.specs.Lines.{Here, place_at, next_line, entry_of}
 use Rattle.mj_semantics.specs.Points.{Leave, Ways, Loop, Once, Always, By, Points, AtLine, Called as CalledAt, Jumped as JumpedAt, Pass}
 use Rattle.mj_semantics.specs.Accesses.{access, value_told, nodes_told}
 use Rattle.mj_semantics.specs.Functions.{needed, optional}
 use Rattle.mj_semantics.specs.Sharing.{hang, start_job, unlock_all, lock}
+use Rattle.mj_semantics.specs.Devices.{open_device, use_device, close, read_input}
 use Rattle.mj_semantics.specs.Evaluation.{ev, ev_all, ev_name, ev_local, ev_actuals, when}
 
 -- SET (8.2.18).
@@ -126,9 +128,27 @@ write (b ∷ bytes) rest =
     if nat_lt TEXT_LIMIT (length (b ∷ bytes)) then fault Length
     else look (λ s. to_device s.current (asks.DeviceWrite s.current (b ∷ bytes)) (λ r. change (wrote (b ∷ bytes)) rest))
 
--- the byte that a format mark writes
+-- the byte that a format mark writes: a line feed, or a form feed
 abbrev pub mark_byte : Mark → ℕ
 mark_byte NewLine = 10
+mark_byte NewPage = 12
+
+-- what marks write, and then spaces up to a column; none where the marks lead to that column or past it, from the column where they begin
+abbrev pub tab_bytes : List Mark → ℤ → ℕ → List ℕ
+tab_bytes marks n column = map mark_byte marks ++ replicate (place n - column_after column (map mark_byte marks)) 32
+
+-- marks and then a tab, whose column is read as a number
+abbrev pub tab : List Mark → List ℕ → Timed → Timed
+tab marks v rest = given (reading v) (λ n. look (λ s. write (tab_bytes marks n (column_at s.current s)) rest))
+
+-- the byte of a code: 0 to 255, else CHAR
+abbrev pub coded : ℤ → Result (List ℕ) Fault
+coded (pos n) = if nat_lt n 256 then Ok (n ∷ []) else Err Char
+coded (negsuc n) = Err Char
+
+-- the byte whose code is read as a number
+abbrev pub write_code : List ℕ → Timed → Timed
+write_code v rest = given (reading v) (λ n. given (coded n) (λ bytes. write bytes rest))
 
 -- IF (8.2.9) and ELSE (8.2.4).
 
@@ -218,9 +238,15 @@ module _ (points : Points) (here : Here) where
 
   -- WRITE.
 
+  -- a format, of which the column has its value first
+  abbrev pub arrange : List Mark → Option Expr → Timed → Timed
+  arrange marks None rest = turn (write (map mark_byte marks) rest)
+  arrange marks (Some e) rest = ev points here e (λ v. turn (tab marks v rest))
+
   abbrev pub output : Output → Timed → Timed
   output (Shown e) rest = ev points here e (λ v. turn (write v rest))
-  output (Format marks) rest = turn (write (map mark_byte marks) rest)
+  output (Format l) rest = arrange l.marks l.column rest
+  output (Coded e) rest = ev points here e (λ v. turn (write_code v rest))
 
   abbrev pub output_all : List Output → Timed → Timed
   output_all [] rest = rest
@@ -264,6 +290,36 @@ module _ (points : Points) (here : Here) where
   abbrev pub lock_all : List Locked → Timed → Timed
   lock_all [] rest = turn (unlock_all rest)
   lock_all (l ∷ list) rest = lock_list (l ∷ list) rest
+
+  -- OPEN, USE, CLOSE and READ.
+
+  -- an argument of OPEN: the name of its device, and then its timeout
+  abbrev pub open_all : List Opened → Timed → Timed
+  open_all [] rest = rest
+  open_all (o ∷ list) rest = ev points here o.device (λ name. ev_timeout o.timeout (λ timeout. turn (open_device name timeout (open_all list rest))))
+
+  abbrev pub use_all : List Expr → Timed → Timed
+  use_all [] rest = rest
+  use_all (e ∷ es) rest = ev points here e (λ name. turn (use_device name (use_all es rest)))
+
+  abbrev pub close_all : List Expr → Timed → Timed
+  close_all [] rest = rest
+  close_all (e ∷ es) rest = ev points here e (λ name. turn (close name (close_all es rest)))
+
+  -- what is read is assigned to a variable, whose name is whole before the timeout, in a turn of its own (this profile)
+  abbrev pub receive : Received → Timed → Timed
+  receive r rest =
+      ev_name points here r.variable (λ x. ev_timeout r.timeout (λ timeout. turn (read_input r.mode timeout (λ v. turn (store x v rest)))))
+
+  -- an argument of READ: a text or a format, which is written as by WRITE, or what is read
+  abbrev pub input : Input → Timed → Timed
+  input (Prompted text) rest = output (Shown (Chain (Literal text) Done)) rest
+  input (Arranged l) rest = arrange l.marks l.column rest
+  input (Into r) rest = receive r rest
+
+  abbrev pub read_all : List Input → Timed → Timed
+  read_all [] rest = rest
+  read_all (i ∷ list) rest = input i (read_all list rest)
 
   -- IF.
 
@@ -327,6 +383,10 @@ module _ (points : Points) (here : Here) where
   obey (Hang es) c steps ways rest = when points here c (hang_all es rest) rest
   obey (Job list) c steps ways rest = when points here c (start_all list rest) rest
   obey (Lock list) c steps ways rest = when points here c (lock_all list rest) rest
+  obey (OpenDevice list) c steps ways rest = when points here c (open_all list rest) rest
+  obey (UseDevice es) c steps ways rest = when points here c (use_all es rest) rest
+  obey (CloseDevice es) c steps ways rest = when points here c (close_all es rest) rest
+  obey (Read list) c steps ways rest = when points here c (read_all list rest) rest
   obey (Kill list) c steps ways rest = when points here c (kill_all list rest) rest
   obey (Merge list) c steps ways rest = when points here c (merge_all list rest) rest
   obey (If es) c steps ways rest = if_all es ways.line_end rest

@@ -8,6 +8,7 @@ pub mod Evaluation
 pub mod Lines
 pub mod Points
 pub mod Sharing
+pub mod Devices
 pub mod Commands
 pub mod Job
 pub mod Laws

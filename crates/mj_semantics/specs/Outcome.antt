@@ -3,10 +3,10 @@ use Rattle.std.specs.Prelude.{ℕ, zero, suc, ◌==◌, List, [], ◌∷◌, ◌
 use Rattle.mj_text.specs.declared.fault.Fault.{Fault}
 use Rattle.mj_text.specs.declared.fault.Fault.TheVariants.{Steps, Device}
 use Rattle.mj_ask.specs.declared.ask.Ask.{Ask}
-use Rattle.mj_ask.specs.declared.ask.Ask.TheVariants.{DeviceWrite, DeviceEnd, Close, Halt}
+use Rattle.mj_ask.specs.declared.ask.Ask.TheVariants.{DeviceWrite, DeviceEnd, Halt}
 use Rattle.mj_ask.specs.declared.ask.Reply.{Reply}
 use Rattle.mj_ask.specs.declared.ask.Reply.TheVariants as replies_are
-use Rattle.mj_semantics.specs.State.{State, Locals, Place, places, place_of, principal, column_at, has_failed, ending_order, broke, dropped, counted}
+use Rattle.mj_semantics.specs.State.{State, Locals, Place, places, place_of, principal, column_at, has_failed, ending_order, broke, counted}
 use Rattle.mj_semantics.specs.Faults.{fault_line}
 
 -- the replies are used up at an ask, with the locals and the frames' places there, the innermost first; or the run is
@@ -114,11 +114,6 @@ is_failed _ = false
 -- an ask to the session of a device, and then the rest with its reply; where the device failed it is DEVICE
 abbrev pub to_device : List ℕ → Ask → (Reply → Timed) → Timed
 to_device name a rest = ask a (λ r. if is_failed r then change (broke name) (fault Device) else rest r)
-
--- an open device is closed: its session ends, and in a turn of its own its name is given up. Only then it is DEVICE, where the session
--- didn't end well; the device isn't open any more, so the job's end doesn't end it again
-abbrev pub close : List ℕ → Timed → Timed
-close name rest = ask (DeviceEnd name) (λ r. change (dropped name) (turn (tell (Close name) (if is_failed r then fault Device else rest))))
 
 -- the rest with a value, or the fault where there is none
 abbrev pub need : {A : Type 0} → Fault → Option A → (A → Timed) → Timed

@@ -1,13 +1,13 @@
 -- What a job holds for itself, and what changes it.
 use Rattle.std.specs.Prelude.{ℕ, pos, ◌+◌, ◌-◌, ◌==◌, List, [], ◌∷◌, ◌++◌, length, take, drop, Option, Some, None, Bool, true, false, not, ◌&&◌, ◌||◌, nat_lt, max, min, map, if◌then◌else◌}
 use Rattle.std.specs.List.{filter, fold, list_any}
-use Rattle.std.specs.Option.{unwrap_or}
+use Rattle.std.specs.Option.{is_some, unwrap_or}
 use Rattle.std.specs.Str.{bytes_eq}
 use Rattle.mj_num.specs.Number.{canonic_text}
 use Rattle.mj_subs.specs.Name.{Name}
 use Rattle.mj_oper.specs.Operators.{truth_text}
 use Rattle.mj_ast.specs.declared.function.Special.{Special}
-use Rattle.mj_ast.specs.declared.function.Special.TheVariants.{Job, Test}
+use Rattle.mj_ast.specs.declared.function.Special.TheVariants.{Io, Job, Test, X, Y}
 use Rattle.mj_store.specs.Questions.{Content, Subtree}
 use Rattle.mj_store.specs.Changes.{after_set}
 use Rattle.mj_store.specs.Runs.{after_access}
@@ -114,6 +114,18 @@ device_at name (d ∷ devices) = if bytes_eq d.name name then Some d else device
 abbrev pub column_at : List ℕ → State → ℕ
 column_at name s = elim (device_at name s.devices) [ None ↦ 0 | Some d ↦ d.column ]
 
+-- the row of an open device
+abbrev pub row_at : List ℕ → State → ℕ
+row_at name s = elim (device_at name s.devices) [ None ↦ 0 | Some d ↦ d.row ]
+
+-- whether the job has a device of this name open; the principal one always is
+abbrev pub is_open : List ℕ → State → Bool
+is_open name s = is_some (device_at name s.devices)
+
+-- whether the job may close the device of this name: it has it open, and it isn't the principal one
+abbrev pub may_close : List ℕ → State → Bool
+may_close name s = not (bytes_eq name principal) && is_open name s
+
 -- whether a call of an open device's session failed
 abbrev pub has_failed : List ℕ → State → Bool
 has_failed name s = elim (device_at name s.devices) [ None ↦ false | Some d ↦ d.failed ]
@@ -126,8 +138,11 @@ ending_order (p ∷ others) = map (λ d. d.name) others ++ p.name ∷ []
 
 -- the value of a special variable
 abbrev pub special_value : Special → State → List ℕ
+special_value Io s = s.current
 special_value Job s = canonic_text (pos s.job)
 special_value Test s = truth_text s.test
+special_value X s = canonic_text (pos (column_at s.current s))
+special_value Y s = canonic_text (pos (row_at s.current s))
 
 -- whether the words of locals are among these
 abbrev pub covers : Words → List ℕ → Bool
@@ -256,6 +271,14 @@ wrote bytes s = record s { devices = on_device s.current (moved bytes) s.devices
 -- a call of a device's session failed
 abbrev pub broke : List ℕ → State → State
 broke name s = record s { devices = on_device name (λ d. record d { failed = true }) s.devices }
+
+-- one more device is open, the last in the order of opening, at the beginning of its first row (8.2.15, OPEN)
+abbrev pub with_device : List ℕ → State → State
+with_device name s = record s { devices = s.devices ++ record { name = name; column = 0; row = 0; failed = false } ∷ [] }
+
+-- an open device becomes the current one (8.2.23, USE)
+abbrev pub used : List ℕ → State → State
+used name s = record s { current = name }
 
 -- a device isn't open any more; in the place of the current one the principal one is current (8.2.2, CLOSE)
 abbrev pub dropped : List ℕ → State → State

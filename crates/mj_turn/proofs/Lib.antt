@@ -3,3 +3,4 @@ pub mod Going
 pub mod Ranges
 pub mod Opened
 pub mod Sound
+pub mod Ends

@@ -1,10 +1,11 @@
 -- What is written of a fault, and the turns of a job's ending.
-use Rattle.std.specs.Prelude.{ℕ, ◌==◌, List, [], ◌∷◌, ◌++◌, if◌then◌else◌, Option, Some}
+use Rattle.std.specs.Prelude.{ℕ, ◌+◌, ◌==◌, List, [], ◌∷◌, ◌++◌, slice_get, if◌then◌else◌, Option, Some, None}
 use Rattle.mj_text.specs.declared.fault.Fault.{Fault}
 use Rattle.mj_ask.specs.declared.ask.Ask.TheVariants.{DeviceWrite, DeviceEnd, Halt}
-use Rattle.mj_semantics.specs.State.{Place, principal, has_failed}
-use Rattle.mj_semantics.specs.Outcome.{Timed, look, asking, over, halt, end, fault_bytes}
+use Rattle.mj_semantics.specs.State.{Place, principal, has_failed, ending_order}
+use Rattle.mj_semantics.specs.Outcome.{Timed, look, asking, over, end, fault_bytes}
 use Rattle.mj_semantics.specs.Faults.{fault_line}
+use Rattle.mj_machine.specs.Standing.{ending}
 
 -- what a fault writes, by the column of the device and the place of the innermost frame
 abbrev pub told_bytes : Fault → ℕ → Option Place → List ℕ
@@ -14,10 +15,18 @@ told_bytes f column place = (if column == 0 then [] else 10 ∷ []) ++ fault_lin
 abbrev pub telling : Fault → Timed
 telling f = look (λ s. if has_failed principal s then end (Some f) else asking (DeviceWrite principal (fault_bytes f s)) (λ r. end (Some f)))
 
--- the turn in which the principal session ends, which is the only one
-abbrev pub closing : Option Fault → Timed
-closing f = asking (DeviceEnd principal) (λ r. halt f)
+-- the turn in which the session of a device ends, behind so many others
+abbrev pub closing_one : ℕ → List ℕ → Option Fault → Timed
+closing_one done name f = asking (DeviceEnd name) (λ r. ending (done + 1) f)
 
 -- the turn in which the job ends
 abbrev pub halting : Option Fault → Timed
 halting f = asking (Halt f) (λ r. over)
+
+-- the turn behind the ends of so many sessions: the next one ends, or, where there is none, the job
+abbrev pub closing_by : ℕ → Option Fault → Option (List ℕ) → Timed
+closing_by done f None = halting f
+closing_by done f (Some name) = closing_one done name f
+
+abbrev pub closing : ℕ → Option Fault → Timed
+closing done f = look (λ s. closing_by done f (slice_get (ending_order s.devices) done))

@@ -7,6 +7,6 @@ use Rattle.mj_turn.specs.declared.start.Start.{Start}
 abbrev pub start_of : Start → jobs.Start
 start_of s = record { job = s.job; entry = s.entry; values = s.values.items }
 
--- the column and the row of the principal device, and how many asks were replied to
-abbrev pub counts : Machine → ℕ × ℕ × ℕ
-counts m = (m.column, m.row, m.replied)
+-- how many writes were done, and how many asks were replied to
+abbrev pub counts : Machine → ℕ × ℕ
+counts m = (m.devices.writes, m.replied)

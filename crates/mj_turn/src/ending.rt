@@ -1,14 +1,15 @@
 // The turns before a job's first instruction and after its last.
 
-ghost use Rattle.std.specs.Prelude.{IfOk, OnErr};
+ghost use Rattle.std.specs.Prelude.{◌+◌, ◌<◌, ◌^◌, IfOk, OnErr};
 ghost use Rattle.mj_machine.specs.Kept.{Does, Stays, replied};
-ghost use Rattle.mj_turn.specs.Faults.{telling, closing, halting};
+ghost use Rattle.mj_turn.specs.Faults.{telling, closing, closing_one, halting};
 
 use crate::fault::fault_text;
 use mj_ask::{Ask, Reply};
-use mj_machine::asking::{principal, wait};
+use mj_machine::asking::wait;
 use mj_machine::{Control, Machine, Step};
-use mj_text::Fault;
+use mj_open::principal;
+use mj_text::{Fault, Text};
 use std::alloc::{AllocError, Global};
 
 /// A fault is told of, but not to a principal device that failed. Whether its line is written changes nothing.
@@ -22,8 +23,8 @@ pub fn tell_fault(
     ensures ok { IfOk result (λ step. Does (λ next. telling fault) machine.old (replied given.entry) step machine.new) }
     ensures err { OnErr result (Stays machine.old machine.new) }
 {
-    if machine.failed {
-        machine.control = Control::Closing(Some(fault));
+    if machine.devices.principal_failed() {
+        machine.control = Control::Closing(0, Some(fault));
         return Ok(Step::Next);
     }
     match given {
@@ -32,35 +33,55 @@ pub fn tell_fault(
             wait(alloc, Ask::DeviceWrite(principal(alloc), line))
         }
         Some(_) => {
-            machine.control = Control::Closing(Some(fault));
+            machine.control = Control::Closing(0, Some(fault));
             Ok(Step::Took)
         }
     }
 }
 
-/// The principal session ends.
+/// Where so many of its sessions have ended, the next one ends, or, where there is none, the job.
 #[inline(never)]
 pub fn close(
     alloc: Global,
+    done: usize,
     fault: Option<Fault>,
     machine: &mut Machine,
     given: Option<&Reply>,
 ) -> Result<Step, AllocError>
-    ensures ok { IfOk result (λ step. Does (λ next. closing fault) machine.old (replied given.entry) step machine.new) }
+    ensures ok { IfOk result (λ step. Does (λ next. closing done fault) machine.old (replied given.entry) step machine.new) }
+    ensures err { OnErr result (Stays machine.old machine.new) }
+{
+    match machine.devices.ending(alloc, done)? {
+        Some(device) => end_session(alloc, done, device, fault, machine, given),
+        None => finish(alloc, fault, machine, given),
+    }
+}
+
+// The session of a device ends, behind so many others.
+fn end_session(
+    alloc: Global,
+    done: usize,
+    device: Text,
+    fault: Option<Fault>,
+    machine: &mut Machine,
+    given: Option<&Reply>,
+) -> Result<Step, AllocError>
+    requires { done + 1 < 2 ^ 64 }
+    ensures ok { IfOk result (λ step. Does (λ next. closing_one done device fault) machine.old (replied given.entry) step machine.new) }
     ensures err { OnErr result (Stays machine.old machine.new) }
 {
     match given {
-        None => wait(alloc, Ask::DeviceEnd(principal(alloc))),
+        None => wait(alloc, Ask::DeviceEnd(device)),
         Some(_) => {
-            machine.control = Control::Halting(fault);
+            drop(device);
+            machine.control = Control::Closing(done + 1, fault);
             Ok(Step::Took)
         }
     }
 }
 
-/// The job ends.
-#[inline(never)]
-pub fn finish(
+// The job ends.
+fn finish(
     alloc: Global,
     fault: Option<Fault>,
     machine: &mut Machine,

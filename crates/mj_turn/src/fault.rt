@@ -18,7 +18,12 @@ use std::alloc::{AllocError, Global};
 pub fn fault_text(alloc: Global, fault: Fault, machine: &Machine) -> Result<Text, AllocError>
     ensures { IfOk result (λ t. t ≡ fault_bytes fault (state_of machine.now)) }
 {
-    told_text(alloc, fault, machine.column, machine.frames.place())
+    told_text(
+        alloc,
+        fault,
+        machine.devices.principal_column(),
+        machine.frames.place(),
+    )
 }
 
 // The same by the column of the device, and the place.

@@ -10,7 +10,7 @@ ghost use Rattle.mj_turn.specs.Sound.{IsReady, IsSound};
 ghost use Rattle.mj_turn.specs.Units.{AreSmall, IsSmall};
 
 use crate::calling::{begin, call_line};
-use crate::ending::{close, finish, tell_fault};
+use crate::ending::{close, tell_fault};
 use crate::entering::{block, go_to};
 use crate::flow::{branch, decide, end_unit, enter_line};
 use crate::leaving::quit;
@@ -133,8 +133,7 @@ pub fn make_turn(
             },
         },
         Control::Faulted(fault) => tell_fault(alloc, fault, machine, given),
-        Control::Closing(fault) => close(alloc, fault, machine, given),
-        Control::Halting(fault) => finish(alloc, fault, machine, given),
+        Control::Closing(done, fault) => close(alloc, done, fault, machine, given),
         Control::Over => Ok(Step::Ends),
     }
 }

@@ -2,11 +2,11 @@ use Rattle.std.proofs.Common.{◌∙◌, [], map, refl, ap, sym, true, false, in
 use Rattle.mj_ast.specs.declared.keyword.Keyword.{Keyword}
 use Rattle.mj_ast.specs.declared.keyword.Keyword.TheVariants as keyword
 use Rattle.mj_ast.specs.declared.keyword.Verb.TheVariants.{Of}
-use Rattle.mj_ast.specs.Syntax.{Set, Write, Hang, Job, Lock, Kill, Merge, If, For, Do, Goto, New}
-use Rattle.mj_ast.specs.Commands.{called_parts, plain_called, started_parts, plain_started, locked_parts, assignment_parts, output_parts, killed_parts, merged_parts, value_parts, jumped_parts, renewed_parts}
-use Rattle.mj_ast.specs.Trees.{assignment_of, output_of, killed_of, merged_of, expr_of, variable_of, range_of, called_of, started_of, locked_of, jumped_of, renewed_of}
+use Rattle.mj_ast.specs.Syntax.{Set, Write, Hang, Job, Lock, Kill, Merge, If, For, Do, Goto, New, OpenDevice, UseDevice, CloseDevice, Read}
+use Rattle.mj_ast.specs.Commands.{called_parts, plain_called, started_parts, plain_started, locked_parts, assignment_parts, output_parts, opened_parts, input_parts, killed_parts, merged_parts, value_parts, jumped_parts, renewed_parts}
+use Rattle.mj_ast.specs.Trees.{assignment_of, output_of, opened_of, input_of, killed_of, merged_of, expr_of, variable_of, range_of, called_of, started_of, locked_of, jumped_of, renewed_of}
 use Rattle.mj_lex.specs.Seen.{tokens_seen}
-use Rattle.mj_line.specs.Forms.{Calls, Jumps, Starts, LockWanted, LockEnd, SetTarget, SetEnd, OutputWanted, OutputEnd, KillWanted, KillEnd, MergeInto, MergeEnd, ValueWanted, ValueEnd, ForWanted, LimitEnd, EntryWanted, GuardEnd, NewWanted, NewEnd, may_be_bare}
+use Rattle.mj_line.specs.Forms.{Calls, Jumps, Starts, LockWanted, LockEnd, SetTarget, SetEnd, OutputWanted, OutputEnd, Writes, Reads, DeviceWanted, DeviceWaited, KillWanted, KillEnd, MergeInto, MergeEnd, ValueWanted, ValueEnd, ForWanted, LimitEnd, EntryWanted, GuardEnd, NewWanted, NewEnd, may_be_bare}
 use Rattle.mj_line.specs.Machine.{Behind, At, args_rest, run}
 use Rattle.mj_cmd.proofs.Follow.{room_for, args_end, blank_opens, at_keyword, reads_as_err, refuses_from}
 use Rattle.mj_cmd.proofs.Lists.{items_written, items_parts}
@@ -32,9 +32,9 @@ returns-in_ok-arguments-in-Write-clause-reads c = λ m r o condition.
       a.0,
       λ l. ((Write (map output_of c.in_ok-arguments-in-Write.arguments.items), items_parts output_of output_parts c.in_ok-arguments-in-Write.arguments.items a.0 (a.1 l), refl), sym c.in-Write.is),
       at_keyword m o condition c.args.keyword keyword.Write (tokens_seen c.args.tokens.now) c.in-Write.is
-          ∙ blank_opens m o condition (Of keyword.Write) OutputWanted (tokens_seen c.args.tokens.now) (tokens_seen c.args.behind.now) c.requires.blank refl
+          ∙ blank_opens m o condition (Of keyword.Write) (OutputWanted Writes) (tokens_seen c.args.tokens.now) (tokens_seen c.args.behind.now) c.requires.blank refl
           ∙ a.2
-          ∙ args_end m o condition (Of keyword.Write) a.0 OutputEnd (tokens_seen c.in_ok-arguments-in-Write.rest.now) refl c.in_ok-arguments-in-Write.ensures.parted
+          ∙ args_end m o condition (Of keyword.Write) a.0 (OutputEnd Writes) (tokens_seen c.in_ok-arguments-in-Write.rest.now) refl c.in_ok-arguments-in-Write.ensures.parted
           ∙ kw,
     )
 
@@ -168,6 +168,58 @@ returns-in_ok-arguments-in-Lock-clause-reads c = λ m r o condition.
           ∙ kw,
     )
 
+pub returns-in_ok-arguments-in-Open-clause-reads : goal.returns-in_ok-arguments-in-Open-clause-reads
+returns-in_ok-arguments-in-Open-clause-reads c = λ m r o condition.
+    let a = c.in_ok-arguments-in-Open.ensures.reads tt m (room_for c.args.phrases.limited m c.args.tokens.now c.args.behind.now c.requires.room r) tt o condition (Of keyword.Open) [] in
+    let kw = ap (λ (k : Keyword). run m (tokens_seen c.in_ok-arguments-in-Open.rest.now) (At (Behind (args_rest o condition (Of k) a.0)))) (sym c.in-Open.is) in (
+      a.0,
+      λ l. ((OpenDevice (map opened_of c.in_ok-arguments-in-Open.arguments.items), items_parts opened_of opened_parts c.in_ok-arguments-in-Open.arguments.items a.0 (a.1 l), refl), sym c.in-Open.is),
+      at_keyword m o condition c.args.keyword keyword.Open (tokens_seen c.args.tokens.now) c.in-Open.is
+          ∙ blank_opens m o condition (Of keyword.Open) DeviceWanted (tokens_seen c.args.tokens.now) (tokens_seen c.args.behind.now) c.requires.blank refl
+          ∙ a.2
+          ∙ args_end m o condition (Of keyword.Open) a.0 DeviceWaited (tokens_seen c.in_ok-arguments-in-Open.rest.now) refl c.in_ok-arguments-in-Open.ensures.parted
+          ∙ kw,
+    )
+
+pub returns-in_ok-arguments-in-Use-clause-reads : goal.returns-in_ok-arguments-in-Use-clause-reads
+returns-in_ok-arguments-in-Use-clause-reads c = λ m r o condition.
+    let a = c.in_ok-arguments-in-Use.ensures.reads false m (room_for c.args.phrases.limited m c.args.tokens.now c.args.behind.now c.requires.room r) (inl refl) o condition (Of keyword.Use) [] in
+    let kw = ap (λ (k : Keyword). run m (tokens_seen c.in_ok-arguments-in-Use.rest.now) (At (Behind (args_rest o condition (Of k) a.0)))) (sym c.in-Use.is) in (
+      a.0,
+      λ l. ((UseDevice (map expr_of c.in_ok-arguments-in-Use.arguments.items), items_parts expr_of value_parts c.in_ok-arguments-in-Use.arguments.items a.0 (a.1 l), refl), sym c.in-Use.is),
+      at_keyword m o condition c.args.keyword keyword.Use (tokens_seen c.args.tokens.now) c.in-Use.is
+          ∙ blank_opens m o condition (Of keyword.Use) (ValueWanted false) (tokens_seen c.args.tokens.now) (tokens_seen c.args.behind.now) c.requires.blank refl
+          ∙ a.2
+          ∙ args_end m o condition (Of keyword.Use) a.0 ValueEnd (tokens_seen c.in_ok-arguments-in-Use.rest.now) refl c.in_ok-arguments-in-Use.ensures.parted
+          ∙ kw,
+    )
+
+pub returns-in_ok-arguments-in-Close-clause-reads : goal.returns-in_ok-arguments-in-Close-clause-reads
+returns-in_ok-arguments-in-Close-clause-reads c = λ m r o condition.
+    let a = c.in_ok-arguments-in-Close.ensures.reads false m (room_for c.args.phrases.limited m c.args.tokens.now c.args.behind.now c.requires.room r) (inl refl) o condition (Of keyword.Close) [] in
+    let kw = ap (λ (k : Keyword). run m (tokens_seen c.in_ok-arguments-in-Close.rest.now) (At (Behind (args_rest o condition (Of k) a.0)))) (sym c.in-Close.is) in (
+      a.0,
+      λ l. ((CloseDevice (map expr_of c.in_ok-arguments-in-Close.arguments.items), items_parts expr_of value_parts c.in_ok-arguments-in-Close.arguments.items a.0 (a.1 l), refl), sym c.in-Close.is),
+      at_keyword m o condition c.args.keyword keyword.Close (tokens_seen c.args.tokens.now) c.in-Close.is
+          ∙ blank_opens m o condition (Of keyword.Close) (ValueWanted false) (tokens_seen c.args.tokens.now) (tokens_seen c.args.behind.now) c.requires.blank refl
+          ∙ a.2
+          ∙ args_end m o condition (Of keyword.Close) a.0 ValueEnd (tokens_seen c.in_ok-arguments-in-Close.rest.now) refl c.in_ok-arguments-in-Close.ensures.parted
+          ∙ kw,
+    )
+
+pub returns-in_ok-arguments-in-Read-clause-reads : goal.returns-in_ok-arguments-in-Read-clause-reads
+returns-in_ok-arguments-in-Read-clause-reads c = λ m r o condition.
+    let a = c.in_ok-arguments-in-Read.ensures.reads tt m (room_for c.args.phrases.limited m c.args.tokens.now c.args.behind.now c.requires.room r) tt o condition (Of keyword.Read) [] in
+    let kw = ap (λ (k : Keyword). run m (tokens_seen c.in_ok-arguments-in-Read.rest.now) (At (Behind (args_rest o condition (Of k) a.0)))) (sym c.in-Read.is) in (
+      a.0,
+      λ l. ((Read (map input_of c.in_ok-arguments-in-Read.arguments.items), items_parts input_of input_parts c.in_ok-arguments-in-Read.arguments.items a.0 (a.1 l), refl), sym c.in-Read.is),
+      at_keyword m o condition c.args.keyword keyword.Read (tokens_seen c.args.tokens.now) c.in-Read.is
+          ∙ blank_opens m o condition (Of keyword.Read) (OutputWanted Reads) (tokens_seen c.args.tokens.now) (tokens_seen c.args.behind.now) c.requires.blank refl
+          ∙ a.2
+          ∙ args_end m o condition (Of keyword.Read) a.0 (OutputEnd Reads) (tokens_seen c.in_ok-arguments-in-Read.rest.now) refl c.in_ok-arguments-in-Read.ensures.parted
+          ∙ kw,
+    )
+
 -- refusals
 
 pub returns-in_err-arguments-in-Set-clause-reads : goal.returns-in_err-arguments-in-Set-clause-reads
@@ -179,7 +231,7 @@ returns-in_err-arguments-in-Set-clause-reads c = λ m r o condition.
 pub returns-in_err-arguments-in-Write-clause-reads : goal.returns-in_err-arguments-in-Write-clause-reads
 returns-in_err-arguments-in-Write-clause-reads c = λ m r o condition.
     reads_as_err c.args.phrases.limited _ _ c.from_residual-in_err-arguments-in-Write.result c.in_err-arguments-in-Write.field-0.0 m c.args.tokens.now _ _ c.from_residual-in_err-arguments-in-Write.ensures.1
-    (refuses_from c.args.phrases.limited c.in_err-arguments-in-Write.field-0.0 _ _ (at_keyword m o condition c.args.keyword keyword.Write (tokens_seen c.args.tokens.now) c.in-Write.is ∙ blank_opens m o condition (Of keyword.Write) OutputWanted (tokens_seen c.args.tokens.now) (tokens_seen c.args.behind.now) c.requires.blank refl)
+    (refuses_from c.args.phrases.limited c.in_err-arguments-in-Write.field-0.0 _ _ (at_keyword m o condition c.args.keyword keyword.Write (tokens_seen c.args.tokens.now) c.in-Write.is ∙ blank_opens m o condition (Of keyword.Write) (OutputWanted Writes) (tokens_seen c.args.tokens.now) (tokens_seen c.args.behind.now) c.requires.blank refl)
     (c.in_err-arguments-in-Write.ensures.reads tt m (room_for c.args.phrases.limited m c.args.tokens.now c.args.behind.now c.requires.room r) tt o condition (Of keyword.Write) []))
 
 pub returns-in_err-arguments-in-Hang-clause-reads : goal.returns-in_err-arguments-in-Hang-clause-reads
@@ -235,3 +287,27 @@ returns-in_err-arguments-in-New-clause-reads c = λ m r o condition.
     reads_as_err c.args.phrases.limited _ _ c.from_residual-in_err-arguments-in-New.result c.in_err-arguments-in-New.field-0.0 m c.args.tokens.now _ _ c.from_residual-in_err-arguments-in-New.ensures.1
     (refuses_from c.args.phrases.limited c.in_err-arguments-in-New.field-0.0 _ _ (at_keyword m o condition c.args.keyword keyword.New (tokens_seen c.args.tokens.now) c.in-New.is ∙ blank_opens m o condition (Of keyword.New) (NewWanted true) (tokens_seen c.args.tokens.now) (tokens_seen c.args.behind.now) c.requires.blank refl)
     (c.in_err-arguments-in-New.ensures.reads tt m (room_for c.args.phrases.limited m c.args.tokens.now c.args.behind.now c.requires.room r) (c.requires.other (ap (λ (k : Keyword). may_be_bare (Of k)) c.in-New.is)) o condition (Of keyword.New) []))
+
+pub returns-in_err-arguments-in-Open-clause-reads : goal.returns-in_err-arguments-in-Open-clause-reads
+returns-in_err-arguments-in-Open-clause-reads c = λ m r o condition.
+    reads_as_err c.args.phrases.limited _ _ c.from_residual-in_err-arguments-in-Open.result c.in_err-arguments-in-Open.field-0.0 m c.args.tokens.now _ _ c.from_residual-in_err-arguments-in-Open.ensures.1
+    (refuses_from c.args.phrases.limited c.in_err-arguments-in-Open.field-0.0 _ _ (at_keyword m o condition c.args.keyword keyword.Open (tokens_seen c.args.tokens.now) c.in-Open.is ∙ blank_opens m o condition (Of keyword.Open) DeviceWanted (tokens_seen c.args.tokens.now) (tokens_seen c.args.behind.now) c.requires.blank refl)
+    (c.in_err-arguments-in-Open.ensures.reads tt m (room_for c.args.phrases.limited m c.args.tokens.now c.args.behind.now c.requires.room r) tt o condition (Of keyword.Open) []))
+
+pub returns-in_err-arguments-in-Use-clause-reads : goal.returns-in_err-arguments-in-Use-clause-reads
+returns-in_err-arguments-in-Use-clause-reads c = λ m r o condition.
+    reads_as_err c.args.phrases.limited _ _ c.from_residual-in_err-arguments-in-Use.result c.in_err-arguments-in-Use.field-0.0 m c.args.tokens.now _ _ c.from_residual-in_err-arguments-in-Use.ensures.1
+    (refuses_from c.args.phrases.limited c.in_err-arguments-in-Use.field-0.0 _ _ (at_keyword m o condition c.args.keyword keyword.Use (tokens_seen c.args.tokens.now) c.in-Use.is ∙ blank_opens m o condition (Of keyword.Use) (ValueWanted false) (tokens_seen c.args.tokens.now) (tokens_seen c.args.behind.now) c.requires.blank refl)
+    (c.in_err-arguments-in-Use.ensures.reads false m (room_for c.args.phrases.limited m c.args.tokens.now c.args.behind.now c.requires.room r) (inl refl) o condition (Of keyword.Use) []))
+
+pub returns-in_err-arguments-in-Close-clause-reads : goal.returns-in_err-arguments-in-Close-clause-reads
+returns-in_err-arguments-in-Close-clause-reads c = λ m r o condition.
+    reads_as_err c.args.phrases.limited _ _ c.from_residual-in_err-arguments-in-Close.result c.in_err-arguments-in-Close.field-0.0 m c.args.tokens.now _ _ c.from_residual-in_err-arguments-in-Close.ensures.1
+    (refuses_from c.args.phrases.limited c.in_err-arguments-in-Close.field-0.0 _ _ (at_keyword m o condition c.args.keyword keyword.Close (tokens_seen c.args.tokens.now) c.in-Close.is ∙ blank_opens m o condition (Of keyword.Close) (ValueWanted false) (tokens_seen c.args.tokens.now) (tokens_seen c.args.behind.now) c.requires.blank refl)
+    (c.in_err-arguments-in-Close.ensures.reads false m (room_for c.args.phrases.limited m c.args.tokens.now c.args.behind.now c.requires.room r) (inl refl) o condition (Of keyword.Close) []))
+
+pub returns-in_err-arguments-in-Read-clause-reads : goal.returns-in_err-arguments-in-Read-clause-reads
+returns-in_err-arguments-in-Read-clause-reads c = λ m r o condition.
+    reads_as_err c.args.phrases.limited _ _ c.from_residual-in_err-arguments-in-Read.result c.in_err-arguments-in-Read.field-0.0 m c.args.tokens.now _ _ c.from_residual-in_err-arguments-in-Read.ensures.1
+    (refuses_from c.args.phrases.limited c.in_err-arguments-in-Read.field-0.0 _ _ (at_keyword m o condition c.args.keyword keyword.Read (tokens_seen c.args.tokens.now) c.in-Read.is ∙ blank_opens m o condition (Of keyword.Read) (OutputWanted Reads) (tokens_seen c.args.tokens.now) (tokens_seen c.args.behind.now) c.requires.blank refl)
+    (c.in_err-arguments-in-Read.ensures.reads tt m (room_for c.args.phrases.limited m c.args.tokens.now c.args.behind.now c.requires.room r) tt o condition (Of keyword.Read) []))

@@ -1,4 +1,4 @@
-use Rattle.std.proofs.Common.{◌≡◌, ◌-◌, ◌∙◌, ap, take, length, reverse, sym, arith}
+use Rattle.std.proofs.Common.{◌-◌, ◌∙◌, ap, take, reverse, sym}
 use Rattle.mj_machine.proofs.Operands.{reverse_take, below_is}
 use Rattle.mj_machine.proofs.stack.take_one.Goals as goal
 

@@ -1,6 +1,5 @@
 use Rattle.std.proofs.Common.{None}
 use Rattle.std.specs.Prelude.{Err}
-use Rattle.mj_semantics.specs.Outcome.{given}
 use Rattle.mj_machine.specs.Standing.{given_first}
 use Rattle.mj_machine.specs.Kept.{state_of, with_value}
 use Rattle.mj_machine.proofs.Asks.{given_is, answers_fault}

@@ -1,10 +1,11 @@
 use Rattle.std.proofs.Common.{◌≡◌, ℕ, ◌+◌, ◌-◌, [], None, true, false, refl, sym, ap, ◌∙◌, arith}
 use Rattle.std.specs.Prelude.{option_map}
 use Rattle.std.proofs.lemmas.Result.{IfOk-weaker}
-use Rattle.mj_text.specs.declared.fault.Fault.TheVariants.{Steps}
+use Rattle.mj_text.specs.declared.fault.Fault.TheVariants.{Steps, Device}
 use Rattle.mj_ask.specs.declared.ask.Ask.TheVariants.{DeviceBegin}
-use Rattle.mj_semantics.specs.State.{principal, places}
+use Rattle.mj_semantics.specs.State.{principal, places, counted}
 use Rattle.mj_semantics.specs.Outcome.{Needs, Timed, fault}
+use Rattle.mj_open.specs.Opened.{Opened}
 use Rattle.mj_pcode.specs.Found.{found}
 use Rattle.mj_pcode.specs.Machine.{Next, calls}
 use Rattle.mj_turn.specs.Starts.{start_of}
@@ -45,7 +46,8 @@ returns-then-is_failed-clause-ok c =
       tt,
       λ next n handle replies.
           ap (λ g. standings.begin start c.args.units.now next n (handle None) (state_of old) (standings.given_first (replied g) replies)) c.in-Some.is
-          ∙ device_tells principal (DeviceBegin principal) (rest next) n (handle None) (state_of old) r true replies c.if-machine-ge-STEPS_LIMIT.false (sym c.is_failed.ensures ∙ c.if-is_failed.true),
+          ∙ device_tells principal (DeviceBegin principal) (rest next) n (handle None) (state_of old) r true replies c.if-machine-ge-STEPS_LIMIT.false (sym c.is_failed.ensures ∙ c.if-is_failed.true)
+          ∙ ap (λ (o : Opened). fault Device n (handle None) (record (counted (state_of old)) { devices = o.devices; current = o.current }) replies) (sym c.fail_principal.ensures),
     )
 
 pub returns-in-Err-clause-err : goal.returns-in-Err-clause-err

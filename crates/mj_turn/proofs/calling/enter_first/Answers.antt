@@ -14,16 +14,6 @@ use Rattle.mj_machine.specs.Kept.{standing, state_of}
 use Rattle.mj_turn.proofs.Opened.{opens, called}
 use Rattle.mj_turn.proofs.calling.enter_first.Goals as goal
 
--- what a standing machine counts
-abbrev first_of : Standing → ℕ × ℕ × ℕ
-first_of st = elim st.state.devices [ [] ↦ (0, 0, 0) | d ∷ ds ↦ (d.column, d.row, st.state.replied) ]
-
-pub returns-in_err-open_frame-clause-same : goal.returns-in_err-open_frame-clause-same
-returns-in_err-open_frame-clause-same c = ap first_of (c.in_err-open_frame.ensures.err None)
-
-pub returns-clause-same : goal.returns-clause-same
-returns-clause-same c = ap first_of (c.in_ok-open_frame.ensures.ok None)
-
 pub returns-in-Err-clause-ok : goal.returns-in-Err-clause-ok
 returns-in-Err-clause-ok c = λ reply. (
   tt,

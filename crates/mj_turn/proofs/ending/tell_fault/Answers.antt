@@ -18,7 +18,7 @@ returns-in_ok-line-in-None-clause-ok c =
     IfOk-weaker c.wait.result _ _
     (λ step w. waits (λ next. telling f) (DeviceWrite c.principal.result c.in_ok-line-in-None.line) old (replied c.args.given) step (ap (option_map (λ r. r.now)) c.in-None.is) w
     (λ next n back.
-    ap (λ b. (if b then end (Some f) else line) n back (state_of old) []) c.if-machine.false
+    ap (λ b. (if b then end (Some f) else line) n back (state_of old) []) (sym c.principal_failed.ensures ∙ c.if-principal_failed.false)
     ∙ ap (λ p. Needs (DeviceWrite p (fault_bytes f (state_of old))) (state_of old).locals (places (state_of old))) (sym c.principal.ensures)
     ∙ ap (λ t. Needs (DeviceWrite c.principal.result t) (state_of old).locals (places (state_of old))) (sym c.in_ok-line-in-None.ensures)))
     c.wait.ensures
@@ -31,5 +31,15 @@ returns-in-Some-clause-ok c = (
       let f = c.args.fault in
       let line = asking (DeviceWrite principal (fault_bytes f (state_of old))) (λ r. end (Some f)) in
       ap (λ g. telling f n (handle None) (state_of old) (given_first (replied g) replies)) c.in-Some.is
-      ∙ ap (λ b. (if b then end (Some f) else line) n (handle None) (state_of old) (given_first (replied (Some c.in-Some.field-0)) replies)) c.if-machine.false,
+      ∙ ap (λ b. (if b then end (Some f) else line) n (handle None) (state_of old) (given_first (replied (Some c.in-Some.field-0)) replies)) (sym c.principal_failed.ensures ∙ c.if-principal_failed.false),
+)
+
+pub returns-then-principal_failed-clause-ok : goal.returns-then-principal_failed-clause-ok
+returns-then-principal_failed-clause-ok c = (
+  tt,
+  λ next n handle replies.
+      let old = c.args.machine.now in
+      let f = c.args.fault in
+      let line = asking (DeviceWrite principal (fault_bytes f (state_of old))) (λ r. end (Some f)) in
+      ap (λ b. (if b then end (Some f) else line) n (handle None) (state_of old) (given_first (replied c.args.given) replies)) (sym c.principal_failed.ensures ∙ c.if-principal_failed.true),
 )

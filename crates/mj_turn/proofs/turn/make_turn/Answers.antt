@@ -4,7 +4,7 @@ use Rattle.std.proofs.lemmas.Option.{slice_get-get_or, slice_get_past}
 use Rattle.std.proofs.lemmas.Bool.{ltb-false}
 use Rattle.std.proofs.lemmas.Result.{IfOk-weaker}
 use Rattle.mj_turn.specs.Starts.{start_of}
-use Rattle.mj_turn.specs.Faults.{telling, closing, halting}
+use Rattle.mj_turn.specs.Faults.{telling, closing}
 use Rattle.mj_semantics.specs.Outcome.{no_restart}
 use Rattle.mj_pcode.specs.Machine.{act, act_in, exec}
 use Rattle.mj_machine.specs.Standing.{Code, left, from, begin}
@@ -13,6 +13,7 @@ use Rattle.mj_pcode.specs.Checked.{footing, Holds, footings_in}
 use Rattle.mj_pcode.specs.Sound.{IsPlaceIn, instr_at, operands_at, IsPlace}
 use Rattle.mj_turn.specs.Sound.{MayStand}
 use Rattle.mj_turn.proofs.Sound.{turn_sound, is_ready, begin_keeps, act_keeps}
+use Rattle.mj_turn.proofs.Ends.{ending_turn}
 use Rattle.mj_turn.proofs.Turns.{steps_of}
 use Rattle.mj_turn.proofs.turn.make_turn.Goals as goal
 
@@ -84,23 +85,13 @@ pub returns-in-Closing-clause-ok : goal.returns-in-Closing-clause-ok
 returns-in-Closing-clause-ok c =
     let old = c.args.machine.now in
     let code : Code = record { units = c.args.units.now; start = start_of c.args.start.now } in
+    let done = c.in-Closing.done in
     let f = c.in-Closing.fault in
     IfOk-weaker c.close.result _ _
-    (λ step d. steps_of code (λ next. closing f) (λ n. from code.units) old (replied c.args.given) step _
-    (λ n replies. ap (λ k. left code k (context_of old) (stack_of old) (suc n) no_restart (state_of old) replies) c.in-Closing.is)
+    (λ step d. steps_of code (λ next. closing done f) (λ n. from code.units) old (replied c.args.given) step _
+    (λ n replies. ap (λ k. left code k (context_of old) (stack_of old) (suc n) no_restart (state_of old) replies) c.in-Closing.is ∙ ending_turn done f n no_restart (state_of old) replies)
     (λ n d pc stack s replies. refl) d)
     c.close.ensures.ok
-
-pub returns-in-Halting-clause-ok : goal.returns-in-Halting-clause-ok
-returns-in-Halting-clause-ok c =
-    let old = c.args.machine.now in
-    let code : Code = record { units = c.args.units.now; start = start_of c.args.start.now } in
-    let f = c.in-Halting.fault in
-    IfOk-weaker c.finish.result _ _
-    (λ step d. steps_of code (λ next. halting f) (λ n. from code.units) old (replied c.args.given) step _
-    (λ n replies. ap (λ k. left code k (context_of old) (stack_of old) (suc n) no_restart (state_of old) replies) c.in-Halting.is)
-    (λ n d pc stack s replies. refl) d)
-    c.finish.ensures.ok
 
 pub returns-in-Begin-clause-sound : goal.returns-in-Begin-clause-sound
 returns-in-Begin-clause-sound c =
@@ -147,15 +138,8 @@ returns-in-Faulted-clause-sound c =
 
 pub returns-in-Closing-clause-sound : goal.returns-in-Closing-clause-sound
 returns-in-Closing-clause-sound c =
-    let f = c.in-Closing.fault in
-    turn_sound c.args.units.now (λ next. closing f) c.args.machine.now (replied c.args.given) c.close.new.machine c.close.result
+    turn_sound c.args.units.now (λ next. closing c.in-Closing.done c.in-Closing.fault) c.args.machine.now (replied c.args.given) c.close.new.machine c.close.result
     (λ n. refl) c.requires.sound c.close.ensures.ok c.close.ensures.err
-
-pub returns-in-Halting-clause-sound : goal.returns-in-Halting-clause-sound
-returns-in-Halting-clause-sound c =
-    let f = c.in-Halting.fault in
-    turn_sound c.args.units.now (λ next. halting f) c.args.machine.now (replied c.args.given) c.finish.new.machine c.finish.result
-    (λ n. refl) c.requires.sound c.finish.ensures.ok c.finish.ensures.err
 
 pub obey-requires-clause-enough : goal.obey-requires-clause-enough
 obey-requires-clause-enough c =

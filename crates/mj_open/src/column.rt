@@ -1,0 +1,37 @@
+// The column and the row of a device.
+
+ghost use Rattle.std.specs.Prelude.{◌≡◌, ◌+◌, ◌*◌, ◌≤◌, ◌<◌, ◌^◌, length};
+ghost use Rattle.mj_semantics.specs.State.{column_after, row_after};
+
+/// The column after these bytes were written from this one on.
+pub(crate) fn column_after(column: u64, bytes: &[u8]) -> u64
+    requires { column + length bytes.now < 2 ^ 64 }
+    ensures value { result ≡ column_after column bytes.now }
+    ensures bound { result ≤ column + length bytes.now }
+{
+    let mut column = column;
+    for &b in bytes {
+        column = match b {
+            10 | 12 | 13 => 0,
+            _ => column + 1,
+        };
+    }
+    column
+}
+
+/// The row after these bytes were written from this one on.
+pub(crate) fn row_after(row: u64, bytes: &[u8]) -> u64
+    requires { row + length bytes.now < 2 ^ 64 }
+    ensures value { result ≡ row_after row bytes.now }
+    ensures bound { result ≤ row + length bytes.now }
+{
+    let mut row = row;
+    for &b in bytes {
+        row = match b {
+            10 => row + 1,
+            12 => 0,
+            _ => row,
+        };
+    }
+    row
+}
