@@ -1,6 +1,6 @@
 -- What is open, by the place where a search for a name ends, and what more or less is open.
-use Rattle.std.proofs.Common.{◌≡◌, ℕ, zero, suc, ◌+◌, ◌*◌, ◌<◌, ◌≤◌, Bool, true, false, not, cond, List, [], ◌∷◌, ◌++◌, map, length, get_or, nat_lt, Option, Some, None, refl, sym, ap, ◌∙◌, subst, arith}
-use Rattle.std.specs.Prelude.{◌&&◌, if◌then◌else◌}
+use Rattle.std.proofs.Common.{◌≡◌, ℕ, zero, suc, ◌+◌, ◌<◌, ◌≤◌, Bool, true, false, not, cond, List, [], ◌∷◌, ◌++◌, map, length, get_or, nat_lt, Option, Some, None, refl, sym, ap, ◌∙◌, subst, arith}
+use Rattle.std.specs.Prelude.{if◌then◌else◌}
 use Rattle.std.specs.Bool.{one_answer}
 use Rattle.std.specs.List.{position, position_or_len, filter}
 use Rattle.std.specs.Option.{is_some}
@@ -9,7 +9,7 @@ use Rattle.std.proofs.lemmas.Slice.Eq.{bytes_eq-Decides}
 use Rattle.std.proofs.lemmas.List.Quantifiers.{position-Some}
 use Rattle.std.proofs.lemmas.List.Sums.{prefix_len-le-length}
 use Rattle.std.proofs.lemmas.Bool.{ltb-false}
-use Rattle.mj_semantics.specs.State.{OpenDevice, principal, device_at, column_at, row_at, is_open, may_close, on_device}
+use Rattle.mj_semantics.specs.State.{OpenDevice, principal, device_at, column_at, row_at, on_device}
 use Rattle.mj_open.specs.declared.devices.Spot.{Spot}
 use Rattle.mj_open.specs.declared.devices.Other.{Other}
 use Rattle.mj_open.specs.Opened.{Opened, alone, after_drop, after_fail, after_leave, device_of, other_of, is_named, current_of, opened_by, spot_in, spot_at, IsWithin, AreWithin, IsBeside}

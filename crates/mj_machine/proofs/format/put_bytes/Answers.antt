@@ -1,4 +1,4 @@
-use Rattle.std.proofs.Common.{◌≡◌, ◌<◌, length, sym, ap}
+use Rattle.std.proofs.Common.{◌<◌, length, sym, ap}
 use Rattle.std.proofs.lemmas.Result.{IfOk-weaker}
 use Rattle.mj_text.specs.declared.fault.Fault.TheVariants.{Length}
 use Rattle.mj_semantics.specs.Outcome.{fault}

@@ -1,7 +1,6 @@
-use Rattle.std.proofs.Common.{◌≡◌, ◌*◌, ◌≤◌, Some, None, sym, ap, ◌∙◌, subst}
+use Rattle.std.proofs.Common.{◌≡◌, ◌*◌, Some, None, sym, ap, ◌∙◌, subst}
 use Rattle.std.specs.List.{position}
 use Rattle.mj_open.specs.declared.devices.Other.{Other}
-use Rattle.mj_open.specs.declared.devices.Spot.{Spot}
 use Rattle.mj_open.specs.Opened.{Opened, is_named, IsWithin}
 use Rattle.mj_open.proofs.Places.{found_within, within_at}
 use Rattle.mj_open.proofs.Known.{spot_there, spot_nowhere}

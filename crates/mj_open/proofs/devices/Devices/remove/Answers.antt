@@ -3,7 +3,7 @@ use Rattle.std.specs.List.{filter}
 use Rattle.std.specs.Str.{bytes_eq}
 use Rattle.std.proofs.lemmas.Fn.{filter_same}
 use Rattle.mj_open.specs.declared.devices.Other.{Other}
-use Rattle.mj_open.specs.Opened.{AreWithin, is_named}
+use Rattle.mj_open.specs.Opened.{AreWithin}
 use Rattle.mj_open.proofs.Known.{within_less, removed}
 use Rattle.mj_open.proofs.devices.Devices.remove.Goals as goal
 
