@@ -15,25 +15,26 @@ use Rattle.mj_ask.specs.Written.{is_entry}
 use Rattle.mj_ask.specs.Formed.{is_ask, is_reply}
 use Rattle.mj_ask.proofs.Lists.{both_true}
 use Rattle.mj_ast.specs.declared.sign.Sign.TheVariants.{Comma, Colon, Close, Equals}
+use Rattle.mj_ast.specs.declared.routine.Mark.{Mark as FormatMark}
 use Rattle.mj_ast.specs.declared.expr.Scope.{Scope}
 use Rattle.mj_ast.specs.declared.expr.Scope.TheVariants.{Local, Global}
 use Rattle.mj_ast.specs.declared.function.NameFunction.{NameFunction}
-use Rattle.mj_ast.specs.Syntax.{Expr, Chain, Tails, Done, Then, Operand, Literal, Value, Intrinsic, Unary, Group, Call, About, Select, Variable, Var, Exprs, No, More as Another, Choices, Last, Before, Destination, Plain, Pieces, Targets, One, Several, Assignment, Killed, Gone, Spared, Merged, Output, Shown, Format, Called as Calling, Jumped as Jumping, Started as Starting, LockNames, Lone, Together, Locked, Range, Single, Endless, UpTo, Command, Set, Write, Halt, Hang, Job, Lock, Kill, Merge, If, Else, For, Forever, Do, Goto, Quit, New, Step, Line, Routine}
+use Rattle.mj_ast.specs.Syntax.{Expr, Chain, Tails, Done, Then, Operand, Literal, Value, Intrinsic, Unary, Group, Call, About, Select, Variable, Var, Exprs, No, More as Another, Choices, Last, Before, Destination, Plain, Pieces, Targets, One, Several, Assignment, Killed, Gone, Spared, Merged, Layout, Output, Shown, Format, Coded, Opened, Received, Input, Prompted, Arranged, Into, Called as Calling, Jumped as Jumping, Started as Starting, LockNames, Lone, Together, Locked, Range, Single, Endless, UpTo, Command, Set, Write, Halt, Hang, Job, Lock, OpenDevice, UseDevice, CloseDevice, Read, Kill, Merge, If, Else, For, Forever, Do, Goto, Quit, New, Step, Line, Routine}
 use Rattle.mj_ast.specs.Expressions.{Symbol, Name as NameSymbol, Mark, scoped, expr_symbols, tails_symbols, operand_symbols, variable_symbols, list_symbols, more_symbols, choices_symbols}
-use Rattle.mj_ast.specs.Commands.{Part, Put, Text, with_commas, behind_commas, more_parts, destination_parts, targets_parts, assignment_parts, output_parts, killed_parts, merged_parts, value_parts, target_parts, guard_parts, wait_parts, actual_parts, actuals_parts, called_parts, jumped_parts, started_parts, mode_parts, variable_parts, lock_names_parts, locked_parts, range_parts, command_parts}
+use Rattle.mj_ast.specs.Commands.{Part, Put, Place as PlacePart, Text, with_commas, behind_commas, more_parts, destination_parts, targets_parts, assignment_parts, mark_part, column_parts, layout_parts, output_parts, opened_parts, read_mode_parts, received_parts, input_parts, killed_parts, merged_parts, value_parts, target_parts, guard_parts, wait_parts, actual_parts, actuals_parts, called_parts, jumped_parts, started_parts, mode_parts, variable_parts, lock_names_parts, locked_parts, range_parts, command_parts}
 use Rattle.mj_semantics.specs.State.{State, Locals, Place, principal, level_of, special_value, set_test, spare, passed, popped, pushed, at_place, may_go}
 use Rattle.mj_semantics.specs.Outcome.{Outcome, Needs, Timed, no_restart, turn}
 use Rattle.mj_semantics.specs.Lines.{Here, place_at, next_line, line_before, lines_of, line_at, levels_of, line_number, entered, entry_of}
 use Rattle.mj_semantics.specs.Points.{Leave, Ways, Loop, Once, Always, By, Point, AtLine, Called, Jumped, Pass, Started, Points}
 use Rattle.mj_semantics.specs.Functions.{call_value, optional}
 use Rattle.mj_semantics.specs.Evaluation.{name_of, named_for, ev, ev_tails, ev_operand, ev_choices, ev_name, ev_named, ev_all, ev_actuals, ev_local, when}
-use Rattle.mj_semantics.specs.Commands.{Aim, Whole, Part as PartAim, mark_byte, quit_frame, ev_destination, ev_destinations, assign_to, assign_all, kill, kill_list, kill_all, merge, merge_all, output, output_all, ev_timeout, hang_all, start_all, ev_names, ev_lock_names, lock_list, lock_all, ifs, ranges, calls, block, jumps, do_all, if_all, obey, obey_all}
+use Rattle.mj_semantics.specs.Commands.{Aim, Whole, Part as PartAim, mark_byte, quit_frame, ev_destination, ev_destinations, assign_to, assign_all, kill, kill_list, kill_all, merge, merge_all, arrange, output, output_all, ev_timeout, hang_all, start_all, ev_names, ev_lock_names, lock_list, lock_all, open_all, use_all, close_all, receive, input, read_all, ifs, ranges, calls, block, jumps, do_all, if_all, obey, obey_all}
 use Rattle.mj_semantics.specs.Job.{quit_before, obey_line, call, jump, in_pass, at_point, points_of, Start, start as starting, opening, next}
 use Rattle.mj_rou.specs.Words.{Each, IsWorded, IsExprWorded, IsVariableWorded, IsPartWorded, IsConditionWorded, IsStepWorded, IsLineWorded, IsRoutineWorded}
 use Rattle.mj_written.specs.Formed.{are_locals}
 use Rattle.mj_written.proofs.Names.{word_is, entry_is, routine_is, IsNamed, named, Suits, suits}
 use Rattle.mj_written.proofs.States.{IsFormed, pops, passes_on, spares}
-use Rattle.mj_written.proofs.Words.{IsFine, Asks, none_back, a_turn, some_turns, looked, changed, chosen, ended, faulted, is_known, is_given, to_its_device, restarts, reads, is_about, stores, IsAimed, puts, puts_all, removes, names_ask, takes_nodes, puts_nodes, news_all, quits_frame, goes_deeper, writes, tests, IsLoop, goes_again, begins, reads_two, hangs, starts_job, unlocks_all, locks}
+use Rattle.mj_written.proofs.Words.{IsFine, Asks, none_back, a_turn, some_turns, looked, changed, chosen, ended, faulted, is_known, is_given, to_its_device, restarts, reads, is_about, stores, IsAimed, puts, puts_all, removes, names_ask, takes_nodes, puts_nodes, news_all, quits_frame, goes_deeper, writes, tabs, writes_code, tests, IsLoop, goes_again, begins, reads_two, hangs, starts_job, unlocks_all, locks, opens_device, uses_device, closes, reads_input}
 
 -- ---- lists
 
@@ -237,9 +238,17 @@ module _ (P : Points) (points : ArePoints P) (here : Here) (word : is_word here.
   merges_all [] h l = l
   merges_all (m ∷ list) h l = merges m h.0 (merges_all list h.1 l)
 
+  -- a format
+  arranges : (marks : List FormatMark) (column : Option Expr) {f : Timed} → Each IsPartWorded (map mark_part marks ++ column_parts column) → Asks f
+      → Asks (arrange P here marks column f)
+  arranges marks None h l = a_turn (writes (map mark_byte marks) l)
+  arranges marks (Some e) h l =
+      let i = apart IsPartWorded (map mark_part marks) (column_parts (Some e)) h in evaluates e i.1.1.0 (λ v. a_turn (tabs marks v l))
+
   outputs : (o : Output) {f : Timed} → Each IsPartWorded (output_parts o) → Asks f → Asks (output P here o f)
   outputs (Shown e) h l = evaluates e h.0 (λ v. a_turn (writes v l))
-  outputs (Format marks) h l = a_turn (writes (map mark_byte marks) l)
+  outputs (Format x) h l = arranges x.marks x.column h l
+  outputs (Coded e) h l = evaluates e h.1.0 (λ v. a_turn (writes_code v l))
 
   outputs_all : (list : List Output) {f : Timed} → Parted output_parts list → Asks f → Asks (output_all P here list f)
   outputs_all [] h l = l
@@ -280,6 +289,33 @@ module _ (P : Points) (points : ArePoints P) (here : Here) (word : is_word here.
   locks_all : (list : List Locked) {f : Timed} → Parted locked_parts list → Asks f → Asks (lock_all P here list f)
   locks_all [] h l = a_turn (unlocks_all l)
   locks_all (x ∷ list) h l = locks_list (x ∷ list) h l
+
+  opens_all : (list : List Opened) {f : Timed} → Parted opened_parts list → Asks f → Asks (open_all P here list f)
+  opens_all [] h l = l
+  opens_all (o ∷ list) h l =
+      evaluates o.device h.0.0 (λ name. timeout_asks o.timeout (wait_worded o.timeout h.0.1) (λ t. a_turn (opens_device name t (opens_all list h.1 l))))
+
+  uses_all : (es : List Expr) {f : Timed} → Parted value_parts es → Asks f → Asks (use_all P here es f)
+  uses_all [] h l = l
+  uses_all (e ∷ es) h l = evaluates e h.0.0 (λ name. a_turn (uses_device name (uses_all es h.1 l)))
+
+  closes_all : (es : List Expr) {f : Timed} → Parted value_parts es → Asks f → Asks (close_all P here es f)
+  closes_all [] h l = l
+  closes_all (e ∷ es) h l = evaluates e h.0.0 (λ name. a_turn (closes name (closes_all es h.1 l)))
+
+  receives : (r : Received) {f : Timed} → Each IsPartWorded (received_parts r) → Asks f → Asks (receive P here r f)
+  receives r h l =
+      let i = apart IsPartWorded (read_mode_parts r.mode) (PlacePart 0 r.variable ∷ guard_parts r.timeout) h in
+      name_asks r.variable i.1.0 (λ x n. timeout_asks r.timeout (guard_worded r.timeout i.1.1) (λ t. a_turn (reads_input r.mode t (λ v. a_turn (stores x v n l)))))
+
+  inputs : (i : Input) {f : Timed} → Each IsPartWorded (input_parts i) → Asks f → Asks (input P here i f)
+  inputs (Prompted text) h l = a_turn (a_turn (writes text l))
+  inputs (Arranged x) h l = arranges x.marks x.column h l
+  inputs (Into r) h l = receives r h l
+
+  inputs_all : (list : List Input) {f : Timed} → Parted input_parts list → Asks f → Asks (read_all P here list f)
+  inputs_all [] h l = l
+  inputs_all (i ∷ list) h l = inputs i h.0 (inputs_all list h.1 l)
 
   still : (b : Bool) (s : State) → IsFormed s → IsFormed (set_test b s)
   still b s h = record { locals = h.locals; saved = h.saved; held = h.held }
@@ -347,6 +383,10 @@ module _ (P : Points) (points : ArePoints P) (here : Here) (word : is_word here.
   obeys (Hang es) o body k h b w l = where_so o k (hangs_all es (items value_parts es h) l) l
   obeys (Job list) o body k h b w l = where_so o k (starts_all list (items started_parts list h) l) l
   obeys (Lock list) o body k h b w l = where_so o k (locks_all list (items locked_parts list h) l) l
+  obeys (OpenDevice list) o body k h b w l = where_so o k (opens_all list (items opened_parts list h) l) l
+  obeys (UseDevice es) o body k h b w l = where_so o k (uses_all es (items value_parts es h) l) l
+  obeys (CloseDevice es) o body k h b w l = where_so o k (closes_all es (items value_parts es h) l) l
+  obeys (Read list) o body k h b w l = where_so o k (inputs_all list (items input_parts list h) l) l
   obeys (Kill list) o body k h b w l = where_so o k (kills_all list (items killed_parts list h) l) l
   obeys (Merge list) o body k h b w l = where_so o k (merges_all list (items merged_parts list h) l) l
   obeys (If es) o body k h b w l = if_asks es (items value_parts es h) w.line_end l

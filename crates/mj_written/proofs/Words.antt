@@ -5,7 +5,7 @@ use Rattle.std.specs.List.{list_all}
 use Rattle.std.proofs.lemmas.Bool.{lt-ltb}
 use Rattle.mj_text.specs.declared.text.TheConstants.{TEXT_LIMIT}
 use Rattle.mj_text.specs.declared.fault.Fault.{Fault}
-use Rattle.mj_text.specs.declared.fault.Fault.TheVariants.{Undefined, ForIndex, Steps, QuitInTransaction, Depth, InTransaction, Device}
+use Rattle.mj_text.specs.declared.fault.Fault.TheVariants.{Undefined, ForIndex, Steps, QuitInTransaction, Depth, InTransaction, Limit, Device, NoDevice}
 use Rattle.mj_text.specs.Failing.{then_value}
 use Rattle.mj_num.specs.Number.{reading, sum_of, canonic_text}
 use Rattle.mj_subs.specs.Name.{Name, overlaps}
@@ -32,17 +32,21 @@ use Rattle.mj_ast.specs.declared.routine.LockMode.{LockMode}
 use Rattle.mj_ast.specs.declared.routine.LockMode.TheVariants as mode
 use Rattle.mj_ast.specs.declared.function.NameFunction.{NameFunction}
 use Rattle.mj_ast.specs.declared.function.NameFunction.TheVariants as names
+use Rattle.mj_ast.specs.declared.routine.Mark.{Mark}
+use Rattle.mj_ast.specs.declared.routine.ReadMode.{ReadMode}
+use Rattle.mj_ast.specs.declared.routine.ReadMode.TheVariants as read_mode
 use Rattle.mj_ast.specs.Syntax.{Renewed, Fresh, Kept}
 use Rattle.mj_strfn.specs.Functions.{assigned_pieces, set_piece_value}
-use Rattle.mj_semantics.specs.State.{State, Only, AllBut, accessed, wrote, broke, counted, hold, has_failed, principal, ending_order, is_at_mark, newed}
-use Rattle.mj_semantics.specs.Outcome.{Outcome, Needs, Ended, More, Handler, Timed, turn, turns, look, change, asking, over, no_restart, until, restartable, halt, ends, end, fault_bytes, fault, steps_limit, ask, is_failed, to_device, need, given}
+use Rattle.mj_semantics.specs.State.{State, Only, AllBut, accessed, wrote, broke, counted, hold, has_failed, principal, ending_order, is_at_mark, newed, devices_limit, is_open, may_close, column_at, with_device, used, dropped}
+use Rattle.mj_semantics.specs.Outcome.{Outcome, Needs, Ended, More, Handler, Timed, turn, turns, look, change, asking, over, no_restart, until, restartable, halt, ends, end, fault_bytes, fault, steps_limit, ask, tell, is_failed, to_device, need, given}
 use Rattle.mj_semantics.specs.Names.{direction_of, spelled, told}
 use Rattle.mj_semantics.specs.Functions.{needed, optional}
 use Rattle.mj_semantics.specs.Accesses.{answer_told, answered, access, value_told, nodes_told}
 use Rattle.mj_semantics.specs.Evaluation.{read, about}
 use Rattle.mj_semantics.specs.Points.{Loop, Once, Always, By}
 use Rattle.mj_semantics.specs.Sharing.{is_limit, in_time, served, out_of_transaction, hang, start_job, unlock_all, take_names, give_names, lock}
-use Rattle.mj_semantics.specs.Commands.{Aim, Whole, Part, store, or_empty, renewed, renew, put, put_all, remove, named, take_nodes, put_these, put_nodes, renewal, new_list, new_all, frames_limit, quit_frame, deeper, write, if_test, is_within, stepped, again, first, reading_two}
+use Rattle.mj_semantics.specs.Commands.{Aim, Whole, Part, store, or_empty, renewed, renew, put, put_all, remove, named, take_nodes, put_these, put_nodes, renewal, new_list, new_all, frames_limit, quit_frame, deeper, write, tab_bytes, tab, coded, write_code, if_test, is_within, stepped, again, first, reading_two}
+use Rattle.mj_semantics.specs.Devices.{is_got, has_no_session, obtained, obtain, begin_session, open_device, use_device, end_session, give_up, close, is_input, input_ask, input_told, read_input}
 use Rattle.mj_rou.specs.Words.{Each}
 use Rattle.mj_written.specs.Formed.{are_locals}
 use Rattle.mj_written.proofs.Locals.{subtree_fits, set_stays, kill_stays, put_kept}
@@ -314,6 +318,12 @@ writes (x ∷ bytes) l =
     chosen (nat_lt TEXT_LIMIT (length (x ∷ bytes))) faulted
     (looked (λ s k. to_its_device s.current (ask_kinds.DeviceWrite s.current (x ∷ bytes)) refl (λ r p. changed {c = wrote (x ∷ bytes)} (write_on (x ∷ bytes)) l)))
 
+pub tabs : (marks : List Mark) (v : List ℕ) {f : Timed} → Asks f → Asks (tab marks v f)
+tabs marks v l = is_given (reading v) (λ n. looked (λ s k. writes (tab_bytes marks n (column_at s.current s)) l))
+
+pub writes_code : (v : List ℕ) {f : Timed} → Asks f → Asks (write_code v f)
+writes_code v l = is_given (reading v) (λ n. is_given (coded n) (λ bytes. writes bytes l))
+
 pub tests : (t : Bool) {f f' : Timed} → Asks f → Asks f' → Asks (if_test t f f')
 tests true l m = looked (λ s k. chosen s.test m l)
 tests false l m = looked (λ s k. chosen s.test l m)
@@ -378,3 +388,63 @@ pub locks : (m : LockMode) (xs : List Name) (timeout : Option ℤ) {f : Timed} �
 locks mode.Whole xs timeout h l = a_turn (unlocks_all (a_turn (takes_names xs timeout h l)))
 locks mode.Plus xs timeout h l = a_turn (takes_names xs timeout h l)
 locks mode.Minus xs timeout h l = a_turn (gives_names xs timeout h l)
+
+-- OPEN, USE, CLOSE and READ.
+
+tells : (a : Ask) {f : Timed} → is_ask a ≡ true → Asks f → Asks (tell a f)
+tells a q l = asked a q (λ r p. l)
+
+opens_one : (name : List ℕ) (s : State) → IsFormed s → IsFormed (with_device name s)
+opens_one name s h = record { locals = h.locals; saved = h.saved; held = h.held }
+
+uses_one : (name : List ℕ) (s : State) → IsFormed s → IsFormed (used name s)
+uses_one name s h = record { locals = h.locals; saved = h.saved; held = h.held }
+
+drops_one : (name : List ℕ) (s : State) → IsFormed s → IsFormed (dropped name s)
+drops_one name s h = record { locals = h.locals; saved = h.saved; held = h.held }
+
+is_obtained : (name : List ℕ) (timeout : Option ℤ) (r : Reply) {f g : Timed} → Asks f → Asks g → Asks (obtained name timeout r f g)
+is_obtained name timeout r l m =
+    chosen (has_no_session r) (faulted {f = NoDevice})
+    (chosen (is_got r) (changed {c = in_time timeout true} (times timeout true) (changed {c = with_device name} (opens_one name) m))
+    (changed {c = in_time timeout false} (times timeout false) l))
+
+obtains : (name : List ℕ) (timeout : Option ℤ) {f g : Timed} → Asks f → Asks g → Asks (obtain name timeout f g)
+obtains name timeout l m =
+    looked (λ s k.
+    chosen (is_open name s) (changed {c = in_time timeout true} (times timeout true) l)
+    (chosen (nat_lt devices_limit (length s.devices)) (faulted {f = Limit})
+    (asked (ask_kinds.Open name timeout) refl (λ r p. is_obtained name timeout r l m))))
+
+begins_session : (name : List ℕ) {f : Timed} → Asks f → Asks (begin_session name f)
+begins_session name l = to_its_device name (ask_kinds.DeviceBegin name) refl (λ r p. l)
+
+pub opens_device : (name : List ℕ) (timeout : Option ℤ) {f : Timed} → Asks f → Asks (open_device name timeout f)
+opens_device name timeout l = obtains name timeout l (a_turn (begins_session name l))
+
+pub uses_device : (name : List ℕ) {f : Timed} → Asks f → Asks (use_device name f)
+uses_device name l = looked (λ s k. chosen (is_open name s) (changed {c = used name} (uses_one name) l) (faulted {f = NoDevice}))
+
+ends_session : (name : List ℕ) {f g h : Timed} → Asks f → Asks g → Asks h → Asks (end_session name f g h)
+ends_session name l m w =
+    looked (λ s k.
+    chosen (may_close name s)
+    (asked (ask_kinds.DeviceEnd name) refl (λ r p. changed {c = dropped name} (drops_one name) (chosen (is_failed r) m w)))
+    l)
+
+gives_up : (name : List ℕ) {f : Timed} → Asks f → Asks (give_up name f)
+gives_up name l = tells (ask_kinds.Close name) refl l
+
+pub closes : (name : List ℕ) {f : Timed} → Asks f → Asks (close name f)
+closes name l = ends_session name l (a_turn (gives_up name (faulted {f = Device}))) (a_turn (gives_up name l))
+
+-- what is asked for can be written
+input_is : (m : ReadMode) (name : List ℕ) (timeout : Option ℤ) → is_ask (input_ask m name timeout) ≡ true
+input_is read_mode.Line name timeout = refl
+input_is read_mode.Byte name timeout = refl
+
+pub reads_input : (m : ReadMode) (timeout : Option ℤ) {f : List ℕ → Timed} → ((v : List ℕ) → Asks (f v)) → Asks (read_input m timeout f)
+reads_input m timeout l =
+    looked (λ s k.
+    to_its_device s.current (input_ask m s.current timeout) (input_is m s.current timeout)
+    (λ r p. changed {c = in_time timeout (is_input r)} (times timeout (is_input r)) (l (input_told m r))))
