@@ -1,7 +1,7 @@
 // WRITE, where what it sends depends on the column, or is the byte of a code.
 
 ghost use Rattle.std.specs.Prelude.{◌≡◌, ◌+◌, ◌-◌, ◌<◌, ◌≤◌, ◌^◌, ◌++◌, replicate, IfOk, OnErr, length, map};
-ghost use Rattle.mj_strfn.specs.Functions.{place};
+ghost use Rattle.mj_strfn.specs.Functions.{place as place_of};
 ghost use Rattle.mj_semantics.specs.State as states;
 ghost use Rattle.mj_semantics.specs.Commands as commands;
 ghost use Rattle.mj_pcode.specs.declared.instr.Instr.TheVariants as instrs;
@@ -46,15 +46,22 @@ pub fn tab(
 
 // How many spaces lead from where marks end, which begin at a column, to another column: none to one that lies before it.
 fn spaces(marks: &[Mark], from: u64, to: Num) -> u64
-    ensures { result ≡ place to - states.column_after from (map commands.mark_byte marks.now) }
+    ensures { result ≡ place_of to - states.column_after from (map commands.mark_byte marks.now) }
 {
-    let to = to.value().max(0) as u64;
+    let to = place(to);
     if marks.is_empty() {
         to.saturating_sub(from)
     } else {
         // each mark leads to a line's start
         to
     }
+}
+
+// A number as a place: 0 for one below 0.
+fn place(number: Num) -> u64
+    ensures { result ≡ place_of number }
+{
+    number.value().max(0) as u64
 }
 
 // The bytes of marks, and spaces.
