@@ -1,7 +1,8 @@
 -- The exit statuses of the program.
-use Rattle.std.specs.Prelude.{ℕ, Bool, false, ◌||◌, is_some, [], ◌∷◌}
+use Rattle.std.specs.Prelude.{ℕ, Bool, false, ◌||◌, Option, Some, None, is_some, [], ◌∷◌}
 use Rattle.mj_ask.specs.declared.ask.Ask.{Ask}
 use Rattle.mj_ask.specs.declared.ask.Ask.TheVariants as asks
+use Rattle.mj_sys.specs.declared.event.Event.{Event}
 use Rattle.mj_sys.specs.History.{History}
 use Rattle.mj_main.specs.declared.stop.Stop.{Stop}
 use Rattle.mj_main.specs.declared.stop.Stop.TheVariants as stops
@@ -25,6 +26,11 @@ status_of stops.Memory = 4
 abbrev pub is_fault : Ask → Bool
 is_fault (asks.Halt fault) = is_some fault
 is_fault _ = false
+
+-- the event is that a job ended by a fault
+abbrev pub event_faults : Option Event → Bool
+event_faults None = false
+event_faults (Some e) = is_fault e.ask
 
 -- some job of the history did
 abbrev pub has_faulted : History → Bool

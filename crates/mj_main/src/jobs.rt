@@ -1,10 +1,10 @@
 // Many jobs, as they are stepped and shown.
 
-ghost use Rattle.std.specs.Prelude.{◌≡◌, ℕ, length, IfOk};
+ghost use Rattle.std.specs.Prelude.{◌≡◌, ℕ, length, slice_get, IfOk};
 ghost use Rattle.mj_sys.specs.History.{state_of};
 ghost use Rattle.mj_core.specs.Runs.{out_of};
-ghost use Rattle.mj_many.specs.Printed.{printed};
-ghost use Rattle.mj_main.specs.Statuses.{has_faulted};
+ghost use Rattle.mj_many.specs.Printed.{printed, parts};
+ghost use Rattle.mj_main.specs.Statuses.{has_faulted, event_faults, is_fault};
 ghost use Rattle.mj_dev.specs.Shelves.{principal};
 
 use mj_ask::Ask;
@@ -13,10 +13,13 @@ use mj_dev::Memory;
 use mj_gfile::{put_name, put_text};
 use mj_globs::Globals;
 use mj_many::{put_idle, put_part, put_wait};
-use mj_steps::{Refused, Standing, Step, Stepped, Way};
+use mj_steps::{Ending, Refused, Standing, Step, Stepped, Way, step_by, step_in_turn};
 use mj_sys::{Held, Opening};
 use mj_text::Text;
 use std::alloc::{AllocError, Global};
+
+/// The most steps that are made where no file says them.
+const STEPS_LIMIT: usize = 1_000_000;
 
 /// Jobs over a core, whose devices are in memory.
 #[derive(Drop)]
@@ -42,6 +45,14 @@ impl<O: Opening> Stepped for Jobs<O> {
 }
 
 impl<O: Opening> Jobs<O> {
+    /// Makes these steps; or where there are none, steps the jobs in turn.
+    pub fn go(&mut self, steps: Option<&[Step]>) -> Ending {
+        match steps {
+            None => step_in_turn(self, STEPS_LIMIT),
+            Some(steps) => step_by(self, steps),
+        }
+    }
+
     // Where a job stands of whose step this was seen.
     fn standing(&self, job: u32, seen: &Seen) -> Standing {
         match seen {
@@ -72,17 +83,30 @@ impl<O: Opening> Jobs<O> {
     pub fn printed(&self, alloc: Global) -> Result<Vec<u8>, AllocError>
         ensures { IfOk result (λ bytes. bytes.items ≡ printed (λ job. out_of self.now.core.history job principal 1) (length (state_of O.opening self.now.core.history).rows)) }
     {
-        let name = Text::from_number(alloc, 0);
-        let jobs = self.core.jobs() as u32;
-        if jobs == 1 {
-            return self.core.out(1, &name, 1);
+        if self.core.jobs() == 1 {
+            self.output(alloc, 1)
+        } else {
+            self.parts(alloc)
         }
+    }
+
+    // What several jobs wrote, each behind its number.
+    fn parts(&self, alloc: Global) -> Result<Vec<u8>, AllocError>
+        ensures { IfOk result (λ bytes. bytes.items ≡ parts (λ job. out_of self.now.core.history job principal 1) (length (state_of O.opening self.now.core.history).rows)) }
+    {
         let mut bytes = Vec::new(alloc);
-        'jobs: for done in 0..jobs {
-            let output = self.core.out(done + 1, &name, 1)?;
+        'jobs: for done in 0..self.core.jobs() as u32 {
+            let output = self.output(alloc, done + 1)?;
             put_part(&mut bytes, done + 1, &output)?;
         }
         Ok(bytes)
+    }
+
+    // What the principal session of a job took.
+    fn output(&self, alloc: Global, job: u32) -> Result<Vec<u8>, AllocError>
+        ensures { IfOk result (λ bytes. bytes.items ≡ out_of self.now.core.history job principal 1) }
+    {
+        self.core.out(job, &Text::from_number(alloc, 0), 1)
     }
 
     /// Whether a job ended by a fault.
@@ -90,11 +114,21 @@ impl<O: Opening> Jobs<O> {
         ensures { result ≡ has_faulted self.now.core.history }
     {
         'events: for at in 0..self.core.len() {
-            if let Some((_, Ask::Halt(Some(_)), _)) = self.core.event(at) {
+            if self.faults_at(at) {
                 return true;
             }
         }
         false
+    }
+
+    // Whether the event at a place of the history, from 0, is the end of a job by a fault.
+    fn faults_at(&self, at: usize) -> bool
+        ensures { result ≡ event_faults (slice_get self.now.core.history at) }
+    {
+        match self.core.event(at) {
+            None => false,
+            Some((_, ask, _)) => is_fault(ask),
+        }
     }
 
     /// The globals that they left.
@@ -118,16 +152,29 @@ impl<O: Opening> Jobs<O> {
             way: mj_core::Way::Go,
         };
         match self.core.step(step) {
-            Ok(Seen::Busy { holder, held }) => {
-                let what = held_bytes(*bytes.allocator(), &held)?;
-                let place = match self.core.job(holder) {
-                    None => None,
-                    Some(found) => found.place(),
-                };
-                put_wait(bytes, job, &what, holder, place)
-            }
+            Ok(Seen::Busy { holder, held }) => self.put_busy(bytes, job, holder, &held),
             Ok(Seen::NotYet) => put_idle(bytes, job),
             _ => Ok(()),
+        }
+    }
+
+    // The line of a job that waits for what another has.
+    fn put_busy(
+        &self,
+        bytes: &mut Vec<u8>,
+        job: u32,
+        holder: u32,
+        held: &Held,
+    ) -> Result<(), AllocError> {
+        let what = held_bytes(*bytes.allocator(), held)?;
+        put_wait(bytes, job, &what, holder, self.place(holder))
+    }
+
+    // Where a job stands, if it stands anywhere.
+    fn place(&self, job: u32) -> Option<(&Text, u32)> {
+        match self.core.job(job) {
+            None => None,
+            Some(found) => found.place(),
         }
     }
 }
@@ -141,6 +188,13 @@ fn core_step(step: Step) -> mj_core::Step {
             Way::Late => mj_core::Way::Late,
         },
     }
+}
+
+// Whether the ask is that of a job which ends by a fault.
+fn is_fault(ask: &Ask) -> bool
+    ensures { result ≡ is_fault ask.now }
+{
+    matches!(ask, Ask::Halt(Some(_)))
 }
 
 // What is held, as a listing has it: a name, or a device in quotes.

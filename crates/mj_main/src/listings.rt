@@ -1,5 +1,8 @@
 // The listings of globals that the command line names.
 
+ghost use Rattle.std.specs.Prelude.{◌≡◌, true, IfOk};
+ghost use Rattle.mj_sys.specs.Shared.{are_global};
+
 use crate::files::file_bytes;
 use crate::stop::Stop;
 use mj_gfile::ReadError;
@@ -12,7 +15,9 @@ use std::rt::Files;
 pub fn listed<'a, R: Files + AllocGlobal>(
     rt: &R,
     file: Option<&'a str>,
-) -> Result<Globals, Stop<'a>> {
+) -> Result<Globals, Stop<'a>>
+    ensures { IfOk result (λ globals. are_global globals ≡ true) }
+{
     let Some(file) = file else {
         return Ok(Globals::new(rt.alloc()));
     };

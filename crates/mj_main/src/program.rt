@@ -1,9 +1,10 @@
 // The program.
 
-ghost use Rattle.std.specs.Prelude.{◌≡◌, ◌≤◌, length, IfOk};
+ghost use Rattle.std.specs.Prelude.{◌≡◌, ◌≤◌, length, true, IfOk};
 ghost use Rattle.mj_dev.specs.Shelves.{principal, left_of};
 ghost use Rattle.mj_jobs.specs.Rows.{rows_limit};
 ghost use Rattle.mj_sys.specs.Opening.{opening_of};
+ghost use Rattle.mj_sys.specs.Shared.{are_global};
 
 use crate::begin::{principals, starts, steps};
 use crate::jobs::Jobs;
@@ -16,16 +17,13 @@ use mj_dev::{Memory, Pool};
 use mj_globs::Globals;
 use mj_jobs::ROWS_LIMIT;
 use mj_load::Image;
-use mj_steps::{Ending, Step, step_by, step_in_turn};
+use mj_steps::{Ending, Step};
 use mj_sys::Opening;
 use mj_words::{Order, Refusal, Run, read_words};
 use std::convert::AsStr;
 use std::io::{Read, Write};
 use std::marker::Brand;
 use std::rt::Files;
-
-/// The most steps that are made where no file says them.
-const STEPS_LIMIT: usize = 1_000_000;
 
 /// Does what the words ask for, of which the first is the program's name, and gives the exit status: 0; 1 where a job faulted; 2
 /// where a routine, a listing, a file of steps or a step is refused; 3 where the words are wrong; 4 where memory or a file fails, where all jobs
@@ -61,6 +59,7 @@ struct Beginning {
     globals: Globals,
     pool: Pool<Memory>,
     starts: Vec<Start>,
+    ghost global: { are_global globals ≡ true },
 }
 
 // Runs jobs, and gives the exit status.
@@ -72,19 +71,7 @@ where
     ensures { result ≤ 4 }
 {
     match begin(rt, order) {
-        Ok(begin) => {
-            let Beginning {
-                steps,
-                image,
-                globals,
-                pool,
-                starts,
-            } = begin;
-            if starts.is_empty() || starts.len() > ROWS_LIMIT || !pool.fits(starts.len() as u32) {
-                return stopped(&Stop::Memory, err);
-            }
-            over::<R, O, E, Brand>(rt, order, steps, image, globals, pool, starts, out, err)
-        }
+        Ok(beginning) => run_from(rt, order, beginning, out, err),
         Err(stop) => stopped(&stop, err),
     }
 }
@@ -92,24 +79,97 @@ where
 // Reads all that a run begins with. The first that is refused ends it.
 fn begin<'a, R: Files + AllocGlobal>(rt: &R, order: &Run<'a>) -> Result<Beginning, Stop<'a>> {
     let starts = starts(rt.alloc(), &order.starts)?;
-    let steps = steps(rt, order.steps)?;
+    match steps(rt, order.steps) {
+        Ok(steps) => begin_with(rt, order, starts, steps),
+        Err(stop) => {
+            drop(starts);
+            Err(stop)
+        }
+    }
+}
+
+// Reads the rest of what a run begins with.
+fn begin_with<'a, R: Files + AllocGlobal>(
+    rt: &R,
+    order: &Run<'a>,
+    starts: Vec<Start>,
+    steps: Option<Vec<Step>>,
+) -> Result<Beginning, Stop<'a>> {
+    match stored(rt, order) {
+        Ok((image, globals, pool)) => Ok(Beginning {
+            steps,
+            image,
+            globals,
+            pool,
+            starts,
+        }),
+        Err(stop) => {
+            drop(starts);
+            drop(steps);
+            Err(stop)
+        }
+    }
+}
+
+// The routines, the globals and the devices.
+fn stored<'a, R: Files + AllocGlobal>(
+    rt: &R,
+    order: &Run<'a>,
+) -> Result<(Image, Globals, Pool<Memory>), Stop<'a>>
+    ensures { IfOk result (λ x. are_global x.1 ≡ true) }
+{
     let image = loaded(rt, &order.files)?;
-    let globals = listed(rt, order.globals)?;
-    let pool = principals(rt.alloc())?;
-    Ok(Beginning {
+    let globals = match listed(rt, order.globals) {
+        Ok(globals) => globals,
+        Err(stop) => {
+            drop(image);
+            return Err(stop);
+        }
+    };
+    match principals(rt.alloc()) {
+        Ok(pool) => Ok((image, globals, pool)),
+        Err(stop) => {
+            drop(image);
+            drop(globals);
+            Err(stop)
+        }
+    }
+}
+
+// Runs jobs from what was read.
+fn run_from<R, O, E>(rt: &R, order: &Run<'_>, beginning: Beginning, out: &mut O, err: &mut E) -> u8
+where
+    R: Files + AllocGlobal,
+    O: Write,
+    E: Write,
+    ensures { result ≤ 4 }
+{
+    let starts = &beginning.starts;
+    if starts.is_empty() || starts.len() > ROWS_LIMIT || !beginning.pool.fits(starts.len() as u32) {
+        drop(beginning);
+        return stopped(&Stop::Memory, err);
+    }
+    let Beginning {
         steps,
         image,
         globals,
         pool,
         starts,
-    })
+    } = beginning;
+    let list = match &steps {
+        None => None,
+        Some(steps) => Some(steps.as_slice()),
+    };
+    let status = over::<R, O, E, Brand>(rt, order, list, image, globals, pool, starts, out, err);
+    drop(steps);
+    status
 }
 
 // Steps the jobs, and writes what comes of them.
 fn over<R, O, E, G>(
     rt: &R,
     order: &Run<'_>,
-    steps: Option<Vec<Step>>,
+    steps: Option<&[Step]>,
     image: Image,
     globals: Globals,
     pool: Pool<Memory>,
@@ -123,20 +183,25 @@ where
     E: Write,
     G: Opening,
     requires opening { opening_of globals pool starts.items ≡ G.opening }
+    requires global { are_global globals ≡ true }
     requires some { 1 ≤ length starts.items }
     requires few { length starts.items ≤ rows_limit }
     requires fits { length starts.items ≤ left_of principal pool }
     ensures { result ≤ 4 }
 {
-    let Ok(core) = Core::<Memory, G>::new(rt.alloc(), image, globals, pool, starts) else {
-        return stopped(&Stop::Memory, err);
-    };
-    let mut jobs = Jobs { core };
-    let ending = match &steps {
-        None => step_in_turn(&mut jobs, STEPS_LIMIT),
-        Some(steps) => step_by(&mut jobs, steps),
-    };
-    finish(rt, &mut jobs, ending, order, out, err)
+    match Core::<Memory, G>::new(rt.alloc(), image, globals, pool, starts) {
+        Ok(core) => {
+            let mut jobs = Jobs { core };
+            let ending = jobs.go(steps);
+            let status = finish(rt, &mut jobs, ending, order, out, err);
+            drop(jobs);
+            status
+        }
+        Err(back) => {
+            drop(back);
+            stopped(&Stop::Memory, err)
+        }
+    }
 }
 
 // Writes what the jobs wrote, then why they were stopped, then the globals that they left, and gives the exit status: the greatest where several

@@ -1,6 +1,6 @@
 use Rattle.mj_sys.specs.Opening.{opening_of}
-use Rattle.mj_main.proofs.program.run_jobs.Given as goal
+use Rattle.mj_main.proofs.program.run_from.Given as goal
 
 -- the opening is that of what the run begins with
 abbrev pub ghosts-over : goal.ghosts-over
-ghosts-over a = record { opening = opening_of a.globals a.pool a.starts.items }
+ghosts-over g a = record { opening = opening_of a.globals a.pool a.starts.items }
