@@ -18,23 +18,26 @@ use Rattle.mj_semantics.specs.Commands.{mark_byte, tab_bytes}
 -- OPEN, of what is open, where too much is open, and else.
 
 module _ (name : List ℕ) (timeout : Option ℤ) (as_it_was got : Timed) (n : ℕ) (back : Handler) (s : State) (replies : List Reply) where
-  pub obtain_open : is_open name s ≡ true → obtain name timeout as_it_was got n back s replies ≡ change (in_time timeout true) as_it_was n back s replies
-  obtain_open e =
-      ap (λ b. (if b then change (in_time timeout true) as_it_was else if nat_lt devices_limit (length s.devices) then fault Limit else ask (Open name timeout) (λ r. obtained name timeout r as_it_was got)) n back s replies) e
+  -- what isn't open yet
+  abbrev more : Timed
+  more = if nat_lt devices_limit (length s.devices) then fault Limit else ask (Open name timeout) (λ r. obtained name timeout r as_it_was got)
 
-  obtain_new : is_open name s ≡ false
-      → obtain name timeout as_it_was got n back s replies ≡ (if nat_lt devices_limit (length s.devices) then fault Limit else ask (Open name timeout) (λ r. obtained name timeout r as_it_was got)) n back s replies
-  obtain_new e =
-      ap (λ b. (if b then change (in_time timeout true) as_it_was else if nat_lt devices_limit (length s.devices) then fault Limit else ask (Open name timeout) (λ r. obtained name timeout r as_it_was got)) n back s replies) e
+  pub obtain_open : is_open name s ≡ true → obtain name timeout as_it_was got n back s replies ≡ change (in_time timeout true) as_it_was n back s replies
+  obtain_open e = ap (λ b. (if b then change (in_time timeout true) as_it_was else more) n back s replies) e
+
+  obtain_new : is_open name s ≡ false → obtain name timeout as_it_was got n back s replies ≡ more n back s replies
+  obtain_new e = ap (λ b. (if b then change (in_time timeout true) as_it_was else more) n back s replies) e
 
   pub obtain_limit : is_open name s ≡ false → 16 < length s.devices → obtain name timeout as_it_was got n back s replies ≡ fault Limit n back s replies
   obtain_limit e over =
-      obtain_new e ∙ ap (λ b. (if b then fault Limit else ask (Open name timeout) (λ r. obtained name timeout r as_it_was got)) n back s replies) (lt-ltb 16 (length s.devices) over)
+      obtain_new e
+      ∙ ap (λ b. (if b then fault Limit else ask (Open name timeout) (λ r. obtained name timeout r as_it_was got)) n back s replies) (lt-ltb 16 (length s.devices) over)
 
   pub obtain_asks : is_open name s ≡ false → length s.devices ≤ 16
       → obtain name timeout as_it_was got n back s replies ≡ ask (Open name timeout) (λ r. obtained name timeout r as_it_was got) n back s replies
   obtain_asks e few =
-      obtain_new e ∙ ap (λ b. (if b then fault Limit else ask (Open name timeout) (λ r. obtained name timeout r as_it_was got)) n back s replies) (le-ltb 16 (length s.devices) few)
+      obtain_new e
+      ∙ ap (λ b. (if b then fault Limit else ask (Open name timeout) (λ r. obtained name timeout r as_it_was got)) n back s replies) (le-ltb 16 (length s.devices) few)
 
 -- a mark leads to a line's start
 from_start : (marks : List Mark) → column_after 0 (map mark_byte marks) ≡ 0

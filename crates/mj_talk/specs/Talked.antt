@@ -7,7 +7,7 @@ use Rattle.mj_ast.specs.declared.routine.ReadMode.{ReadMode}
 use Rattle.mj_semantics.specs.State.{broke}
 use Rattle.mj_semantics.specs.Outcome.{Timed, change, fault, is_failed}
 use Rattle.mj_semantics.specs.Sharing.{in_time}
-use Rattle.mj_semantics.specs.Devices.{is_input, input_told}
+use Rattle.mj_semantics.specs.Devices.{obtained, is_input, input_told}
 use Rattle.mj_pcode.specs.Machine.{Next, top}
 use Rattle.mj_machine.specs.declared.machine.Machine.{Machine}
 use Rattle.mj_machine.specs.Kept.{context_of, stack_of}
@@ -28,6 +28,10 @@ past m pc above next = next (context_of m) (pc + 2) (drop (1 + above) (stack_of 
 -- where the session of a device begins, with its name on top
 abbrev pub begun : Machine → ℕ → ℕ → Next → Timed
 begun m pc above next = next (context_of m) (pc + 1) (drop above (stack_of m))
+
+-- what the reply leads to where a device was asked for
+abbrev pub open_taken : Machine → ℕ → ℕ → Option ℤ → Reply → Next → Timed
+open_taken m pc above timeout r next = obtained (named_under above m) timeout r (past m pc above next) (begun m pc above next)
 
 -- what a reply of the current device leads to where a line or a byte was asked for
 abbrev pub input_taken : List ℕ → ReadMode → Option ℤ → Reply → (List ℕ → Timed) → Timed

@@ -7,7 +7,7 @@ ghost use Rattle.mj_semantics.specs.Devices as devices;
 ghost use Rattle.mj_pcode.specs.Machine as machines;
 ghost use Rattle.mj_pcode.specs.declared.instr.Instr.TheVariants as instrs;
 ghost use Rattle.mj_machine.specs.Kept.{DidAlone, Obeys, Takes, Stays, replied};
-ghost use Rattle.mj_talk.specs.Talked.{named_under, past, begun};
+ghost use Rattle.mj_talk.specs.Talked.{past, open_taken};
 
 use crate::timed::test_in;
 use mj_ask::{Ask, Reply};
@@ -72,7 +72,7 @@ fn take_opened(
     requires next { pc + 2 < 2 ^ 64 }
     requires enough { above + 1 ≤ length machine.old.stack.items }
     requires more { machine.old.replied < 1000000 }
-    ensures ok { IfOk result (λ step. Takes (λ next. devices.obtained (named_under above machine.old) timeout reply.now (past machine.old pc above next) (begun machine.old pc above next)) machine.old step machine.new) }
+    ensures ok { IfOk result (λ step. Takes (open_taken machine.old pc above timeout reply.now) machine.old step machine.new) }
     ensures err { OnErr result (Stays machine.old machine.new) }
 {
     if has_no_session(reply) {

@@ -36,9 +36,11 @@ returns-then-not-is_got-clause-ok c = (
         let name : List ℕ = named_under c.args.above old in
         let late : Timed = past old c.args.pc c.args.above next in
         let got : Timed = begun old c.args.pc c.args.above next in
-        let other : Timed = if is_got r then change (in_time c.args.timeout true) (change (with_device name) got) else change (in_time c.args.timeout false) late in
+        let opened : Timed = change (in_time c.args.timeout true) (change (with_device name) got) in
+        let missed : Timed = change (in_time c.args.timeout false) late in
+        let other : Timed = if is_got r then opened else missed in
         ap (λ b. (if b then fault NoDevice else other) n (handle None) (counted (state_of old)) replies) (sym c.has_no_session.ensures ∙ c.if-has_no_session.false)
-        ∙ ap (λ b. (if b then change (in_time c.args.timeout true) (change (with_device name) got) else change (in_time c.args.timeout false) late) n (handle None) (counted (state_of old)) replies) (sym c.if-not-is_got.ensures)
+        ∙ ap (λ b. (if b then opened else missed) n (handle None) (counted (state_of old)) replies) (sym c.if-not-is_got.ensures)
         ∙ (c.go_past.ensures None).1 next n handle replies,
   ),
 )

@@ -19,7 +19,8 @@ returns-in-Some-place-clause-value c =
     let name = c.in-Some.name in
     let x = c.index.result.now in
     let found : position (is_named name) s.others.items ≡ Some c.in-Some-place.at = ap (position (is_named name)) (sym c.deref.ensures.value) ∙ sym c.place.ensures ∙ c.in-Some-place.is in
-    ap (λ (y : Other). y.spot) c.index.ensures ∙ spot_there s.principal s.others.items s.current s.writes name c.in-Some-place.at x c.args.self.now c.self.view_is c.in-Some.is c.self.invariant.beside found
+    ap (λ (y : Other). y.spot) c.index.ensures
+    ∙ spot_there s.principal s.others.items s.current s.writes name c.in-Some-place.at x c.args.self.now c.self.view_is c.in-Some.is c.self.invariant.beside found
 
 pub returns-in-Some-place-clause-bound : goal.returns-in-Some-place-clause-bound
 returns-in-Some-place-clause-bound c =
@@ -28,5 +29,6 @@ returns-in-Some-place-clause-bound c =
     let x = c.index.result.now in
     let found : position (is_named name) s.others.items ≡ Some c.in-Some-place.at = ap (position (is_named name)) (sym c.deref.ensures.value) ∙ sym c.place.ensures ∙ c.in-Some-place.is in
     let here : IsWithin (32767 * s.writes) x.spot =
-    subst (λ (y : Other). IsWithin (32767 * s.writes) y.spot) (sym c.index.ensures) (within_at (32767 * s.writes) s.others.items c.in-Some-place.at x (found_within name s.others.items c.in-Some-place.at x found) c.self.invariant.rest) in
+    subst (λ (y : Other). IsWithin (32767 * s.writes) y.spot) (sym c.index.ensures)
+    (within_at (32767 * s.writes) s.others.items c.in-Some-place.at x (found_within name s.others.items c.in-Some-place.at x found) c.self.invariant.rest) in
     subst (λ (q : Opened). IsWithin (32767 * q.writes) x.spot) c.self.view_is here

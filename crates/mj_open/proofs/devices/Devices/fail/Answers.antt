@@ -16,7 +16,8 @@ invariant_of-self-in-Some c =
     let x = c.index_mut-other.result.now in
     let found : position (is_named name) os ≡ Some c.in-Some.at = ap (position (is_named name)) (sym c.deref.ensures.value) ∙ sym c.place.ensures ∙ c.in-Some.is in
     let here : IsWithin (32767 * s.writes) x.spot =
-    subst (λ (y : Other). IsWithin (32767 * s.writes) y.spot) (sym c.index_mut-other.ensures.value) (within_at (32767 * s.writes) os c.in-Some.at x (found_within name os c.in-Some.at x found) c.self.invariant.rest) in
+    subst (λ (y : Other). IsWithin (32767 * s.writes) y.spot) (sym c.index_mut-other.ensures.value)
+    (within_at (32767 * s.writes) os c.in-Some.at x (found_within name os c.in-Some.at x found) c.self.invariant.rest) in
     record {
       first = c.self.invariant.first;
       rest = within_set (32767 * s.writes) os c.in-Some.at _ here c.self.invariant.rest;
