@@ -140,8 +140,10 @@ fn share<D: Device, O: Opening>(
     requires asks { (a : asks.Ask) × (job.old.run.pending ≡ Some a) × (is_shared a ≡ true) }
     requires turn { IsTurn O.opening system.old claim.old }
     requires room { length system.old.history < history_limit }
-    ensures ok { IfOk result (λ made. (a : asks.Ask) × (job.old.run.pending ≡ Some a) × Shares O.opening system.old claim.old job.old sessions.old.sessions a late made system.new claim.new job.new sessions.new.sessions) }
-    ensures err { IfErr result (λ why. (why ≡ Refusal.Memory) × (system.new ≡ system.old) × (claim.new ≡ claim.old) × (job.new ≡ job.old) × (sessions.new.sessions ≡ sessions.old.sessions)) }
+    ensures ok { IfOk result (λ made. (a : asks.Ask) × (job.old.run.pending ≡ Some a)
+        × Shares O.opening system.old claim.old job.old sessions.old.sessions a late made system.new claim.new job.new sessions.new.sessions) }
+    ensures err { IfErr result (λ why. (why ≡ Refusal.Memory) × (system.new ≡ system.old) × (claim.new ≡ claim.old) × (job.new ≡ job.old)
+        × (sessions.new.sessions ≡ sessions.old.sessions)) }
 {
     let Some(ask) = job.ask() else {
         unreachable!();

@@ -397,8 +397,10 @@ fn go<D: Device, O: Opening>(
     requires live { IsLive (state_of O.opening system.old.history).rows (suc at) }
     requires short { length order.old.items < history_limit }
     requires room { vec_len order.old < vec_capacity order.old }
-    ensures kept { (waiting : Option Claimed) → AreKept image.now O.opening system.old slots.old waiting order.old.items → AreKept image.now O.opening system.new slots.new waiting order.new.items }
-    ensures made { (row : Row) → row_at (state_of O.opening (woven (logs_of slots.old) order.old.items)).rows (suc at) ≡ Some row → StepGives O.opening (shown image.now slots.old order.old.items over.old 255) (suc at) row late result (shown image.now slots.new order.new.items over.new 255) }
+    ensures kept { (waiting : Option Claimed) → AreKept image.now O.opening system.old slots.old waiting order.old.items
+        → AreKept image.now O.opening system.new slots.new waiting order.new.items }
+    ensures made { (row : Row) → row_at (state_of O.opening (woven (logs_of slots.old) order.old.items)).rows (suc at) ≡ Some row
+        → StepGives O.opening (shown image.now slots.old order.old.items over.old 255) (suc at) row late result (shown image.now slots.new order.new.items over.new 255) }
 {
     let slot = &mut slots[at];
     let happened = Happened {
@@ -434,7 +436,8 @@ fn go_ready<D: Device, O: Opening>(
     requires there { at < length slots.old }
     requires kept { (waiting : Option Claimed) × AreKept image.now O.opening system.now slots.old waiting order.now }
     ensures kept { (waiting : Option Claimed) → AreKept image.now O.opening system.now slots.old waiting order.now → AreKept image.now O.opening system.now slots.new waiting order.now }
-    ensures readies { (over : List Bool) → (row : Row) → row_at (state_of O.opening (woven (logs_of slots.old) order.now)).rows (suc at) ≡ Some row → Readies O.opening (shown image.now slots.old order.now over 255) (suc at) row result (shown image.now slots.new order.now over 255) }
+    ensures readies { (over : List Bool) → (row : Row) → row_at (state_of O.opening (woven (logs_of slots.old) order.now)).rows (suc at) ≡ Some row
+        → Readies O.opening (shown image.now slots.old order.now over 255) (suc at) row result (shown image.now slots.new order.now over 255) }
 {
     let slot = &mut slots[at];
     match slot.job.advance(image, FUEL) {

@@ -21,10 +21,12 @@ there_with name n h (x ∷ xs) = by (is_named name x) (there_with name n h xs) w
   here : (c : Bool) → is_some (cond c (Some (record x { session = h })) (session_of n xs)) ≡ is_some (cond c (Some x) (session_of n xs))
   here true = refl
   here false = refl
+
   behind : (c : Bool) → is_some (session_of n (with_session name h xs)) ≡ is_some (session_of n xs)
       → is_some (cond c (Some x) (session_of n (with_session name h xs))) ≡ is_some (cond c (Some x) (session_of n xs))
   behind true rest = refl
   behind false rest = rest
+
   by : (b : Bool) → is_some (session_of n (with_session name h xs)) ≡ is_some (session_of n xs)
       → is_some (session_of n (cond b (record x { session = h } ∷ xs) (x ∷ with_session name h xs))) ≡ is_some (session_of n (x ∷ xs))
   by true rest = here (is_named n x)

@@ -90,7 +90,8 @@ impl<D: Device> Sessions<D> {
         requires { is_shared ask.now ≡ false }
         ensures answers { Answers self.old.sessions ask.now late result self.new.sessions }
         ensures told { (log : Log) (reply : replies.Reply) → result ≡ Answer.Told reply → AreTold log self.old.sessions → AreTold (log ++ (ask.now, reply) ∷ []) self.new.sessions }
-        ensures there { (name : List ℕ) (reply : replies.Reply) → result ≡ Answer.Told reply → is_some (session_of name self.new.sessions) ≡ (if ends_on name ask.now then false else is_some (session_of name self.old.sessions)) }
+        ensures there { (name : List ℕ) (reply : replies.Reply) → result ≡ Answer.Told reply
+            → is_some (session_of name self.new.sessions) ≡ (if ends_on name ask.now then false else is_some (session_of name self.old.sessions)) }
     {
         let _held = &self.held;
         self.asked(ask, late)
