@@ -25,7 +25,7 @@ use Rattle.mj_ast.specs.declared.routine.ReadMode.{ReadMode}
 use Rattle.mj_ast.specs.declared.routine.LockMode.{LockMode}
 use Rattle.mj_ast.specs.declared.routine.LockMode.TheVariants as mode
 use Rattle.mj_oper.specs.Operators.{binary_value, unary_value, truth_value}
-use Rattle.mj_ast.specs.Syntax.{Expr, Chain, Tails, Done, Then, Operand, Literal, Value, Intrinsic, Unary, Group, Call, About, Select, Variable, Var, Exprs, No, More as Another, Choices, Last, Before, Destination, Plain, Pieces, Targets, One, Several, Assignment, Killed, Gone, Spared, Merged, Output, Shown, Format, Coded, Opened, Received, Input, Prompted, Arranged, Into, Called as CalledOf, Jumped as JumpedOf, Started as StartedOf, LockNames, Lone, Together, Locked, Range, Single, Endless, UpTo, Renewed, Fresh, Kept, Command, Set, Write, Halt, Hang, Job, Lock, OpenDevice, UseDevice, CloseDevice, Read, Kill, Merge, If, Else, For, Forever, Do, Goto, Quit, New, Step, Line, Routine}
+use Rattle.mj_ast.specs.Syntax.{Expr, Chain, Tails, Done, Then, Operand, Literal, Value, Intrinsic, Unary, Group, Call, About, Select, Variable, Var, Exprs, No, More as Another, Choices, Last, Before, Destination, Plain, Pieces, Targets, One, Several, Assignment, Killed, Gone, Spared, Merged, Output, Shown, Format, Coded, Opened, Received, Input, Prompted, Arranged, Into, Called as CalledOf, Jumped as JumpedOf, Started as StartedOf, LockNames, Lone, Together, Locked, Range, Single, Endless, UpTo, Renewed, Fresh, Kept, Command, Set, Write, Halt, Hang, Job, Lock, OpenDevice as OpenOf, UseDevice, CloseDevice, Read, Kill, Merge, If, Else, For, Forever, Do, Goto, Quit, New, Step, Line, Routine}
 use Rattle.mj_ast.specs.declared.expr.Scope.TheVariants.{Local}
 use Rattle.mj_num.specs.Number.{reading, sum_of, canonic_text}
 use Rattle.mj_semantics.specs.State.{State, Locals, Place, Frame, OpenDevice, principal, devices_limit, has_failed, is_at_mark, ending_order, on_device, moved, broke, with_device, used, dropped, is_open, may_close, column_at, Only, AllBut, accessed, counted, wrote, newed, set_test, special_value, level_of, may_go, pushed, popped, passed, at_place, spare, hold}
@@ -720,7 +720,7 @@ module _ (points : Points) (all : (p : Point) → KeepsPoint p → Keeps (points
   obey_keeps (Hang es) c steps ways rest w k = when_keeps c _ rest (hang_all_keeps es rest k) k
   obey_keeps (Job list) c steps ways rest w k = when_keeps c _ rest (start_all_keeps list rest k) k
   obey_keeps (Lock list) c steps ways rest w k = when_keeps c _ rest (lock_all_keeps list rest k) k
-  obey_keeps (OpenDevice list) c steps ways rest w k = when_keeps c _ rest (open_all_keeps list rest k) k
+  obey_keeps (OpenOf list) c steps ways rest w k = when_keeps c _ rest (open_all_keeps list rest k) k
   obey_keeps (UseDevice es) c steps ways rest w k = when_keeps c _ rest (use_all_keeps es rest k) k
   obey_keeps (CloseDevice es) c steps ways rest w k = when_keeps c _ rest (close_all_keeps es rest k) k
   obey_keeps (Read list) c steps ways rest w k = when_keeps c _ rest (read_all_keeps list rest k) k
