@@ -2,9 +2,10 @@
 use Rattle.std.proofs.Common.{◌≡◌, ℕ, zero, suc, ◌+◌, ◌≤◌, ◌<◌, List, [], ◌∷◌, ◌++◌, length, map, Option, Some, None, Bool, true, false, inl, inr, refl, sym, ap, subst, arith, length-append}
 use Rattle.std.specs.Prelude.{Result, Ok, Err, ℤ, pos, int_lt, ◌+ℤ◌, not, nat_lt, nat_eq, if◌then◌else◌}
 use Rattle.std.specs.Str.{bytes_eq}
-use Rattle.std.proofs.lemmas.Bool.{ltb-true}
+use Rattle.std.proofs.lemmas.Bool.{ltb-true, ltb-false}
 use Rattle.mj_text.specs.declared.text.TheConstants.{TEXT_LIMIT}
 use Rattle.std.proofs.lemmas.List.{length-map}
+use Rattle.std.proofs.lemmas.List.Filters.{length-filter_both}
 use Rattle.mj_text.specs.declared.fault.Fault.{Fault}
 use Rattle.mj_text.specs.declared.fault.Fault.TheVariants as faults
 use Rattle.mj_subs.specs.Name.{Name, overlaps}
@@ -19,13 +20,15 @@ use Rattle.mj_ask.specs.declared.ask.Ask.TheVariants as asks
 use Rattle.mj_ask.specs.declared.ask.Reply.{Reply}
 use Rattle.mj_ask.specs.declared.entry.Entry.{Entry}
 use Rattle.mj_ask.specs.Fits.{is_late}
+use Rattle.mj_ast.specs.declared.routine.Mark.{Mark}
+use Rattle.mj_ast.specs.declared.routine.ReadMode.{ReadMode}
 use Rattle.mj_ast.specs.declared.routine.LockMode.{LockMode}
 use Rattle.mj_ast.specs.declared.routine.LockMode.TheVariants as mode
 use Rattle.mj_oper.specs.Operators.{binary_value, unary_value, truth_value}
-use Rattle.mj_ast.specs.Syntax.{Expr, Chain, Tails, Done, Then, Operand, Literal, Value, Intrinsic, Unary, Group, Call, About, Select, Variable, Var, Exprs, No, More as Another, Choices, Last, Before, Destination, Plain, Pieces, Targets, One, Several, Assignment, Killed, Gone, Spared, Merged, Output, Shown, Format, Called as CalledOf, Jumped as JumpedOf, Started as StartedOf, LockNames, Lone, Together, Locked, Range, Single, Endless, UpTo, Renewed, Fresh, Kept, Command, Set, Write, Halt, Hang, Job, Lock, Kill, Merge, If, Else, For, Forever, Do, Goto, Quit, New, Step, Line, Routine}
+use Rattle.mj_ast.specs.Syntax.{Expr, Chain, Tails, Done, Then, Operand, Literal, Value, Intrinsic, Unary, Group, Call, About, Select, Variable, Var, Exprs, No, More as Another, Choices, Last, Before, Destination, Plain, Pieces, Targets, One, Several, Assignment, Killed, Gone, Spared, Merged, Output, Shown, Format, Coded, Opened, Received, Input, Prompted, Arranged, Into, Called as CalledOf, Jumped as JumpedOf, Started as StartedOf, LockNames, Lone, Together, Locked, Range, Single, Endless, UpTo, Renewed, Fresh, Kept, Command, Set, Write, Halt, Hang, Job, Lock, OpenDevice as OpenOf, UseDevice, CloseDevice, Read, Kill, Merge, If, Else, For, Forever, Do, Goto, Quit, New, Step, Line, Routine}
 use Rattle.mj_ast.specs.declared.expr.Scope.TheVariants.{Local}
 use Rattle.mj_num.specs.Number.{reading, sum_of, canonic_text}
-use Rattle.mj_semantics.specs.State.{State, Locals, Place, Frame, OpenDevice, principal, devices_limit, has_failed, is_at_mark, ending_order, on_device, moved, broke, Only, AllBut, accessed, counted, wrote, newed, set_test, special_value, level_of, may_go, pushed, popped, passed, at_place, spare, hold}
+use Rattle.mj_semantics.specs.State.{State, Locals, Place, Frame, OpenDevice, principal, devices_limit, has_failed, is_at_mark, ending_order, on_device, moved, broke, with_device, used, dropped, is_open, may_close, column_at, Only, AllBut, accessed, counted, wrote, newed, set_test, special_value, level_of, may_go, pushed, popped, passed, at_place, spare, hold}
 use Rattle.mj_ast.specs.declared.function.NameFunction.{NameFunction}
 use Rattle.mj_semantics.specs.Functions.{call_value, needed, optional}
 use Rattle.mj_semantics.specs.Names.{spelled, asks as asks_some, question, told}
@@ -34,8 +37,9 @@ use Rattle.mj_semantics.specs.Accesses.{answer_told, answered, access, value_tol
 use Rattle.mj_semantics.specs.Evaluation.{ev, ev_tails, ev_operand, ev_choices, ev_name, ev_named, ev_all, ev_actuals, ev_local, name_of, named_for, read, about, when}
 use Rattle.mj_semantics.specs.Lines.{Here, place_at, next_line, line_before, line_at, levels_of, entry_of, entered}
 use Rattle.mj_semantics.specs.Points.{Leave, Ways, Loop, Once, Always, By, Point, AtLine, Called, Jumped, Pass, Started, Points}
+use Rattle.mj_semantics.specs.Devices.{is_got, has_no_session, obtained, obtain, begin_session, open_device, use_device, end_session, give_up, close, is_input, input_ask, input_told, read_input}
 use Rattle.mj_semantics.specs.Sharing.{is_limit, in_time as test_in_time, served, out_of_transaction, hang, start_job, unlock_all, take_names, give_names, lock}
-use Rattle.mj_semantics.specs.Commands.{Aim, Whole, Part, ev_destination, ev_destinations, store, or_empty, renewed, renew, put, put_all, assign_to, assign, assign_all, named, remove, kill, kill_list, kill_all, take_nodes, put_these, put_nodes, merge, merge_all, write, mark_byte, output, output_all, ev_timeout, hang_all, start_all, ev_names, ev_lock_names, lock_list, lock_all, renewal, new_list, new_all, quit_frame, deeper, frames_limit, ifs, if_test, if_all, is_within, stepped, again, first, ranges, calls, block, do_all, jumps, obey, obey_all}
+use Rattle.mj_semantics.specs.Commands.{Aim, Whole, Part, ev_destination, ev_destinations, store, or_empty, renewed, renew, put, put_all, assign_to, assign, assign_all, named, remove, kill, kill_list, kill_all, take_nodes, put_these, put_nodes, merge, merge_all, write, mark_byte, tab_bytes, tab, coded, write_code, arrange, output, output_all, open_all, use_all, close_all, receive, input, read_all, ev_timeout, hang_all, start_all, ev_names, ev_lock_names, lock_list, lock_all, renewal, new_list, new_all, quit_frame, deeper, frames_limit, ifs, if_test, if_all, is_within, stepped, again, first, ranges, calls, block, do_all, jumps, obey, obey_all}
 use Rattle.mj_semantics.specs.Job.{Start, quit_before, obey_line, call, jump, in_pass, points_of, opening, start as starts, next}
 use Rattle.mj_jobvm.specs.Run.{Log, replies_of, IsTrace, begins, goes_on}
 use Rattle.mj_jobvm.specs.Limit.{IsAllowed, AreAllowed, IsLimited}
@@ -77,6 +81,14 @@ module _ (rest : Timed) (k : Keeps rest) where
     by = λ n h s replies a locals at le e.
         subst (λ r. IsAllowed (r + length replies) a) (same s).0
         (k.by n h (f s) replies a locals at (like_fair s (f s) (same s) le) e);
+  }
+
+  -- behind a change after which no more devices are open
+  fewer_keeps : (f : State → State) → ((s : State) → ((f s).replied ≡ s.replied) × (length (f s).devices ≤ length s.devices)) → Keeps (change f rest)
+  fewer_keeps f less = record {
+    by = λ n h s replies a locals at le e.
+        subst (λ r. IsAllowed (r + length replies) a) (less s).0
+        (k.by n h (f s) replies a locals at (let fair : IsFair (f s) = (omega (arith, (less s).0, le.0), omega (arith, (less s).1, le.1)) in fair) e);
   }
 
 turns_keep : (many : ℕ) (rest : Timed) → Keeps rest → Keeps (turns many rest)
@@ -240,11 +252,13 @@ first_keeps x i step (Some end) after pass a k =
 deeper_keeps : (rest : Timed) → Keeps rest → Keeps (deeper rest)
 deeper_keeps rest k = look_keeps _ (λ s. if_keeps (nat_lt (length s.frames) frames_limit) rest (fault faults.Depth) k (fault_keeps faults.Depth))
 
--- HANG, JOB and LOCK.
+-- `$TEST` behind an ask that may wait.
 
 tests_same : (timeout : Option ℤ) (b : Bool) (s : State) → IsLike s (test_in_time timeout b s)
 tests_same None b s = (refl, refl)
 tests_same (Some n) b s = (refl, refl)
+
+-- HANG, JOB and LOCK.
 
 served_keeps : (timeout : Option ℤ) (r : Reply) (rest : Timed) → Keeps rest → Keeps (served timeout r rest)
 served_keeps timeout r rest k =
@@ -281,6 +295,103 @@ lock_keeps mode.Whole xs timeout rest k =
     turn_keeps _ (unlock_all_keeps (turn (take_names xs timeout rest)) (turn_keeps (take_names xs timeout rest) (take_names_keep xs timeout rest k)))
 lock_keeps mode.Plus xs timeout rest k = turn_keeps (take_names xs timeout rest) (take_names_keep xs timeout rest k)
 lock_keeps mode.Minus xs timeout rest k = turn_keeps (give_names xs timeout rest) (give_names_keep xs timeout rest k)
+
+-- OPEN, USE, CLOSE and READ.
+
+-- the same where one more device may be open than there are
+record KeepsRoom (t : Timed) : Type 0 where
+  by : (n : ℕ) (h : Handler) (s : State) (replies : List Reply) (a : Ask) (locals : Locals) (at : List Place)
+      → IsFair s → length s.devices ≤ devices_limit → t n h s replies ≡ Needs a locals at → IsAllowed (s.replied + length replies) a
+
+with_room : (t : Timed) → Keeps t → KeepsRoom t
+with_room t k = record { by = λ n h s replies a locals at le room e. k.by n h s replies a locals at le e }
+
+room_if : (b : Bool) (t u : Timed) → KeepsRoom t → KeepsRoom u → KeepsRoom (if b then t else u)
+room_if true t u k l = k
+room_if false t u k l = l
+
+-- a device is added
+added_keeps : (name : List ℕ) (rest : Timed) → Keeps rest → KeepsRoom (change (with_device name) rest)
+added_keeps name rest k = record {
+  by = λ n h s replies a locals at le room e.
+      let more : length (with_device name s).devices ≡ length s.devices + 1 = length-append s.devices (record { name = name; column = 0; row = 0; failed = false } ∷ []) in
+      k.by n h (with_device name s) replies a locals at (let fair : IsFair (with_device name s) = (le.0, omega (arith, more, room)) in fair) e;
+}
+
+room_change : (f : State → State) (rest : Timed) → ((s : State) → IsLike s (f s)) → KeepsRoom rest → KeepsRoom (change f rest)
+room_change f rest same k = record {
+  by = λ n h s replies a locals at le room e.
+      subst (λ r. IsAllowed (r + length replies) a) (same s).0
+      (k.by n h (f s) replies a locals at (like_fair s (f s) (same s) le) (let few : length (f s).devices ≤ devices_limit = omega (arith, (same s).1, room) in few) e);
+}
+
+room_by : (x : Ask) (rest : Reply → Timed) → ((r : Reply) → KeepsRoom (rest r)) → (b : Bool)
+    → (n : ℕ) (h : Handler) (s : State) (replies : List Reply) (a : Ask) (locals : Locals) (at : List Place)
+    → nat_lt s.replied steps_limit ≡ b → IsFair s → length s.devices ≤ devices_limit
+    → (if b then asking x (λ r. change counted (rest r)) else fault faults.Steps) n h s replies ≡ Needs a locals at
+    → IsAllowed (s.replied + length replies) a
+room_by x rest k true n h s [] a locals at b le room e =
+    allowed_as x a (s.replied + 0) s.locals locals _ at e (inl (let q = ltb-true s.replied steps_limit b in let l : s.replied + 0 < steps_limit = omega (arith, q) in l))
+room_by x rest k true n h s (r ∷ replies) a locals at b le room e =
+    let g : s.replied + 1 ≤ steps_limit = (let q = ltb-true s.replied steps_limit b in omega (arith, q)) in
+    let is : s.replied + 1 + length replies ≡ s.replied + length (r ∷ replies) = omega arith in
+    subst (λ i. IsAllowed i a) is ((k r).by n h (counted s) replies a locals at (g, le.1) room e)
+room_by x rest k false n h s replies a locals at b le room e = (fault_keeps faults.Steps).by n h s replies a locals at le e
+
+obtained_keeps : (name : List ℕ) (timeout : Option ℤ) (r : Reply) (late got : Timed) → Keeps late → Keeps got → KeepsRoom (obtained name timeout r late got)
+obtained_keeps name timeout r late got l k =
+    let in_time : Timed = change (test_in_time timeout true) (change (with_device name) got) in
+    let too_late : Timed = change (test_in_time timeout false) late in
+    room_if (has_no_session r) (fault faults.NoDevice) (if is_got r then in_time else too_late) (with_room _ (fault_keeps faults.NoDevice))
+    (room_if (is_got r) in_time too_late
+    (room_change (test_in_time timeout true) (change (with_device name) got) (tests_same timeout true) (added_keeps name got k))
+    (with_room _ (change_keeps late l (test_in_time timeout false) (tests_same timeout false))))
+
+obtain_keeps : (name : List ℕ) (timeout : Option ℤ) (late got : Timed) → Keeps late → Keeps got → Keeps (obtain name timeout late got)
+obtain_keeps name timeout late got l k = record { by = λ n h s replies a locals at le e. at_state (is_open name s) (nat_lt devices_limit (length s.devices)) n h s replies a locals at refl le e }
+  where
+    asks_for : Timed
+    asks_for = ask (asks.Open name timeout) (λ r. obtained name timeout r late got)
+
+    at_state : (b full : Bool) (n : ℕ) (h : Handler) (s : State) (replies : List Reply) (a : Ask) (locals : Locals) (at : List Place)
+        → nat_lt devices_limit (length s.devices) ≡ full → IsFair s
+        → (if b then change (test_in_time timeout true) late else if full then fault faults.Limit else asks_for) n h s replies ≡ Needs a locals at
+        → IsAllowed (s.replied + length replies) a
+    at_state true full n h s replies a locals at q le e = (change_keeps late l (test_in_time timeout true) (tests_same timeout true)).by n h s replies a locals at le e
+    at_state false true n h s replies a locals at q le e = (fault_keeps faults.Limit).by n h s replies a locals at le e
+    at_state false false n h s replies a locals at q le e =
+        room_by (asks.Open name timeout) (λ r. obtained name timeout r late got) (λ r. obtained_keeps name timeout r late got l k) (nat_lt s.replied steps_limit)
+        n h s replies a locals at refl le (ltb-false devices_limit (length s.devices) q) e
+
+open_keeps : (name : List ℕ) (timeout : Option ℤ) (rest : Timed) → Keeps rest → Keeps (open_device name timeout rest)
+open_keeps name timeout rest k =
+    obtain_keeps name timeout rest (turn (begin_session name rest)) k (turn_keeps (begin_session name rest) (to_device_keeps name (asks.DeviceBegin name) (λ r. rest) (λ r. k)))
+
+use_keeps : (name : List ℕ) (rest : Timed) → Keeps rest → Keeps (use_device name rest)
+use_keeps name rest k =
+    look_keeps _ (λ s. if_keeps (is_open name s) (change (used name) rest) (fault faults.NoDevice) (change_keeps rest k (used name) (λ t. (refl, refl))) (fault_keeps faults.NoDevice))
+
+dropped_fewer : (name : List ℕ) (s : State) → ((dropped name s).replied ≡ s.replied) × (length (dropped name s).devices ≤ length s.devices)
+dropped_fewer name s = (refl, omega (arith, length-filter_both (λ d. not (bytes_eq d.name name)) (λ d. not (not (bytes_eq d.name name))) (λ d. refl) s.devices))
+
+give_up_keeps : (name : List ℕ) (rest : Timed) → Keeps rest → Keeps (give_up name rest)
+give_up_keeps name rest k = ask_keeps (asks.Close name) (λ r. rest) (λ r. k)
+
+close_keeps : (name : List ℕ) (rest : Timed) → Keeps rest → Keeps (close name rest)
+close_keeps name rest k =
+    let badly : Timed = turn (give_up name (fault faults.Device)) in
+    let well : Timed = turn (give_up name rest) in
+    let behind : Reply → Timed = λ r. change (dropped name) (if is_failed r then badly else well) in
+    look_keeps _ (λ s. if_keeps (may_close name s) (ask (asks.DeviceEnd name) behind) rest
+    (ask_keeps (asks.DeviceEnd name) behind (λ r. fewer_keeps (if is_failed r then badly else well)
+    (if_keeps (is_failed r) badly well (turn_keeps _ (give_up_keeps name (fault faults.Device) (fault_keeps faults.Device))) (turn_keeps _ (give_up_keeps name rest k)))
+    (dropped name) (dropped_fewer name)))
+    k)
+
+read_input_keeps : (m : ReadMode) (timeout : Option ℤ) (rest : List ℕ → Timed) → ((v : List ℕ) → Keeps (rest v)) → Keeps (read_input m timeout rest)
+read_input_keeps m timeout rest k =
+    look_keeps _ (λ s. to_device_keeps s.current (input_ask m s.current timeout) (λ r. change (test_in_time timeout (is_input r)) (rest (input_told m r)))
+    (λ r. change_keeps (rest (input_told m r)) (k (input_told m r)) (test_in_time timeout (is_input r)) (tests_same timeout (is_input r))))
 
 popped_same : (s : State) → IsLike s (popped s)
 popped_same s = by s.frames
@@ -405,9 +516,20 @@ module _ (points : Points) (all : (p : Point) → KeepsPoint p → Keeps (points
       (look_keeps sent (λ s. to_device_keeps s.current (asks.DeviceWrite s.current all) (λ r. change (wrote all) rest)
       (λ r. change_keeps rest k (wrote all) (λ t. (refl, device_length t.current (moved all) t.devices)))))
 
+  tab_keeps : (marks : List Mark) (v : List ℕ) (rest : Timed) → Keeps rest → Keeps (tab marks v rest)
+  tab_keeps marks v rest k = given_keeps (reading v) _ (λ n. look_keeps _ (λ s. write_keeps (tab_bytes marks n (column_at s.current s)) rest k))
+
+  write_code_keeps : (v : List ℕ) (rest : Timed) → Keeps rest → Keeps (write_code v rest)
+  write_code_keeps v rest k = given_keeps (reading v) _ (λ n. given_keeps (coded n) _ (λ bytes. write_keeps bytes rest k))
+
+  arrange_keeps : (marks : List Mark) (column : Option Expr) (rest : Timed) → Keeps rest → Keeps (arrange points here marks column rest)
+  arrange_keeps marks None rest k = turn_keeps (write (map mark_byte marks) rest) (write_keeps (map mark_byte marks) rest k)
+  arrange_keeps marks (Some e) rest k = ev_keeps e _ (λ v. turn_keeps (tab marks v rest) (tab_keeps marks v rest k))
+
   output_keeps : (o : Output) (rest : Timed) → Keeps rest → Keeps (output points here o rest)
   output_keeps (Shown e) rest k = ev_keeps e _ (λ v. turn_keeps (write v rest) (write_keeps v rest k))
-  output_keeps (Format marks) rest k = turn_keeps (write (map mark_byte marks) rest) (write_keeps (map mark_byte marks) rest k)
+  output_keeps (Format l) rest k = arrange_keeps l.marks l.column rest k
+  output_keeps (Coded e) rest k = ev_keeps e _ (λ v. turn_keeps (write_code v rest) (write_code_keeps v rest k))
 
   output_all_keeps : (list : List Output) (rest : Timed) → Keeps rest → Keeps (output_all points here list rest)
   output_all_keeps [] rest k = k
@@ -493,6 +615,34 @@ module _ (points : Points) (all : (p : Point) → KeepsPoint p → Keeps (points
   lock_all_keeps [] rest k = turn_keeps (unlock_all rest) (unlock_all_keeps rest k)
   lock_all_keeps (l ∷ list) rest k = lock_list_keeps (l ∷ list) rest k
 
+  -- OPEN, USE, CLOSE and READ.
+
+  open_all_keeps : (list : List Opened) (rest : Timed) → Keeps rest → Keeps (open_all points here list rest)
+  open_all_keeps [] rest k = k
+  open_all_keeps (o ∷ list) rest k =
+      ev_keeps o.device _ (λ name. timeout_keeps o.timeout _ (λ t. turn_keeps _ (open_keeps name t (open_all points here list rest) (open_all_keeps list rest k))))
+
+  use_all_keeps : (es : List Expr) (rest : Timed) → Keeps rest → Keeps (use_all points here es rest)
+  use_all_keeps [] rest k = k
+  use_all_keeps (e ∷ es) rest k = ev_keeps e _ (λ name. turn_keeps _ (use_keeps name (use_all points here es rest) (use_all_keeps es rest k)))
+
+  close_all_keeps : (es : List Expr) (rest : Timed) → Keeps rest → Keeps (close_all points here es rest)
+  close_all_keeps [] rest k = k
+  close_all_keeps (e ∷ es) rest k = ev_keeps e _ (λ name. turn_keeps _ (close_keeps name (close_all points here es rest) (close_all_keeps es rest k)))
+
+  receive_keeps : (r : Received) (rest : Timed) → Keeps rest → Keeps (receive points here r rest)
+  receive_keeps r rest k =
+      name_keeps r.variable _ (λ x. timeout_keeps r.timeout _ (λ t. turn_keeps _ (read_input_keeps r.mode t (λ v. turn (store x v rest)) (λ v. turn_keeps (store x v rest) (store_keeps x v rest k)))))
+
+  input_keeps : (i : Input) (rest : Timed) → Keeps rest → Keeps (input points here i rest)
+  input_keeps (Prompted text) rest k = output_keeps (Shown (Chain (Literal text) Done)) rest k
+  input_keeps (Arranged l) rest k = arrange_keeps l.marks l.column rest k
+  input_keeps (Into r) rest k = receive_keeps r rest k
+
+  read_all_keeps : (list : List Input) (rest : Timed) → Keeps rest → Keeps (read_all points here list rest)
+  read_all_keeps [] rest k = k
+  read_all_keeps (i ∷ list) rest k = input_keeps i (read_all points here list rest) (read_all_keeps list rest k)
+
   -- NEW.
 
   new_keeps : (x : Renewed) (rest : Timed) → Keeps rest → Keeps (renewal x rest)
@@ -570,6 +720,10 @@ module _ (points : Points) (all : (p : Point) → KeepsPoint p → Keeps (points
   obey_keeps (Hang es) c steps ways rest w k = when_keeps c _ rest (hang_all_keeps es rest k) k
   obey_keeps (Job list) c steps ways rest w k = when_keeps c _ rest (start_all_keeps list rest k) k
   obey_keeps (Lock list) c steps ways rest w k = when_keeps c _ rest (lock_all_keeps list rest k) k
+  obey_keeps (OpenOf list) c steps ways rest w k = when_keeps c _ rest (open_all_keeps list rest k) k
+  obey_keeps (UseDevice es) c steps ways rest w k = when_keeps c _ rest (use_all_keeps es rest k) k
+  obey_keeps (CloseDevice es) c steps ways rest w k = when_keeps c _ rest (close_all_keeps es rest k) k
+  obey_keeps (Read list) c steps ways rest w k = when_keeps c _ rest (read_all_keeps list rest k) k
   obey_keeps (Kill list) c steps ways rest w k = when_keeps c _ rest (kill_all_keeps list rest k) k
   obey_keeps (Merge list) c steps ways rest w k = when_keeps c _ rest (merge_all_keeps list rest k) k
   obey_keeps (If es) c steps ways rest w k = if_keeps_all es ways.line_end rest w.line_end k

@@ -249,7 +249,8 @@ fn go_on(
     requires small { AreSmall units.now }
     requires checked { AreChecked units.now }
     requires sound { IsSound units.now (standing machine.old None) }
-    ensures ok { IfOk result (λ w. Steps (record { units = units.now; start = start_of start.now }) (standing machine.old (given_of given.old log.now)) (told_of w) (standing machine.new (given_of given.new log.now))) }
+    ensures ok { IfOk result (λ w. Steps (record { units = units.now; start = start_of start.now })
+        (standing machine.old (given_of given.old log.now)) (told_of w) (standing machine.new (given_of given.new log.now))) }
     ensures err { OnErr result (standing machine.new (given_of given.new log.now) ≡ standing machine.old (given_of given.old log.now)) }
     ensures sound { IsSound units.now (standing machine.new None) }
 {

@@ -1,5 +1,5 @@
 -- The ends of sessions, one after the other.
-use Rattle.std.proofs.Common.{◌≡◌, ℕ, zero, suc, ◌+◌, List, [], ◌∷◌, drop, Option, Some, None, refl, ap, ◌∙◌}
+use Rattle.std.proofs.Common.{◌≡◌, ℕ, zero, suc, ◌+◌, List, [], ◌∷◌, drop, Option, Some, None, refl, sym, ap, ◌∙◌, arith}
 use Rattle.std.specs.Prelude.{slice_get}
 use Rattle.mj_text.specs.declared.fault.Fault.{Fault}
 use Rattle.mj_ask.specs.declared.ask.Reply.{Reply}
@@ -19,7 +19,9 @@ left_some : {A : Type 0} (xs : List A) (k : ℕ) (y : A) → slice_get xs k ≡ 
 left_some [] zero y e = cc
 left_some [] (suc k) y e = cc
 left_some (x ∷ xs) zero y e = let same : x ≡ y = cc in ap (λ z. z ∷ xs) same
-left_some (x ∷ xs) (suc k) y e = left_some xs k y e
+left_some (x ∷ xs) (suc k) y e =
+    let more : suc k + 1 ≡ suc (k + 1) = omega arith in
+    left_some xs k y e ∙ ap (λ j. y ∷ drop j (x ∷ xs)) (sym more)
 
 -- a turn of the ending is its next ask
 pub ending_turn : (done : ℕ) (f : Option Fault) (n : ℕ) (h : Handler) (s : State) (replies : List Reply) → ending done f (suc n) h s replies ≡ closing done f n h s replies

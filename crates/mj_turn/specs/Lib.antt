@@ -5,5 +5,6 @@ pub mod Faults
 pub mod Loops
 pub mod Enters
 pub mod Ranges
+pub mod Groups
 pub mod Units
 pub mod Sound

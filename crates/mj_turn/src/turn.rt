@@ -6,6 +6,7 @@ ghost use Rattle.mj_machine.specs.Kept.{standing, stack_of, context_of, Acts, St
 ghost use Rattle.mj_turn.specs.Turns.{Turns};
 ghost use Rattle.mj_pcode.specs.Checked.{footing};
 ghost use Rattle.mj_pcode.specs.Sound.{AreChecked};
+ghost use Rattle.mj_turn.specs.Groups.{IsOther, IsOutside};
 ghost use Rattle.mj_turn.specs.Sound.{IsReady, IsSound};
 ghost use Rattle.mj_turn.specs.Units.{AreSmall, IsSmall};
 
@@ -31,6 +32,11 @@ use mj_pcode::{Instr, Unit};
 use mj_sharing::hang::{hang, number};
 use mj_sharing::locks::{lock, unlock, unlock_all};
 use mj_sharing::start::start_job;
+use mj_talk::closing::{end_session, give_up, give_up_failed};
+use mj_talk::formats::{tab, write_byte};
+use mj_talk::opening::{begin_session, obtain};
+use mj_talk::reading::read;
+use mj_talk::using::use_device;
 use mj_text::Fault;
 use std::alloc::{AllocError, Global};
 
@@ -44,7 +50,7 @@ pub fn obey(
     machine: &mut Machine,
     given: Option<&Reply>,
 ) -> Result<Step, AllocError>
-    requires next { pc + 2 < 2 ^ 64 }
+    requires next { pc + 3 < 2 ^ 64 }
     requires small { IsSmall unit.now }
     requires all { AreSmall units.now }
     requires enough { IsReady instr.now (footing (length (stack_of machine.old)) (length (context_of machine.old).loops)) }
@@ -52,7 +58,6 @@ pub fn obey(
     ensures err { OnErr result (Stays machine.old machine.new) }
 {
     match instr {
-        Instr::Line(line) => enter_line(unit, pc, *line, machine),
         Instr::Push(text) => push(pc, text, machine),
         Instr::Special(variable) => special(alloc, pc, *variable, machine),
         Instr::Load(reference) => load(alloc, pc, reference, machine, given),
@@ -80,13 +85,30 @@ pub fn obey(
         Instr::NoneTrue => Ok(fail(Fault::Select, machine)),
         Instr::Halt => Ok(halt(machine)),
         Instr::Number => Ok(number(pc, machine)),
-        Instr::Hang => hang(alloc, pc, machine, given),
-        Instr::Start(entry, shape, wait) => {
-            start_job(alloc, pc, entry, shape, *wait, machine, given)
-        }
-        Instr::UnlockAll => unlock_all(alloc, pc, machine, given),
-        Instr::Lock(references, wait) => lock(alloc, pc, references, *wait, machine, given),
-        Instr::Unlock(references, wait) => unlock(alloc, pc, references, *wait, machine, given),
+        _ => obey_control(alloc, units, unit, pc, instr, machine, given),
+    }
+}
+
+// An instruction of lines, frames and FORs, or one of the world outside.
+fn obey_control(
+    alloc: Global,
+    units: &[Unit],
+    unit: &Unit,
+    pc: usize,
+    instr: &Instr,
+    machine: &mut Machine,
+    given: Option<&Reply>,
+) -> Result<Step, AllocError>
+    requires next { pc + 3 < 2 ^ 64 }
+    requires small { IsSmall unit.now }
+    requires all { AreSmall units.now }
+    requires enough { IsReady instr.now (footing (length (stack_of machine.old)) (length (context_of machine.old).loops)) }
+    requires other { IsOther instr.now }
+    ensures ok { IfOk result (λ step. Acts units.now unit.now (Some instr.now) pc machine.old (replied given.entry) step machine.new) }
+    ensures err { OnErr result (Stays machine.old machine.new) }
+{
+    match instr {
+        Instr::Line(line) => enter_line(unit, pc, *line, machine),
         Instr::Decide(target) => decide(pc, *target, machine),
         Instr::If(target) => Ok(branch(pc, true, *target, machine)),
         Instr::Else(target) => Ok(branch(pc, false, *target, machine)),
@@ -104,6 +126,44 @@ pub fn obey(
         }
         Instr::New(words) => new_words(pc, words, machine),
         Instr::NewExcept(words) => new_except(pc, words, machine),
+        _ => obey_outside(alloc, units, unit, pc, instr, machine, given),
+    }
+}
+
+// An instruction of the world outside: time, jobs, locks and devices.
+fn obey_outside(
+    alloc: Global,
+    units: &[Unit],
+    unit: &Unit,
+    pc: usize,
+    instr: &Instr,
+    machine: &mut Machine,
+    given: Option<&Reply>,
+) -> Result<Step, AllocError>
+    requires next { pc + 3 < 2 ^ 64 }
+    requires enough { IsReady instr.now (footing (length (stack_of machine.old)) (length (context_of machine.old).loops)) }
+    requires outside { IsOutside instr.now }
+    ensures ok { IfOk result (λ step. Acts units.now unit.now (Some instr.now) pc machine.old (replied given.entry) step machine.new) }
+    ensures err { OnErr result (Stays machine.old machine.new) }
+{
+    match instr {
+        Instr::Hang => hang(alloc, pc, machine, given),
+        Instr::Start(entry, shape, wait) => {
+            start_job(alloc, pc, entry, shape, *wait, machine, given)
+        }
+        Instr::UnlockAll => unlock_all(alloc, pc, machine, given),
+        Instr::Lock(references, wait) => lock(alloc, pc, references, *wait, machine, given),
+        Instr::Unlock(references, wait) => unlock(alloc, pc, references, *wait, machine, given),
+        Instr::Tab(marks) => tab(alloc, pc, marks, machine, given),
+        Instr::WriteByte => write_byte(alloc, pc, machine, given),
+        Instr::Obtain(wait) => obtain(alloc, pc, *wait, machine, given),
+        Instr::BeginSession => begin_session(alloc, pc, machine, given),
+        Instr::Use => Ok(use_device(pc, machine)),
+        Instr::EndSession => end_session(alloc, pc, machine, given),
+        Instr::GiveUpFailed => give_up_failed(alloc, machine, given),
+        Instr::GiveUp => give_up(alloc, pc, machine, given),
+        Instr::Read(mode, wait) => read(alloc, pc, *mode, *wait, machine, given),
+        _ => unreachable!(),
     }
 }
 

@@ -1,4 +1,4 @@
-use Rattle.std.proofs.Common.{◌≡◌, ℕ, List, [], ◌∷◌, Option, None, Ok, Err, false, length, sym, ap, ◌∙◌, arith}
+use Rattle.std.proofs.Common.{◌≡◌, List, [], Option, None, Ok, Err, length, sym, ap, ◌∙◌, arith}
 use Rattle.mj_ask.specs.declared.ask.Reply.{Reply}
 use Rattle.mj_semantics.specs.State.{State}
 use Rattle.mj_semantics.specs.Outcome.{Outcome, given}
@@ -10,7 +10,7 @@ use Rattle.mj_frames.specs.declared.loops.Loop as kept_loop
 use Rattle.mj_machine.specs.Contexts.{loops_of, calls_of}
 use Rattle.mj_turn.specs.Enters.{found_of, found_at, entered, opened_at}
 use Rattle.mj_machine.specs.Standing.{Standing, given_first}
-use Rattle.mj_machine.specs.Kept.{standing, state_of}
+use Rattle.mj_machine.specs.Kept.{state_of}
 use Rattle.mj_turn.proofs.Opened.{opens, called}
 use Rattle.mj_turn.proofs.calling.enter_first.Goals as goal
 

@@ -1,13 +1,11 @@
-use Rattle.std.proofs.Common.{◌≡◌, None, true, false, refl, sym, ap, ◌∙◌}
-use Rattle.std.specs.Prelude.{option_map, if◌then◌else◌, Some}
+use Rattle.std.proofs.Common.{None, refl, ap}
+use Rattle.std.specs.Prelude.{option_map}
 use Rattle.std.proofs.lemmas.Result.{IfOk-weaker}
-use Rattle.mj_ask.specs.declared.ask.Ask.TheVariants.{DeviceWrite, DeviceEnd, Halt}
-use Rattle.mj_semantics.specs.State.{principal, places}
-use Rattle.mj_semantics.specs.Outcome.{Needs, asking, end, fault_bytes}
+use Rattle.mj_ask.specs.declared.ask.Ask.TheVariants.{Halt}
 use Rattle.mj_machine.specs.Standing.{given_first}
 use Rattle.mj_machine.specs.Kept.{state_of, replied}
 use Rattle.mj_machine.proofs.Asks.{waits}
-use Rattle.mj_turn.specs.Faults.{telling, closing, halting}
+use Rattle.mj_turn.specs.Faults.{halting}
 use Rattle.mj_turn.proofs.ending.finish.Goals as goal
 
 pub returns-in-None-clause-ok : goal.returns-in-None-clause-ok

@@ -1,13 +1,13 @@
-use Rattle.std.proofs.Common.{◌≡◌, [], None, true, false, refl, sym, ap, ◌∙◌}
+use Rattle.std.proofs.Common.{[], None, sym, ap, ◌∙◌}
 use Rattle.std.specs.Prelude.{option_map, if◌then◌else◌, Some}
 use Rattle.std.proofs.lemmas.Result.{IfOk-weaker}
-use Rattle.mj_ask.specs.declared.ask.Ask.TheVariants.{DeviceWrite, DeviceEnd, Halt}
+use Rattle.mj_ask.specs.declared.ask.Ask.TheVariants.{DeviceWrite}
 use Rattle.mj_semantics.specs.State.{principal, places}
 use Rattle.mj_semantics.specs.Outcome.{Needs, asking, end, fault_bytes}
 use Rattle.mj_machine.specs.Standing.{given_first}
 use Rattle.mj_machine.specs.Kept.{state_of, replied}
 use Rattle.mj_machine.proofs.Asks.{waits}
-use Rattle.mj_turn.specs.Faults.{telling, closing, halting}
+use Rattle.mj_turn.specs.Faults.{telling}
 use Rattle.mj_turn.proofs.ending.tell_fault.Goals as goal
 
 pub returns-in_ok-line-in-None-clause-ok : goal.returns-in_ok-line-in-None-clause-ok
