@@ -125,7 +125,9 @@ impl<R: Files + Drop> Port<R> {
     {
         let input = self.input()?;
         let file = self.made()?;
-        if let Some(input) = input && self.lines.given().is_empty() {
+        if let Some(input) = input
+            && self.lines.given().is_empty()
+        {
             self.lines = Memory::new(self.alloc, input);
         }
         if file.is_some() {

@@ -51,7 +51,10 @@ fn lines_of_a_file(rt: HostRuntime) -> Result<(), Fail> {
     let path = format!(in alloc; "{folder}/in")?;
     let name = Text::from(alloc, b"F")?;
     let mut pool = Pool::new(alloc);
-    assert!(rt; pool.add(&name, Port::from_file(alloc, &rt, path.clone()?)).is_ok());
+    assert!(rt;
+        pool.add(&name, Port::from_file(alloc, &rt, path.clone()?))
+            .is_ok()
+    );
     fs::write(&rt, path.as_str(), b"one\r\n\nlast".as_slice())?;
     let mut session = pool.take(&name).ok_or("no session")?;
     assert!(rt; session.state() == State::Open && session.begin() == Did::Done);
