@@ -1,8 +1,12 @@
 //! What no clause says: that the files are those that are named, and which calls the file system refuses.
 
+ghost use Rattle.mj_dev.specs.Heard.{IsFresh};
+
 use crate::Port;
-use mj_dev::{Device, Did, Input, Pool, State};
+use mj_dev::{Device, Did, Input, Pool, Session, State};
 use mj_text::{Digits, TEXT_LIMIT, Text};
+use std::alloc::Global;
+use std::process::Abort;
 use std::test::Fail;
 use std::{env, fs, process};
 
@@ -43,29 +47,40 @@ fn lines_of_given_bytes(rt: HostRuntime) -> Result<(), Fail> {
     Ok(())
 }
 
-// A session with the lines of a file: the file is read when it begins, and what is written goes nowhere.
+// Whether a session gives this line.
+fn gives<D: Device>(session: &mut Session<D>, line: &[u8]) -> bool {
+    session.state() == State::Open && is_line(&session.line(), line)
+}
+
+// A session that reads three lines, and writes.
+fn talk<D: Device, R: Abort>(rt: &R, alloc: Global, device: D) -> Result<(), Fail>
+    requires { IsFresh (D.failures device) (D.taken device) (D.given device) }
+{
+    let name = Text::from(alloc, b"F")?;
+    let mut pool = Pool::new(alloc);
+    assert!(rt; pool.add(&name, device).is_ok());
+    let mut session = pool.take(&name).ok_or("no session")?;
+    assert!(rt; session.state() == State::Open && session.begin() == Did::Done);
+    assert!(rt; gives(&mut session, b"one\r"));
+    assert!(rt; session.state() == State::Open && session.write(b"x") == Did::Done);
+    assert!(rt; gives(&mut session, b""));
+    assert!(rt; gives(&mut session, b"last"));
+    assert!(rt; session.state() == State::Open && matches!(session.line(), Input::End));
+    assert!(rt; session.end() == Did::Done);
+    Ok(())
+}
+
+// The file is read when the session begins, and what is written goes nowhere.
 #[test]
 fn lines_of_a_file(rt: HostRuntime) -> Result<(), Fail> {
     let alloc = rt.alloc();
     let folder = folder(&rt, "lines")?;
     let path = format!(in alloc; "{folder}/in")?;
-    let name = Text::from(alloc, b"F")?;
-    let mut pool = Pool::new(alloc);
-    assert!(rt;
-        pool.add(&name, Port::from_file(alloc, &rt, path.clone()?))
-            .is_ok()
-    );
+    let port = Port::from_file(alloc, &rt, path.clone()?);
     fs::write(&rt, path.as_str(), b"one\r\n\nlast".as_slice())?;
-    let mut session = pool.take(&name).ok_or("no session")?;
-    assert!(rt; session.state() == State::Open && session.begin() == Did::Done);
-    fs::write(&rt, path.as_str(), b"other".as_slice())?;
-    assert!(rt; session.state() == State::Open && is_line(&session.line(), b"one\r"));
-    assert!(rt; session.state() == State::Open && session.write(b"x") == Did::Done);
-    assert!(rt; session.state() == State::Open && is_line(&session.line(), b""));
-    assert!(rt; session.state() == State::Open && is_line(&session.line(), b"last"));
-    assert!(rt; session.state() == State::Open && matches!(session.line(), Input::End));
-    assert!(rt; session.end() == Did::Done);
-    assert_eq!(rt; fs::read_to_string(&rt, path.as_str())?.as_str(), "other");
+    talk(&rt, alloc, port)?;
+    let left = fs::read_to_string(&rt, path.as_str())?;
+    assert_eq!(rt; left.as_str(), "one\r\n\nlast");
     fs::remove_dir_all(&rt, folder.as_str())?;
     Ok(())
 }
