@@ -3,8 +3,8 @@
 // A step lets one job go on to its next ask, which is served: by the system, by the job's own device sessions, or at once (`specs/Ties.antt`, `Steps`).
 // What was asked and told, in order, is a history; when one is a run of the routines says `specs/Runs.antt`.
 //
-// So far the crate has one job's step among many (`slot.rt`); the core that keeps all jobs and their history, and the theorem on lists of
-// steps, come next.
+// `Core` (`together.rt`) keeps all jobs and the history; what a step of it gives says `specs/Gives.antt`, and the theorem on lists of steps is the
+// contract of `run`. One job's step among many is in `slot.rt`.
 #![tactic(auto)]
 
 mod seen;

@@ -1,9 +1,9 @@
 // What a format writes.
 
-ghost use Rattle.std.specs.Prelude.{◌≡◌, ◌+◌, ◌<◌, ◌^◌, map, IfOk, OnErr};
+ghost use Rattle.std.specs.Prelude.{◌≡◌, ◌+◌, ◌<◌, ◌≤◌, ◌^◌, length, map, IfOk, OnErr};
 ghost use Rattle.mj_semantics.specs.Commands as commands;
 ghost use Rattle.mj_pcode.specs.declared.instr.Instr.TheVariants as instrs;
-ghost use Rattle.mj_machine.specs.Kept.{Obeys, Stays, replied};
+ghost use Rattle.mj_machine.specs.Kept.{Does, Obeys, Stays, without, replied};
 
 use crate::asking::put_out;
 use crate::machine::{Machine, Step};
@@ -20,11 +20,12 @@ fn mark_byte(mark: Mark) -> u8
 {
     match mark {
         Mark::NewLine => b'\n',
+        Mark::NewPage => 0x0c,
     }
 }
 
 /// The bytes that marks write.
-fn spelled(alloc: Global, marks: &[Mark]) -> Result<Vec<u8>, AllocError>
+pub fn spelled(alloc: Global, marks: &[Mark]) -> Result<Vec<u8>, AllocError>
     ensures { IfOk result (λ bytes. bytes.items ≡ map commands.mark_byte marks.now) }
 {
     let mut bytes = Vec::new(alloc);
@@ -48,8 +49,26 @@ pub fn write_marks(
     ensures err { OnErr result (Stays machine.old machine.new) }
 {
     let bytes = spelled(alloc, marks.as_slice())?;
-    match Text::from(alloc, &bytes) {
-        Ok(text) => put_out(alloc, pc, 0, text, machine, given),
+    put_bytes(alloc, pc, 0, &bytes, machine, given)
+}
+
+/// Writes bytes by one ask, or by none where there are none, and then takes `count` operands off and goes on. More than a text holds are a fault, and so is
+/// it where the device failed.
+pub fn put_bytes(
+    alloc: Global,
+    pc: usize,
+    count: usize,
+    bytes: &[u8],
+    machine: &mut Machine,
+    given: Option<&Reply>,
+) -> Result<Step, AllocError>
+    requires next { pc + 1 < 2 ^ 64 }
+    requires enough { count ≤ length machine.old.stack.items }
+    ensures ok { IfOk result (λ step. Does (λ next. commands.write bytes.now (without machine.old pc count next)) machine.old (replied given.entry) step machine.new) }
+    ensures err { OnErr result (Stays machine.old machine.new) }
+{
+    match Text::from(alloc, bytes) {
+        Ok(text) => put_out(alloc, pc, count, text, machine, given),
         Err(failure) => match failure {
             Failure::Fault(_) => Ok(fail(Fault::Length, machine)),
             Failure::Memory => Err(AllocError),

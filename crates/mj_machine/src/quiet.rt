@@ -49,20 +49,24 @@ pub fn special(
     ensures ok { IfOk result (λ step. ObeysAlone (instrs.Special special) pc machine.old step machine.new) }
     ensures err { OnErr result (Stays machine.old machine.new) }
 {
-    let value = special_value(alloc, special, machine);
+    let value = special_value(alloc, special, machine)?;
     stack::push(&mut machine.stack, value)?;
     machine.control = Control::At(pc + 1);
     Ok(Step::Next)
 }
 
 // The value of a special variable.
-fn special_value(alloc: Global, special: Special, machine: &Machine) -> Text
-    ensures { result ≡ states.special_value special (state_of machine.now) }
+fn special_value(alloc: Global, special: Special, machine: &Machine) -> Result<Text, AllocError>
+    ensures { IfOk result (λ value. value ≡ states.special_value special (state_of machine.now)) }
 {
-    match special {
+    let value = match special {
+        Special::Io => return machine.devices.current(alloc),
         Special::Job => Text::from_number(alloc, machine.job as i64),
         Special::Test => truth_text(alloc, machine.test),
-    }
+        Special::X => Text::from_number(alloc, machine.devices.column() as i64),
+        Special::Y => Text::from_number(alloc, machine.devices.row() as i64),
+    };
+    Ok(value)
 }
 
 // A truth value as a text.

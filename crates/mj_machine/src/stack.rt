@@ -44,6 +44,18 @@ pub fn take_one(stack: &mut Vec<Text>)
     let _top = stack.pop();
 }
 
+/// Takes the topmost operand off, and gives it.
+pub fn pop(stack: &mut Vec<Text>) -> Text
+    requires { 1 ≤ length stack.old.items }
+    ensures value { result ≡ top (reverse stack.old.items) }
+    ensures left { reverse stack.new.items ≡ below (reverse stack.old.items) }
+{
+    match stack.pop() {
+        Some(top) => top,
+        None => unreachable!(),
+    }
+}
+
 /// Takes the `count` topmost operands off.
 pub fn take_off(stack: &mut Vec<Text>, count: usize)
     requires { count ≤ length stack.old.items }

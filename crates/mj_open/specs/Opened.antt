@@ -1,7 +1,7 @@
 -- The devices that a job has open, and how they change.
-use Rattle.std.specs.Prelude.{◌≡◌, ℕ, ◌+◌, ◌*◌, ◌≤◌, List, [], ◌∷◌, Option, Some, None, Bool, false, map}
+use Rattle.std.specs.Prelude.{◌≡◌, ℕ, ◌+◌, ◌*◌, ◌≤◌, List, [], ◌∷◌, Option, Some, None, Bool, false, map, if◌then◌else◌}
 use Rattle.std.specs.Str.{bytes_eq}
-use Rattle.mj_semantics.specs.State.{State, OpenDevice, principal, column_after, row_after, device_at, wrote, broke, dropped}
+use Rattle.mj_semantics.specs.State.{State, OpenDevice, principal, column_after, row_after, device_at, wrote, broke, with_device, used, dropped}
 use Rattle.mj_semantics.specs.Job.{opening}
 use Rattle.mj_open.specs.declared.devices.Spot.{Spot}
 use Rattle.mj_open.specs.declared.devices.Other.{Other}
@@ -29,15 +29,31 @@ after_write bytes o = opened (o.writes + 1) (wrote bytes (alone o))
 abbrev pub after_fail : List ℕ → Opened → Opened
 after_fail name o = opened o.writes (broke name (alone o))
 
+-- one more device is open
+abbrev pub after_add : List ℕ → Opened → Opened
+after_add name o = opened o.writes (with_device name (alone o))
+
+-- an open device becomes the current one
+abbrev pub after_use : List ℕ → Opened → Opened
+after_use name o = opened o.writes (used name (alone o))
+
 -- a device isn't open any more
 abbrev pub after_drop : List ℕ → Opened → Opened
 after_drop name o = opened o.writes (dropped name (alone o))
 
--- the row of an open device
-abbrev pub row_at : List ℕ → State → ℕ
-row_at name s = elim (device_at name s.devices) [ None ↦ 0 | Some d ↦ d.row ]
+-- in the place of a device that was current the principal one is
+abbrev pub after_leave : List ℕ → Opened → Opened
+after_leave name o = record o { current = if bytes_eq o.current name then principal else o.current }
 
 -- How they are kept.
+
+-- what an open device is like, and as untouched where there is none
+abbrev pub spot_in : Option OpenDevice → Spot
+spot_in None = record { column = 0; row = 0; failed = false }
+spot_in (Some d) = record { column = d.column; row = d.row; failed = d.failed }
+
+abbrev pub spot_at : List ℕ → List OpenDevice → Spot
+spot_at name devices = spot_in (device_at name devices)
 
 abbrev pub device_of : List ℕ → Spot → OpenDevice
 device_of name s = record { name = name; column = s.column; row = s.row; failed = s.failed }

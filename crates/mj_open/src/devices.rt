@@ -1,9 +1,9 @@
 // The open devices.
 
-ghost use Rattle.std.specs.Prelude.{◌≡◌, ◌+◌, ◌≤◌, ◌<◌, ◌^◌, ◌∷◌, [], false, length, position, slice_get, IfOk, IfSome};
+ghost use Rattle.std.specs.Prelude.{◌≡◌, ◌+◌, ◌*◌, ◌≤◌, ◌<◌, ◌^◌, ◌∷◌, [], false, length, position, slice_get, IfOk, IfSome, OnOk, OnErr};
 ghost use Rattle.std.specs.Str.{bytes_eq};
 ghost use Rattle.mj_semantics.specs.State as states;
-ghost use Rattle.mj_open.specs.Opened.{alone, after_write, after_fail, is_named, went};
+ghost use Rattle.mj_open.specs.Opened.{alone, after_write, after_fail, after_add, after_drop, after_leave, after_use, is_named, spot_at, went};
 
 use crate::column::{column_after, row_after};
 use mj_text::{Digits, Text};
@@ -107,6 +107,57 @@ impl Devices {
         }
     }
 
+    /// How many are open, the principal one among them.
+    pub fn len(&self) -> usize
+        ensures { result ≡ length self.now.devices }
+    {
+        self.others.len() + 1
+    }
+
+    /// Whether the job has a device of this name open.
+    pub fn has(&self, name: &Text) -> bool
+        ensures { result ≡ states.is_open name.now (alone self.now) }
+    {
+        is_principal(name) || place(&self.others, name).is_some()
+    }
+
+    /// Whether the job may close the device of this name.
+    pub fn may_close(&self, name: &Text) -> bool
+        ensures { result ≡ states.may_close name.now (alone self.now) }
+    {
+        !is_principal(name) && place(&self.others, name).is_some()
+    }
+
+    /// `$X` at the current one.
+    pub fn column(&self) -> u64
+        ensures value { result ≡ states.column_at self.now.current (alone self.now) }
+        ensures bound { result ≤ 32767 * self.now.writes }
+    {
+        self.current_spot().column
+    }
+
+    /// `$Y` at the current one.
+    pub fn row(&self) -> u64
+        ensures value { result ≡ states.row_at self.now.current (alone self.now) }
+        ensures bound { result ≤ 32767 * self.now.writes }
+    {
+        self.current_spot().row
+    }
+
+    // What the current one is like; as untouched where it isn't open.
+    fn current_spot(&self) -> Spot
+        ensures value { result ≡ spot_at self.now.current self.now.devices }
+        ensures bound { (result.column ≤ 32767 * self.now.writes) × (result.row ≤ 32767 * self.now.writes) }
+    {
+        match &self.current {
+            None => self.principal,
+            Some(name) => match place(&self.others, name) {
+                None => Spot::new(),
+                Some(at) => self.others[at].spot,
+            },
+        }
+    }
+
     /// Whether a call of the principal device's session failed.
     pub fn principal_failed(&self) -> bool
         ensures { result ≡ states.has_failed states.principal (alone self.now) }
@@ -168,11 +219,77 @@ impl Devices {
         }
     }
 
+    /// A call of the session of the device of this name failed.
+    pub fn fail(&mut self, name: &Text)
+        ensures { self.new ≡ after_fail name.now self.old }
+    {
+        if is_principal(name) {
+            self.principal.failed = true;
+            return;
+        }
+        if let Some(at) = place(&self.others, name) {
+            let other = &mut self.others[at];
+            other.spot.failed = true;
+        }
+    }
+
     /// A call of the principal one's session failed.
     pub fn fail_principal(&mut self)
         ensures { self.new ≡ after_fail states.principal self.old }
     {
         self.principal.failed = true;
+    }
+
+    /// One more device is open, the last in the order of opening.
+    pub fn add(&mut self, name: Text) -> Result<(), AllocError>
+        ensures ok { OnOk result (self.new ≡ after_add name self.old) }
+        ensures err { OnErr result (self.new ≡ self.old) }
+    {
+        self.others.reserve(1)?;
+        let spot = Spot::new();
+        self.others.push_reserved(Other { name, spot });
+        Ok(())
+    }
+
+    /// The device of this name isn't open any more; where it was the current one, the principal one is.
+    pub fn remove(&mut self, name: &Text)
+        requires apart { bytes_eq name.now states.principal ≡ false }
+        ensures { self.new ≡ after_drop name.now self.old }
+    {
+        self.leave(name);
+        self.others.retain(|other| other.name != *name);
+    }
+
+    // Where the device of this name is the current one, the principal one becomes it.
+    fn leave(&mut self, name: &Text)
+        requires apart { bytes_eq name.now states.principal ≡ false }
+        ensures { self.new ≡ after_leave name.now self.old }
+    {
+        if self.is_current(name) {
+            self.current = None;
+        }
+    }
+
+    // Whether it is the name of the current one, which isn't the principal one.
+    fn is_current(&self, name: &Text) -> bool
+        requires apart { bytes_eq name.now states.principal ≡ false }
+        ensures { result ≡ bytes_eq self.now.current name.now }
+    {
+        match &self.current {
+            None => false,
+            Some(current) => *current == *name,
+        }
+    }
+
+    /// The device of this name becomes the current one.
+    pub fn select(&mut self, name: Text)
+        ensures { self.new ≡ after_use name self.old }
+    {
+        self.current = if is_principal(&name) {
+            None
+        } else {
+            Some(name)
+        };
     }
 }
 
