@@ -1,0 +1,51 @@
+// All bytes of a reader.
+
+ghost use Rattle.std.specs.Prelude.{◌≡◌, OnOk, IfOk, IfSome};
+
+use std::alloc::{AllocError, Global};
+use std::io::{Error, ErrorKind, Read};
+
+/// The most reads after which a reader must have ended.
+const READS_LIMIT: u64 = 1_000_000_000;
+
+/// Why a file wasn't opened or read.
+#[derive(Drop)]
+pub enum Trouble {
+    /// the file system refused it, or the file doesn't end
+    Failed,
+    /// memory was refused
+    Memory,
+}
+
+impl From<AllocError> for Trouble {
+    fn from(_: AllocError) -> Trouble {
+        Trouble::Memory
+    }
+}
+
+impl From<Error> for Trouble {
+    fn from(error: Error) -> Trouble {
+        if error.kind() == ErrorKind::OutOfMemory {
+            Trouble::Memory
+        } else {
+            Trouble::Failed
+        }
+    }
+}
+
+/// All bytes that a reader has left, as far as they are known.
+pub fn whole<R: Read>(alloc: Global, reader: &mut R) -> Result<Vec<u8>, Trouble>
+    ensures bytes { IfOk result (λ bytes. IfSome (R.remaining reader.old) (λ known. bytes.items ≡ known)) }
+{
+    let mut bytes = Vec::new(alloc);
+    let mut part = [0u8; 4096];
+    for _ in 0..READS_LIMIT {
+        match reader.read(&mut part) {
+            Ok(0) => return Ok(bytes),
+            Ok(count) => bytes.extend_from_slice(&part[..count])?,
+            Err(error) if error.kind() == ErrorKind::Interrupted => {}
+            Err(error) => return Err(Trouble::from(error)),
+        }
+    }
+    Err(Trouble::Failed)
+}

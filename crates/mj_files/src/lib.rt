@@ -1,0 +1,13 @@
+// Devices of the program: the lines of some bytes or of a file, and a file that takes bytes.
+//
+// A port is one of three kinds. Its lines were given to it, as those of standard input are; or they are those of a file, which is read as a whole
+// when the port begins; or what is written to it goes to a file, which is made then. It fails where the file system refuses a call, and at a line
+// longer than a text; it keeps the contract of `mj_dev::Device` over any file system.
+#![tactic(auto)]
+
+mod bytes;
+mod port;
+#[cfg(test)]
+mod tests;
+
+pub use port::Port;
