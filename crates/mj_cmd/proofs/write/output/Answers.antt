@@ -10,13 +10,13 @@ use Rattle.mj_cmd.proofs.Follow.{reads_err, room_for, went_then, went_token, wen
 use Rattle.mj_cmd.proofs.Layouts.{write_untaken, code_untaken}
 use Rattle.mj_cmd.proofs.write.output.Goals as goal
 
-pub returns-in_err-layout-then-begins_layout-clause-reads : goal.returns-in_err-layout-then-begins_layout-clause-reads
-returns-in_err-layout-then-begins_layout-clause-reads c = λ m r o condition k done.
-    reads_err c.args.phrases.limited _ _ c.from_residual.result c.in_err-layout-then-begins_layout.field-0.0 m c.args.tokens.now _ _ c.from_residual.ensures.1
-    (c.in_err-layout-then-begins_layout.ensures.reads m r Writes o condition k done)
+pub returns-in_err-layout-clause-reads : goal.returns-in_err-layout-clause-reads
+returns-in_err-layout-clause-reads c = λ m r o condition k done.
+    reads_err c.args.phrases.limited _ _ c.from_residual.result c.in_err-layout.field-0.0 m c.args.tokens.now _ _ c.from_residual.ensures.1
+    (c.in_err-layout.ensures.reads m r Writes o condition k done)
 
 pub returns-then-begins_layout-clause-reads : goal.returns-then-begins_layout-clause-reads
-returns-then-begins_layout-clause-reads c = λ m r o condition k done. c.in_ok-layout-then-begins_layout.ensures.reads m r Writes o condition k done
+returns-then-begins_layout-clause-reads c = λ m r o condition k done. c.in_ok-layout.ensures.reads m r Writes o condition k done
 
 pub returns-in_err-code-in-Some-clause-reads : goal.returns-in_err-code-in-Some-clause-reads
 returns-in_err-code-in-Some-clause-reads c = λ m r o condition k done.
