@@ -1,4 +1,5 @@
-use Rattle.std.proofs.Common.{◌≡◌, ◌==◌, ◌∙◌, zero, suc, Bool, true, false, List, [], ◌∷◌, length, refl, sym, ap}
+use Rattle.std.proofs.Common.{◌≡◌, ◌==◌, ◌∙◌, ℕ, arith, Bool, true, List, [], ◌∷◌, length, refl, sym, ap}
+use Rattle.std.proofs.lemmas.Bool.Decides.{nat_tests}
 use Rattle.mj_ast.specs.Trees.{command_of}
 use Rattle.mj_lex.specs.declared.token.Lexeme.{Lexeme}
 use Rattle.mj_lex.specs.Seen.{tokens_seen}
@@ -8,9 +9,12 @@ use Rattle.mj_cmd.proofs.Follow.{bare_blank, bare_end, bare_written}
 use Rattle.mj_cmd.proofs.command.command.Goals as goal
 
 -- no token at all
+no_length : (n : ℕ) (b : Bool) → b ≡ (n == 0) → b ≡ true → n ≡ 0
+no_length n b e h = grind (arith, nat_tests)
+
 none_seen : (ls : List Lexeme) (b : Bool) → b ≡ (length ls == 0) → b ≡ true → tokens_seen ls ≡ []
 none_seen [] b e h = refl
-none_seen (l ∷ ls) b e h = absurd (let f : true ≡ false = sym h ∙ e in cc)
+none_seen (l ∷ ls) b e h = let z = no_length (length (l ∷ ls)) b e h in absurd (omega arith)
 
 pub returns-then-is_empty-clause-reads : goal.returns-then-is_empty-clause-reads
 returns-then-is_empty-clause-reads c = λ m r o condition.
