@@ -1,8 +1,8 @@
 -- What the functions that read formats and the arguments of WRITE, READ and OPEN follow.
-use Rattle.std.proofs.Common.{◌≡◌, ℕ, ◌≤◌, arith, List, [], ◌∷◌, ◌++◌, length, refl, ap, sym, ◌∙◌, subst, Bool, true, false, append_assoc, append-nil, Option, Some, None, map, nat_le, ◌⊎◌, inl, inr}
+use Rattle.std.proofs.Common.{◌≡◌, ℕ, ◌≤◌, arith, List, [], ◌∷◌, ◌++◌, length, refl, ap, sym, ◌∙◌, subst, Bool, true, false, append_assoc, append-nil, Option, Some, None, map, nat_le, inl, inr}
 use Rattle.std.specs.Prelude.{cond}
 use Rattle.std.proofs.lemmas.Bool.Decides.{nat_tests}
-use Rattle.mj_ast.specs.declared.sign.Sign.TheVariants.{Star, Hash, Comma, Colon, Exclamation, Question}
+use Rattle.mj_ast.specs.declared.sign.Sign.TheVariants.{Star, Hash, Colon, Exclamation, Question}
 use Rattle.mj_ast.specs.declared.routine.Mark.{Mark}
 use Rattle.mj_ast.specs.declared.routine.Mark.TheVariants.{NewLine, NewPage}
 use Rattle.mj_ast.specs.declared.routine.ReadMode.{ReadMode}
