@@ -11,4 +11,4 @@ returns-then-branch c = inl (when_so c.in_ok-ends_in_command.field-0 (EndsInComm
 pub returns : goal.returns
 returns c =
     let front = tokens_seen c.args.front.now in
-    ok_or _ c.in_ok-ends_in_command.field-0 (EndsInCommand keyword.Use front) (EndsInCommand keyword.Close front) c.if-branch.false c.in_ok-ends_in_command.ensures ?
+    ok_or c.ends_in_command-2.result c.in_ok-ends_in_command.field-0 (EndsInCommand keyword.Use front) (EndsInCommand keyword.Close front) c.if-branch.false c.in_ok-ends_in_command.ensures c.ends_in_command-2.ensures
