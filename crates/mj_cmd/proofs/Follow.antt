@@ -68,6 +68,9 @@ ends_err limited tree (Ok y) e m ls s made h r = absurd h
 ends_err limited tree (Err y) e m ls s made h r = let P : Stop → Type 0 = λ x. Refuses limited x (run m (tokens_seen ls) s) in subst P (sym h) r
 
 -- want of memory
+pub memory_refuses : (limited : Bool) (e : Stop) (o : Outcome) → e ≡ stop.Memory → Refuses limited e o
+memory_refuses limited e o h = let P : Stop → Type 0 = λ x. Refuses limited x o in subst P (sym h) tt
+
 pub memory_err : {X T : Type 0} (limited : Bool) (tree : X → T) (rest : X → List Lexeme) (r : Result X Stop) (m : Limits) (ls : List Lexeme) (s : State) (holding : T → State) →
     IsErrAnd r (λ x. x ≡ stop.Memory) → Reads limited tree rest r m ls s holding
 memory_err limited tree rest r m ls s holding h = reads_err limited tree rest r stop.Memory m ls s holding h tt

@@ -5,9 +5,9 @@ use Rattle.std.proofs.lemmas.Bool.Decides.{nat_tests}
 use Rattle.mj_ast.specs.declared.sign.Sign.TheVariants.{Comma, Colon, Caret, Open, Close}
 use Rattle.mj_ast.specs.declared.keyword.Verb.{Verb}
 use Rattle.mj_ast.specs.Syntax.{Expr, Called as Call, Started, Target}
-use Rattle.mj_ast.specs.Tokens.{Token, Word, Called, Digits, Signed}
+use Rattle.mj_ast.specs.Tokens.{Token, Word, Called, Digits, Quoted, Signed}
 use Rattle.mj_ast.specs.Expressions.{callee_of}
-use Rattle.mj_ast.specs.Commands.{Part, Put, Label, with_commas, target_parts, actual_parts, actuals_parts, guard_parts, wait_parts, plain_actuals, plain}
+use Rattle.mj_ast.specs.Commands.{Part, Put, Label, Prompt, with_commas, target_parts, actual_parts, actuals_parts, guard_parts, wait_parts, plain_actuals, plain}
 use Rattle.mj_expr.specs.Machine.{Limits}
 use Rattle.mj_lex.specs.declared.token.Lexeme.{Lexeme}
 use Rattle.mj_lex.specs.Seen.{tokens_seen}
@@ -46,10 +46,16 @@ label_long : (w : List ℕ) (n : ℕ) (q : Node) (b : Bool) → nat_le (length w
 label_long w n q true e h = absurd (h (grind (arith, nat_tests)))
 label_long w n q false e h = refl
 
+-- a text in quotes is no entry
+prompt_apart : (v : List ℕ) (mode : Mode) (first : Bool) (b : Bool) → part_taken (EntryWanted mode first) (cond b (Some (Prompt v)) None) ≡ None
+prompt_apart v mode first true = refl
+prompt_apart v mode first false = refl
+
 pub entry_untaken : (mode : Mode) (first : Bool) (ks : List Token) → HasNoLabel ks → HasNoCaret ks → Untaken (EntryWanted mode first) ks
 entry_untaken mode first [] h i = tt
 entry_untaken mode first (Word w ∷ ks) h i = label_long w 31 (EntryWanted mode first) (nat_le (length w) 31) refl h
 entry_untaken mode first (Digits d ∷ ks) h i = label_long d 32767 (EntryWanted mode first) (nat_le (length d) 32767) refl h
+entry_untaken mode first (Quoted v ∷ ks) h i = prompt_apart v mode first (nat_le (length v) 32767)
 entry_untaken mode first (Called w ∷ ks) h i = called_apart (EntryWanted mode first) (callee_of w) (nat_le (length w) 31) refl
 entry_untaken mode first (Signed Caret ∷ ks) h i = absurd i
 entry_untaken mode first (Signed s ∷ ks) h i = refl

@@ -1,26 +1,27 @@
 -- What the functions that read formats and the arguments of WRITE, READ and OPEN follow.
-use Rattle.std.proofs.Common.{◌≡◌, List, [], ◌∷◌, ◌++◌, length, refl, ap, sym, ◌∙◌, subst, Bool, true, false, append_assoc, append-nil, Option, Some, None, map, nat_le, ◌⊎◌, inl, inr}
+use Rattle.std.proofs.Common.{◌≡◌, ℕ, ◌≤◌, arith, List, [], ◌∷◌, ◌++◌, length, refl, ap, sym, ◌∙◌, subst, Bool, true, false, append_assoc, append-nil, Option, Some, None, map, nat_le, inl, inr}
 use Rattle.std.specs.Prelude.{cond}
-use Rattle.mj_ast.specs.declared.sign.Sign.TheVariants.{Star, Hash, Comma, Colon, Exclamation, Question}
+use Rattle.std.proofs.lemmas.Bool.Decides.{nat_tests}
+use Rattle.mj_ast.specs.declared.sign.Sign.TheVariants.{Star, Hash, Colon, Exclamation, Question}
 use Rattle.mj_ast.specs.declared.routine.Mark.{Mark}
 use Rattle.mj_ast.specs.declared.routine.Mark.TheVariants.{NewLine, NewPage}
 use Rattle.mj_ast.specs.declared.routine.ReadMode.{ReadMode}
 use Rattle.mj_ast.specs.declared.routine.ReadMode.TheVariants.{Line, Byte}
 use Rattle.mj_ast.specs.declared.keyword.Verb.{Verb}
 use Rattle.mj_ast.specs.Syntax.{Expr}
-use Rattle.mj_ast.specs.Tokens.{Token, Word, Called, Signed}
+use Rattle.mj_ast.specs.Tokens.{Token, Word, Digits, Quoted, Called, Signed}
 use Rattle.mj_ast.specs.Expressions.{callee_of}
-use Rattle.mj_ast.specs.Commands.{Part, Put, mark_part}
+use Rattle.mj_ast.specs.Commands.{Part, Put, Label, Prompt, mark_part, read_mode_parts}
 use Rattle.mj_expr.specs.Machine.{Limits}
 use Rattle.mj_lex.specs.declared.token.Lexeme.{Lexeme}
 use Rattle.mj_lex.specs.Seen.{tokens_seen}
-use Rattle.mj_line.specs.Forms.{Node, takes, part_at, Talk, Writes, Reads, OutputWanted, OutputEnd, MarksEnd, ColumnWanted, CodeWanted, IntoEnd, IntoTimed, DeviceWanted, DeviceEnd, DeviceColon, DeviceTimed, DeviceWaited, part_of}
+use Rattle.mj_line.specs.Forms.{Node, AVar, takes, wants, part_at, Talk, Writes, Reads, OutputWanted, OutputEnd, MarksEnd, ColumnWanted, CodeWanted, IntoWanted, IntoEnd, IntoTimed, DeviceWanted, DeviceEnd, DeviceColon, DeviceTimed, DeviceWaited, part_of}
 use Rattle.mj_line.specs.Sentences.{Sentence}
 use Rattle.mj_line.specs.Machine.{Args, At, args_rest, on_rested, run}
-use Rattle.mj_line.proofs.Tables.{called_apart}
-use Rattle.mj_cmd.specs.Heads.{HasNoColon, HasNoMark, HasNoQuestion, HasNoStar, StartsQuestion}
-use Rattle.mj_cmd.specs.Parts.{MayBeColumn, mark_sign}
-use Rattle.mj_cmd.proofs.Follow.{Untaken, Went, SignUntaken, untaken_by, no_sign, SameAt, went_same, name_neither, piece_neither}
+use Rattle.mj_line.proofs.Tables.{part_taken, called_apart}
+use Rattle.mj_cmd.specs.Heads.{HasNoColon, HasNoMark, HasNoQuestion, HasNoQuoted, HasNoStar, StartsLayout, StartsQuestion}
+use Rattle.mj_cmd.specs.Parts.{MayBeColumn, MayBeInto, mark_sign, read_node, read_tokens}
+use Rattle.mj_cmd.proofs.Follow.{Untaken, Unended, Went, SignUntaken, went_token, untaken_by, no_sign, SameAt, went_same, name_neither, piece_neither}
 
 -- ---- marks
 
@@ -75,6 +76,35 @@ pub went_no_column : (limited : Bool) (talk : Talk) (n : Node) (m : Limits) (ls 
 went_no_column limited talk n m ls o condition k done (inl g) h = let P : Node → Type 0 = λ x. Went limited [] m ls x ls (OutputEnd talk) o condition k done in subst P (sym g.0) (went_uncolumned limited talk m ls o condition k done g.1 h)
 went_no_column limited talk n m ls o condition k done (inr g) h = absurd (no_question (tokens_seen ls) g.1 h)
 
+-- a format begins with its marks, or with its column
+column_alone : (ks : List Token) → StartsLayout ks → HasNoMark ks → StartsQuestion ks
+column_alone [] h i = h
+column_alone (Signed Exclamation ∷ ks) h i = absurd i
+column_alone (Signed Hash ∷ ks) h i = absurd i
+column_alone (Signed Question ∷ ks) h i = tt
+column_alone (Signed s ∷ ks) h i = h
+column_alone (t ∷ ks) h i = h
+
+-- behind the marks of a format its column may stand
+abbrev pub WentMarks : Bool → Talk → Limits → List Lexeme → List Lexeme → List Mark → Type 0
+WentMarks limited talk m ls rest xs =
+    (n : Node) × MayBeColumn talk n (tokens_seen rest)
+    × ((o : Sentence) → (condition : Option Expr) → (k : Verb) → (done : List Part) → Went limited (map mark_part xs) m ls (OutputWanted talk) rest n o condition k done)
+
+pub went_front : (limited : Bool) (talk : Talk) (m : Limits) (ls rest : List Lexeme) (xs : List Mark) → StartsLayout (tokens_seen ls) → tokens_seen ls ≡ map (λ y. Signed (mark_sign y)) xs ++ tokens_seen rest → HasNoMark (tokens_seen rest) → WentMarks limited talk m ls rest xs
+went_front limited talk m ls rest [] h e i =
+    let P : List Token → Type 0 = λ ks. StartsLayout ks in (
+      OutputWanted talk,
+      inr (refl, column_alone (tokens_seen rest) (subst P e h) i),
+      λ o condition k done. (
+        [],
+        λ l. refl,
+        ap (λ (ks : List Token). run m ks (At (Args o condition k done (OutputWanted talk)))) e
+            ∙ ap (λ (ps : List Part). run m (tokens_seen rest) (At (Args o condition k ps (OutputWanted talk)))) (sym (append-nil done)),
+      ),
+    )
+went_front limited talk m ls rest (x ∷ xs) h e i = (MarksEnd talk, inl (refl, i), λ o condition k done. went_marks limited talk m ls rest x xs o condition k done e)
+
 -- a `?` leads to one
 pub question_takes : (talk : Talk) (n : Node) (ks : List Token) → MayBeColumn talk n ks → takes n (Put Question) ≡ Some (ColumnWanted talk)
 question_takes talk n ks (inl g) = ap (λ (x : Node). takes x (Put Question)) g.0
@@ -105,6 +135,58 @@ pub code_untaken : (ks : List Token) → Untaken CodeWanted ks
 code_untaken ks = untaken_by CodeWanted ks refl (λ w. refl) refl (no_sign CodeWanted ks (λ s. refl))
 
 -- ---- READ
+
+-- neither a label nor a text in quotes is an argument there
+label_apart : (w : List ℕ) (b : Bool) → part_taken (OutputWanted Reads) (cond b (Some (Label w)) None) ≡ None
+label_apart w true = refl
+label_apart w false = refl
+
+prompt_long : (v : List ℕ) (b : Bool) → nat_le (length v) 32767 ≡ b → (length v ≤ 32767 → ⊥) → part_taken (OutputWanted Reads) (cond b (Some (Prompt v)) None) ≡ None
+prompt_long v true e h = absurd (h (grind (arith, nat_tests)))
+prompt_long v false e h = refl
+
+read_untaken : (ks : List Token) → HasNoMark ks → HasNoQuestion ks → HasNoStar ks → HasNoQuoted ks → Untaken (OutputWanted Reads) ks
+read_untaken [] h i j l = tt
+read_untaken (Word w ∷ ks) h i j l = label_apart w (nat_le (length w) 31)
+read_untaken (Digits d ∷ ks) h i j l = label_apart d (nat_le (length d) 32767)
+read_untaken (Quoted v ∷ ks) h i j l = prompt_long v (nat_le (length v) 32767) refl l
+read_untaken (Called w ∷ ks) h i j l = called_apart (OutputWanted Reads) (callee_of w) (nat_le (length w) 31) refl
+read_untaken (Signed Exclamation ∷ ks) h i j l = absurd h
+read_untaken (Signed Hash ∷ ks) h i j l = absurd h
+read_untaken (Signed Question ∷ ks) h i j l = absurd i
+read_untaken (Signed Star ∷ ks) h i j l = absurd j
+read_untaken (Signed s ∷ ks) h i j l = refl
+read_untaken (t ∷ ks) h i j l = refl
+
+-- the variable, behind a `*` or at once
+pub into_untaken : (mode : ReadMode) (front ks : List Token) → front ≡ read_tokens mode ++ ks → MayBeInto mode ks → HasNoMark front → HasNoQuestion front → HasNoQuoted front → Untaken (read_node mode) ks
+into_untaken Line front ks e h i j l =
+    let P : List Token → Type 0 = λ zs. HasNoMark zs in
+    let Q : List Token → Type 0 = λ zs. HasNoQuestion zs in
+    let R : List Token → Type 0 = λ zs. HasNoQuoted zs in read_untaken ks (subst P e i) (subst Q e j) h (subst R e l)
+into_untaken Byte front ks e h i j l = untaken_by IntoWanted ks refl (λ w. refl) refl (no_sign IntoWanted ks (λ s. refl))
+
+pub into_wanted : (mode : ReadMode) → wants (read_node mode) ≡ Some (AVar 0 IntoEnd)
+into_wanted Line = refl
+into_wanted Byte = refl
+
+pub into_unended : (mode : ReadMode) (ks : List Token) → Unended (read_node mode) ks
+into_unended Line ks = inl refl
+into_unended Byte ks = inl refl
+
+pub went_into : (limited : Bool) (m : Limits) (ls rest : List Lexeme) (mode : ReadMode) (o : Sentence) (condition : Option Expr) (k : Verb) (done : List Part) → tokens_seen ls ≡ read_tokens mode ++ tokens_seen rest → Went limited (read_mode_parts mode) m ls (OutputWanted Reads) rest (read_node mode) o condition k done
+went_into limited m ls rest Line o condition k done e = (
+  [],
+  λ l. refl,
+  ap (λ (ks : List Token). run m ks (At (Args o condition k done (OutputWanted Reads)))) e
+      ∙ ap (λ (ps : List Part). run m (tokens_seen rest) (At (Args o condition k ps (OutputWanted Reads)))) (sym (append-nil done)),
+)
+went_into limited m ls rest Byte o condition k done e = went_token limited (Signed Star) (Put Star) m ls (OutputWanted Reads) rest IntoWanted o condition k done e refl refl
+
+-- a text in quotes
+pub went_prompt : (limited : Bool) (m : Limits) (ls rest : List Lexeme) (v : List ℕ) (o : Sentence) (condition : Option Expr) (k : Verb) (done : List Part) → tokens_seen ls ≡ Quoted v ∷ tokens_seen rest → length v ≤ 32767 → Went limited (Prompt v ∷ []) m ls (OutputWanted Reads) rest (OutputEnd Reads) o condition k done
+went_prompt limited m ls rest v o condition k done e h =
+    went_token limited (Quoted v) (Prompt v) m ls (OutputWanted Reads) rest (OutputEnd Reads) o condition k done e (ap (λ (b : Bool). cond b (Some (Prompt v)) None) (let z : nat_le (length v) 32767 ≡ true = grind (arith, nat_tests) in z)) refl
 
 pub into_timed_untaken : (ks : List Token) → Untaken IntoTimed ks
 into_timed_untaken ks = untaken_by IntoTimed ks refl (λ w. refl) refl (no_sign IntoTimed ks (λ s. refl))

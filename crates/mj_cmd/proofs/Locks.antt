@@ -1,5 +1,5 @@
 -- What the functions that read the arguments of LOCK follow.
-use Rattle.std.proofs.Common.{◌≡◌, ◌∙◌, ◌⊎◌, inl, inr, None, List, [], ◌∷◌, ◌++◌, length, refl, ap, sym, append-nil, Bool, false, Option, Some, nat_le}
+use Rattle.std.proofs.Common.{◌≡◌, ◌∙◌, inl, List, [], ◌∷◌, ◌++◌, length, refl, ap, sym, append-nil, Bool, Option, Some, nat_le}
 use Rattle.mj_ast.specs.declared.routine.LockMode.{LockMode}
 use Rattle.mj_ast.specs.declared.routine.LockMode.TheVariants.{Whole, Plus as Added, Minus as Taken}
 use Rattle.mj_ast.specs.declared.sign.Sign.TheVariants.{Plus, Minus, Colon, Open}
@@ -11,7 +11,7 @@ use Rattle.mj_ast.specs.Commands.{Part, Put, mode_parts}
 use Rattle.mj_expr.specs.Machine.{Limits}
 use Rattle.mj_lex.specs.declared.token.Lexeme.{Lexeme}
 use Rattle.mj_lex.specs.Seen.{tokens_seen}
-use Rattle.mj_line.specs.Forms.{LockWanted, LockSigned, LockListed, LockNamed, LockTimed, LockEnd, AVar, labels, part_of, takes, wants}
+use Rattle.mj_line.specs.Forms.{LockWanted, LockSigned, LockListed, LockNamed, LockTimed, LockEnd, AVar, part_of, takes, wants}
 use Rattle.mj_line.specs.Sentences.{Sentence}
 use Rattle.mj_line.specs.Machine.{At, Args, args_rest, on_rested, run}
 use Rattle.mj_line.proofs.Tables.{called_apart}

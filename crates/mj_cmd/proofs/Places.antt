@@ -1,12 +1,10 @@
 -- What the functions that read the arguments of SET, WRITE, KILL and MERGE follow.
-use Rattle.std.proofs.Common.{◌≡◌, ℕ, zero, suc, ◌+◌, ◌-◌, ◌≤◌, ◌<◌, List, [], ◌∷◌, ◌++◌, length, refl, ap, sym, ◌∙◌, subst, Bool, true, false, append_assoc, append-nil, arith, Option, Some, None, map, Result, Ok, Err, nat_le, ◌⊎◌, inl, inr, length-append}
-use Rattle.std.specs.Prelude.{cond, replicate}
+use Rattle.std.proofs.Common.{◌≡◌, ℕ, zero, suc, ◌+◌, ◌-◌, ◌≤◌, ◌<◌, List, [], ◌∷◌, ◌++◌, length, refl, ap, sym, ◌∙◌, subst, Bool, true, false, append_assoc, arith, Option, Some, None, Result, Ok, Err, nat_le, ◌⊎◌, inl, inr, length-append}
+use Rattle.std.specs.Prelude.{cond}
 use Rattle.std.specs.Result.{IfOk}
 use Rattle.std.proofs.lemmas.Bool.Decides.{nat_tests}
 use Rattle.mj_ast.specs.declared.sign.Sign.{Sign}
-use Rattle.mj_ast.specs.declared.sign.Sign.TheVariants.{Equals, Comma, Exclamation, Open, Close}
-use Rattle.mj_ast.specs.declared.routine.Mark.{Mark}
-use Rattle.mj_ast.specs.declared.routine.Mark.TheVariants.{NewLine}
+use Rattle.mj_ast.specs.declared.sign.Sign.TheVariants.{Equals, Comma, Open, Close}
 use Rattle.mj_ast.specs.declared.function.Function.TheVariants.{Piece}
 use Rattle.mj_ast.specs.declared.function.Callee.{Callee}
 use Rattle.mj_ast.specs.declared.function.Callee.TheVariants as callee
@@ -16,20 +14,20 @@ use Rattle.mj_ast.specs.Trees.{expr_of, exprs_of}
 use Rattle.mj_ast.specs.declared.expr.Expr as kept
 use Rattle.mj_ast.specs.Tokens.{Token, Word, Called, Signed}
 use Rattle.mj_ast.specs.Expressions.{callee_of}
-use Rattle.mj_ast.specs.Commands.{Part, Put, Named, PieceCall, Text, mark_part, with_commas, more_parts, destination_parts, name_parts}
+use Rattle.mj_ast.specs.Commands.{Part, Put, Named, PieceCall, Text, with_commas, more_parts, destination_parts, name_parts}
 use Rattle.mj_expr.specs.Machine.{Limits}
 use Rattle.mj_expr.specs.declared.stop.Stop.{Stop}
 use Rattle.mj_lex.specs.declared.token.Lexeme.{Lexeme}
 use Rattle.mj_lex.specs.Seen.{tokens_seen}
-use Rattle.mj_line.specs.Forms.{Node, SetTarget, PieceOpens, PieceVariable, PieceComma, PieceText, PieceBehind, SetBehind, SetValue, OutputWanted, OutputEnd, MarksEnd, KillWanted, NameWanted, NameBehind, MergeInto, MergeBehind, MergeFrom, KeptWanted, KeptBehind, part_of, part_at, labels, piece_part, takes, wants, ends}
+use Rattle.mj_line.specs.Forms.{Node, SetTarget, PieceOpens, PieceVariable, PieceComma, PieceText, PieceBehind, SetBehind, SetValue, KillWanted, NameWanted, NameBehind, MergeInto, MergeBehind, MergeFrom, KeptWanted, KeptBehind, part_of, part_at, labels, piece_part, takes, wants, ends}
 use Rattle.mj_line.specs.Sentences.{Sentence}
-use Rattle.mj_line.specs.Machine.{Args, At, args_rest, behind, on_rested, run, first}
+use Rattle.mj_line.specs.Machine.{Args, At, behind, run, first}
 use Rattle.mj_line.proofs.Tables.{part_taken, word_apart, called_apart}
-use Rattle.mj_cmd.specs.Heads.{HasNoComma, HasNoEquals, HasNoMark, HasNoOpen, HasNoClose, HasNoPiece, HasNoName}
+use Rattle.mj_cmd.specs.Heads.{HasNoComma, HasNoEquals, HasNoOpen, HasNoClose, HasNoPiece, HasNoName}
 use Rattle.mj_cmd.specs.Parts.{piece_node, opened_parts, name_wanted, name_behind, name_end, NotListed}
 use Rattle.mj_cmd.specs.Lists.{comma_or}
 use Rattle.mj_cmd.specs.Reads.{Reads}
-use Rattle.mj_cmd.proofs.Follow.{refuses_from, Untaken, token_run, Went, went_then, went_as, went_token, SignUntaken, untaken_by, no_sign, comma_untaken, commas_more, kept_untaken_word, went_word, SameAt, name_neither, piece_neither}
+use Rattle.mj_cmd.proofs.Follow.{refuses_from, Untaken, token_run, Went, went_then, went_as, went_token, SignUntaken, untaken_by, no_sign, comma_untaken, commas_more, kept_untaken_word, went_word}
 
 piece_comma : (listed : Bool) → comma_or (PieceComma listed)
 piece_comma listed Comma = inr refl

@@ -11,8 +11,8 @@ use Rattle.mj_ast.specs.Tokens.{Token, Signed}
 use Rattle.mj_ast.specs.declared.routine.LockMode.{LockMode}
 use Rattle.mj_ast.specs.declared.routine.LockMode.TheVariants.{Whole, Plus as Added, Minus as Taken}
 use Rattle.mj_ast.specs.Commands.{Part, Put, Place, more_parts}
-use Rattle.mj_line.specs.Forms.{Mode, Jumps, Talk, Node, OutputWanted, MarksEnd, PieceComma, PieceBehind, NameWanted, NameBehind, KillEnd, KeptWanted, KeptBehind, NewEnd, RoutineEnd, ActualEnd, ActualsEnd, LockWanted, LockSigned}
-use Rattle.mj_cmd.specs.Heads.{HasNoOpen, HasNoPlus, HasNoMinus, HasNoMark, HasOther, StartsQuestion}
+use Rattle.mj_line.specs.Forms.{Mode, Jumps, Talk, Reads, Node, OutputWanted, MarksEnd, IntoWanted, PieceComma, PieceBehind, NameWanted, NameBehind, KillEnd, KeptWanted, KeptBehind, NewEnd, RoutineEnd, ActualEnd, ActualsEnd, LockWanted, LockSigned}
+use Rattle.mj_cmd.specs.Heads.{HasNoOpen, HasNoPlus, HasNoMinus, HasNoMark, HasNoStar, HasOther, StartsQuestion}
 
 -- what stands behind the word of `$PIECE`
 abbrev pub opened_parts : Destination → List Part
@@ -65,6 +65,15 @@ MayBeNamed mode first ks = Unit {0}
 abbrev pub read_tokens : ReadMode → List Token
 read_tokens Line = []
 read_tokens Byte = Signed Star ∷ []
+
+-- the place of the variable that READ reads into, and that it may stand there: behind a `*`, or where none is
+abbrev pub read_node : ReadMode → Node
+read_node Line = OutputWanted Reads
+read_node Byte = IntoWanted
+
+abbrev pub MayBeInto : ReadMode → List Token → Type 0
+MayBeInto Line ks = HasNoStar ks
+MayBeInto Byte ks = Unit {0}
 
 -- the sign of a format mark
 abbrev pub mark_sign : Mark → Sign

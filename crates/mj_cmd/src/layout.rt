@@ -1,10 +1,11 @@
 // Formats, in WRITE and in READ.
 
-ghost use Rattle.std.specs.Prelude.{◌≡◌, ◌++◌, ◌≤◌, IfOk, false, length, map, option_map, true};
+ghost use Rattle.std.specs.Prelude.{◌≡◌, ◌++◌, ◌≤◌, IfErr, IfOk, false, length, map, option_map, true};
 ghost use Rattle.mj_ast.specs.Commands.{column_parts, layout_parts};
 ghost use Rattle.mj_ast.specs.Tokens.{Signed};
 ghost use Rattle.mj_ast.specs.Trees.{expr_of, layout_of};
 ghost use Rattle.mj_expr.specs.Machine.{Limits};
+ghost use Rattle.mj_expr.specs.declared.stop.Stop.TheVariants.{Memory};
 ghost use Rattle.mj_lex.specs.Seen.{tokens_seen};
 ghost use Rattle.mj_line.specs.Forms.{Node, OutputEnd, OutputWanted, Talk};
 ghost use Rattle.mj_cmd.specs.Heads.{HasNoMark, HasNoQuestion, StartsLayout};
@@ -25,14 +26,21 @@ fn marks<'a, 't>(
     ensures marks { IfOk result (λ x. tokens_seen tokens.now ≡ map (λ m. Signed (mark_sign m)) x.0.items ++ tokens_seen x.1.now) }
     ensures none { IfOk result (λ x. HasNoMark (tokens_seen x.1.now)) }
     ensures shorter { IfOk result (λ x. length x.1.now ≤ length tokens.now) }
+    ensures memory { IfErr result (λ e. e ≡ Memory) }
 {
     let mut marks = Vec::new(phrases.alloc);
-    let mut rest = tokens;
-    'marks: while let Some((mark, behind)) = behind_mark(rest) {
-        added(&mut marks, mark)?;
-        rest = behind;
+    match behind_mark(tokens) {
+        None => Ok((marks, tokens)),
+        Some((first, behind)) => {
+            added(&mut marks, first)?;
+            let mut rest = behind;
+            'marks: while let Some((mark, behind)) = behind_mark(rest) {
+                added(&mut marks, mark)?;
+                rest = behind;
+            }
+            Ok((marks, rest))
+        }
     }
-    Ok((marks, rest))
 }
 
 /// The column behind marks, if there is one.

@@ -7,7 +7,7 @@ ghost use Rattle.mj_expr.specs.Machine.{Limits};
 ghost use Rattle.mj_lex.specs.Seen.{tokens_seen};
 ghost use Rattle.mj_line.specs.Forms.{IntoEnd, OutputEnd, OutputWanted, Reads as InRead};
 ghost use Rattle.mj_cmd.specs.Heads.{HasNoMark, HasNoQuestion, HasNoQuoted};
-ghost use Rattle.mj_cmd.specs.Parts.{read_tokens};
+ghost use Rattle.mj_cmd.specs.Parts.{MayBeInto, read_tokens};
 ghost use Rattle.mj_cmd.specs.Reads.{HasRoom, Passes};
 
 use crate::layout::{begins_layout, layout};
@@ -21,6 +21,7 @@ use mj_lex::Lexeme;
 /// How much is taken, by the `*` in front if there is one, and what follows that.
 fn read_mode<'a, 't>(tokens: &'t [Lexeme<'a>]) -> (ReadMode, &'t [Lexeme<'a>])
     ensures spelled { tokens_seen tokens.now ≡ read_tokens result.0 ++ tokens_seen result.1.now }
+    ensures into { MayBeInto result.0 (tokens_seen result.1.now) }
     ensures shorter { length result.1.now ≤ length tokens.now }
 {
     match behind_star(tokens) {

@@ -2,12 +2,13 @@
 use Rattle.std.proofs.Common.{◌≡◌, ◌==◌, ◌∙◌, ◌⊎◌, inl, inr, refl, sym, ap, subst, ℕ, zero, suc, ◌+◌, ◌≤◌, ◌<◌, List, [], ◌∷◌, ◌++◌, length, take, drop, append_assoc, append-nil, length-append, arith, Bool, true, false, Option, Some, None}
 use Rattle.std.proofs.lemmas.List.{take-append-drop, take-append-le, take_all}
 use Rattle.std.proofs.lemmas.Bool.Decides.{nat_tests}
-use Rattle.mj_ast.specs.declared.sign.Sign.TheVariants.{Comma}
+use Rattle.mj_ast.specs.declared.sign.Sign.TheVariants.{Colon, Comma}
 use Rattle.mj_ast.specs.Syntax.{Line}
 use Rattle.mj_ast.specs.Tokens.{Token, Word, Called, Special, Digits, Signed, Blank}
 use Rattle.mj_ast.specs.Lines.{SpellsLine, BeginsLine, BeginsLineWithin, IsStuck, IsDeep, IsOverlong, HasOverlong}
 use Rattle.mj_ast.specs.declared.keyword.Keyword.{Keyword}
-use Rattle.mj_ast.specs.LeftOut.{EndsInCommand, IsBehindCommand, IsLast, ends_in, is_blank_token, last_keyword}
+use Rattle.mj_ast.specs.declared.keyword.Keyword.TheVariants as keyword
+use Rattle.mj_ast.specs.LeftOut.{EndsInCommand, IsBehindColon, IsBehindColons, IsBehindCommand, IsLast, ends_in, is_blank_token, last_keyword}
 use Rattle.mj_expr.specs.declared.stop.Stop.{Stop}
 use Rattle.mj_expr.specs.declared.stop.Stop.TheVariants as stop
 use Rattle.mj_cmd.specs.Heads.{IsLabelShort}
@@ -200,3 +201,7 @@ behind_on k front before last e h f = (before, e, h.found k f)
 
 pub behind_off : (k : Keyword) (front before : List Token) (last : Option Keyword) → front ≡ before ++ Blank ∷ [] → IsLast before last → IsBehindCommand k front → last ≡ Some k
 behind_off k front before last e h q = let P : List Token → Type 0 = λ ks. EndsInCommand k ks in h.only k (subst P (before_same q.0 before Blank Blank (sym q.1 ∙ e)) q.2)
+
+-- two colons behind it
+pub colons_off : (front before : List Token) → front ≡ before ++ Signed Colon ∷ [] → IsBehindColons front → IsBehindColon keyword.Open before
+colons_off front before e q = let P : List Token → Type 0 = λ ks. IsBehindColon keyword.Open ks in subst P (before_same q.0 before (Signed Colon) (Signed Colon) (sym q.1 ∙ e)) q.2

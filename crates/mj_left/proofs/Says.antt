@@ -1,5 +1,5 @@
 -- Answers of tests.
-use Rattle.std.proofs.Common.{◌≡◌, sym, Bool, true, false, Result, Ok, Err}
+use Rattle.std.proofs.Common.{◌≡◌, ◌⊎◌, inl, inr, sym, Bool, true, false, Result, Ok, Err}
 use Rattle.std.specs.Result.{IfOk}
 use Rattle.mj_left.specs.Fronts.{Says}
 
@@ -30,3 +30,15 @@ ok_for r P Q f g h = ok_as r (λ b. Says b P) (λ b. Says b Q) (λ b s. says_for
 pub when_not : (b : Bool) (P : Type 0) → b ≡ false → Says b P → P → ⊥
 when_not true P e h = absurd (false_true (sym e))
 when_not false P e h = h
+
+-- one of two, where the first was tested
+or_other : (P Q : Type 0) → (P → ⊥) → P ⊎ Q → Q
+or_other P Q n (inl p) = absurd (n p)
+or_other P Q n (inr q) = q
+
+pub ok_or : {E : Type 0} (r : Result Bool E) (b : Bool) (P Q : Type 0) → b ≡ false → Says b P → IfOk r (λ x. Says x Q) → IfOk r (λ x. Says x (P ⊎ Q))
+ok_or r b P Q e h i = ok_for r Q (P ⊎ Q) inr (or_other P Q (when_not b P e h)) i
+
+pub when_so : (b : Bool) (P : Type 0) → b ≡ true → Says b P → P
+when_so true P e h = h
+when_so false P e h = absurd (false_true e)
