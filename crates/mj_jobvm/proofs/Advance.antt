@@ -13,7 +13,7 @@ use Rattle.mj_machine.specs.Standing.{Standing, Code, Steps}
 use Rattle.mj_turn.specs.Sound.{IsSound}
 use Rattle.mj_machine.specs.Kept.{standing}
 use Rattle.mj_jobvm.specs.Run.{Log, IsRunAfter}
-use Rattle.mj_jobvm.specs.Jobs.{running, given_of, code_in, IsRunOf, IsRunOfAfter}
+use Rattle.mj_jobvm.specs.Jobs.{running, given_of, code_in, IsRunOfAfter}
 use Rattle.mj_jobvm.specs.Told.{Told, told_of}
 use Rattle.mj_jobvm.proofs.Jobs.{run, turned, asking, fewer, told_ended}
 

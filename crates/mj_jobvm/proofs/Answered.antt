@@ -10,7 +10,7 @@ use Rattle.mj_load.specs.Image.{Loaded, routines_of}
 use Rattle.mj_machine.specs.declared.machine.Machine.{Machine}
 use Rattle.mj_machine.specs.Kept.{standing}
 use Rattle.mj_jobvm.specs.Run.{Log, IsRunAfter}
-use Rattle.mj_jobvm.specs.Jobs.{Fits, running, given_of, last_reply, code_in, IsRunOf, IsRunOfAfter}
+use Rattle.mj_jobvm.specs.Jobs.{Fits, running, given_of, last_reply, code_in, IsRunOf}
 use Rattle.mj_jobvm.proofs.Jobs.{run, answered}
 
 last_with : (log : Log) (a : Ask) (r : Reply) → last_reply (log ++ (a, r) ∷ []) ≡ Some r

@@ -1,6 +1,4 @@
-use Rattle.std.proofs.Common.{◌≡◌, ◌+◌, ◌≤◌, ℕ, Option, Some, None, sym, ap, ◌∙◌, subst, arith}
-use Rattle.mj_ask.specs.declared.ask.Ask.{Ask}
-use Rattle.mj_semantics.specs.Job.{Start}
+use Rattle.std.proofs.Common.{◌≡◌, ◌+◌, ℕ, Some, None, sym, ap, ◌∙◌, subst, arith}
 use Rattle.mj_load.specs.Image.{routines_of}
 use Rattle.mj_machine.specs.Standing.{Standing}
 use Rattle.mj_machine.specs.Kept.{standing}
