@@ -7,6 +7,8 @@ mod commands;
 #[cfg(test)]
 mod control;
 #[cfg(test)]
+mod devices;
+#[cfg(test)]
 mod functions;
 #[cfg(test)]
 mod grammar;
