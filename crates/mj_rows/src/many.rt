@@ -155,6 +155,35 @@ fn locks_wait_for_their_holders(rt: HostRuntime) -> Result<(), Fail> {
     Ok(())
 }
 
+// A name that was taken twice and given back once is held still, and to give back one that isn't held changes nothing; `LOCK` of a name gives all
+// others back first.
+#[test]
+fn locks_are_counted(rt: HostRuntime) -> Result<(), Fail> {
+    assert!(rt;
+        gives(
+            &rt,
+            "--start|A^R|--start|B^R",
+            "A LOCK +^A LOCK +^A LOCK -^A LOCK -^Z HALT\nB LOCK +^A:0 WRITE $TEST\n",
+            "1\n1\n1\n1\n1\n2\n2\n2\n",
+            "--- job 1\n--- job 2\n0\n",
+            "",
+            0,
+        )?
+    );
+    assert!(rt;
+        gives(
+            &rt,
+            "--start|A^R|--start|B^R",
+            "A LOCK ^C,^D HALT\nB LOCK +^C:0 WRITE $TEST LOCK +^D:0 WRITE $TEST\n",
+            "1\n1\n1\n1\n1\n2\n2\n2\n2\n2\n",
+            "--- job 1\n--- job 2\n10\n",
+            "",
+            0,
+        )?
+    );
+    Ok(())
+}
+
 // Both read before one writes: it isn't a transaction.
 #[test]
 fn reads_and_writes_of_two_jobs_interleave(rt: HostRuntime) -> Result<(), Fail> {
