@@ -28,6 +28,11 @@ pub struct Jobs<O: Opening> {
 }
 
 impl<O: Opening> Stepped for Jobs<O> {
+    ghost count = { λ jobs. length (state_of O.opening jobs.core.history).rows };
+
+    // what a step comes to isn't said of jobs yet
+    ghost makes = { λ _ _ _ _. Unit {0} };
+
     fn jobs(&self) -> usize {
         self.core.jobs()
     }

@@ -70,6 +70,11 @@ struct Long {
 }
 
 impl Stepped for Long {
+    ghost count = { λ _. 1 };
+
+    // what a step comes to is for the test to see
+    ghost makes = { λ _ _ _ _. Unit {0} };
+
     fn jobs(&self) -> usize {
         1
     }

@@ -2,3 +2,4 @@ pub mod Lines
 pub mod Spelled
 pub mod Examples
 pub mod Turns
+mod Driving

@@ -1,5 +1,12 @@
 // Jobs that are stepped, in turn or as a list says.
 
+ghost use Rattle.std.specs.Prelude.{◌≡◌, ◌≤◌, ℕ, Result, take, length};
+ghost use Rattle.mj_steps.specs.Rounds.{jobs_limit, next_step};
+ghost use Rattle.mj_steps.specs.Driven.{ByList, InTurn, fresh, begun, stand};
+ghost use Rattle.mj_steps.specs.declared.step.Step.{Step as StepOf};
+ghost use Rattle.mj_steps.specs.declared.round.Standing.{Standing as StandingOf};
+ghost use Rattle.mj_steps.specs.declared.drive.Refused.{Refused as RefusedOf};
+
 use crate::round::{Next, Round, Standing};
 use crate::step::Step;
 use thiserror::Error;
@@ -29,11 +36,20 @@ pub enum Refused {
 
 /// What can be stepped: jobs, which are numbered from 1, in order of their start.
 pub trait Stepped {
+    // how many jobs there are
+    ghost count: { Self → ℕ };
+
+    // what a step comes to
+    ghost makes: { Self → StepOf → Result StandingOf RefusedOf → Self → Type 0 };
+
     /// How many jobs there are, ended ones among them.
-    fn jobs(&self) -> usize;
+    fn jobs(&self) -> usize
+        ensures value { result ≡ count self.now }
+        ensures few { result ≤ jobs_limit };
 
     /// Makes a step, and tells where its job stands then.
-    fn step(&mut self, step: Step) -> Result<Standing, Refused>;
+    fn step(&mut self, step: Step) -> Result<Standing, Refused>
+        ensures { makes self.old step result self.new };
 }
 
 /// How stepping ends.
@@ -50,15 +66,16 @@ pub enum Ending {
 }
 
 /// Steps jobs in turn, until all have ended, but with no more steps than these.
-pub fn step_in_turn<J: Stepped>(jobs: &mut J, most: usize) -> Ending {
+pub fn step_in_turn<J: Stepped>(jobs: &mut J, most: usize) -> Ending
+    ensures { InTurn J.count J.makes most 0 begun fresh jobs.old result jobs.new }
+{
     let mut standings = [Standing::Goes; JOBS_LIMIT];
     let mut round = Round {
         done: 0,
         waits: true,
     };
-    for made in 0..most {
-        let count = jobs.jobs().min(JOBS_LIMIT);
-        let step = match round.next(&standings[..count]) {
+    'steps: for made in 0..most {
+        let step = match next(jobs, round, &standings) {
             Next::Step(step) => step,
             Next::Over => return Ending::Over,
             Next::Stuck => return Ending::Stuck,
@@ -76,26 +93,39 @@ pub fn step_in_turn<J: Stepped>(jobs: &mut J, most: usize) -> Ending {
             }
         }
     }
-    let count = jobs.jobs().min(JOBS_LIMIT);
-    match round.next(&standings[..count]) {
+    match next(jobs, round, &standings) {
         Next::Over => Ending::Over,
         _ => Ending::Full,
     }
 }
 
+// What comes next, of the jobs that there are.
+fn next<J: Stepped>(jobs: &J, round: Round, standings: &[Standing]) -> Next
+    requires { length standings.now ≡ jobs_limit }
+    ensures { result ≡ next_step round (take (J.count jobs.now) standings.now) }
+{
+    let count = jobs.jobs();
+    round.next(&standings[..count])
+}
+
 // The job stands so from now on.
-fn stand(standings: &mut [Standing], job: u32, standing: Standing) {
-    let Some(place) = job.checked_sub(1) else {
+fn stand(standings: &mut [Standing], job: u32, standing: Standing)
+    ensures { standings.new ≡ stand standings.old job standing }
+{
+    if job == 0 {
         return;
-    };
-    if let Some(kept) = standings.get_mut(place as usize) {
-        *kept = standing;
+    }
+    let place = job as usize - 1;
+    if place < standings.len() {
+        standings[place] = standing;
     }
 }
 
 /// Makes these steps in order, up to the first that is refused.
-pub fn step_by<J: Stepped>(jobs: &mut J, steps: &[Step]) -> Ending {
-    for (made, step) in steps.iter().enumerate() {
+pub fn step_by<J: Stepped>(jobs: &mut J, steps: &[Step]) -> Ending
+    ensures { ByList J.makes 0 steps.now jobs.old result jobs.new }
+{
+    'steps: for (made, step) in steps.iter().enumerate() {
         if let Err(why) = jobs.step(*step) {
             return Ending::Refused {
                 why,

@@ -7,6 +7,8 @@ use Rattle.mj_store.specs.declared.access.Answer.TheVariants as answers
 use Rattle.mj_ask.specs.Started.{Started}
 use Rattle.mj_ask.specs.declared.ask.Ask.{Ask}
 use Rattle.mj_ask.specs.declared.ask.Ask.TheVariants as asks
+use Rattle.mj_ask.specs.declared.ask.Kind.TheVariants as kinds
+use Rattle.mj_ask.specs.declared.clash.Kept.TheVariants as kepts
 use Rattle.mj_ask.specs.declared.ask.Reply.{Reply}
 use Rattle.mj_ask.specs.declared.ask.Reply.TheVariants as replies
 use Rattle.mj_locktab.specs.Locks.{count_of}
@@ -45,7 +47,7 @@ device name sessions = record { name = name; sessions = sessions; taken = 0; hol
 
 -- two jobs, three principal sessions, and two sessions of a device
 abbrev first : Shared
-first = record { globals = []; locks = []; devices = device principal 3 ∷ device (codes "9") 2 ∷ []; rows = running ∷ running ∷ [] }
+first = record { globals = []; locks = []; devices = device principal 3 ∷ device (codes "9") 2 ∷ []; rows = running ∷ running ∷ []; transactions = None ∷ None ∷ [] }
 
 -- what a job is told
 abbrev told : Shared → ℕ → Ask → Bool → Option Reply
@@ -165,7 +167,7 @@ many (suc n) = running ∷ many n
 
 -- there are 255 jobs, and sessions for more
 abbrev crowd : ℕ → Shared
-crowd n = record { globals = []; locks = []; devices = device principal 300 ∷ []; rows = many n }
+crowd n = record { globals = []; locks = []; devices = device principal 300 ∷ []; rows = many n; transactions = [] }
 
 last_job : told (crowd 254) 1 (asks.Start main None) false ≡ Some (replies.Job 255)
 last_job = refl
@@ -218,3 +220,99 @@ story_told = refl
 
 story_counted : events_of 1 story ≡ 2
 story_counted = refl
+
+-- ---- transactions
+
+abbrev set : Name → List ℕ → Ask
+set n text = asks.Access (accesses.Set n text)
+
+abbrev get : Name → Ask
+get n = asks.Access (accesses.Value n)
+
+abbrev is : Option (List ℕ) → Option Reply
+is text = Some (replies.Answer (answers.Value text))
+
+-- job 1 begins and sets ^A: it sees that itself, and nobody else does
+abbrev begun : Shared
+begun = then first 1 (asks.Begin kinds.Serial)
+
+abbrev changed : Shared
+changed = then begun 1 (set a (codes "1"))
+
+change_done : told begun 1 (set a (codes "1")) false ≡ Some (replies.Answer answers.Done)
+change_done = refl
+
+seen_by_itself : told changed 1 (get a) false ≡ is (Some (codes "1"))
+seen_by_itself = refl
+
+unseen_by_another : told changed 2 (get a) false ≡ is None
+unseen_by_another = refl
+
+-- until it is committed, and never where it is rolled back, as a halt does too
+seen_when_committed : told (then changed 1 asks.Commit) 2 (get a) false ≡ is (Some (codes "1"))
+seen_when_committed = refl
+
+committed_once : served (then changed 1 asks.Commit) 1 asks.Commit false ≡ Some (replies.Done, then changed 1 asks.Commit)
+committed_once = refl
+
+forgotten : then changed 1 asks.Rollback ≡ first
+forgotten = refl
+
+halt_forgets : (then changed 1 (asks.Halt None)).globals ≡ []
+halt_forgets = refl
+
+-- the other job's changes are made at once, and seen in the transaction
+seen_in_it : told (then begun 2 (set a (codes "2"))) 1 (get a) false ≡ is (Some (codes "2"))
+seen_in_it = refl
+
+-- a SERIAL transaction read ^A, which is another by its commit: it clashes, and its changes are forgotten
+abbrev outdated : Shared
+outdated = then (then (then begun 1 (get a)) 1 (set b (codes "1"))) 2 (set a (codes "2"))
+
+clashes : told outdated 1 asks.Commit false ≡ Some (replies.Clash (record { place = 1; then = kepts.Nothing; now = kepts.Text (codes "2") }))
+clashes = refl
+
+clash_forgets : told (then outdated 1 asks.Commit) 1 (get b) false ≡ is None
+clash_forgets = refl
+
+-- one that isn't SERIAL is committed
+committed_plain : told (then (then (then (then (then first 1 (asks.Begin kinds.Plain)) 1 (get a)) 1 (set b (codes "1"))) 2 (set a (codes "2"))) 1 asks.Commit) 2 (get b) false
+    ≡ is (Some (codes "1"))
+committed_plain = refl
+
+-- what was locked is given back by a rollback, and stays by a commit
+abbrev gained : Shared
+gained = then begun 1 (lock a None)
+
+gained_at_once : told gained 2 (lock a at_once) false ≡ Some replies.Late
+gained_at_once = refl
+
+given_back : (then gained 1 asks.Rollback).locks ≡ []
+given_back = refl
+
+kept_by_commit : count_of (then gained 1 asks.Commit).locks 1 a ≡ 1
+kept_by_commit = refl
+
+-- an unlock waits for the commit, and a rollback forgets it
+abbrev waiting : Shared
+waiting = then (then locked 1 (asks.Begin kinds.Serial)) 1 (unlock a)
+
+unlock_done : told (then locked 1 (asks.Begin kinds.Serial)) 1 (unlock a) false ≡ Some replies.Done
+unlock_done = refl
+
+held_still : count_of waiting.locks 1 a ≡ 1
+held_still = refl
+
+unlocked_by_commit : count_of (then waiting 1 asks.Commit).locks 1 a ≡ 0
+unlocked_by_commit = refl
+
+held_by_rollback : count_of (then waiting 1 asks.Rollback).locks 1 a ≡ 1
+held_by_rollback = refl
+
+-- a second beginning changes nothing
+begun_once : served changed 1 (asks.Begin kinds.Plain) false ≡ Some (replies.Done, changed)
+begun_once = refl
+
+-- a change of a local name is no access of the transaction
+local_is_no_access : then begun 1 (set x (codes "1")) ≡ begun
+local_is_no_access = refl

@@ -1,5 +1,5 @@
 -- What is told fits what was asked.
-use Rattle.std.proofs.Common.{◌≡◌, ℕ, Bool, true, false, ◌||◌, cond, List, Option, Some, None, refl}
+use Rattle.std.proofs.Common.{◌≡◌, ℕ, Bool, true, false, ◌||◌, ◌&&◌, not, cond, List, Option, Some, None, refl}
 use Rattle.std.specs.Prelude.{⊤, ℤ, pos, int_le, nat_lt, ◌==◌}
 use Rattle.mj_ask.specs.Started.{Started}
 use Rattle.mj_ask.specs.declared.ask.Ask.{Ask}
@@ -7,7 +7,10 @@ use Rattle.mj_ask.specs.declared.ask.Ask.TheVariants as asks
 use Rattle.mj_ask.specs.declared.ask.Reply.{Reply}
 use Rattle.mj_ask.specs.declared.ask.Reply.TheVariants as replies
 use Rattle.std.specs.Str.{bytes_eq}
+use Rattle.mj_store.specs.Questions.{Content}
+use Rattle.mj_store.specs.Runs.{name_of, answer_of}
 use Rattle.mj_store.specs.declared.access.Access.{Access}
+use Rattle.mj_store.specs.declared.access.Answer.TheVariants as answers_are
 use Rattle.mj_ask.specs.Fitting.{IsAnswered}
 use Rattle.mj_ask.specs.Fits.{fits, is_shared}
 use Rattle.mj_locktab.specs.Tries.{outcome_of, after_try}
@@ -17,7 +20,13 @@ use Rattle.mj_locktab.specs.declared.taken.Taken.{Taken}
 use Rattle.mj_locktab.specs.declared.taken.Taken.TheVariants as takes
 use Rattle.mj_dev.specs.Shelves.{principal}
 use Rattle.mj_sys.specs.Devices.{Device, device_at}
-use Rattle.mj_sys.specs.Shared.{Shared, tried, busy, has_room, started, open_free, open_known, served}
+use Rattle.mj_txlog.specs.Accesses.{Transaction, is_write, is_full, seen}
+use Rattle.mj_txn.specs.Closing.{closed_by}
+use Rattle.mj_txn.specs.Testing.{outcome_of as commit_of}
+use Rattle.mj_txn.specs.declared.committing.Outcome.{Outcome}
+use Rattle.mj_txn.specs.declared.committing.Outcome.TheVariants as outcomes
+use Rattle.mj_sys.specs.Transactions.{told_to, unlock_told, closed_as}
+use Rattle.mj_sys.specs.Shared.{Shared, open_of, tried, busy, has_room, started, open_free, open_known, served}
 
 -- a reply of some service fits
 abbrev pub Fit : Ask → Option (Reply × Shared) → Type 0
@@ -32,7 +41,7 @@ try_busy s names (Some t) late = over (late || int_le t (pos 0)) where
   over false = tt
 
 try_fits : (s : Shared) (job : ℕ) (names : List Name) (timeout : Option ℤ) (late : Bool) (taken : Taken) (locks : Locks)
-    → Fit (asks.Try names timeout) (tried s job timeout late taken locks)
+    → Fit (asks.Try names timeout) (tried s job names timeout late taken locks)
 try_fits s job names timeout late takes.Got locks = refl
 try_fits s job names timeout late (takes.Busy holder name) locks = try_busy s names timeout late
 try_fits s job names timeout late takes.Limit locks = refl
@@ -76,14 +85,43 @@ open_fits : (s : Shared) (job : ℕ) (name : List ℕ) (timeout : Option ℤ) (l
 open_fits s job name timeout late true = refl
 open_fits s job name timeout late false = found_fits s job name timeout late (device_at s.devices name)
 
+-- ---- in a transaction
+
+limit_fits : (a : Access) → fits (asks.Access a) (replies.Answer answers_are.Limit) ≡ true
+limit_fits a = refl
+
+told_fits : ((a : Access) → IsAnswered a) → (t : Option Transaction) (globals : Content) (a : Access) → fits (asks.Access a) (replies.Answer (told_to t globals a)) ≡ true
+told_fits answered None globals a = answered a globals
+told_fits answered (Some t) globals a = by (is_write a && not (name_of a).global) (is_full t) where
+  by : (local full : Bool)
+      → fits (asks.Access a) (replies.Answer (cond local (answer_of a globals) (cond full answers_are.Limit (answer_of a (seen globals t.accesses))))) ≡ true
+  by true full = answered a globals
+  by false true = limit_fits a
+  by false false = answered a (seen globals t.accesses)
+
+-- whatever the ask, to which both replies fit
+unlock_fits : (ask : Ask) → fits ask replies.Done ≡ true → fits ask replies.Limit ≡ true → (t : Option Transaction) → fits ask (unlock_told t) ≡ true
+unlock_fits ask done limit None = done
+unlock_fits ask done limit (Some t) = by (is_full t) where
+  by : (full : Bool) → fits ask (cond full replies.Limit replies.Done) ≡ true
+  by true = limit
+  by false = done
+
+close_fits : (t : Option Transaction) (job : ℕ) (globals : Content) (locks : Locks) → fits asks.Commit (closed_as t job globals locks).reply ≡ true
+close_fits None job globals locks = refl
+close_fits (Some t) job globals locks = by (commit_of t globals) where
+  by : (o : Outcome) → fits asks.Commit (closed_by t job globals locks o).reply ≡ true
+  by outcomes.Done = refl
+  by (outcomes.Clash c) = refl
+
 -- what is told fits what was asked, where each answer to an access fits it
 pub served_fits : ((a : Access) → IsAnswered a) → (s : Shared) (job : ℕ) (ask : Ask) (late : Bool) → is_shared ask ≡ true → Fit ask (served s job ask late)
-served_fits answered s job (asks.Access a) late h = answered a s.globals
+served_fits answered s job (asks.Access a) late h = told_fits answered (open_of s job) s.globals a
 served_fits answered s job (asks.Try names timeout) late h = try_fits s job names timeout late (outcome_of s.locks job names) (after_try s.locks job names)
-served_fits answered s job (asks.Unlock names) late h = refl
-served_fits answered s job asks.UnlockAll late h = refl
+served_fits answered s job (asks.Unlock names) late h = unlock_fits (asks.Unlock names) refl refl (open_of s job)
+served_fits answered s job asks.UnlockAll late h = unlock_fits asks.UnlockAll refl refl (open_of s job)
 served_fits answered s job (asks.Begin kind) late h = refl
-served_fits answered s job asks.Commit late h = refl
+served_fits answered s job asks.Commit late h = close_fits (open_of s job) job s.globals s.locks
 served_fits answered s job asks.Rollback late h = refl
 served_fits answered s job (asks.Open name timeout) late h = open_fits s job name timeout late (bytes_eq name principal)
 served_fits answered s job (asks.Close name) late h = refl

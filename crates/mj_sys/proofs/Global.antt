@@ -3,6 +3,7 @@ use Rattle.std.proofs.Common.{◌≡◌, ℕ, ◌==◌, Bool, true, false, cond,
 use Rattle.std.specs.Prelude.{ℤ, nat_lt}
 use Rattle.std.specs.Str.{bytes_eq}
 use Rattle.std.specs.Option.{is_none}
+use Rattle.std.specs.List.{list_all}
 use Rattle.std.specs.declared.cmp.Ordering.{Ordering}
 use Rattle.std.specs.declared.cmp.Ordering.TheVariants.{Less, Equal, Greater}
 use Rattle.std.specs.FinMap.{put}
@@ -11,7 +12,7 @@ use Rattle.mj_subs.specs.Name.{Name}
 use Rattle.mj_subs.specs.Collation.{name_cmp}
 use Rattle.mj_store.specs.Questions.{Content, Subtree, rest_of}
 use Rattle.mj_store.specs.Changes.{after_set, after_kill, followed_by, after_put, is_too_deep}
-use Rattle.mj_store.specs.Runs.{name_of, after_access}
+use Rattle.mj_store.specs.Runs.{name_of, after_access, after_accesses}
 use Rattle.mj_store.specs.declared.access.Access.{Access}
 use Rattle.mj_store.specs.declared.access.Access.TheVariants as accesses
 use Rattle.mj_ask.specs.Started.{Started}
@@ -25,19 +26,20 @@ use Rattle.mj_jobs.specs.Rows.{opened}
 use Rattle.mj_locktab.specs.declared.taken.Taken.{Taken}
 use Rattle.mj_locktab.specs.declared.taken.Taken.TheVariants as takes
 use Rattle.mj_locktab.specs.Locks.{Locks}
-use Rattle.mj_locktab.specs.Tries.{outcome_of, after_try}
+use Rattle.mj_locktab.specs.Tries.{outcome_of as try_of, after_try}
+use Rattle.mj_txlog.specs.Accesses.{Transaction, writes_of}
+use Rattle.mj_txn.specs.Closing.{closed_by}
+use Rattle.mj_txn.specs.Testing.{outcome_of}
+use Rattle.mj_txn.specs.declared.committing.Outcome.{Outcome}
+use Rattle.mj_txn.specs.declared.committing.Outcome.TheVariants as outcomes
 use Rattle.mj_sys.specs.Devices.{Device, device_at, with_device, opened_by}
-use Rattle.mj_sys.specs.Shared.{Shared, are_global, changed, busy, tried, open_free, open_known, has_room, served}
+use Rattle.mj_sys.specs.Transactions.{closed_as}
+use Rattle.mj_sys.specs.System.{changes_globals, change_globals}
+use Rattle.mj_sys.proofs.Waiting.{both_true, and_true, open_own}
+use Rattle.mj_sys.specs.Shared.{Shared, are_global, changed, open_of, globals_after, busy, tried, open_free, open_known, has_room, served}
 use Rattle.mj_sys.specs.History.{left_by}
 
 -- ---- what an access to a global leaves
-
-both_true : (a b : Bool) → (a && b) ≡ true → (a ≡ true) × (b ≡ true)
-both_true true b e = (refl, e)
-both_true false b e = absurd cc
-
-and_true : (a b : Bool) → a ≡ true → b ≡ true → (a && b) ≡ true
-and_true a b p q = λ i. p i && q i
 
 set_global : (n : Name) (text : List ℕ) (es : Content) → n.global ≡ true → are_global es ≡ true → are_global (put name_cmp n text es) ≡ true
 set_global n text [] g h = and_true n.global true g refl
@@ -79,6 +81,13 @@ access_global (accesses.Set n text) es g h = set_global n text es g h
 access_global (accesses.Kill n) es g h = kill_global n es h
 access_global (accesses.Put n nodes) es g h = if_deep (is_too_deep n nodes) n nodes es g h
 
+-- and what a list of them leaves
+accesses_global : (changes : List Access) (es : Content) → list_all (λ a. (name_of a).global) changes ≡ true → are_global es ≡ true → are_global (after_accesses changes es) ≡ true
+accesses_global [] es g h = h
+accesses_global (a ∷ changes) es g h =
+    let k = both_true ((name_of a).global) (list_all (λ x. (name_of x).global) changes) g in
+    accesses_global changes (after_access a es) k.1 (access_global a es k.0 h)
+
 changed_global : (a : Access) (es : Content) → are_global es ≡ true → are_global (changed a es) ≡ true
 changed_global a es h = by ((name_of a).global) refl where
   by : (b : Bool) → (name_of a).global ≡ b → are_global (cond b (after_access a es) es) ≡ true
@@ -87,7 +96,22 @@ changed_global a es h = by ((name_of a).global) refl where
 
 -- ---- what an ask leaves
 
-module _ (s : Shared) (h : are_global s.globals ≡ true) where
+access_after : (t : Option Transaction) (a : Access) (es : Content) → are_global es ≡ true → are_global (globals_after t a es) ≡ true
+access_after None a es h = changed_global a es h
+access_after (Some t) a es h = h
+
+-- a commit
+outcome_global : (t : Transaction) (job : ℕ) (es : Content) (locks : Locks) (o : Outcome) → changes_globals (Some t) ≡ true → are_global es ≡ true
+    → are_global (closed_by t job es locks o).globals ≡ true
+outcome_global t job es locks outcomes.Done own h = accesses_global (writes_of t.accesses) es own h
+outcome_global t job es locks (outcomes.Clash c) own h = h
+
+closed_global : (t : Option Transaction) (job : ℕ) (es : Content) (locks : Locks) → changes_globals t ≡ true → are_global es ≡ true
+    → are_global (closed_as t job es locks).globals ≡ true
+closed_global None job es locks own h = h
+closed_global (Some t) job es locks own h = outcome_global t job es locks (outcome_of t es) own h
+
+module _ (s : Shared) (h : are_global s.globals ≡ true) (own : change_globals s.transactions ≡ true) where
   abbrev Stays : Option (Reply × Shared) → Type 0
   Stays o = are_global (left_by s o).globals ≡ true
 
@@ -97,10 +121,10 @@ module _ (s : Shared) (h : are_global s.globals ≡ true) where
     by true = h
     by false = h
 
-  by_try : (job : ℕ) (timeout : Option ℤ) (taken : Taken) (locks : Locks) → Stays (tried s job timeout true taken locks)
-  by_try job timeout takes.Got locks = h
-  by_try job timeout (takes.Busy holder name) locks = by_busy timeout
-  by_try job timeout takes.Limit locks = h
+  by_try : (job : ℕ) (names : List Name) (timeout : Option ℤ) (taken : Taken) (locks : Locks) → Stays (tried s job names timeout true taken locks)
+  by_try job names timeout takes.Got locks = h
+  by_try job names timeout (takes.Busy holder name) locks = by_busy timeout
+  by_try job names timeout takes.Limit locks = h
 
   by_free : (b : Bool) (job : ℕ) (name : List ℕ)
       → Stays (Some (cond b (replies.Got, record s { devices = with_device s.devices name (opened_by job) }) (replies.NoSession, s)))
@@ -126,13 +150,13 @@ module _ (s : Shared) (h : are_global s.globals ≡ true) where
   by_name job name timeout true = h
   by_name job name timeout false = by_found job name timeout (device_at s.devices name)
 
-  by_start : (b : Bool) (start : Started) → Stays (Some (cond b (replies.Job (length s.rows + 1), record s { rows = s.rows ++ opened start ∷ [] }) (replies.Limit, s)))
+  by_start : (b : Bool) (start : Started) → Stays (Some (cond b (replies.Job (length s.rows + 1), record s { rows = s.rows ++ opened start ∷ []; transactions = s.transactions ++ None ∷ [] }) (replies.Limit, s)))
   by_start true start = h
   by_start false start = h
 
   pub stays_global : (job : ℕ) (ask : Ask) → Stays (served s job ask true)
-  stays_global job (asks.Access a) = changed_global a s.globals h
-  stays_global job (asks.Try names timeout) = by_try job timeout (outcome_of s.locks job names) (after_try s.locks job names)
+  stays_global job (asks.Access a) = access_after (open_of s job) a s.globals h
+  stays_global job (asks.Try names timeout) = by_try job names timeout (try_of s.locks job names) (after_try s.locks job names)
   stays_global job (asks.Unlock names) = h
   stays_global job asks.UnlockAll = h
   stays_global job (asks.Open name timeout) = by_name job name timeout (bytes_eq name principal)
@@ -140,7 +164,7 @@ module _ (s : Shared) (h : are_global s.globals ≡ true) where
   stays_global job (asks.Start start timeout) = by_start (has_room s) start
   stays_global job (asks.Halt fault) = h
   stays_global job (asks.Begin kind) = h
-  stays_global job asks.Commit = h
+  stays_global job asks.Commit = closed_global (open_of s job) job s.globals s.locks (open_own s.transactions job own) h
   stays_global job asks.Rollback = h
   stays_global job (asks.DeviceBegin device) = h
   stays_global job (asks.DeviceWrite device bytes) = h

@@ -19,14 +19,16 @@ use Rattle.mj_locktab.specs.declared.taken.Taken.{Taken}
 use Rattle.mj_locktab.specs.declared.taken.Taken.TheVariants as takes
 use Rattle.mj_locktab.specs.Locks.{Locks, LocksApart}
 use Rattle.mj_locktab.specs.Tries.{outcome_of, after_try}
+use Rattle.mj_subs.specs.Name.{Name}
 use Rattle.mj_sys.specs.declared.event.Event.{Event}
 use Rattle.mj_sys.specs.Devices.{Device, device_at}
 use Rattle.mj_ask.specs.Late.{is_over}
 use Rattle.mj_sys.specs.Shared.{Shared, are_global, busy, tried, open_free, open_known, served}
 use Rattle.mj_sys.specs.History.{History, left_by, after, state_of, IsServed, AreServed, events_of, log_of}
-use Rattle.mj_sys.specs.System.{Recorded, IsKept, AreCounts, history_limit}
+use Rattle.mj_sys.specs.System.{Recorded, IsKept, AreCounts, change_globals, history_limit}
 use Rattle.mj_sys.specs.Told.{recorded}
 use Rattle.mj_sys.proofs.Global.{stays_global}
+use Rattle.mj_sys.proofs.Waiting.{stays_waiting}
 use Rattle.mj_sys.proofs.Opens.{same_job, other_job}
 
 pub yes_no : ◌≡◌ {A = Bool} true false → ⊥
@@ -44,11 +46,11 @@ module _ (s : Shared) where
   both_busy : (timeout : Option ℤ) (late : Bool) → left_by s (busy s timeout late) ≡ left_by s (busy s timeout true)
   both_busy timeout late = left_busy timeout late ∙ sym (left_busy timeout true)
 
-  left_tried : (job : ℕ) (timeout : Option ℤ) (late : Bool) (taken : Taken) (locks : Locks)
-      → left_by s (tried s job timeout late taken locks) ≡ left_by s (tried s job timeout true taken locks)
-  left_tried job timeout late takes.Got locks = refl
-  left_tried job timeout late (takes.Busy holder name) locks = both_busy timeout late
-  left_tried job timeout late takes.Limit locks = refl
+  left_tried : (job : ℕ) (names : List Name) (timeout : Option ℤ) (late : Bool) (taken : Taken) (locks : Locks)
+      → left_by s (tried s job names timeout late taken locks) ≡ left_by s (tried s job names timeout true taken locks)
+  left_tried job names timeout late takes.Got locks = refl
+  left_tried job names timeout late (takes.Busy holder name) locks = both_busy timeout late
+  left_tried job names timeout late takes.Limit locks = refl
 
   left_held : (b : Bool) (timeout : Option ℤ) (late : Bool)
       → left_by s (cond b (Some (replies.Got, s)) (busy s timeout late)) ≡ left_by s (cond b (Some (replies.Got, s)) (busy s timeout true))
@@ -75,7 +77,7 @@ module _ (s : Shared) where
 
   left_same : (job : ℕ) (ask : Ask) (late : Bool) → left_by s (served s job ask late) ≡ left_by s (served s job ask true)
   left_same job (asks.Access a) late = refl
-  left_same job (asks.Try names timeout) late = left_tried job timeout late (outcome_of s.locks job names) (after_try s.locks job names)
+  left_same job (asks.Try names timeout) late = left_tried job names timeout late (outcome_of s.locks job names) (after_try s.locks job names)
   left_same job (asks.Unlock names) late = refl
   left_same job asks.UnlockAll late = refl
   left_same job (asks.Open name timeout) late = left_named job name timeout late (bytes_eq name principal)
@@ -170,7 +172,8 @@ module _ (opening state : Shared) (old : Recorded) (job : ℕ) (ask : Ask) (late
       record {
         replay = replayed;
         served = served_with opening old.history event kept.served (subst (λ s. IsServed s event) kept.replay here);
-        global = subst (λ (s : Shared). are_global s.globals ≡ true) (left state job ask late reply new told) (stays_global state kept.global job ask);
+        global = subst (λ (s : Shared). are_global s.globals ≡ true) (left state job ask late reply new told) (stays_global state kept.global kept.waiting job ask);
+        waiting = subst (λ (s : Shared). change_globals s.transactions ≡ true) (left state job ask late reply new told) (stays_waiting state kept.waiting job ask);
         apart = apart;
         unclaimed = λ other above. log_with other old.history event
             ∙ nothing (log_of other old.history) (log_of other (event ∷ [])) (kept.unclaimed other above) (not_of other event (λ same. omega (arith, mine, above, same)));
@@ -230,6 +233,7 @@ module _ (opening state : Shared) (counts : List ℕ) (seen : Recorded) (kept : 
     replay = same ∙ kept.replay;
     served = kept.served;
     global = subst (λ (s : Shared). are_global s.globals ≡ true) (sym same) kept.global;
+    waiting = subst (λ (s : Shared). change_globals s.transactions ≡ true) (sym same) kept.waiting;
     apart = subst (λ (s : Shared). LocksApart s.locks) (sym same) kept.apart;
     unclaimed = λ job above. kept.unclaimed job (omega (arith, above, next));
     within = kept.within;

@@ -17,6 +17,7 @@ use Rattle.mj_locktab.specs.declared.taken.Taken.{Taken}
 use Rattle.mj_locktab.specs.declared.taken.Taken.TheVariants as takes
 use Rattle.mj_locktab.specs.Locks.{Locks}
 use Rattle.mj_locktab.specs.Tries.{outcome_of, after_try}
+use Rattle.mj_subs.specs.Name.{Name}
 use Rattle.mj_sys.specs.declared.event.Event.{Event}
 use Rattle.mj_sys.specs.Devices.{Device, device_at, with_device, opened_by}
 use Rattle.mj_sys.specs.Shared.{Shared, busy, tried, open_free, open_known, has_room, served}
@@ -115,10 +116,10 @@ module _ (s : Shared) where
   by_busy : (timeout : Option ℤ) → Left (busy s timeout true)
   by_busy timeout = subst (λ (x : Shared). KeepsRows s.rows x.rows) (sym (left_busy s timeout true)) (keeps_same s.rows)
 
-  by_try : (job : ℕ) (timeout : Option ℤ) (taken : Taken) (locks : Locks) → Left (tried s job timeout true taken locks)
-  by_try job timeout takes.Got locks = keeps_same s.rows
-  by_try job timeout (takes.Busy holder name) locks = by_busy timeout
-  by_try job timeout takes.Limit locks = keeps_same s.rows
+  by_try : (job : ℕ) (names : List Name) (timeout : Option ℤ) (taken : Taken) (locks : Locks) → Left (tried s job names timeout true taken locks)
+  by_try job names timeout takes.Got locks = keeps_same s.rows
+  by_try job names timeout (takes.Busy holder name) locks = by_busy timeout
+  by_try job names timeout takes.Limit locks = keeps_same s.rows
 
   by_free : (b : Bool) (job : ℕ) (name : List ℕ)
       → Left (Some (cond b (replies.Got, record s { devices = with_device s.devices name (opened_by job) }) (replies.NoSession, s)))
@@ -144,13 +145,13 @@ module _ (s : Shared) where
   by_name job name timeout true = keeps_same s.rows
   by_name job name timeout false = by_found job name timeout (device_at s.devices name)
 
-  by_start : (b : Bool) (start : Started) → Left (Some (cond b (replies.Job (length s.rows + 1), record s { rows = s.rows ++ opened start ∷ [] }) (replies.Limit, s)))
+  by_start : (b : Bool) (start : Started) → Left (Some (cond b (replies.Job (length s.rows + 1), record s { rows = s.rows ++ opened start ∷ []; transactions = s.transactions ++ None ∷ [] }) (replies.Limit, s)))
   by_start true start = added s.rows (opened start ∷ [])
   by_start false start = keeps_same s.rows
 
   by_ask : (job : ℕ) (ask : Ask) → Left (served s job ask true)
   by_ask job (asks.Access a) = keeps_same s.rows
-  by_ask job (asks.Try names timeout) = by_try job timeout (outcome_of s.locks job names) (after_try s.locks job names)
+  by_ask job (asks.Try names timeout) = by_try job names timeout (outcome_of s.locks job names) (after_try s.locks job names)
   by_ask job (asks.Unlock names) = keeps_same s.rows
   by_ask job asks.UnlockAll = keeps_same s.rows
   by_ask job (asks.Open name timeout) = by_name job name timeout (bytes_eq name principal)

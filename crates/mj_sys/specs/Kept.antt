@@ -7,6 +7,13 @@ use Rattle.mj_ask.specs.declared.ask.Reply.TheVariants as replies
 use Rattle.mj_dev.specs.Heard.{Heard, IsNew}
 use Rattle.mj_dev.specs.Shelves.{Shelf, principal, left_of}
 use Rattle.mj_jobs.specs.Rows.{Rows}
+use Rattle.mj_locktab.specs.declared.taken.Taken.{Taken}
+use Rattle.mj_locktab.specs.declared.taken.Taken.TheVariants as takes
+use Rattle.mj_store.specs.declared.access.Answer.{Answer}
+use Rattle.mj_store.specs.declared.access.Answer.TheVariants as answers
+use Rattle.mj_subs.specs.Name.{Name}
+use Rattle.mj_txlog.specs.Accesses.{Transaction}
+use Rattle.mj_sys.specs.Transactions.{with_names}
 use Rattle.mj_sys.specs.Devices.{Devices, sessions_of}
 use Rattle.mj_sys.specs.Opening.{device_of}
 use Rattle.mj_sys.specs.Shared.{Shared, served, takes_session}
@@ -50,6 +57,17 @@ Comes old job ask late (outcomes.Opened session) new =
     × IsNew session
     × (new.claimed ≡ old.claimed)
 Comes old job ask late (outcomes.Busy holder held) new = (served old.state job ask late ≡ None) × Keeps old.state job ask holder held × (new ≡ old)
+
+-- the transaction after a try: what is got is gained by it
+abbrev pub after_taken : Option Transaction → List Name → Taken → Option Transaction
+after_taken t names takes.Got = with_names t names
+after_taken t names (takes.Busy holder name) = t
+after_taken t names takes.Limit = t
+
+-- what an unlock is told
+abbrev pub as_reply : Answer → Reply
+as_reply answers.Limit = replies.Limit
+as_reply _ = replies.Done
 
 -- who holds a name once the job's hold of it ends
 abbrev pub without : ℕ → Option ℕ → Option ℕ

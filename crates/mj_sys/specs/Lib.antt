@@ -5,3 +5,4 @@ pub mod Kept
 pub mod History
 pub mod System
 pub mod Told
+pub mod Transactions

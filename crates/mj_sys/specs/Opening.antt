@@ -1,5 +1,5 @@
 -- What is shared when a system begins.
-use Rattle.std.specs.Prelude.{ℕ, ◌+◌, List, [], map, Option, None, if◌then◌else◌}
+use Rattle.std.specs.Prelude.{ℕ, ◌+◌, List, [], map, replicate, length, Option, None, if◌then◌else◌}
 use Rattle.std.specs.Str.{bytes_eq}
 use Rattle.mj_store.specs.Questions.{Content}
 use Rattle.mj_ask.specs.Started.{Started}
@@ -22,11 +22,12 @@ device_of principals shelf holder = record {
 abbrev pub free_devices : ℕ → List Shelf → Devices
 free_devices principals shelves = map (λ shelf. device_of principals shelf None) shelves
 
--- the opening: these globals, no names and no devices held, and a row for each of the first jobs
+-- the opening: these globals, no names and no devices held, a row for each of the first jobs, and no transaction open
 abbrev pub opening_of : Content → List Shelf → List Started → Shared
 opening_of globals shelves starts = record {
   globals = globals;
   locks = [];
   devices = free_devices (left_of principal shelves) shelves;
   rows = map opened starts;
+  transactions = replicate (length starts) None;
 }

@@ -3,8 +3,10 @@ use Rattle.std.specs.Prelude.{ℕ, ◌+◌, ℤ, nat_lt, ◌==◌, List, [], ◌
 use Rattle.std.specs.Str.{bytes_eq}
 use Rattle.std.specs.List.{list_all}
 use Rattle.mj_store.specs.Questions.{Content}
-use Rattle.mj_store.specs.Runs.{name_of, answer_of, after_access}
+use Rattle.mj_store.specs.Runs.{name_of, after_access}
 use Rattle.mj_store.specs.declared.access.Access.{Access}
+use Rattle.mj_subs.specs.Name.{Name}
+use Rattle.mj_ask.specs.declared.ask.Kind.{Kind}
 use Rattle.mj_ask.specs.Started.{Started}
 use Rattle.mj_ask.specs.Late.{is_over}
 use Rattle.mj_ask.specs.declared.ask.Ask.{Ask}
@@ -14,18 +16,28 @@ use Rattle.mj_ask.specs.declared.ask.Reply.TheVariants as replies
 use Rattle.mj_locktab.specs.declared.taken.Taken.{Taken}
 use Rattle.mj_locktab.specs.declared.taken.Taken.TheVariants as takes
 use Rattle.mj_locktab.specs.Locks.{Locks}
-use Rattle.mj_locktab.specs.Changes.{after_give, after_give_all}
+use Rattle.mj_locktab.specs.Changes.{after_give_all}
 use Rattle.mj_locktab.specs.Tries.{outcome_of, after_try}
 use Rattle.mj_jobs.specs.Rows.{Row, rows_limit, opened, with_ended}
 use Rattle.mj_dev.specs.Shelves.{principal}
+use Rattle.mj_txlog.specs.Accesses.{Transaction}
+use Rattle.mj_txlog.specs.declared.entry.Unlock.{Unlock}
+use Rattle.mj_txlog.specs.declared.entry.Unlock.TheVariants as unlocks
+use Rattle.mj_txn.specs.Closing.{Closed}
+use Rattle.mj_sys.specs.Transactions.{Transactions, transaction_of, with_transaction, told_to, with_access, with_names, unlock_told, after_unlock, with_waiting, begun_as, closed_as, locks_back}
 use Rattle.mj_sys.specs.Devices.{Device, Devices, device_at, sessions_of, with_device, opened_by, closed_by, freed}
 
--- the globals, which job holds which names and which devices, and a row for each job
+-- the globals, which job holds which names and which devices, a row for each job, and the transactions that jobs have open
 pub record Shared : Type 0 where
   pub globals : Content
   pub locks : Locks
   pub devices : Devices
   pub rows : List Row
+  pub transactions : Transactions
+
+-- the transaction that a job has open, if it has one
+abbrev pub open_of : Shared → ℕ → Option Transaction
+open_of s job = transaction_of s.transactions job
 
 -- an ask that is busy is told that it is late where its timeout is over. Else it is told nothing yet
 abbrev pub busy : Shared → Option ℤ → Bool → Option (Reply × Shared)
@@ -39,15 +51,44 @@ are_global content = list_all (λ e. e.0.global) content
 abbrev pub changed : Access → Content → Content
 changed a globals = if (name_of a).global then after_access a globals else globals
 
--- a question is answered on the globals as they are, and a change is made (7.1.2.4; 8.2.18; 8.2.11; 8.2.13)
-abbrev pub accessed : Shared → Access → Reply × Shared
-accessed s a = (replies.Answer (answer_of a s.globals), record s { globals = changed a s.globals })
+-- the globals after it: a change in a transaction waits for the commit
+abbrev pub globals_after : Option Transaction → Access → Content → Content
+globals_after None a globals = changed a globals
+globals_after (Some t) a globals = globals
 
--- LOCK (8.2.12): all names of the list, or none
-abbrev pub tried : Shared → ℕ → Option ℤ → Bool → Taken → Locks → Option (Reply × Shared)
-tried s job timeout late takes.Got locks = Some (replies.Got, record s { locks = locks })
-tried s job timeout late (takes.Busy holder name) locks = busy s timeout late
-tried s job timeout late takes.Limit locks = Some (replies.Limit, s)
+-- A question is answered on the globals as they are, and a change is made (7.1.2.4; 8.2.18; 8.2.11; 8.2.13). In a transaction it is answered as that
+-- sees the globals, and is one of its accesses
+abbrev pub accessed : Shared → ℕ → Access → Option Transaction → Reply × Shared
+accessed s job a t = (
+  replies.Answer (told_to t s.globals a),
+  record s { globals = globals_after t a s.globals; transactions = with_transaction s.transactions job (with_access t s.globals a) },
+)
+
+-- LOCK (8.2.12): all names of the list, or none, at once. A transaction gives back what it gained where it is rolled back
+abbrev pub tried : Shared → ℕ → List Name → Option ℤ → Bool → Taken → Locks → Option (Reply × Shared)
+tried s job names timeout late takes.Got locks =
+    Some (replies.Got, record s { locks = locks; transactions = with_transaction s.transactions job (with_names (open_of s job) names) })
+tried s job names timeout late (takes.Busy holder name) locks = busy s timeout late
+tried s job names timeout late takes.Limit locks = Some (replies.Limit, s)
+
+-- an unlock is done. In a transaction it waits for the commit
+abbrev pub given_up : Shared → ℕ → Unlock → Option Transaction → Reply × Shared
+given_up s job u t = (
+  unlock_told t,
+  record s { locks = after_unlock t job s.locks u; transactions = with_transaction s.transactions job (with_waiting t u) },
+)
+
+-- a transaction begins
+abbrev pub begun : Shared → ℕ → Kind → Shared
+begun s job kind = record s { transactions = with_transaction s.transactions job (begun_as (open_of s job) kind) }
+
+-- a transaction is committed, or clashes, and isn't open any more
+abbrev pub closed : Shared → ℕ → Closed → Reply × Shared
+closed s job c = (c.reply, record s { globals = c.globals; locks = c.locks; transactions = with_transaction s.transactions job None })
+
+-- a transaction is rolled back, and isn't open any more
+abbrev pub undone : Shared → ℕ → Shared
+undone s job = record s { locks = locks_back (open_of s job) job s.locks; transactions = with_transaction s.transactions job None }
 
 -- the device of a name is free, and has a session left or none
 abbrev pub open_free : Shared → ℕ → List ℕ → Device → Reply × Shared
@@ -77,28 +118,28 @@ has_room s = nat_lt (length s.rows) rows_limit && nat_lt (length s.rows) (sessio
 abbrev pub started : Shared → Started → Reply × Shared
 started s start =
     if has_room s
-    then (replies.Job (length s.rows + 1), record s { rows = s.rows ++ opened start ∷ [] })
+    then (replies.Job (length s.rows + 1), record s { rows = s.rows ++ opened start ∷ []; transactions = s.transactions ++ None ∷ [] })
     else (replies.Limit, s)
 
--- a job is over (8.2.7): it holds no name and no device any more
+-- a job is over (8.2.7), whose transaction was rolled back if one was open: it holds no name and no device any more
 abbrev pub halted : Shared → ℕ → Shared
 halted s job = record s { locks = after_give_all s.locks job; devices = freed s.devices job; rows = with_ended s.rows job }
 
--- What a job's ask is told, and what is shared then; none where it is busy. A busy ask with a timeout may be told that it is late. There
--- are no transactions yet: to begin, commit or roll back is done and changes nothing. What a device session serves, or none, is told nothing
--- here.
+-- What a job's ask is told, and what is shared then; none where it is busy. A busy ask with a timeout may be told that it is late. To begin
+-- where a transaction is open, and to commit or roll back where none is, is done and changes nothing. What a device session serves, or none,
+-- is told nothing here.
 abbrev pub served : Shared → ℕ → Ask → Bool → Option (Reply × Shared)
-served s job (asks.Access a) late = Some (accessed s a)
-served s job (asks.Try names timeout) late = tried s job timeout late (outcome_of s.locks job names) (after_try s.locks job names)
-served s job (asks.Unlock names) late = Some (replies.Done, record s { locks = after_give s.locks job names })
-served s job asks.UnlockAll late = Some (replies.Done, record s { locks = after_give_all s.locks job })
+served s job (asks.Access a) late = Some (accessed s job a (open_of s job))
+served s job (asks.Try names timeout) late = tried s job names timeout late (outcome_of s.locks job names) (after_try s.locks job names)
+served s job (asks.Unlock names) late = Some (given_up s job (unlocks.Names names) (open_of s job))
+served s job asks.UnlockAll late = Some (given_up s job unlocks.All (open_of s job))
 served s job (asks.Open name timeout) late = open_named s job name timeout late
 served s job (asks.Close name) late = Some (replies.Done, record s { devices = with_device s.devices name (closed_by job) })
 served s job (asks.Start start timeout) late = Some (started s start)
-served s job (asks.Halt fault) late = Some (replies.Done, halted s job)
-served s job (asks.Begin kind) late = Some (replies.Done, s)
-served s job asks.Commit late = Some (replies.Done, s)
-served s job asks.Rollback late = Some (replies.Done, s)
+served s job (asks.Halt fault) late = Some (replies.Done, halted (undone s job) job)
+served s job (asks.Begin kind) late = Some (replies.Done, begun s job kind)
+served s job asks.Commit late = Some (closed s job (closed_as (open_of s job) job s.globals s.locks))
+served s job asks.Rollback late = Some (replies.Done, undone s job)
 served s job (asks.DeviceBegin device) late = None
 served s job (asks.DeviceWrite device bytes) late = None
 served s job (asks.DeviceLine device timeout) late = None

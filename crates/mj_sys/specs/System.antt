@@ -1,6 +1,6 @@
 -- What is seen of the system, and what its type keeps.
-use Rattle.std.specs.Prelude.{◌≡◌, ℕ, suc, ◌<◌, ◌≤◌, List, length, [], Some, true}
-use Rattle.std.specs.List.{slice_index_or}
+use Rattle.std.specs.Prelude.{◌≡◌, ℕ, suc, ◌<◌, ◌≤◌, List, length, [], Bool, Option, Some, None, true}
+use Rattle.std.specs.List.{slice_index_or, list_all}
 use Rattle.mj_ask.specs.Started.{Started}
 use Rattle.mj_ask.specs.declared.ask.Ask.{Ask}
 use Rattle.mj_ask.specs.declared.ask.Ask.TheVariants as asks
@@ -11,11 +11,23 @@ use Rattle.mj_sys.specs.declared.served.Held.{Held}
 use Rattle.mj_sys.specs.declared.served.Held.TheVariants as helds
 use Rattle.mj_sys.specs.Devices.{holder_of}
 use Rattle.mj_sys.specs.Shared.{Shared, are_global}
+use Rattle.mj_sys.specs.Transactions.{Transactions}
+use Rattle.mj_txlog.specs.Accesses.{Transaction, writes_of}
+use Rattle.mj_store.specs.Runs.{name_of}
 use Rattle.mj_sys.specs.History.{History, state_of, AreServed, events_of, log_of}
 
 -- the most events of a history (this profile)
 abbrev pub history_limit : ℕ
 history_limit = 1000000
+
+-- each change in the transaction is of a global
+abbrev pub changes_globals : Option Transaction → Bool
+changes_globals None = true
+changes_globals (Some t) = list_all (λ a. (name_of a).global) (writes_of t.accesses)
+
+-- and so in each of them
+abbrev pub change_globals : Transactions → Bool
+change_globals transactions = list_all changes_globals transactions
 
 -- the history, and how many rows were claimed
 pub record Recorded : Type 0 where
@@ -34,6 +46,7 @@ pub record IsKept (opening state : Shared) (seen : Recorded) : Type 0 where
   pub replay : state ≡ state_of opening seen.history
   pub served : AreServed opening seen.history
   pub global : are_global state.globals ≡ true
+  pub waiting : change_globals state.transactions ≡ true
   pub apart : LocksApart state.locks
   pub unclaimed : (job : ℕ) → seen.claimed < job → log_of job seen.history ≡ []
   pub within : length seen.history ≤ history_limit

@@ -1,8 +1,9 @@
 // What all jobs share, and the history of what they asked and were told.
 //
-// `specs/Shared.antt` has what is shared, the globals, the locks, who has which device and a row for each job, and how an ask is answered on it
-// (`served`); `specs/Opening.antt` what is shared when a system begins. `specs/History.antt` has what a history of events leaves of it, and when
-// each event of one was served; `specs/System.antt` what the type of the system keeps; `specs/Told.antt` what a call of `serve` tells.
+// `specs/Shared.antt` has what is shared, the globals, the locks, who has which device, a row for each job and the transactions that are open, and
+// how an ask is answered on it (`served`); `specs/Transactions.antt` what it makes of an open transaction; `specs/Opening.antt` what is shared
+// when a system begins. `specs/History.antt` has what a history of events leaves of it, and when each event of one was served;
+// `specs/System.antt` what the type of the system keeps; `specs/Told.antt` what a call of `serve` tells.
 // `proofs/Examples.antt` has worked examples of `served`.
 //
 // A `System` is seen as its history alone: its type keeps that its state is what the history leaves of the opening, so nothing of it can be
@@ -16,6 +17,7 @@ mod opening;
 mod served;
 mod shared;
 mod system;
+mod transactions;
 
 pub use claim::Claim;
 pub use event::Event;

@@ -14,7 +14,7 @@ pub trait Opening {
 }
 
 impl Opening for Brand {
-    ghost opening = { record { globals = []; locks = []; devices = []; rows = [] } };
+    ghost opening = { record { globals = []; locks = []; devices = []; rows = []; transactions = [] } };
 }
 
 /// What a system was to be made of, where memory was refused for it.

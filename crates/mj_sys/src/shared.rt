@@ -1,6 +1,6 @@
 // What all jobs share.
 
-ghost use Rattle.std.specs.Prelude.{◌≡◌, ◌+◌, ◌≤◌, ◌↔◌, ℤ, length, map, replicate, true, None, Some, if◌then◌else◌, IfOk, IfErr, OnErr, IfSome, IfNone, IsTrue};
+ghost use Rattle.std.specs.Prelude.{◌≡◌, ◌+◌, ◌≤◌, ◌↔◌, ℤ, length, map, replicate, false, true, None, Some, if◌then◌else◌, IfOk, IfErr, OnErr, IfSome, IfNone, IsTrue};
 ghost use Rattle.std.specs.Str.{bytes_eq};
 ghost use Rattle.mj_ask.specs.Fits.{is_shared};
 ghost use Rattle.mj_ask.specs.Late.{is_over};
@@ -11,21 +11,26 @@ ghost use Rattle.mj_jobs.specs.Rows.{Row, row_at, IsLive};
 ghost use Rattle.mj_locktab.specs.Locks.{LocksApart};
 ghost use Rattle.mj_ask.specs.declared.ask.Reply.TheVariants as replies;
 ghost use Rattle.mj_sys.specs.Devices.{with_device, closed_by};
-ghost use Rattle.mj_sys.specs.Shared.{halted, takes_session};
+ghost use Rattle.mj_sys.specs.Shared.{begun as begun_in, undone, halted, takes_session};
+ghost use Rattle.mj_txlog.specs.declared.entry.Unlock.TheVariants as unlocks;
 ghost use Rattle.mj_sys.specs.declared.shared.Outcome.TheVariants as outcomes;
 ghost use Rattle.mj_sys.specs.Opening.{opening_of};
 ghost use Rattle.mj_sys.specs.Kept.{Comes, without};
 
-use crate::accessed::answer;
 use crate::opening::Unmade;
 use crate::served::Held;
-use mj_ask::{Ask, Names, Reply, Start};
+use crate::transactions::{
+    access, begun, commit, none_open, put_back, roll_back, take_out, try_take, unlock, unlock_all,
+};
+use mj_ask::{Ask, Kind, Names, Reply, Start};
 use mj_dev::{Device, Pool, Session};
 use mj_globs::Globals;
 use mj_jobs::{Claimed, Jobs, ROWS_LIMIT};
 use mj_locktab::{LockTable, Taken};
 use mj_num::Num;
+use mj_store::Access;
 use mj_text::Text;
+use mj_txlog::TxLog;
 use std::alloc::{AllocError, Global};
 use std::marker::Model;
 
@@ -37,7 +42,8 @@ pub enum Outcome<S> {
     Busy(u32, Held),
 }
 
-// The globals, which job holds which names and which devices, and the rows of the jobs, with the sessions that no job has yet.
+// The globals, which job holds which names and which devices, the rows of the jobs, with the sessions that no job has yet, and the transactions
+// that are open.
 #[derive(Drop)]
 pub struct Shared<D: Device> {
     alloc: Global,
@@ -49,6 +55,8 @@ pub struct Shared<D: Device> {
     // how many principal sessions there are, those among them that jobs have
     principals: u32,
     jobs: Jobs,
+    // for each row the transaction that its job has open
+    logs: Vec<Option<TxLog>>,
 }
 
 impl<D: Device> Model for Shared<D> {
@@ -62,6 +70,7 @@ impl<D: Device> Model for Shared<D> {
         locks = s.locks;
         devices = devices_of s.principals s.pool s.holders.items;
         rows = s.jobs.rows;
+        transactions = s.logs.items;
       };
       claimed = s.jobs.claimed;
     } };
@@ -91,6 +100,13 @@ impl<D: Device> Shared<D> {
                 starts,
             });
         };
+        let Ok(logs) = none_open(alloc, starts.len()) else {
+            return Err(Unmade {
+                globals,
+                pool,
+                starts,
+            });
+        };
         let jobs = match Jobs::of(alloc, starts) {
             Ok(jobs) => jobs,
             Err(starts) => {
@@ -110,6 +126,7 @@ impl<D: Device> Shared<D> {
             holders,
             principals,
             jobs,
+            logs,
         })
     }
 
@@ -214,19 +231,10 @@ impl<D: Device> Shared<D> {
         ensures err { OnErr result (self.new ≡ self.old) }
     {
         match ask {
-            Ask::Access(access) => {
-                let (reply, copy) = answer(&mut self.globals, access)?;
-                Ok(Outcome::Told(reply, copy))
-            }
+            Ask::Access(access) => self.access(job, access),
             Ask::Try(names, timeout) => self.try_take(job, names, *timeout, late),
-            Ask::Unlock(names) => {
-                self.locks.give(job, names.as_slice());
-                Ok(Outcome::Told(Reply::Done, Reply::Done))
-            }
-            Ask::UnlockAll => {
-                self.locks.give_all(job);
-                Ok(Outcome::Told(Reply::Done, Reply::Done))
-            }
+            Ask::Unlock(names) => self.unlock(job, names),
+            Ask::UnlockAll => self.unlock_all(job),
             Ask::Open(name, timeout) => self.open(job, name, *timeout, late),
             Ask::Close(name) => {
                 self.close(job, name);
@@ -234,10 +242,17 @@ impl<D: Device> Shared<D> {
             }
             Ask::Start(start, timeout) => self.start(job, start, *timeout, late),
             Ask::Halt(_) => {
+                self.roll_back(job);
                 self.halt(job);
                 Ok(Outcome::Told(Reply::Done, Reply::Done))
             }
-            Ask::Begin(_) | Ask::Commit | Ask::Rollback => {
+            Ask::Begin(kind) => {
+                self.begin(job, *kind);
+                Ok(Outcome::Told(Reply::Done, Reply::Done))
+            }
+            Ask::Commit => self.commit(job),
+            Ask::Rollback => {
+                self.roll_back(job);
                 Ok(Outcome::Told(Reply::Done, Reply::Done))
             }
             Ask::DeviceBegin(_)
@@ -249,7 +264,21 @@ impl<D: Device> Shared<D> {
         }
     }
 
+    // An access, in the job's transaction if it has one open.
+    #[tactic(auto, using(crate::proofs::Places::with_twice, crate::proofs::Places::with_same))]
+    fn access(&mut self, job: u32, of: &Access) -> Result<Outcome<Session<D>>, AllocError>
+        ensures ok { IfOk result (λ outcome. Comes self.old job (asks.Access of.now) false outcome self.new) }
+        ensures err { OnErr result (self.new ≡ self.old) }
+    {
+        let mut own = take_out(&mut self.logs, job);
+        let told = access(&mut own, &mut self.globals, of);
+        put_back(&mut self.logs, job, own);
+        let (reply, again) = told?;
+        Ok(Outcome::Told(reply, again))
+    }
+
     // LOCK of names.
+    #[tactic(auto, using(crate::proofs::Places::with_twice, crate::proofs::Places::with_same))]
     fn try_take(
         &mut self,
         job: u32,
@@ -260,11 +289,78 @@ impl<D: Device> Shared<D> {
         ensures ok { IfOk result (λ outcome. Comes self.old job (asks.Try names.now timeout) late outcome self.new) }
         ensures err { OnErr result (self.new ≡ self.old) }
     {
-        Ok(match self.locks.try_take(job, names.as_slice())? {
+        let mut own = take_out(&mut self.logs, job);
+        let taken = try_take(&mut own, &mut self.locks, job, names.as_slice());
+        put_back(&mut self.logs, job, own);
+        Ok(match taken? {
             Taken::Got => Outcome::Told(Reply::Got, Reply::Got),
             Taken::Limit => Outcome::Told(Reply::Limit, Reply::Limit),
             Taken::Busy { holder, name } => busy(timeout, late, holder, Held::Name(name)),
         })
+    }
+
+    // An unlock of names.
+    #[tactic(auto, using(crate::proofs::Places::with_twice, crate::proofs::Places::with_same))]
+    fn unlock(&mut self, job: u32, names: &Names) -> Result<Outcome<Session<D>>, AllocError>
+        ensures ok { IfOk result (λ outcome. Comes self.old job (asks.Unlock names.now) false outcome self.new) }
+        ensures err { OnErr result (self.new ≡ self.old) }
+    {
+        let mut own = take_out(&mut self.logs, job);
+        let told = unlock(&mut own, &mut self.locks, job, names.as_slice());
+        put_back(&mut self.logs, job, own);
+        let (reply, again) = told?;
+        Ok(Outcome::Told(reply, again))
+    }
+
+    // An unlock of all names.
+    #[tactic(auto, using(crate::proofs::Places::with_twice, crate::proofs::Places::with_same))]
+    fn unlock_all(&mut self, job: u32) -> Result<Outcome<Session<D>>, AllocError>
+        ensures ok { IfOk result (λ outcome. Comes self.old job asks.UnlockAll false outcome self.new) }
+        ensures err { OnErr result (self.new ≡ self.old) }
+    {
+        let mut own = take_out(&mut self.logs, job);
+        let told = unlock_all(&mut own, &mut self.locks, job);
+        put_back(&mut self.logs, job, own);
+        let (reply, again) = told?;
+        Ok(Outcome::Told(reply, again))
+    }
+
+    // TSTART: a transaction begins, unless one is open.
+    #[tactic(auto, using(crate::proofs::Places::with_twice, crate::proofs::Places::with_same))]
+    fn begin(&mut self, job: u32, kind: Kind)
+        ensures { self.new ≡ record { state = begun_in self.old.state job kind; claimed = self.old.claimed } }
+    {
+        let own = take_out(&mut self.logs, job);
+        put_back(&mut self.logs, job, begun(self.alloc, own, kind));
+    }
+
+    // TCOMMIT: a transaction isn't open any more, and its changes are made where it doesn't clash.
+    #[tactic(auto, using(crate::proofs::Places::with_twice, crate::proofs::Places::with_same))]
+    fn commit(&mut self, job: u32) -> Result<Outcome<Session<D>>, AllocError>
+        ensures ok { IfOk result (λ outcome. Comes self.old job asks.Commit false outcome self.new) }
+        ensures err { OnErr result (self.new ≡ self.old) }
+    {
+        let own = take_out(&mut self.logs, job);
+        match commit(&own, &mut self.globals, &mut self.locks, job) {
+            Ok((reply, again)) => {
+                drop(own);
+                Ok(Outcome::Told(reply, again))
+            }
+            Err(refused) => {
+                put_back(&mut self.logs, job, own);
+                Err(refused)
+            }
+        }
+    }
+
+    // TROLLBACK: a transaction isn't open any more, and what it gained goes back.
+    #[tactic(auto, using(crate::proofs::Places::with_twice, crate::proofs::Places::with_same))]
+    fn roll_back(&mut self, job: u32)
+        ensures { self.new ≡ record { state = undone self.old.state job; claimed = self.old.claimed } }
+    {
+        let own = take_out(&mut self.logs, job);
+        roll_back(&own, &mut self.locks, job);
+        drop(own);
     }
 
     // OPEN of a name.
@@ -321,8 +417,12 @@ impl<D: Device> Shared<D> {
         if rows >= ROWS_LIMIT || rows >= self.principals as usize {
             return Ok(Outcome::Told(Reply::Limit, Reply::Limit));
         }
+        self.logs.reserve(1)?;
         match self.jobs.add(start.try_clone()?) {
-            Ok(number) => Ok(Outcome::Told(Reply::Job(number), Reply::Job(number))),
+            Ok(number) => {
+                self.logs.push_reserved(None);
+                Ok(Outcome::Told(Reply::Job(number), Reply::Job(number)))
+            }
             Err((error, _)) => Err(error),
         }
     }

@@ -80,9 +80,10 @@ impl TxLog {
 
     /// Makes an access in the transaction. A read is answered on the globals as they are, with the own writes made on them. A write is
     /// done. Both are appended, with their answers. An access past the limit, and a write that would give a name too many subscripts, is
-    /// answered that it passes a limit, and isn't appended.
-    pub fn see(&mut self, globals: &Globals, access: Access) -> Result<Answer, AllocError>
-        ensures answer { IfOk result (λ a. a ≡ reply_in self.old globals.now access) }
+    /// answered that it passes a limit, and isn't appended. The answer is there twice, once for the job and once for who writes it down.
+    pub fn see(&mut self, globals: &Globals, access: Access) -> Result<(Answer, Answer), AllocError>
+        ensures answer { IfOk result (λ told. told.0 ≡ reply_in self.old globals.now access) }
+        ensures again { IfOk result (λ told. told.1 ≡ reply_in self.old globals.now access) }
         ensures appended { OnOk result (self.new ≡ with_reply self.old access (reply_in self.old globals.now access)) }
         ensures unchanged { OnErr result (self.new ≡ self.old) }
     {
@@ -91,10 +92,10 @@ impl TxLog {
         }
         if self.is_full() {
             drop(access);
-            return Ok(Answer::Limit);
+            return Ok((Answer::Limit, Answer::Limit));
         }
         match self.answers(globals, &access) {
-            Ok((answer, kept)) => self.append(access, answer, kept),
+            Ok((told, kept)) => self.append(access, told, kept),
             Err(refused) => {
                 drop(access);
                 Err(refused)
@@ -102,16 +103,21 @@ impl TxLog {
         }
     }
 
-    // The answer to a read, to be given and to be kept. Here and below, what isn't given on is given to `drop`: a function at whose end
+    // The answer to a read, to be given twice and to be kept. Here and below, what isn't given on is given to `drop`: a function at whose end
     // an access or an answer is dropped by itself takes a long proof.
-    fn answers(&self, globals: &Globals, read: &Access) -> Result<(Answer, Answer), AllocError>
+    fn answers(
+        &self,
+        globals: &Globals,
+        read: &Access,
+    ) -> Result<((Answer, Answer), Answer), AllocError>
         requires { is_write read.now ≡ false }
-        ensures given { IfOk result (λ x. x.0 ≡ answer_of read.now (seen globals.now self.now.accesses)) }
+        ensures given { IfOk result (λ x. x.0.0 ≡ answer_of read.now (seen globals.now self.now.accesses)) }
+        ensures again { IfOk result (λ x. x.0.1 ≡ answer_of read.now (seen globals.now self.now.accesses)) }
         ensures kept { IfOk result (λ x. x.1 ≡ answer_of read.now (seen globals.now self.now.accesses)) }
     {
         let answer = answer(self.alloc, globals, &self.entries, read)?;
-        match copy_of(self.alloc, &answer) {
-            Ok(kept) => Ok((answer, kept)),
+        match twice(self.alloc, &answer) {
+            Ok((again, kept)) => Ok(((answer, again), kept)),
             Err(refused) => {
                 drop(answer);
                 Err(refused)
@@ -119,17 +125,22 @@ impl TxLog {
         }
     }
 
-    // Appends an access with the answer that is kept, and gives the other one.
-    fn append(&mut self, access: Access, answer: Answer, kept: Answer) -> Result<Answer, AllocError>
+    // Appends an access with the answer that is kept, and gives the other ones.
+    fn append(
+        &mut self,
+        access: Access,
+        told: (Answer, Answer),
+        kept: Answer,
+    ) -> Result<(Answer, Answer), AllocError>
         requires { is_full self.old ≡ false }
-        ensures answer { IfOk result (λ a. a ≡ answer) }
+        ensures answer { IfOk result (λ t. t ≡ told) }
         ensures appended { OnOk result (self.new ≡ with_entry self.old (access_entry access kept)) }
         ensures unchanged { OnErr result (self.new ≡ self.old) }
     {
         match self.push(Entry::Access(access, kept)) {
-            Ok(()) => Ok(answer),
+            Ok(()) => Ok(told),
             Err(refused) => {
-                drop(answer);
+                drop(told);
                 Err(refused)
             }
         }
@@ -146,18 +157,19 @@ impl TxLog {
     }
 
     /// Makes a write in the transaction, as `see` does, for which no globals are wanted.
-    pub fn write(&mut self, access: Access) -> Result<Answer, AllocError>
+    pub fn write(&mut self, access: Access) -> Result<(Answer, Answer), AllocError>
         requires { is_write access ≡ true }
-        ensures answer { IfOk result (λ a. a ≡ reply_in self.old [] access) }
+        ensures answer { IfOk result (λ told. told.0 ≡ reply_in self.old [] access) }
+        ensures again { IfOk result (λ told. told.1 ≡ reply_in self.old [] access) }
         ensures appended { OnOk result (self.new ≡ with_reply self.old access (reply_in self.old [] access)) }
         ensures unchanged { OnErr result (self.new ≡ self.old) }
     {
         if self.is_full() || is_refused(&access) {
             drop(access);
-            return Ok(Answer::Limit);
+            return Ok((Answer::Limit, Answer::Limit));
         }
         self.push(Entry::Access(access, Answer::Done))?;
-        Ok(Answer::Done)
+        Ok((Answer::Done, Answer::Done))
     }
 
     /// An unlock, which waits for the commit. Past the limit it is answered that it passes one, and isn't appended.
@@ -189,5 +201,20 @@ impl TxLog {
         ensures { result ≡ is_full self.now }
     {
         ACCESS_LIMIT <= self.entries.len()
+    }
+}
+
+// The answer twice more.
+fn twice(alloc: Global, answer: &Answer) -> Result<(Answer, Answer), AllocError>
+    ensures one { IfOk result (λ two. two.0 ≡ answer.now) }
+    ensures other { IfOk result (λ two. two.1 ≡ answer.now) }
+{
+    let one = copy_of(alloc, answer)?;
+    match copy_of(alloc, answer) {
+        Ok(other) => Ok((one, other)),
+        Err(refused) => {
+            drop(one);
+            Err(refused)
+        }
     }
 }

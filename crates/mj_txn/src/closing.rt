@@ -1,7 +1,7 @@
 // How an open transaction serves its job's asks, and how it is closed.
 
 ghost use Rattle.std.specs.Prelude.{◌≡◌, ◌∷◌, [], IfOk, OnOk, OnErr};
-ghost use Rattle.mj_locktab.specs.Tries.{outcome_of as try_of, after_try};
+ghost use Rattle.mj_locktab.specs.Tries.{outcome_of as try_of, after_try, Tells};
 ghost use Rattle.mj_txn.specs.Closing.{is_local_write, told_in, after_told, after_taken, unlocked, unlocked_by, rolled_back, committed, clash_of};
 ghost use Rattle.mj_ask.specs.declared.ask.Reply.TheVariants as replies;
 ghost use Rattle.mj_txlog.specs.Accesses.{unlock_reply, with_unlock};
@@ -17,17 +17,23 @@ use mj_subs::Name;
 use mj_txlog::{Entry, NameList, TxLog, Unlock, is_refused, is_write};
 use std::alloc::AllocError;
 
-/// Makes an access of the job in its transaction. A change of a local name is done without a change, and is no access of the transaction.
-pub fn access(log: &mut TxLog, globals: &Globals, access: &Access) -> Result<Answer, AllocError>
-    ensures answer { IfOk result (λ a. a ≡ told_in log.old globals.now access.now) }
+/// Makes an access of the job in its transaction. A change of a local name is done without a change, and is no access of the transaction. The
+/// answer is there twice, once for the job and once for who writes it down.
+pub fn access(
+    log: &mut TxLog,
+    globals: &Globals,
+    access: &Access,
+) -> Result<(Answer, Answer), AllocError>
+    ensures answer { IfOk result (λ told. told.0 ≡ told_in log.old globals.now access.now) }
+    ensures again { IfOk result (λ told. told.1 ≡ told_in log.old globals.now access.now) }
     ensures log { OnOk result (log.new ≡ after_told log.old globals.now access.now) }
     ensures unchanged { OnErr result (log.new ≡ log.old) }
 {
     if is_local_write(access) {
         return Ok(if is_refused(access) {
-            Answer::Limit
+            (Answer::Limit, Answer::Limit)
         } else {
-            Answer::Done
+            (Answer::Done, Answer::Done)
         });
     }
     log.see(globals, access.try_clone()?)
@@ -50,6 +56,7 @@ pub fn try_take(
 ) -> Result<Taken, AllocError>
     ensures taken { IfOk result (λ taken. taken ≡ try_of locks.old job names.now) }
     ensures locks { OnOk result (locks.new ≡ after_try locks.old job names.now) }
+    ensures meaning { IfOk result (λ taken. Tells locks.old job names.now taken locks.new) }
     ensures log { IfOk result (λ taken. log.new ≡ after_taken log.old names.now taken) }
     ensures unchanged { OnErr result ((locks.new ≡ locks.old) × (log.new ≡ log.old)) }
 {

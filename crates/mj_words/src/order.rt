@@ -22,6 +22,12 @@ pub struct Run<'a> {
     pub globals: Option<&'a str>,
     /// the file to which the listing of the globals that are left goes
     pub save: Option<&'a str>,
+    /// the file to which the trace of the run goes
+    pub trace: Option<&'a str>,
+    /// whether the first job's input is standard input
+    pub stdin: bool,
+    /// the devices that there are beside the principal ones, each as `NAME=in:FILE` or `NAME=out:FILE`
+    pub devices: Vec<&'a str>,
     /// the file of the steps; without one the jobs are stepped in turn
     pub steps: Option<&'a str>,
     /// whether to say, where all jobs wait, what each waits for

@@ -53,11 +53,18 @@ fn run_order<'a>(alloc: Global, found: &ArgMatches<'a>) -> Result<Order<'a>, All
     if let Some(given) = found.get_strs("start") {
         starts.extend_from_slice(given)?;
     }
+    let mut devices = Vec::new(alloc);
+    if let Some(given) = found.get_strs("device") {
+        devices.extend_from_slice(given)?;
+    }
     Ok(Order::Run(Run {
         starts,
         files: files(alloc, found)?,
         globals: found.get_str("globals"),
         save: found.get_str("save"),
+        trace: found.get_str("trace"),
+        stdin: found.get_flag("stdin"),
+        devices,
         steps: found.get_str("steps"),
         why: found.get_flag("why"),
     }))
@@ -96,6 +103,9 @@ fn run_command<'a>(alloc: Global) -> Result<Command<'a>, AllocError> {
         .arg(start(alloc))?
         .arg(globals(alloc))?
         .arg(save(alloc))?
+        .arg(trace(alloc))?
+        .arg(stdin(alloc))?
+        .arg(device(alloc))?
         .arg(routines(alloc))
 }
 
@@ -108,6 +118,9 @@ fn step_command<'a>(alloc: Global) -> Result<Command<'a>, AllocError> {
         .arg(start(alloc))?
         .arg(globals(alloc))?
         .arg(save(alloc))?
+        .arg(trace(alloc))?
+        .arg(stdin(alloc))?
+        .arg(device(alloc))?
         .arg(routines(alloc))
 }
 
@@ -158,6 +171,31 @@ fn save<'a>(alloc: Global) -> Arg<'a> {
         .value_name("FILE")
         .help("Where the listing of the globals that are left is written")
         .action(ArgAction::Set)
+}
+
+fn trace<'a>(alloc: Global) -> Arg<'a> {
+    Arg::new(alloc, "trace")
+        .long("trace")
+        .value_name("FILE")
+        .help("Where the trace of the run is written: each event, a line")
+        .action(ArgAction::Set)
+}
+
+fn stdin<'a>(alloc: Global) -> Arg<'a> {
+    Arg::new(alloc, "stdin")
+        .long("stdin")
+        .help("Lets the first job read standard input, which is read whole before it starts")
+        .action(ArgAction::SetTrue)
+}
+
+fn device<'a>(alloc: Global) -> Arg<'a> {
+    Arg::new(alloc, "device")
+        .long("device")
+        .value_name("NAME=in:FILE|NAME=out:FILE")
+        .help(
+            "One more session of the device NAME, which reads the lines of FILE or writes it; once for each",
+        )
+        .action(ArgAction::Append)
 }
 
 fn routines<'a>(alloc: Global) -> Arg<'a> {

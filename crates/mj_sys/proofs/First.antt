@@ -1,0 +1,43 @@
+-- What is kept of a system that begins.
+use Rattle.std.proofs.Common.{◌≡◌, ℕ, ◌<◌, List, [], length, true, refl, sym, ap, ◌∙◌, subst, arith}
+use Rattle.mj_store.specs.Questions.{Content}
+use Rattle.mj_subs.specs.Name.{Name, Overlaps}
+use Rattle.mj_ask.specs.Started.{Started}
+use Rattle.mj_dev.specs.Shelves.{Shelf}
+use Rattle.mj_locktab.specs.Locks.{LocksApart, count_of}
+use Rattle.mj_sys.specs.Shared.{Shared, are_global}
+use Rattle.mj_sys.specs.Opening.{opening_of}
+use Rattle.mj_sys.specs.History.{History}
+use Rattle.mj_sys.specs.System.{Recorded, IsKept, AreCounts}
+use Rattle.mj_sys.specs.Kept.{Service}
+use Rattle.mj_sys.proofs.Waiting.{none_waiting}
+
+none_apart : LocksApart []
+none_apart j k m n other one two over = let no : ⊥ = omega (arith, one) in no
+
+-- no event, and no row that was claimed
+abbrev nothing : Recorded
+nothing = record { history = []; claimed = 0 }
+
+module _ (globals : Content) (shelves : List Shelf) (starts : List Started) (opening : Shared) (is : opening_of globals shelves starts ≡ opening)
+    (global : are_global globals ≡ true) where
+  first : IsKept opening (opening_of globals shelves starts) nothing
+  first = record {
+    replay = is;
+    served = tt;
+    global = global;
+    waiting = none_waiting (length starts);
+    apart = none_apart;
+    unclaimed = λ job above. refl;
+    within = omega arith;
+  }
+
+  none_counted : AreCounts [] nothing
+  none_counted = record { all = refl; each = λ k below. absurd (let no : ⊥ = omega (arith, below) in no) }
+
+  pub kept_first : (v : Service) (history : History) (counts : List ℕ) → v ≡ record { state = opening_of globals shelves starts; claimed = 0 } → history ≡ [] → counts ≡ []
+      → IsKept opening v.state (record { history = history; claimed = v.claimed }) × AreCounts counts (record { history = history; claimed = v.claimed })
+  kept_first v history counts at none zero =
+      let P : Service → History → List ℕ → Type 0 = λ w h l. IsKept opening w.state (record { history = h; claimed = w.claimed }) × AreCounts l (record { history = h; claimed = w.claimed }) in
+      subst (λ w. P w history counts) (sym at) (subst (λ h. P (record { state = opening_of globals shelves starts; claimed = 0 }) h counts) (sym none)
+      (subst (λ l. P (record { state = opening_of globals shelves starts; claimed = 0 }) [] l) (sym zero) (first, none_counted)))

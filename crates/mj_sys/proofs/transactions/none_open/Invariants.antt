@@ -1,0 +1,5 @@
+use Rattle.std.proofs.Common.{◌≡◌, ◌≤◌, replicate, None}
+use Rattle.mj_sys.proofs.transactions.none_open.Given as goal
+
+abbrev pub invariant-loop : goal.invariant-loop
+invariant-loop l = (l.logs.items ≡ replicate l.counter None) × (l.counter ≤ l.rows)
