@@ -1,0 +1,2 @@
+// Transactions of many jobs as if each had run alone.
+#![tactic(auto)]
