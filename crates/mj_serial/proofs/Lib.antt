@@ -1,2 +1,4 @@
 pub mod Logs
 pub mod Going
+pub mod Kept
+pub mod Runs
