@@ -53,7 +53,7 @@ local_writes false b e f = cc
 
 -- an access that wasn't taken is told the same on each content
 untaken : (u : ℕ) (a : Access) (v : Answer) (c : Content) → (is_limit v || is_local_write a) ≡ true → IsKept u a v → told_alone u c a ≡ v
-untaken u a v c e k = k c (λ w l. absurd (local_writes (is_write a) (not (name_of a).global) w (both_false (is_limit v) (is_local_write a) e l)))
+untaken u a v c e k = k.by c (λ w l. absurd (local_writes (is_write a) (not (name_of a).global) w (both_false (is_limit v) (is_local_write a) e l)))
 
 -- an entry more before the rest
 on_from : (u last : ℕ) (es : Log) (more : List Reply) (g c : Content) (earlier : Accesses) (e : Entry) → seen g (earlier ++ e ∷ []) ≡ c
@@ -95,7 +95,7 @@ serves_access u a v es more g earlier true e k rest h = (
 )
 serves_access u a v es more g earlier false e k rest h = (
   desk (suc u) (others_of es ++ more) (after_access a (seen g earlier)),
-  stepped u (suc u) (others_of es ++ more) (seen g earlier) (after_access a (seen g earlier)) a v (k (seen g earlier) (λ w l. h.0 w))
+  stepped u (suc u) (others_of es ++ more) (seen g earlier) (after_access a (seen g earlier)) a v (k.by (seen g earlier) (λ w l. h.0 w))
       (used_by u a v false e) (left_by a v (seen g earlier) false e),
   subst (λ w. Serves (desk (suc u) (others_of es ++ more) (after_access a (seen g earlier))) es (desk (used_all w es) more (seen g (earlier ++ entry.Access a v ∷ accesses_of es))))
       (sym (used_by u a v false e))

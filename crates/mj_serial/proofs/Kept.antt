@@ -101,21 +101,28 @@ write_local a = by (is_write a) (not (name_of a).global)
 kept_told : (u : ℕ) (t : Transaction) (g : Content) (a : Access) (local room : Bool) → u ≡ length t.accesses
     → is_local_write a ≡ local → nat_lt (length t.accesses) 65536 ≡ room
     → IsKept u a (if local then answer_of a g else cond (not room) answer.Limit (answer_of a (seen g t.accesses)))
-kept_told u t g a true room n l m c h =
-    ap (λ b. if b || nat_lt u 65536 then answer_of a c else answer.Limit) l ∙ same_write a c g (write_local a l)
-kept_told u t g a false true n l m c h =
-    ap (λ b. if b || nat_lt u 65536 then answer_of a c else answer.Limit) l
-    ∙ ap (λ k. if nat_lt k 65536 then answer_of a c else answer.Limit) n
-    ∙ ap (λ b. if b then answer_of a c else answer.Limit) m
-    ∙ by (is_write a) refl
+kept_told u t g a true room n l m = record {
+  by = λ c h. ap (λ b. if b || nat_lt u 65536 then answer_of a c else answer.Limit) l ∙ same_write a c g (write_local a l);
+  room = λ h. ap (λ b. b || nat_lt u 65536) l;
+}
+kept_told u t g a false true n l m = record {
+  by = λ c h. ap (λ b. if b || nat_lt u 65536 then answer_of a c else answer.Limit) l
+      ∙ ap (λ k. if nat_lt k 65536 then answer_of a c else answer.Limit) n
+      ∙ ap (λ b. if b then answer_of a c else answer.Limit) m
+      ∙ by c h (is_write a) refl;
+  room = λ h. ap (λ b. b || nat_lt u 65536) l ∙ ap (λ k. nat_lt k 65536) n ∙ m;
+}
   where
-    by : (w : Bool) → is_write a ≡ w → answer_of a c ≡ answer_of a (seen g t.accesses)
-    by true w = same_write a c (seen g t.accesses) w
-    by false w = h w (within a (seen g t.accesses) w)
-kept_told u t g a false false n l m c h =
-    ap (λ b. if b || nat_lt u 65536 then answer_of a c else answer.Limit) l
-    ∙ ap (λ k. if nat_lt k 65536 then answer_of a c else answer.Limit) n
-    ∙ ap (λ b. if b then answer_of a c else answer.Limit) m
+    by : (c : Content) → (is_write a ≡ false → is_limit (answer_of a (seen g t.accesses)) ≡ false → answer_of a c ≡ answer_of a (seen g t.accesses))
+        → (w : Bool) → is_write a ≡ w → answer_of a c ≡ answer_of a (seen g t.accesses)
+    by c h true w = same_write a c (seen g t.accesses) w
+    by c h false w = h w (within a (seen g t.accesses) w)
+kept_told u t g a false false n l m = record {
+  by = λ c h. ap (λ b. if b || nat_lt u 65536 then answer_of a c else answer.Limit) l
+      ∙ ap (λ k. if nat_lt k 65536 then answer_of a c else answer.Limit) n
+      ∙ ap (λ b. if b then answer_of a c else answer.Limit) m;
+  room = λ h. absurd cc;
+}
 
 -- the transaction with one access more, if it was taken
 replied : (t : Transaction) (a : Access) (v : Answer) → is_local_write a ≡ false → (with_reply t a v).accesses ≡ t.accesses ++ cons_option (taken a v) []

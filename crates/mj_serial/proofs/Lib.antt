@@ -2,3 +2,4 @@ pub mod Logs
 pub mod Going
 pub mod Kept
 pub mod Runs
+pub mod Clashes

@@ -1,6 +1,6 @@
 -- A program's asks along a log, and what a log has of accesses.
 use Rattle.std.proofs.Common.{◌≡◌, ◌⊎◌, inl, inr, ℕ, suc, ◌+◌, ◌-◌, ◌≤◌, Bool, true, false, cond, List, [], ◌∷◌, ◌++◌, length, Option, Some, None, refl, sym, ap, ◌∙◌, subst, arith, append_assoc, append-nil}
-use Rattle.std.specs.Prelude.{⊤, ◌||◌, not}
+use Rattle.std.specs.Prelude.{⊤, ◌||◌, nat_lt}
 use Rattle.std.specs.List.{cons_option}
 use Rattle.mj_store.specs.Questions.{Content}
 use Rattle.mj_store.specs.Runs.{answer_of, after_access, after_accesses}
@@ -17,6 +17,7 @@ use Rattle.mj_semantics.specs.Outcome.{Needs, More}
 use Rattle.mj_txlog.specs.Accesses.{Accesses, is_write, seen}
 use Rattle.mj_txlog.specs.declared.entry.Entry.{Entry}
 use Rattle.mj_txlog.specs.declared.entry.Entry.TheVariants as entry
+use Rattle.mj_txn.specs.Closing.{is_local_write}
 use Rattle.mj_txlog.proofs.Alike.{seen_more}
 use Rattle.mj_serial.specs.Programs.{Log, replies_of, Program, IsSteady, Asks, AreAsked}
 use Rattle.mj_serial.specs.Blocks.{entry_of, accesses_of}
@@ -56,9 +57,11 @@ abbrev pub used_all : ℕ → Log → ℕ
 used_all u [] = u
 used_all u (e ∷ es) = used_all (used_after u e.0 e.1) es
 
--- an access that was answered so where so many were taken is answered so alone, on each content where it has its answer if it is a read
-abbrev pub IsKept : ℕ → Access → Answer → Type 0
-IsKept u a v = (c : Content) → (is_write a ≡ false → is_limit v ≡ false → answer_of a c ≡ v) → told_alone u c a ≡ v
+-- An access that was answered so where so many were taken is answered so alone, on each content where it has its answer if it is a read; and
+-- there was room for it, if it passed no limit
+pub record IsKept (u : ℕ) (a : Access) (v : Answer) : Type 0 where
+  pub by : (c : Content) → (is_write a ≡ false → is_limit v ≡ false → answer_of a c ≡ v) → told_alone u c a ≡ v
+  pub room : is_limit v ≡ false → (is_local_write a || nat_lt u 65536) ≡ true
 
 -- an entry of an open transaction
 abbrev pub KeptAt : ℕ → Ask → Reply → Type 0
