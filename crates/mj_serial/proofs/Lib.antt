@@ -3,3 +3,4 @@ pub mod Going
 pub mod Kept
 pub mod Runs
 pub mod Clashes
+pub mod Shown

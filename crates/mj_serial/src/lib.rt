@@ -1,2 +1,16 @@
-// Transactions of many jobs as if each had run alone.
+// Transactions of many jobs, as if each had run alone.
+//
+// `specs/Blocks.antt` has the blocks of a history, each committed transaction or single access, in the order of their commits (`blocks_of`);
+// `specs/Alone.antt` what it is to run blocks alone, each directly on one map, before the next (`alone`); `specs/Serial.antt` that a history is as
+// its blocks run alone (`AsAlone`), and that a commit clashed because it had to (`MustClash`). `specs/Rules.antt` says the same of any rule for
+// what a SERIAL commit is told, this system's among them (`Exactly`), so that wrong ones can be refuted.
+//
+// `laws` has the laws, which have nothing to do, and `serial_blocks` gives the blocks of a history.
 #![tactic(auto)]
+
+mod blocks;
+mod entries;
+mod laws;
+
+pub use blocks::{Block, serial_blocks};
+pub use laws::{clashes_must, serial};
