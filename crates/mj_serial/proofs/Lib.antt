@@ -4,3 +4,6 @@ pub mod Kept
 pub mod Runs
 pub mod Clashes
 pub mod Shown
+mod Tests
+mod Tables
+pub mod Sights

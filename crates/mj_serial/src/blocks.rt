@@ -1,6 +1,6 @@
 // The blocks of a history.
 
-ghost use Rattle.std.specs.Prelude.{◌≡◌, ◌<◌, ◌++◌, ◌∷◌, ℕ, suc, map, Some, None, vec_len, slice_index_or, IfOk, OnOk};
+ghost use Rattle.std.specs.Prelude.{◌≡◌, ◌<◌, ◌++◌, ◌∷◌, ℕ, suc, map, Some, None, length, slice_index_or, slice_set, IfOk, OnOk};
 ghost use Rattle.mj_sys.specs.History.{History};
 ghost use Rattle.mj_serial.specs.Blocks.{blocks_of, entry_of};
 ghost use Rattle.mj_serial.specs.Shown.{Shown, shown, shown_after, shown_done, shown_from, with_entry, shown_single};
@@ -11,6 +11,7 @@ use mj_sys::Event;
 use mj_txlog::Entry;
 use std::alloc::{AllocError, Global};
 use std::marker::Model;
+use std::mem::replace;
 
 /// A committed transaction, or a single access outside any.
 #[derive(Drop)]
@@ -79,9 +80,9 @@ fn look(
 {
     let job = event.job as usize;
     widen(table, job)?;
-    let stood = table[job].take();
+    let stood = take_out(table, job);
     let (after, block) = step(alloc, stood, place, event)?;
-    table[job] = after;
+    put_back(table, job, after);
     match block {
         None => Ok(()),
         Some(block) => {
@@ -93,13 +94,30 @@ fn look(
 
 // There is a place for the job.
 fn widen(table: &mut Vec<Option<Block>>, job: usize) -> Result<(), AllocError>
-    ensures room { OnOk result (job < vec_len table.new) }
+    ensures room { OnOk result (job < length table.new.items) }
     ensures same { (j : ℕ) → slice_index_or table.new.items j None ≡ slice_index_or table.old.items j None }
 {
-    for _ in table.len()..=job {
+    while table.len() <= job {
         table.push(None)?;
     }
     Ok(())
+}
+
+// What the job has open is taken out of its place.
+fn take_out(table: &mut Vec<Option<Block>>, job: usize) -> Option<Block>
+    requires { job < length table.old.items }
+    ensures taken { result ≡ slice_index_or table.old.items job None }
+    ensures left { table.new.items ≡ slice_set table.old.items job None }
+{
+    table[job].take()
+}
+
+// The job has this open, or nothing.
+fn put_back(table: &mut Vec<Option<Block>>, job: usize, block: Option<Block>)
+    requires { job < length table.old.items }
+    ensures { table.new.items ≡ slice_set table.old.items job block }
+{
+    drop(replace(&mut table[job], block));
 }
 
 // What a job has open after an event, and the block that is over with it.
