@@ -192,7 +192,7 @@ clash_is programs st g0 h j log (Some t) (Some b) clash o f s = by_kind t.serial
           differ = λ e. d.1.differ (e ∙ sym d.1.then);
           turns = k.turns;
           again = subst (λ i. (n : ℕ) → k.turns ≤ n
-          → (go (programs i) n (suc (length x.early)) b.before (desk_of b.since g)).log ≡ x.early ++ (asks.Access a, replies.Answer c.now) ∷ []) f.job k.by;
+              → (go (programs i) n (suc (length x.early)) b.before (desk_of b.since g)).log ≡ x.early ++ (asks.Access a, replies.Answer c.now) ∷ []) f.job k.by;
         }
 
     with_entry : (c : Changed) → clash ≡ clash_of c → t.serial ≡ true → (e : Entry) (earlier later : Accesses) → t.accesses ≡ earlier ++ e ∷ later → Hold g [] earlier

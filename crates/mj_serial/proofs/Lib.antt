@@ -7,3 +7,5 @@ pub mod Shown
 mod Tests
 mod Tables
 pub mod Sights
+pub mod Cores
+pub mod Wrong

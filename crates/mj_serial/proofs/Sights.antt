@@ -8,6 +8,7 @@ use Rattle.std.proofs.lemmas.Option.{slice_get_within}
 use Rattle.mj_subs.specs.Name.{Name}
 use Rattle.mj_store.specs.Questions.{Content}
 use Rattle.mj_ask.specs.Started.{Started}
+use Rattle.mj_ask.specs.Fits.{is_shared}
 use Rattle.mj_ask.specs.Late.{is_over}
 use Rattle.mj_ask.specs.declared.ask.Ask.{Ask}
 use Rattle.mj_ask.specs.declared.ask.Ask.TheVariants as asks
@@ -29,6 +30,7 @@ use Rattle.mj_txn.specs.declared.committing.Outcome.TheVariants as outcome
 use Rattle.mj_sys.specs.Transactions.{Transactions, transaction_of, with_transaction, with_access, with_names, with_waiting, begun_as, closed_as}
 use Rattle.mj_sys.specs.Devices.{Device, Devices, device_at}
 use Rattle.mj_sys.specs.Shared.{Shared, open_of, globals_after, busy, tried, open_free, open_known, has_room, started, served}
+use Rattle.mj_sys.specs.History.{left_by}
 use Rattle.mj_serial.specs.Rules.{Exactly, IsKindTold, IsCommitTold, committed_as, IsTold, transaction_after, globals_left}
 use Rattle.mj_serial.proofs.Tests.{first_none, some_first}
 
@@ -218,3 +220,13 @@ module _ (s : Shared) (job : ℕ) (places : HasPlaces s) (live : IsLive s.rows j
   obeys (asks.DeviceByte device timeout) late = tt
   obeys (asks.DeviceEnd device) late = tt
   obeys (asks.Rest time) late = tt
+
+  -- what isn't served changes nothing
+  pub unshared : (ask : Ask) (r : Reply) → is_shared ask ≡ false → Obeys s job ask r (left_by s (served s job ask true))
+  unshared (asks.DeviceBegin device) r e = record { told = tt; globals = refl; transactions = still; places = places }
+  unshared (asks.DeviceWrite device bytes) r e = record { told = tt; globals = refl; transactions = still; places = places }
+  unshared (asks.DeviceLine device timeout) r e = record { told = tt; globals = refl; transactions = still; places = places }
+  unshared (asks.DeviceByte device timeout) r e = record { told = tt; globals = refl; transactions = still; places = places }
+  unshared (asks.DeviceEnd device) r e = record { told = tt; globals = refl; transactions = still; places = places }
+  unshared (asks.Rest time) r e = record { told = tt; globals = refl; transactions = still; places = places }
+  unshared ask r e = absurd cc

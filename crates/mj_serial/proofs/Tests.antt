@@ -64,7 +64,6 @@ answer_decides x y = (λ e. absurd cc, λ e. absurd cc)
 
 -- ---- one access
 
-
 -- the read, by the answers to whether it is a change and is the same
 holds_by : (g : Content) (earlier : Accesses) (a : Access) (v : Answer) (write same : Bool) → is_write a ≡ write → is_same_answer (answer_of a (seen g earlier)) v ≡ same
     → ◌≡◌ {A = Option Changed} (if write || same then None else Some (record { place = length earlier + 1; then = v; now = answer_of a (seen g earlier) })) None

@@ -4,3 +4,4 @@ pub mod Alone
 pub mod Serial
 pub mod Rules
 pub mod Shown
+pub mod Laws

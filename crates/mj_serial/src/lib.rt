@@ -13,4 +13,4 @@ mod entries;
 mod laws;
 
 pub use blocks::{Block, serial_blocks};
-pub use laws::{clashes_must, serial};
+pub use laws::{clashes_must, none_is_open, of_all_programs, serial};

@@ -1,5 +1,5 @@
-use Rattle.mj_serial.proofs.Clashes as clashes
+use Rattle.mj_serial.proofs.Cores as cores
 use Rattle.mj_serial.proofs.laws.clashes_must.Goals as goal
 
 pub returns : goal.returns
-returns c = clashes.clashes
+returns c = cores.clashes_must

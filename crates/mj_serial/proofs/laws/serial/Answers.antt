@@ -1,5 +1,5 @@
-use Rattle.mj_serial.proofs.Runs as runs
+use Rattle.mj_serial.proofs.Cores as cores
 use Rattle.mj_serial.proofs.laws.serial.Goals as goal
 
 pub returns : goal.returns
-returns c = runs.serial
+returns c = cores.is_serial
