@@ -9,3 +9,4 @@ mod Tables
 pub mod Sights
 pub mod Cores
 pub mod Wrong
+pub mod Examples

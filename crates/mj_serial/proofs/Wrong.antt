@@ -82,22 +82,23 @@ no_other_one j = ne_eqb 1 (suc (suc j)) (λ e. absurd (omega arith))
 
 -- ---- a phantom: job 0 looks for the first subscript, and then job 1 sets one
 
-abbrev one : List ℕ
+abbrev pub one : List ℕ
 one = codes "1"
 
-abbrev looks : List Ask
+abbrev pub looks : List Ask
 looks = begin ∷ first ∷ asks.Commit ∷ []
 
-abbrev adds : List Ask
+abbrev pub adds : List Ask
 adds = sets (q one) one ∷ []
 
-abbrev phantom : History
+abbrev pub phantom : History
 phantom = event 0 begin replies.Done ∷ event 0 first (comes None) ∷ event 1 (sets (q one) one) done ∷ event 0 asks.Commit replies.Done ∷ []
 
-phantom_asked : (j : ℕ) → AreAsked (two looks adds j) [] (log_of j phantom)
+pub phantom_asked : (j : ℕ) → AreAsked (two looks adds j) [] (log_of j phantom)
 phantom_asked zero = ((0, [], [], refl), ((0, [], [], refl), ((0, [], [], refl), tt)))
 phantom_asked (suc zero) = ((0, [], [], refl), tt)
-phantom_asked (suc (suc j)) = subst (AreAsked (script adds) []) (sym (rw (no_other j, no_other_one j) refl)) tt
+phantom_asked (suc (suc j)) =
+    let none : log_of (suc (suc j)) phantom ≡ [] = rw (no_other j, no_other_one j) refl in subst (AreAsked (script adds) []) (sym none) tt
 
 phantom_run : IsRunBy ByNames (two looks adds) [] phantom
 phantom_run = record { told = (tt, (refl, (refl, (((λ e. absurd cc), tt), tt)))); asked = phantom_asked }
@@ -119,31 +120,32 @@ names_are_not_enough claim = no (claim (two looks adds) [] phantom (two_steady l
         let e : Some (comes (Some one)) ≡ Some (comes None) = ap (λ w. first_reply (first_part w.serial)) (x.same (suc (suc (suc (suc x.turns)))) le) in
         absurd cc
 
--- ---- job 0 reads 5 and sets 5, and in between job 1 sets 7: after all own writes the read has its old answer
+-- ---- job 0 reads 5 and sets 5, and in between job 1 sets the empty text: after all own writes the read has its old answer
 
 abbrev five : List ℕ
 five = codes "5"
 
-abbrev seven : List ℕ
-seven = codes "7"
+abbrev blank : List ℕ
+blank = []
 
 abbrev rewrites : List Ask
 rewrites = begin ∷ value (q one) ∷ sets (q one) five ∷ asks.Commit ∷ []
 
 abbrev changes : List Ask
-changes = sets (q one) seven ∷ []
+changes = sets (q one) blank ∷ []
 
 abbrev fives : Content
 fives = (q one, five) ∷ []
 
 abbrev hidden : History
-hidden = event 0 begin replies.Done ∷ event 0 (value (q one)) (found (Some five)) ∷ event 1 (sets (q one) seven) done
+hidden = event 0 begin replies.Done ∷ event 0 (value (q one)) (found (Some five)) ∷ event 1 (sets (q one) blank) done
     ∷ event 0 (sets (q one) five) done ∷ event 0 asks.Commit replies.Done ∷ []
 
 hidden_asked : (j : ℕ) → AreAsked (two rewrites changes j) [] (log_of j hidden)
 hidden_asked zero = ((0, [], [], refl), ((0, [], [], refl), ((0, [], [], refl), ((0, [], [], refl), tt))))
 hidden_asked (suc zero) = ((0, [], [], refl), tt)
-hidden_asked (suc (suc j)) = subst (AreAsked (script changes) []) (sym (rw (no_other j, no_other_one j) refl)) tt
+hidden_asked (suc (suc j)) =
+    let none : log_of (suc (suc j)) hidden ≡ [] = rw (no_other j, no_other_one j) refl in subst (AreAsked (script changes) []) (sym none) tt
 
 hidden_run : IsRunBy AfterAll (two rewrites changes) fives hidden
 hidden_run = record { told = (tt, (refl, (refl, (refl, (((λ e. refl), ((λ e. absurd cc), tt)), tt))))); asked = hidden_asked }
@@ -154,5 +156,5 @@ after_all_is_late claim = no (claim (two rewrites changes) fives hidden (two_ste
     no : AsAlone (two rewrites changes) fives (committed_by fives hidden) hidden → ⊥
     no x =
         let le : x.turns ≤ suc (suc (suc (suc (suc x.turns)))) = omega arith in
-        let e : Some (found (Some seven)) ≡ Some (found (Some five)) = ap (λ w. first_reply (first_part w.serial)) (x.same (suc (suc (suc (suc (suc x.turns))))) le) in
+        let e : Some (found (Some blank)) ≡ Some (found (Some five)) = ap (λ w. first_reply (first_part w.serial)) (x.same (suc (suc (suc (suc (suc x.turns))))) le) in
         absurd cc

@@ -1,7 +1,7 @@
 // Laws of every run: each function has nothing to do, and its contract is the law.
 
 ghost use Rattle.mj_serial.specs.Laws.{OpensSo, IsSerial, ClashesMust};
-ghost use Rattle.mj_serial.specs.Rules.{Exactly, IsSerialBy, ClashesMustBy};
+ghost use Rattle.mj_serial.specs.Rules.{Exactly, ByNames, AfterAll, IsSerialBy, ClashesMustBy};
 
 /// Every run of many jobs is as its blocks run alone, in the order of their commits.
 pub fn serial()
@@ -22,4 +22,14 @@ pub fn none_is_open()
 pub fn of_all_programs()
     ensures serial { IsSerialBy Exactly }
     ensures clashes { ClashesMustBy Exactly }
+{}
+
+/// Where a commit asks again only what was read by its name, some run isn't as its blocks run alone.
+pub fn names_are_not_enough()
+    ensures { IsSerialBy ByNames → ⊥ }
+{}
+
+/// Where a commit asks each read again after all own writes, some run isn't as its blocks run alone.
+pub fn after_all_writes_is_late()
+    ensures { IsSerialBy AfterAll → ⊥ }
 {}

@@ -13,4 +13,6 @@ mod entries;
 mod laws;
 
 pub use blocks::{Block, serial_blocks};
-pub use laws::{clashes_must, none_is_open, of_all_programs, serial};
+pub use laws::{
+    after_all_writes_is_late, clashes_must, names_are_not_enough, none_is_open, of_all_programs, serial,
+};
