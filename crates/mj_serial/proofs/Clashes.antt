@@ -1,9 +1,9 @@
 -- A clash comes only where it must.
 use Rattle.std.proofs.Common.{◌≡◌, ℕ, suc, ◌+◌, ◌≤◌, Bool, true, false, [], ◌∷◌, ◌++◌, length, max, Option, Some, None, refl, ap, sym, ◌∙◌, subst, arith}
-use Rattle.std.specs.Prelude.{◌||◌, ◌&&◌, not, nat_lt, if◌then◌else◌}
+use Rattle.std.specs.Prelude.{◌||◌, not, if◌then◌else◌}
 use Rattle.std.specs.List.{cons_option}
 use Rattle.mj_store.specs.Questions.{Content}
-use Rattle.mj_store.specs.Runs.{name_of, answer_of, after_access}
+use Rattle.mj_store.specs.Runs.{answer_of}
 use Rattle.mj_store.specs.declared.access.Access.{Access}
 use Rattle.mj_store.specs.declared.access.Answer.{Answer}
 use Rattle.mj_store.specs.declared.access.Answer.TheVariants as answer
@@ -13,15 +13,15 @@ use Rattle.mj_ask.specs.declared.ask.Ask.{Ask}
 use Rattle.mj_ask.specs.declared.ask.Ask.TheVariants as asks
 use Rattle.mj_ask.specs.declared.ask.Reply.{Reply}
 use Rattle.mj_ask.specs.declared.ask.Reply.TheVariants as replies
-use Rattle.mj_txlog.specs.Accesses.{Accesses, is_write, seen, Transaction}
+use Rattle.mj_txlog.specs.Accesses.{Accesses, seen, Transaction}
 use Rattle.mj_txlog.specs.declared.entry.Entry.{Entry}
 use Rattle.mj_txlog.specs.declared.entry.Entry.TheVariants as entry
-use Rattle.mj_txn.specs.Commits.{Hold, DiffersNow, IsOther, Differs}
+use Rattle.mj_txn.specs.Commits.{Hold, DiffersNow}
 use Rattle.mj_txn.specs.Closing.{is_local_write, clash_of}
 use Rattle.mj_txn.specs.declared.changed.Changed.{Changed}
 use Rattle.mj_sys.specs.History.{History}
 use Rattle.mj_serial.specs.Programs.{Log, replies_of, Program, IsSteady, Asks, AreAsked}
-use Rattle.mj_serial.specs.Blocks.{Block, taken, stands_from, nowhere, open_after, entry_of, accesses_of}
+use Rattle.mj_serial.specs.Blocks.{Block, stands_from, nowhere, open_after, entry_of, accesses_of}
 use Rattle.mj_serial.specs.Alone.{Desk, told_alone, used_after, go, desk_of, others_of}
 use Rattle.mj_serial.specs.Serial.{MustClash}
 use Rattle.mj_serial.specs.Rules.{Exactly, IsKindTold, IsCommitTold, sight_of, sight_behind, committed_by, clashes_at, ClashesMustBy}

@@ -1,15 +1,11 @@
 -- Every run of many jobs is one by the rule of this system.
-use Rattle.std.proofs.Common.{◌≡◌, ◌⊎◌, inl, inr, ℕ, zero, suc, ◌+◌, Bool, true, false, List, [], ◌∷◌, ◌++◌, length, map, get_or, Option, Some, None, refl, ap, sym, ◌∙◌, subst, append_assoc, append-nil, eq-eqb, eqb-true}
+use Rattle.std.proofs.Common.{◌≡◌, ◌⊎◌, inr, ℕ, zero, suc, ◌+◌, Bool, true, false, List, [], ◌∷◌, ◌++◌, length, get_or, Option, Some, None, refl, ap, sym, ◌∙◌, subst, eqb-true}
 use Rattle.std.proofs.Math.Path.{fun_ext}
-use Rattle.std.specs.Prelude.{⊤, ◌==◌, replicate, slice_get, if◌then◌else◌}
+use Rattle.std.specs.Prelude.{◌==◌, replicate, if◌then◌else◌}
 use Rattle.std.proofs.lemmas.Option.{none-some}
 use Rattle.std.proofs.lemmas.List.{length-map, length-replicate}
-use Rattle.mj_ask.specs.Started.{Started}
 use Rattle.mj_ask.specs.Fits.{is_shared}
-use Rattle.mj_ask.specs.declared.ask.Ask.{Ask}
-use Rattle.mj_ask.specs.declared.ask.Ask.TheVariants as asks
 use Rattle.mj_ask.specs.declared.ask.Reply.{Reply}
-use Rattle.mj_ask.specs.declared.clash.Clash.{Clash}
 use Rattle.mj_ast.specs.Syntax.{Routine}
 use Rattle.mj_semantics.specs.Outcome.{More, Ended}
 use Rattle.mj_semantics.specs.Job.{Start, next}
@@ -17,15 +13,15 @@ use Rattle.mj_semantics.proofs.Depth as depth
 use Rattle.mj_jobs.specs.Rows.{Row, row_at, opened, IsLive}
 use Rattle.mj_jobvm.specs.Run.{IsTrace, begins, goes_on}
 use Rattle.mj_txlog.specs.Accesses.{Transaction}
-use Rattle.mj_sys.specs.Transactions.{Transactions, transaction_of}
-use Rattle.mj_sys.specs.Shared.{Shared, open_of, served}
+use Rattle.mj_sys.specs.Transactions.{transaction_of}
+use Rattle.mj_sys.specs.Shared.{Shared, open_of}
 use Rattle.mj_sys.specs.declared.event.Event.{Event}
-use Rattle.mj_sys.specs.History.{History, left_by, after, state_of, IsServed, log_of}
-use Rattle.mj_sys.proofs.Rows.{rows_kept, state_of_append}
+use Rattle.mj_sys.specs.History.{History, after, state_of, IsServed, log_of}
+use Rattle.mj_sys.proofs.Rows.{rows_kept}
 use Rattle.mj_events.specs.Happen.{Happens, AllHappen}
 use Rattle.mj_core.specs.Runs.{IsRun, start_in}
-use Rattle.mj_serial.specs.Programs.{Log, replies_of, Program, IsSteady, Asks, AreAsked}
-use Rattle.mj_serial.specs.Rules.{Sight, Exactly, IsTold, transaction_after, globals_left, sight_of, sight_after, sight_behind, AreTold, committed_by, clashes_at, IsRunBy}
+use Rattle.mj_serial.specs.Programs.{Log, replies_of, Program, IsSteady, AreAsked}
+use Rattle.mj_serial.specs.Rules.{Sight, Exactly, IsTold, sight_of, sight_after, sight_behind, AreTold, committed_by, clashes_at, IsRunBy}
 use Rattle.mj_serial.specs.Laws as laws
 use Rattle.mj_serial.specs.Laws.{program_in, NoneIsOpen, OpensSo}
 use Rattle.mj_serial.specs.Serial.{AsAlone, MustClash}

@@ -1,9 +1,9 @@
 -- A program that runs alone makes the asks that it made.
-use Rattle.std.proofs.Common.{◌≡◌, ℕ, zero, suc, ◌+◌, ◌≤◌, Bool, true, false, cond, List, [], ◌∷◌, ◌++◌, length, max, Option, Some, None, refl, sym, ap, ◌∙◌, subst, arith, append_assoc, append-nil}
+use Rattle.std.proofs.Common.{◌≡◌, ℕ, zero, suc, ◌+◌, ◌≤◌, Bool, true, false, List, [], ◌∷◌, ◌++◌, length, max, Some, None, refl, sym, ap, ◌∙◌, subst, arith, append_assoc, append-nil}
 use Rattle.std.specs.Prelude.{◌||◌, ◌&&◌, not, if◌then◌else◌}
 use Rattle.std.specs.List.{cons_option}
 use Rattle.mj_store.specs.Questions.{Content}
-use Rattle.mj_store.specs.Runs.{name_of, answer_of, after_access}
+use Rattle.mj_store.specs.Runs.{name_of, after_access}
 use Rattle.mj_store.specs.declared.access.Access.{Access}
 use Rattle.mj_store.specs.declared.access.Answer.{Answer}
 use Rattle.mj_ask.specs.declared.ask.Ask.{Ask}
@@ -19,12 +19,12 @@ use Rattle.mj_txlog.specs.declared.entry.Entry.TheVariants as entry
 use Rattle.mj_txlog.specs.declared.entry.Unlock.{Unlock}
 use Rattle.mj_txlog.specs.declared.entry.Unlock.TheVariants as unlock
 use Rattle.mj_txlog.proofs.Alike.{seen_more}
-use Rattle.mj_txn.specs.Commits.{HoldsNow, Hold}
+use Rattle.mj_txn.specs.Commits.{Hold}
 use Rattle.mj_txn.specs.Closing.{is_local_write}
 use Rattle.mj_serial.specs.Programs.{Log, replies_of, Program, IsSteady, AreAsked}
-use Rattle.mj_serial.specs.Blocks.{is_taken, taken, entry_of, accesses_of}
-use Rattle.mj_serial.specs.Alone.{Desk, used_after, told_alone, access_alone, serve_alone, in_front, go, other_of, others_of}
-use Rattle.mj_serial.proofs.Logs.{still_needs, used_all, IsKept, KeptAt, Kept, seen_access}
+use Rattle.mj_serial.specs.Blocks.{is_taken, accesses_of}
+use Rattle.mj_serial.specs.Alone.{Desk, used_after, told_alone, access_alone, serve_alone, in_front, go, others_of}
+use Rattle.mj_serial.proofs.Logs.{still_needs, used_all, IsKept, Kept, seen_access}
 
 -- what serves alone gives these replies to these asks, and is then the other
 abbrev pub Serves : Desk → Log → Desk → Type 0

@@ -1,10 +1,9 @@
 -- What the scan knows of the transactions that are open.
-use Rattle.std.proofs.Common.{◌≡◌, ℕ, suc, ◌+◌, Bool, true, false, cond, List, [], ◌∷◌, ◌++◌, length, Option, Some, None, refl, ap, sym, ◌∙◌, subst, arith, append_assoc, append-nil, eq-eqb, eqb-true}
+use Rattle.std.proofs.Common.{◌≡◌, ℕ, suc, Bool, true, false, cond, List, [], ◌∷◌, ◌++◌, length, Option, Some, None, refl, ap, sym, ◌∙◌, subst, arith, append_assoc, append-nil, eq-eqb, eqb-true}
 use Rattle.std.specs.Prelude.{⊤, ◌==◌, ◌||◌, ◌&&◌, not, nat_lt, if◌then◌else◌}
 use Rattle.std.specs.List.{cons_option}
 use Rattle.mj_subs.specs.Name.{Name}
 use Rattle.mj_store.specs.Questions.{Content}
-use Rattle.mj_store.specs.Changes.{is_too_deep}
 use Rattle.mj_store.specs.Runs.{name_of, answer_of}
 use Rattle.mj_store.specs.declared.access.Access.{Access}
 use Rattle.mj_store.specs.declared.access.Access.TheVariants as access
@@ -16,8 +15,7 @@ use Rattle.mj_ask.specs.declared.ask.Ask.{Ask}
 use Rattle.mj_ask.specs.declared.ask.Ask.TheVariants as asks
 use Rattle.mj_ask.specs.declared.ask.Reply.{Reply}
 use Rattle.mj_ask.specs.declared.ask.Reply.TheVariants as replies
-use Rattle.mj_txlog.specs.Accesses.{Transaction, is_write, is_full, seen, reply_in, with_reply, with_unlock, with_entry}
-use Rattle.mj_txlog.specs.declared.entry.Entry.{Entry}
+use Rattle.mj_txlog.specs.Accesses.{Transaction, is_write, is_full, seen, reply_in, with_reply, with_entry}
 use Rattle.mj_txlog.specs.declared.entry.Entry.TheVariants as entry
 use Rattle.mj_txlog.specs.declared.entry.Unlock.{Unlock}
 use Rattle.mj_txlog.specs.declared.entry.Unlock.TheVariants as unlock
@@ -27,7 +25,6 @@ use Rattle.mj_sys.specs.declared.event.Event.{Event}
 use Rattle.mj_sys.specs.History.{History, log_of}
 use Rattle.mj_serial.specs.Programs.{Log, Program, Asks, AreAsked}
 use Rattle.mj_serial.specs.Blocks.{Block, Stand, taken, longer, block_after, stand_after, stands_from, entry_of, accesses_of}
-use Rattle.mj_serial.specs.Alone.{told_alone}
 use Rattle.mj_serial.specs.Rules.{Rule, Sight, IsTold, transaction_after, sight_after, sight_behind, AreTold}
 use Rattle.mj_serial.proofs.Logs.{asked_more, used_all, used_is, IsKept, KeptAt, Kept, kept_more, accesses_append}
 

@@ -1,5 +1,5 @@
 -- A program's asks along a log, and what a log has of accesses.
-use Rattle.std.proofs.Common.{◌≡◌, ◌⊎◌, inl, inr, ℕ, suc, ◌+◌, ◌-◌, ◌≤◌, Bool, true, false, cond, List, [], ◌∷◌, ◌++◌, length, Option, Some, None, refl, sym, ap, ◌∙◌, subst, arith, append_assoc, append-nil}
+use Rattle.std.proofs.Common.{◌≡◌, ◌⊎◌, inl, inr, ℕ, suc, ◌+◌, ◌-◌, ◌≤◌, Bool, true, false, cond, List, [], ◌∷◌, ◌++◌, length, Option, Some, None, refl, sym, ap, ◌∙◌, arith, append_assoc, append-nil}
 use Rattle.std.specs.Prelude.{⊤, ◌||◌, nat_lt}
 use Rattle.std.specs.List.{cons_option}
 use Rattle.mj_store.specs.Questions.{Content}
@@ -19,7 +19,7 @@ use Rattle.mj_txlog.specs.declared.entry.Entry.{Entry}
 use Rattle.mj_txlog.specs.declared.entry.Entry.TheVariants as entry
 use Rattle.mj_txn.specs.Closing.{is_local_write}
 use Rattle.mj_txlog.proofs.Alike.{seen_more}
-use Rattle.mj_serial.specs.Programs.{Log, replies_of, Program, IsSteady, Asks, AreAsked}
+use Rattle.mj_serial.specs.Programs.{Log, Program, IsSteady, Asks, AreAsked}
 use Rattle.mj_serial.specs.Blocks.{entry_of, accesses_of}
 use Rattle.mj_serial.specs.Alone.{used_after, told_alone, other_of, others_of}
 

@@ -1,14 +1,13 @@
 -- Every run is as its blocks run alone.
-use Rattle.std.proofs.Common.{◌≡◌, ℕ, zero, suc, ◌+◌, ◌-◌, ◌≤◌, Bool, true, false, cond, List, [], ◌∷◌, ◌++◌, length, max, Option, Some, None, refl, ap, sym, ◌∙◌, subst, arith, append_assoc, append-nil, eq-eqb, eqb-true}
+use Rattle.std.proofs.Common.{◌≡◌, ℕ, zero, suc, ◌-◌, ◌≤◌, Bool, true, false, cond, List, [], ◌∷◌, ◌++◌, length, max, Option, Some, None, refl, ap, sym, ◌∙◌, subst, arith, append_assoc, append-nil, eq-eqb, eqb-true}
 use Rattle.std.proofs.lemmas.List.Elements.{All-append, All-nil}
 use Rattle.std.specs.List.{All, cons_option}
-use Rattle.std.specs.Prelude.{⊤, ◌==◌, ◌||◌, ◌&&◌, not, slice_index_or, if◌then◌else◌}
+use Rattle.std.specs.Prelude.{◌==◌, ◌||◌, ◌&&◌, not, slice_index_or, if◌then◌else◌}
 use Rattle.mj_store.specs.Questions.{Content}
 use Rattle.mj_store.specs.Changes.{is_too_deep, after_put}
 use Rattle.mj_store.specs.Runs.{name_of, answer_of, after_access, after_accesses}
 use Rattle.mj_store.specs.declared.access.Access.{Access}
 use Rattle.mj_store.specs.declared.access.Access.TheVariants as access
-use Rattle.mj_store.specs.declared.access.Answer.{Answer}
 use Rattle.mj_store.specs.declared.access.Answer.TheVariants as answer
 use Rattle.mj_ask.specs.Keeping.{is_limit}
 use Rattle.mj_ask.specs.declared.ask.Kind.{Kind}
@@ -25,13 +24,13 @@ use Rattle.mj_txlog.specs.declared.entry.Entry.TheVariants as entry
 use Rattle.mj_txn.specs.Commits.{Hold}
 use Rattle.mj_txn.specs.Closing.{is_local_write}
 use Rattle.mj_sys.specs.Transactions.{is_serial}
-use Rattle.mj_sys.specs.Shared.{globals_after, changed}
+use Rattle.mj_sys.specs.Shared.{changed}
 use Rattle.mj_sys.specs.declared.event.Event.{Event}
 use Rattle.mj_sys.specs.History.{History, log_of}
 use Rattle.mj_serial.specs.Programs.{Log, replies_of, Program, IsSteady, Asks}
-use Rattle.mj_serial.specs.Blocks.{Block, Stand, taken, single, ended, done_at, stand_after, blocks_from, blocks_of, nowhere, entry_of, accesses_of}
+use Rattle.mj_serial.specs.Blocks.{Block, Stand, single, ended, done_at, stand_after, blocks_from, blocks_of, nowhere, entry_of, accesses_of}
 use Rattle.mj_serial.specs.Alone.{Desk, in_front, go, desk_of, with_parts, alone, others_of}
-use Rattle.mj_serial.specs.Serial.{had, had_all, AtCommit, IsPart, AsAlone}
+use Rattle.mj_serial.specs.Serial.{had, had_all, AtCommit, IsPart}
 use Rattle.mj_serial.specs.Rules.{Rule, Sight, Exactly, IsTold, IsCommitTold, committed_as, globals_left, sight_of, sight_after, sight_behind, IsRunBy, IsSerialBy}
 use Rattle.mj_serial.proofs.Logs.{used_all, still_needs, one_seen, leaves}
 use Rattle.mj_serial.proofs.Going.{Serves, desk, serves, past, past_is, go_ends, GoesAlong, goes_along}

@@ -1,5 +1,5 @@
 -- The scan that a caller sees gives the blocks.
-use Rattle.std.proofs.Common.{◌≡◌, ℕ, suc, Bool, true, false, List, [], ◌∷◌, ◌++◌, map, Option, Some, None, option_map, refl, ap, sym, ◌∙◌, append-nil, append_assoc}
+use Rattle.std.proofs.Common.{◌≡◌, ℕ, suc, Bool, true, false, List, [], ◌∷◌, ◌++◌, map, Option, Some, None, option_map, refl, ap, sym, ◌∙◌, append-nil}
 use Rattle.std.proofs.Math.Path.{fun_ext}
 use Rattle.std.specs.Prelude.{◌==◌, if◌then◌else◌}
 use Rattle.std.specs.List.{cons_option}
@@ -11,7 +11,7 @@ use Rattle.mj_txlog.specs.declared.entry.Entry.{Entry}
 use Rattle.mj_sys.specs.declared.event.Event.{Event}
 use Rattle.mj_sys.specs.History.{History}
 use Rattle.mj_serial.specs.Programs.{Log}
-use Rattle.mj_serial.specs.Blocks.{Block, Stand, block_after, single, ended, done_at, stand_after, blocks_from, blocks_of, nowhere, longer, entry_of, accesses_of}
+use Rattle.mj_serial.specs.Blocks.{Block, Stand, block_after, single, ended, done_at, stand_after, blocks_from, blocks_of, nowhere, longer, entry_of}
 use Rattle.mj_serial.specs.Shown.{Shown, shown, with_entry, shown_after, shown_single, shown_ended, shown_done, shown_from}
 use Rattle.mj_serial.proofs.Logs.{accesses_append}
 

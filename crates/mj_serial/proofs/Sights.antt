@@ -1,12 +1,10 @@
 -- What is served is told by the rule of this system, and leaves what the rule's service leaves.
-use Rattle.std.proofs.Common.{◌≡◌, ℕ, zero, suc, ◌+◌, ◌<◌, ◌≤◌, Bool, true, false, cond, List, [], ◌∷◌, ◌++◌, length, get_or, Option, Some, None, refl, ap, sym, ◌∙◌, subst, arith, length-append, eqb-true, eq-eqb}
+use Rattle.std.proofs.Common.{◌≡◌, ℕ, zero, suc, ◌+◌, ◌<◌, Bool, true, false, List, [], ◌∷◌, ◌++◌, length, get_or, Option, Some, None, refl, ap, sym, ◌∙◌, subst, arith, length-append, eqb-true, eq-eqb}
 use Rattle.std.specs.Prelude.{ℤ, ⊤, ◌==◌, nat_lt, slice_get, slice_set, if◌then◌else◌}
 use Rattle.std.specs.Str.{bytes_eq}
-use Rattle.std.specs.List.{slice_index_or}
 use Rattle.std.proofs.lemmas.List.{length-set, get_or-set_same, get_or-set_other}
 use Rattle.std.proofs.lemmas.Option.{slice_get_within}
 use Rattle.mj_subs.specs.Name.{Name}
-use Rattle.mj_store.specs.Questions.{Content}
 use Rattle.mj_ask.specs.Started.{Started}
 use Rattle.mj_ask.specs.Fits.{is_shared}
 use Rattle.mj_ask.specs.Late.{is_over}
@@ -18,10 +16,9 @@ use Rattle.mj_locktab.specs.Locks.{Locks}
 use Rattle.mj_locktab.specs.Tries.{outcome_of as try_of, after_try}
 use Rattle.mj_locktab.specs.declared.taken.Taken.{Taken}
 use Rattle.mj_locktab.specs.declared.taken.Taken.TheVariants as takes
-use Rattle.mj_jobs.specs.Rows.{Row, row_at, opened, with_ended, IsLive}
+use Rattle.mj_jobs.specs.Rows.{Row, opened, with_ended, IsLive}
 use Rattle.mj_dev.specs.Shelves.{principal}
 use Rattle.mj_txlog.specs.Accesses.{Transaction}
-use Rattle.mj_txlog.specs.declared.entry.Unlock.{Unlock}
 use Rattle.mj_txlog.specs.declared.entry.Unlock.TheVariants as unlock
 use Rattle.mj_txn.specs.Closing.{closed_by}
 use Rattle.mj_txn.specs.Testing.{first_changed, outcome_by}
@@ -29,7 +26,7 @@ use Rattle.mj_txn.specs.declared.changed.Changed.{Changed}
 use Rattle.mj_txn.specs.declared.committing.Outcome.TheVariants as outcome
 use Rattle.mj_sys.specs.Transactions.{Transactions, transaction_of, with_transaction, with_access, with_names, with_waiting, begun_as, closed_as}
 use Rattle.mj_sys.specs.Devices.{Device, Devices, device_at}
-use Rattle.mj_sys.specs.Shared.{Shared, open_of, globals_after, busy, tried, open_free, open_known, has_room, started, served}
+use Rattle.mj_sys.specs.Shared.{Shared, open_of, busy, tried, open_free, open_known, has_room, served}
 use Rattle.mj_sys.specs.History.{left_by}
 use Rattle.mj_serial.specs.Rules.{Exactly, IsKindTold, IsCommitTold, committed_as, IsTold, transaction_after, globals_left}
 use Rattle.mj_serial.proofs.Tests.{first_none, some_first}

@@ -1,12 +1,10 @@
 -- Runs by the wrong rules that aren't as their blocks run alone.
-use Rattle.std.proofs.Common.{◌≡◌, inr, ℕ, zero, suc, ◌+◌, ◌≤◌, Bool, true, false, List, [], ◌∷◌, ◌++◌, Option, Some, None, refl, ap, sym, ◌∙◌, subst, arith, ne_eqb}
-use Rattle.std.specs.Prelude.{◌==◌, codes, if◌then◌else◌}
+use Rattle.std.proofs.Common.{◌≡◌, inr, ℕ, zero, suc, ◌+◌, ◌≤◌, true, false, List, [], ◌∷◌, Option, Some, None, refl, ap, sym, subst, arith, ne_eqb}
+use Rattle.std.specs.Prelude.{◌==◌, codes}
 use Rattle.mj_subs.specs.Name.{Name}
 use Rattle.mj_store.specs.Questions.{Content}
 use Rattle.mj_store.specs.declared.store.Direction.TheVariants.{Forward}
-use Rattle.mj_store.specs.declared.access.Access.{Access}
 use Rattle.mj_store.specs.declared.access.Access.TheVariants as access
-use Rattle.mj_store.specs.declared.access.Answer.{Answer}
 use Rattle.mj_store.specs.declared.access.Answer.TheVariants as answer
 use Rattle.mj_ask.specs.declared.ask.Kind.TheVariants as kinds
 use Rattle.mj_ask.specs.declared.ask.Ask.{Ask}

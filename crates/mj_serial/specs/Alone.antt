@@ -1,5 +1,5 @@
 -- Blocks that are run alone, each directly on one map, before the next.
-use Rattle.std.specs.Prelude.{ℕ, zero, suc, nat_lt, ◌||◌, Bool, true, false, List, [], ◌∷◌, ◌++◌, Option, Some, None, if◌then◌else◌}
+use Rattle.std.specs.Prelude.{ℕ, zero, suc, nat_lt, ◌||◌, List, [], ◌∷◌, ◌++◌, Option, Some, None, if◌then◌else◌}
 use Rattle.mj_store.specs.Questions.{Content}
 use Rattle.mj_store.specs.Runs.{answer_of, after_access, after_accesses}
 use Rattle.mj_store.specs.declared.access.Access.{Access}

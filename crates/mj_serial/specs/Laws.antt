@@ -1,10 +1,9 @@
 -- What holds of every run of many jobs.
-use Rattle.std.specs.Prelude.{◌≡◌, ℕ, List, ◌∷◌, ◌++◌, Option, Some, None, length, replicate}
+use Rattle.std.specs.Prelude.{◌≡◌, ℕ, List, ◌∷◌, ◌++◌, Some, None, length, replicate}
 use Rattle.mj_ask.specs.Started.{Started}
-use Rattle.mj_ask.specs.declared.ask.Reply.{Reply}
 use Rattle.mj_ask.specs.declared.clash.Clash.{Clash}
 use Rattle.mj_ast.specs.Syntax.{Routine}
-use Rattle.mj_semantics.specs.Outcome.{Outcome, Ended}
+use Rattle.mj_semantics.specs.Outcome.{Ended}
 use Rattle.mj_semantics.specs.Job.{next}
 use Rattle.mj_store.specs.Questions.{Content}
 use Rattle.mj_dev.specs.Shelves.{Shelf}

@@ -1,8 +1,7 @@
 -- A service of the globals and of transactions, with any rule for what a SERIAL commit is told; and rules.
-use Rattle.std.specs.Prelude.{◌≡◌, ℕ, ◌==◌, Bool, true, false, List, [], ◌∷◌, ◌++◌, Option, Some, None, ⊤, if◌then◌else◌}
+use Rattle.std.specs.Prelude.{◌≡◌, ℕ, ◌==◌, Bool, true, false, [], ◌∷◌, ◌++◌, Option, Some, None, ⊤, if◌then◌else◌}
 use Rattle.mj_store.specs.Questions.{Content}
 use Rattle.mj_store.specs.Runs.{answer_of}
-use Rattle.mj_store.specs.declared.access.Access.{Access}
 use Rattle.mj_store.specs.declared.access.Access.TheVariants as access
 use Rattle.mj_ask.specs.declared.clash.Clash.{Clash}
 use Rattle.mj_ask.specs.declared.ask.Ask.{Ask}

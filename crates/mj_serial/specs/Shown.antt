@@ -8,7 +8,6 @@ use Rattle.mj_ask.specs.declared.ask.Reply.TheVariants as replies
 use Rattle.mj_txlog.specs.Accesses.{Accesses}
 use Rattle.mj_txlog.specs.declared.entry.Entry.{Entry}
 use Rattle.mj_sys.specs.Transactions.{is_serial}
-use Rattle.mj_sys.specs.declared.event.Event.{Event}
 use Rattle.mj_sys.specs.History.{History}
 use Rattle.mj_serial.specs.Blocks.{Block, entry_of, accesses_of}
 

@@ -14,5 +14,6 @@ mod laws;
 
 pub use blocks::{Block, serial_blocks};
 pub use laws::{
-    after_all_writes_is_late, clashes_must, names_are_not_enough, none_is_open, of_all_programs, serial,
+    after_all_writes_is_late, clashes_must, names_are_not_enough, none_is_open, of_all_programs,
+    serial,
 };

@@ -1,4 +1,4 @@
-use Rattle.std.proofs.Common.{◌≡◌, ap, sym, ◌∙◌, refl, append-nil, set, ◌∷◌, ◌++◌, [], None, Some}
+use Rattle.std.proofs.Common.{ap, sym, ◌∙◌, refl, append-nil, set, None, Some}
 use Rattle.mj_serial.proofs.Tables.{one_event}
 use Rattle.mj_serial.proofs.blocks.look.Goals as goal
 
