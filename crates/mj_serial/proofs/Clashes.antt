@@ -1,19 +1,22 @@
 -- A clash comes only where it must.
 use Rattle.std.proofs.Common.{◌≡◌, ℕ, suc, ◌+◌, ◌≤◌, Bool, true, false, [], ◌∷◌, ◌++◌, length, max, Option, Some, None, refl, ap, sym, ◌∙◌, subst, arith}
-use Rattle.std.specs.Prelude.{◌||◌, not, if◌then◌else◌}
+use Rattle.std.specs.Prelude.{◌&&◌, ◌||◌, not, if◌then◌else◌}
 use Rattle.std.specs.List.{cons_option}
 use Rattle.mj_store.specs.Questions.{Content}
 use Rattle.mj_store.specs.Runs.{answer_of}
 use Rattle.mj_store.specs.declared.access.Access.{Access}
 use Rattle.mj_store.specs.declared.access.Answer.{Answer}
 use Rattle.mj_store.specs.declared.access.Answer.TheVariants as answer
+use Rattle.mj_ask.specs.Fits.{answers}
+use Rattle.mj_ask.proofs.Fitting.{answered}
+use Rattle.mj_ask.proofs.Keeping.{keeps}
 use Rattle.mj_ask.specs.Keeping.{is_limit, kept_of}
 use Rattle.mj_ask.specs.declared.clash.Clash.{Clash}
 use Rattle.mj_ask.specs.declared.ask.Ask.{Ask}
 use Rattle.mj_ask.specs.declared.ask.Ask.TheVariants as asks
 use Rattle.mj_ask.specs.declared.ask.Reply.{Reply}
 use Rattle.mj_ask.specs.declared.ask.Reply.TheVariants as replies
-use Rattle.mj_txlog.specs.Accesses.{Accesses, seen, Transaction}
+use Rattle.mj_txlog.specs.Accesses.{Accesses, is_write, seen, Transaction}
 use Rattle.mj_txlog.specs.declared.entry.Entry.{Entry}
 use Rattle.mj_txlog.specs.declared.entry.Entry.TheVariants as entry
 use Rattle.mj_txn.specs.Commits.{Hold, DiffersNow}
@@ -27,7 +30,7 @@ use Rattle.mj_serial.specs.Serial.{MustClash}
 use Rattle.mj_serial.specs.Rules.{Exactly, IsKindTold, IsCommitTold, sight_of, sight_behind, committed_by, clashes_at, ClashesMustBy}
 use Rattle.mj_serial.proofs.Logs.{asked_front, asked_next, still_needs, used_all, KeptAt, Kept, kept_front, kept_next, others_append}
 use Rattle.mj_serial.proofs.Going.{Serves, desk, serves, past, past_is, go_one, left_alone, step_access, GoesAlong, goes_along}
-use Rattle.mj_serial.proofs.Kept.{Fits, IsAt, all_on}
+use Rattle.mj_serial.proofs.Kept.{within, Fits, IsAt, all_on}
 use Rattle.mj_serial.proofs.Runs.{at_first}
 
 -- ---- an access of a log
@@ -157,6 +160,26 @@ comes p st b g early a old new late is f k h l e =
           (step_access (used_all 0 early) (others_of late) there a new told));
     }
 
+-- ---- what a clash keeps
+
+first_true : (x y : Bool) → (x && y) ≡ true → x ≡ true
+first_true true y e = refl
+first_true false y e = absurd cc
+
+is_answer : (a : Access) (c : Content) → answers a (answer_of a c) ≡ true
+is_answer a c = first_true (answers a (answer_of a c)) _ (answered a c)
+
+-- of two answers to one read that differ, what is kept differs
+kept_apart : (a : Access) (old new : Answer) (c : Content) → is_write a ≡ false → new ≡ answer_of a c → (there : Content) × (old ≡ answer_of a there)
+    → is_limit old ≡ false → (new ≡ old → ⊥) → kept_of new ≡ kept_of old → ⊥
+kept_apart a old new c read now was within_old differ same =
+    differ ((keeps old (kept_of old) refl).apart a new (record {
+      one = subst (λ v. answers a v ≡ true) (sym was.1) (is_answer a was.0);
+      other = subst (λ v. answers a v ≡ true) (sym now) (is_answer a c);
+      one_within = within_old;
+      other_within = subst (λ v. is_limit v ≡ false) (sym now) (within a c read);
+    }) same)
+
 -- ---- what a job has open where its commit clashes
 
 clash_is : (programs : ℕ → Program) → ((j : ℕ) → IsSteady (programs j)) → (g0 : Content) (h : History) (j : ℕ) (log : Log) (t : Option Transaction) (block : Option Block) (clash : Clash)
@@ -169,6 +192,14 @@ clash_is programs st g0 h j log (Some t) (Some b) clash o f s = by_kind t.serial
   where
     g : Content
     g = committed_by g0 h
+
+    own_answer : {a : Access} {v : Answer} {earlier : Accesses} → Split b.since earlier a v → (there : Content) × (v ≡ answer_of a there)
+    own_answer {a} {v} x =
+        let kept : KeptAt (used_all 0 x.early) (asks.Access a) (replies.Answer v)
+        = kept_next 0 x.early (asks.Access a) (replies.Answer v) x.late (subst (Kept 0) x.is f.kept) in
+        let same : v ≡ kept.0 = cc (kept.1) in
+        let there = kept.2.answered (subst (λ y. is_limit y ≡ false) same x.within) in
+        (there.0, same ∙ there.1)
 
     with_split : (c : Changed) → clash ≡ clash_of c → t.serial ≡ true → (a : Access) (v : Answer) (earlier : Accesses) → Hold g [] earlier
         → DiffersNow g earlier (entry.Access a v) c.place c.then c.now → Split b.since earlier a v → MustClash programs g h j clash
@@ -190,6 +221,9 @@ clash_is programs st g0 h j log (Some t) (Some b) clash o f s = by_kind t.serial
           was = ap (λ (y : Clash). y.then) is ∙ ap kept_of d.1.then;
           now = ap (λ (y : Clash). y.now) is;
           differ = λ e. d.1.differ (e ∙ sym d.1.then);
+          apart = λ e.
+              kept_apart a v c.now (seen g earlier) d.0 d.1.now (own_answer x) x.within
+              (λ q. d.1.differ (q ∙ sym d.1.then)) (sym (ap (λ (y : Clash). y.now) is) ∙ e ∙ ap (λ (y : Clash). y.then) is ∙ ap kept_of d.1.then);
           turns = k.turns;
           again = subst (λ i. (n : ℕ) → k.turns ≤ n
               → (go (programs i) n (suc (length x.early)) b.before (desk_of b.since g)).log ≡ x.early ++ (asks.Access a, replies.Answer c.now) ∷ []) f.job k.by;

@@ -81,7 +81,7 @@ same_write (access.Put n nodes) c d e = refl
 same_write _ c d e = absurd cc
 
 -- a question never passes a limit
-within : (a : Access) (c : Content) → is_write a ≡ false → is_limit (answer_of a c) ≡ false
+pub within : (a : Access) (c : Content) → is_write a ≡ false → is_limit (answer_of a c) ≡ false
 within (access.Set n v) c e = absurd cc
 within (access.Kill n) c e = absurd cc
 within (access.Put n nodes) c e = absurd cc
@@ -101,6 +101,7 @@ kept_told : (u : ℕ) (t : Transaction) (g : Content) (a : Access) (local room :
 kept_told u t g a true room n l m = record {
   by = λ c h. ap (λ b. if b || nat_lt u 65536 then answer_of a c else answer.Limit) l ∙ same_write a c g (write_local a l);
   room = λ h. ap (λ b. b || nat_lt u 65536) l;
+  answered = λ h. (g, refl);
 }
 kept_told u t g a false true n l m = record {
   by = λ c h. ap (λ b. if b || nat_lt u 65536 then answer_of a c else answer.Limit) l
@@ -108,6 +109,7 @@ kept_told u t g a false true n l m = record {
       ∙ ap (λ b. if b then answer_of a c else answer.Limit) m
       ∙ by c h (is_write a) refl;
   room = λ h. ap (λ b. b || nat_lt u 65536) l ∙ ap (λ k. nat_lt k 65536) n ∙ m;
+  answered = λ h. (seen g t.accesses, refl);
 }
   where
     by : (c : Content) → (is_write a ≡ false → is_limit (answer_of a (seen g t.accesses)) ≡ false → answer_of a c ≡ answer_of a (seen g t.accesses))
@@ -119,6 +121,7 @@ kept_told u t g a false false n l m = record {
       ∙ ap (λ k. if nat_lt k 65536 then answer_of a c else answer.Limit) n
       ∙ ap (λ b. if b then answer_of a c else answer.Limit) m;
   room = λ h. absurd cc;
+  answered = λ h. absurd cc;
 }
 
 -- the transaction with one access more, if it was taken

@@ -58,10 +58,11 @@ used_all u [] = u
 used_all u (e ∷ es) = used_all (used_after u e.0 e.1) es
 
 -- An access that was answered so where so many were taken is answered so alone, on each content where it has its answer if it is a read; and
--- there was room for it, if it passed no limit
+-- if it passed no limit, there was room for it, and it was answered on some content
 pub record IsKept (u : ℕ) (a : Access) (v : Answer) : Type 0 where
   pub by : (c : Content) → (is_write a ≡ false → is_limit v ≡ false → answer_of a c ≡ v) → told_alone u c a ≡ v
   pub room : is_limit v ≡ false → (is_local_write a || nat_lt u 65536) ≡ true
+  pub answered : is_limit v ≡ false → (c : Content) × (v ≡ answer_of a c)
 
 -- an entry of an open transaction
 abbrev pub KeptAt : ℕ → Ask → Reply → Type 0

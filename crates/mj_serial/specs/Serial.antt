@@ -50,7 +50,7 @@ pub record AsAlone (programs : ℕ → Program) (opening committed : Content) (h
 
 -- A commit of the job that clashes after this history, where these globals are committed, has to: the job has a SERIAL transaction open, which, run
 -- alone on these globals from its `begin` on, makes the asks and gets the replies that it had before the access that the clash names, and is
--- answered otherwise there. The clash keeps both answers.
+-- answered otherwise there. The clash keeps both answers, and what it keeps of them differs too.
 pub record MustClash (programs : ℕ → Program) (committed : Content) (h : History) (job : ℕ) (clash : Clash) : Type 0 where
   pub block : Block
   pub is : open_after h job ≡ Some block
@@ -65,6 +65,7 @@ pub record MustClash (programs : ℕ → Program) (committed : Content) (h : His
   pub was : clash.then ≡ kept_of old
   pub now : clash.now ≡ kept_of new
   pub differ : new ≢ old
+  pub apart : clash.now ≢ clash.then
   pub turns : ℕ
   pub again : (n : ℕ) → turns ≤ n
       → (go (programs job) n (suc (length early)) block.before (desk_of block.since committed)).log ≡ early ++ (asks.Access a, replies.Answer new) ∷ []
