@@ -5,7 +5,8 @@
 // its blocks run alone (`AsAlone`), and that a commit clashed because it had to (`MustClash`). `specs/Rules.antt` says the same of any rule for
 // what a SERIAL commit is told, this system's among them (`Exactly`), so that wrong ones can be refuted.
 //
-// `laws` has the laws, which have nothing to do, and `serial_blocks` gives the blocks of a history.
+// `specs/Laws.antt` has the laws of every run of many jobs (`IsSerial`, `ClashesMust`). The functions of `laws` have nothing to do: their contracts
+// are the laws. `serial_blocks` gives the blocks of a history. `proofs/Examples.antt` has a transfer, a write skew and a phantom.
 #![tactic(auto)]
 
 mod blocks;
