@@ -1,0 +1,43 @@
+-- What holds of every run of many jobs.
+use Rattle.std.specs.Prelude.{◌≡◌, ℕ, List, ◌∷◌, ◌++◌, Some, None, length, replicate}
+use Rattle.mj_ask.specs.Started.{Started}
+use Rattle.mj_ask.specs.declared.clash.Clash.{Clash}
+use Rattle.mj_ast.specs.Syntax.{Routine}
+use Rattle.mj_semantics.specs.Outcome.{Ended}
+use Rattle.mj_semantics.specs.Job.{next}
+use Rattle.mj_store.specs.Questions.{Content}
+use Rattle.mj_dev.specs.Shelves.{Shelf}
+use Rattle.mj_jobs.specs.Rows.{Row, row_at}
+use Rattle.mj_sys.specs.Shared.{Shared}
+use Rattle.mj_sys.specs.Opening.{opening_of}
+use Rattle.mj_sys.specs.History.{History, state_of}
+use Rattle.mj_core.specs.Runs.{IsRun, start_in}
+use Rattle.mj_serial.specs.Programs.{Program}
+use Rattle.mj_serial.specs.Serial.{AsAlone, MustClash}
+use Rattle.mj_serial.specs.Rules.{clashes_at}
+
+-- the program of a job that has a row: the private run of these routines from its start. A job without a row asks nothing
+abbrev pub program_in : List Routine → List Row → ℕ → Program
+program_in image rows job n replies = elim (row_at rows job) [ None ↦ Ended | Some row ↦ next image (start_in job row.start) n replies ]
+
+-- no job has a transaction open, and each has a place for one
+abbrev pub NoneIsOpen : Shared → Type 0
+NoneIsOpen s = s.transactions ≡ replicate (length s.rows) None
+
+-- so it is at the opening of a system
+abbrev pub OpensSo : Type 0
+OpensSo = (globals : Content) (shelves : List Shelf) (starts : List Started) → NoneIsOpen (opening_of globals shelves starts)
+
+-- Every run is as its blocks run alone: for all routines, all openings and all histories. The programs are those of the rows that the history leaves,
+-- each of which has the start that it began with
+abbrev pub IsSerial : Type 0
+IsSerial =
+    (image : List Routine) (opening : Shared) (history : History) → NoneIsOpen opening → IsRun image opening history
+    → AsAlone (program_in image (state_of opening history).rows) opening.globals (state_of opening history).globals history
+
+-- In every run, a commit clashes only where it must
+abbrev pub ClashesMust : Type 0
+ClashesMust =
+    (image : List Routine) (opening : Shared) (history later : History) (job : ℕ) (clash : Clash) → NoneIsOpen opening
+    → IsRun image opening (history ++ clashes_at job clash ∷ later)
+    → MustClash (program_in image (state_of opening (history ++ clashes_at job clash ∷ later)).rows) (state_of opening history).globals history job clash

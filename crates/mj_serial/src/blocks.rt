@@ -1,0 +1,234 @@
+// The blocks of a history.
+
+ghost use Rattle.std.specs.Prelude.{◌≡◌, ◌<◌, ◌++◌, ◌∷◌, ℕ, suc, map, Some, None, length, slice_index_or, slice_set, IfOk, OnOk};
+ghost use Rattle.mj_sys.specs.History.{History};
+ghost use Rattle.mj_serial.specs.Blocks.{blocks_of, entry_of};
+ghost use Rattle.mj_serial.specs.Shown.{Shown, shown, shown_after, shown_done, shown_from, with_entry, shown_single};
+
+use crate::entries::entry_of;
+use mj_ask::{Ask, Kind, Reply};
+use mj_sys::Event;
+use mj_txlog::Entry;
+use std::alloc::{AllocError, Global};
+use std::marker::Model;
+use std::mem::replace;
+
+/// A committed transaction, or a single access outside any.
+#[derive(Drop)]
+pub struct Block {
+    /// the job whose it is
+    pub job: u32,
+    /// whether it is a SERIAL transaction
+    pub serial: bool,
+    /// the place in the history of the event where it begins, from 0: that of the transaction's `begin`, or of the access
+    pub place: usize,
+    /// its accesses with their answers, in order
+    pub accesses: Vec<Entry>,
+}
+
+impl Model for Block {
+    ghost use Rattle.mj_serial.specs.Shown.{Shown};
+
+    ghost Value = { Shown };
+
+    ghost view = { λ b. record { job = b.job; serial = b.serial; place = b.place; accesses = b.accesses.items } };
+}
+
+/// The blocks of a history, in the order of their commits: each transaction that was committed, at the place of its commit, and each access
+/// outside a transaction. What was rolled back, clashed or is open isn't there, nor is an access that passed a limit or changed a local name. It
+/// looks at each event once, and has a place for each job up to the one with the greatest number.
+pub fn serial_blocks(alloc: Global, history: &[Event]) -> Result<Vec<Block>, AllocError>
+    ensures { IfOk result (λ blocks. blocks.items ≡ map shown (blocks_of history.now)) }
+{
+    let mut table = Vec::new(alloc);
+    let mut done = Vec::new(alloc);
+    let scanned = scan(alloc, &mut table, &mut done, history);
+    drop(table);
+    match scanned {
+        Ok(()) => Ok(done),
+        Err(refused) => {
+            drop(done);
+            Err(refused)
+        }
+    }
+}
+
+// The scan: what each job has open, by its number, and the blocks that are over.
+fn scan(
+    alloc: Global,
+    table: &mut Vec<Option<Block>>,
+    done: &mut Vec<Block>,
+    history: &[Event],
+) -> Result<(), AllocError>
+    ensures { OnOk result (done.new.items ≡ done.old.items ++ shown_from 0 (λ job. slice_index_or table.old.items job None) history.now) }
+{
+    for (place, event) in history.iter().enumerate() {
+        look(alloc, table, done, place, event)?;
+    }
+    Ok(())
+}
+
+// One event of it.
+fn look(
+    alloc: Global,
+    table: &mut Vec<Option<Block>>,
+    done: &mut Vec<Block>,
+    place: usize,
+    event: &Event,
+) -> Result<(), AllocError>
+    ensures { OnOk result ((h : History) → done.new.items ++ shown_from (suc place) (λ job. slice_index_or table.new.items job None) h ≡ done.old.items ++ shown_from place (λ job. slice_index_or table.old.items job None) (event.now ∷ h)) }
+{
+    let job = event.job as usize;
+    widen(table, job)?;
+    let stood = take_out(table, job);
+    let (after, block) = step(alloc, stood, place, event)?;
+    put_back(table, job, after);
+    match block {
+        None => Ok(()),
+        Some(block) => {
+            done.push(block)?;
+            Ok(())
+        }
+    }
+}
+
+// There is a place for the job.
+fn widen(table: &mut Vec<Option<Block>>, job: usize) -> Result<(), AllocError>
+    ensures room { OnOk result (job < length table.new.items) }
+    ensures same { (j : ℕ) → slice_index_or table.new.items j None ≡ slice_index_or table.old.items j None }
+{
+    while table.len() <= job {
+        table.push(None)?;
+    }
+    Ok(())
+}
+
+// What the job has open is taken out of its place.
+fn take_out(table: &mut Vec<Option<Block>>, job: usize) -> Option<Block>
+    requires { job < length table.old.items }
+    ensures taken { result ≡ slice_index_or table.old.items job None }
+    ensures left { table.new.items ≡ slice_set table.old.items job None }
+{
+    table[job].take()
+}
+
+// The job has this open, or nothing.
+fn put_back(table: &mut Vec<Option<Block>>, job: usize, block: Option<Block>)
+    requires { job < length table.old.items }
+    ensures { table.new.items ≡ slice_set table.old.items job block }
+{
+    drop(replace(&mut table[job], block));
+}
+
+// What a job has open after an event, and the block that is over with it.
+fn step(
+    alloc: Global,
+    stood: Option<Block>,
+    place: usize,
+    event: &Event,
+) -> Result<(Option<Block>, Option<Block>), AllocError>
+    ensures after { IfOk result (λ r. r.0 ≡ shown_after event.now.job place stood event.now.ask event.now.reply) }
+    ensures done { IfOk result (λ r. r.1 ≡ shown_done event.now.job place stood event.now.ask event.now.reply) }
+{
+    match stood {
+        None => outside(alloc, place, event),
+        Some(block) => within(alloc, block, event),
+    }
+}
+
+// The same of a job that has no transaction open.
+fn outside(
+    alloc: Global,
+    place: usize,
+    event: &Event,
+) -> Result<(Option<Block>, Option<Block>), AllocError>
+    ensures after { IfOk result (λ r. r.0 ≡ shown_after event.now.job place None event.now.ask event.now.reply) }
+    ensures done { IfOk result (λ r. r.1 ≡ shown_done event.now.job place None event.now.ask event.now.reply) }
+{
+    match &event.ask {
+        Ask::Begin(kind) => {
+            let block = Block {
+                job: event.job,
+                serial: *kind == Kind::Serial,
+                place,
+                accesses: Vec::new(alloc),
+            };
+            Ok((Some(block), None))
+        }
+        Ask::Access(_) => {
+            let entry = entry_of(alloc, &event.ask, &event.reply)?;
+            Ok((None, single(alloc, event.job, place, entry)?))
+        }
+        _ => Ok((None, None)),
+    }
+}
+
+// A single access as a block.
+fn single(
+    alloc: Global,
+    job: u32,
+    place: usize,
+    entry: Option<Entry>,
+) -> Result<Option<Block>, AllocError>
+    ensures { IfOk result (λ block. block ≡ shown_single job place entry) }
+{
+    match entry {
+        None => Ok(None),
+        Some(entry) => {
+            let mut accesses = Vec::new(alloc);
+            accesses.push(entry)?;
+            Ok(Some(Block {
+                job,
+                serial: false,
+                place,
+                accesses,
+            }))
+        }
+    }
+}
+
+// The same of a job that has this transaction open.
+fn within(
+    alloc: Global,
+    block: Block,
+    event: &Event,
+) -> Result<(Option<Block>, Option<Block>), AllocError>
+    ensures after { (place : ℕ) → IfOk result (λ r. r.0 ≡ shown_after event.now.job place (Some block) event.now.ask event.now.reply) }
+    ensures done { (place : ℕ) → IfOk result (λ r. r.1 ≡ shown_done event.now.job place (Some block) event.now.ask event.now.reply) }
+{
+    match &event.ask {
+        Ask::Commit => match &event.reply {
+            Reply::Done => Ok((None, Some(block))),
+            _ => {
+                drop(block);
+                Ok((None, None))
+            }
+        },
+        Ask::Rollback | Ask::Halt(_) => {
+            drop(block);
+            Ok((None, None))
+        }
+        _ => longer(alloc, block, event),
+    }
+}
+
+// The transaction with the access that the event is, if it is one.
+fn longer(
+    alloc: Global,
+    mut block: Block,
+    event: &Event,
+) -> Result<(Option<Block>, Option<Block>), AllocError>
+    ensures { IfOk result (λ r. r ≡ (Some (with_entry block (entry_of event.now.ask event.now.reply)), None)) }
+{
+    match entry_of(alloc, &event.ask, &event.reply) {
+        Ok(None) => Ok((Some(block), None)),
+        Ok(Some(entry)) => {
+            block.accesses.push(entry)?;
+            Ok((Some(block), None))
+        }
+        Err(refused) => {
+            drop(block);
+            Err(refused)
+        }
+    }
+}
