@@ -1,1 +1,2 @@
 pub mod Ported
+pub mod Named

@@ -31,6 +31,10 @@ untouched reads_file writes_file lines = record {
   given = [];
 }
 
+-- nothing was asked of the device yet, and it has no lines but those of a file
+abbrev pub IsUntouched : Ported → Type 0
+IsUntouched p = p ≡ untouched p.reads_file p.writes_file []
+
 -- some call failed
 abbrev pub after_failure : Ported → Ported
 after_failure old = record old { failures = old.failures + 1 }

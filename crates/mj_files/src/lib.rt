@@ -3,11 +3,17 @@
 // A port is one of three kinds. Its lines were given to it, as those of standard input are; or they are those of a file, which is read as a whole
 // when the port begins; or what is written to it goes to a file, which is made then. It fails where the file system refuses a call, and at a line
 // longer than a text; it keeps the contract of `mj_dev::Device` over any file system.
+//
+// A word names a device of a file (`read_device`), and a run's pool holds the principal devices and those that words name (`pool_of`). `whole` reads
+// all bytes of a reader.
 #![tactic(auto)]
 
 mod bytes;
+mod devices;
 mod port;
 #[cfg(test)]
 mod tests;
 
+pub use bytes::{Trouble, whole};
+pub use devices::{Named, Side, pool_of, read_device};
 pub use port::Port;

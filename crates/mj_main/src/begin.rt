@@ -1,12 +1,16 @@
 // What a run begins with: the starts, the devices, the steps.
 
+ghost use Rattle.std.specs.Prelude.{◌≡◌, IfOk};
+ghost use Rattle.mj_files.specs.Named.{names_of, with_principals, with_devices};
+ghost use Rattle.mj_jobs.specs.Rows.{rows_limit};
+
 use crate::files::file_bytes;
 use crate::stop::Stop;
 use mj_ask::{Entry, Start};
-use mj_dev::{Memory, Pool};
+use mj_dev::Pool;
+use mj_files::{Named, Port, pool_of, read_device};
 use mj_jobs::ROWS_LIMIT;
 use mj_steps::{Step, StepsError};
-use mj_text::Text;
 use std::alloc::Global;
 use std::rt::Files;
 
@@ -27,19 +31,29 @@ pub fn starts<'a>(alloc: Global, words: &[&'a str]) -> Result<Vec<Start>, Stop<'
     Ok(starts)
 }
 
-/// A principal device without input for each of the jobs that there may be.
-pub fn principals<'a>(alloc: Global) -> Result<Pool<Memory>, Stop<'a>> {
-    let name = Text::from_number(alloc, 0);
-    let mut pool = Pool::new(alloc);
-    for _ in 0..ROWS_LIMIT {
-        if pool
-            .add(&name, Memory::new(alloc, Vec::new(alloc)))
-            .is_err()
-        {
+/// The devices that these words name, in order. The first that names none is bad.
+pub fn devices<'a>(alloc: Global, words: &[&'a str]) -> Result<Vec<Named<'a>>, Stop<'a>> {
+    let mut devices = Vec::new(alloc);
+    for word in words {
+        let Some(device) = read_device(alloc, *word)? else {
+            return Err(Stop::Value(*word));
+        };
+        if devices.push(device).is_err() {
             return Err(Stop::Memory);
         }
     }
-    Ok(pool)
+    Ok(devices)
+}
+
+/// A principal device for each of the jobs that there may be, of which the first gives the lines of this input, and these devices.
+pub fn pool<'a, R: Files + AllocGlobal + Copy + Drop>(
+    rt: R,
+    input: Vec<u8>,
+    devices: &[Named<'_>],
+) -> Result<Pool<Port<R>>, Stop<'a>>
+    ensures { IfOk result (λ pool. pool ≡ with_devices (names_of devices.now) (with_principals rows_limit)) }
+{
+    Ok(pool_of(rt.alloc(), rt, ROWS_LIMIT as u32, input, devices)?)
 }
 
 /// The steps of a file, if one is named.

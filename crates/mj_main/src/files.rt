@@ -1,13 +1,13 @@
 // Files, and the names of the routines in them.
 
+ghost use Rattle.std.specs.Prelude.{◌≡◌, IfOk, IfSome};
+
 use crate::stop::Stop;
+use mj_files::Trouble;
 use std::alloc::{AllocError, Global};
-use std::fs::File;
+use std::fs::{self, File};
 use std::io::{ErrorKind, Read};
 use std::rt::Files;
-
-/// The most reads after which a file must have ended.
-const READS_LIMIT: u64 = 1_000_000_000;
 
 /// The bytes of a file.
 pub fn file_bytes<'a, R: Files + AllocGlobal>(rt: &R, file: &'a str) -> Result<Vec<u8>, Stop<'a>> {
@@ -18,26 +18,31 @@ pub fn file_bytes<'a, R: Files + AllocGlobal>(rt: &R, file: &'a str) -> Result<V
     }
 }
 
-/// All bytes of a reader, which messages call by this name.
-pub fn whole<'a, R: Read>(
-    alloc: Global,
-    reader: &mut R,
-    name: &'a str,
-) -> Result<Vec<u8>, Stop<'a>> {
-    let mut bytes = Vec::new(alloc);
-    let mut part = [0u8; 4096];
-    for _ in 0..READS_LIMIT {
-        match reader.read(&mut part) {
-            Ok(0) => return Ok(bytes),
-            Ok(count) => bytes.extend_from_slice(&part[..count])?,
-            Err(error) if error.kind() == ErrorKind::Interrupted => {}
-            Err(_) => return Err(Stop::File(name)),
-        }
+/// Writes these bytes to a file, in the place of what stands there.
+pub fn write_file<'a, R: Files + AllocGlobal>(
+    rt: &R,
+    file: &'a str,
+    bytes: &[u8],
+) -> Result<(), Stop<'a>> {
+    match fs::write(rt, file, bytes) {
+        Ok(()) => Ok(()),
+        Err(error) if error.kind() == ErrorKind::OutOfMemory => Err(Stop::Memory),
+        Err(_) => Err(Stop::File(file)),
     }
-    Err(Stop::File(name))
 }
 
-/// What the name of a file says before its last point. A leading point isn't one.
+/// All bytes of a reader, which messages call by this name.
+pub fn whole<'a, R: Read>(alloc: Global, reader: &mut R, name: &'a str) -> Result<Vec<u8>, Stop<'a>>
+    ensures { IfOk result (λ bytes. IfSome (R.remaining reader.old) (λ known. bytes.items ≡ known)) }
+{
+    match mj_files::whole(alloc, reader) {
+        Ok(bytes) => Ok(bytes),
+        Err(Trouble::Memory) => Err(Stop::Memory),
+        Err(Trouble::Failed) => Err(Stop::File(name)),
+    }
+}
+
+// What the name of a file says before its last point. A leading point isn't one.
 fn stem(file: &str) -> &str {
     let name = match file.rsplit_once('/') {
         Some((_, name)) => name,

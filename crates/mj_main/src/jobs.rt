@@ -9,7 +9,7 @@ ghost use Rattle.mj_dev.specs.Shelves.{principal};
 
 use mj_ask::Ask;
 use mj_core::{Core, Refusal, Seen};
-use mj_dev::Memory;
+use mj_dev::Device;
 use mj_gfile::{put_name, put_text};
 use mj_globs::Globals;
 use mj_many::{put_idle, put_part, put_wait};
@@ -21,13 +21,13 @@ use std::alloc::{AllocError, Global};
 /// The most steps that are made where no file says them.
 const STEPS_LIMIT: usize = 1_000_000;
 
-/// Jobs over a core, whose devices are in memory.
+/// Jobs over a core.
 #[derive(Drop)]
-pub struct Jobs<O: Opening> {
-    pub core: Core<Memory, O>,
+pub struct Jobs<D: Device, O: Opening> {
+    pub core: Core<D, O>,
 }
 
-impl<O: Opening> Stepped for Jobs<O> {
+impl<D: Device, O: Opening> Stepped for Jobs<D, O> {
     ghost count = { λ jobs. length (state_of O.opening jobs.core.history).rows };
 
     // what a step comes to isn't said of jobs yet
@@ -49,7 +49,7 @@ impl<O: Opening> Stepped for Jobs<O> {
     }
 }
 
-impl<O: Opening> Jobs<O> {
+impl<D: Device, O: Opening> Jobs<D, O> {
     /// Makes these steps; or where there are none, steps the jobs in turn.
     pub fn go(&mut self, steps: Option<&[Step]>) -> Ending {
         match steps {

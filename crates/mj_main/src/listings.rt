@@ -3,12 +3,10 @@
 ghost use Rattle.std.specs.Prelude.{◌≡◌, true, IfOk};
 ghost use Rattle.mj_sys.specs.Shared.{are_global};
 
-use crate::files::file_bytes;
+use crate::files::{file_bytes, write_file};
 use crate::stop::Stop;
 use mj_gfile::ReadError;
 use mj_globs::Globals;
-use std::fs;
-use std::io::ErrorKind;
 use std::rt::Files;
 
 /// The globals that a file lists: none where no file is named.
@@ -39,9 +37,5 @@ pub fn save<'a, R: Files + AllocGlobal>(
         return Ok(());
     };
     let listing = mj_gfile::write(rt.alloc(), globals)?;
-    match fs::write(rt, file, listing.as_slice()) {
-        Ok(()) => Ok(()),
-        Err(error) if error.kind() == ErrorKind::OutOfMemory => Err(Stop::Memory),
-        Err(_) => Err(Stop::File(file)),
-    }
+    write_file(rt, file, &listing)
 }

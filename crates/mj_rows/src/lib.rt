@@ -13,6 +13,8 @@ mod functions;
 #[cfg(test)]
 mod grammar;
 #[cfg(test)]
+mod input;
+#[cfg(test)]
 mod listings;
 #[cfg(test)]
 mod locals;
@@ -27,11 +29,17 @@ mod reading;
 #[cfg(test)]
 mod runs;
 #[cfg(test)]
+mod serial;
+#[cfg(test)]
 mod sharing;
 #[cfg(test)]
 mod steps;
 #[cfg(test)]
 mod texts;
+#[cfg(test)]
+mod traces;
+#[cfg(test)]
+mod transactions;
 #[cfg(test)]
 mod trees;
 #[cfg(test)]

@@ -1,6 +1,6 @@
 -- The blocks of a history as a caller sees them, without the logs.
 use Rattle.std.specs.Prelude.{ℕ, suc, ◌==◌, Bool, false, List, [], ◌∷◌, ◌++◌, Option, Some, None, if◌then◌else◌}
-use Rattle.std.specs.List.{cons_option}
+use Rattle.std.specs.List.{cons_option, slice_index_or}
 use Rattle.mj_ask.specs.declared.ask.Ask.{Ask}
 use Rattle.mj_ask.specs.declared.ask.Ask.TheVariants as asks
 use Rattle.mj_ask.specs.declared.ask.Reply.{Reply}
@@ -57,3 +57,7 @@ abbrev pub shown_from : ℕ → (ℕ → Option Shown) → History → List Show
 shown_from place w [] = []
 shown_from place w (e ∷ h) = cons_option (shown_done e.job place (w e.job) e.ask e.reply)
     (shown_from (suc place) (λ job. if e.job == job then shown_after e.job place (w e.job) e.ask e.reply else w job) h)
+
+-- the blocks that are over, and those that the rest of a history has, where a table has what each job has open
+abbrev pub all_from : List Shown → List (Option Shown) → ℕ → History → List Shown
+all_from done table place h = done ++ shown_from place (λ job. slice_index_or table job None) h

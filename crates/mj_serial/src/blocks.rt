@@ -1,9 +1,9 @@
 // The blocks of a history.
 
-ghost use Rattle.std.specs.Prelude.{◌≡◌, ◌<◌, ◌++◌, ◌∷◌, ℕ, suc, map, Some, None, length, slice_index_or, slice_set, IfOk, OnOk};
+ghost use Rattle.std.specs.Prelude.{◌≡◌, ◌<◌, ◌∷◌, ℕ, suc, map, Some, None, length, slice_index_or, slice_set, IfOk, OnOk};
 ghost use Rattle.mj_sys.specs.History.{History};
 ghost use Rattle.mj_serial.specs.Blocks.{blocks_of, entry_of};
-ghost use Rattle.mj_serial.specs.Shown.{Shown, shown, shown_after, shown_done, shown_from, with_entry, shown_single};
+ghost use Rattle.mj_serial.specs.Shown.{Shown, shown, shown_after, shown_done, with_entry, shown_single, all_from};
 
 use crate::entries::entry_of;
 use mj_ask::{Ask, Kind, Reply};
@@ -60,7 +60,7 @@ fn scan(
     done: &mut Vec<Block>,
     history: &[Event],
 ) -> Result<(), AllocError>
-    ensures { OnOk result (done.new.items ≡ done.old.items ++ shown_from 0 (λ job. slice_index_or table.old.items job None) history.now) }
+    ensures { OnOk result (done.new.items ≡ all_from done.old.items table.old.items 0 history.now) }
 {
     for (place, event) in history.iter().enumerate() {
         look(alloc, table, done, place, event)?;
@@ -76,7 +76,7 @@ fn look(
     place: usize,
     event: &Event,
 ) -> Result<(), AllocError>
-    ensures { OnOk result ((h : History) → done.new.items ++ shown_from (suc place) (λ job. slice_index_or table.new.items job None) h ≡ done.old.items ++ shown_from place (λ job. slice_index_or table.old.items job None) (event.now ∷ h)) }
+    ensures { OnOk result ((h : History) → all_from done.new.items table.new.items (suc place) h ≡ all_from done.old.items table.old.items place (event.now ∷ h)) }
 {
     let job = event.job as usize;
     widen(table, job)?;

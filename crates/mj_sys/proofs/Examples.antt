@@ -4,6 +4,7 @@ use Rattle.std.specs.Prelude.{ℤ, pos, codes}
 use Rattle.mj_subs.specs.Name.{Name}
 use Rattle.mj_store.specs.declared.access.Access.TheVariants as accesses
 use Rattle.mj_store.specs.declared.access.Answer.TheVariants as answers
+use Rattle.mj_store.specs.declared.store.Direction.TheVariants as directions
 use Rattle.mj_ask.specs.Started.{Started}
 use Rattle.mj_ask.specs.declared.ask.Ask.{Ask}
 use Rattle.mj_ask.specs.declared.ask.Ask.TheVariants as asks
@@ -316,3 +317,75 @@ begun_once = refl
 -- a change of a local name is no access of the transaction
 local_is_no_access : then begun 1 (set x (codes "1")) ≡ begun
 local_is_no_access = refl
+
+-- both jobs add one to ^A, which was 5, each in a SERIAL transaction, and both read it first: the second clashes, and adds to 6 then
+abbrev five : Shared
+five = then first 1 (set a (codes "5"))
+
+abbrev serial : ℕ → Shared → Shared
+serial job s = then s job (asks.Begin kinds.Serial)
+
+abbrev both_read : Shared
+both_read = then (serial 2 (then (serial 1 five) 1 (get a))) 2 (get a)
+
+abbrev added : Shared
+added = then (then (then both_read 1 (set a (codes "6"))) 1 asks.Commit) 2 (set a (codes "6"))
+
+added_clashes : told added 2 asks.Commit false ≡ Some (replies.Clash (record { place = 1; then = kepts.Text (codes "5"); now = kepts.Text (codes "6") }))
+added_clashes = refl
+
+abbrev again_read : Shared
+again_read = serial 2 (then added 2 asks.Commit)
+
+again_six : told again_read 2 (get a) false ≡ is (Some (codes "6"))
+again_six = refl
+
+abbrev added_twice : Shared
+added_twice = then (then (then again_read 2 (get a)) 2 (set a (codes "7"))) 2 asks.Commit
+
+added_twice_done : served (then (then again_read 2 (get a)) 2 (set a (codes "7"))) 2 asks.Commit false ≡ Some (replies.Done, added_twice)
+added_twice_done = refl
+
+seven : told added_twice 1 (get a) false ≡ is (Some (codes "7"))
+seven = refl
+
+-- write skew: each job reads what the other writes. The second clashes at its first access
+abbrev skew : Shared
+skew = then (then (then (then (then (serial 2 (then (serial 1 (then (then first 1 (set a (codes "0"))) 1 (set b (codes "0")))) 1 (get b))) 2 (get a)) 1 (set a (codes "1"))) 1 asks.Commit) 2 (set b (codes "1"))) 1 (get a)
+
+skew_clashes : told skew 2 asks.Commit false ≡ Some (replies.Clash (record { place = 1; then = kepts.Text (codes "0"); now = kepts.Text (codes "1") }))
+skew_clashes = refl
+
+-- a subscript that wasn't there when the transaction looked: what is kept of one that is a number is the number
+abbrev from_none : Name
+from_none = global (codes "A") ([] ∷ [])
+
+abbrev order : Name → Ask
+order n = asks.Access (accesses.Order n directions.Forward)
+
+abbrev phantom : Shared
+phantom = then (then (serial 1 first) 1 (order from_none)) 2 (set a1 (codes "x"))
+
+phantom_clashes : told phantom 1 asks.Commit false ≡ Some (replies.Clash (record { place = 1; then = kepts.Nothing; now = kepts.Number (pos 1) }))
+phantom_clashes = refl
+
+-- the place of an access counts the changes and the unlocks before it
+abbrev counted : Shared
+counted = then (then (then (serial 1 first) 1 (set b (codes "1"))) 1 (unlock a)) 1 (get a)
+
+counted_clashes : told (then counted 2 (set a (codes "2"))) 1 asks.Commit false ≡ Some (replies.Clash (record { place = 3; then = kepts.Nothing; now = kepts.Text (codes "2") }))
+counted_clashes = refl
+
+-- a read of what the transaction itself wrote before can't clash, and one from before it wrote can
+abbrev own_first : Shared
+own_first = then (then (then (serial 1 first) 1 (set a (codes "1"))) 1 (get a)) 2 (set a (codes "2"))
+
+own_first_done : told own_first 1 asks.Commit false ≡ Some replies.Done
+own_first_done = refl
+
+-- its own kill hides what others give below
+abbrev killed : Shared
+killed = then (then (serial 1 (then first 2 (set a1 (codes "1")))) 1 (asks.Access (accesses.Kill a))) 2 (set a1 (codes "2"))
+
+killed_hides : told killed 1 (order from_none) false ≡ Some (replies.Answer (answers.Order None))
+killed_hides = refl

@@ -3,3 +3,4 @@ pub mod Alike
 pub mod Sorted
 pub mod Looks
 pub mod Same
+pub mod Laid

@@ -2,18 +2,21 @@
 //
 // A contract sees a transaction as what it is: SERIAL or not, the numbered list of its accesses with their answers, and the names of the
 // locks that were gained since it began. A read in it is answered on the globals as they are at that moment, with the transaction's own
-// writes before the read made on them. Nothing of that is done to the globals themselves, and they aren't copied: where no own write meets
-// what the read depends on, the globals answer, and else a small store that holds only what stands below the name that the read depends on.
+// writes before the read made on them. Nothing of that is done to the globals themselves, and they aren't copied. What the own writes leave is
+// kept beside the list, as what lies over the globals (`specs/Laid.antt`): from it and the globals most reads are answered, without a look at the list. Only where
+// own writes are among what `$ORDER`, `$QUERY` or a subtree depends on, a small store is made of what stands there, and answers.
 #![tactic(auto)]
 
 mod answers;
 mod entry;
 mod log;
 mod names;
+mod overlay;
 mod sight;
 
 pub use answers::{copy_of, copy_of_nodes, is_same};
 pub use entry::{Entry, Unlock, is_refused, is_write};
 pub use log::{ACCESS_LIMIT, TxLog};
 pub use names::NameList;
+pub use overlay::Overlay;
 pub use sight::answer;

@@ -8,6 +8,7 @@ ghost use Rattle.mj_txlog.specs.Accesses.{is_write, is_full, reply_in, seen, wit
 use crate::answers::copy_of;
 use crate::entry::{Entry, Unlock, is_refused, is_write};
 use crate::names::copies_of;
+use crate::overlay::Overlay;
 use crate::sight::answer;
 use mj_globs::Globals;
 use mj_store::{Access, Answer};
@@ -24,22 +25,26 @@ pub struct TxLog {
     alloc: Global,
     serial: bool,
     entries: Vec<Entry>,
+    // the writes among them, by what they leave
+    own: Overlay,
     gained: Vec<Name>,
 }
 
 impl Model for TxLog {
     ghost use Rattle.std.specs.Prelude.{◌≤◌, length};
     ghost use Rattle.mj_txlog.specs.Accesses.{Transaction};
+    ghost use Rattle.mj_txlog.specs.Laid.{IsLaid};
 
     ghost Value = { Transaction };
 
     ghost view = { λ t. record { serial = t.serial; accesses = t.entries.items; gained = t.gained.items } };
 
-    ghost invariant = { λ t. length t.entries.items ≤ 65536 };
+    ghost invariant = { λ t. (length t.entries.items ≤ 65536) × IsLaid t.own t.entries.items };
 }
 
 impl TxLog {
     /// A transaction that has just begun.
+    #[tactic(auto, using(crate::proofs::Laid::none_laid))]
     pub fn new(alloc: Global, serial: bool) -> TxLog
         ensures { result ≡ record { serial = serial; accesses = []; gained = [] } }
     {
@@ -47,6 +52,7 @@ impl TxLog {
             alloc,
             serial,
             entries: Vec::new(alloc),
+            own: Overlay::new(alloc),
             gained: Vec::new(alloc),
         }
     }
@@ -115,7 +121,7 @@ impl TxLog {
         ensures again { IfOk result (λ x. x.0.1 ≡ answer_of read.now (seen globals.now self.now.accesses)) }
         ensures kept { IfOk result (λ x. x.1 ≡ answer_of read.now (seen globals.now self.now.accesses)) }
     {
-        let answer = answer(self.alloc, globals, &self.entries, read)?;
+        let answer = answer(self.alloc, globals, &self.entries, &self.own, read)?;
         match twice(self.alloc, &answer) {
             Ok((again, kept)) => Ok(((answer, again), kept)),
             Err(refused) => {
@@ -146,14 +152,28 @@ impl TxLog {
         }
     }
 
-    // Appends an entry.
+    // Appends an entry, and makes the write that it is, if it is one.
+    #[tactic(auto, using(crate::proofs::Laid::more_laid))]
     fn push(&mut self, entry: Entry) -> Result<(), AllocError>
         requires { is_full self.old ≡ false }
         ensures appended { OnOk result (self.new ≡ with_entry self.old entry) }
         ensures unchanged { OnErr result (self.new ≡ self.old) }
     {
-        self.entries.push(entry)?;
-        Ok(())
+        let room = self.entries.reserve(1);
+        let made = match room {
+            Ok(()) => self.own.add(&entry),
+            Err(refused) => Err(refused),
+        };
+        match made {
+            Ok(()) => {
+                self.entries.push_reserved(entry);
+                Ok(())
+            }
+            Err(refused) => {
+                drop(entry);
+                Err(refused)
+            }
+        }
     }
 
     /// Makes a write in the transaction, as `see` does, for which no globals are wanted.
@@ -182,7 +202,7 @@ impl TxLog {
             drop(unlock);
             return Ok(Answer::Limit);
         }
-        self.entries.push(Entry::Unlock(unlock))?;
+        self.push(Entry::Unlock(unlock))?;
         Ok(Answer::Done)
     }
 

@@ -1,8 +1,9 @@
-// Lists of names.
+// Lists of names, and names with other subscripts.
 
 ghost use Rattle.std.specs.Prelude.{◌≡◌, ◌++◌, ◌∷◌, [], if◌then◌else◌, is_ok, IfOk};
+ghost use Rattle.mj_store.specs.Questions.{with_subscripts};
 
-use mj_subs::Name;
+use mj_subs::{Name, Sub, Subs};
 use std::alloc::{AllocError, Global};
 use std::marker::Model;
 
@@ -65,4 +66,30 @@ pub(crate) fn copies_of(alloc: Global, names: &[Name]) -> Result<Vec<Name>, Allo
         copies.push(name.try_clone()?)?;
     }
     Ok(copies)
+}
+
+// The name with these subscripts, of which there are no more than a name can have, in place of its own.
+pub(crate) fn cut_to(alloc: Global, name: &Name, list: &[Sub]) -> Result<Name, AllocError>
+    ensures { IfOk result (λ n. n ≡ with_subscripts name.now list.now) }
+{
+    let word = name.word().try_clone()?;
+    let subscripts = subs_of(alloc, list)?;
+    Ok(if name.is_global() {
+        Name::global(word, subscripts)
+    } else {
+        Name::local(word, subscripts)
+    })
+}
+
+// A list of these subscripts, of which there are no more than a list can have.
+fn subs_of(alloc: Global, list: &[Sub]) -> Result<Subs, AllocError>
+    ensures { IfOk result (λ s. s ≡ list.now) }
+{
+    let mut subs = Subs::new(alloc);
+    for sub in list {
+        if subs.push(sub.try_clone()?).is_err() {
+            return Err(AllocError);
+        }
+    }
+    Ok(subs)
 }

@@ -4,35 +4,40 @@
 // `$ORDER`, and on the whole word for `$QUERY`.
 
 ghost use Rattle.std.specs.Prelude.{◌≡◌, ◌∷◌, [], false, cond, IfOk, OnOk};
-ghost use Rattle.std.specs.List.{list_any};
-ghost use Rattle.mj_store.specs.Questions.{with_subscripts, value_at};
+ghost use Rattle.mj_store.specs.Questions.{value_at};
 ghost use Rattle.mj_store.specs.Runs.{answer_of};
 ghost use Rattle.mj_txlog.specs.Accesses.{is_write, seen, front_of};
 ghost use Rattle.mj_txlog.specs.Sight.{reach_of, meets, AreAlike};
+ghost use Rattle.mj_txlog.specs.Laid.{IsLaid};
 
 use crate::entry::{Entry, is_write};
+use crate::names::cut_to;
+use crate::overlay::{Overlay, data_either};
 use mj_globs::Globals;
 use mj_store::{Access, Answer, Store, perform};
-use mj_subs::{Name, Sub, Subs};
+use mj_subs::{Name, Sub};
 use mj_text::Text;
 use std::alloc::{AllocError, Global};
 
-/// The answer to a read on the globals as they are, with the writes among these accesses made on them.
+/// The answer to a read on the globals as they are, with the writes among these accesses made on them. The overlay has these writes: only where
+/// they are among what the read depends on each of them is looked at.
 pub fn answer(
     alloc: Global,
     globals: &Globals,
     earlier: &[Entry],
+    own: &Overlay,
     read: &Access,
 ) -> Result<Answer, AllocError>
-    requires { is_write read.now ≡ false }
+    requires read { is_write read.now ≡ false }
+    requires own { IsLaid own.now earlier.now }
     ensures { IfOk result (λ a. a ≡ answer_of read.now (seen globals.now earlier.now)) }
 {
     match read {
         Access::Value(name) => {
-            let text = seen_text(alloc, globals, earlier, name)?;
+            let text = own.text(globals, name)?;
             Ok(Answer::Value(text))
         }
-        _ => seen_answer(alloc, globals, earlier, read),
+        _ => seen_answer(alloc, globals, earlier, own, read),
     }
 }
 
@@ -41,20 +46,52 @@ fn seen_answer(
     alloc: Global,
     globals: &Globals,
     earlier: &[Entry],
+    own: &Overlay,
     read: &Access,
 ) -> Result<Answer, AllocError>
-    requires { is_write read.now ≡ false }
+    requires read { is_write read.now ≡ false }
+    requires own { IsLaid own.now earlier.now }
     ensures { IfOk result (λ a. a ≡ answer_of read.now (seen globals.now earlier.now)) }
 {
     let reach = reach_of(alloc, read)?;
-    let answer = answer_at(alloc, globals, earlier, read, &reach);
+    let answer = answer_at(alloc, globals, earlier, own, read, &reach);
     drop(reach);
     answer
 }
 
-// The same where that name is at hand. The name is given to `drop` above, and the store here: a function at whose ends either is dropped
+// The same where that name is at hand. The name is given to `drop` above, and the store below: a function at whose ends either is dropped
 // by itself takes a long proof.
 fn answer_at(
+    alloc: Global,
+    globals: &Globals,
+    earlier: &[Entry],
+    own: &Overlay,
+    read: &Access,
+    reach: &Name,
+) -> Result<Answer, AllocError>
+    requires read { is_write read.now ≡ false }
+    requires own { IsLaid own.now earlier.now }
+    requires reach { reach.now ≡ reach_of read.now }
+    ensures { IfOk result (λ a. a ≡ answer_of read.now (seen globals.now earlier.now)) }
+{
+    globals.rises();
+    if own.went(reach)? {
+        return look(own.over(), read);
+    }
+    if own.is_clear(reach) {
+        return look(globals, read);
+    }
+    match read {
+        Access::Data(name) if !own.is_any_gone(name) => Ok(Answer::Data(data_either(
+            own.over().data(name),
+            globals.data(name),
+        ))),
+        _ => answer_among(alloc, globals, earlier, read, reach),
+    }
+}
+
+// The answer to a read where own writes are among what it depends on.
+fn answer_among(
     alloc: Global,
     globals: &Globals,
     earlier: &[Entry],
@@ -66,10 +103,6 @@ fn answer_at(
     ensures { IfOk result (λ a. a ≡ answer_of read.now (seen globals.now earlier.now)) }
 {
     globals.rises();
-    if !is_any_meeting(earlier, reach) {
-        let found = look(globals, read)?;
-        return Ok(found);
-    }
     let below = seen_below(alloc, globals, earlier, reach)?;
     below.rises();
     let found = look(&below, read);
@@ -116,39 +149,6 @@ fn front_of<'a>(list: &'a [Sub]) -> &'a [Sub]
     }
 }
 
-// The name with these subscripts, of which there are no more than a name can have, in place of its own.
-fn cut_to(alloc: Global, name: &Name, list: &[Sub]) -> Result<Name, AllocError>
-    ensures { IfOk result (λ n. n ≡ with_subscripts name.now list.now) }
-{
-    let word = name.word().try_clone()?;
-    let subscripts = subs_of(alloc, list)?;
-    Ok(if name.is_global() {
-        Name::global(word, subscripts)
-    } else {
-        Name::local(word, subscripts)
-    })
-}
-
-// A list of these subscripts, of which there are no more than a list can have.
-fn subs_of(alloc: Global, list: &[Sub]) -> Result<Subs, AllocError>
-    ensures { IfOk result (λ s. s ≡ list.now) }
-{
-    let mut subs = Subs::new(alloc);
-    for sub in list {
-        if subs.push(sub.try_clone()?).is_err() {
-            return Err(AllocError);
-        }
-    }
-    Ok(subs)
-}
-
-// Whether a write among the accesses is to the name, to one above it or to one below it.
-fn is_any_meeting(entries: &[Entry], name: &Name) -> bool
-    ensures { result ≡ list_any (meets name.now) entries.now }
-{
-    entries.iter().any(|entry| meets(entry, name))
-}
-
 // Whether it is a write to the name, to one above it or to one below it.
 fn meets(entry: &Entry, name: &Name) -> bool
     ensures { result ≡ meets name.now entry.now }
@@ -156,36 +156,6 @@ fn meets(entry: &Entry, name: &Name) -> bool
     match entry {
         Entry::Access(access, _) => is_write(access) && access.name().overlap(name),
         Entry::Unlock(_) => false,
-    }
-}
-
-// The text of a name, with the writes made.
-fn seen_text(
-    alloc: Global,
-    globals: &Globals,
-    entries: &[Entry],
-    name: &Name,
-) -> Result<Option<Text>, AllocError>
-    ensures { IfOk result (λ text. text ≡ value_at (seen globals.now entries.now) name.now) }
-{
-    let mut alone = text_alone(alloc, globals, name)?;
-    for entry in entries {
-        write_over(&mut alone, entry, name)?;
-    }
-    text_of(&alone, name)
-}
-
-// A store that has the text that the name has, and no other.
-fn text_alone(alloc: Global, globals: &Globals, name: &Name) -> Result<Globals, AllocError>
-    ensures { IfOk result (λ alone. value_at alone name.now ≡ value_at globals.now name.now) }
-{
-    let mut alone = Globals::new(alloc);
-    match globals.value(name) {
-        None => Ok(alone),
-        Some(text) => {
-            alone.set(name, text)?;
-            Ok(alone)
-        }
     }
 }
 

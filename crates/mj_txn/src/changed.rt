@@ -3,11 +3,12 @@
 ghost use Rattle.std.specs.Prelude.{◌≡◌, ◌<◌, ◌≤◌, [], false, length, IfOk, MatchOption};
 ghost use Rattle.mj_store.specs.Runs.{answer_of};
 ghost use Rattle.mj_txlog.specs.Accesses.{is_write, seen};
+ghost use Rattle.mj_txlog.specs.Laid.{IsLaid};
 ghost use Rattle.mj_txn.specs.Commits.{HoldsNow, Hold, IsOther, DiffersNow, Differs};
 
 use mj_globs::Globals;
 use mj_store::{Access, Answer};
-use mj_txlog::{ACCESS_LIMIT, Entry, answer, copy_of, is_same, is_write};
+use mj_txlog::{ACCESS_LIMIT, Entry, Overlay, answer, copy_of, is_same, is_write};
 use std::alloc::{AllocError, Global};
 
 /// A read that has another answer now.
@@ -31,9 +32,26 @@ pub fn first_changed(
     requires { length entries.now ≤ ACCESS_LIMIT }
     ensures { IfOk result (λ r. MatchOption r (Hold globals.now [] entries.now) (λ c. Differs globals.now entries.now c.place c.then c.now)) }
 {
+    let mut own = Overlay::new(alloc);
+    let found = first_over(alloc, globals, entries, &mut own);
+    drop(own);
+    found
+}
+
+// The same, where no own writes lie over the globals yet.
+fn first_over(
+    alloc: Global,
+    globals: &Globals,
+    entries: &[Entry],
+    own: &mut Overlay,
+) -> Result<Option<Changed>, AllocError>
+    requires limit { length entries.now ≤ ACCESS_LIMIT }
+    requires none { IsLaid own.old [] }
+    ensures { IfOk result (λ r. MatchOption r (Hold globals.now [] entries.now) (λ c. Differs globals.now entries.now c.place c.then c.now)) }
+{
     for (i, entry) in entries.iter().enumerate() {
-        match changed_now(alloc, globals, &entries[..i], entry) {
-            Ok(None) => {}
+        match changed_now(alloc, globals, &entries[..i], own, entry) {
+            Ok(None) => own.add(entry)?,
             Ok(Some(changed)) => return Ok(Some(changed)),
             Err(refused) => return Err(refused),
         }
@@ -46,9 +64,11 @@ fn changed_now(
     alloc: Global,
     globals: &Globals,
     earlier: &[Entry],
+    own: &Overlay,
     entry: &Entry,
 ) -> Result<Option<Changed>, AllocError>
-    requires { length earlier.now < ACCESS_LIMIT }
+    requires room { length earlier.now < ACCESS_LIMIT }
+    requires own { IsLaid own.now earlier.now }
     ensures { IfOk result (λ r. MatchOption r (HoldsNow globals.now earlier.now entry.now) (λ c. DiffersNow globals.now earlier.now entry.now c.place c.then c.now)) }
 {
     match entry {
@@ -56,7 +76,7 @@ fn changed_now(
             if is_write(access) {
                 return Ok(None);
             }
-            changed_read(alloc, globals, earlier, access, then)
+            changed_read(alloc, globals, earlier, own, access, then)
         }
         Entry::Unlock(_) => Ok(None),
     }
@@ -67,14 +87,16 @@ fn changed_read(
     alloc: Global,
     globals: &Globals,
     earlier: &[Entry],
+    own: &Overlay,
     read: &Access,
     then: &Answer,
 ) -> Result<Option<Changed>, AllocError>
     requires room { length earlier.now < ACCESS_LIMIT }
+    requires own { IsLaid own.now earlier.now }
     requires read { is_write read.now ≡ false }
     ensures { IfOk result (λ r. MatchOption r (answer_of read.now (seen globals.now earlier.now) ≡ then.now) (λ c. IsOther globals.now earlier.now read.now then.now c.place c.then c.now)) }
 {
-    let now = answer(alloc, globals, earlier, read)?;
+    let now = answer(alloc, globals, earlier, own, read)?;
     if is_same(&now, then) {
         return Ok(None);
     }

@@ -7,6 +7,9 @@ pub const VERSION: &str = "0.1.0, proved by rattle-kit-13f logic dac8208d650f15b
 pub const EXAMPLES: &str = "\
 Examples:
   mj run --start ^R R.m
+  mj run --stdin --start ^HELLO HELLO.m < NAMES
+  mj run --device LIST=in:NAMES --device OUT=out:LETTER --start ^R R.m
+  mj run --trace TRACE --globals DATA --save DATA --start ^R R.m
   mj step --steps STEPS --start A^R --start B^R R.m
   mj check R.m _TOOL.m
 
@@ -22,13 +25,18 @@ pub const RUN_EXAMPLE: &str = "\
 Examples, from the label LATER of the routine in R.m, two jobs, and one over globals that are kept in a file:
   mj run --start LATER^R R.m _TOOL.m
   mj run --start A^R --start B^R R.m
-  mj run --start ^R --globals DATA --save DATA R.m";
+  mj run --start ^R --globals DATA --save DATA R.m
+
+A job that reads the lines of standard input, one that opens LIST and OUT, and one whose events are written down, a line each:
+  mj run --stdin --start ^HELLO HELLO.m < NAMES
+  mj run --device LIST=in:NAMES --device OUT=out:LETTER --start ^R R.m
+  mj run --trace TRACE --start ^R R.m";
 
 /// What stands below the help of `step`.
 pub const STEP_EXAMPLE: &str = "\
 Examples, by the steps in a file (`1`, `2` and `1 late` are such lines), and in turn:
   mj step --steps STEPS --start A^R --start B^R R.m
-  mj step --why --start A^R --start B^R R.m";
+  mj step --why --trace TRACE --start A^R --start B^R R.m";
 
 /// What stands below the help of `check`.
 pub const CHECK_EXAMPLE: &str = "\

@@ -1,0 +1,94 @@
+// The blocks of a history of two jobs.
+
+use mj_ask::{Ask, Clash, Kept, Kind, Reply};
+use mj_serial::{Block, serial_blocks};
+use mj_store::{Access, Answer};
+use mj_subs::{Name, Subs};
+use mj_sys::Event;
+use mj_text::{Failure, Text};
+use std::alloc::Global;
+use std::test::Fail;
+
+// A single access, the transaction of job 1, and the second of job 2; what clashed and what was rolled back isn't there.
+#[test]
+fn blocks_come_in_the_order_of_their_commits(rt: HostRuntime) -> Result<(), Fail> {
+    assert_eq!(rt;
+        blocks(rt.alloc())?,
+        [
+            Some((2, false, 2, 1)),
+            Some((1, true, 0, 2)),
+            Some((2, false, 8, 2)),
+            None
+        ]
+    );
+    Ok(())
+}
+
+// The first four blocks: the job, whether it is SERIAL, where it begins, and how many accesses it has.
+fn blocks(alloc: Global) -> Result<[Option<(u32, bool, usize, usize)>; 4], Failure> {
+    let mut history = Vec::new(alloc);
+    first(alloc, &mut history)?;
+    second(alloc, &mut history)?;
+    let blocks = serial_blocks(alloc, &history)?;
+    Ok([
+        shown(&blocks, 0),
+        shown(&blocks, 1),
+        shown(&blocks, 2),
+        shown(&blocks, 3),
+    ])
+}
+
+fn shown(blocks: &[Block], at: usize) -> Option<(u32, bool, usize, usize)> {
+    let block = blocks.get(at)?;
+    Some((block.job, block.serial, block.place, block.accesses.len()))
+}
+
+// Job 1 reads and sets ^A in a transaction, while job 2 sets ^B outside one.
+fn first(alloc: Global, history: &mut Vec<Event>) -> Result<(), Failure> {
+    add(history, 1, Ask::Begin(Kind::Serial), Reply::Done)?;
+    read(alloc, history, 1)?;
+    set(alloc, history, 2, "B")?;
+    set(alloc, history, 1, "A")?;
+    add(history, 2, Ask::Begin(Kind::Serial), Reply::Done)?;
+    add(history, 1, Ask::Commit, Reply::Done)
+}
+
+// Job 2 clashes, and begins again; job 1 rolls back.
+fn second(alloc: Global, history: &mut Vec<Event>) -> Result<(), Failure> {
+    read(alloc, history, 2)?;
+    add(history, 2, Ask::Commit, Reply::Clash(clash(alloc)?))?;
+    add(history, 2, Ask::Begin(Kind::Plain), Reply::Done)?;
+    set(alloc, history, 2, "A")?;
+    add(history, 2, Ask::UnlockAll, Reply::Done)?;
+    add(history, 2, Ask::Commit, Reply::Done)?;
+    add(history, 1, Ask::Begin(Kind::Serial), Reply::Done)?;
+    set(alloc, history, 1, "A")?;
+    add(history, 1, Ask::Rollback, Reply::Done)
+}
+
+fn clash(alloc: Global) -> Result<Clash, Failure> {
+    Ok(Clash {
+        place: 1,
+        then: Kept::Nothing,
+        now: Kept::Text(Text::from(alloc, b"1")?),
+    })
+}
+
+fn read(alloc: Global, history: &mut Vec<Event>, job: u32) -> Result<(), Failure> {
+    let ask = Ask::Access(Access::Value(name(alloc, "A")?));
+    add(history, job, ask, Reply::Answer(Answer::Value(None)))
+}
+
+fn set(alloc: Global, history: &mut Vec<Event>, job: u32, word: &str) -> Result<(), Failure> {
+    let ask = Ask::Access(Access::Set(name(alloc, word)?, Text::from(alloc, b"1")?));
+    add(history, job, ask, Reply::Answer(Answer::Done))
+}
+
+fn name(alloc: Global, word: &str) -> Result<Name, Failure> {
+    Ok(Name::global(Text::from(alloc, word.as_bytes())?, Subs::new(alloc)))
+}
+
+fn add(history: &mut Vec<Event>, job: u32, ask: Ask, reply: Reply) -> Result<(), Failure> {
+    history.push(Event { job, ask, reply })?;
+    Ok(())
+}

@@ -1,0 +1,8 @@
+use Rattle.std.proofs.Common.{[], take}
+use Rattle.mj_txlog.specs.Laid.{IsLaid}
+use Rattle.mj_txn.specs.Commits.{Hold}
+use Rattle.mj_txn.proofs.changed.first_over.Given as goal
+
+-- the reads so far hold, and the writes so far lie over the globals
+abbrev pub invariant-loop-i : goal.invariant-loop-i
+invariant-loop-i l = Hold l.globals [] (take l.i l.entries) × IsLaid l.own (take l.i l.entries)
