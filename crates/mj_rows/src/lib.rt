@@ -33,6 +33,8 @@ mod steps;
 #[cfg(test)]
 mod texts;
 #[cfg(test)]
+mod transactions;
+#[cfg(test)]
 mod trees;
 #[cfg(test)]
 mod words;
