@@ -1,8 +1,9 @@
 -- The code of each piece has at each place the operands and the FORs that it needs there, and leads to places of its own.
 use Rattle.std.proofs.Common.{◌≡◌, ℕ, ◌+◌, ◌-◌, ◌≤◌, List, [], ◌∷◌, ◌++◌, length, map, Option, Some, None, refl, sym, ap, ◌∙◌, subst, arith, length-append}
 use Rattle.std.specs.Prelude.{⊤}
-use Rattle.mj_ast.specs.Syntax.{Expr, Chain, Tails, Done, Then, Operand, Literal, Value, Intrinsic, Unary, Group, Call, Select, Variable, Var, Exprs, No, More, Choices, Last, Before, Destination, Plain, Pieces, Targets, One, Several, Assignment, Killed, Gone, Spared, Merged, Output, Shown, Format, Coded, Called, Jumped, Started, Locked, Opened, Received, Input, Prompted, Arranged, Into, Range, Single, Endless, UpTo, Renewed, Fresh, Kept, Command, Set, Write, Halt, Hang, Job, Lock, OpenDevice, UseDevice, CloseDevice, Read, Kill, Merge, If, Else, For, Forever, Do, Goto, Quit, New, Step, Line, About}
+use Rattle.mj_ast.specs.Syntax.{Expr, Chain, Tails, Done, Then, Operand, Literal, Value, Intrinsic, Unary, Group, Call, Select, Variable, Var, Exprs, No, More, Choices, Last, Before, Destination, Plain, Pieces, Targets, One, Several, Assignment, Killed, Gone, Spared, Merged, Output, Shown, Format, Coded, Called, Jumped, Started, Locked, Opened, Received, Input, Prompted, Arranged, Into, Range, Single, Endless, UpTo, Renewed, Fresh, Kept, Restartable, Command, Set, Write, Halt, Hang, Job, Lock, OpenDevice, UseDevice, CloseDevice, Read, Kill, Merge, If, Else, For, Forever, Do, Goto, Quit, New, TStart, TCommit, TRestart, TRollback, Break, Step, Line, About}
 use Rattle.mj_semantics.specs.Lines.{Here, next_line, entry_of}
+use Rattle.mj_semantics.specs.Transactions.{listed_by, serial_by}
 use Rattle.mj_pcode.specs.declared.instr.Depth.{Depth}
 use Rattle.mj_pcode.specs.declared.instr.Reference.{Reference}
 use Rattle.mj_pcode.specs.declared.instr.Wait.{Wait}
@@ -15,7 +16,7 @@ use Rattle.mj_pcode.specs.declared.instr.Instr.{Instr}
 use Rattle.mj_pcode.specs.declared.instr.Instr.TheVariants as instr
 use Rattle.mj_pcode.specs.Machine.{given_count, wait_size, counts}
 use Rattle.mj_pcode.specs.Checked.{Footing, footing, bare, behind, Holds, Fits}
-use Rattle.mj_asm.specs.Code.{count, reference, expr_code, tails_code, operand_code, choices_code, subscripts_code, exprs_code, size, sizes, destination_code, destinations_code, store_code, stores_code, targets_code, assignment_code, assignments_code, names_code, kill_code, kills_code, kill_all_code, merge_code, merges_code, format_code, output_code, outputs_code, renewed_code, news_code, new_all_code, actuals_code, shape_of, timeout_code, wait_of, hang_code, hangs_code, start_code, jobs_code, name_code, variables_code, lock_variables, taking_code, lock_code, locks_code, lock_all_code, open_code, opens_code, use_code, uses_code, close_code, closes_code, taken_code, receive_code, input_code, inputs_code, code_if, call_code, calls_code, do_code, jump_code, jumps_code, quit_code, ifs_code, if_code, else_code, range_code, ranges_code, body_code, for_code, command_code, and_then, obey_code, steps_code, line_code, lines_code}
+use Rattle.mj_asm.specs.Code.{count, reference, expr_code, tails_code, operand_code, choices_code, subscripts_code, exprs_code, size, sizes, destination_code, destinations_code, store_code, stores_code, targets_code, assignment_code, assignments_code, names_code, kill_code, kills_code, kill_all_code, merge_code, merges_code, format_code, output_code, outputs_code, renewed_code, news_code, new_all_code, actuals_code, shape_of, timeout_code, wait_of, hang_code, hangs_code, start_code, jobs_code, name_code, variables_code, lock_variables, taking_code, lock_code, locks_code, lock_all_code, open_code, opens_code, use_code, uses_code, close_code, closes_code, taken_code, receive_code, input_code, inputs_code, code_if, call_code, calls_code, do_code, jump_code, jumps_code, quit_code, ifs_code, if_code, else_code, range_code, ranges_code, body_code, for_code, restores_by, begin_code, transaction_code, commit_code, restart_code, command_code, and_then, obey_code, steps_code, line_code, lines_code}
 
 -- what the place behind code holds
 abbrev pub reached : Footing → List Instr → Footing
@@ -583,6 +584,26 @@ module _ (fs : List Footing) where
     quit_goes None closes pc = one pc (at 0) (at 0) instr.Quit refl (refl, tt)
     quit_goes (Some close) closes pc = one pc (at 0) (at 0) (instr.Jump close) refl (tt, closes)
 
+    transaction_goes : (a : Option Restartable) → Passes (λ pc. transaction_code a)
+    transaction_goes a pc =
+        let cn = names_code (listed_by a) in
+        let p = pc + length cn in
+        let e : p + 1 + length (instr.MarkRestart ∷ []) ≡ p + 2 = omega arith in
+        both pc (at 0) (at 0) (at 0) cn (begin_code (restores_by a) (serial_by a)) (names_go (listed_by a) pc)
+        (led p (at 0) (at 0) (at 0) (instr.StartTransaction (restores_by a) (serial_by a)) (instr.MarkRestart ∷ []) refl (λ l h. (refl, subst (λ q. Holds fs q (at 0)) e h))
+        (one (p + 1) (at 0) (at 0) instr.MarkRestart refl (refl, tt)))
+
+    again_goes : Passes (λ pc. instr.BeginAgain ∷ [])
+    again_goes pc = one pc (at 0) (at 0) instr.BeginAgain refl (tt, tt)
+
+    commit_goes : Passes (λ pc. commit_code)
+    commit_goes pc =
+        let e : pc + 1 + length (instr.BeginAgain ∷ []) ≡ pc + 2 = omega arith in
+        led pc (at 0) (at 0) (at 0) instr.Commit (instr.BeginAgain ∷ []) refl (λ l h. (tt, subst (λ q. Holds fs q (at 0)) e h)) (again_goes (pc + 1))
+
+    restart_goes : Passes (λ pc. restart_code)
+    restart_goes pc = on pc (at 0) (at 0) (at 0) instr.GiveBack (instr.BeginAgain ∷ []) refl (tt, tt) (again_goes (pc + 1))
+
     command_goes : (here : Here) (out : Option ℕ) (command : Command) → Closes out → Passes (λ pc. command_code here pc out command)
     command_goes here out (Set list) closes pc = assignments_go list pc
     command_goes here out (Write list) closes pc = outputs_go list pc
@@ -604,6 +625,11 @@ module _ (fs : List Footing) where
     command_goes here out (Goto list) closes pc = jumps_go here list pc
     command_goes here out Quit closes pc = quit_goes out closes pc
     command_goes here out (New list) closes pc = new_all_goes list pc
+    command_goes here out (TStart a) closes pc = transaction_goes a pc
+    command_goes here out TCommit closes pc = commit_goes pc
+    command_goes here out TRestart closes pc = restart_goes pc
+    command_goes here out TRollback closes pc = one pc (at 0) (at 0) instr.RollBack refl (tt, tt)
+    command_goes here out Break closes pc = one pc (at 0) (at 0) (instr.Discard 0) refl (omega arith, tt)
 
     -- the rest of a line behind conditions
     ifs_go : (es : List Expr) (rest : ℕ → List Instr) → Passes rest → Passes (λ pc. ifs_code pc es rest)
@@ -719,6 +745,11 @@ module _ (fs : List Footing) where
   obey_goes here (Goto list) c rest goes k out closes pc = then_goes here c (Goto list) rest goes k out closes pc
   obey_goes here Quit c rest goes k out closes pc = then_goes here c Quit rest goes k out closes pc
   obey_goes here (New list) c rest goes k out closes pc = then_goes here c (New list) rest goes k out closes pc
+  obey_goes here (TStart a) c rest goes k out closes pc = then_goes here c (TStart a) rest goes k out closes pc
+  obey_goes here TCommit c rest goes k out closes pc = then_goes here c TCommit rest goes k out closes pc
+  obey_goes here TRestart c rest goes k out closes pc = then_goes here c TRestart rest goes k out closes pc
+  obey_goes here TRollback c rest goes k out closes pc = then_goes here c TRollback rest goes k out closes pc
+  obey_goes here Break c rest goes k out closes pc = then_goes here c Break rest goes k out closes pc
 
   steps_go : (here : Here) (steps : List Step) → Rest (λ p o. steps_code here p o steps)
   steps_go here [] k out closes pc = nothing pc (footing 0 k)

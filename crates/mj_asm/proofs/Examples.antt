@@ -2,9 +2,11 @@
 use Rattle.std.specs.Prelude.{◌≡◌, refl, ℕ, true, false, List, [], ◌∷◌, Some, None, codes}
 use Rattle.mj_ast.specs.declared.expr.Scope.TheVariants.{Local, Global}
 use Rattle.mj_ast.specs.declared.routine.Mark.TheVariants.{NewLine}
-use Rattle.mj_ast.specs.Syntax.{Expr, Chain, Done, Then, Operand, Literal, Value, Var, No, More, One, Several, Plain, Pieces, Gone, Spared, Kill, Merge, Set, Write, Shown, Format, Halt, If, Else, For, Forever, Single, UpTo, Do, Goto, Quit, New, Fresh, Kept, Line}
+use Rattle.mj_ast.specs.declared.routine.Serial.TheVariants.{Bare}
+use Rattle.mj_ast.specs.Syntax.{Expr, Chain, Done, Then, Operand, Literal, Value, Var, No, More, One, Several, Plain, Pieces, Gone, Spared, Kill, Merge, Set, Write, Shown, Format, Halt, If, Else, For, Forever, Single, UpTo, Do, Goto, Quit, New, Fresh, Kept, Listed, TStart, TCommit, TRestart, TRollback, Break, Line}
 use Rattle.mj_oper.specs.declared.op.Op.TheVariants.{Add, Is}
 use Rattle.mj_oper.specs.declared.op.TruthOp.TheVariants.{Equal}
+use Rattle.mj_pcode.specs.declared.instr.Restores.TheVariants as restores
 use Rattle.mj_pcode.specs.declared.instr.Instr.TheVariants as instr
 use Rattle.mj_asm.specs.Code.{lines_code, starts}
 use Rattle.mj_semantics.specs.Lines.{Here}
@@ -174,3 +176,28 @@ flow_instructions : lines_code 0 here flow
     ∷ instr.Line (record { line = 4; level = 1; next = 39 })
     ∷ instr.Load (record { scope = Local; word = codes "X"; count = 0 }) ∷ instr.Unless 39 ∷ instr.Quit ∷ []
 flow_instructions = refl
+
+--  TSTART (X,Y):SERIAL TSTART  TCOMMIT:1  TRESTART  TROLLBACK  BREAK
+abbrev transactions : List Line
+transactions =
+    record {
+      label = None;
+      formals = [];
+      level = 1;
+      steps =
+          record { condition = None; command = TStart (Some (record { restored = Listed (codes "X" ∷ codes "Y" ∷ []); serial = Bare })) }
+          ∷ record { condition = None; command = TStart None }
+          ∷ record { condition = Some (digit 49); command = TCommit }
+          ∷ record { condition = None; command = TRestart }
+          ∷ record { condition = None; command = TRollback }
+          ∷ record { condition = None; command = Break } ∷ [];
+    }
+    ∷ []
+
+transactions_instructions : lines_code 0 here transactions
+    ≡ instr.Line (record { line = 1; level = 1; next = 15 })
+    ∷ instr.Discard 0 ∷ instr.Discard 0 ∷ instr.StartTransaction (restores.Only (codes "X" ∷ codes "Y" ∷ [])) true ∷ instr.MarkRestart
+    ∷ instr.StartTransaction restores.Never false ∷ instr.MarkRestart
+    ∷ instr.Push (49 ∷ []) ∷ instr.Unless 11 ∷ instr.Commit ∷ instr.BeginAgain
+    ∷ instr.GiveBack ∷ instr.BeginAgain ∷ instr.RollBack ∷ instr.Discard 0 ∷ []
+transactions_instructions = refl

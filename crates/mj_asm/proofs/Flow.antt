@@ -7,13 +7,14 @@ use Rattle.mj_num.specs.Number.{reading}
 use Rattle.mj_oper.specs.Operators.{truth_value}
 use Rattle.mj_ask.specs.declared.entry.Entry.{Entry}
 use Rattle.mj_ast.specs.declared.expr.Scope.TheVariants.{Local}
-use Rattle.mj_ast.specs.Syntax.{Expr, Variable, Called, Jumped, Range, Single, Endless, UpTo, Command, Set, Write, Halt, Hang, Job, Lock, OpenDevice, UseDevice, CloseDevice, Read, Kill, Merge, If, Else, For, Forever, Do, Goto, Quit, New, Step, Line, Routine}
+use Rattle.mj_ast.specs.Syntax.{Expr, Variable, Called, Jumped, Range, Single, Endless, UpTo, Command, Set, Write, Halt, Hang, Job, Lock, OpenDevice, UseDevice, CloseDevice, Read, Kill, Merge, If, Else, For, Forever, Do, Goto, Quit, New, TStart, TCommit, TRestart, TRollback, Break, Step, Line, Routine}
 use Rattle.mj_semantics.specs.State.{State, Place, level_of, may_go, set_test, pushed, popped}
 use Rattle.mj_semantics.specs.Outcome.{Timed, turn, look, change, given, fault, end}
 use Rattle.mj_semantics.specs.Lines.{Here, place_at, next_line, entry_of, entered, levels_of}
 use Rattle.mj_semantics.specs.Evaluation.{when, name_of, ev_actuals, ev_local}
 use Rattle.mj_semantics.specs.Points.{Leave, Ways, Once as PassesOnce, Always as PassesAlways, By as PassesBy, Points, AtLine, Called as CalledAt, Jumped as JumpedAt, Pass}
-use Rattle.mj_semantics.specs.Commands.{again, if_test, ifs, if_all, ranges, calls, block, do_all, jumps, quit_frame, assign_all, output_all, hang_all, start_all, lock_all, open_all, use_all, close_all, read_all, kill_all, merge_all, new_all, obey, obey_all}
+use Rattle.mj_semantics.specs.Commands.{again, if_test, ifs, if_all, ranges, calls, block, do_all, jumps, quit_frame, assign_all, output_all, hang_all, start_all, lock_all, open_all, use_all, close_all, read_all, kill_all, merge_all, new_all, start_transaction, commit_transaction, restart_transaction, obey, obey_all}
+use Rattle.mj_semantics.specs.Transactions.{roll_back}
 use Rattle.mj_semantics.specs.Job.{points_of, jump, in_pass}
 use Rattle.mj_pcode.specs.declared.instr.Span.TheVariants as span
 use Rattle.mj_pcode.specs.declared.instr.Instr.{Instr}
@@ -28,6 +29,7 @@ use Rattle.mj_asm.specs.Correct.{Agree, next_of, DoLines, IsFound, LeadAlike}
 use Rattle.mj_asm.specs.Laws.{after_one, Leaves, same_place, at_found, call_follows}
 use Rattle.mj_pcode.proofs.Agree.{if_at, look_at, change_at, deeper_at, quit_frame_at, given_at, store_at, if_test_at, again_at, first_at, reading_two_at}
 use Rattle.mj_asm.proofs.Follows.{HasAt, has_front, has_back, from, acts, one, moved, expr_follows, onto, operands_are, rest_below, assigns_follow, outputs_follow, hangs_follow, jobs_follow, lock_all_follows, opens_follow, uses_follow, closes_follow, inputs_follow, kill_all_follows, merges_follow, new_all_follows, actuals_follow, local_follows, when_follows}
+use Rattle.mj_asm.proofs.Transactions.{transaction_follows, commit_follows, restart_follows, roll_back_follows, break_follows}
 
 -- what holds for so many turns holds for fewer
 pub fewer_turns : (b m : ℕ) (f g : Timed) → m ≤ b → Agree b f g → Agree m f g
@@ -56,7 +58,7 @@ module _ (image : List Routine) (units : List unit.Unit) (alike : LeadAlike imag
       let levels : levels_of image to.0.routine ≡ levels_in f.unit = ap (levels_of image) is.1 ∙ is.8 in
       let place : place_at to.0 ≡ place_in f.unit f.line = same_place to.0.routine f.unit.name to.0.line f.line is.1 is.2 in
       let line : Timed = turn (points_of image d (AtLine to.0 leave)) in
-      let there : Timed = λ m. exec units n (at_unit f.at below) f.head.start [] in
+      let there : Timed = exec units n (at_unit f.at below) f.head.start [] in
       let whole : Place → ℕ → List ℕ → Timed → Timed = λ p l ls rest. look (λ s. if may_go s p l ls then rest else fault NoLine) in
       look_at n (λ s. if may_go s (place_in f.unit f.line) f.head.level (levels_in f.unit) then there else fault NoLine)
       (λ s. if may_go s (place_in f.unit f.line) f.head.level (levels_in f.unit) then line else fault NoLine)
@@ -106,7 +108,7 @@ module _ (image : List Routine) (units : List unit.Unit) (alike : LeadAlike imag
     -- the frame below goes on behind a DO
     goes_on : (b n pc : ℕ) (loops : List Loop) (rest : Timed) → n ≤ b → Agree b (there loops pc) rest → Leaves units n (suspended (in_frame loops) pc) (λ v. change popped rest)
     goes_on b n pc loops rest le h v =
-        record { by = λ m le'. change_at m popped (λ q. exec units q (in_frame loops) pc []) rest (h.by m (omega arith)) }
+        record { by = λ m le'. change_at m popped (λ q. exec units q (in_frame loops) pc [] q) rest (h.by m (omega arith)) }
 
     module _ (b d : ℕ) (deep : b ≤ d) (lines : (m : ℕ) → m < b → DoLines image units m) (loops : List Loop) where
       abbrev follows_from : ℕ → Timed → Type 0
@@ -144,7 +146,7 @@ module _ (image : List Routine) (units : List unit.Unit) (alike : LeadAlike imag
       block_follows : (pc : ℕ) (rest : Timed) → slice_get code_here pc ≡ Some (instr.Block k) → follows_from (pc + 1) rest → follows_from pc (turn (block (points_of image d) here rest))
       block_follows pc rest has h =
           one units u ctx at b pc [] (instr.Block k) _ has (λ n lt.
-          let there' : Timed = λ q. exec units n (at_unit j (suspended ctx (pc + 1))) (start_of u (k + 1)) [] in
+          let there' : Timed = exec units n (at_unit j (suspended ctx (pc + 1))) (start_of u (k + 1)) [] in
           let line : Timed = turn (points_of image d (AtLine (next_line here) (λ v. change popped rest))) in
           let enters : State → State → State = λ s. pushed (place_in u k) (level_of s + 1) false (Some s.test) in
           deeper_at n (look (λ s. change (enters s) there')) (look (λ s. change (enters s) line))
@@ -191,14 +193,14 @@ module _ (image : List Routine) (units : List unit.Unit) (alike : LeadAlike imag
           expr_follows units u ctx at b (points_of image d) here e pc [] _ (has_front code_here pc ce _ has) (λ v.
           one units u ctx at b (pc + length ce) (v ∷ []) (instr.Decide target) _ back.0 (λ n lt.
           given_at n (truth_value v) _ _ (λ t q.
-          change_at n (set_test t) (if t then (λ m. exec units n ctx behind []) else (λ m. exec units n ctx target [])) (if t then ifs (points_of image d) here es line_end done else line_end)
-          (if_at n t (λ m. exec units n ctx behind []) (ifs (points_of image d) here es line_end done) (λ m. exec units n ctx target []) line_end
+          change_at n (set_test t) (if t then (exec units n ctx behind []) else (exec units n ctx target [])) (if t then ifs (points_of image d) here es line_end done else line_end)
+          (if_at n t (exec units n ctx behind []) (ifs (points_of image d) here es line_end done) (exec units n ctx target []) line_end
           ((ifs_follow es rest line_end done behind back.1 f after).by n (omega arith))
           (after.by n (omega arith))))))
 
       -- the rest of the line, where `$TEST` is so
       test_follows : (t : Bool) (i : ℕ → Instr) (rest : List Instr) (line_end done : Timed) (pc : ℕ)
-          → ((n : ℕ) → acts units u ctx at (i (pc + 1 + length rest)) pc [] n n ≡ if_test t (λ m. exec units n ctx (pc + 1 + length rest) []) (λ m. exec units n ctx (pc + 1) []) n)
+          → ((n : ℕ) → acts units u ctx at (i (pc + 1 + length rest)) pc [] n n ≡ if_test t (exec units n ctx (pc + 1 + length rest) []) (exec units n ctx (pc + 1) []) n)
           → HasAt code_here pc (i (pc + 1 + length rest) ∷ rest)
           → (follows_from (pc + 1 + length rest) line_end → follows_from (pc + 1) done)
           → follows_from (pc + length (i (pc + 1 + length rest) ∷ rest)) line_end → follows_from pc (turn (if_test t line_end done))
@@ -207,7 +209,7 @@ module _ (image : List Routine) (units : List unit.Unit) (alike : LeadAlike imag
           let len : target ≡ pc + length (i target ∷ rest) = omega arith in
           let after = moved units u ctx at b target _ [] line_end len h in
           one units u ctx at b pc [] (i target) _ has.0 (λ n lt.
-          acts_so n ∙ if_test_at n t (λ m. exec units n ctx target []) line_end (λ m. exec units n ctx (pc + 1) []) done (after.by n (omega arith)) ((f after).by n (omega arith)))
+          acts_so n ∙ if_test_at n t (exec units n ctx target []) line_end (exec units n ctx (pc + 1) []) done (after.by n (omega arith)) ((f after).by n (omega arith)))
 
       if_follows : (es : List Expr) (rest : ℕ → List Instr) (line_end done : Timed) (pc : ℕ) → HasAt code_here pc (if_code pc es rest)
           → ((p : ℕ) → HasAt code_here p (rest p) → follows_from (p + length (rest p)) line_end → follows_from p done)
@@ -233,7 +235,7 @@ module _ (image : List Routine) (units : List unit.Unit) (alike : LeadAlike imag
       kept l passes resume h = record { body = h.body; again = h.again }
 
       abbrev PassAt : ℕ → ℕ → Loop → Timed → Type 0
-      PassAt d n l after = exec units n (in_frame (l ∷ ls)) l.body [] ≡ points_of image d (Pass here (passes_of l) steps after ways) n
+      PassAt d n l after = exec units n (in_frame (l ∷ ls)) l.body [] n ≡ points_of image d (Pass here (passes_of l) steps after ways) n
 
       pass_after : (b d : ℕ) → b ≤ d → ((m : ℕ) → m < b → DoLines image units m) → (l : Loop) → Stands l → (after : Timed)
           → Agree b (there (l ∷ ls) l.resume) after → Agree b (there (l ∷ ls) close) (turn ways.line_end) → Leaves units b below ways.leave
@@ -244,7 +246,7 @@ module _ (image : List Routine) (units : List unit.Unit) (alike : LeadAlike imag
           let end = l.body + length (steps_code here l.body (Some close) steps) in
           let ended : Agree b (there (l ∷ ls) end) (turn (again (passes_of l) after pass)) =
           one units u (in_frame (l ∷ ls)) at b end [] instr.Again _ stands.again (λ n lt.
-          again_at n (passes_of l) (λ m. exec units n (in_frame (l ∷ ls)) l.resume []) after (λ m. exec units n (in_frame (l ∷ ls)) l.body []) pass
+          again_at n (passes_of l) (exec units n (in_frame (l ∷ ls)) l.resume []) after (exec units n (in_frame (l ∷ ls)) l.body []) pass
           (resumes.by n (omega arith)) (next n lt)) in
           record { by = λ n le. (follows b d deep lines (l ∷ ls) (Some close) (in_pass (passes_of l) after pass ways) l.body stands.body ended closes leaves).by n le }
 
@@ -261,7 +263,7 @@ module _ (image : List Routine) (units : List unit.Unit) (alike : LeadAlike imag
       module _ (b d : ℕ) (deep : b ≤ d) (lines : (m : ℕ) → m < b → DoLines image units m) (closes : (l : Loop) → Agree b (there (l ∷ ls) close) (turn ways.line_end)) (leaves : Leaves units b below ways.leave) where
         -- the first pass of a range, and what comes after the range
         begun : (d n : ℕ) (l : Loop) → Stands l → (after : Timed) → n < b → n < d → Agree b (there (l ∷ ls) l.resume) after
-            → exec units n (in_frame (l ∷ ls)) l.body [] ≡ points_of image d (Pass here (passes_of l) steps after ways) n
+            → exec units n (in_frame (l ∷ ls)) l.body [] n ≡ points_of image d (Pass here (passes_of l) steps after ways) n
         begun zero n l stands after lt lt' r = absurd (omega (arith, lt'))
         begun (suc d') n l stands after lt lt' r =
             (pass_follows d' n (omega arith) (λ m lt''. lines m (omega arith)) l stands after (fewer_turns b n (there (l ∷ ls) l.resume) after (omega arith) r)
@@ -285,7 +287,7 @@ module _ (image : List Routine) (units : List unit.Unit) (alike : LeadAlike imag
             moved units u (in_frame (l' ∷ ls)) at b behind (pc + length cr) [] after (sym len) (ranges_follow rs l' (pc + length cr) (kept l l'.passes l'.resume stands) (has_back code_here pc cr _ has) whole) in
             expr_follows units u c at b (points_of image d) here a pc [] _ (has_front code_here pc ca _ front) (λ v.
             one units u c at b (pc + length ca) (v ∷ []) i _ (has_back code_here pc ca _ front).0 (λ n lt.
-            store_at n l.name v (λ m. exec units n (in_frame (l' ∷ ls)) l.body []) (points_of image d (Pass here PassesOnce steps after ways)) (begun d n l' (kept l l'.passes l'.resume stands) after lt (omega arith) later)))
+            store_at n l.name v (exec units n (in_frame (l' ∷ ls)) l.body []) (points_of image d (Pass here PassesOnce steps after ways)) (begun d n l' (kept l l'.passes l'.resume stands) after lt (omega arith) later)))
         ranges_follow (Endless a a2 ∷ rs) l pc stands has e =
             let c = in_frame (l ∷ ls) in
             let ca = expr_code pc a in
@@ -306,7 +308,7 @@ module _ (image : List Routine) (units : List unit.Unit) (alike : LeadAlike imag
             let l' : Loop = with_passes l (By step None) (last + 1) in
             let later : Agree b (there (l' ∷ ls) (last + 1)) after =
             moved units u (in_frame (l' ∷ ls)) at b (last + 1) (pc + length cr) [] after (sym len) (ranges_follow rs l' (pc + length cr) (kept l l'.passes l'.resume stands) (has_back code_here pc cr _ has) whole) in
-            first_at n l.name x step None (λ m. exec units n (in_frame (l' ∷ ls)) (last + 1) []) after (λ m. exec units n (in_frame (l' ∷ ls)) l.body []) (points_of image d (Pass here (PassesBy l.name step None) steps after ways))
+            first_at n l.name x step None (exec units n (in_frame (l' ∷ ls)) (last + 1) []) after (exec units n (in_frame (l' ∷ ls)) l.body []) (points_of image d (Pass here (PassesBy l.name step None) steps after ways))
             (later.by n (omega arith)) (begun d n l' (kept l l'.passes l'.resume stands) after lt (omega arith) later)))))
         ranges_follow (UpTo a a2 a3 ∷ rs) l pc stands has e =
             let c = in_frame (l ∷ ls) in
@@ -333,7 +335,7 @@ module _ (image : List Routine) (units : List unit.Unit) (alike : LeadAlike imag
             let l' : Loop = with_passes l (By step (Some end)) (last + 1) in
             let later : Agree b (there (l' ∷ ls) (last + 1)) after =
             moved units u (in_frame (l' ∷ ls)) at b (last + 1) (pc + length cr) [] after (sym len) (ranges_follow rs l' (pc + length cr) (kept l l'.passes l'.resume stands) (has_back code_here pc cr _ has) whole) in
-            first_at n l.name x step (Some end) (λ m. exec units n (in_frame (l' ∷ ls)) (last + 1) []) after (λ m. exec units n (in_frame (l' ∷ ls)) l.body []) (points_of image d (Pass here (PassesBy l.name step (Some end)) steps after ways))
+            first_at n l.name x step (Some end) (exec units n (in_frame (l' ∷ ls)) (last + 1) []) after (exec units n (in_frame (l' ∷ ls)) l.body []) (points_of image d (Pass here (PassesBy l.name step (Some end)) steps after ways))
             (later.by n (omega arith)) (begun d n l' (kept l l'.passes l'.resume stands) after lt (omega arith) later)))))))
 
     -- where the passes of a FOR stand: what closes it, the commands, and the next pass
@@ -370,10 +372,10 @@ module _ (image : List Routine) (units : List unit.Unit) (alike : LeadAlike imag
         let len : close + length cb ≡ pc + length (cs ++ i ∷ (cr ++ cb)) = omega (arith, length-append cs (i ∷ (cr ++ cb)), length-append cr cb) in
         let behind : Agree b (there loops (close + length cb)) ways.line_end = moved units u c at b _ _ [] ways.line_end len h in
         local_follows units u c at b (points_of image d) here v i pc [] (λ x. ranges (points_of image d) here x rs steps ways) (has_front code_here pc cs _ has) back.0 (λ ss n lt many.
-        let opened : List (List ℕ) → Stack → Name → Timed = λ l st x m. exec units n (in_frame (record { name = x; passes = Once; body = close + 1; resume = first } ∷ loops)) first st in
-        ap (λ l. given (name_of Local (reference v).word l) (λ x m. exec units n (in_frame (record { name = x; passes = Once; body = close + 1; resume = first } ∷ loops)) first (drop (reference v).count (onto ss []))) n) (operands_are ss [] _ many)
-        ∙ ap (λ st. given (name_of Local (reference v).word ss) (λ x m. exec units n (in_frame (record { name = x; passes = Once; body = close + 1; resume = first } ∷ loops)) first st) n) (rest_below ss [] _ many)
-        ∙ given_at n (name_of Local (reference v).word ss) (λ x m. exec units n (in_frame (record { name = x; passes = Once; body = close + 1; resume = first } ∷ loops)) first []) (λ x. ranges (points_of image d) here x rs steps ways) (λ x ok.
+        let opened : List (List ℕ) → Stack → Name → Timed = λ l st x. exec units n (in_frame (record { name = x; passes = Once; body = close + 1; resume = first } ∷ loops)) first st in
+        ap (λ l. given (name_of Local (reference v).word l) (λ x. exec units n (in_frame (record { name = x; passes = Once; body = close + 1; resume = first } ∷ loops)) first (drop (reference v).count (onto ss []))) n) (operands_are ss [] _ many)
+        ∙ ap (λ st. given (name_of Local (reference v).word ss) (λ x. exec units n (in_frame (record { name = x; passes = Once; body = close + 1; resume = first } ∷ loops)) first st) n) (rest_below ss [] _ many)
+        ∙ given_at n (name_of Local (reference v).word ss) (λ x. exec units n (in_frame (record { name = x; passes = Once; body = close + 1; resume = first } ∷ loops)) first []) (λ x. ranges (points_of image d) here x rs steps ways) (λ x ok.
         let l : Loop = record { name = x; passes = Once; body = close + 1; resume = first } in
         (ranges_follow steps follows loops close ways b d deep lines (λ l'. closed b steps close l' loops ways.line_end has_body behind) leaves rs l first
         (body_stands steps close l refl has_body follows loops ways) (has_front code_here first cr cb back.1) refl).by n (omega arith)))
@@ -468,6 +470,21 @@ module _ (image : List Routine) (units : List unit.Unit) (alike : LeadAlike imag
     step_follows (New list) c steps f b d deep lines loops out ways pc has h quits leaves =
         rest_follows (New list) c (new_all list (obey_all (points_of image d) here steps ways)) steps f b d deep lines loops out ways pc has h quits leaves
         (λ p has' after. new_all_follows units u (in_frame loops) at b (points_of image d) here list p [] _ has' after)
+    step_follows (TStart a) c steps f b d deep lines loops out ways pc has h quits leaves =
+        rest_follows (TStart a) c (start_transaction (points_of image d) here a (obey_all (points_of image d) here steps ways)) steps f b d deep lines loops out ways pc has h quits leaves
+        (λ p has' after. transaction_follows image units u (in_frame loops) at b d deep here a p _ has' after)
+    step_follows TCommit c steps f b d deep lines loops out ways pc has h quits leaves =
+        rest_follows TCommit c (commit_transaction (points_of image d) here (obey_all (points_of image d) here steps ways)) steps f b d deep lines loops out ways pc has h quits leaves
+        (λ p has' after. commit_follows image units u (in_frame loops) at b d deep here p _ has' after)
+    step_follows TRestart c steps f b d deep lines loops out ways pc has h quits leaves =
+        rest_follows TRestart c (restart_transaction (points_of image d) here) steps f b d deep lines loops out ways pc has h quits leaves
+        (λ p has' after. restart_follows image units u (in_frame loops) at b d deep here p has')
+    step_follows TRollback c steps f b d deep lines loops out ways pc has h quits leaves =
+        rest_follows TRollback c (turn (roll_back (obey_all (points_of image d) here steps ways))) steps f b d deep lines loops out ways pc has h quits leaves
+        (λ p has' after. roll_back_follows image units u (in_frame loops) at b d deep here p _ has'.0 after)
+    step_follows Break c steps f b d deep lines loops out ways pc has h quits leaves =
+        rest_follows Break c (turn (obey_all (points_of image d) here steps ways)) steps f b d deep lines loops out ways pc has h quits leaves
+        (λ p has' after. break_follows image units u (in_frame loops) at b d deep here p _ has'.0 after)
 
     pub steps_follow : (steps : List Step) → Follows steps
     steps_follow [] b d deep lines loops out ways pc has h quits leaves = moved units u (in_frame loops) at b pc (pc + 0) [] ways.line_end (omega arith) h

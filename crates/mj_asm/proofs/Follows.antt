@@ -180,30 +180,30 @@ module _ (units : List unit.Unit) (u : unit.Unit) (ctx : Context) (there : slice
 
   -- the machine from a place on
   abbrev pub from : ℕ → Stack → Timed
-  from pc stack n = exec units n ctx pc stack
+  from pc stack n = exec units n ctx pc stack n
 
   -- one instruction, and then the machine for n turns
   abbrev pub acts : Instr → ℕ → Stack → ℕ → Timed
-  acts i pc stack n = act units u (Some i) (λ d p st m. exec units n d p st) ctx pc stack
+  acts i pc stack n = act units u (Some i) (exec units n) ctx pc stack
 
   module _ (b : ℕ) where
     -- an instruction is a turn
     pub one : (pc : ℕ) (stack : Stack) (i : Instr) (rest : Timed) → slice_get code pc ≡ Some i → ((n : ℕ) → n < b → acts i pc stack n n ≡ rest n) → Agree b (from pc stack) (turn rest)
     one pc stack i rest h k = record { by = λ n le. at n le }
       where
-        at : (n : ℕ) → n ≤ b → exec units n ctx pc stack ≡ turn rest n
+        at : (n : ℕ) → n ≤ b → exec units n ctx pc stack n ≡ turn rest n
         at zero le = refl
         at (suc m) le =
-            ap (λ o. act_in units o (λ d p st q. exec units m d p st) ctx pc stack m) there
-            ∙ ap (λ o. act units u o (λ d p st q. exec units m d p st) ctx pc stack m) h ∙ k m (omega arith)
+            ap (λ o. act_in units o (exec units m) ctx pc stack m) there
+            ∙ ap (λ o. act units u o (exec units m) ctx pc stack m) h ∙ k m (omega arith)
 
     -- from another place that is the same
     pub moved : (pc pc' : ℕ) (stack : Stack) (rest : Timed) → pc ≡ pc' → Agree b (from pc' stack) rest → Agree b (from pc stack) rest
-    moved pc pc' stack rest e h = record { by = λ n le. ap (λ p. exec units n ctx p stack) e ∙ h.by n le }
+    moved pc pc' stack rest e h = record { by = λ n le. ap (λ p. exec units n ctx p stack n) e ∙ h.by n le }
 
     -- with another stack that is the same
     pub over : (pc : ℕ) (stack stack' : Stack) (rest : Timed) → stack ≡ stack' → Agree b (from pc stack') rest → Agree b (from pc stack) rest
-    over pc stack stack' rest e h = record { by = λ n le. ap (λ st. exec units n ctx pc st) e ∙ h.by n le }
+    over pc stack stack' rest e h = record { by = λ n le. ap (λ st. exec units n ctx pc st n) e ∙ h.by n le }
 
     end_of : (pc : ℕ) (is : List Instr) (i : Instr) → pc + length is + 1 ≡ pc + length (is ++ i ∷ [])
     end_of pc is i = omega (arith, length-append is (i ∷ []))
@@ -240,13 +240,13 @@ module _ (units : List unit.Unit) (u : unit.Unit) (ctx : Context) (there : slice
             let cs = subscripts_code pc v in
             let i = instr.Load (reference v) in
             name_follows v i pc stack _ (has_front code pc cs _ has) (has_back code pc cs _ has).0 (λ ss n lt many.
-            ap (λ l. given (name_of (reference v).scope (reference v).word l) (λ x. read x (λ w m. exec units n ctx (pc + length cs + 1) (w ∷ drop (reference v).count (onto ss stack)))) n) (operands_are ss stack _ many)
-            ∙ ap (λ st. given (name_of (reference v).scope (reference v).word ss) (λ x. read x (λ w m. exec units n ctx (pc + length cs + 1) (w ∷ st))) n) (rest_below ss stack _ many)
+            ap (λ l. given (name_of (reference v).scope (reference v).word l) (λ x. read x (λ w. exec units n ctx (pc + length cs + 1) (w ∷ drop (reference v).count (onto ss stack)))) n) (operands_are ss stack _ many)
+            ∙ ap (λ st. given (name_of (reference v).scope (reference v).word ss) (λ x. read x (λ w. exec units n ctx (pc + length cs + 1) (w ∷ st))) n) (rest_below ss stack _ many)
             ∙ given_at n (name_of (reference v).scope (reference v).word ss) _ _ (λ x e.
             read_at n x _ _ (λ w. (moved _ _ (w ∷ stack) (rest w) (end_of pc cs i) (k w)).by n (omega arith))))
         operand_follows (Intrinsic v) pc stack rest has k =
             one pc stack (instr.Special v) _ has.0 (λ n lt.
-            look_at n (λ s. λ m. exec units n ctx (pc + 1) (special_value v s ∷ stack)) (λ s. rest (special_value v s)) (λ s. (k (special_value v s)).by n (omega arith)))
+            look_at n (λ s. exec units n ctx (pc + 1) (special_value v s ∷ stack)) (λ s. rest (special_value v s)) (λ s. (k (special_value v s)).by n (omega arith)))
         operand_follows (Unary op x) pc stack rest has k =
             let cx = operand_code pc x in
             let i = instr.Unary op in
@@ -259,8 +259,8 @@ module _ (units : List unit.Unit) (u : unit.Unit) (ctx : Context) (there : slice
             let i = instr.Call f (count es) in
             all_follow es pc stack _ (has_front code pc ce _ has) (λ vs many.
             one (pc + length ce) (onto vs stack) i _ (has_back code pc ce _ has).0 (λ n lt.
-            ap (λ l. given (call_value f l) (λ w m. exec units n ctx (pc + length ce + 1) (w ∷ drop (count es) (onto vs stack))) n) (operands_are vs stack _ many)
-            ∙ ap (λ st. given (call_value f vs) (λ w m. exec units n ctx (pc + length ce + 1) (w ∷ st)) n) (rest_below vs stack _ many)
+            ap (λ l. given (call_value f l) (λ w. exec units n ctx (pc + length ce + 1) (w ∷ drop (count es) (onto vs stack))) n) (operands_are vs stack _ many)
+            ∙ ap (λ st. given (call_value f vs) (λ w. exec units n ctx (pc + length ce + 1) (w ∷ st)) n) (rest_below vs stack _ many)
             ∙ given_at n (call_value f vs) _ _ (λ r e. (moved _ _ (r ∷ stack) (rest r) (end_of pc ce i) (k r)).by n (omega arith))))
         operand_follows (About f v es) pc stack rest has k =
             let r = reference v in
@@ -273,18 +273,18 @@ module _ (units : List unit.Unit) (u : unit.Unit) (ctx : Context) (there : slice
             let len : pv + length ce + 1 ≡ pc + length (cs ++ instr.Named f r ∷ (ce ++ i ∷ [])) = omega (arith, length-append cs (instr.Named f r ∷ (ce ++ i ∷ [])), length-append ce (i ∷ [])) in
             let few : total - r.count ≡ count es = omega arith in
             named_follows f v (instr.Named f r) pc stack _ (has_front code pc cs _ has) back.0 (λ ss n lt many.
-            ap (λ l. given (named_for f r.scope r.word l) (λ x m. exec units n ctx pv (onto ss stack)) n) (operands_are ss stack _ many)
+            ap (λ l. given (named_for f r.scope r.word l) (λ x. exec units n ctx pv (onto ss stack)) n) (operands_are ss stack _ many)
             ∙ given_at n (named_for f r.scope r.word ss) _ _ (λ x e.
             (all_follow es pv (onto ss stack) (λ vs. turn (about f x (optional 0 vs) rest)) (has_front code pv ce _ back.1) (λ vs some.
             let st = onto vs (onto ss stack) in
             one (pv + length ce) st i _ (has_back code pv ce _ back.1).0 (λ m lt'.
-            ap (λ j. given (named_for f r.scope r.word (operands r.count (drop j st))) (λ y. about f y (optional 0 (operands j st)) (λ w q. exec units m ctx (pv + length ce + 1) (w ∷ drop total st))) m) few
-            ∙ ap (λ l. given (named_for f r.scope r.word (operands r.count l)) (λ y. about f y (optional 0 (operands (count es) st)) (λ w q. exec units m ctx (pv + length ce + 1) (w ∷ drop total st))) m) (rest_below vs (onto ss stack) _ some)
-            ∙ ap (λ l. given (named_for f r.scope r.word l) (λ y. about f y (optional 0 (operands (count es) st)) (λ w q. exec units m ctx (pv + length ce + 1) (w ∷ drop total st))) m) (operands_are ss stack _ many)
-            ∙ ap (λ l. given (named_for f r.scope r.word ss) (λ y. about f y (optional 0 l) (λ w q. exec units m ctx (pv + length ce + 1) (w ∷ drop total st))) m) (operands_are vs (onto ss stack) _ some)
-            ∙ ap (λ l. given (named_for f r.scope r.word ss) (λ y. about f y (optional 0 vs) (λ w q. exec units m ctx (pv + length ce + 1) (w ∷ l))) m) (both_below ss vs stack total (omega (arith, many, some)))
-            ∙ ap (λ o. given o (λ y. about f y (optional 0 vs) (λ w q. exec units m ctx (pv + length ce + 1) (w ∷ stack))) m) e
-            ∙ about_at m f x (optional 0 vs) (λ w q. exec units m ctx (pv + length ce + 1) (w ∷ stack)) rest (λ w. (moved _ _ (w ∷ stack) (rest w) len (k w)).by m (omega arith))))).by n (omega arith)))
+            ap (λ j. given (named_for f r.scope r.word (operands r.count (drop j st))) (λ y. about f y (optional 0 (operands j st)) (λ w. exec units m ctx (pv + length ce + 1) (w ∷ drop total st))) m) few
+            ∙ ap (λ l. given (named_for f r.scope r.word (operands r.count l)) (λ y. about f y (optional 0 (operands (count es) st)) (λ w. exec units m ctx (pv + length ce + 1) (w ∷ drop total st))) m) (rest_below vs (onto ss stack) _ some)
+            ∙ ap (λ l. given (named_for f r.scope r.word l) (λ y. about f y (optional 0 (operands (count es) st)) (λ w. exec units m ctx (pv + length ce + 1) (w ∷ drop total st))) m) (operands_are ss stack _ many)
+            ∙ ap (λ l. given (named_for f r.scope r.word ss) (λ y. about f y (optional 0 l) (λ w. exec units m ctx (pv + length ce + 1) (w ∷ drop total st))) m) (operands_are vs (onto ss stack) _ some)
+            ∙ ap (λ l. given (named_for f r.scope r.word ss) (λ y. about f y (optional 0 vs) (λ w. exec units m ctx (pv + length ce + 1) (w ∷ l))) m) (both_below ss vs stack total (omega (arith, many, some)))
+            ∙ ap (λ o. given o (λ y. about f y (optional 0 vs) (λ w. exec units m ctx (pv + length ce + 1) (w ∷ stack))) m) e
+            ∙ about_at m f x (optional 0 vs) (λ w. exec units m ctx (pv + length ce + 1) (w ∷ stack)) rest (λ w. (moved _ _ (w ∷ stack) (rest w) len (k w)).by m (omega arith))))).by n (omega arith)))
         operand_follows (Select choices) pc stack rest has k = choices_follow choices pc stack rest has k
 
         choices_follow : (x : Choices) (pc : ℕ) (stack : Stack) (rest : List ℕ → Timed) → HasAt code pc (choices_code pc x) → ((v : List ℕ) → Agree b (from (pc + length (choices_code pc x)) (v ∷ stack)) (rest v)) → Agree b (from pc stack) (ev_choices points here x rest)
@@ -301,7 +301,7 @@ module _ (units : List unit.Unit) (u : unit.Unit) (ctx : Context) (there : slice
             expr_follows c pc stack _ (has_front code pc cc' _ has) (λ v.
             one (pc + length cc') (v ∷ stack) i _ back.0 (λ n lt.
             given_at n (truth_value v) _ _ (λ t q.
-            if_at n t (λ m. exec units n ctx value stack) _ (λ m. exec units n ctx others stack) _
+            if_at n t (exec units n ctx value stack) _ (exec units n ctx others stack) _
             ((expr_follows e value stack (λ w. turn (rest w)) (has_front code value ce _ back.1) (λ w.
             one (value + length ce) (w ∷ stack) j (rest w) back'.0 (λ m lt'. (moved _ _ (w ∷ stack) (rest w) end (k w)).by m (omega arith)))).by n (omega arith))
             ((one others stack instr.NoneTrue (fault NoTrue) back'.1.0 (λ m lt'. refl)).by n (omega arith)))))
@@ -319,7 +319,7 @@ module _ (units : List unit.Unit) (u : unit.Unit) (ctx : Context) (there : slice
             expr_follows c pc stack _ (has_front code pc cc' _ has) (λ v.
             one (pc + length cc') (v ∷ stack) i _ back.0 (λ n lt.
             given_at n (truth_value v) _ _ (λ t q.
-            if_at n t (λ m. exec units n ctx value stack) _ (λ m. exec units n ctx others stack) _
+            if_at n t (exec units n ctx value stack) _ (exec units n ctx others stack) _
             ((expr_follows e value stack (λ w. turn (rest w)) (has_front code value ce _ back.1) (λ w.
             one (value + length ce) (w ∷ stack) j (rest w) back'.0 (λ m lt'. (moved _ _ (w ∷ stack) (rest w) end (k w)).by m (omega arith)))).by n (omega arith))
             ((choices_follow x others stack rest back'.1 (λ w. moved _ _ (w ∷ stack) (rest w) end (k w))).by n (omega arith)))))
@@ -351,8 +351,8 @@ module _ (units : List unit.Unit) (u : unit.Unit) (ctx : Context) (there : slice
           let r = reference v in
           let behind = pc + length (subscripts_code pc v) + 1 in
           name_follows v (instr.Check r) pc stack rest has at (λ ss n lt many.
-          ap (λ l. given (name_of r.scope r.word l) (λ x m. exec units n ctx behind (onto ss stack)) n) (operands_are ss stack _ many)
-          ∙ given_at n (name_of r.scope r.word ss) (λ x m. exec units n ctx behind (onto ss stack)) rest (λ x e. (k x ss many e).by n (omega arith)))
+          ap (λ l. given (name_of r.scope r.word l) (λ x. exec units n ctx behind (onto ss stack)) n) (operands_are ss stack _ many)
+          ∙ given_at n (name_of r.scope r.word ss) (λ x. exec units n ctx behind (onto ss stack)) rest (λ x e. (k x ss many e).by n (omega arith)))
 
       destination_follows : (d : Destination) (pc : ℕ) (stack : Stack) (rest : Aim → Timed) → HasAt code pc (destination_code pc d)
           → ((t : Aim) (st : Stack) → Lies d t st stack → Agree b (from (pc + length (destination_code pc d)) st) (rest t))
@@ -389,10 +389,10 @@ module _ (units : List unit.Unit) (u : unit.Unit) (ctx : Context) (there : slice
           → Agree b (from pc stack) (turn (store x (top stack) rest))
       stored r depth x ss pc stack base rest many e under at k =
           one pc stack (instr.Store r depth) _ at (λ n lt.
-          ap (λ l. given (name_of r.scope r.word (operands r.count l)) (λ y. store y (top stack) (λ q. exec units n ctx (pc + 1) (drop depth.taken stack))) n) under
-          ∙ ap (λ l. given (name_of r.scope r.word l) (λ y. store y (top stack) (λ q. exec units n ctx (pc + 1) (drop depth.taken stack))) n) (operands_are ss base r.count many)
-          ∙ ap (λ o. given o (λ y. store y (top stack) (λ q. exec units n ctx (pc + 1) (drop depth.taken stack))) n) e
-          ∙ store_at n x (top stack) (λ q. exec units n ctx (pc + 1) (drop depth.taken stack)) rest (k.by n (omega arith)))
+          ap (λ l. given (name_of r.scope r.word (operands r.count l)) (λ y. store y (top stack) (exec units n ctx (pc + 1) (drop depth.taken stack))) n) under
+          ∙ ap (λ l. given (name_of r.scope r.word l) (λ y. store y (top stack) (exec units n ctx (pc + 1) (drop depth.taken stack))) n) (operands_are ss base r.count many)
+          ∙ ap (λ o. given o (λ y. store y (top stack) (exec units n ctx (pc + 1) (drop depth.taken stack))) n) e
+          ∙ store_at n x (top stack) (exec units n ctx (pc + 1) (drop depth.taken stack)) rest (k.by n (omega arith)))
 
       store_follows : (d : Destination) (t : Aim) (depth : Depth) (pc : ℕ) (stack base : Stack) (rest : Timed)
           → Lies d t (drop depth.above stack) base → HasAt code pc (store_code d depth)
@@ -405,8 +405,8 @@ module _ (units : List unit.Unit) (u : unit.Unit) (ctx : Context) (there : slice
       store_follows (Pieces v es) (Part x ts) depth pc stack base rest l has k =
           let r = reference v in
           let n = count es in
-          let behind : ℕ → List ℕ → Timed = λ m w q. exec units m ctx (pc + 1) (w ∷ stack) in
-          let past : ℕ → Timed = λ m q. exec units m ctx (pc + 2) (drop depth.taken stack) in
+          let behind : ℕ → List ℕ → Timed = λ m w. exec units m ctx (pc + 1) (w ∷ stack) in
+          let past : ℕ → Timed = λ m. exec units m ctx (pc + 2) (drop depth.taken stack) in
           let under : drop n (drop depth.above stack) ≡ onto l.0 base = ap (drop n) l.4 ∙ rest_below ts (onto l.0 base) n l.3 in
           let args : operands n (drop depth.above stack) ≡ ts = ap (operands n) l.4 ∙ operands_are ts (onto l.0 base) n l.3 in
           let deeper : (w : List ℕ) → drop (depth.above + n + 1) (w ∷ stack) ≡ onto l.0 base = λ w. drop_more (depth.above + n) w stack ∙ sym (drop-drop n depth.above stack) ∙ under in
@@ -469,7 +469,7 @@ module _ (units : List unit.Unit) (u : unit.Unit) (ctx : Context) (there : slice
           assign_follows a pc stack _ (has_front code pc ca _ has)
           (assigns_follow list (pc + length ca) stack rest (has_back code pc ca _ has) (moved _ _ stack rest (seam pc ca (assignments_code (pc + length ca) list)) k))
 
-      names_follow : (words : List (List ℕ)) (pc : ℕ) (stack : Stack) (rest : Timed) → HasAt code pc (names_code words) → Agree b (from (pc + length (names_code words)) stack) rest → Agree b (from pc stack) (named words rest)
+      pub names_follow : (words : List (List ℕ)) (pc : ℕ) (stack : Stack) (rest : Timed) → HasAt code pc (names_code words) → Agree b (from (pc + length (names_code words)) stack) rest → Agree b (from pc stack) (named words rest)
       names_follow [] pc stack rest has k = moved pc (pc + 0) stack rest (omega arith) k
       names_follow (word ∷ words) pc stack rest has k =
           let len : pc + 1 + length (names_code words) ≡ pc + length (names_code (word ∷ words)) = omega arith in
@@ -486,15 +486,15 @@ module _ (units : List unit.Unit) (u : unit.Unit) (ctx : Context) (there : slice
           let len : behind + 1 ≡ pc + length (cs ++ i ∷ j ∷ []) = omega (arith, length-append cs (i ∷ j ∷ [])) in
           checked v pc stack _ (has_front code pc cs _ has) back.0 (λ x ss many e.
           one behind (onto ss stack) j _ back.1.0 (λ n lt.
-          ap (λ l. given (name_of r.scope r.word l) (λ y. remove y (λ q. exec units n ctx (behind + 1) (drop r.count (onto ss stack)))) n) (operands_are ss stack _ many)
-          ∙ ap (λ o. given o (λ y. remove y (λ q. exec units n ctx (behind + 1) (drop r.count (onto ss stack)))) n) e
-          ∙ remove_at n x (λ q. exec units n ctx (behind + 1) (drop r.count (onto ss stack))) rest
+          ap (λ l. given (name_of r.scope r.word l) (λ y. remove y (exec units n ctx (behind + 1) (drop r.count (onto ss stack)))) n) (operands_are ss stack _ many)
+          ∙ ap (λ o. given o (λ y. remove y (exec units n ctx (behind + 1) (drop r.count (onto ss stack)))) n) e
+          ∙ remove_at n x (exec units n ctx (behind + 1) (drop r.count (onto ss stack))) rest
           ((over (behind + 1) (drop r.count (onto ss stack)) stack rest (rest_below ss stack _ many) (moved _ _ stack rest len k)).by n (omega arith))))
       kill_follows (Spared words) pc stack rest has k =
           let cn = names_code words in
           names_follow words pc stack _ (has_front code pc cn _ has)
           (one (pc + length cn) stack (instr.Spare words) _ (has_back code pc cn _ has).0 (λ n lt.
-          change_at n (spare words) (λ q. exec units n ctx (pc + length cn + 1) stack) rest ((moved _ _ stack rest (end_of pc cn (instr.Spare words)) k).by n (omega arith))))
+          change_at n (spare words) (exec units n ctx (pc + length cn + 1) stack) rest ((moved _ _ stack rest (end_of pc cn (instr.Spare words)) k).by n (omega arith))))
 
       kills_follow : (list : List Killed) (pc : ℕ) (stack : Stack) (rest : Timed) → HasAt code pc (kills_code pc list) → Agree b (from (pc + length (kills_code pc list)) stack) rest → Agree b (from pc stack) (kill_list points here list rest)
       kills_follow [] pc stack rest has k = moved pc (pc + 0) stack rest (omega arith) k
@@ -505,7 +505,7 @@ module _ (units : List unit.Unit) (u : unit.Unit) (ctx : Context) (there : slice
 
       pub kill_all_follows : (list : List Killed) (pc : ℕ) (stack : Stack) (rest : Timed) → HasAt code pc (kill_all_code pc list) → Agree b (from (pc + length (kill_all_code pc list)) stack) rest → Agree b (from pc stack) (kill_all points here list rest)
       kill_all_follows [] pc stack rest has k =
-          one pc stack (instr.Spare []) _ has.0 (λ n lt. change_at n (spare []) (λ q. exec units n ctx (pc + 1) stack) rest (k.by n (omega arith)))
+          one pc stack (instr.Spare []) _ has.0 (λ n lt. change_at n (spare []) (exec units n ctx (pc + 1) stack) rest (k.by n (omega arith)))
       kill_all_follows (x ∷ list) pc stack rest has k = kills_follow (x ∷ list) pc stack rest has k
 
       merge_follows : (m : Merged) (pc : ℕ) (stack : Stack) (rest : Timed) → HasAt code pc (merge_code pc m) → Agree b (from (pc + length (merge_code pc m)) stack) rest → Agree b (from pc stack) (merge points here m rest)
@@ -524,16 +524,16 @@ module _ (units : List unit.Unit) (u : unit.Unit) (ctx : Context) (there : slice
           let len : at + 1 + 1 ≡ pc + length (ca ++ i ∷ (cf ++ j ∷ p ∷ [])) = omega (arith, length-append ca (i ∷ (cf ++ j ∷ p ∷ [])), length-append cf (j ∷ p ∷ [])) in
           checked m.into pc stack _ (has_front code pc ca _ has) back.0 (λ x ss many e.
           name_follows m.from j behind (onto ss stack) _ (has_front code behind cf _ back.1) back'.0 (λ qs n lt many'.
-          ap (λ l. given (name_of f.scope f.word l) (λ y. given (name_of a.scope a.word (operands a.count (drop f.count (onto qs (onto ss stack))))) (λ z. take_nodes z y (λ q. exec units n ctx (at + 1) (drop f.count (onto qs (onto ss stack)))))) n) (operands_are qs (onto ss stack) _ many')
-          ∙ ap (λ st. given (name_of f.scope f.word qs) (λ y. given (name_of a.scope a.word (operands a.count st)) (λ z. take_nodes z y (λ q. exec units n ctx (at + 1) st))) n) (rest_below qs (onto ss stack) _ many')
-          ∙ given_at n (name_of f.scope f.word qs) (λ y. given (name_of a.scope a.word (operands a.count (onto ss stack))) (λ z. take_nodes z y (λ q. exec units n ctx (at + 1) (onto ss stack)))) (λ y. take_nodes x y (turn (put_nodes x rest))) (λ y e'.
-          ap (λ l. given (name_of a.scope a.word l) (λ z. take_nodes z y (λ q. exec units n ctx (at + 1) (onto ss stack))) n) (operands_are ss stack _ many)
-          ∙ ap (λ o. given o (λ z. take_nodes z y (λ q. exec units n ctx (at + 1) (onto ss stack))) n) e
-          ∙ take_nodes_at n x y (λ q. exec units n ctx (at + 1) (onto ss stack)) (turn (put_nodes x rest))
+          ap (λ l. given (name_of f.scope f.word l) (λ y. given (name_of a.scope a.word (operands a.count (drop f.count (onto qs (onto ss stack))))) (λ z. take_nodes z y (exec units n ctx (at + 1) (drop f.count (onto qs (onto ss stack)))))) n) (operands_are qs (onto ss stack) _ many')
+          ∙ ap (λ st. given (name_of f.scope f.word qs) (λ y. given (name_of a.scope a.word (operands a.count st)) (λ z. take_nodes z y (exec units n ctx (at + 1) st))) n) (rest_below qs (onto ss stack) _ many')
+          ∙ given_at n (name_of f.scope f.word qs) (λ y. given (name_of a.scope a.word (operands a.count (onto ss stack))) (λ z. take_nodes z y (exec units n ctx (at + 1) (onto ss stack)))) (λ y. take_nodes x y (turn (put_nodes x rest))) (λ y e'.
+          ap (λ l. given (name_of a.scope a.word l) (λ z. take_nodes z y (exec units n ctx (at + 1) (onto ss stack))) n) (operands_are ss stack _ many)
+          ∙ ap (λ o. given o (λ z. take_nodes z y (exec units n ctx (at + 1) (onto ss stack))) n) e
+          ∙ take_nodes_at n x y (exec units n ctx (at + 1) (onto ss stack)) (turn (put_nodes x rest))
           ((one (at + 1) (onto ss stack) p (put_nodes x rest) back'.1.0 (λ o lt'.
-          ap (λ l. given (name_of a.scope a.word l) (λ z. put_nodes z (λ q. exec units o ctx (at + 1 + 1) (drop a.count (onto ss stack)))) o) (operands_are ss stack _ many)
-          ∙ ap (λ r. given r (λ z. put_nodes z (λ q. exec units o ctx (at + 1 + 1) (drop a.count (onto ss stack)))) o) e
-          ∙ put_nodes_at o x (λ q. exec units o ctx (at + 1 + 1) (drop a.count (onto ss stack))) rest
+          ap (λ l. given (name_of a.scope a.word l) (λ z. put_nodes z (exec units o ctx (at + 1 + 1) (drop a.count (onto ss stack)))) o) (operands_are ss stack _ many)
+          ∙ ap (λ r. given r (λ z. put_nodes z (exec units o ctx (at + 1 + 1) (drop a.count (onto ss stack)))) o) e
+          ∙ put_nodes_at o x (exec units o ctx (at + 1 + 1) (drop a.count (onto ss stack))) rest
           ((over (at + 1 + 1) (drop a.count (onto ss stack)) stack rest (rest_below ss stack _ many) (moved _ _ stack rest len k)).by o (omega arith)))).by n (omega arith)))))
 
       pub merges_follow : (list : List Merged) (pc : ℕ) (stack : Stack) (rest : Timed) → HasAt code pc (merges_code pc list) → Agree b (from (pc + length (merges_code pc list)) stack) rest → Agree b (from pc stack) (merge_all points here list rest)
@@ -545,25 +545,25 @@ module _ (units : List unit.Unit) (u : unit.Unit) (ctx : Context) (there : slice
 
       format_follows : (marks : List Mark) (o : Option Expr) (pc : ℕ) (stack : Stack) (rest : Timed) → HasAt code pc (format_code pc marks o) → Agree b (from (pc + length (format_code pc marks o)) stack) rest → Agree b (from pc stack) (arrange points here marks o rest)
       format_follows marks None pc stack rest has k =
-          one pc stack (instr.Format marks) _ has.0 (λ n lt. write_at n (map mark_byte marks) (λ q. exec units n ctx (pc + 1) stack) rest (k.by n (omega arith)))
+          one pc stack (instr.Format marks) _ has.0 (λ n lt. write_at n (map mark_byte marks) (exec units n ctx (pc + 1) stack) rest (k.by n (omega arith)))
       format_follows marks (Some e) pc stack rest has k =
           let ce = expr_code pc e in
           expr_follows e pc stack _ (has_front code pc ce _ has) (λ v.
           one (pc + length ce) (v ∷ stack) (instr.Tab marks) _ (has_back code pc ce _ has).0 (λ n lt.
-          tab_at n marks v (λ q. exec units n ctx (pc + length ce + 1) stack) rest ((moved _ _ stack rest (end_of pc ce (instr.Tab marks)) k).by n (omega arith))))
+          tab_at n marks v (exec units n ctx (pc + length ce + 1) stack) rest ((moved _ _ stack rest (end_of pc ce (instr.Tab marks)) k).by n (omega arith))))
 
       output_follows : (o : Output) (pc : ℕ) (stack : Stack) (rest : Timed) → HasAt code pc (output_code pc o) → Agree b (from (pc + length (output_code pc o)) stack) rest → Agree b (from pc stack) (output points here o rest)
       output_follows (Shown e) pc stack rest has k =
           let ce = expr_code pc e in
           expr_follows e pc stack _ (has_front code pc ce _ has) (λ v.
           one (pc + length ce) (v ∷ stack) instr.Write _ (has_back code pc ce _ has).0 (λ n lt.
-          write_at n v (λ q. exec units n ctx (pc + length ce + 1) stack) rest ((moved _ _ stack rest (end_of pc ce instr.Write) k).by n (omega arith))))
+          write_at n v (exec units n ctx (pc + length ce + 1) stack) rest ((moved _ _ stack rest (end_of pc ce instr.Write) k).by n (omega arith))))
       output_follows (Format l) pc stack rest has k = format_follows l.marks l.column pc stack rest has k
       output_follows (Coded e) pc stack rest has k =
           let ce = expr_code pc e in
           expr_follows e pc stack _ (has_front code pc ce _ has) (λ v.
           one (pc + length ce) (v ∷ stack) instr.WriteByte _ (has_back code pc ce _ has).0 (λ n lt.
-          write_code_at n v (λ q. exec units n ctx (pc + length ce + 1) stack) rest ((moved _ _ stack rest (end_of pc ce instr.WriteByte) k).by n (omega arith))))
+          write_code_at n v (exec units n ctx (pc + length ce + 1) stack) rest ((moved _ _ stack rest (end_of pc ce instr.WriteByte) k).by n (omega arith))))
 
       pub outputs_follow : (list : List Output) (pc : ℕ) (stack : Stack) (rest : Timed) → HasAt code pc (outputs_code pc list) → Agree b (from (pc + length (outputs_code pc list)) stack) rest → Agree b (from pc stack) (output_all points here list rest)
       outputs_follow [] pc stack rest has k = moved pc (pc + 0) stack rest (omega arith) k
@@ -574,12 +574,12 @@ module _ (units : List unit.Unit) (u : unit.Unit) (ctx : Context) (there : slice
 
       renewal_follows : (x : Renewed) (pc : ℕ) (stack : Stack) (rest : Timed) → HasAt code pc (renewed_code x) → Agree b (from (pc + length (renewed_code x)) stack) rest → Agree b (from pc stack) (renewal x rest)
       renewal_follows (Fresh word) pc stack rest has k =
-          one pc stack (instr.New (word ∷ [])) _ has.0 (λ n lt. change_at n (newed (Only (word ∷ []))) (λ q. exec units n ctx (pc + 1) stack) rest (k.by n (omega arith)))
+          one pc stack (instr.New (word ∷ [])) _ has.0 (λ n lt. change_at n (newed (Only (word ∷ []))) (exec units n ctx (pc + 1) stack) rest (k.by n (omega arith)))
       renewal_follows (Kept words) pc stack rest has k =
           let cn = names_code words in
           names_follow words pc stack _ (has_front code pc cn _ has)
           (one (pc + length cn) stack (instr.NewExcept words) _ (has_back code pc cn _ has).0 (λ n lt.
-          change_at n (newed (AllBut words)) (λ q. exec units n ctx (pc + length cn + 1) stack) rest ((moved _ _ stack rest (end_of pc cn (instr.NewExcept words)) k).by n (omega arith))))
+          change_at n (newed (AllBut words)) (exec units n ctx (pc + length cn + 1) stack) rest ((moved _ _ stack rest (end_of pc cn (instr.NewExcept words)) k).by n (omega arith))))
 
       news_follow : (list : List Renewed) (pc : ℕ) (stack : Stack) (rest : Timed) → HasAt code pc (news_code list) → Agree b (from (pc + length (news_code list)) stack) rest → Agree b (from pc stack) (new_list list rest)
       news_follow [] pc stack rest has k = moved pc (pc + 0) stack rest (omega arith) k
@@ -590,7 +590,7 @@ module _ (units : List unit.Unit) (u : unit.Unit) (ctx : Context) (there : slice
 
       pub new_all_follows : (list : List Renewed) (pc : ℕ) (stack : Stack) (rest : Timed) → HasAt code pc (new_all_code list) → Agree b (from (pc + length (new_all_code list)) stack) rest → Agree b (from pc stack) (new_all list rest)
       new_all_follows [] pc stack rest has k =
-          one pc stack (instr.NewExcept []) _ has.0 (λ n lt. change_at n (newed (AllBut [])) (λ q. exec units n ctx (pc + 1) stack) rest (k.by n (omega arith)))
+          one pc stack (instr.NewExcept []) _ has.0 (λ n lt. change_at n (newed (AllBut [])) (exec units n ctx (pc + 1) stack) rest (k.by n (omega arith)))
       new_all_follows (x ∷ list) pc stack rest has k = news_follow (x ∷ list) pc stack rest has k
 
       -- actuals, of which those that are given come onto the stack
@@ -613,7 +613,7 @@ module _ (units : List unit.Unit) (u : unit.Unit) (ctx : Context) (there : slice
           let ce = expr_code pc e in
           expr_follows e pc stack _ (has_front code pc ce _ has) (λ v.
           one (pc + length ce) (v ∷ stack) instr.Number _ (has_back code pc ce _ has).0 (λ n lt.
-          given_at n (reading v) (λ i m. exec units n ctx (pc + length ce + 1) (v ∷ stack)) (λ i. rest (Some i)) (λ i q.
+          given_at n (reading v) (λ i. exec units n ctx (pc + length ce + 1) (v ∷ stack)) (λ i. rest (Some i)) (λ i q.
           (moved _ _ (v ∷ stack) (rest (Some i)) (end_of pc ce instr.Number) (k (Some i) (v ∷ stack) (v, refl, q))).by n (omega arith))))
 
       pub hangs_follow : (es : List Expr) (pc : ℕ) (stack : Stack) (rest : Timed) → HasAt code pc (hangs_code pc es) → Agree b (from (pc + length (hangs_code pc es)) stack) rest → Agree b (from pc stack) (hang_all points here es rest)
@@ -624,7 +624,7 @@ module _ (units : List unit.Unit) (u : unit.Unit) (ctx : Context) (there : slice
           let front = has_front code pc ch _ has in
           expr_follows e pc stack _ (has_front code pc ce _ front) (λ v.
           one (pc + length ce) (v ∷ stack) instr.Hang _ (has_back code pc ce _ front).0 (λ n lt.
-          hang_at n v (λ q. exec units n ctx (pc + length ce + 1) stack) (hang_all points here es rest)
+          hang_at n v (exec units n ctx (pc + length ce + 1) stack) (hang_all points here es rest)
           ((moved _ _ stack (hang_all points here es rest) (end_of pc ce instr.Hang)
           (hangs_follow es (pc + length ch) stack rest (has_back code pc ch _ has) (moved _ _ stack rest (seam pc ch (hangs_code (pc + length ch) es)) k))).by n (omega arith))))
 
@@ -645,7 +645,7 @@ module _ (units : List unit.Unit) (u : unit.Unit) (ctx : Context) (there : slice
           actuals_follow s.actuals pc stack _ (has_front code pc ca _ has) (λ vs many.
           timeout_follows s.timeout pw (onto vs stack) _ (has_front code pw cw _ back) (λ t st l.
           one at st i (start_job entry (spread shape vs) t rest) (has_back code pw cw _ back).0 (λ n lt.
-          let behind : Timed = λ m. exec units n ctx (at + 1) (drop taken st) in
+          let behind : Timed = exec units n ctx (at + 1) (drop taken st) in
           waited s.timeout t st (onto vs stack) l (λ z. start_job entry (spread shape (operands (given_count shape) (drop (wait_size w) st))) z behind) n
           ∙ ap (λ base. start_job entry (spread shape (operands (given_count shape) base)) t behind n) (below_wait s.timeout t st (onto vs stack) l)
           ∙ ap (λ ws. start_job entry (spread shape ws) t behind n) (operands_are vs stack _ many)
@@ -690,7 +690,7 @@ module _ (units : List unit.Unit) (u : unit.Unit) (ctx : Context) (there : slice
         abbrev taken : ℕ
         taken = counts rs + wait_size w
 
-        all_gone : (pc n : ℕ) → n < b → Agree b (from pc base) rest → exec units n ctx pc (drop taken st) ≡ rest n
+        all_gone : (pc n : ℕ) → n < b → Agree b (from pc base) rest → exec units n ctx pc (drop taken st) n ≡ rest n
         all_gone pc n lt k = (over pc (drop taken st) base rest (below_more o t st mid (counts rs) l ∙ below_names vs xs mid base named) k).by n (omega arith)
 
         -- what is done with them
@@ -703,19 +703,19 @@ module _ (units : List unit.Unit) (u : unit.Unit) (ctx : Context) (there : slice
         taken_follow : (pc : ℕ) → slice_get code pc ≡ Some (instr.Lock rs w) → Agree b (from (pc + 1) base) rest → Agree b (from pc st) (turn (take_names xs t rest))
         taken_follow pc has k =
             one pc st (instr.Lock rs w) _ has (λ n lt.
-            let behind : Timed = λ m. exec units n ctx (pc + 1) (drop taken st) in
+            let behind : Timed = exec units n ctx (pc + 1) (drop taken st) in
             asked_for (λ ys z. take_names ys z behind) n ∙ take_names_at n xs t behind rest (all_gone (pc + 1) n lt k))
 
         given_follow : (pc : ℕ) → slice_get code pc ≡ Some (instr.Unlock rs w) → Agree b (from (pc + 1) base) rest → Agree b (from pc st) (turn (give_names xs t rest))
         given_follow pc has k =
             one pc st (instr.Unlock rs w) _ has (λ n lt.
-            let behind : Timed = λ m. exec units n ctx (pc + 1) (drop taken st) in
+            let behind : Timed = exec units n ctx (pc + 1) (drop taken st) in
             asked_for (λ ys z. give_names ys z behind) n ∙ give_names_at n xs t behind rest (all_gone (pc + 1) n lt k))
 
         taking_follows : (m : LockMode) (pc : ℕ) → HasAt code pc (taking_code m rs w) → Agree b (from (pc + length (taking_code m rs w)) base) rest → Agree b (from pc st) (lock m xs t rest)
         taking_follows mode.Whole pc has k =
             one pc st instr.UnlockAll _ has.0 (λ n lt.
-            unlock_all_at n (λ q. exec units n ctx (pc + 1) st) (turn (take_names xs t rest))
+            unlock_all_at n (exec units n ctx (pc + 1) st) (turn (take_names xs t rest))
             ((taken_follow (pc + 1) has.1.0 (moved (pc + 1 + 1) _ base rest (omega arith) k)).by n (omega arith)))
         taking_follows mode.Plus pc has k = taken_follow pc has.0 k
         taking_follows mode.Minus pc has k = given_follow pc has.0 k
@@ -741,7 +741,7 @@ module _ (units : List unit.Unit) (u : unit.Unit) (ctx : Context) (there : slice
 
       pub lock_all_follows : (list : List Locked) (pc : ℕ) (stack : Stack) (rest : Timed) → HasAt code pc (lock_all_code pc list) → Agree b (from (pc + length (lock_all_code pc list)) stack) rest → Agree b (from pc stack) (lock_all points here list rest)
       lock_all_follows [] pc stack rest has k =
-          one pc stack instr.UnlockAll _ has.0 (λ n lt. unlock_all_at n (λ q. exec units n ctx (pc + 1) stack) rest (k.by n (omega arith)))
+          one pc stack instr.UnlockAll _ has.0 (λ n lt. unlock_all_at n (exec units n ctx (pc + 1) stack) rest (k.by n (omega arith)))
       lock_all_follows (l ∷ list) pc stack rest has k = locks_follow (l ∷ list) pc stack rest has k
 
       open_follows : (o : Opened) (pc : ℕ) (stack : Stack) (rest : Timed) → HasAt code pc (open_code pc o) → Agree b (from (pc + length (open_code pc o)) stack) rest
@@ -761,14 +761,14 @@ module _ (units : List unit.Unit) (u : unit.Unit) (ctx : Context) (there : slice
           expr_follows o.device pc stack _ (has_front code pc ce _ has) (λ v.
           timeout_follows o.timeout pw (v ∷ stack) _ (has_front code pw cw _ back) (λ t st l.
           one at st i (open_device v t rest) there_is.0 (λ n lt.
-          let past : Timed = λ m. exec units n ctx (at + 2) (drop (1 + wait_size w) st) in
-          let begun : Stack → Timed = λ base m. exec units n ctx (at + 1) base in
+          let past : Timed = exec units n ctx (at + 2) (drop (1 + wait_size w) st) in
+          let begun : Stack → Timed = λ base. exec units n ctx (at + 1) base in
           waited o.timeout t st (v ∷ stack) l (λ z. obtain (top (drop (wait_size w) st)) z past (begun (drop (wait_size w) st))) n
           ∙ ap (λ base. obtain (top base) t past (begun base) n) (below_wait o.timeout t st (v ∷ stack) l)
           ∙ obtain_at n v t past rest (begun (v ∷ stack)) (turn (begin_session v rest))
           ((over (at + 2) (drop (1 + wait_size w) st) stack rest (below_more o.timeout t st (v ∷ stack) 1 l) (moved _ _ stack rest len k)).by n (omega arith))
           ((one (at + 1) (v ∷ stack) instr.BeginSession (begin_session v rest) there_is.1.0 (λ m lt'.
-          begin_session_at m v (λ q. exec units m ctx (at + 1 + 1) stack) rest ((moved _ _ stack rest len' k).by m (omega arith)))).by n (omega arith)))))
+          begin_session_at m v (exec units m ctx (at + 1 + 1) stack) rest ((moved _ _ stack rest len' k).by m (omega arith)))).by n (omega arith)))))
 
       pub opens_follow : (list : List Opened) (pc : ℕ) (stack : Stack) (rest : Timed) → HasAt code pc (opens_code pc list) → Agree b (from (pc + length (opens_code pc list)) stack) rest → Agree b (from pc stack) (open_all points here list rest)
       opens_follow [] pc stack rest has k = moved pc (pc + 0) stack rest (omega arith) k
@@ -785,7 +785,7 @@ module _ (units : List unit.Unit) (u : unit.Unit) (ctx : Context) (there : slice
           let front = has_front code pc cu _ has in
           expr_follows e pc stack _ (has_front code pc ce _ front) (λ v.
           one (pc + length ce) (v ∷ stack) instr.Use _ (has_back code pc ce _ front).0 (λ n lt.
-          use_device_at n v (λ q. exec units n ctx (pc + length ce + 1) stack) (use_all points here es rest)
+          use_device_at n v (exec units n ctx (pc + length ce + 1) stack) (use_all points here es rest)
           ((moved _ _ stack (use_all points here es rest) (end_of pc ce instr.Use)
           (uses_follow es (pc + length cu) stack rest (has_back code pc cu _ has) (moved _ _ stack rest (seam pc cu (uses_code (pc + length cu) es)) k))).by n (omega arith))))
 
@@ -800,14 +800,14 @@ module _ (units : List unit.Unit) (u : unit.Unit) (ctx : Context) (there : slice
           let len' : pe + 1 + 1 + 1 ≡ pc + length (ce ++ last) = omega (arith, len) in
           expr_follows e pc stack _ (has_front code pc ce _ has) (λ v.
           one pe (v ∷ stack) instr.EndSession (close v rest) there_is.0 (λ n lt.
-          end_session_at n v (λ q. exec units n ctx (pe + 3) stack) rest
-          (λ q. exec units n ctx (pe + 1) (v ∷ stack)) (turn (give_up v (fault Device)))
-          (λ q. exec units n ctx (pe + 2) (v ∷ stack)) (turn (give_up v rest))
+          end_session_at n v (exec units n ctx (pe + 3) stack) rest
+          (exec units n ctx (pe + 1) (v ∷ stack)) (turn (give_up v (fault Device)))
+          (exec units n ctx (pe + 2) (v ∷ stack)) (turn (give_up v rest))
           ((moved _ _ stack rest len k).by n (omega arith))
           ((one (pe + 1) (v ∷ stack) instr.GiveUpFailed (give_up v (fault Device)) there_is.1.0 (λ m lt'. refl)).by n (omega arith))
           ((moved (pe + 2) (pe + 1 + 1) (v ∷ stack) (turn (give_up v rest)) (omega arith)
           (one (pe + 1 + 1) (v ∷ stack) instr.GiveUp (give_up v rest) there_is.1.1.0 (λ m lt'.
-          give_up_at m v (λ q. exec units m ctx (pe + 1 + 1 + 1) stack) rest ((moved _ _ stack rest len' k).by m (omega arith))))).by n (omega arith))))
+          give_up_at m v (exec units m ctx (pe + 1 + 1 + 1) stack) rest ((moved _ _ stack rest len' k).by m (omega arith))))).by n (omega arith))))
 
       pub closes_follow : (es : List Expr) (pc : ℕ) (stack : Stack) (rest : Timed) → HasAt code pc (closes_code pc es) → Agree b (from (pc + length (closes_code pc es)) stack) rest → Agree b (from pc stack) (close_all points here es rest)
       closes_follow [] pc stack rest has k = moved pc (pc + 0) stack rest (omega arith) k
@@ -836,7 +836,7 @@ module _ (units : List unit.Unit) (u : unit.Unit) (ctx : Context) (there : slice
           moved _ _ (onto ss stack) _ (end_of pc cs (instr.Check ref))
           (timeout_follows r.timeout pw (onto ss stack) _ (has_front code pw cw _ back) (λ t st l.
           one at st (instr.Read r.mode w) (read_input r.mode t (λ u. turn (store x u rest))) there_is.0 (λ n lt.
-          let behind : Stack → List ℕ → Timed = λ base u m. exec units n ctx (at + 1) (u ∷ base) in
+          let behind : Stack → List ℕ → Timed = λ base u. exec units n ctx (at + 1) (u ∷ base) in
           waited r.timeout t st (onto ss stack) l (λ z. read_input r.mode z (behind (drop (wait_size w) st))) n
           ∙ ap (λ base. read_input r.mode t (behind base) n) (below_wait r.timeout t st (onto ss stack) l)
           ∙ read_input_at n r.mode t (behind (onto ss stack)) (λ u. turn (store x u rest)) (λ u.
@@ -847,7 +847,7 @@ module _ (units : List unit.Unit) (u : unit.Unit) (ctx : Context) (there : slice
       input_follows (Prompted text) pc stack rest has k =
           one pc stack (instr.Push text) (turn (write text rest)) has.0 (λ n lt.
           (one (pc + 1) (text ∷ stack) instr.Write (write text rest) has.1.0 (λ m lt'.
-          write_at m text (λ q. exec units m ctx (pc + 1 + 1) stack) rest ((moved (pc + 1 + 1) _ stack rest (omega arith) k).by m (omega arith)))).by n (omega arith))
+          write_at m text (exec units m ctx (pc + 1 + 1) stack) rest ((moved (pc + 1 + 1) _ stack rest (omega arith) k).by m (omega arith)))).by n (omega arith))
       input_follows (Arranged l) pc stack rest has k = format_follows l.marks l.column pc stack rest has k
       input_follows (Into r) pc stack rest has k = receive_follows r pc stack rest has k
 
@@ -878,6 +878,6 @@ module _ (units : List unit.Unit) (u : unit.Unit) (ctx : Context) (there : slice
           expr_follows e pc stack _ (has_front code pc ce _ has) (λ v.
           one (pc + length ce) (v ∷ stack) (instr.Unless past) _ back.0 (λ n lt.
           given_at n (truth_value v) _ _ (λ t q.
-          if_at n t (λ m. exec units n ctx behind stack) done (λ m. exec units n ctx past stack) rest
+          if_at n t (exec units n ctx behind stack) done (exec units n ctx past stack) rest
           ((f behind back.1 after).by n (omega arith))
           (after.by n (omega arith)))))

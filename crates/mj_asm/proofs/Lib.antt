@@ -1,5 +1,6 @@
 pub mod Rows
 pub mod Follows
+pub mod Transactions
 pub mod Flow
 pub mod Lines
 pub mod Labels

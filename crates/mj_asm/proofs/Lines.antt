@@ -128,13 +128,13 @@ module _ (routine : Routine) (u : unit.Unit) (name : u.name ≡ routine.name) (h
 
     -- a line, or the end, by what stands there, with n turns left
     line_follows : (d n k : ℕ) (o : Option Line) → 1 ≤ k → k ≤ length routine.lines + 1 → n ≤ d → LineStands k o → ((m : ℕ) → m < suc n → DoLines image units m) → Leaves units n below leave
-        → act units u (slice_get u.instrs.items (start_of u k)) (λ c p st q. exec units n c p st) ctx (start_of u k) [] n ≡ obey_line (points_of image d) (line_at u.name k) o leave n
+        → act units u (slice_get u.instrs.items (start_of u k)) (exec units n) ctx (start_of u k) [] n ≡ obey_line (points_of image d) (line_at u.name k) o leave n
     line_follows d n k None some last deep s lines leaves =
         let there : slice_get u.instrs.items (start_of u k) ≡ None = ap (slice_get u.instrs.items) s.0 ∙ slice_get_past u.instrs.items (length u.instrs.items) (omega arith) in
         let number : length u.heads.items ≡ k - 1 = omega (arith, many, s.1) in
-        ap (λ i. act units u i (λ c p st q. exec units n c p st) ctx (start_of u k) [] n) there
-        ∙ ap (λ l. change (at_place (place_in u l)) (quits (λ c p st q. exec units n c p st) below) n) number
-        ∙ change_at n (at_place (place_in u (k - 1))) (quits (λ c p st q. exec units n c p st) below) (quit_frame (leave [])) (quits_same units n below leave leaves)
+        ap (λ i. act units u i (exec units n) ctx (start_of u k) [] n) there
+        ∙ ap (λ l. change (at_place (place_in u l)) (quits (exec units n) below) n) number
+        ∙ change_at n (at_place (place_in u (k - 1))) (quits (exec units n) below) (quit_frame (leave [])) (quits_same units n below leave leaves)
     line_follows d n k (Some line) some last deep s lines leaves =
         let pc = start_of u k in
         let here : Here = line_at u.name k in
@@ -146,24 +146,24 @@ module _ (routine : Routine) (u : unit.Unit) (name : u.name ≡ routine.name) (h
         moved units u ctx at n _ _ [] next len (lines n (omega arith) j u at (k + 1) (omega arith) (omega (arith, many, s.2)) below leave leaves d deep) in
         let body : Agree n (from units u ctx at (pc + 1) []) (obey_all (points_of image d) here line.steps ways) =
         steps_follow image units alike u j k at some (omega (arith, many, s.2)) below line.steps n d deep (λ m lt. lines m (omega arith)) [] None ways (pc + 1) s.0.1 on tt leaves in
-        let over : Timed = change (at_place (place_in u (k - 1))) (quits (λ c p st q. exec units n c p st) below) in
-        let passes_over : Timed = λ q. exec units n ctx (pc + 1 + length commands) [] in
-        let goes_in : Timed = change (at_place (place_in u k)) (λ q. exec units n ctx (pc + 1) []) in
-        ap (λ i. act units u i (λ c p st q. exec units n c p st) ctx pc [] n) s.0.0
+        let over : Timed = change (at_place (place_in u (k - 1))) (quits (exec units n) below) in
+        let passes_over : Timed = exec units n ctx (pc + 1 + length commands) [] in
+        let goes_in : Timed = change (at_place (place_in u k)) (exec units n ctx (pc + 1) []) in
+        ap (λ i. act units u i (exec units n) ctx pc [] n) s.0.0
         ∙ look_at n (λ s'. if nat_lt line.level (level_of s') then over else if nat_lt (level_of s') line.level then passes_over else goes_in)
         (λ s'. if nat_lt line.level (level_of s') then quit_before here leave else if nat_lt (level_of s') line.level then next else change (at_place (place_at here)) (obey_all (points_of image d) here line.steps ways))
         (λ s'. if_at n (nat_lt line.level (level_of s')) over (quit_before here leave) (if nat_lt (level_of s') line.level then passes_over else goes_in) (if nat_lt (level_of s') line.level then next else change (at_place (place_at here)) (obey_all (points_of image d) here line.steps ways))
-        (change_at n (at_place (place_in u (k - 1))) (quits (λ c p st q. exec units n c p st) below) (quit_frame (leave [])) (quits_same units n below leave leaves))
+        (change_at n (at_place (place_in u (k - 1))) (quits (exec units n) below) (quit_frame (leave [])) (quits_same units n below leave leaves))
         (if_at n (nat_lt (level_of s') line.level) passes_over next goes_in (change (at_place (place_at here)) (obey_all (points_of image d) here line.steps ways))
         (on.by n (omega arith))
-        (change_at n (at_place (place_in u k)) (λ q. exec units n ctx (pc + 1) []) (obey_all (points_of image d) here line.steps ways) (body.by n (omega arith)))))
+        (change_at n (at_place (place_in u k)) (exec units n ctx (pc + 1) []) (obey_all (points_of image d) here line.steps ways) (body.by n (omega arith)))))
 
     does_line : (b k : ℕ) → 1 ≤ k → k ≤ length routine.lines + 1 → ((m : ℕ) → m < b → DoLines image units m) → Leaves units b below leave → (depth : ℕ) → b ≤ depth
-        → (n : ℕ) → n ≤ b → exec units n ctx (start_of u k) [] ≡ turn (points_of image depth (AtLine (line_at u.name k) leave)) n
+        → (n : ℕ) → n ≤ b → exec units n ctx (start_of u k) [] n ≡ turn (points_of image depth (AtLine (line_at u.name k) leave)) n
     does_line b k some last lines leaves depth deep zero le = refl
     does_line b k some last lines leaves zero deep (suc n) le = absurd (omega (arith, le, deep))
     does_line b k some last lines leaves (suc d) deep (suc n) le =
-        ap (λ o. act_in units o (λ c p st q. exec units n c p st) ctx (start_of u k) [] n) at
+        ap (λ o. act_in units o (exec units n) ctx (start_of u k) [] n) at
         ∙ line_follows d n k (slice_get routine.lines (k - 1)) some last (omega (arith, le, deep)) (lines_stand k some) (λ m lt. lines m (omega (arith, lt, le))) (fewer_leaves units b n below leave (omega (arith, le)) leaves)
         ∙ ap (λ l. obey_line (points_of image d) (line_at u.name k) (slice_get l (k - 1)) leave n) (sym (ap (lines_of image) name ∙ found))
 

@@ -26,6 +26,11 @@ conditions_in (command.Do v) = 0
 conditions_in (command.Goto v) = 0
 conditions_in command.Quit = 0
 conditions_in (command.New v) = 0
+conditions_in (command.TStart v) = 0
+conditions_in command.TCommit = 0
+conditions_in command.TRestart = 0
+conditions_in command.TRollback = 0
+conditions_in command.Break = 0
 
 -- commands, each for 3, and the conditions of each IF
 abbrev pub weight : List step.Step → ℕ

@@ -1,16 +1,19 @@
 -- The instructions of each piece of a routine.
 use Rattle.std.specs.Prelude.{ℕ, ◌+◌, List, [], ◌∷◌, ◌++◌, Option, Some, None, Bool, true, false, length, map}
-use Rattle.mj_ast.specs.Syntax.{Expr, Chain, Tails, Done, Then, Operand, Literal, Value, Intrinsic, Unary, Group, Call, Select, Variable, Var, Exprs, No, More, Choices, Last, Before, Destination, Plain, Pieces, Targets, One, Several, Assignment, Killed, Gone, Spared, Merged, Output, Shown, Format, Coded, Called, Jumped, Started, LockNames, Lone, Together, Locked, Opened, Received, Input, Prompted, Arranged, Into, Range, Single, Endless, UpTo, Renewed, Fresh, Kept, Command, Set, Write, Halt, Hang, Job, Lock, OpenDevice, UseDevice, CloseDevice, Read, Kill, Merge, If, Else, For, Forever, Do, Goto, Quit, New, Step, Line, About}
+use Rattle.mj_ast.specs.Syntax.{Expr, Chain, Tails, Done, Then, Operand, Literal, Value, Intrinsic, Unary, Group, Call, Select, Variable, Var, Exprs, No, More, Choices, Last, Before, Destination, Plain, Pieces, Targets, One, Several, Assignment, Killed, Gone, Spared, Merged, Output, Shown, Format, Coded, Called, Jumped, Started, LockNames, Lone, Together, Locked, Opened, Received, Input, Prompted, Arranged, Into, Range, Single, Endless, UpTo, Renewed, Fresh, Kept, Restored, Alone, Listed, Everything, Restartable, Command, Set, Write, Halt, Hang, Job, Lock, OpenDevice, UseDevice, CloseDevice, Read, Kill, Merge, If, Else, For, Forever, Do, Goto, Quit, New, TStart, TCommit, TRestart, TRollback, Break, Step, Line, About}
 use Rattle.mj_ast.specs.declared.routine.Mark.{Mark}
 use Rattle.mj_ast.specs.declared.routine.ReadMode.{ReadMode}
 use Rattle.mj_ast.specs.declared.routine.LockMode.{LockMode}
 use Rattle.mj_ast.specs.declared.routine.LockMode.TheVariants.{Whole, Plus, Minus}
 use Rattle.mj_semantics.specs.Lines.{Here, next_line, entry_of}
+use Rattle.mj_semantics.specs.Transactions.{listed_by, serial_by}
 use Rattle.mj_pcode.specs.declared.instr.Reference.{Reference}
 use Rattle.mj_pcode.specs.declared.instr.Depth.{Depth}
 use Rattle.mj_pcode.specs.declared.instr.Span.TheVariants as span
 use Rattle.mj_pcode.specs.declared.instr.Wait.{Wait}
 use Rattle.mj_pcode.specs.declared.instr.Wait.TheVariants.{Ever, Timed}
+use Rattle.mj_pcode.specs.declared.instr.Restores.{Restores}
+use Rattle.mj_pcode.specs.declared.instr.Restores.TheVariants as restores
 use Rattle.mj_pcode.specs.declared.instr.Instr.{Instr}
 use Rattle.mj_pcode.specs.declared.instr.Instr.TheVariants as instr
 
@@ -374,6 +377,37 @@ for_code pc v rs rest =
     let close = first + length (ranges_code first rs) in
     subscripts_code pc v ++ instr.Open (reference v).word (reference v).count (close + 1) ∷ (ranges_code first rs ++ body_code close rest)
 
+-- the names of a list of them
+abbrev pub listed_of : Restored → List (List ℕ)
+listed_of (Alone word) = []
+listed_of (Listed words) = words
+listed_of Everything = []
+
+-- which locals a restart restores
+abbrev pub restores_of : Restored → Restores
+restores_of (Alone word) = restores.Only (word ∷ [])
+restores_of (Listed words) = restores.Only words
+restores_of Everything = restores.All
+
+abbrev pub restores_by : Option Restartable → Restores
+restores_by None = restores.Never
+restores_by (Some r) = restores_of r.restored
+
+-- a transaction begins, and a restart goes on at the second instruction, which stands behind the outermost TSTART alone
+abbrev pub begin_code : Restores → Bool → List Instr
+begin_code r serial = instr.StartTransaction r serial ∷ instr.MarkRestart ∷ []
+
+-- TSTART: a list of names takes an instruction for each
+abbrev pub transaction_code : Option Restartable → List Instr
+transaction_code a = names_code (listed_by a) ++ begin_code (restores_by a) (serial_by a)
+
+-- TCOMMIT: a clash leads to a restart
+abbrev pub commit_code : List Instr
+commit_code = instr.Commit ∷ instr.BeginAgain ∷ []
+
+abbrev pub restart_code : List Instr
+restart_code = instr.GiveBack ∷ instr.BeginAgain ∷ []
+
 -- a command without its postcondition, in a FOR that is closed at an instruction, or in none. IF, ELSE and FOR have the rest of
 -- their line in their code
 abbrev pub command_code : Here → ℕ → Option ℕ → Command → List Instr
@@ -397,6 +431,11 @@ command_code here pc out (Do list) = do_code here pc list
 command_code here pc out (Goto list) = jumps_code here pc list
 command_code here pc out Quit = quit_code out
 command_code here pc out (New list) = new_all_code list
+command_code here pc out (TStart a) = transaction_code a
+command_code here pc out TCommit = commit_code
+command_code here pc out TRestart = restart_code
+command_code here pc out TRollback = instr.RollBack ∷ []
+command_code here pc out Break = instr.Discard 0 ∷ []
 
 -- a command behind its postcondition, and then the rest of its line
 abbrev pub and_then : Here → ℕ → Option ℕ → Option Expr → Command → (ℕ → Option ℕ → List Instr) → List Instr
@@ -426,6 +465,11 @@ obey_code here pc out (Do list) c rest = and_then here pc out c (Do list) rest
 obey_code here pc out (Goto list) c rest = and_then here pc out c (Goto list) rest
 obey_code here pc out Quit c rest = and_then here pc out c Quit rest
 obey_code here pc out (New list) c rest = and_then here pc out c (New list) rest
+obey_code here pc out (TStart a) c rest = and_then here pc out c (TStart a) rest
+obey_code here pc out TCommit c rest = and_then here pc out c TCommit rest
+obey_code here pc out TRestart c rest = and_then here pc out c TRestart rest
+obey_code here pc out TRollback c rest = and_then here pc out c TRollback rest
+obey_code here pc out Break c rest = and_then here pc out c Break rest
 
 abbrev pub steps_code : Here → ℕ → Option ℕ → List Step → List Instr
 steps_code here pc out [] = []

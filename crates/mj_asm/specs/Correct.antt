@@ -29,11 +29,11 @@ pub record Agree (b : ℕ) (f g : Timed) : Type 0 where
 
 -- the machine in a context from an instruction on, without operands
 abbrev pub from_there : List unit.Unit → Context → ℕ → Timed
-from_there units c pc n = exec units n c pc []
+from_there units c pc n = exec units n c pc [] n
 
 -- what comes next, for the machine
 abbrev pub next_of : List unit.Unit → Next
-next_of units c pc stack n = exec units n c pc stack
+next_of units c pc stack n = exec units n c pc stack n
 
 -- From line k of the unit at place j on, or from its end, the machine does what the routines do from that line on, for at most b
 -- turns: whatever the frames below are to do that the frame's QUIT leads to, with whatever value, if it is the same for as many turns,

@@ -19,7 +19,7 @@ use Rattle.mj_asm.specs.Correct.{Agree, next_of, DoLines, IsFound}
 
 -- the machine with the turns that are left
 abbrev pub after_one : List unit.Unit → ℕ → Next
-after_one units n = λ d p st m. exec units n d p st
+after_one units n = exec units n
 
 -- what the frames below are to do that a QUIT leads to is the same for at most n turns, with whatever value
 abbrev pub Leaves : List unit.Unit → ℕ → List Call → Leave → Type 0
@@ -34,10 +34,10 @@ same_place r r' k k' e e' = ap (λ x. record { routine = x; line = k }) e ∙ ap
 module _ (image : List Routine) (units : List unit.Unit) where
   -- the machine at the line that was found, where so many tallies lie, and the routines at theirs after as many turns
   pub at_found : (formals d n m : ℕ) (to : Here × Line) (f : Found) (below : List Call) (leave : Leave) → m ≤ n → n ≤ d → IsFound image units (Some to) (Some f) → DoLines image units n → Leaves units n below leave
-      → exec units m (at_unit f.at below) f.head.start (tallies formals) ≡ turns formals (turn (points_of image d (AtLine to.0 leave))) m
+      → exec units m (at_unit f.at below) f.head.start (tallies formals) m ≡ turns formals (turn (points_of image d (AtLine to.0 leave))) m
   at_found zero d n m to f below leave fewer le is lines k =
       let h : to.0 ≡ record { routine = f.unit.name; line = f.line } = same_here to.0.routine f.unit.name to.0.line f.line is.1 is.2 in
-      ap (λ p. exec units m (at_unit f.at below) p []) is.5
+      ap (λ p. exec units m (at_unit f.at below) p [] m) is.5
       ∙ (lines f.at f.unit is.0 f.line is.3 is.4 below leave k d le).by m fewer
       ∙ ap (λ x. turn (points_of image d (AtLine x leave)) m) (sym h)
   at_found (suc formals) d n zero to f below leave fewer le is lines k = refl
@@ -56,7 +56,7 @@ module _ (image : List Routine) (units : List unit.Unit) where
       let formals : to.1.formals ≡ f.head.formals = is.7 in
       let place : place_at to.0 ≡ place_in f.unit f.line = same_place to.0.routine f.unit.name to.0.line f.line is.1 is.2 in
       let line : Timed = turn (points_of image d (AtLine to.0 leave)) in
-      let there : Timed = λ m. exec units n (at_unit f.at below) f.head.start (tallies (length f.head.formals)) in
+      let there : Timed = exec units n (at_unit f.at below) f.head.start (tallies (length f.head.formals)) in
       let after_formals : Timed = turns (length f.head.formals) line in
       let whole : ℕ → List (List ℕ) → Place → Timed → Timed = λ l xs p rest.
       if nat_eq l 1 then if nat_lt (length xs) (length vs) then fault Params else deeper (change (λ s. passed xs vs (pushed p 1 function (if function then Some s.test else None) s)) (turns (length xs) rest)) else fault NoLine in

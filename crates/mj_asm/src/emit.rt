@@ -2,8 +2,9 @@
 
 ghost use Rattle.std.specs.Prelude.{◌≡◌, ◌<◌, ◌+◌, ◌^◌, [], ◌∷◌, ◌++◌, length, map, slice_set, option_map, IfOk, OnOk};
 ghost use Rattle.mj_pcode.specs.Checked.{IsChecked};
-ghost use Rattle.mj_ast.specs.Trees.{expr_of, variable_of, assignment_of, killed_of, merged_of, called_of, jumped_of, range_of, renewed_of, command_of, step_of, line_of, routine_of};
-ghost use Rattle.mj_asm.specs.Code.{assignment_code, assignments_code, names_code, kill_code, kills_code, kill_all_code, merge_code, merges_code, code_if, command_code, steps_code, if_code, ifs_code, else_code, for_code, body_code, range_code, ranges_code, do_code, call_code, jumps_code, jump_code, new_all_code, renewed_code, line_code};
+ghost use Rattle.mj_ast.specs.Trees.{expr_of, variable_of, assignment_of, killed_of, merged_of, called_of, jumped_of, range_of, renewed_of, restored_of, restartable_of, command_of, step_of, line_of, routine_of};
+ghost use Rattle.mj_asm.specs.Code.{assignment_code, assignments_code, names_code, kill_code, kills_code, kill_all_code, merge_code, merges_code, code_if, command_code, steps_code, if_code, ifs_code, else_code, for_code, body_code, range_code, ranges_code, do_code, call_code, jumps_code, jump_code, new_all_code, renewed_code, listed_of, restores_of, begin_code, transaction_code, line_code};
+ghost use Rattle.mj_semantics.specs.Transactions as transactions;
 ghost use Rattle.mj_asm.specs.Sites.{here_of};
 ghost use Rattle.mj_asm.specs.Correct.{with_labels, IsUnitOf};
 
@@ -14,10 +15,10 @@ use crate::sharing::{emit_hangs, emit_jobs, emit_lock_all};
 use crate::site::Site;
 use crate::targets::{emit_name, emit_one, emit_several};
 use mj_ast::{
-    Assignment, Called, Command, Expr, Jumped, Killed, Line, Merged, Range, Renewed, Routine, Step,
-    Targets, Variable,
+    Assignment, Called, Command, Expr, Jumped, Killed, Line, Merged, Range, Renewed, Restartable,
+    Restored, Routine, Serial, Step, Targets, Variable,
 };
-use mj_pcode::{Head, Instr, Labels, LineStart, Span, Unit, Words};
+use mj_pcode::{Head, Instr, Labels, LineStart, Restores, Span, Unit, Words};
 use mj_text::Text;
 use std::alloc::{AllocError, Global};
 
@@ -296,6 +297,11 @@ fn emit_command(
             Some(close) => put(code, Instr::Jump(close)),
         },
         Command::New(list) => emit_new_all(site.alloc, code, list),
+        Command::TStart(argument) => emit_transaction(site.alloc, code, argument),
+        Command::TCommit => emit_again(code, Instr::Commit),
+        Command::TRestart => emit_again(code, Instr::GiveBack),
+        Command::TRollback => put(code, Instr::RollBack),
+        Command::Break => put(code, Instr::Discard(0)),
         Command::If(_) | Command::Else | Command::For(_, _) | Command::Forever => Ok(()),
     }
 }
@@ -400,6 +406,67 @@ fn emit_new(alloc: Global, code: &mut Vec<Instr>, renewed: &Renewed) -> Result<(
             put(code, Instr::NewExcept(words))
         }
     }
+}
+
+// TSTART.
+fn emit_transaction(
+    alloc: Global,
+    code: &mut Vec<Instr>,
+    argument: &Option<Restartable>,
+) -> Result<(), AllocError>
+    ensures { OnOk result (code.new.items ≡ code.old.items ++ transaction_code (option_map restartable_of argument.now)) }
+{
+    match argument {
+        None => emit_begin(code, Restores::Never, false),
+        Some(restartable) => {
+            let restores = emit_restored(alloc, code, &restartable.restored)?;
+            emit_begin(code, restores, says_serial(restartable.serial))
+        }
+    }
+}
+
+// The instruction that begins a transaction, and the one where a restart goes on.
+fn emit_begin(code: &mut Vec<Instr>, restores: Restores, serial: bool) -> Result<(), AllocError>
+    ensures { OnOk result (code.new.items ≡ code.old.items ++ begin_code restores serial) }
+{
+    put(code, Instr::StartTransaction(restores, serial))?;
+    put(code, Instr::MarkRestart)
+}
+
+// The locals that a restart restores, behind an instruction for each name of a list.
+fn emit_restored(
+    alloc: Global,
+    code: &mut Vec<Instr>,
+    restored: &Restored,
+) -> Result<Restores, AllocError>
+    ensures code { OnOk result (code.new.items ≡ code.old.items ++ names_code (listed_of (restored_of restored.now))) }
+    ensures restores { IfOk result (λ r. r ≡ restores_of (restored_of restored.now)) }
+{
+    match restored {
+        Restored::One(word) => Ok(Restores::Only(Words::one(alloc, word)?)),
+        Restored::Several(words) => {
+            emit_names(code, words)?;
+            Ok(Restores::Only(Words::copied(alloc, words)?))
+        }
+        Restored::All => Ok(Restores::All),
+    }
+}
+
+fn says_serial(serial: Serial) -> bool
+    ensures { result ≡ transactions.says_serial serial }
+{
+    match serial {
+        Serial::No => false,
+        Serial::Bare | Serial::Enclosed => true,
+    }
+}
+
+// An instruction, and the one that begins the transaction once more.
+fn emit_again(code: &mut Vec<Instr>, first: Instr) -> Result<(), AllocError>
+    ensures { OnOk result (code.new.items ≡ code.old.items ++ first ∷ Instr.BeginAgain ∷ []) }
+{
+    put(code, first)?;
+    put(code, Instr::BeginAgain)
 }
 
 fn emit_assignments(code: &mut Vec<Instr>, assignments: &[Assignment]) -> Result<(), AllocError>

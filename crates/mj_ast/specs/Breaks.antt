@@ -1,7 +1,7 @@
--- Which commands are BREAK, at which a debugger stops. None is yet.
-use Rattle.std.specs.Prelude.{Bool, false}
+-- Which commands are BREAK, at which a debugger stops.
+use Rattle.std.specs.Prelude.{Bool, true, false}
 use Rattle.std.specs.List.{list_any}
-use Rattle.mj_ast.specs.Syntax.{Command, Set, Write, Halt, Hang, Job, Lock, Kill, Merge, If, Else, For, Forever, Do, Goto, Quit, New, OpenDevice, UseDevice, CloseDevice, Read, Line}
+use Rattle.mj_ast.specs.Syntax.{Command, Set, Write, Halt, Hang, Job, Lock, Kill, Merge, If, Else, For, Forever, Do, Goto, Quit, New, OpenDevice, UseDevice, CloseDevice, Read, TStart, TCommit, TRestart, TRollback, Break, Line}
 
 -- whether a command is BREAK
 abbrev pub is_break : Command → Bool
@@ -25,6 +25,11 @@ is_break (OpenDevice arguments) = false
 is_break (UseDevice arguments) = false
 is_break (CloseDevice arguments) = false
 is_break (Read arguments) = false
+is_break (TStart argument) = false
+is_break TCommit = false
+is_break TRestart = false
+is_break TRollback = false
+is_break Break = true
 
 -- whether one of a line's commands is BREAK
 abbrev pub holds_break : Line → Bool

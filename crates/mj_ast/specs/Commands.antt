@@ -23,6 +23,9 @@
 --   OPEN        an expression and [":" ":" expression], and more behind commas
 --   USE, CLOSE  an expression, and more behind commas
 --   READ        a quoted text, a format or ["*"] variable [":" expression], and more behind commas
+--   TSTART      nothing, or one argument: a name, "*", or "(" [name {"," name}] ")", and then [":" serial]
+--   serial      = word | "(" word ")", the word being SERIAL or S
+--   BREAK, TCOMMIT, TRESTART, TROLLBACK   no arguments
 --   entry       = label | label "^" name | "^" name
 --   label       = name | digits
 --   actuals     = "(" [[expression] {"," [expression]}] ")"
@@ -43,11 +46,13 @@ use Rattle.mj_ast.specs.declared.routine.LockMode.{LockMode}
 use Rattle.mj_ast.specs.declared.routine.LockMode.TheVariants as lock
 use Rattle.mj_ast.specs.declared.routine.ReadMode.{ReadMode}
 use Rattle.mj_ast.specs.declared.routine.ReadMode.TheVariants as read
+use Rattle.mj_ast.specs.declared.routine.Serial.{Serial}
+use Rattle.mj_ast.specs.declared.routine.Serial.TheVariants as serial
 use Rattle.mj_ast.specs.declared.keyword.Keyword.{Keyword}
 use Rattle.mj_ast.specs.declared.keyword.Keyword.TheVariants as keyword
 use Rattle.mj_ast.specs.declared.keyword.Verb.{Verb}
 use Rattle.mj_ast.specs.declared.keyword.Verb.TheVariants.{Of, HaltOrHang}
-use Rattle.mj_ast.specs.Syntax.{Expr, Exprs, No, More, Variable, Var, Destination, Plain, Pieces, Targets, One, Several, Assignment, Killed, Gone, Spared, Merged, Layout, Output, Shown, Format, Coded, Received, Input, Prompted, Arranged, Into, Opened, Target, Called, Jumped, Started, LockNames, Lone, Together, Locked, Range, Single, Endless, UpTo, Renewed, Fresh, Kept, Command, Set, Write, Halt, Hang, Job, Lock, Kill, Merge, If, Else, For, Forever, Do, Goto, Quit, New, OpenDevice, UseDevice, CloseDevice, Read, Step}
+use Rattle.mj_ast.specs.Syntax.{Expr, Exprs, No, More, Variable, Var, Destination, Plain, Pieces, Targets, One, Several, Assignment, Killed, Gone, Spared, Merged, Layout, Output, Shown, Format, Coded, Received, Input, Prompted, Arranged, Into, Opened, Target, Called, Jumped, Started, LockNames, Lone, Together, Locked, Range, Single, Endless, UpTo, Renewed, Fresh, Kept, Restored, Alone, Listed, Everything, Restartable, Command, Set, Write, Halt, Hang, Job, Lock, Kill, Merge, If, Else, For, Forever, Do, Goto, Quit, New, OpenDevice, UseDevice, CloseDevice, Read, TStart, TCommit, TRestart, TRollback, Break, Step}
 use Rattle.mj_ast.specs.Tokens.{Token, Word, Called as CalledWord, Digits, Quoted, Signed, Blank}
 use Rattle.mj_ast.specs.Expressions.{Spells, expressions, variables, callee_of, name_limit, count, expr_nesting, variable_nesting, expr_width, variable_width}
 
@@ -79,7 +84,12 @@ command_words =
     ∷ (codes "OPEN", Of keyword.Open) ∷ (codes "O", Of keyword.Open)
     ∷ (codes "USE", Of keyword.Use) ∷ (codes "U", Of keyword.Use)
     ∷ (codes "CLOSE", Of keyword.Close) ∷ (codes "C", Of keyword.Close)
-    ∷ (codes "READ", Of keyword.Read) ∷ (codes "R", Of keyword.Read) ∷ []
+    ∷ (codes "READ", Of keyword.Read) ∷ (codes "R", Of keyword.Read)
+    ∷ (codes "TSTART", Of keyword.TStart) ∷ (codes "TS", Of keyword.TStart)
+    ∷ (codes "TCOMMIT", Of keyword.TCommit) ∷ (codes "TC", Of keyword.TCommit)
+    ∷ (codes "TRESTART", Of keyword.TRestart) ∷ (codes "TRE", Of keyword.TRestart)
+    ∷ (codes "TROLLBACK", Of keyword.TRollback) ∷ (codes "TRO", Of keyword.TRollback)
+    ∷ (codes "BREAK", Of keyword.Break) ∷ (codes "B", Of keyword.Break) ∷ []
 
 -- what stands beside the word in the table
 abbrev pub looked_up : List ℕ → List (List ℕ × Verb) → Option Verb
@@ -121,15 +131,21 @@ keyword_for (OpenDevice arguments) = keyword.Open
 keyword_for (UseDevice arguments) = keyword.Use
 keyword_for (CloseDevice arguments) = keyword.Close
 keyword_for (Read arguments) = keyword.Read
+keyword_for (TStart argument) = keyword.TStart
+keyword_for TCommit = keyword.TCommit
+keyword_for TRestart = keyword.TRestart
+keyword_for TRollback = keyword.TRollback
+keyword_for Break = keyword.Break
 
 -- ---- what arguments are made of
 
--- A part of the arguments of a command: a sign, a name, a label, `$PIECE` with a `(` behind it, a text in quotes alone, an expression, a
--- variable or the local of FOR. An expression and a variable stand inside so many levels that the command itself opens.
+-- A part of the arguments of a command: a sign, a name, a label, the word that makes a transaction SERIAL, `$PIECE` with a `(` behind it, a
+-- text in quotes alone, an expression, a variable or the local of FOR. An expression and a variable stand inside so many levels that the command itself opens.
 pub data Part : Type 0 where
   Put : (s : Sign) → Part
   Named : (word : List ℕ) → Part
   Label : (label : List ℕ) → Part
+  SerialWord : Part
   PieceCall : Part
   Prompt : (value : List ℕ) → Part
   Text : (level : ℕ) (e : Expr) → Part
@@ -281,6 +297,22 @@ abbrev pub renewed_parts : Renewed → List Part
 renewed_parts (Fresh word) = Named word ∷ []
 renewed_parts (Kept words) = Put Open ∷ (with_commas name_parts words ++ Put Close ∷ [])
 
+-- which locals a restart restores
+abbrev pub restored_parts : Restored → List Part
+restored_parts (Alone word) = Named word ∷ []
+restored_parts (Listed words) = Put Open ∷ (with_commas name_parts words ++ Put Close ∷ [])
+restored_parts Everything = Put Star ∷ []
+
+abbrev pub serial_parts : Serial → List Part
+serial_parts serial.No = []
+serial_parts serial.Bare = Put Colon ∷ SerialWord ∷ []
+serial_parts serial.Enclosed = Put Colon ∷ Put Open ∷ SerialWord ∷ Put Close ∷ []
+
+-- the argument of TSTART, if it has one
+abbrev pub restartable_parts : Option Restartable → List Part
+restartable_parts None = []
+restartable_parts (Some r) = restored_parts r.restored ++ serial_parts r.serial
+
 abbrev pub command_parts : Command → List Part
 command_parts (Set list) = with_commas assignment_parts list
 command_parts (Write list) = with_commas output_parts list
@@ -302,6 +334,11 @@ command_parts (OpenDevice list) = with_commas opened_parts list
 command_parts (UseDevice list) = with_commas value_parts list
 command_parts (CloseDevice list) = with_commas value_parts list
 command_parts (Read list) = with_commas input_parts list
+command_parts (TStart argument) = restartable_parts argument
+command_parts TCommit = []
+command_parts TRestart = []
+command_parts TRollback = []
+command_parts Break = []
 
 -- ---- which trees commands have
 
@@ -406,6 +443,11 @@ is_formed (OpenDevice list) = has_items list
 is_formed (UseDevice list) = has_items list
 is_formed (CloseDevice list) = has_items list
 is_formed (Read list) = has_items list && every is_input list
+is_formed (TStart argument) = true
+is_formed TCommit = true
+is_formed TRestart = true
+is_formed TRollback = true
+is_formed Break = true
 
 -- behind its word a `:` and a condition may stand
 abbrev pub is_conditional : Keyword → Bool
@@ -438,10 +480,15 @@ plain_step s = record { condition = s.condition; command = plain s.command }
 
 -- ---- spelling
 
+-- the word that makes a transaction SERIAL, in any case
+abbrev pub is_serial_word : List ℕ → Bool
+is_serial_word word = bytes_eq (map capital word) (codes "SERIAL") || bytes_eq (map capital word) (codes "S")
+
 abbrev pub SpellsPart : List Token → Part → Type 0
 SpellsPart ks (Put s) = ks ≡ Signed s ∷ []
 SpellsPart ks (Named word) = (ks ≡ Word word ∷ []) × (length word ≤ name_limit)
 SpellsPart ks (Label label) = ((ks ≡ Word label ∷ []) × (length label ≤ name_limit)) ⊎ ((ks ≡ Digits label ∷ []) × (length label ≤ TEXT_LIMIT))
+SpellsPart ks SerialWord = (word : List ℕ) × (ks ≡ Word word ∷ []) × (is_serial_word word ≡ true)
 SpellsPart ks PieceCall = (word : List ℕ) × (ks ≡ CalledWord word ∷ []) × (length word ≤ name_limit) × (callee_of word ≡ Some (Texts Piece))
 SpellsPart ks (Prompt value) = (ks ≡ Quoted value ∷ []) × (length value ≤ TEXT_LIMIT)
 SpellsPart ks (Text level e) = Spells expressions ks e

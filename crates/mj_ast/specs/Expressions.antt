@@ -69,6 +69,8 @@ special_of w =
     if is_named w (codes "IO") (codes "I") then Some specials.Io
     else if is_named w (codes "JOB") (codes "J") then Some specials.Job
     else if is_named w (codes "TEST") (codes "T") then Some specials.Test
+    else if is_named w (codes "TLEVEL") (codes "TL") then Some specials.TLevel
+    else if is_named w (codes "TRESTART") (codes "TR") then Some specials.TRestart
     else if is_named w (codes "X") (codes "X") then Some specials.X
     else if is_named w (codes "Y") (codes "Y") then Some specials.Y
     else None

@@ -47,7 +47,7 @@ use Rattle.mj_ast.specs.declared.keyword.Verb.{Verb}
 use Rattle.mj_ast.specs.Syntax.{Line, Step}
 use Rattle.mj_ast.specs.Tokens.{Token, Word, Called, Special, Digits, Quoted, Signed, Blank, Stray, tokens}
 use Rattle.mj_ast.specs.Expressions.{callee_of, is_named}
-use Rattle.mj_ast.specs.Commands.{verb_of, keyword_for}
+use Rattle.mj_ast.specs.Commands.{capital, verb_of, keyword_for}
 use Rattle.mj_ast.specs.Lines.{SpellsLine, BeginsLine, IsStuckAt}
 
 -- ---- names
@@ -68,6 +68,8 @@ name_of construct.ReadLength = codes "read length"
 name_of construct.DeviceParameters = codes "device parameters"
 name_of construct.ProcessParameters = codes "process parameters"
 name_of construct.MnemonicSpace = codes "mnemonic space"
+name_of construct.TransactionId = codes "transaction id"
+name_of construct.BareSerial = codes "bare serial"
 name_of construct.SetExtract = codes "set extract"
 name_of construct.JustifyDecimals = codes "justify decimals"
 name_of construct.QueryBackward = codes "query backward"
@@ -305,22 +307,13 @@ abbrev pub is_exponent : Token → Bool
 is_exponent (Word w) = is_e w
 is_exponent t = false
 
--- the words of commands that the reader doesn't read yet
-abbrev pub is_later : List ℕ → Bool
-is_later w =
-    is_named w (codes "BREAK") (codes "B")
-    || (is_named w (codes "TCOMMIT") (codes "TC")
-    || (is_named w (codes "TRESTART") (codes "TRE")
-    || (is_named w (codes "TROLLBACK") (codes "TRO")
-    || is_named w (codes "TSTART") (codes "TS"))))
-
 abbrev pub has_verb : Option Verb → Bool
 has_verb None = false
 has_verb (Some v) = true
 
 -- a word that is no command's
 abbrev pub is_unknown : Token → Bool
-is_unknown (Word w) = not (has_verb (verb_of w) || is_later w)
+is_unknown (Word w) = not (has_verb (verb_of w))
 is_unknown t = false
 
 -- the words of variables, those that the reader doesn't read yet among them
@@ -402,6 +395,26 @@ IsBehindTimeout front = IsBehindColons front ⊎ EndsInCommand keyword.Open fron
 abbrev pub IsBehindInput : List Token → Type 0
 IsBehindInput front = EndsInCommand keyword.Read front × MayStand front (Signed Colon)
 
+-- ---- the argument of TSTART
+
+-- a word that begins with `T` or `t`
+abbrev pub is_t : List ℕ → Bool
+is_t [] = false
+is_t (b ∷ bs) = capital b == 84
+
+abbrev pub is_transaction_word : Token → Bool
+is_transaction_word (Word w) = is_t w
+is_transaction_word t = false
+
+-- behind the `:` of such an argument, or behind a `(` there
+abbrev pub IsBehindSerial : List Token → Type 0
+IsBehindSerial front =
+    (before : List Token) × ((front ≡ before ++ Signed Colon ∷ []) ⊎ (front ≡ before ++ Signed Colon ∷ Signed Open ∷ [])) × EndsInCommand keyword.TStart before
+
+-- where the argument may begin: only there may a `*` stand behind the one blank
+abbrev pub MayBeginRestartable : List Token → Type 0
+MayBeginRestartable front = IsBehindCommand keyword.TStart front × MayStand front (Signed Star)
+
 -- ---- an argument of QUIT
 
 -- the token may begin an expression or an indirection
@@ -443,6 +456,8 @@ Fits construct.DeviceParameters front t behind = ((is_colon t ≡ true) × IsBeh
 Fits construct.ProcessParameters front t behind = IsBehindColon keyword.Job front
 Fits construct.MnemonicSpace front t behind =
     ((is_colon t ≡ true) × IsBehindTimeout front) ⊎ ((is_slash t ≡ true) × MayBeginOutput front)
+Fits construct.TransactionId front t behind = (is_transaction_word t ≡ true) × IsBehindSerial front
+Fits construct.BareSerial front t behind = (is_colon t ≡ true) × MayBeginRestartable front
 Fits construct.SetExtract front t behind = (is_extract (called t) ≡ true) × MayBeginDestination front
 Fits construct.JustifyDecimals front t behind = is_comma_in is_justify 1 front t ≡ true
 Fits construct.QueryBackward front t behind = is_comma_in is_query 0 front t ≡ true
@@ -458,7 +473,8 @@ abbrev pub rows : List Construct
 rows =
     construct.Indirection ∷ construct.Fraction ∷ construct.Exponent ∷ construct.Power ∷ construct.Pattern ∷ construct.Naked
     ∷ construct.Environment ∷ construct.Structured ∷ construct.ByReference ∷ construct.EntryOffset ∷ construct.ReadLength
-    ∷ construct.DeviceParameters ∷ construct.ProcessParameters ∷ construct.MnemonicSpace ∷ construct.SetExtract ∷ construct.JustifyDecimals ∷ construct.QueryBackward ∷ construct.NameDepth ∷ construct.OrderNames
+    ∷ construct.DeviceParameters ∷ construct.ProcessParameters ∷ construct.MnemonicSpace ∷ construct.TransactionId ∷ construct.BareSerial
+    ∷ construct.SetExtract ∷ construct.JustifyDecimals ∷ construct.QueryBackward ∷ construct.NameDepth ∷ construct.OrderNames
     ∷ construct.Function ∷ construct.Variable ∷ construct.Command ∷ construct.Extrinsic ∷ []
 
 -- the first of the rows that fits there, if one does

@@ -9,6 +9,7 @@ use Rattle.mj_oper.specs.declared.op.UnaryOp.{UnaryOp}
 use Rattle.mj_ast.specs.declared.routine.Mark.{Mark}
 use Rattle.mj_ast.specs.declared.routine.LockMode.{LockMode}
 use Rattle.mj_ast.specs.declared.routine.ReadMode.{ReadMode}
+use Rattle.mj_ast.specs.declared.routine.Serial.{Serial}
 
 mutual
   -- an operand, and then operators with theirs, which are applied from left to right
@@ -146,6 +147,17 @@ pub data Renewed : Type 0 where
   Fresh : (word : List ℕ) → Renewed
   Kept : (words : List (List ℕ)) → Renewed
 
+-- which locals a restart of a transaction restores: those of one name, those of a list of names, or all
+pub data Restored : Type 0 where
+  Alone : (word : List ℕ) → Restored
+  Listed : (words : List (List ℕ)) → Restored
+  Everything : Restored
+
+-- the argument of TSTART, by which the transaction can be restarted: which locals that restores, and whether the transaction is SERIAL
+pub record Restartable : Type 0 where
+  pub restored : Restored
+  pub serial : Serial
+
 -- what a command does, with its arguments
 pub data Command : Type 0 where
   Set : (arguments : List Assignment) → Command
@@ -168,6 +180,11 @@ pub data Command : Type 0 where
   UseDevice : (arguments : List Expr) → Command
   CloseDevice : (arguments : List Expr) → Command
   Read : (arguments : List Input) → Command
+  TStart : (argument : Option Restartable) → Command
+  TCommit : Command
+  TRestart : Command
+  TRollback : Command
+  Break : Command
 
 -- a command with its postcondition, if it has one
 pub record Step : Type 0 where

@@ -31,12 +31,15 @@ use Rattle.mj_ast.specs.declared.routine.Range as kept_range
 use Rattle.mj_ast.specs.declared.routine.Range.TheVariants as range
 use Rattle.mj_ast.specs.declared.routine.Renewed as kept_renewed
 use Rattle.mj_ast.specs.declared.routine.Renewed.TheVariants as renewed
+use Rattle.mj_ast.specs.declared.routine.Restored as kept_restored
+use Rattle.mj_ast.specs.declared.routine.Restored.TheVariants as restored
+use Rattle.mj_ast.specs.declared.routine.Restartable as restartable
 use Rattle.mj_ast.specs.declared.routine.Command as kept_command
 use Rattle.mj_ast.specs.declared.routine.Command.TheVariants as command
 use Rattle.mj_ast.specs.declared.routine.Step as step
 use Rattle.mj_ast.specs.declared.routine.Line as line
 use Rattle.mj_ast.specs.declared.routine.Routine as routine
-use Rattle.mj_ast.specs.Syntax.{Expr, Chain, Tails, Done, Then, Operand, Literal, Value, Unary, Group, Call, Select, Variable, Var, Exprs, No, More, Choices, Last, Before, Destination, Plain, Pieces, Targets, One, Several, Assignment, Killed, Gone, Spared, Merged, Layout, Output, Shown, Format, Coded, Received, Input, Prompted, Arranged, Into, Opened, Target, Called, Jumped, Started, LockNames, Lone, Together, Locked, Range, Single, Endless, UpTo, Renewed, Fresh, Kept, Command, Set, Write, Halt, Hang, Job, Lock, Kill, Merge, If, Else, For, Forever, Do, Goto, Quit, New, OpenDevice, UseDevice, CloseDevice, Read, Step, Line, Routine, About, Intrinsic}
+use Rattle.mj_ast.specs.Syntax.{Expr, Chain, Tails, Done, Then, Operand, Literal, Value, Unary, Group, Call, Select, Variable, Var, Exprs, No, More, Choices, Last, Before, Destination, Plain, Pieces, Targets, One, Several, Assignment, Killed, Gone, Spared, Merged, Layout, Output, Shown, Format, Coded, Received, Input, Prompted, Arranged, Into, Opened, Target, Called, Jumped, Started, LockNames, Lone, Together, Locked, Range, Single, Endless, UpTo, Renewed, Fresh, Kept, Restored, Alone, Listed, Everything, Restartable, Command, Set, Write, Halt, Hang, Job, Lock, Kill, Merge, If, Else, For, Forever, Do, Goto, Quit, New, OpenDevice, UseDevice, CloseDevice, Read, TStart, TCommit, TRestart, TRollback, Break, Step, Line, Routine, About, Intrinsic}
 
 abbrev mutual
   pub operand_of : operand.Operand → Operand
@@ -142,6 +145,14 @@ abbrev pub renewed_of : kept_renewed.Renewed → Renewed
 renewed_of (renewed.Name word) = Fresh word
 renewed_of (renewed.Except words) = Kept words.items
 
+abbrev pub restored_of : kept_restored.Restored → Restored
+restored_of (restored.One word) = Alone word
+restored_of (restored.Several words) = Listed words.items
+restored_of restored.All = Everything
+
+abbrev pub restartable_of : restartable.Restartable → Restartable
+restartable_of r = record { restored = restored_of r.restored; serial = r.serial }
+
 abbrev pub command_of : kept_command.Command → Command
 command_of (command.Set v) = Set (map assignment_of v.items)
 command_of (command.Write v) = Write (map output_of v.items)
@@ -163,6 +174,11 @@ command_of (command.Open v) = OpenDevice (map opened_of v.items)
 command_of (command.Use v) = UseDevice (map expr_of v.items)
 command_of (command.Close v) = CloseDevice (map expr_of v.items)
 command_of (command.Read v) = Read (map input_of v.items)
+command_of (command.TStart a) = TStart (option_map restartable_of a)
+command_of command.TCommit = TCommit
+command_of command.TRestart = TRestart
+command_of command.TRollback = TRollback
+command_of command.Break = Break
 
 abbrev pub step_of : step.Step → Step
 step_of s = record { condition = option_map expr_of s.condition; command = command_of s.command }

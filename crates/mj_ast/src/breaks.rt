@@ -8,7 +8,7 @@ ghost use Rattle.mj_ast.specs.Breaks as breaks;
 use crate::routine::{Command, Line, Step};
 
 impl Command {
-    /// Whether it is BREAK, which no command is yet.
+    /// Whether it is BREAK.
     pub fn is_break(&self) -> bool
         ensures { result ≡ breaks.is_break (command_of self.now) }
     {
@@ -32,7 +32,12 @@ impl Command {
             | Command::Open(_)
             | Command::Use(_)
             | Command::Close(_)
-            | Command::Read(_) => false,
+            | Command::Read(_)
+            | Command::TStart(_)
+            | Command::TCommit
+            | Command::TRestart
+            | Command::TRollback => false,
+            Command::Break => true,
         }
     }
 }

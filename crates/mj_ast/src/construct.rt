@@ -35,6 +35,10 @@ pub enum Construct {
     ProcessParameters,
     /// the third `:` of an argument of OPEN, or `/` where an argument of WRITE or READ may begin
     MnemonicSpace,
+    /// a word that begins with `T` behind the `:` of TSTART's argument, or behind a `(` there
+    TransactionId,
+    /// `:` where the argument of TSTART may begin
+    BareSerial,
     /// `$EXTRACT(` as a destination
     SetExtract,
     /// the second comma in `$JUSTIFY`
@@ -77,6 +81,8 @@ impl Construct {
             Construct::DeviceParameters => "device parameters",
             Construct::ProcessParameters => "process parameters",
             Construct::MnemonicSpace => "mnemonic space",
+            Construct::TransactionId => "transaction id",
+            Construct::BareSerial => "bare serial",
             Construct::SetExtract => "set extract",
             Construct::JustifyDecimals => "justify decimals",
             Construct::QueryBackward => "query backward",

@@ -51,6 +51,10 @@ pub enum Special {
     Job,
     /// `$TEST`: whether the last condition of an IF was true
     Test,
+    /// `$TLEVEL`: how many TSTARTs are open
+    TLevel,
+    /// `$TRESTART`: how often the transaction was restarted
+    TRestart,
     /// `$X`: the column of the current device
     X,
     /// `$Y`: the row of the current device

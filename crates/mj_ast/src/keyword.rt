@@ -22,6 +22,11 @@ pub enum Keyword {
     Use,
     Close,
     Read,
+    TStart,
+    TCommit,
+    TRestart,
+    TRollback,
+    Break,
 }
 
 /// What a word is that commands begin with.

@@ -18,7 +18,7 @@ pub use function::{Callee, Function, NameFunction, Special};
 pub use keyword::{Keyword, Verb};
 pub use routine::{
     Assignment, Called, Command, Destination, Input, Jumped, Killed, Layout, Line, LockMode,
-    LockNames, Locked, Mark, Merged, Opened, Output, Range, ReadMode, Received, Renewed, Routine,
-    Started, Step, Target, Targets,
+    LockNames, Locked, Mark, Merged, Opened, Output, Range, ReadMode, Received, Renewed,
+    Restartable, Restored, Routine, Serial, Started, Step, Target, Targets,
 };
 pub use sign::Sign;

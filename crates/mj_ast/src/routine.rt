@@ -183,6 +183,35 @@ pub enum Renewed {
     Except(Vec<Text>),
 }
 
+/// Which locals a restart of a transaction restores.
+#[derive(Drop)]
+pub enum Restored {
+    /// the locals of this name
+    One(Text),
+    /// a list in parentheses: those of these names, none where it is empty
+    Several(Vec<Text>),
+    /// `*`: all
+    All,
+}
+
+/// How an argument of TSTART says that the transaction is SERIAL.
+#[derive(Clone, Copy, PartialEq, Eq, Debug)]
+pub enum Serial {
+    /// not at all: it isn't
+    No,
+    /// by the word alone
+    Bare,
+    /// by the word in parentheses
+    Enclosed,
+}
+
+/// The argument of TSTART: the transaction can be restarted.
+#[derive(Drop)]
+pub struct Restartable {
+    pub restored: Restored,
+    pub serial: Serial,
+}
+
 /// What a command does, with its arguments, of which there is one at least where nothing else is said.
 #[derive(Drop)]
 pub enum Command {
@@ -213,6 +242,12 @@ pub enum Command {
     Use(Vec<Expr>),
     Close(Vec<Expr>),
     Read(Vec<Input>),
+    /// without its argument the transaction can't be restarted
+    TStart(Option<Restartable>),
+    TCommit,
+    TRestart,
+    TRollback,
+    Break,
 }
 
 /// A command with its postcondition, if it has one. IF, ELSE and FOR have none.

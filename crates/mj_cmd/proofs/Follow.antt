@@ -26,7 +26,7 @@ use Rattle.mj_expr.specs.Shapes.{IsEndOf}
 use Rattle.mj_expr.specs.Shapes as shapes
 use Rattle.mj_lex.specs.declared.token.Lexeme.{Lexeme}
 use Rattle.mj_lex.specs.Seen.{tokens_seen}
-use Rattle.mj_line.specs.Forms.{Node, Want, AnExpr, AVar, ALocal, part_of, part_at, labels, takes, wants, ends, first_node, may_be_bare}
+use Rattle.mj_line.specs.Forms.{Node, Want, AnExpr, AVar, ALocal, Sort, Names, Labels, Serials, part_of, part_at, sort_of, takes, wants, ends, first_node, may_be_bare}
 use Rattle.mj_line.specs.Sentences.{Clause, Sentence, clause_of}
 use Rattle.mj_line.specs.Machine.{bare_rest, ended_at, opened, Condition, Rest, Behind, Over, Worded, Asked, Bare, Args, Goal, Argument, State, At, In, IsClosed, with_clause, clause, args_rest, bare_rested, expression_wanted, variable_wanted, wanted, level, inside, behind, argument, entry, rested, Outcome, Accept, StuckAt, refused, run, turn, begins, first, Next, Go, Stuck, taken, moved, on_rested, entering, in_step}
 use Rattle.mj_line.proofs.Tables.{part_taken, word_apart, called_apart}
@@ -159,7 +159,7 @@ free_refuses limited wrap rest stop.Long m ls g s h = lift_long m (tokens_seen l
 -- no part of one token is taken there
 abbrev pub Untaken : Node → List Token → Type 0
 Untaken n [] = Unit {0}
-Untaken n (t ∷ ks) = part_taken n (part_at (labels n) t) ≡ None
+Untaken n (t ∷ ks) = part_taken n (part_at (sort_of n) t) ≡ None
 
 -- the arguments don't end there
 abbrev pub Unended : Node → List Token → Type 0
@@ -196,7 +196,7 @@ here_stuck m o condition k done n [] w u e = ap (λ (q : Option Rest). ended_of 
     ended_of None = StuckAt 0
 here_stuck m o condition k done n (t ∷ ks) w u e =
     let r = args_rest o condition k done in
-    ap (λ (x : _). turn m ks t (first (first x (on_rested (bare_rested (ends n) r) t)) (entering m (argument o condition k done (wants n)) t))) (unmoved o condition k done n (part_at (labels n) t) u)
+    ap (λ (x : _). turn m ks t (first (first x (on_rested (bare_rested (ends n) r) t)) (entering m (argument o condition k done (wants n)) t))) (unmoved o condition k done n (part_at (sort_of n) t) u)
     ∙ ap (λ (x : _). turn m ks t (first x (entering m (argument o condition k done (wants n)) t))) (unrested r (ends n) t ks refl e)
     ∙ ap (λ (q : Option Want). turn m ks t (entering m (argument o condition k done q) t)) w
 
@@ -214,13 +214,13 @@ enter_here m o condition k done n x [] y w u e = ap (λ (q : Option Rest). ended
     none_read (ALocal next) = refl
 enter_here m o condition k done n x (t ∷ ks) i w u e =
     let r = args_rest o condition k done in
-    ap (λ (y : _). turn m ks t (first (first y (on_rested (bare_rested (ends n) r) t)) (entering m (argument o condition k done (wants n)) t))) (unmoved o condition k done n (part_at (labels n) t) u)
+    ap (λ (y : _). turn m ks t (first (first y (on_rested (bare_rested (ends n) r) t)) (entering m (argument o condition k done (wants n)) t))) (unmoved o condition k done n (part_at (sort_of n) t) u)
     ∙ ap (λ (y : _). turn m ks t (first y (entering m (argument o condition k done (wants n)) t))) (unrested r (ends n) t ks refl e)
     ∙ ap (λ (q : Option Want). turn m ks t (entering m (argument o condition k done q) t)) w
     ∙ ap (λ (b : Bool). turn m ks t (cond b (in_step m (Argument o condition k done x) (wanted x) t) Stuck)) (may_enter x t ks i)
 
 -- a part of one token
-pub token_run : (m : Limits) (o : Sentence) (condition : Option Expr) (k : Verb) (done : List Part) (n next : Node) (t : Token) (p : Part) (ls ks : List Token) → ls ≡ t ∷ ks → part_at (labels n) t ≡ Some p → takes n p ≡ Some next →
+pub token_run : (m : Limits) (o : Sentence) (condition : Option Expr) (k : Verb) (done : List Part) (n next : Node) (t : Token) (p : Part) (ls ks : List Token) → ls ≡ t ∷ ks → part_at (sort_of n) t ≡ Some p → takes n p ≡ Some next →
     run m ls (At (Args o condition k done n)) ≡ run m ks (At (Args o condition k (done ++ p ∷ []) next))
 token_run m o condition k done n next t p ls ks l e h =
     let s = Args o condition k done n in
@@ -229,9 +229,10 @@ token_run m o condition k done n next t p ls ks l e h =
     ∙ ap (λ (q : Option Node). turn m ks t (first (first (moved o condition k (done ++ p ∷ []) q) (on_rested (rested s) t)) (entering m (entry s) t))) h
 
 -- a sign is a part wherever it stands
-pub sign_at : (b : Bool) (z : Sign) → part_at b (Signed z) ≡ Some (Put z)
-sign_at true z = refl
-sign_at false z = refl
+pub sign_at : (b : Sort) (z : Sign) → part_at b (Signed z) ≡ Some (Put z)
+sign_at Names z = refl
+sign_at Labels z = refl
+sign_at Serials z = refl
 
 -- what was read of arguments, from a place to another
 abbrev pub Went : Bool → List Part → Limits → List Lexeme → Node → List Lexeme → Node → Sentence → Option Expr → Verb → List Part → Type 0
@@ -251,7 +252,7 @@ went_then limited ps qs m ls n ms mid rest next o condition k done a f =
 pub went_as : (limited : Bool) (ps qs : List Part) (m : Limits) (ls : List Lexeme) (n : Node) (rest : List Lexeme) (next : Node) (o : Sentence) (condition : Option Expr) (k : Verb) (done : List Part) → ps ≡ qs → Went limited ps m ls n rest next o condition k done → Went limited qs m ls n rest next o condition k done
 went_as limited ps qs m ls n rest next o condition k done e a = (a.0, λ l. a.1 l ∙ e, a.2)
 
-pub went_token : (limited : Bool) (t : Token) (p : Part) (m : Limits) (ls : List Lexeme) (n : Node) (rest : List Lexeme) (next : Node) (o : Sentence) (condition : Option Expr) (k : Verb) (done : List Part) → tokens_seen ls ≡ t ∷ tokens_seen rest → part_at (labels n) t ≡ Some p → takes n p ≡ Some next → Went limited (p ∷ []) m ls n rest next o condition k done
+pub went_token : (limited : Bool) (t : Token) (p : Part) (m : Limits) (ls : List Lexeme) (n : Node) (rest : List Lexeme) (next : Node) (o : Sentence) (condition : Option Expr) (k : Verb) (done : List Part) → tokens_seen ls ≡ t ∷ tokens_seen rest → part_at (sort_of n) t ≡ Some p → takes n p ≡ Some next → Went limited (p ∷ []) m ls n rest next o condition k done
 went_token limited t p m ls n rest next o condition k done l e h = (p ∷ [], λ x. refl, token_run m o condition k done n next t p (tokens_seen ls) (tokens_seen rest) l e h)
 
 -- a phrase that was read
@@ -284,9 +285,9 @@ abbrev pub SignUntaken : Node → List Token → Type 0
 SignUntaken n (Signed s ∷ ks) = takes n (Put s) ≡ None
 SignUntaken n ks = Unit {0}
 
-pub untaken_by : (n : Node) (ks : List Token) → labels n ≡ false → ((w : List ℕ) → takes n (Named w) ≡ None) → takes n PieceCall ≡ None → SignUntaken n ks → Untaken n ks
+pub untaken_by : (n : Node) (ks : List Token) → sort_of n ≡ Names → ((w : List ℕ) → takes n (Named w) ≡ None) → takes n PieceCall ≡ None → SignUntaken n ks → Untaken n ks
 untaken_by n [] z h i j = tt
-untaken_by n (t ∷ ks) z h i j = let P : Bool → Type 0 = λ b. part_taken n (part_at b t) ≡ None in subst P (sym z) (untaken_part n t ks h i j)
+untaken_by n (t ∷ ks) z h i j = let P : Sort → Type 0 = λ b. part_taken n (part_at b t) ≡ None in subst P (sym z) (untaken_part n t ks h i j)
   where
     untaken_part : (n : Node) (t : Token) (ks : List Token) → ((w : List ℕ) → takes n (Named w) ≡ None) → takes n PieceCall ≡ None → SignUntaken n (t ∷ ks) → part_taken n (part_of t) ≡ None
     untaken_part n (Signed s) ks h i j = j
@@ -309,7 +310,7 @@ only_comma n (Signed s ∷ ks) h i = by s (h s) i
     by s (inr e) z = absurd (let P : Sign → Type 0 = λ x. HasNoComma (Signed x ∷ ks) in subst P e z)
 only_comma n (t ∷ ks) h i = tt
 
-pub comma_untaken : (n : Node) (ks : List Token) → labels n ≡ false → ((w : List ℕ) → takes n (Named w) ≡ None) → takes n PieceCall ≡ None → ((s : Sign) → (takes n (Put s) ≡ None) ⊎ (s ≡ Comma)) → HasNoComma ks → Untaken n ks
+pub comma_untaken : (n : Node) (ks : List Token) → sort_of n ≡ Names → ((w : List ℕ) → takes n (Named w) ≡ None) → takes n PieceCall ≡ None → ((s : Sign) → (takes n (Put s) ≡ None) ⊎ (s ≡ Comma)) → HasNoComma ks → Untaken n ks
 comma_untaken n ks l h i j z = untaken_by n ks l h i (only_comma n ks j z)
 
 -- one item more, behind a comma
@@ -332,9 +333,9 @@ kept_untaken_word n w true e h = absurd (h (grind (arith, nat_tests)))
 kept_untaken_word n w false e h = refl
 
 -- a name where one is taken
-pub went_word : (limited : Bool) (m : Limits) (n next : Node) (ls rest : List Lexeme) (w t : List ℕ) (o : Sentence) (condition : Option Expr) (k : Verb) (done : List Part) → labels n ≡ false → takes n (Named w) ≡ Some next → tokens_seen ls ≡ Word w ∷ tokens_seen rest → length w ≤ 31 → t ≡ w → Went limited (Named t ∷ []) m ls n rest next o condition k done
+pub went_word : (limited : Bool) (m : Limits) (n next : Node) (ls rest : List Lexeme) (w t : List ℕ) (o : Sentence) (condition : Option Expr) (k : Verb) (done : List Part) → sort_of n ≡ Names → takes n (Named w) ≡ Some next → tokens_seen ls ≡ Word w ∷ tokens_seen rest → length w ≤ 31 → t ≡ w → Went limited (Named t ∷ []) m ls n rest next o condition k done
 went_word limited m n next ls rest w t o condition k done z f l h e =
-    let P : Bool → Type 0 = λ b. part_at b (Word w) ≡ Some (Named w) in
+    let P : Sort → Type 0 = λ b. part_at b (Word w) ≡ Some (Named w) in
     went_as limited (Named w ∷ []) (Named t ∷ []) m ls n rest next o condition k done (ap (λ (z : List ℕ). Named z ∷ []) (sym e))
     (went_token limited (Word w) (Named w) m ls n rest next o condition k done l (subst P (sym z) (ap (λ (b : Bool). cond b (Some (Named w)) None) (let z : nat_le (length w) 31 ≡ true = grind (arith, nat_tests) in z))) f)
 

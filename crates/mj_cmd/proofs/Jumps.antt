@@ -11,7 +11,7 @@ use Rattle.mj_ast.specs.Commands.{Part, Put, Label, Prompt, with_commas, target_
 use Rattle.mj_expr.specs.Machine.{Limits}
 use Rattle.mj_lex.specs.declared.token.Lexeme.{Lexeme}
 use Rattle.mj_lex.specs.Seen.{tokens_seen}
-use Rattle.mj_line.specs.Forms.{Mode, Calls, Jumps, Starts, Node, ValueWanted, NewWanted, EntryWanted, LabelEnd, RoutineWanted, RoutineEnd, ActualWanted, ActualEnd, ActualsEnd, WaitColon, GuardWanted, GuardEnd, colon_at, part_of, part_at, labels, takes}
+use Rattle.mj_line.specs.Forms.{Mode, Calls, Jumps, Starts, Node, ValueWanted, NewWanted, EntryWanted, LabelEnd, RoutineWanted, RoutineEnd, ActualWanted, ActualEnd, ActualsEnd, WaitColon, GuardWanted, GuardEnd, colon_at, part_of, part_at, sort_of, takes}
 use Rattle.mj_line.specs.Sentences.{Sentence}
 use Rattle.mj_line.specs.Machine.{args_rest, first, on_rested}
 use Rattle.mj_line.proofs.Tables.{part_taken, called_apart}
@@ -114,9 +114,9 @@ guarded_same m mode n ks (inr h) i = let P : Node → Type 0 = λ x. SameAt m x 
 pub went_unguarded : (limited : Bool) (m : Limits) (mode : Mode) (n : Node) (ls : List Lexeme) (o : Sentence) (condition : Option Expr) (k : Verb) (done : List Part) → MayBeGuarded mode n (tokens_seen ls) → HasNoColon (tokens_seen ls) → Went limited [] m ls n ls (GuardEnd mode) o condition k done
 went_unguarded limited m mode n ls o condition k done h i = went_same limited m n (GuardEnd mode) ls o condition k done (guarded_same m mode n (tokens_seen ls) h i)
 
-colon_taken : (mode : Mode) (n : Node) (ks : List Token) → MayBeGuarded mode n ks → (part_at (labels n) (Signed Colon) ≡ Some (Put Colon)) × (takes n (Put Colon) ≡ Some (colon_at mode))
-colon_taken mode n ks (inl h) = let P : Node → Type 0 = λ x. (part_at (labels x) (Signed Colon) ≡ Some (Put Colon)) × (takes x (Put Colon) ≡ Some (colon_at mode)) in subst P (sym h.0) (refl, refl)
-colon_taken mode n ks (inr h) = let P : Node → Type 0 = λ x. (part_at (labels x) (Signed Colon) ≡ Some (Put Colon)) × (takes x (Put Colon) ≡ Some (colon_at mode)) in subst P (sym h) (refl, refl)
+colon_taken : (mode : Mode) (n : Node) (ks : List Token) → MayBeGuarded mode n ks → (part_at (sort_of n) (Signed Colon) ≡ Some (Put Colon)) × (takes n (Put Colon) ≡ Some (colon_at mode))
+colon_taken mode n ks (inl h) = let P : Node → Type 0 = λ x. (part_at (sort_of x) (Signed Colon) ≡ Some (Put Colon)) × (takes x (Put Colon) ≡ Some (colon_at mode)) in subst P (sym h.0) (refl, refl)
+colon_taken mode n ks (inr h) = let P : Node → Type 0 = λ x. (part_at (sort_of x) (Signed Colon) ≡ Some (Put Colon)) × (takes x (Put Colon) ≡ Some (colon_at mode)) in subst P (sym h) (refl, refl)
 
 pub went_colon : (limited : Bool) (m : Limits) (mode : Mode) (n : Node) (ls rest : List Lexeme) (o : Sentence) (condition : Option Expr) (k : Verb) (done : List Part) → MayBeGuarded mode n (tokens_seen ls) → tokens_seen ls ≡ Signed Colon ∷ tokens_seen rest → Went limited (Put Colon ∷ []) m ls n rest (colon_at mode) o condition k done
 went_colon limited m mode n ls rest o condition k done h l = let c = colon_taken mode n (tokens_seen ls) h in went_token limited (Signed Colon) (Put Colon) m ls n rest (colon_at mode) o condition k done l c.0 c.1

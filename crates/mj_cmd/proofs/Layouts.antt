@@ -15,7 +15,7 @@ use Rattle.mj_ast.specs.Commands.{Part, Put, Label, Prompt, mark_part, read_mode
 use Rattle.mj_expr.specs.Machine.{Limits}
 use Rattle.mj_lex.specs.declared.token.Lexeme.{Lexeme}
 use Rattle.mj_lex.specs.Seen.{tokens_seen}
-use Rattle.mj_line.specs.Forms.{Node, AVar, takes, wants, part_at, Talk, Writes, Reads, OutputWanted, OutputEnd, MarksEnd, ColumnWanted, CodeWanted, IntoWanted, IntoEnd, IntoTimed, DeviceWanted, DeviceEnd, DeviceColon, DeviceTimed, DeviceWaited, part_of}
+use Rattle.mj_line.specs.Forms.{Sort, Names, Labels, Serials, Node, AVar, takes, wants, part_at, Talk, Writes, Reads, OutputWanted, OutputEnd, MarksEnd, ColumnWanted, CodeWanted, IntoWanted, IntoEnd, IntoTimed, DeviceWanted, DeviceEnd, DeviceColon, DeviceTimed, DeviceWaited, part_of}
 use Rattle.mj_line.specs.Sentences.{Sentence}
 use Rattle.mj_line.specs.Machine.{Args, At, args_rest, on_rested, run}
 use Rattle.mj_line.proofs.Tables.{part_taken, called_apart}
@@ -110,9 +110,10 @@ pub question_takes : (talk : Talk) (n : Node) (ks : List Token) → MayBeColumn 
 question_takes talk n ks (inl g) = ap (λ (x : Node). takes x (Put Question)) g.0
 question_takes talk n ks (inr g) = ap (λ (x : Node). takes x (Put Question)) g.0
 
-pub question_at : (b : Bool) → part_at b (Signed Question) ≡ Some (Put Question)
-question_at true = refl
-question_at false = refl
+pub question_at : (b : Sort) → part_at b (Signed Question) ≡ Some (Put Question)
+question_at Names = refl
+question_at Labels = refl
+question_at Serials = refl
 
 pub column_untaken : (talk : Talk) (ks : List Token) → Untaken (ColumnWanted talk) ks
 column_untaken talk ks = untaken_by (ColumnWanted talk) ks refl (λ w. refl) refl (no_sign (ColumnWanted talk) ks (λ s. refl))

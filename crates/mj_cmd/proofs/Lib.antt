@@ -9,3 +9,4 @@ pub mod Front
 pub mod Lists
 pub mod Locks
 pub mod Layouts
+pub mod Restarts

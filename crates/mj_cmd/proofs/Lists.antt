@@ -13,7 +13,7 @@ use Rattle.mj_expr.specs.Machine.{Limits}
 use Rattle.mj_lex.specs.declared.token.Lexeme.{Lexeme}
 use Rattle.mj_lex.specs.Seen.{tokens_seen}
 use Rattle.mj_ast.specs.Tokens.{Token, Signed}
-use Rattle.mj_line.specs.Forms.{Node, labels, takes}
+use Rattle.mj_line.specs.Forms.{Node, sort_of, takes}
 use Rattle.mj_line.specs.Sentences.{Sentence}
 use Rattle.mj_cmd.specs.Reads.{AreWrittenAs, IsWrittenAs}
 use Rattle.mj_cmd.specs.Heads.{HasNoClose, HasNoComma, HasOther}
@@ -51,7 +51,7 @@ more_items is limited old new y m ls n ms behind ns more rest o condition k done
     h
     (λ d. joined limited (λ ps. ps ≡ Put Comma ∷ []) (λ ps. is ps y) (λ ps. (qs : List Part) × (ps ≡ Put Comma ∷ qs) × is qs y) m ms behind ns more rest behind o condition k d
     (λ ps qs i j. (qs, ap (λ (zs : List Part). zs ++ qs) i, j))
-    (went_token limited (Signed Comma) (Put Comma) m ms behind ns more o condition k d l (sign_at (labels behind) Comma) t)
+    (went_token limited (Signed Comma) (Put Comma) m ms behind ns more o condition k d l (sign_at (sort_of behind) Comma) t)
     f)
 
 -- ---- as they are written

@@ -19,12 +19,12 @@ use Rattle.mj_expr.specs.Machine.{Limits}
 use Rattle.mj_expr.specs.declared.stop.Stop.{Stop}
 use Rattle.mj_lex.specs.declared.token.Lexeme.{Lexeme}
 use Rattle.mj_lex.specs.Seen.{tokens_seen}
-use Rattle.mj_line.specs.Forms.{Node, SetTarget, PieceOpens, PieceVariable, PieceComma, PieceText, PieceBehind, SetBehind, SetValue, KillWanted, NameWanted, NameBehind, MergeInto, MergeBehind, MergeFrom, KeptWanted, KeptBehind, part_of, part_at, labels, piece_part, takes, wants, ends}
+use Rattle.mj_line.specs.Forms.{Node, SetTarget, PieceOpens, PieceVariable, PieceComma, PieceText, PieceBehind, SetBehind, SetValue, KillWanted, NameWanted, NameBehind, MergeInto, MergeBehind, MergeFrom, KeptWanted, KeptBehind, RestoredWanted, RestoredBehind, part_of, part_at, sort_of, piece_part, takes, wants, ends}
 use Rattle.mj_line.specs.Sentences.{Sentence}
 use Rattle.mj_line.specs.Machine.{Args, At, behind, run, first}
 use Rattle.mj_line.proofs.Tables.{part_taken, word_apart, called_apart}
 use Rattle.mj_cmd.specs.Heads.{HasNoComma, HasNoEquals, HasNoOpen, HasNoClose, HasNoPiece, HasNoName}
-use Rattle.mj_cmd.specs.Parts.{piece_node, opened_parts, name_wanted, name_behind, name_end, NotListed}
+use Rattle.mj_cmd.specs.Parts.{piece_node, opened_parts, NameList, Sparing, Keeping, Restoring, name_wanted, name_behind, name_end, NotListed}
 use Rattle.mj_cmd.specs.Lists.{comma_or}
 use Rattle.mj_cmd.specs.Reads.{Reads}
 use Rattle.mj_cmd.proofs.Follow.{refuses_from, Untaken, token_run, Went, went_then, went_as, went_token, SignUntaken, untaken_by, no_sign, comma_untaken, commas_more, kept_untaken_word, went_word}
@@ -268,34 +268,41 @@ kept_word old new x e h = ap (with_commas name_parts) (sym (h ∙ ap (λ (xs : L
 pub kept_words : (old new : List (List ℕ)) (x : List ℕ) → new ≡ old ++ x ∷ [] → 1 ≤ length old → with_commas name_parts old ++ (Put Comma ∷ Named x ∷ []) ≡ with_commas name_parts new
 kept_words old new x e h = sym (commas_more name_parts old x h) ∙ ap (with_commas name_parts) (sym e)
 
--- the same in either list of names
-pub name_sign : (new : Bool) (z : Sign) → part_at (labels (name_behind new)) (Signed z) ≡ Some (Put z)
-name_sign true z = refl
-name_sign false z = refl
+-- the same in each list of names
+pub name_sign : (new : NameList) (z : Sign) → part_at (sort_of (name_behind new)) (Signed z) ≡ Some (Put z)
+name_sign Sparing z = refl
+name_sign Keeping z = refl
+name_sign Restoring z = refl
 
-pub listed_comma : (new : Bool) → takes (name_behind new) (Put Comma) ≡ Some (name_wanted new)
-listed_comma true = refl
-listed_comma false = refl
+pub listed_comma : (new : NameList) → takes (name_behind new) (Put Comma) ≡ Some (name_wanted new)
+listed_comma Sparing = refl
+listed_comma Keeping = refl
+listed_comma Restoring = refl
 
-pub listed_close : (new : Bool) → takes (name_behind new) (Put Close) ≡ Some (name_end new)
-listed_close true = refl
-listed_close false = refl
+pub listed_close : (new : NameList) → takes (name_behind new) (Put Close) ≡ Some (name_end new)
+listed_close Sparing = refl
+listed_close Keeping = refl
+listed_close Restoring = refl
 
-pub listed_wants : (new : Bool) → wants (name_wanted new) ≡ None
-listed_wants true = refl
-listed_wants false = refl
+pub listed_wants : (new : NameList) → wants (name_wanted new) ≡ None
+listed_wants Sparing = refl
+listed_wants Keeping = refl
+listed_wants Restoring = refl
 
-pub listed_wanted : (new : Bool) → wants (name_behind new) ≡ None
-listed_wanted true = refl
-listed_wanted false = refl
+pub listed_wanted : (new : NameList) → wants (name_behind new) ≡ None
+listed_wanted Sparing = refl
+listed_wanted Keeping = refl
+listed_wanted Restoring = refl
 
-pub listed_ends : (new : Bool) → ends (name_wanted new) ≡ false
-listed_ends true = refl
-listed_ends false = refl
+pub listed_ends : (new : NameList) → ends (name_wanted new) ≡ false
+listed_ends Sparing = refl
+listed_ends Keeping = refl
+listed_ends Restoring = refl
 
-pub listed_over : (new : Bool) → ends (name_behind new) ≡ false
-listed_over true = refl
-listed_over false = refl
+pub listed_over : (new : NameList) → ends (name_behind new) ≡ false
+listed_over Sparing = refl
+listed_over Keeping = refl
+listed_over Restoring = refl
 
 kept_untaken : (ks : List Token) → HasNoName ks → Untaken KeptWanted ks
 kept_untaken [] h = tt
@@ -304,9 +311,17 @@ kept_untaken (Called w ∷ ks) h = called_apart KeptWanted (callee_of w) (nat_le
 kept_untaken (Signed s ∷ ks) h = refl
 kept_untaken (t ∷ ks) h = refl
 
-pub listed_untaken_name : (new : Bool) (ks : List Token) → HasNoName ks → Untaken (name_wanted new) ks
-listed_untaken_name true ks h = kept_untaken ks h
-listed_untaken_name false ks h = name_untaken ks h
+restored_untaken : (ks : List Token) → HasNoName ks → Untaken RestoredWanted ks
+restored_untaken [] h = tt
+restored_untaken (Word w ∷ ks) h = kept_untaken_word RestoredWanted w (nat_le (length w) 31) refl h
+restored_untaken (Called w ∷ ks) h = called_apart RestoredWanted (callee_of w) (nat_le (length w) 31) refl
+restored_untaken (Signed s ∷ ks) h = refl
+restored_untaken (t ∷ ks) h = refl
+
+pub listed_untaken_name : (new : NameList) (ks : List Token) → HasNoName ks → Untaken (name_wanted new) ks
+listed_untaken_name Sparing ks h = name_untaken ks h
+listed_untaken_name Keeping ks h = kept_untaken ks h
+listed_untaken_name Restoring ks h = restored_untaken ks h
 
 kept_sign : (ks : List Token) → HasNoComma ks → HasNoClose ks → SignUntaken KeptBehind ks
 kept_sign [] h i = tt
@@ -315,10 +330,19 @@ kept_sign (Signed Close ∷ ks) h i = absurd i
 kept_sign (Signed s ∷ ks) h i = refl
 kept_sign (t ∷ ks) h i = tt
 
-pub listed_names : (new : Bool) (ks : List Token) → HasNoComma ks → HasNoClose ks → Untaken (name_behind new) ks
-listed_names true ks h i = untaken_by KeptBehind ks refl (λ w. refl) refl (kept_sign ks h i)
-listed_names false ks h i = names_untaken ks h i
+restored_sign : (ks : List Token) → HasNoComma ks → HasNoClose ks → SignUntaken RestoredBehind ks
+restored_sign [] h i = tt
+restored_sign (Signed Comma ∷ ks) h i = absurd h
+restored_sign (Signed Close ∷ ks) h i = absurd i
+restored_sign (Signed s ∷ ks) h i = refl
+restored_sign (t ∷ ks) h i = tt
 
-pub went_listed : (new : Bool) (limited : Bool) (m : Limits) (ls rest : List Lexeme) (w t : List ℕ) (o : Sentence) (condition : Option Expr) (k : Verb) (done : List Part) → tokens_seen ls ≡ Word w ∷ tokens_seen rest → length w ≤ 31 → t ≡ w → Went limited (Named t ∷ []) m ls (name_wanted new) rest (name_behind new) o condition k done
-went_listed true limited m ls rest w t o condition k done l h e = went_word limited m KeptWanted KeptBehind ls rest w t o condition k done refl refl l h e
-went_listed false limited m ls rest w t o condition k done l h e = went_name limited m ls rest w t o condition k done l h e
+pub listed_names : (new : NameList) (ks : List Token) → HasNoComma ks → HasNoClose ks → Untaken (name_behind new) ks
+listed_names Sparing ks h i = names_untaken ks h i
+listed_names Keeping ks h i = untaken_by KeptBehind ks refl (λ w. refl) refl (kept_sign ks h i)
+listed_names Restoring ks h i = untaken_by RestoredBehind ks refl (λ w. refl) refl (restored_sign ks h i)
+
+pub went_listed : (new : NameList) (limited : Bool) (m : Limits) (ls rest : List Lexeme) (w t : List ℕ) (o : Sentence) (condition : Option Expr) (k : Verb) (done : List Part) → tokens_seen ls ≡ Word w ∷ tokens_seen rest → length w ≤ 31 → t ≡ w → Went limited (Named t ∷ []) m ls (name_wanted new) rest (name_behind new) o condition k done
+went_listed Sparing limited m ls rest w t o condition k done l h e = went_name limited m ls rest w t o condition k done l h e
+went_listed Keeping limited m ls rest w t o condition k done l h e = went_word limited m KeptWanted KeptBehind ls rest w t o condition k done refl refl l h e
+went_listed Restoring limited m ls rest w t o condition k done l h e = went_word limited m RestoredWanted RestoredBehind ls rest w t o condition k done refl refl l h e

@@ -11,7 +11,7 @@ use Rattle.mj_expr.specs.Machine as phrase
 use Rattle.mj_expr.specs.declared.stop.Stop.{Stop}
 use Rattle.mj_lex.specs.declared.token.Lexeme.{Lexeme}
 use Rattle.mj_lex.specs.Seen.{tokens_seen}
-use Rattle.mj_line.specs.Forms.{Node, ForWanted, ForBehind, RangeWanted, RangeEnd, StepWanted, StepEnd, LimitWanted, LimitEnd, AnExpr, ALocal, part_of, labels, takes, wants, ends}
+use Rattle.mj_line.specs.Forms.{Node, ForWanted, ForBehind, RangeWanted, RangeEnd, StepWanted, StepEnd, LimitWanted, LimitEnd, AnExpr, ALocal, part_of, sort_of, takes, wants, ends}
 use Rattle.mj_line.specs.Sentences.{Sentence}
 use Rattle.mj_line.specs.Machine.{Args, Argument, At, In, args_rest, expression_wanted, variable_wanted, behind, on_rested, run}
 use Rattle.mj_line.proofs.Tables.{called_apart}
@@ -56,7 +56,7 @@ pub went_colon_text : (limited : Bool) (e : Expr) (m : Limits) (ls : List Lexeme
     ((d : List Part) → (t : Expr) × (limited ≡ true → t ≡ e) × (run m (tokens_seen ms) (In (Argument o condition k d (AnExpr 0 next)) expression_wanted) ≡ run m (tokens_seen rest) (At (behind (Argument o condition k d (AnExpr 0 next)) (phrase.Whole t))))) →
     Went limited (Put Colon ∷ Text 0 e ∷ []) m ls n rest next o condition k done
 went_colon_text limited e m ls n ms w rest next o condition k done l h i u z f =
-    went_then limited (Put Colon ∷ []) (Text 0 e ∷ []) m ls n ms w rest next o condition k done (went_token limited (Signed Colon) (Put Colon) m ls n ms w o condition k done l (sign_at (labels n) Colon) h)
+    went_then limited (Put Colon ∷ []) (Text 0 e ∷ []) m ls n ms w rest next o condition k done (went_token limited (Signed Colon) (Put Colon) m ls n ms w o condition k done l (sign_at (sort_of n) Colon) h)
     (λ d. went_text limited 0 e m ms w rest next o condition k d i u (inl z) (f d))
 
 pub fails_colon_text : (limited : Bool) (e : Stop) (m : Limits) (ls : List Lexeme) (n : Node) (ms : List Lexeme) (w next : Node) (o : Sentence) (condition : Option Expr) (k : Verb) (done : List Part) →
@@ -64,7 +64,7 @@ pub fails_colon_text : (limited : Bool) (e : Stop) (m : Limits) (ls : List Lexem
     ((d : List Part) → Refuses limited e (run m (tokens_seen ms) (In (Argument o condition k d (AnExpr 0 next)) expression_wanted))) →
     Refuses limited e (run m (tokens_seen ls) (At (Args o condition k done n)))
 fails_colon_text limited e m ls n ms w next o condition k done l h i u z f =
-    fails_then limited (Put Colon ∷ []) e m ls n ms w o condition k done (went_token limited (Signed Colon) (Put Colon) m ls n ms w o condition k done l (sign_at (labels n) Colon) h)
+    fails_then limited (Put Colon ∷ []) e m ls n ms w o condition k done (went_token limited (Signed Colon) (Put Colon) m ls n ms w o condition k done l (sign_at (sort_of n) Colon) h)
     (λ d. fails_enter limited e m ms w (AnExpr 0 next) o condition k d tt i u (inl z) (f d))
 
 -- where no step follows, and where no end follows

@@ -1,8 +1,8 @@
 -- What stands in front of the tokens.
-use Rattle.std.specs.Prelude.{ℕ, ◌≡◌, ◌⊎◌, ◌≤◌, List, [], ◌∷◌, length, Option, Some, None}
+use Rattle.std.specs.Prelude.{ℕ, ◌≡◌, ◌⊎◌, ◌≤◌, false, List, [], ◌∷◌, length, Option, Some, None}
 use Rattle.mj_text.specs.declared.text.TheConstants.{TEXT_LIMIT}
 use Rattle.mj_ast.specs.Expressions.{name_limit}
-use Rattle.mj_ast.specs.Commands.{PieceCall}
+use Rattle.mj_ast.specs.Commands.{PieceCall, is_serial_word}
 use Rattle.mj_line.specs.Forms.{part_of}
 use Rattle.mj_line.specs.Sentences.{Sentence}
 use Rattle.mj_line.specs.Machine.{Spot, Begin, Labelled, FormalsEnd, empty_line, headed}
@@ -63,6 +63,11 @@ StartsLabel ks l rest = ⊥
 abbrev pub HasNoName : List Token → Type 0
 HasNoName (Word w ∷ ks) = length w ≤ name_limit → ⊥
 HasNoName ks = Unit {0}
+
+-- the word that makes a transaction SERIAL
+abbrev pub HasNoSerial : List Token → Type 0
+HasNoSerial (Word w ∷ ks) = is_serial_word w ≡ false
+HasNoSerial ks = Unit {0}
 
 abbrev pub HasNoMark : List Token → Type 0
 HasNoMark (Signed Exclamation ∷ ks) = ⊥

@@ -4,7 +4,7 @@ use Rattle.std.proofs.Common.{inl, inr}
 use Rattle.mj_ast.specs.declared.sign.Sign.{Sign}
 use Rattle.mj_ast.specs.declared.sign.Sign.TheVariants.{Close, Comma}
 use Rattle.mj_ast.specs.Commands.{Part, Put, Named, PieceCall}
-use Rattle.mj_line.specs.Forms.{Mode, Talk, Node, DeviceWaited, SetBehind, SetEnd, OutputEnd, KillEnd, MergeEnd, ValueEnd, LimitEnd, NewEnd, GuardEnd, ActualEnd, LockEnd, LockBehind, labels, takes, wants, ends}
+use Rattle.mj_line.specs.Forms.{Names, Mode, Talk, Node, DeviceWaited, SetBehind, SetEnd, OutputEnd, KillEnd, MergeEnd, ValueEnd, LimitEnd, NewEnd, GuardEnd, ActualEnd, LockEnd, LockBehind, sort_of, takes, wants, ends}
 
 -- Items with commas between them, the parts of each such.
 abbrev pub AreItems : {X : Type 0} → (List Part → X → Type 0) → List Part → List X → Type 0
@@ -22,7 +22,7 @@ comma_or_close n = (s : Sign) → (takes n (Put s) ≡ None) ⊎ ((s ≡ Comma) 
 
 -- neither a phrase nor a word may stand there
 pub record IsShut (n : Node) : Type 0 where
-  pub unlabelled : labels n ≡ false
+  pub unlabelled : sort_of n ≡ Names
   pub unnamed : (w : List ℕ) → takes n (Named w) ≡ None
   pub pieceless : takes n PieceCall ≡ None
   pub alone : wants n ≡ None

@@ -11,7 +11,7 @@ use Rattle.mj_ast.specs.Tokens.{Token, Signed}
 use Rattle.mj_ast.specs.declared.routine.LockMode.{LockMode}
 use Rattle.mj_ast.specs.declared.routine.LockMode.TheVariants.{Whole, Plus as Added, Minus as Taken}
 use Rattle.mj_ast.specs.Commands.{Part, Put, Place, more_parts}
-use Rattle.mj_line.specs.Forms.{Mode, Jumps, Talk, Reads, Node, OutputWanted, MarksEnd, IntoWanted, PieceComma, PieceBehind, NameWanted, NameBehind, KillEnd, KeptWanted, KeptBehind, NewEnd, RoutineEnd, ActualEnd, ActualsEnd, LockWanted, LockSigned}
+use Rattle.mj_line.specs.Forms.{Mode, Jumps, Talk, Reads, Node, OutputWanted, MarksEnd, IntoWanted, PieceComma, PieceBehind, NameWanted, NameBehind, KillEnd, KeptWanted, KeptBehind, NewEnd, RestoredWanted, RestoredBehind, RestoredEnd, RoutineEnd, ActualEnd, ActualsEnd, LockWanted, LockSigned}
 use Rattle.mj_cmd.specs.Heads.{HasNoOpen, HasNoPlus, HasNoMinus, HasNoMark, HasNoStar, HasOther, StartsQuestion}
 
 -- what stands behind the word of `$PIECE`
@@ -24,18 +24,27 @@ abbrev pub piece_node : Bool → ℕ → Node
 piece_node listed zero = PieceComma listed
 piece_node listed (suc n) = PieceBehind listed (2 - n)
 
--- the places of a list of names in parentheses, of NEW or of KILL
-abbrev pub name_wanted : Bool → Node
-name_wanted true = KeptWanted
-name_wanted false = NameWanted
+-- the lists of names in parentheses: of KILL, of NEW and of TSTART
+pub data NameList : Type 0 where
+  Sparing : NameList
+  Keeping : NameList
+  Restoring : NameList
 
-abbrev pub name_behind : Bool → Node
-name_behind true = KeptBehind
-name_behind false = NameBehind
+-- their places
+abbrev pub name_wanted : NameList → Node
+name_wanted Sparing = NameWanted
+name_wanted Keeping = KeptWanted
+name_wanted Restoring = RestoredWanted
 
-abbrev pub name_end : Bool → Node
-name_end true = NewEnd
-name_end false = KillEnd
+abbrev pub name_behind : NameList → Node
+name_behind Sparing = NameBehind
+name_behind Keeping = KeptBehind
+name_behind Restoring = RestoredBehind
+
+abbrev pub name_end : NameList → Node
+name_end Sparing = KillEnd
+name_end Keeping = NewEnd
+name_end Restoring = RestoredEnd
 
 -- where the condition of an argument, or its timeout, may stand: behind an entry, with no actuals there, or behind actuals
 abbrev pub MayBeGuarded : Mode → Node → List Token → Type 0

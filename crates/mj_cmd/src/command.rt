@@ -18,6 +18,7 @@ use crate::list::arguments;
 use crate::parts::{behind_blank, behind_colon, parted, stuck};
 use crate::phrase::Phrases;
 use crate::repeat::repeated;
+use crate::restart::restartable;
 use mj_ast::{Command, Expr, Keyword, Step, Verb};
 use mj_expr::Stop;
 use mj_lex::Lexeme;
@@ -112,6 +113,11 @@ fn bare(alloc: Global, keyword: Keyword) -> Command
         Keyword::Use => Command::Use(Vec::new(alloc)),
         Keyword::Close => Command::Close(Vec::new(alloc)),
         Keyword::Read => Command::Read(Vec::new(alloc)),
+        Keyword::TStart => Command::TStart(None),
+        Keyword::TCommit => Command::TCommit,
+        Keyword::TRestart => Command::TRestart,
+        Keyword::TRollback => Command::TRollback,
+        Keyword::Break => Command::Break,
     }
 }
 
@@ -194,9 +200,17 @@ fn with_own<'a, 't>(
             let (counter, ranges, rest) = repeated(phrases, behind)?;
             Ok((Command::For(counter, ranges), rest))
         }
+        Keyword::TStart => {
+            let (argument, rest) = restartable(phrases, behind)?;
+            Ok((Command::TStart(Some(argument)), rest))
+        }
         Keyword::Halt => Err(stuck(behind)),
         Keyword::Else => Err(stuck(behind)),
         Keyword::Quit => Err(stuck(behind)),
+        Keyword::TCommit => Err(stuck(behind)),
+        Keyword::TRestart => Err(stuck(behind)),
+        Keyword::TRollback => Err(stuck(behind)),
+        Keyword::Break => Err(stuck(behind)),
     }
 }
 

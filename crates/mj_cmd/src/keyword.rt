@@ -1,7 +1,7 @@
 // The words that commands begin with.
 
 ghost use Rattle.std.specs.Prelude.{◌≡◌, IsTrue, bytes_eq, map};
-ghost use Rattle.mj_ast.specs.Commands.{capital, verb_of};
+ghost use Rattle.mj_ast.specs.Commands.{capital, is_serial_word, verb_of};
 ghost use Rattle.mj_cmd.specs.Words.{are_capitals};
 
 use mj_ast::{Keyword, Verb};
@@ -12,6 +12,13 @@ fn is_spelled(word: &[u8], spelling: &[u8]) -> bool
     ensures { result ≡ bytes_eq (map capital word.now) spelling.now }
 {
     word.eq_ignore_ascii_case(spelling)
+}
+
+/// Whether the word makes a transaction SERIAL.
+pub fn is_serial(word: &[u8]) -> bool
+    ensures { result ≡ is_serial_word word.now }
+{
+    is_spelled(word, b"SERIAL") || is_spelled(word, b"S")
 }
 
 /// What a word is, or the abbreviation of one, in any case.
@@ -77,6 +84,21 @@ pub fn verb_of(word: &[u8]) -> Option<Verb>
     }
     if is_spelled(word, b"READ") || is_spelled(word, b"R") {
         return Some(Verb::Of(Keyword::Read));
+    }
+    if is_spelled(word, b"TSTART") || is_spelled(word, b"TS") {
+        return Some(Verb::Of(Keyword::TStart));
+    }
+    if is_spelled(word, b"TCOMMIT") || is_spelled(word, b"TC") {
+        return Some(Verb::Of(Keyword::TCommit));
+    }
+    if is_spelled(word, b"TRESTART") || is_spelled(word, b"TRE") {
+        return Some(Verb::Of(Keyword::TRestart));
+    }
+    if is_spelled(word, b"TROLLBACK") || is_spelled(word, b"TRO") {
+        return Some(Verb::Of(Keyword::TRollback));
+    }
+    if is_spelled(word, b"BREAK") || is_spelled(word, b"B") {
+        return Some(Verb::Of(Keyword::Break));
     }
     None
 }

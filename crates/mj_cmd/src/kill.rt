@@ -9,7 +9,7 @@ ghost use Rattle.mj_expr.specs.declared.stop.Stop.TheVariants.{Memory};
 ghost use Rattle.mj_lex.specs.Seen.{tokens_seen};
 ghost use Rattle.mj_line.specs.Forms.{KillEnd, KillWanted, MergeEnd, MergeInto};
 ghost use Rattle.mj_cmd.specs.Heads.{HasOther};
-ghost use Rattle.mj_cmd.specs.Parts.{name_end, name_wanted};
+ghost use Rattle.mj_cmd.specs.Parts.{NameList, name_end, name_wanted};
 ghost use Rattle.mj_cmd.specs.Reads.{HasRoom, Passes};
 
 use crate::list::{Argument, Item};
@@ -39,7 +39,7 @@ pub fn names<'a, 't>(
     tokens: &'t [Lexeme<'a>],
 ) -> Result<(Vec<Text>, &'t [Lexeme<'a>]), Stop>
     ensures shorter { IfOk result (λ x. length x.1.now ≤ length tokens.now) }
-    ensures reads { (m : Limits) → (new : Bool) → Passes phrases.limited (λ x. with_commas name_parts x.0.items ++ Put Close ∷ []) (λ x. x.1.now) result m tokens.now (name_wanted new) (name_end new) }
+    ensures reads { (m : Limits) → (new : NameList) → Passes phrases.limited (λ x. with_commas name_parts x.0.items ++ Put Close ∷ []) (λ x. x.1.now) result m tokens.now (name_wanted new) (name_end new) }
 {
     let mut names = Vec::new(phrases.alloc);
     match behind_name(tokens) {

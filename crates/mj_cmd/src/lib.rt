@@ -19,6 +19,7 @@ mod parts;
 mod phrase;
 mod read;
 mod repeat;
+mod restart;
 mod set;
 mod write;
 

@@ -8,7 +8,7 @@ use Rattle.mj_oper.specs.declared.op.TruthOp.TheVariants as truth
 use Rattle.mj_ast.specs.Syntax.{Chain, Done, Then, Literal, Intrinsic, Value, Unary, Group, Call, About, Var, No, More}
 use Rattle.mj_ast.specs.declared.function.Function.TheVariants.{Length}
 use Rattle.mj_ast.specs.declared.function.NameFunction.TheVariants as names
-use Rattle.mj_ast.specs.declared.function.Special.TheVariants.{Io, Job, Test, X, Y}
+use Rattle.mj_ast.specs.declared.function.Special.TheVariants.{Io, Job, Test, TLevel, TRestart, X, Y}
 use Rattle.mj_ast.specs.Tokens.{Token, Word, Called, Special, Quoted, Signed, Blank, Unclosed}
 use Rattle.mj_ast.specs.Expressions.{symbol, expr_symbols, expr_nesting}
 use Rattle.mj_expr.specs.declared.beyond.Around.TheVariants as around
@@ -168,6 +168,11 @@ job_row = refl
 device_row : run (levels 1) (map symbol (Special (105 ∷ 111 ∷ []) ∷ Signed Plus ∷ Special (120 ∷ []) ∷ Signed Plus ∷ Special (89 ∷ []) ∷ [])) (Wanted (Front Alone))
     ≡ Accept (Whole (Chain (Intrinsic Io) (Then binary.Add (Intrinsic X) (Then binary.Add (Intrinsic Y) Done)))) []
 device_row = refl
+
+-- `$TL` and `$trestart`
+transaction_row : run (levels 1) (map symbol (Special (84 ∷ 76 ∷ []) ∷ Signed Plus ∷ Special (116 ∷ 114 ∷ 101 ∷ 115 ∷ 116 ∷ 97 ∷ 114 ∷ 116 ∷ []) ∷ [])) (Wanted (Front Alone))
+    ≡ Accept (Whole (Chain (Intrinsic TLevel) (Then binary.Add (Intrinsic TRestart) Done))) []
+transaction_row = refl
 
 -- `$L` alone is no operand
 no_special_row : run (levels 1) (map symbol (Special (76 ∷ []) ∷ [])) (Wanted (Front Alone)) ≡ StuckAt 1

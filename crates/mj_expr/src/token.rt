@@ -177,6 +177,10 @@ pub fn special(word: &[u8]) -> Option<Special>
         Some(Special::Job)
     } else if is_word(word, b"TEST", b"T") {
         Some(Special::Test)
+    } else if is_word(word, b"TLEVEL", b"TL") {
+        Some(Special::TLevel)
+    } else if is_word(word, b"TRESTART", b"TR") {
+        Some(Special::TRestart)
     } else if is_word(word, b"X", b"X") {
         Some(Special::X)
     } else if is_word(word, b"Y", b"Y") {

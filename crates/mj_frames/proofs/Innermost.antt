@@ -1,8 +1,10 @@
 -- What lies in a list with the innermost last.
-use Rattle.std.proofs.Common.{◌≡◌, ℕ, ◌-◌, ◌<◌, List, [], ◌∷◌, ◌++◌, length, reverse, map, drop, get_or, refl, sym, ap, ◌∙◌, arith, length-append}
+use Rattle.std.proofs.Common.{◌≡◌, ℕ, suc, ◌-◌, ◌<◌, List, [], ◌∷◌, ◌++◌, length, reverse, map, drop, get_or, Option, refl, sym, ap, ◌∙◌, arith, length-append}
 use Rattle.std.specs.Prelude.{slice_set}
 use Rattle.std.proofs.Math.Seq.{set-append_seam, get_or-append_seam}
 use Rattle.std.proofs.lemmas.List.{reverse-append, reverse-reverse, map-append, length-reverse, length-map}
+use Rattle.mj_semantics.specs.State.{Frame}
+use Rattle.mj_frames.specs.Frames.{popped_from}
 
 module _ {A B : Type 0} (f : A → B) where
   abbrev pub seen : List A → List B
@@ -45,3 +47,12 @@ module _ {A B : Type 0} (f : A → B) where
 
   pub seen_length : (xs : List A) → length (seen xs) ≡ length xs
   seen_length xs = length-reverse (map f xs) ∙ length-map xs f
+
+-- the innermost goes, of which so many are to stay
+pub dropped_one : (depth : ℕ) (fs gs : List Frame) (o : Option Frame) → depth < length fs → popped_from fs ≡ (o, gs) → drop (length gs - depth) gs ≡ drop (length fs - depth) fs
+dropped_one depth [] gs o above e = absurd (omega arith)
+dropped_one depth (f ∷ fs) gs o above e =
+    ap (λ (xs : List Frame). drop (length xs - depth) xs) (sym (ap (λ p. p.1) e)) ∙ sym (ap (λ k. drop k (f ∷ fs)) (less_one depth (length fs) above))
+  where
+    less_one : (a b : ℕ) → a < suc b → suc b - a ≡ suc (b - a)
+    less_one a b h = omega arith

@@ -1,8 +1,9 @@
 // Frames.
 
-ghost use Rattle.std.specs.Prelude.{◌≤◌, length};
+ghost use Rattle.std.specs.Prelude.{◌≡◌, ◌≤◌, length, IfOk};
 
 use mj_text::Text;
+use std::alloc::AllocError;
 
 /// A line of a routine.
 #[derive(Drop)]
@@ -10,6 +11,20 @@ pub struct Place {
     pub routine: Text,
     pub line: u32,
     ghost short: { length routine ≤ 31 },
+}
+
+impl Place {
+    /// The same place once more.
+    pub fn try_clone(&self) -> Result<Place, AllocError>
+        ensures routine { IfOk result (λ place. place.routine ≡ self.now.routine) }
+        ensures line { IfOk result (λ place. place.line ≡ self.now.line) }
+    {
+        let routine = self.routine.try_clone()?;
+        Ok(Place {
+            routine,
+            line: self.line,
+        })
+    }
 }
 
 /// A frame: where it stands, the level of its lines, whether it is a function's, the `$TEST` that its end restores, if it restores

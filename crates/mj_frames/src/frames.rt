@@ -1,8 +1,9 @@
 // The frames of a job.
 
-ghost use Rattle.std.specs.Prelude.{◌≡◌, ◌+◌, ◌≤◌, [], ◌∷◌, length, option_map, OnOk, OnErr};
+ghost use Rattle.std.specs.Prelude.{◌≡◌, ◌+◌, ◌-◌, ◌≤◌, [], ◌∷◌, length, drop, option_map, OnOk, OnErr};
+ghost use Rattle.mj_semantics.specs.State.{standing_at};
 ghost use Rattle.mj_frames.specs.Places.{place_in, line_at};
-ghost use Rattle.mj_frames.specs.Frames.{frame_of, frame_at, frames_of, with_place, innermost, level_in, popped_from};
+ghost use Rattle.mj_frames.specs.Frames.{place_of, frame_of, frame_at, frames_of, with_place, innermost, level_in, popped_from};
 
 use crate::frame::{Frame, Place};
 use mj_text::Text;
@@ -104,6 +105,33 @@ impl Frames {
         ensures { popped_from self.old ≡ (option_map frame_of result, self.new) }
     {
         self.frames.pop()
+    }
+
+    /// The outermost `depth` stay, or all where there are fewer.
+    pub fn truncate(&mut self, depth: usize)
+        ensures { self.new ≡ drop (length self.old - depth) self.old }
+    {
+        while self.len() > depth {
+            drop(self.pop());
+        }
+    }
+
+    /// The innermost one stands at this place, if there is a place and a frame. It takes no memory.
+    pub fn stand_at(&mut self, place: Option<Place>)
+        ensures { self.new ≡ standing_at (option_map place_of place) self.old }
+    {
+        if let Some(place) = place {
+            stand(&mut self.frames, place);
+        }
+    }
+}
+
+// The innermost frame, which lies last, stands at a place, if there is a frame.
+fn stand(frames: &mut [Frame], place: Place)
+    ensures { frames_of frames.new ≡ with_place (place_of place) (frames_of frames.old) }
+{
+    if let Some(frame) = frames.last_mut() {
+        frame.place = place;
     }
 }
 

@@ -232,6 +232,10 @@ fn opening(alloc: Global, job: u32) -> Machine
         loops: Vec::new(alloc),
         calls: Vec::new(alloc),
         devices: Devices::new(alloc),
+        level: 0,
+        restarts: 0,
+        mark: None,
+        restart: None,
         replied: 0,
         held: Nodes::new(alloc),
     }

@@ -8,5 +8,7 @@
 #![tactic(auto)]
 
 mod job;
+mod laws;
 
 pub use job::{Job, SPENT_LIMIT, Turn};
+pub use laws::ended_by_halt;

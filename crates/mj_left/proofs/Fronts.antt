@@ -1,19 +1,19 @@
 -- The tokens before the one at which a line is stuck, with another one behind them.
 use Rattle.std.proofs.Common.{◌≡◌, ◌==◌, ◌∙◌, ◌⊎◌, inl, inr, refl, sym, ap, subst, ℕ, zero, suc, ◌+◌, ◌≤◌, ◌<◌, List, [], ◌∷◌, ◌++◌, length, take, drop, append_assoc, append-nil, length-append, arith, Bool, true, false, Option, Some, None}
-use Rattle.std.proofs.lemmas.List.{take-append-drop, take-append-le, take_all}
+use Rattle.std.proofs.lemmas.List.{reverse-append, take-append-drop, take-append-le, take_all}
 use Rattle.std.proofs.lemmas.Bool.Decides.{nat_tests}
-use Rattle.mj_ast.specs.declared.sign.Sign.TheVariants.{Colon, Comma}
+use Rattle.mj_ast.specs.declared.sign.Sign.TheVariants.{Colon, Comma, Open}
 use Rattle.mj_ast.specs.Syntax.{Line}
 use Rattle.mj_ast.specs.Tokens.{Token, Word, Called, Special, Digits, Signed, Blank}
 use Rattle.mj_ast.specs.Lines.{SpellsLine, BeginsLine, BeginsLineWithin, IsStuck, IsDeep, IsOverlong, HasOverlong}
 use Rattle.mj_ast.specs.declared.keyword.Keyword.{Keyword}
 use Rattle.mj_ast.specs.declared.keyword.Keyword.TheVariants as keyword
-use Rattle.mj_ast.specs.LeftOut.{EndsInCommand, IsBehindColon, IsBehindColons, IsBehindCommand, IsLast, ends_in, is_blank_token, last_keyword}
+use Rattle.mj_ast.specs.LeftOut.{EndsInCommand, IsBehindColon, IsBehindColons, IsBehindCommand, IsLast, IsBehindSerial, ends_in, starts, is_blank_token, is_open, last_keyword}
 use Rattle.mj_expr.specs.declared.stop.Stop.{Stop}
 use Rattle.mj_expr.specs.declared.stop.Stop.TheVariants as stop
 use Rattle.mj_cmd.specs.Heads.{IsLabelShort}
 use Rattle.mj_cmd.specs.Said.{IsRead, IsStuckWith, IsDeepWith, IsRefused}
-use Rattle.mj_left.specs.Fronts.{IsFront, IsProbe, Says}
+use Rattle.mj_left.specs.Fronts.{IsBehindStart, IsFront, IsProbe, Says}
 
 false_true : false ≡ true → ⊥
 false_true e = cc
@@ -205,3 +205,50 @@ behind_off k front before last e h q = let P : List Token → Type 0 = λ ks. En
 -- two colons behind it
 pub colons_off : (front before : List Token) → front ≡ before ++ Signed Colon ∷ [] → IsBehindColons front → IsBehindColon keyword.Open before
 colons_off front before e q = let P : List Token → Type 0 = λ ks. IsBehindColon keyword.Open ks in subst P (before_same q.0 before (Signed Colon) (Signed Colon) (sym q.1 ∙ e)) q.2
+
+-- one colon behind it
+pub start_off : (front before : List Token) → front ≡ before ++ Signed Colon ∷ [] → IsBehindStart front → EndsInCommand keyword.TStart before
+start_off front before e q = let P : List Token → Type 0 = λ ks. EndsInCommand keyword.TStart ks in subst P (before_same q.0 before (Signed Colon) (Signed Colon) (sym q.1 ∙ e)) q.2
+
+-- one blank
+pub word_off : (front before : List Token) → front ≡ before ++ Blank ∷ [] → IsBehindCommand keyword.TStart front → EndsInCommand keyword.TStart before
+word_off front before e q = let P : List Token → Type 0 = λ ks. EndsInCommand keyword.TStart ks in subst P (before_same q.0 before Blank Blank (sym q.1 ∙ e)) q.2
+
+-- the last token
+last_same : (xs ys : List Token) (a b : Token) → xs ++ a ∷ [] ≡ ys ++ b ∷ [] → a ≡ b
+last_same [] [] a b e = first_same a b [] [] e
+last_same [] (y ∷ ys) a b e = absurd (nothing_behind ys b [] (rest_same a y [] (ys ++ b ∷ []) e))
+last_same (x ∷ xs) [] a b e = absurd (nothing_behind xs a [] (sym (rest_same x b (xs ++ a ∷ []) [] e)))
+last_same (x ∷ xs) (y ∷ ys) a b e = last_same xs ys a b (rest_same x y (xs ++ a ∷ []) (ys ++ b ∷ []) e)
+
+not_open : Signed Colon ≡ Signed Open → ⊥
+not_open e = cc
+
+-- behind a `(` the word of SERIAL is wanted where it is before it
+pub enclosed_on : (front before : List Token) → front ≡ before ++ Signed Open ∷ [] → IsBehindStart before → IsBehindSerial front
+enclosed_on front before e s = (s.0, inr (e ∙ ap (λ (ks : List Token). ks ++ Signed Open ∷ []) s.1 ∙ append_assoc s.0 (Signed Colon ∷ []) (Signed Open ∷ [])), s.2)
+
+pub enclosed_off : (front before : List Token) → front ≡ before ++ Signed Open ∷ [] → IsBehindSerial front → IsBehindStart before
+enclosed_off front before e q = by q.1
+  where
+    by : (front ≡ q.0 ++ Signed Colon ∷ []) ⊎ (front ≡ q.0 ++ Signed Colon ∷ Signed Open ∷ []) → IsBehindStart before
+    by (inl f) = absurd (not_open (last_same q.0 before (Signed Colon) (Signed Open) (sym f ∙ e)))
+    by (inr f) = (
+      q.0,
+      before_same before (q.0 ++ Signed Colon ∷ []) (Signed Open) (Signed Open) (sym e ∙ f ∙ sym (append_assoc q.0 (Signed Colon ∷ []) (Signed Open ∷ []))),
+      q.2,
+    )
+
+-- elsewhere behind the `:` itself
+pub bare_on : (front : List Token) → IsBehindStart front → IsBehindSerial front
+bare_on front s = (s.0, inl s.1, s.2)
+
+ends_open : (front before : List Token) → front ≡ before ++ Signed Open ∷ [] → ends_in is_open front ≡ true
+ends_open front before e = ap (ends_in is_open) e ∙ ap (starts is_open) (reverse-append before (Signed Open ∷ []))
+
+pub bare_off : (front : List Token) → ends_in is_open front ≡ false → IsBehindSerial front → IsBehindStart front
+bare_off front n q = by q.1
+  where
+    by : (front ≡ q.0 ++ Signed Colon ∷ []) ⊎ (front ≡ q.0 ++ Signed Colon ∷ Signed Open ∷ []) → IsBehindStart front
+    by (inl f) = (q.0, f, q.2)
+    by (inr f) = absurd (false_true (sym n ∙ ends_open front (q.0 ++ Signed Colon ∷ []) (f ∙ sym (append_assoc q.0 (Signed Colon ∷ []) (Signed Open ∷ [])))))

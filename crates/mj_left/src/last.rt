@@ -39,6 +39,11 @@ fn keyword_for(command: &Command) -> Keyword
         Command::Use(_) => Keyword::Use,
         Command::Close(_) => Keyword::Close,
         Command::Read(_) => Keyword::Read,
+        Command::TStart(_) => Keyword::TStart,
+        Command::TCommit => Keyword::TCommit,
+        Command::TRestart => Keyword::TRestart,
+        Command::TRollback => Keyword::TRollback,
+        Command::Break => Keyword::Break,
     }
 }
 

@@ -73,6 +73,8 @@ fn named(
         Construct::DeviceParameters,
         Construct::ProcessParameters,
         Construct::MnemonicSpace,
+        Construct::TransactionId,
+        Construct::BareSerial,
         Construct::SetExtract,
         Construct::JustifyDecimals,
         Construct::QueryBackward,

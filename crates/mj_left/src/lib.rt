@@ -12,6 +12,7 @@ mod quit;
 mod rows;
 mod stand;
 mod tokens;
+mod transactions;
 mod words;
 
 pub use left::left_out;

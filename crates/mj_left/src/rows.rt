@@ -1,7 +1,7 @@
 // The rows of the table of what is left out by name.
 
 ghost use Rattle.std.specs.Prelude.{◌≡◌, ◌⊎◌, ◌&&◌, ◌||◌, IfOk, reverse, true};
-ghost use Rattle.mj_ast.specs.LeftOut.{Fits, IsBehindColon, IsBehindDevice, IsBehindInput, IsBehindLabel, IsBehindTimeout, MayBeOperator, MayBeginActual, MayBeginCommand, MayBeginDestination, MayBeginName, MayBeginOperand, MayBeginOutput, called as the_called, ends_in, has_dollar as the_dollar, is_at as the_at, is_bar as the_bar, is_bracket as the_bracket, is_caret as the_caret, is_close as the_close, is_colon as the_colon, is_comma as the_comma, is_comma_in, is_digits as the_digits, is_dot as the_dot, is_exponent, is_extract as the_extract, is_hash as the_hash, is_justify as the_justify, is_match as the_match, is_name as the_name, is_no_function, is_no_variable, is_open as the_open, is_order_name as the_order_name, is_plus as the_plus, is_query as the_query, is_slash as the_slash, is_star as the_star, is_two_dollars, is_unknown as the_unknown, is_word as the_word, starts};
+ghost use Rattle.mj_ast.specs.LeftOut.{Fits, IsBehindColon, IsBehindDevice, IsBehindInput, IsBehindLabel, IsBehindSerial, IsBehindTimeout, MayBeOperator, MayBeginActual, MayBeginCommand, MayBeginDestination, MayBeginName, MayBeginOperand, MayBeginOutput, MayBeginRestartable, called as the_called, ends_in, has_dollar as the_dollar, is_at as the_at, is_bar as the_bar, is_bracket as the_bracket, is_caret as the_caret, is_close as the_close, is_colon as the_colon, is_comma as the_comma, is_comma_in, is_digits as the_digits, is_dot as the_dot, is_exponent, is_extract as the_extract, is_hash as the_hash, is_justify as the_justify, is_match as the_match, is_name as the_name, is_no_function, is_no_variable, is_open as the_open, is_order_name as the_order_name, is_plus as the_plus, is_query as the_query, is_slash as the_slash, is_star as the_star, is_transaction_word as the_transaction_word, is_two_dollars, is_unknown as the_unknown, is_word as the_word, starts};
 ghost use Rattle.mj_ast.specs.declared.keyword.Keyword.TheVariants.{Open};
 ghost use Rattle.mj_lex.specs.Seen.{token_seen, tokens_seen};
 ghost use Rattle.mj_left.specs.Fronts.{IsFront, Says};
@@ -16,8 +16,9 @@ use crate::tokens::{
     is_colon, is_comma, is_dollar, is_dot, is_hash, is_negated_question, is_open, is_plus,
     is_question, is_slash, is_star, starts_digits, starts_dollar, starts_word,
 };
+use crate::transactions::{is_behind_serial, may_begin_restartable};
 use crate::words::{
-    called, innermost, is_e, is_extract, is_justify, is_later, is_name, is_order_name, is_query,
+    called, innermost, is_e, is_extract, is_justify, is_name, is_order_name, is_query, is_t,
     is_variable,
 };
 use mj_ast::{Construct, Keyword};
@@ -209,6 +210,38 @@ fn mnemonic_space(alloc: Global, front: &[Lexeme], token: Token) -> Result<bool,
     output_space(alloc, front, token)
 }
 
+/// Whether the token is a word that begins with `T`.
+fn is_transaction_word(token: Token) -> bool
+    ensures { result ≡ the_transaction_word (token_seen token.entry) }
+{
+    match token {
+        Token::Word(word) => is_t(word),
+        _ => false,
+    }
+}
+
+/// Such a word behind the `:` of the argument of TSTART, or behind a `(` there.
+fn transaction_id(alloc: Global, front: &[Lexeme], token: Token) -> Result<bool, AllocError>
+    requires { IsFront (tokens_seen front.now) }
+    ensures { IfOk result (λ b. Says b ((the_transaction_word (token_seen token.entry) ≡ true) × IsBehindSerial (tokens_seen front.now))) }
+{
+    if !is_transaction_word(token) {
+        return Ok(false);
+    }
+    is_behind_serial(alloc, front)
+}
+
+/// `:` where that argument may begin.
+fn bare_serial(alloc: Global, front: &[Lexeme], token: Token) -> Result<bool, AllocError>
+    requires { IsFront (tokens_seen front.now) }
+    ensures { IfOk result (λ b. Says b ((the_colon (token_seen token.entry) ≡ true) × MayBeginRestartable (tokens_seen front.now))) }
+{
+    if !is_colon(token) {
+        return Ok(false);
+    }
+    may_begin_restartable(alloc, front)
+}
+
 /// `$EXTRACT(` where a destination may begin.
 fn set_extract(alloc: Global, front: &[Lexeme], token: Token) -> Result<bool, AllocError>
     requires { IsFront (tokens_seen front.now) }
@@ -276,7 +309,7 @@ fn is_unknown(token: Token) -> bool
     ensures { result ≡ the_unknown (token_seen token.entry) }
 {
     match token {
-        Token::Word(word) => verb_of(word).is_none() && !is_later(word),
+        Token::Word(word) => verb_of(word).is_none(),
         _ => false,
     }
 }
@@ -325,6 +358,8 @@ pub fn fits(
         Construct::DeviceParameters => device_parameters(alloc, front, token),
         Construct::ProcessParameters => is_behind_colon(alloc, Keyword::Job, front),
         Construct::MnemonicSpace => mnemonic_space(alloc, front, token),
+        Construct::TransactionId => transaction_id(alloc, front, token),
+        Construct::BareSerial => bare_serial(alloc, front, token),
         Construct::SetExtract => set_extract(alloc, front, token),
         Construct::JustifyDecimals => Ok(justify_decimals(front, token)),
         Construct::QueryBackward => Ok(query_backward(front, token)),

@@ -1,7 +1,7 @@
 // Where something may begin.
 
 ghost use Rattle.std.specs.Prelude.{◌≡◌, ◌⊎◌, IfOk, codes, true};
-ghost use Rattle.mj_ast.specs.declared.sign.Sign.TheVariants.{Caret, Close, Colon, Exclamation, Underscore};
+ghost use Rattle.mj_ast.specs.declared.sign.Sign.TheVariants.{Caret, Close, Colon, Exclamation, Star, Underscore};
 ghost use Rattle.mj_ast.specs.Tokens.{Called, Signed, Special, Word};
 ghost use Rattle.mj_ast.specs.LeftOut.{IsBehindLabel, MayBeOperator, MayBeginActual, MayBeginCommand, MayBeginDestination, MayBeginName, MayBeginOperand, MayBeginOutput, MayStand, is_in_formals as in_formals};
 ghost use Rattle.mj_lex.specs.Seen.{token_seen, tokens_seen};
@@ -107,6 +107,14 @@ pub fn may_be_colon(alloc: Global, front: &[Lexeme]) -> Result<bool, AllocError>
     ensures { IfOk result (λ b. Says b (MayStand (tokens_seen front.now) (Signed Colon))) }
 {
     may_stand(alloc, front, Token::Sign(Sign::Colon))
+}
+
+/// Whether a `*` may stand.
+pub fn may_be_star(alloc: Global, front: &[Lexeme]) -> Result<bool, AllocError>
+    requires { IsFront (tokens_seen front.now) }
+    ensures { IfOk result (λ b. Says b (MayStand (tokens_seen front.now) (Signed Star))) }
+{
+    may_stand(alloc, front, Token::Sign(Sign::Star))
 }
 
 /// Whether a destination may begin, or an operand.

@@ -1,7 +1,7 @@
 // Words that the profile has, and functions.
 
 ghost use Rattle.std.specs.Prelude.{◌≡◌, ◌∷◌, ◌+◌, ◌≤◌, MatchOption, Option, None, length, reverse, ℕ};
-ghost use Rattle.mj_ast.specs.LeftOut.{called as the_called, function_of as the_function, innermost as the_innermost, is_e as the_e, is_extract as the_extract, is_justify as the_justify, is_later as the_later, is_name as the_name, is_order as the_order, is_order_name as the_order_name, is_in_order, is_query as the_query, is_variable as the_variable, without_caret as the_rest};
+ghost use Rattle.mj_ast.specs.LeftOut.{called as the_called, function_of as the_function, innermost as the_innermost, is_e as the_e, is_extract as the_extract, is_justify as the_justify, is_name as the_name, is_order as the_order, is_order_name as the_order_name, is_in_order, is_query as the_query, is_t as the_t, is_variable as the_variable, without_caret as the_rest};
 ghost use Rattle.mj_ast.specs.Expressions.{is_named};
 ghost use Rattle.mj_lex.specs.Seen.{token_seen, tokens_seen};
 
@@ -20,6 +20,16 @@ pub fn is_e(word: &[u8]) -> bool
     }
 }
 
+/// Whether the word begins with a `T`, in any case.
+pub fn is_t(word: &[u8]) -> bool
+    ensures { result ≡ the_t word.now }
+{
+    match word {
+        [] => false,
+        [first, ..] => *first == b'T' || *first == b't',
+    }
+}
+
 /// Whether the word is this one or its abbreviation, in any case.
 fn is_either(word: &[u8], full: &[u8], short: &[u8]) -> bool
     ensures { result ≡ is_named word.now full.now short.now }
@@ -27,18 +37,7 @@ fn is_either(word: &[u8], full: &[u8], short: &[u8]) -> bool
     word.eq_ignore_ascii_case(full) || word.eq_ignore_ascii_case(short)
 }
 
-/// Whether it is the word of a command that the reader doesn't read yet.
-pub fn is_later(word: &[u8]) -> bool
-    ensures { result ≡ the_later word.now }
-{
-    is_either(word, b"BREAK", b"B")
-        || is_either(word, b"TCOMMIT", b"TC")
-        || is_either(word, b"TRESTART", b"TRE")
-        || is_either(word, b"TROLLBACK", b"TRO")
-        || is_either(word, b"TSTART", b"TS")
-}
-
-/// Whether it is the word of a variable, those that the reader doesn't read yet among them.
+/// Whether it is the word of a variable.
 pub fn is_variable(word: &[u8]) -> bool
     ensures { result ≡ the_variable word.now }
 {

@@ -13,7 +13,7 @@ use Rattle.mj_expr.specs.Machine.{Limits}
 use Rattle.mj_expr.specs.Machine as phrase
 use Rattle.mj_expr.proofs.Turns.{IsReached, step_reached, NextReached, IsPlain, CommaAfter, comma_after, plain_easy, comma_level, IsNoLevel, IsEasy, overlong_stuck, step_deep, DeepBy}
 use Rattle.mj_expr.proofs.Said.{Over as OverLimit}
-use Rattle.mj_line.specs.Forms.{Node, Want, AnExpr, AVar, ALocal, part_at, labels, takes, first_node}
+use Rattle.mj_line.specs.Forms.{Node, Want, AnExpr, AVar, ALocal, part_at, sort_of, takes, first_node}
 use Rattle.mj_line.specs.Sentences.{Sentence}
 use Rattle.mj_line.specs.Machine.{Rest, Spot, Begin, Over, Worded, Asked, Bare, Args, Goal, Condition, Argument, State, At, In, start, wanted, may_begin, level, inside, behind, entry, rested, Next, Go, Stuck, Deep, Long, opened, moved, taken, own, begins, on_rested, first, spot_step, behind_step, phrase_step, in_step, entering, step, Labelled, FormalsOpened, FormalWanted, FormalBehind, FormalsEnd, Indented, is_new}
 use Rattle.mj_line.proofs.Leaves.{NextLeads, spot_leads}
@@ -154,7 +154,7 @@ own_spot (Indented l) (Signed Dot) = tt
 own_spot (Worded l k) (Signed Colon) = choice_spot (Asked l k) (is_conditional (bare_of k))
 own_spot (Worded l k) Blank = opened_spot l None k (first_node k)
 own_spot (Bare l condition k) Blank = opened_spot l condition k (first_node k)
-own_spot (Args l condition k done n) t = taken_spot l condition k done n (part_at (labels n) t)
+own_spot (Args l condition k done n) t = taken_spot l condition k done n (part_at (sort_of n) t)
 own_spot p k = tt
 
 begins_spot : (o : Sentence) (q : Option Verb) → ToSpot (begins o q)

@@ -13,16 +13,16 @@ use Rattle.mj_ast.specs.declared.expr.Scope.TheVariants.{Local, Global}
 use Rattle.mj_ast.specs.Syntax.{Expr, Variable, Var}
 use Rattle.mj_ast.specs.Tokens.{Token, Word, Digits, Signed, Blank, Comment, Called, Special, Quoted, Unclosed, Stray}
 use Rattle.mj_ast.specs.Expressions.{Symbol, Constant, Inherent, Name, Applied, Overlong, Mark, Other, symbol, expr_symbols, variable_symbols, expr_nesting, expr_width, callee_of}
-use Rattle.mj_ast.specs.Commands.{Part, Put, Named, Label, PieceCall, Prompt, Text, Place, Control, is_local, SpellsPart, SpellsParts, SpellsCondition, SpellsArguments, IsConditional, greatest, part_nesting, part_width, condition_measure, gap_of, comment_gap_of, verb_of, bare_of, meant}
+use Rattle.mj_ast.specs.Commands.{Part, Put, Named, Label, SerialWord, PieceCall, Prompt, Text, Place, Control, is_serial_word, is_local, SpellsPart, SpellsParts, SpellsCondition, SpellsArguments, IsConditional, greatest, part_nesting, part_width, condition_measure, gap_of, comment_gap_of, verb_of, bare_of, meant}
 use Rattle.mj_ast.specs.Lines.{SpellsEnd, SpellsLabel, comment_gap, SpellsFormals, SpellsDots, comma_names, name_tokens, gap_behind}
 use Rattle.mj_expr.specs.Machine.{Limits}
 use Rattle.mj_expr.specs.Machine as phrase
 use Rattle.mj_expr.proofs.Zipper.{Kind, AnExpression, AVariable}
 use Rattle.mj_expr.proofs.Complete.{Ceases, complete_phrase}
-use Rattle.mj_line.specs.Forms.{next_of, Node, Want, AnExpr, AVar, ALocal, piece_part, part_of, part_at, labels, takes, wants, ends, first_node, may_be_bare, Fits, IsForm}
+use Rattle.mj_line.specs.Forms.{next_of, Node, Want, AnExpr, AVar, ALocal, piece_part, Sort, Names, Labels, Serials, part_of, part_at, sort_of, takes, wants, ends, first_node, may_be_bare, Fits, IsForm}
 use Rattle.mj_line.specs.Sentences.{Clause, Sentence, SpellsClause, SpellsClauses, SpellsSentence, clause_nesting, clause_width, IsWithin}
 use Rattle.mj_line.specs.Machine.{Rest, Spot, Begin, Behind, Worded, Asked, Bare, Args, Goal, Condition, Argument, At, In, empty_line, labelled, clause, with_clause, bare_rest, args_rest, expression_wanted, start, wanted, may_want, may_begin, level, level_of, inside, behind, bare_rested, rested, argument, entry, Next, Go, Stuck, Deep, Long, opened, moved, taken, begins, on, on_rested, first, spot_step, phrase_step, in_step, entering, step, ended_at, ended_spot, Accept, run, turn, Labelled, FormalsOpened, FormalWanted, FormalBehind, FormalsEnd, Indented, headed, dotted, is_new}
-use Rattle.mj_line.proofs.Tables.{conditional_bare, label_wanted, name_wanted, prompt_wanted, shut, first_ends, followed, FollowsWant, apart_at, part_taken}
+use Rattle.mj_line.proofs.Tables.{conditional_bare, label_wanted, name_wanted, serial_wanted, prompt_wanted, shut, first_ends, followed, FollowsWant, apart_at, part_taken}
 use Rattle.mj_line.proofs.Formals.{AreNew, formals_new, dotted_by, dotted_is}
 use Rattle.mj_line.proofs.Leaves.{want_kind}
 use Rattle.mj_line.proofs.Facts.{lift_accept, plain_step, start_stuck}
@@ -140,20 +140,22 @@ run_rests m p r (Special w ∷ ks) h i = absurd i
 run_rests m p r (Unclosed t ∷ ks) h i = absurd i
 run_rests m p r (Stray b ∷ ks) h i = absurd i
 
-blank_at : (b : Bool) → part_at b Blank ≡ None
-blank_at true = refl
-blank_at false = refl
+blank_at : (b : Sort) → part_at b Blank ≡ None
+blank_at Names = refl
+blank_at Labels = refl
+blank_at Serials = refl
 
-comment_at : (b : Bool) (text : List ℕ) → part_at b (Comment text) ≡ None
-comment_at true text = refl
-comment_at false text = refl
+comment_at : (b : Sort) (text : List ℕ) → part_at b (Comment text) ≡ None
+comment_at Names text = refl
+comment_at Labels text = refl
+comment_at Serials text = refl
 
 pub args_rests : (o : Sentence) (condition : Option Expr) (k : Verb) (done : List Part) (n : Node) → ends n ≡ true → Rests (Args o condition k done n) (args_rest o condition k done)
 args_rests o condition k done n e =
     let r = args_rest o condition k done in
     record {
-      blank = ap (λ (q : Option Part). first (taken o condition k done n q) (on_rested (bare_rested (ends n) r) Blank)) (blank_at (labels n)) ∙ ap (λ (b : Bool). on_rested (bare_rested b r) Blank) e;
-      comment = λ text. ap (λ (q : Option Part). first (taken o condition k done n q) (on_rested (bare_rested (ends n) r) (Comment text))) (comment_at (labels n) text) ∙ ap (λ (b : Bool). on_rested (bare_rested b r) (Comment text)) e;
+      blank = ap (λ (q : Option Part). first (taken o condition k done n q) (on_rested (bare_rested (ends n) r) Blank)) (blank_at (sort_of n)) ∙ ap (λ (b : Bool). on_rested (bare_rested b r) Blank) e;
+      comment = λ text. ap (λ (q : Option Part). first (taken o condition k done n q) (on_rested (bare_rested (ends n) r) (Comment text))) (comment_at (sort_of n) text) ∙ ap (λ (b : Bool). on_rested (bare_rested b r) (Comment text)) e;
       ends = ap (λ (b : Bool). ended_at (bare_rested b r)) e;
     }
 
@@ -198,13 +200,13 @@ unrested r true (Special w) g (inl h) = refl
 unrested r true (Unclosed x) g (inl h) = refl
 unrested r true (Stray x) g (inl h) = refl
 
-enter_step : (m : Limits) (o : Sentence) (condition : Option Expr) (k : Verb) (done : List Part) (n : Node) (w : Want) (t : Token) → wants n ≡ Some w → may_want w (symbol t) ≡ true → (phrase.step (inside m (level_of w)) (wanted w) (symbol t) ≡ phrase.Stuck → ⊥) → (phrase.step (inside m (level_of w)) (wanted w) (symbol t) ≡ phrase.Stuck) ⊎ (part_taken n (part_at (labels n) t) ≡ None) →
+enter_step : (m : Limits) (o : Sentence) (condition : Option Expr) (k : Verb) (done : List Part) (n : Node) (w : Want) (t : Token) → wants n ≡ Some w → may_want w (symbol t) ≡ true → (phrase.step (inside m (level_of w)) (wanted w) (symbol t) ≡ phrase.Stuck → ⊥) → (phrase.step (inside m (level_of w)) (wanted w) (symbol t) ≡ phrase.Stuck) ⊎ (part_taken n (part_at (sort_of n) t) ≡ None) →
     step m (At (Args o condition k done n)) t ≡ in_step m (Argument o condition k done w) (wanted w) t
 enter_step m o condition k done n w t e y h (inl i) = absurd (h i)
 enter_step m o condition k done n w t e y h (inr i) =
     let r = args_rest o condition k done in
     let q = argument o condition k done (wants n) in
-    ap (λ (x : Next). first (first x (on_rested (bare_rested (ends n) r) t)) (entering m q t)) (untaken o condition k done n (part_at (labels n) t) i)
+    ap (λ (x : Next). first (first x (on_rested (bare_rested (ends n) r) t)) (entering m q t)) (untaken o condition k done n (part_at (sort_of n) t) i)
     ∙ ap (λ (x : Next). first x (entering m q t)) (unrested r (ends n) t refl (inl (λ z. h (ap (phrase.step (inside m (level_of w)) (wanted w)) z ∙ want_other (inside m (level_of w)) w))))
     ∙ ap (λ (x : Option Want). entering m (argument o condition k done x) t) e
     ∙ ap (λ (b : Bool). cond b (in_step m (Argument o condition k done w) (wanted w) t) Stuck) y
@@ -269,7 +271,7 @@ read_phrase m o condition k done n w x front rest xs e s y h =
 
 -- ---- arguments
 
-token_run : (m : Limits) (o : Sentence) (condition : Option Expr) (k : Verb) (done : List Part) (n next : Node) (t : Token) (p : Part) (ks : List Token) → part_at (labels n) t ≡ Some p → takes n p ≡ Some next →
+token_run : (m : Limits) (o : Sentence) (condition : Option Expr) (k : Verb) (done : List Part) (n next : Node) (t : Token) (p : Part) (ks : List Token) → part_at (sort_of n) t ≡ Some p → takes n p ≡ Some next →
     run m (t ∷ ks) (At (Args o condition k done n)) ≡ run m ks (At (Args o condition k (done ++ p ∷ []) next))
 token_run m o condition k done n next t p ks e h =
     let s = Args o condition k done n in
@@ -279,46 +281,57 @@ token_run m o condition k done n next t p ks e h =
 word_part : (w : List ℕ) → length w ≤ 31 → part_of (Word w) ≡ Some (Named w)
 word_part w h = ap (λ (b : Bool). cond b (Some (Named w)) None) (let e : nat_le (length w) 31 ≡ true = grind (arith, nat_tests) in e)
 
-sign_at : (b : Bool) (z : Sign) → part_at b (Signed z) ≡ Some (Put z)
-sign_at true z = refl
-sign_at false z = refl
+sign_at : (b : Sort) (z : Sign) → part_at b (Signed z) ≡ Some (Put z)
+sign_at Names z = refl
+sign_at Labels z = refl
+sign_at Serials z = refl
 
-name_at : (b : Bool) (w : List ℕ) → b ≡ false → length w ≤ 31 → part_at b (Word w) ≡ Some (Named w)
-name_at true w e h = absurd (let f : true ≡ false = e in cc)
-name_at false w e h = word_part w h
+name_at : (b : Sort) (w : List ℕ) → b ≡ Names → length w ≤ 31 → part_at b (Word w) ≡ Some (Named w)
+name_at Names w e h = word_part w h
+name_at Labels w e h = absurd (let f : Labels ≡ Names = e in cc)
+name_at Serials w e h = absurd (let f : Serials ≡ Names = e in cc)
 
-label_word : (w : List ℕ) → length w ≤ 31 → part_at true (Word w) ≡ Some (Label w)
+label_word : (w : List ℕ) → length w ≤ 31 → part_at Labels (Word w) ≡ Some (Label w)
 label_word w h = ap (λ (b : Bool). cond b (Some (Label w)) None) (let e : nat_le (length w) 31 ≡ true = grind (arith, nat_tests) in e)
 
-word_at : (b : Bool) (w : List ℕ) → b ≡ true → length w ≤ 31 → part_at b (Word w) ≡ Some (Label w)
-word_at true w e h = label_word w h
-word_at false w e h = absurd (let f : false ≡ true = e in cc)
+word_at : (b : Sort) (w : List ℕ) → b ≡ Labels → length w ≤ 31 → part_at b (Word w) ≡ Some (Label w)
+word_at Names w e h = absurd (let f : Names ≡ Labels = e in cc)
+word_at Labels w e h = label_word w h
+word_at Serials w e h = absurd (let f : Serials ≡ Labels = e in cc)
 
-digits_at : (b : Bool) (d : List ℕ) → b ≡ true → length d ≤ 32767 → part_at b (Digits d) ≡ Some (Label d)
-digits_at true d e h = ap (λ (b : Bool). cond b (Some (Label d)) None) (let e : nat_le (length d) 32767 ≡ true = grind (arith, nat_tests) in e)
-digits_at false d e h = absurd (let f : false ≡ true = e in cc)
+serial_at : (b : Sort) (w : List ℕ) → b ≡ Serials → is_serial_word w ≡ true → part_at b (Word w) ≡ Some SerialWord
+serial_at Names w e h = absurd (let f : Names ≡ Serials = e in cc)
+serial_at Labels w e h = absurd (let f : Labels ≡ Serials = e in cc)
+serial_at Serials w e h = ap (λ (b : Bool). cond b (Some SerialWord) None) h
+
+digits_at : (b : Sort) (d : List ℕ) → b ≡ Labels → length d ≤ 32767 → part_at b (Digits d) ≡ Some (Label d)
+digits_at Labels d e h = ap (λ (b : Bool). cond b (Some (Label d)) None) (let e : nat_le (length d) 32767 ≡ true = grind (arith, nat_tests) in e)
+digits_at Names d e h = absurd (let f : Names ≡ Labels = e in cc)
+digits_at Serials d e h = absurd (let f : Serials ≡ Labels = e in cc)
 
 called_part : (w : List ℕ) → length w ≤ 31 → callee_of w ≡ Some (Texts Piece) → part_of (Called w) ≡ Some PieceCall
 called_part w h e =
     ap (λ (b : Bool). cond b (piece_part (callee_of w)) None) (let e : nat_le (length w) 31 ≡ true = grind (arith, nat_tests) in e)
     ∙ ap piece_part e
 
-called_at : (b : Bool) (w : List ℕ) → length w ≤ 31 → callee_of w ≡ Some (Texts Piece) → part_at b (Called w) ≡ Some PieceCall
-called_at true w h e = called_part w h e
-called_at false w h e = called_part w h e
+called_at : (b : Sort) (w : List ℕ) → length w ≤ 31 → callee_of w ≡ Some (Texts Piece) → part_at b (Called w) ≡ Some PieceCall
+called_at Names w h e = called_part w h e
+called_at Labels w h e = called_part w h e
+called_at Serials w h e = called_part w h e
 
-quoted_at : (b : Bool) (v : List ℕ) → b ≡ true → length v ≤ 32767 → part_at b (Quoted v) ≡ Some (Prompt v)
-quoted_at true v e h = ap (λ (b : Bool). cond b (Some (Prompt v)) None) (let e : nat_le (length v) 32767 ≡ true = grind (arith, nat_tests) in e)
-quoted_at false v e h = absurd (let f : false ≡ true = e in cc)
+quoted_at : (b : Sort) (v : List ℕ) → b ≡ Labels → length v ≤ 32767 → part_at b (Quoted v) ≡ Some (Prompt v)
+quoted_at Labels v e h = ap (λ (b : Bool). cond b (Some (Prompt v)) None) (let e : nat_le (length v) 32767 ≡ true = grind (arith, nat_tests) in e)
+quoted_at Names v e h = absurd (let f : Names ≡ Labels = e in cc)
+quoted_at Serials v e h = absurd (let f : Serials ≡ Labels = e in cc)
 
 label_run : (m : Limits) (o : Sentence) (condition : Option Expr) (k : Verb) (done : List Part) (n next : Node) (z : List ℕ) (front rest : List Token) {whole : List Token} → takes n (Label z) ≡ Some next → SpellsPart front (Label z) → whole ≡ front ++ rest →
     run m whole (At (Args o condition k done n)) ≡ run m rest (At (Args o condition k (done ++ Label z ∷ []) next))
 label_run m o condition k done n next z front rest f (inl s) w =
     ap (λ (ks : List Token). run m ks (At (Args o condition k done n))) (w ∙ ap (λ (ks : List Token). ks ++ rest) s.0)
-    ∙ token_run m o condition k done n next (Word z) (Label z) rest (word_at (labels n) z (label_wanted n next z f) s.1) f
+    ∙ token_run m o condition k done n next (Word z) (Label z) rest (word_at (sort_of n) z (label_wanted n next z f) s.1) f
 label_run m o condition k done n next z front rest f (inr s) w =
     ap (λ (ks : List Token). run m ks (At (Args o condition k done n))) (w ∙ ap (λ (ks : List Token). ks ++ rest) s.0)
-    ∙ token_run m o condition k done n next (Digits z) (Label z) rest (digits_at (labels n) z (label_wanted n next z f) s.1) f
+    ∙ token_run m o condition k done n next (Digits z) (Label z) rest (digits_at (sort_of n) z (label_wanted n next z f) s.1) f
 
 pub complete_args : (ps : List Part) (m : Limits) (o : Sentence) (condition : Option Expr) (k : Verb) (done : List Part) (n : Node) (front rest : List Token) → Fits n ps → SpellsParts front ps → greatest part_nesting ps ≤ m.depth → greatest part_width ps ≤ m.width → Parted rest →
     run m (front ++ rest) (At (Args o condition k done n)) ≡ run m rest (At (Behind (args_rest o condition k (done ++ ps))))
@@ -328,12 +341,12 @@ complete_args [] m o condition k done n front rest f s d w h =
     ∙ ap (λ (ps : List Part). run m rest (At (Behind (args_rest o condition k ps)))) (sym (append-nil done))
 complete_args (Put z ∷ ps) m o condition k done n front rest f s d w h =
     ap (λ (ks : List Token). run m (ks ++ rest) (At (Args o condition k done n))) (s.2 ∙ ap (λ (ks : List Token). ks ++ s.1) s.3)
-    ∙ token_run m o condition k done n f.0 (Signed z) (Put z) (s.1 ++ rest) (sign_at (labels n) z) f.1
+    ∙ token_run m o condition k done n f.0 (Signed z) (Put z) (s.1 ++ rest) (sign_at (sort_of n) z) f.1
     ∙ complete_args ps m o condition k (done ++ Put z ∷ []) f.0 s.1 rest f.2 s.4 (omega arith) (omega arith) h
     ∙ ap (λ (qs : List Part). run m rest (At (Behind (args_rest o condition k qs)))) (append_assoc done (Put z ∷ []) ps)
 complete_args (Named z ∷ ps) m o condition k done n front rest f s d w h =
     ap (λ (ks : List Token). run m (ks ++ rest) (At (Args o condition k done n))) (s.2 ∙ ap (λ (ks : List Token). ks ++ s.1) s.3.0)
-    ∙ token_run m o condition k done n f.0 (Word z) (Named z) (s.1 ++ rest) (name_at (labels n) z (name_wanted n f.0 z f.1) s.3.1) f.1
+    ∙ token_run m o condition k done n f.0 (Word z) (Named z) (s.1 ++ rest) (name_at (sort_of n) z (name_wanted n f.0 z f.1) s.3.1) f.1
     ∙ complete_args ps m o condition k (done ++ Named z ∷ []) f.0 s.1 rest f.2 s.4 (omega arith) (omega arith) h
     ∙ ap (λ (qs : List Part). run m rest (At (Behind (args_rest o condition k qs)))) (append_assoc done (Named z ∷ []) ps)
 complete_args (Label z ∷ ps) m o condition k done n front rest f s d w h =
@@ -341,14 +354,19 @@ complete_args (Label z ∷ ps) m o condition k done n front rest f s d w h =
     ∙ label_run m o condition k done n f.0 z s.0 (s.1 ++ rest) f.1 s.3 (append_assoc s.0 s.1 rest)
     ∙ complete_args ps m o condition k (done ++ Label z ∷ []) f.0 s.1 rest f.2 s.4 (omega arith) (omega arith) h
     ∙ ap (λ (qs : List Part). run m rest (At (Behind (args_rest o condition k qs)))) (append_assoc done (Label z ∷ []) ps)
+complete_args (SerialWord ∷ ps) m o condition k done n front rest f s d w h =
+    ap (λ (ks : List Token). run m (ks ++ rest) (At (Args o condition k done n))) (s.2 ∙ ap (λ (ks : List Token). ks ++ s.1) s.3.1)
+    ∙ token_run m o condition k done n f.0 (Word s.3.0) SerialWord (s.1 ++ rest) (serial_at (sort_of n) s.3.0 (serial_wanted n f.0 f.1) s.3.2) f.1
+    ∙ complete_args ps m o condition k (done ++ SerialWord ∷ []) f.0 s.1 rest f.2 s.4 (omega arith) (omega arith) h
+    ∙ ap (λ (qs : List Part). run m rest (At (Behind (args_rest o condition k qs)))) (append_assoc done (SerialWord ∷ []) ps)
 complete_args (PieceCall ∷ ps) m o condition k done n front rest f s d w h =
     ap (λ (ks : List Token). run m (ks ++ rest) (At (Args o condition k done n))) (s.2 ∙ ap (λ (ks : List Token). ks ++ s.1) s.3.1)
-    ∙ token_run m o condition k done n f.0 (Called s.3.0) PieceCall (s.1 ++ rest) (called_at (labels n) s.3.0 s.3.2 s.3.3) f.1
+    ∙ token_run m o condition k done n f.0 (Called s.3.0) PieceCall (s.1 ++ rest) (called_at (sort_of n) s.3.0 s.3.2 s.3.3) f.1
     ∙ complete_args ps m o condition k (done ++ PieceCall ∷ []) f.0 s.1 rest f.2 s.4 (omega arith) (omega arith) h
     ∙ ap (λ (qs : List Part). run m rest (At (Behind (args_rest o condition k qs)))) (append_assoc done (PieceCall ∷ []) ps)
 complete_args (Prompt z ∷ ps) m o condition k done n front rest f s d w h =
     ap (λ (ks : List Token). run m (ks ++ rest) (At (Args o condition k done n))) (s.2 ∙ ap (λ (ks : List Token). ks ++ s.1) s.3.0)
-    ∙ token_run m o condition k done n f.0 (Quoted z) (Prompt z) (s.1 ++ rest) (quoted_at (labels n) z (prompt_wanted n f.0 z f.1) s.3.1) f.1
+    ∙ token_run m o condition k done n f.0 (Quoted z) (Prompt z) (s.1 ++ rest) (quoted_at (sort_of n) z (prompt_wanted n f.0 z f.1) s.3.1) f.1
     ∙ complete_args ps m o condition k (done ++ Prompt z ∷ []) f.0 s.1 rest f.2 s.4 (omega arith) (omega arith) h
     ∙ ap (λ (qs : List Part). run m rest (At (Behind (args_rest o condition k qs)))) (append_assoc done (Prompt z ∷ []) ps)
 complete_args (Text lv e ∷ ps) m o condition k done n front rest f s d w h =

@@ -2,10 +2,10 @@
 use Rattle.std.proofs.Common.{◌≡◌, List, ℕ, [], ◌∷◌, None, refl, codes}
 use Rattle.mj_ast.specs.declared.keyword.Keyword.TheVariants as keyword
 use Rattle.std.specs.Fmt.{digits}
-use Rattle.mj_ast.specs.declared.sign.Sign.TheVariants.{Plus, Open, Close, Comma, Colon}
+use Rattle.mj_ast.specs.declared.sign.Sign.TheVariants.{Plus, Star, Open, Close, Comma, Colon}
 use Rattle.mj_ast.specs.declared.expr.Scope.TheVariants.{Local}
 use Rattle.mj_ast.specs.Syntax.{Chain, Done, Literal, Var, No}
-use Rattle.mj_ast.specs.Commands.{Part, Put, Label, Text, Place}
+use Rattle.mj_ast.specs.Commands.{Part, Put, Named, Label, SerialWord, Text, Place}
 use Rattle.mj_ast.specs.Tokens.{lexemes, tokens}
 use Rattle.mj_expr.specs.Reads.{limits}
 use Rattle.mj_line.specs.Machine.{Begin, At, Outcome, Accept, StuckAt, TooLong, clause, dotted, empty_line, headed, labelled, with_clause, run}
@@ -102,3 +102,49 @@ locks = refl
 one_sign : read (codes " L +-A") ≡ StuckAt 2
 unfolding lexemes
 one_sign = refl
+
+-- the argument of TSTART is a name, names in parentheses or `*`, and then perhaps the word of SERIAL
+abbrev starts_with : List Part → Outcome
+starts_with parts = Accept (with_clause empty_line (clause None keyword.TStart parts))
+
+restores_all : read (codes " TS *:(s)") ≡ starts_with (Put Star ∷ Put Colon ∷ Put Open ∷ SerialWord ∷ Put Close ∷ [])
+unfolding lexemes
+restores_all = refl
+
+restores_none : read (codes " TSTART ():Serial") ≡ starts_with (Put Open ∷ Put Close ∷ Put Colon ∷ SerialWord ∷ [])
+unfolding lexemes
+restores_none = refl
+
+restores_two : read (codes " tstart (A,B)") ≡ starts_with (Put Open ∷ Named (codes "A") ∷ Put Comma ∷ Named (codes "B") ∷ Put Close ∷ [])
+unfolding lexemes
+restores_two = refl
+
+restores_one : read (codes " TS A ;c") ≡ starts_with (Named (codes "A") ∷ [])
+unfolding lexemes
+restores_one = refl
+
+restarts_not : read (codes " TS") ≡ starts_with []
+unfolding lexemes
+restarts_not = refl
+
+-- there is one argument, and the word is no other
+one_argument : read (codes " TS A,B") ≡ StuckAt 2
+unfolding lexemes
+one_argument = refl
+
+another_word : read (codes " TS ():SERIALS") ≡ StuckAt 1
+unfolding lexemes
+another_word = refl
+
+serial_alone : read (codes " TS :S") ≡ StuckAt 2
+unfolding lexemes
+serial_alone = refl
+
+-- the others have none
+break_has_none : read (codes " B X") ≡ StuckAt 1
+unfolding lexemes
+break_has_none = refl
+
+ends : read (codes " TC  TRO  TRE  B") ≡ Accept (with_clause (with_clause (with_clause (with_clause empty_line (clause None keyword.TCommit [])) (clause None keyword.TRollback [])) (clause None keyword.TRestart [])) (clause None keyword.Break []))
+unfolding lexemes
+ends = refl

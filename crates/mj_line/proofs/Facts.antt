@@ -1,6 +1,6 @@
 -- What is known of a step.
 use Rattle.std.proofs.Common.{◌≡◌, ℕ, ◌≤◌, ◌<◌, ◌==◌, ◌+◌, ◌-◌, nat_le, List, [], ◌∷◌, ◌++◌, length, refl, ap, sym, ◌∙◌, subst, Bool, true, false, arith, Option, Some, None, map, append_assoc, append-nil, length-append}
-use Rattle.std.specs.Prelude.{cond, bytes_eq, ◌&&◌}
+use Rattle.std.specs.Prelude.{cond, bytes_eq, codes, ◌&&◌, ◌||◌}
 use Rattle.std.proofs.lemmas.Slice.Eq.{bytes_eq-Decides}
 use Rattle.std.proofs.lemmas.List.{map-append, length-map}
 use Rattle.std.proofs.lemmas.Bool.Decides.{nat_tests}
@@ -10,7 +10,7 @@ use Rattle.mj_ast.specs.declared.keyword.Verb.{Verb}
 use Rattle.mj_ast.specs.Syntax.{Expr}
 use Rattle.mj_ast.specs.Tokens.{Token, Word, Digits, Quoted, Signed, Blank, Comment, Unclosed, Stray, Called, Special}
 use Rattle.mj_ast.specs.Expressions.{levels_of, Symbol, Constant, Inherent, Name, Applied, Overlong, Mark, symbol, Other, function_symbol, callee_of, special_symbol, special_of}
-use Rattle.mj_ast.specs.Commands.{Part, Named, Label, verb_of, looked_up, command_words, capital}
+use Rattle.mj_ast.specs.Commands.{Part, Named, Label, SerialWord, is_serial_word, verb_of, looked_up, command_words, capital}
 use Rattle.mj_ast.specs.Lines.{Filler}
 use Rattle.mj_oper.specs.declared.op.UnaryOp.{UnaryOp}
 use Rattle.mj_expr.specs.Machine.{Limits}
@@ -23,7 +23,7 @@ use Rattle.mj_expr.proofs.Told.{accepts}
 use Rattle.mj_expr.proofs.Ends.{finish_deep}
 use Rattle.mj_expr.proofs.Said.{finish_stuck, finish_long, overlong_finish, overlong_word, comma_token, Over as OverLimit}
 use Rattle.mj_expr.proofs.Turns.{finish_again, accept_length}
-use Rattle.mj_line.specs.Forms.{next_of, Node, Want, AnExpr, AVar, ALocal, piece_part, part_at, labels, wants}
+use Rattle.mj_line.specs.Forms.{next_of, Node, Want, AnExpr, AVar, ALocal, piece_part, Sort, Names, Labels, Serials, part_at, sort_of, wants}
 use Rattle.mj_line.specs.Sentences.{Sentence}
 use Rattle.mj_line.specs.Machine.{IsClosed, Rest, Spot, Begin, Args, Goal, Condition, Argument, State, At, In, start, wanted, may_want, may_begin, level, inside, behind, behind_want, argument, entry, rested, Next, Go, Stuck, Deep, Long, taken, own, begins, on_rested, first, spot_step, behind_step, phrase_step, in_step, entering, step, StuckAt, DeepAt, TooLong, refused, ended_behind, run, turn, Labelled, FormalsOpened, FormalWanted, FormalBehind}
 use Rattle.mj_line.proofs.Tables.{none_some}
@@ -90,23 +90,38 @@ long_keyword w h = long_as w (verb_of w) refl h
 le_false : (n : ℕ) → 31 < n → nat_le n 31 ≡ false
 le_false n h = grind (arith, nat_tests)
 
-long_part : (b : Bool) (w : List ℕ) → 31 < length w → part_at b (Word w) ≡ None
-long_part true w h = ap (λ (b : Bool). cond b (Some (Label w)) None) (le_false (length w) h)
-long_part false w h = ap (λ (b : Bool). cond b (Some (Named w)) None) (le_false (length w) h)
+same_length : (w v : List ℕ) → bytes_eq (map capital w) v ≡ true → length w ≡ length v
+same_length w v h = sym (length-map w capital) ∙ ap (length {A = ℕ}) ((bytes_eq-Decides (map capital w) v).0 h)
 
-long_called : (b : Bool) (w : List ℕ) → 31 < length w → part_at b (Called w) ≡ None
-long_called true w h = ap (λ (b : Bool). cond b (piece_part (callee_of w)) None) (le_false (length w) h)
-long_called false w h = ap (λ (b : Bool). cond b (piece_part (callee_of w)) None) (le_false (length w) h)
+-- the word of SERIAL has six bytes, or one
+long_serial : (w : List ℕ) → 31 < length w → is_serial_word w ≡ false
+long_serial w h = by (bytes_eq (map capital w) (codes "SERIAL")) (bytes_eq (map capital w) (codes "S")) refl refl
+  where
+    by : (a b : Bool) → bytes_eq (map capital w) (codes "SERIAL") ≡ a → bytes_eq (map capital w) (codes "S") ≡ b → a || b ≡ false
+    by true b e f = absurd (let z : length w ≡ 6 = same_length w (codes "SERIAL") e in omega arith)
+    by false true e f = absurd (let z : length w ≡ 1 = same_length w (codes "S") f in omega arith)
+    by false false e f = refl
 
-special_part : (b : Bool) (w : List ℕ) → part_at b (Special w) ≡ None
-special_part true w = refl
-special_part false w = refl
+long_part : (b : Sort) (w : List ℕ) → 31 < length w → part_at b (Word w) ≡ None
+long_part Labels w h = ap (λ (b : Bool). cond b (Some (Label w)) None) (le_false (length w) h)
+long_part Names w h = ap (λ (b : Bool). cond b (Some (Named w)) None) (le_false (length w) h)
+long_part Serials w h = ap (λ (b : Bool). cond b (Some SerialWord) None) (long_serial w h)
+
+long_called : (b : Sort) (w : List ℕ) → 31 < length w → part_at b (Called w) ≡ None
+long_called Names w h = ap (λ (b : Bool). cond b (piece_part (callee_of w)) None) (le_false (length w) h)
+long_called Labels w h = ap (λ (b : Bool). cond b (piece_part (callee_of w)) None) (le_false (length w) h)
+long_called Serials w h = ap (λ (b : Bool). cond b (piece_part (callee_of w)) None) (le_false (length w) h)
+
+special_part : (b : Sort) (w : List ℕ) → part_at b (Special w) ≡ None
+special_part Names w = refl
+special_part Labels w = refl
+special_part Serials w = refl
 
 own_long : (p : Spot) (w : List ℕ) → 31 < length w → own p (Word w) ≡ Stuck
 own_long Begin w h = ap (λ (b : Bool). cond b (Go (At (Labelled w))) Stuck) (le_false (length w) h)
 own_long (FormalsOpened label) w h = ap (λ (b : Bool). cond b (Go (At (FormalBehind label (w ∷ [])))) Stuck) (long_new [] w (le_false (length w) h))
 own_long (FormalWanted label names) w h = ap (λ (b : Bool). cond b (Go (At (FormalBehind label (names ++ w ∷ [])))) Stuck) (long_new names w (le_false (length w) h))
-own_long (Args l condition k done n) w h = ap (taken l condition k done n) (long_part (labels n) w h)
+own_long (Args l condition k done n) w h = ap (taken l condition k done n) (long_part (sort_of n) w h)
 own_long p w h = refl
 
 word_long : (l : Sentence) (w : List ℕ) (b : Bool) → 31 < length w → cond b (begins l (verb_of w)) Stuck ≡ Stuck
@@ -122,12 +137,12 @@ spot_long p w h = ap (λ (n : Next). first n (on_rested (rested p) (Word w))) (o
 
 own_called : (p : Spot) (w : List ℕ) → 31 < length w → own p (Called w) ≡ Stuck
 own_called Begin w h = refl
-own_called (Args l condition k done n) w h = ap (taken l condition k done n) (long_called (labels n) w h)
+own_called (Args l condition k done n) w h = ap (taken l condition k done n) (long_called (sort_of n) w h)
 own_called p w h = refl
 
 own_special : (p : Spot) (w : List ℕ) → own p (Special w) ≡ Stuck
 own_special Begin w = refl
-own_special (Args l condition k done n) w = ap (taken l condition k done n) (special_part (labels n) w)
+own_special (Args l condition k done n) w = ap (taken l condition k done n) (special_part (sort_of n) w)
 own_special p w = refl
 
 rested_called : (q : Option Rest) (w : List ℕ) → on_rested q (Called w) ≡ Stuck

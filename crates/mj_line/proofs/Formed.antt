@@ -10,13 +10,15 @@ use Rattle.mj_ast.specs.declared.keyword.Keyword.TheVariants as keyword
 use Rattle.mj_ast.specs.declared.keyword.Verb.{Verb}
 use Rattle.mj_ast.specs.declared.keyword.Verb.TheVariants.{Of, HaltOrHang}
 use Rattle.mj_ast.specs.declared.routine.LockMode.{LockMode}
+use Rattle.mj_ast.specs.declared.routine.Serial.{Serial}
+use Rattle.mj_ast.specs.declared.routine.Serial.TheVariants as serial
 use Rattle.mj_ast.specs.declared.routine.ReadMode.{ReadMode}
 use Rattle.mj_ast.specs.declared.routine.ReadMode.TheVariants.{Line, Byte}
 use Rattle.mj_ast.specs.declared.routine.LockMode.TheVariants.{Whole, Plus as Added, Minus as Taken}
-use Rattle.mj_ast.specs.Syntax.{Expr, Exprs, No, More, Variable, Destination, Plain, Pieces, Targets, One, Several, Assignment, Killed, Gone, Spared, Merged, Layout, Output, Shown, Format, Coded, Input, Prompted, Arranged, Into, Opened, Called, Jumped, Started, LockNames, Lone, Together, Locked, Range, Single, Endless, UpTo, Renewed, Fresh, Kept, Command, Set, Write, Halt, Hang, Job, Lock, Kill, Merge, If, Else, For, Forever, Do, Goto, Quit, New, OpenDevice, UseDevice, CloseDevice, Read}
+use Rattle.mj_ast.specs.Syntax.{Expr, Exprs, No, More, Variable, Destination, Plain, Pieces, Targets, One, Several, Assignment, Killed, Gone, Spared, Merged, Layout, Output, Shown, Format, Coded, Input, Prompted, Arranged, Into, Opened, Called, Jumped, Started, LockNames, Lone, Together, Locked, Range, Single, Endless, UpTo, Renewed, Fresh, Kept, Restored, Alone, Listed, Everything, Command, Set, Write, Halt, Hang, Job, Lock, Kill, Merge, If, Else, For, Forever, Do, Goto, Quit, New, OpenDevice, UseDevice, CloseDevice, Read, TStart, TCommit, TRestart, TRollback, Break}
 use Rattle.mj_ast.specs.Expressions.{count}
-use Rattle.mj_ast.specs.Commands.{Part, Put, Named, Label, PieceCall, Prompt, Text, Place, Control, meant, behind_commas, value_parts, entry_parts, target_parts, guard_parts, actual_parts, actuals_parts, called_parts, as_called, jumped_parts, wait_parts, started_parts, mode_parts, variable_parts, lock_names_parts, locked_parts, range_parts, renewed_parts, is_local, is_bare, is_entry, is_called, is_jumped, is_started, are_lock_names, is_locked, is_renewed, more_parts, destination_parts, targets_parts, assignment_parts, mark_part, column_parts, layout_parts, output_parts, read_mode_parts, input_parts, opened_parts, name_parts, killed_parts, merged_parts, command_parts, keyword_for, every, is_destination, are_targets, is_assignment, has_items, is_there, is_layout, is_output, is_input, is_killed, is_formed}
-use Rattle.mj_line.specs.Forms.{Mode, Calls, Jumps, Starts, Node, SetTarget, PieceOpens, PieceVariable, PieceComma, PieceText, PieceBehind, SetBehind, SetValue, SetEnd, Talk, Writes, Reads, OutputWanted, OutputEnd, MarksEnd, ColumnWanted, CodeWanted, IntoWanted, IntoEnd, IntoTimed, DeviceWanted, DeviceEnd, DeviceColon, DeviceTimed, DeviceWaited, KillWanted, NameWanted, NameBehind, KillEnd, MergeInto, MergeBehind, MergeFrom, MergeEnd, ValueWanted, ValueEnd, ForWanted, ForBehind, RangeWanted, RangeEnd, StepWanted, StepEnd, LimitWanted, LimitEnd, NewWanted, KeptWanted, KeptBehind, NewEnd, EntryWanted, LabelEnd, RoutineWanted, RoutineEnd, ActualWanted, ActualEnd, ActualsEnd, WaitColon, GuardWanted, GuardEnd, LockWanted, LockSigned, LockListed, LockBehind, LockNamed, LockTimed, LockEnd, actuals_at, colon_at, takes, ends, first_node, AVar, wants, Goes, Fits, IsForm}
+use Rattle.mj_ast.specs.Commands.{Part, Put, Named, Label, SerialWord, PieceCall, Prompt, Text, Place, Control, restored_parts, serial_parts, meant, behind_commas, value_parts, entry_parts, target_parts, guard_parts, actual_parts, actuals_parts, called_parts, as_called, jumped_parts, wait_parts, started_parts, mode_parts, variable_parts, lock_names_parts, locked_parts, range_parts, renewed_parts, is_local, is_bare, is_entry, is_called, is_jumped, is_started, are_lock_names, is_locked, is_renewed, more_parts, destination_parts, targets_parts, assignment_parts, mark_part, column_parts, layout_parts, output_parts, read_mode_parts, input_parts, opened_parts, name_parts, killed_parts, merged_parts, command_parts, keyword_for, every, is_destination, are_targets, is_assignment, has_items, is_there, is_layout, is_output, is_input, is_killed, is_formed}
+use Rattle.mj_line.specs.Forms.{Mode, Calls, Jumps, Starts, Node, SetTarget, PieceOpens, PieceVariable, PieceComma, PieceText, PieceBehind, SetBehind, SetValue, SetEnd, Talk, Writes, Reads, OutputWanted, OutputEnd, MarksEnd, ColumnWanted, CodeWanted, IntoWanted, IntoEnd, IntoTimed, DeviceWanted, DeviceEnd, DeviceColon, DeviceTimed, DeviceWaited, KillWanted, NameWanted, NameBehind, KillEnd, MergeInto, MergeBehind, MergeFrom, MergeEnd, ValueWanted, ValueEnd, ForWanted, ForBehind, RangeWanted, RangeEnd, StepWanted, StepEnd, LimitWanted, LimitEnd, NewWanted, KeptWanted, KeptBehind, NewEnd, EntryWanted, LabelEnd, RoutineWanted, RoutineEnd, ActualWanted, ActualEnd, ActualsEnd, WaitColon, GuardWanted, GuardEnd, LockWanted, LockSigned, LockListed, LockBehind, LockNamed, LockTimed, LockEnd, RestartWanted, RestoredOpens, RestoredWanted, RestoredBehind, RestoredEnd, SerialWanted, SerialInside, SerialBehind, SerialEnd, actuals_at, colon_at, takes, ends, first_node, AVar, wants, Goes, Fits, IsForm}
 use Rattle.mj_line.proofs.Tables.{none_some, some_same}
 
 -- ---- tests
@@ -243,6 +245,25 @@ renewed_fits first (Kept (w ∷ ws)) rest h f =
 news_fit : (list : List Renewed) → every is_renewed list ≡ true → Fits NewEnd (behind_commas renewed_parts list)
 news_fit [] h = refl
 news_fit (x ∷ list) h = (NewWanted false, refl, renewed_fits false x (behind_commas renewed_parts list) (first_of (is_renewed x) (every is_renewed list) h) (news_fit list (second_of (is_renewed x) (every is_renewed list) h)))
+
+-- ---- the argument of TSTART
+
+serial_fits : (s : Serial) → Fits RestoredEnd (serial_parts s)
+serial_fits serial.No = refl
+serial_fits serial.Bare = (SerialWanted, refl, (SerialEnd, refl, refl))
+serial_fits serial.Enclosed = (SerialWanted, refl, (SerialInside, refl, (SerialBehind, refl, (SerialEnd, refl, refl))))
+
+restored_names_fit : (ws : List (List ℕ)) (rest : List Part) → Fits RestoredEnd rest → Fits RestoredBehind (behind_commas name_parts ws ++ Put Close ∷ rest)
+restored_names_fit [] rest f = (RestoredEnd, refl, f)
+restored_names_fit (w ∷ ws) rest f = (RestoredWanted, refl, (RestoredBehind, refl, restored_names_fit ws rest f))
+
+restored_fits : (r : Restored) (rest : List Part) → Fits RestoredEnd rest → Fits RestartWanted (restored_parts r ++ rest)
+restored_fits (Alone w) rest f = (RestoredEnd, refl, f)
+restored_fits (Listed []) rest f = (RestoredOpens, refl, (RestoredEnd, refl, f))
+restored_fits (Listed (w ∷ ws)) rest f =
+    let P : List Part → Type 0 = λ ps. Fits RestartWanted (Put Open ∷ Named w ∷ ps) in
+    subst P (sym (append_assoc (behind_commas name_parts ws) (Put Close ∷ []) rest)) (RestoredOpens, refl, (RestoredBehind, refl, restored_names_fit ws rest f))
+restored_fits Everything rest f = (RestoredEnd, refl, f)
 
 -- ---- calls and jumps
 
@@ -510,6 +531,11 @@ pub renewed_some : (x : Renewed) (rest : List Part) → IsSome (renewed_parts x 
 renewed_some (Fresh w) rest = (Named w, _, refl)
 renewed_some (Kept ws) rest = (Put Open, _, refl)
 
+restored_some : (r : Restored) (rest : List Part) → IsSome (restored_parts r ++ rest)
+restored_some (Alone w) rest = (Named w, rest, refl)
+restored_some (Listed ws) rest = (Put Open, _, refl)
+restored_some Everything rest = (Put Star, rest, refl)
+
 -- TREES
 own_form : (c : Command) → is_formed c ≡ true → IsForm (Of (keyword_for c)) (command_parts c)
 own_form (Set []) h = false_true h
@@ -568,6 +594,14 @@ own_form (Read []) h = false_true h
 own_form (Read (x ∷ list)) h =
     let s = input_some x (behind_commas input_parts list) (first_of (is_input x) (every is_input list) h) in
     as_form (Of keyword.Read) (OutputWanted Reads) s.0 s.1 (input_parts x ++ behind_commas input_parts list) refl s.2 (input_fits x (behind_commas input_parts list) (first_of (is_input x) (every is_input list) h) (speeches_fit Reads list (second_of (is_input x) (every is_input list) h)))
+own_form (TStart None) h = refl
+own_form (TStart (Some r)) h =
+    let s = restored_some r.restored (serial_parts r.serial) in
+    as_form (Of keyword.TStart) RestartWanted s.0 s.1 (restored_parts r.restored ++ serial_parts r.serial) refl s.2 (restored_fits r.restored (serial_parts r.serial) (serial_fits r.serial))
+own_form TCommit h = refl
+own_form TRestart h = refl
+own_form TRollback h = refl
+own_form Break h = refl
 own_form (Merge []) h = false_true h
 own_form (Merge (x ∷ list)) h = (MergeInto, refl, (MergeBehind, refl, (MergeFrom, refl, (MergeEnd, refl, merges_fit list))))
 
@@ -578,6 +612,7 @@ value_goes : (p : Part) (next : Node) → Goes (ValueWanted false) p next → Go
 value_goes (Put s) next e = absurd (none_some next e)
 value_goes (Named w) next e = absurd (none_some next e)
 value_goes (Label w) next e = absurd (none_some next e)
+value_goes SerialWord next e = absurd (none_some next e)
 value_goes PieceCall next e = absurd (none_some next e)
 value_goes (Prompt v) next e = absurd (none_some next e)
 value_goes (Text l x) next e = e
@@ -588,6 +623,7 @@ value_back : (p : Part) (next : Node) → Goes (ValueWanted true) p next → Goe
 value_back (Put s) next e = absurd (none_some next e)
 value_back (Named w) next e = absurd (none_some next e)
 value_back (Label w) next e = absurd (none_some next e)
+value_back SerialWord next e = absurd (none_some next e)
 value_back PieceCall next e = absurd (none_some next e)
 value_back (Prompt v) next e = absurd (none_some next e)
 value_back (Text l x) next e = e

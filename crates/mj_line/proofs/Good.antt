@@ -13,7 +13,7 @@ use Rattle.mj_expr.specs.Machine as phrase
 use Rattle.mj_expr.proofs.Zipper.{Fits, IsGood, sofar}
 use Rattle.mj_expr.proofs.Told.{read_goes}
 use Rattle.mj_expr.proofs.Facts.{IsMore}
-use Rattle.mj_line.specs.Forms.{Node, Want, AnExpr, AVar, ALocal, part_at, labels, takes, wants, ends, first_node, may_be_bare}
+use Rattle.mj_line.specs.Forms.{Node, Want, AnExpr, AVar, ALocal, part_at, sort_of, takes, wants, ends, first_node, may_be_bare}
 use Rattle.mj_line.specs.Sentences.{Clause, Sentence, clause_nesting, clause_width, IsWithin}
 use Rattle.mj_line.specs.Machine.{Rest, Spot, Begin, Labelled, FormalsOpened, FormalWanted, FormalBehind, FormalsEnd, Indented, Behind, Over, Worded, Asked, Bare, Args, Goal, Condition, Argument, State, At, In, empty_line, labelled, headed, is_new, clause, with_clause, bare_rest, args_rest, start, wanted, level, level_of, inside, behind, behind_want, bare_rested, rested, argument, entry, Next, Go, Stuck, Deep, Long, opened, moved, taken, own, begins, on, on_rested, first, spot_step}
 use Rattle.mj_line.proofs.Tables.{alone_at, small, token_nesting, token_width, finish, bare_none, none_some, a_zero, zero_spelled}
@@ -129,9 +129,9 @@ moved_good : (m : Limits) (l : Sentence) (condition : Option Expr) (k : Verb) (d
 moved_good m l condition k done (Some n) g = g
 moved_good m l condition k done None g = tt
 
-taken_good : (m : Limits) (l : Sentence) (condition : Option Expr) (k : Verb) (done : List Part) (n : Node) (t : Token) (q : Option Part) → part_at (labels n) t ≡ q → IsGoodClause m l condition done → NextGood m (taken l condition k done n q)
+taken_good : (m : Limits) (l : Sentence) (condition : Option Expr) (k : Verb) (done : List Part) (n : Node) (t : Token) (q : Option Part) → part_at (sort_of n) t ≡ q → IsGoodClause m l condition done → NextGood m (taken l condition k done n q)
 taken_good m l condition k done n t (Some p) e g =
-    let a = alone_at (labels n) t p e in
+    let a = alone_at (sort_of n) t p e in
     moved_good m l condition k (done ++ p ∷ []) (takes n p) (part_good m l condition done p (let i = token_nesting p a.token in omega arith) (let i = token_width p a.token in omega arith) g)
 taken_good m l condition k done n t None e g = tt
 
@@ -164,7 +164,7 @@ own_good m (Indented l) (Signed Dot) g = record { nests = g.nests; lists = g.lis
 own_good m (Worded l k) (Signed Colon) g = asked_good m l k (is_conditional (bare_of k)) g
 own_good m (Worded l k) Blank g = opened_good m l None k (first_node k) (plain_good m l g)
 own_good m (Bare l condition k) Blank g = opened_good m l condition k (first_node k) g
-own_good m (Args l condition k done n) t g = taken_good m l condition k done n t (part_at (labels n) t) refl g
+own_good m (Args l condition k done n) t g = taken_good m l condition k done n t (part_at (sort_of n) t) refl g
 own_good m p k g = tt
 
 comment_good : (m : Limits) (l : Sentence) (b : Bool) → IsWithin m.depth m.width l → NextGood m (cond b (Go (At (Over l))) Stuck)

@@ -12,7 +12,7 @@ use Rattle.mj_ast.specs.Commands.{Part, Text, Place, Control, is_local, verb_of,
 use Rattle.mj_ast.specs.Lines.{SpellsEnd, SpellsLabel, SpellsFormals, SpellsDots, comma_names, name_tokens, comment_gap, gap_behind}
 use Rattle.mj_expr.specs.Machine as phrase
 use Rattle.mj_expr.proofs.Zipper.{Kind, AnExpression, AVariable, IsKind, phrase_symbols, sofar, phrase_misfits}
-use Rattle.mj_line.specs.Forms.{Node, Want, AnExpr, AVar, ALocal, part_at, labels, takes, wants, ends, first_node, may_be_bare, Fits, IsForm}
+use Rattle.mj_line.specs.Forms.{Node, Want, AnExpr, AVar, ALocal, part_at, sort_of, takes, wants, ends, first_node, may_be_bare, Fits, IsForm}
 use Rattle.mj_line.specs.Sentences.{Clause, Sentence, SpellsClauses, SpellsSentence}
 use Rattle.mj_line.specs.Machine.{Rest, Spot, Begin, Labelled, FormalsOpened, FormalWanted, FormalBehind, FormalsEnd, Indented, Behind, Over, Worded, Asked, Bare, Args, Goal, Condition, Argument, State, At, In, empty_line, labelled, headed, dotted, is_new, clause, with_clause, bare_rest, args_rest, start, wanted, behind, behind_want, bare_rested, rested, argument, entry, Next, Go, Stuck, Deep, Long, opened, arguments, moved, taken, own, begins, on, on_rested, first, spot_step}
 use Rattle.mj_line.proofs.Tables.{conditional_meant, alone_at, token_goes, bare_first}
@@ -421,9 +421,9 @@ asked_leads : (o : Sentence) (k : Verb) (b : Bool) → is_conditional (bare_of k
 asked_leads o k true e = λ rest l f. record { condition = Some f.value; front = Signed Colon ∷ f.front; rest = f.rest; cut = ap (λ (zs : List Token). Signed Colon ∷ zs) f.cut; spells = (f.front, refl, f.spells); conditional = e; follows = f.follows }
 asked_leads o k false e = tt
 
-moved_leads : (o : Sentence) (condition : Option Expr) (k : Verb) (done : List Part) (n : Node) (t : Token) (p : Part) (q : Option Node) → part_at (labels n) t ≡ Some p → takes n p ≡ q → NextLeads (Args o condition k done n) t (moved o condition k (done ++ p ∷ []) q)
+moved_leads : (o : Sentence) (condition : Option Expr) (k : Verb) (done : List Part) (n : Node) (t : Token) (p : Part) (q : Option Node) → part_at (sort_of n) t ≡ Some p → takes n p ≡ q → NextLeads (Args o condition k done n) t (moved o condition k (done ++ p ∷ []) q)
 moved_leads o condition k done n t p (Some next) e h = λ rest l f.
-    let a = alone_at (labels n) t p e in
+    let a = alone_at (sort_of n) t p e in
     let F : List Part → Type 0 = λ ps. Follows (args_rest o condition k ps) f.rest l in
     record {
       more = p ∷ f.more;
@@ -436,7 +436,7 @@ moved_leads o condition k done n t p (Some next) e h = λ rest l f.
     }
 moved_leads o condition k done n t p None e h = tt
 
-taken_leads : (o : Sentence) (condition : Option Expr) (k : Verb) (done : List Part) (n : Node) (t : Token) (q : Option Part) → part_at (labels n) t ≡ q → NextLeads (Args o condition k done n) t (taken o condition k done n q)
+taken_leads : (o : Sentence) (condition : Option Expr) (k : Verb) (done : List Part) (n : Node) (t : Token) (q : Option Part) → part_at (sort_of n) t ≡ q → NextLeads (Args o condition k done n) t (taken o condition k done n q)
 taken_leads o condition k done n t (Some p) e = moved_leads o condition k done n t p (takes n p) e refl
 taken_leads o condition k done n t None e = tt
 
@@ -457,7 +457,7 @@ own_leads (Indented o) (Signed Dot) = λ rest l f. dot_dots o rest l f
 own_leads (Worded o k) (Signed Colon) = asked_leads o k (is_conditional (bare_of k)) refl
 own_leads (Worded o k) Blank = worded_leads o k (arguments o None k) (opened_leads o None k (first_node k) refl)
 own_leads (Bare o condition k) Blank = opened_leads o condition k (first_node k) refl
-own_leads (Args o condition k done n) t = taken_leads o condition k done n t (part_at (labels n) t) refl
+own_leads (Args o condition k done n) t = taken_leads o condition k done n t (part_at (sort_of n) t) refl
 own_leads p k = tt
 
 -- ---- behind a command

@@ -7,6 +7,7 @@ pub mod Ends
 pub mod Complete
 pub mod Commas
 mod Shapes
+mod Restartables
 pub mod Trees
 pub mod Formed
 pub mod Once

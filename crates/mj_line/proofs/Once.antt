@@ -8,9 +8,11 @@ use Rattle.mj_ast.specs.declared.keyword.Keyword.TheVariants as keyword
 use Rattle.mj_ast.specs.declared.routine.ReadMode.{ReadMode}
 use Rattle.mj_ast.specs.declared.routine.ReadMode.TheVariants.{Line, Byte}
 use Rattle.mj_ast.specs.declared.routine.LockMode.{LockMode}
+use Rattle.mj_ast.specs.declared.routine.Serial.{Serial}
+use Rattle.mj_ast.specs.declared.routine.Serial.TheVariants as serial
 use Rattle.mj_ast.specs.declared.routine.LockMode.TheVariants.{Whole, Plus as Added, Minus as Taken}
-use Rattle.mj_ast.specs.Syntax.{Expr, Exprs, No, More, Variable, Destination, Plain, Pieces, Targets, One, Several, Assignment, Killed, Gone, Spared, Merged, Layout, Output, Shown, Format, Coded, Received, Input, Prompted, Arranged, Into, Opened, OpenDevice, UseDevice, CloseDevice, Read, Command, Target, Called, Jumped, Started, LockNames, Lone, Together, Locked, Range, Single, Endless, UpTo, Renewed, Fresh, Kept, Set, Write, Halt, Hang, Job, Lock, Kill, Merge, If, Else, For, Forever, Do, Goto, Quit, New}
-use Rattle.mj_ast.specs.Commands.{Part, Put, Named, Label, PieceCall, Prompt, Text, Place, Control, with_commas, behind_commas, more_parts, destination_parts, targets_parts, assignment_parts, mark_part, column_parts, layout_parts, output_parts, read_mode_parts, input_parts, opened_parts, is_input, name_parts, killed_parts, merged_parts, value_parts, entry_parts, routine_parts, guard_parts, actual_parts, actuals_parts, called_parts, as_called, jumped_parts, wait_parts, started_parts, mode_parts, variable_parts, lock_names_parts, locked_parts, range_parts, renewed_parts, command_parts, keyword_for, has_items, every, is_output, is_formed}
+use Rattle.mj_ast.specs.Syntax.{Expr, Exprs, No, More, Variable, Destination, Plain, Pieces, Targets, One, Several, Assignment, Killed, Gone, Spared, Merged, Layout, Output, Shown, Format, Coded, Received, Input, Prompted, Arranged, Into, Opened, OpenDevice, UseDevice, CloseDevice, Read, Command, Target, Called, Jumped, Started, LockNames, Lone, Together, Locked, Range, Single, Endless, UpTo, Renewed, Fresh, Kept, Set, Write, Halt, Hang, Job, Lock, Kill, Merge, If, Else, For, Forever, Do, Goto, Quit, New, Restored, Alone, Listed, Everything, Restartable, TStart, TCommit, TRestart, TRollback, Break}
+use Rattle.mj_ast.specs.Commands.{Part, Put, Named, Label, SerialWord, PieceCall, Prompt, Text, Place, Control, restored_parts, serial_parts, restartable_parts, with_commas, behind_commas, more_parts, destination_parts, targets_parts, assignment_parts, mark_part, column_parts, layout_parts, output_parts, read_mode_parts, input_parts, opened_parts, is_input, name_parts, killed_parts, merged_parts, value_parts, entry_parts, routine_parts, guard_parts, actual_parts, actuals_parts, called_parts, as_called, jumped_parts, wait_parts, started_parts, mode_parts, variable_parts, lock_names_parts, locked_parts, range_parts, renewed_parts, command_parts, keyword_for, has_items, every, is_output, is_formed}
 use Rattle.mj_line.specs.Forms.{Mode, Calls, Jumps, Starts}
 use Rattle.mj_line.proofs.Formed.{first_of, entered_parts, guards_of, entered_cut, entered_some, as_entered, locked_cut, locked_some, renewed_some, assignment_some, killed_some, output_some, input_some, IsSome}
 
@@ -707,6 +709,70 @@ read_once : (xs : List Input) (d : Command) → has_items xs && every is_input x
 read_once xs (Read ys) f k e = ap Read (reads_tell xs ys f e)
 read_once xs d f k e = absurd (let z : keyword.Read ≡ keyword_for d = k in cc)
 
+-- ---- the argument of TSTART
+
+serial_tells : (a b : Serial) → serial_parts a ≡ serial_parts b → a ≡ b
+serial_tells serial.No serial.No e = refl
+serial_tells serial.No serial.Bare e = absurd (let f : [] ≡ Put Colon ∷ SerialWord ∷ [] = e in cc)
+serial_tells serial.No serial.Enclosed e = absurd (let f : [] ≡ Put Colon ∷ Put Open ∷ SerialWord ∷ Put Close ∷ [] = e in cc)
+serial_tells serial.Bare serial.No e = absurd (let f : Put Colon ∷ SerialWord ∷ [] ≡ [] = e in cc)
+serial_tells serial.Bare serial.Bare e = refl
+serial_tells serial.Bare serial.Enclosed e = absurd (let f : SerialWord ∷ [] ≡ Put Open ∷ SerialWord ∷ Put Close ∷ [] = tail_same e in cc)
+serial_tells serial.Enclosed serial.No e = absurd (let f : Put Colon ∷ Put Open ∷ SerialWord ∷ Put Close ∷ [] ≡ [] = e in cc)
+serial_tells serial.Enclosed serial.Bare e = absurd (let f : Put Open ∷ SerialWord ∷ Put Close ∷ [] ≡ SerialWord ∷ [] = tail_same e in cc)
+serial_tells serial.Enclosed serial.Enclosed e = refl
+
+restored_tells : (a b : Restored) (r s : List Part) → restored_parts a ++ r ≡ restored_parts b ++ s → Same a b r s
+restored_tells (Alone v) (Alone w) r s e = (ap Alone (named_same e), tail_same e)
+restored_tells (Alone v) (Listed ws) r s e = absurd (let f : Named v ∷ r ≡ Put Open ∷ _ = e in cc)
+restored_tells (Alone v) Everything r s e = absurd (let f : Named v ∷ r ≡ Put Star ∷ s = e in cc)
+restored_tells (Listed ws) (Alone w) r s e = absurd (let f : Put Open ∷ _ ≡ Named w ∷ s = e in cc)
+restored_tells (Listed ws) (Listed vs) r s e =
+    let a = names_tell ws vs r s (sym (append_assoc (with_commas name_parts ws) (Put Close ∷ []) r) ∙ tail_same e ∙ append_assoc (with_commas name_parts vs) (Put Close ∷ []) s) in
+    (ap Listed a.0, a.1)
+restored_tells (Listed ws) Everything r s e = absurd (let f : Put Open ∷ _ ≡ Put Star ∷ s = e in cc)
+restored_tells Everything (Alone w) r s e = absurd (let f : Put Star ∷ r ≡ Named w ∷ s = e in cc)
+restored_tells Everything (Listed ws) r s e = absurd (let f : Put Star ∷ r ≡ Put Open ∷ _ = e in cc)
+restored_tells Everything Everything r s e = (refl, tail_same e)
+
+restartable_made : (a b : Restartable) → a.restored ≡ b.restored → a.serial ≡ b.serial → a ≡ b
+restartable_made a b e f =
+    ap (λ (x : Restored). let r : Restartable = record { restored = x; serial = a.serial } in r) e
+    ∙ ap (λ (x : Serial). let r : Restartable = record { restored = b.restored; serial = x } in r) f
+
+restored_some : (r : Restored) (rest : List Part) → IsSome (restored_parts r ++ rest)
+restored_some (Alone w) rest = (Named w, rest, refl)
+restored_some (Listed ws) rest = (Put Open, _, refl)
+restored_some Everything rest = (Put Star, rest, refl)
+
+restartables_tell : (a b : Option Restartable) → restartable_parts a ≡ restartable_parts b → a ≡ b
+restartables_tell None None e = refl
+restartables_tell None (Some b) e = nil_some _ (restored_some b.restored (serial_parts b.serial)) e
+restartables_tell (Some a) None e = nil_some _ (restored_some a.restored (serial_parts a.serial)) (sym e)
+restartables_tell (Some a) (Some b) e =
+    let x = restored_tells a.restored b.restored (serial_parts a.serial) (serial_parts b.serial) e in
+    ap (λ (r : Restartable). Some r) (restartable_made a b x.0 (serial_tells a.serial b.serial x.1))
+
+tstart_once : (a : Option Restartable) (d : Command) → keyword.TStart ≡ keyword_for d → restartable_parts a ≡ command_parts d → TStart a ≡ d
+tstart_once a (TStart b) k e = ap TStart (restartables_tell a b e)
+tstart_once a d k e = absurd (let z : keyword.TStart ≡ keyword_for d = k in cc)
+
+tcommit_once : (d : Command) → keyword.TCommit ≡ keyword_for d → TCommit ≡ d
+tcommit_once TCommit k = refl
+tcommit_once d k = absurd (let z : keyword.TCommit ≡ keyword_for d = k in cc)
+
+trestart_once : (d : Command) → keyword.TRestart ≡ keyword_for d → TRestart ≡ d
+trestart_once TRestart k = refl
+trestart_once d k = absurd (let z : keyword.TRestart ≡ keyword_for d = k in cc)
+
+trollback_once : (d : Command) → keyword.TRollback ≡ keyword_for d → TRollback ≡ d
+trollback_once TRollback k = refl
+trollback_once d k = absurd (let z : keyword.TRollback ≡ keyword_for d = k in cc)
+
+break_once : (d : Command) → keyword.Break ≡ keyword_for d → Break ≡ d
+break_once Break k = refl
+break_once d k = absurd (let z : keyword.Break ≡ keyword_for d = k in cc)
+
 -- ONCE
 pub command_once : (c d : Command) → is_formed c ≡ true → keyword_for c ≡ keyword_for d → command_parts c ≡ command_parts d → c ≡ d
 command_once (Set xs) d f k e = set_once xs d k e
@@ -729,3 +795,8 @@ command_once (OpenDevice xs) d f k e = open_once xs d k e
 command_once (UseDevice xs) d f k e = use_once xs d k e
 command_once (CloseDevice xs) d f k e = close_once xs d k e
 command_once (Read xs) d f k e = read_once xs d f k e
+command_once (TStart a) d f k e = tstart_once a d k e
+command_once TCommit d f k e = tcommit_once d k
+command_once TRestart d f k e = trestart_once d k
+command_once TRollback d f k e = trollback_once d k
+command_once Break d f k e = break_once d k

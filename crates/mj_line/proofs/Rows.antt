@@ -4,14 +4,16 @@ use Rattle.std.proofs.Common.{◌≡◌, ℕ, zero, suc, ◌+◌, ◌≤◌, Lis
 use Rattle.std.proofs.lemmas.List.{take-append-drop}
 use Rattle.std.specs.Fmt.{digits}
 use Rattle.mj_oper.specs.declared.op.Op.TheVariants as binary
-use Rattle.mj_ast.specs.declared.sign.Sign.TheVariants.{Plus, Underscore, Question, Caret, Close, Dot}
+use Rattle.mj_ast.specs.declared.sign.Sign.TheVariants.{Plus, Star, Underscore, Comma, Colon, Question, Caret, Close, Dot}
+use Rattle.mj_ast.specs.declared.routine.Serial.TheVariants as serial
+use Rattle.mj_ast.specs.declared.keyword.Keyword.TheVariants as keyword
 use Rattle.mj_ast.specs.declared.construct.Construct.TheVariants as construct
 use Rattle.mj_ast.specs.declared.expr.Scope.TheVariants.{Local}
 use Rattle.mj_ast.specs.declared.function.Special.TheVariants as special
-use Rattle.mj_ast.specs.Syntax.{Expr, Exprs, Chain, Done, Then, Literal, Value, Intrinsic, Group, Variable, Var, No, More, Pieces, One, Shown, Command, Set, Write, Halt, Do, Line}
+use Rattle.mj_ast.specs.Syntax.{Expr, Exprs, Chain, Done, Then, Literal, Value, Intrinsic, Group, Variable, Var, No, More, Pieces, One, Shown, Command, Set, Write, Halt, Do, Everything, TStart, Line}
 use Rattle.mj_ast.specs.Tokens.{Token, Word, Called, Special, Signed, Stray, lexemes, tokens}
 use Rattle.mj_ast.specs.Lines.{SpellsLine, IsStuck, IsDeep, HasOverlong, IsLong, HasLabelOf, plain_line}
-use Rattle.mj_ast.specs.LeftOut.{Fits, MayStand}
+use Rattle.mj_ast.specs.LeftOut.{Fits, MayStand, EndsInCommand}
 use Rattle.mj_ast.specs.Routines.{IsRefused, Long, Twice, StuckAt, LeftOutAt, DeepAt}
 use Rattle.mj_expr.specs.Reads.{limits}
 use Rattle.mj_line.specs.Sentences.{sentence_of}
@@ -132,6 +134,37 @@ set_extract = (refl, stands (tokens (codes " S ")) (Called (codes "P")) (tokens 
 command : Fits construct.Command (tokens (codes " ")) (Word (codes "ABC")) []
 unfolding lexemes
 command = (refl, (refl, stands (tokens (codes " ")) (Word (codes "W")) (tokens (codes " X")) (of (Write (Shown ex ∷ []))) refl))
+
+-- ---- the argument of TSTART
+
+begun : EndsInCommand keyword.TStart (tokens (codes " TS"))
+unfolding lexemes
+begun = record { single = refl; line = of (TStart None); spells = (read (tokens (codes " TS")) (of (TStart None)) refl).spells; last = refl }
+
+restored : EndsInCommand keyword.TStart (tokens (codes " TS *"))
+unfolding lexemes
+restored =
+    let c = TStart (Some (record { restored = Everything; serial = serial.No })) in
+    record { single = refl; line = of c; spells = (read (tokens (codes " TS *")) (of c) refl).spells; last = refl }
+
+bare_serial : Fits construct.BareSerial (tokens (codes " TS ")) (Signed Colon) (tokens (codes "S"))
+unfolding lexemes
+bare_serial = (refl, ((tokens (codes " TS"), refl, begun), stands (tokens (codes " TS ")) (Signed Star) [] (of (TStart (Some (record { restored = Everything; serial = serial.No })))) refl))
+
+transaction_id : Fits construct.TransactionId (tokens (codes " TS *:")) (Word (codes "t")) (tokens (codes "=X"))
+unfolding lexemes
+transaction_id = (refl, (tokens (codes " TS *"), inl refl, restored))
+
+enclosed_id : Fits construct.TransactionId (tokens (codes " TS *:(")) (Word (codes "TRANSACTIONID")) (tokens (codes "=X)"))
+unfolding lexemes
+enclosed_id = (refl, (tokens (codes " TS *"), inr refl, restored))
+
+-- no colon begins such an argument where a comma stands, and no word but one with a `T`
+not_bare_serial : Fits construct.BareSerial (tokens (codes " TS ")) (Signed Comma) [] → ⊥
+not_bare_serial h = wrong h.0
+
+not_transaction_id : Fits construct.TransactionId (tokens (codes " TS *:")) (Word (codes "SERIALS")) [] → ⊥
+not_transaction_id h = wrong h.0
 
 -- ---- too deep: the 65th parenthesis, and not the 64th
 

@@ -5,10 +5,11 @@ use Rattle.std.proofs.lemmas.Bool.Decides.{nat_tests}
 use Rattle.mj_ast.specs.declared.sign.Sign.TheVariants.{Equals, Comma, Colon, Open, Close}
 use Rattle.mj_ast.specs.declared.routine.Mark.{Mark}
 use Rattle.mj_ast.specs.declared.routine.LockMode.{LockMode}
-use Rattle.mj_ast.specs.Syntax.{Expr, Exprs, Variable, Destination, Plain, Pieces, Targets, One, Several, Assignment, Killed, Spared, Merged, Layout, Format, Arranged, Opened, Called, Locked, LockNames, Lone, Together, Range, Renewed, Kept}
+use Rattle.mj_ast.specs.declared.routine.Serial.{Serial}
+use Rattle.mj_ast.specs.Syntax.{Expr, Exprs, Variable, Destination, Plain, Pieces, Targets, One, Several, Assignment, Killed, Spared, Merged, Layout, Format, Arranged, Opened, Called, Locked, LockNames, Lone, Together, Range, Renewed, Kept, Restartable}
 use Rattle.mj_ast.specs.Expressions.{count}
-use Rattle.mj_ast.specs.Commands.{Part, Put, Named, PieceCall, Text, Place, Control, with_commas, behind_commas, value_parts, routine_parts, entry_parts, guard_parts, actual_parts, actuals_parts, mode_parts, variable_parts, lock_names_parts, locked_parts, range_parts, renewed_parts, is_local, is_bare, is_entry, is_called, are_lock_names, is_locked, is_renewed, more_parts, destination_parts, targets_parts, assignment_parts, mark_part, column_parts, layout_parts, wait_parts, opened_parts, name_parts, killed_parts, merged_parts, has_items, every, is_destination, are_targets, is_assignment, is_there, is_layout, is_killed}
-use Rattle.mj_line.specs.Forms.{Mode, Calls, Jumps, Starts, colon_at, is_optional, Node, SetTarget, PieceOpens, PieceVariable, PieceComma, PieceText, PieceBehind, SetBehind, SetValue, SetEnd, Talk, Writes, Reads, OutputWanted, OutputEnd, MarksEnd, ColumnWanted, CodeWanted, IntoWanted, IntoEnd, IntoTimed, DeviceWanted, DeviceEnd, DeviceColon, DeviceTimed, DeviceWaited, KillWanted, NameWanted, NameBehind, KillEnd, MergeInto, MergeBehind, MergeFrom, MergeEnd, ValueWanted, ValueEnd, ForWanted, ForBehind, RangeWanted, RangeEnd, StepWanted, StepEnd, LimitWanted, LimitEnd, NewWanted, KeptWanted, KeptBehind, NewEnd, EntryWanted, LabelEnd, RoutineWanted, RoutineEnd, ActualWanted, ActualEnd, ActualsEnd, WaitColon, GuardWanted, GuardEnd, LockWanted, LockSigned, LockListed, LockBehind, LockNamed, LockTimed, LockEnd, AnExpr, AVar, ALocal}
+use Rattle.mj_ast.specs.Commands.{Part, Put, Named, SerialWord, PieceCall, Text, serial_parts, restartable_parts, Place, Control, with_commas, behind_commas, value_parts, routine_parts, entry_parts, guard_parts, actual_parts, actuals_parts, mode_parts, variable_parts, lock_names_parts, locked_parts, range_parts, renewed_parts, is_local, is_bare, is_entry, is_called, are_lock_names, is_locked, is_renewed, more_parts, destination_parts, targets_parts, assignment_parts, mark_part, column_parts, layout_parts, wait_parts, opened_parts, name_parts, killed_parts, merged_parts, has_items, every, is_destination, are_targets, is_assignment, is_there, is_layout, is_killed}
+use Rattle.mj_line.specs.Forms.{Mode, Calls, Jumps, Starts, colon_at, is_optional, Node, SetTarget, PieceOpens, PieceVariable, PieceComma, PieceText, PieceBehind, SetBehind, SetValue, SetEnd, Talk, Writes, Reads, OutputWanted, OutputEnd, MarksEnd, ColumnWanted, CodeWanted, IntoWanted, IntoEnd, IntoTimed, DeviceWanted, DeviceEnd, DeviceColon, DeviceTimed, DeviceWaited, KillWanted, NameWanted, NameBehind, KillEnd, MergeInto, MergeBehind, MergeFrom, MergeEnd, ValueWanted, ValueEnd, ForWanted, ForBehind, RangeWanted, RangeEnd, StepWanted, StepEnd, LimitWanted, LimitEnd, NewWanted, KeptWanted, KeptBehind, NewEnd, EntryWanted, LabelEnd, RoutineWanted, RoutineEnd, ActualWanted, ActualEnd, ActualsEnd, WaitColon, GuardWanted, GuardEnd, LockWanted, LockSigned, LockListed, LockBehind, LockNamed, LockTimed, LockEnd, RestartWanted, RestoredOpens, RestoredWanted, RestoredBehind, RestoredEnd, SerialWanted, SerialInside, SerialBehind, SerialEnd, AnExpr, AVar, ALocal}
 use Rattle.mj_line.proofs.Tables.{some_same}
 use Rattle.mj_line.proofs.Formed.{Speech, speech_parts, is_speech, Plainly, PlainOne, entered_parts, guards_of, entered_cut, bare_guard, locked_cut, three}
 
@@ -163,6 +164,15 @@ Shape LockBehind ps = (vs : List Variable) × (qs : List Part) × (behind_commas
 Shape LockNamed ps = Timed ps
 Shape LockTimed ps = (e : Expr) × (xs : List Locked) × (Text 0 e ∷ behind_commas locked_parts xs ≡ ps) × (every is_locked xs ≡ true)
 Shape LockEnd ps = (xs : List Locked) × (behind_commas locked_parts xs ≡ ps) × (every is_locked xs ≡ true)
+Shape RestartWanted ps = (a : Option Restartable) × (restartable_parts a ≡ ps)
+Shape RestoredOpens ps = (ws : List (List ℕ)) × (s : Serial) × (with_commas name_parts ws ++ (Put Close ∷ serial_parts s) ≡ ps)
+Shape RestoredWanted ps = (w : List ℕ) × (ws : List (List ℕ)) × (s : Serial) × (Named w ∷ (behind_commas name_parts ws ++ (Put Close ∷ serial_parts s)) ≡ ps)
+Shape RestoredBehind ps = (ws : List (List ℕ)) × (s : Serial) × (behind_commas name_parts ws ++ (Put Close ∷ serial_parts s) ≡ ps)
+Shape RestoredEnd ps = (s : Serial) × (serial_parts s ≡ ps)
+Shape SerialWanted ps = (s : Serial) × (serial_parts s ≡ Put Colon ∷ ps)
+Shape SerialInside ps = SerialWord ∷ Put Close ∷ [] ≡ ps
+Shape SerialBehind ps = Put Close ∷ [] ≡ ps
+Shape SerialEnd ps = [] ≡ ps
 
 pub at_node : (n m : Node) (ps : List Part) → Some n ≡ Some m → Shape m ps → Shape n ps
 at_node n m ps e h = let P : Node → Type 0 = λ x. Shape x ps in subst P (sym (some_same n m e)) h

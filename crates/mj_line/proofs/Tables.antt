@@ -15,9 +15,9 @@ use Rattle.mj_ast.specs.declared.keyword.Verb.TheVariants.{Of, HaltOrHang}
 use Rattle.mj_ast.specs.Syntax.{Expr, Chain, Done, Literal, Variable, Var, No}
 use Rattle.mj_ast.specs.Tokens.{Token, Word, Called, Digits, Quoted, Signed}
 use Rattle.mj_ast.specs.Expressions.{Constant, Other, symbol, function_symbol, callee_of, Overlong, Mark, Spells, expressions}
-use Rattle.mj_ast.specs.Commands.{bare_of, meant, is_conditional, IsConditional, Part, Put, Named, Label, PieceCall, Prompt, Text, Place, Control, SpellsPart, SpellsParts, greatest, part_nesting, part_width}
+use Rattle.mj_ast.specs.Commands.{bare_of, meant, is_conditional, IsConditional, Part, Put, Named, Label, SerialWord, PieceCall, Prompt, Text, Place, Control, is_serial_word, SpellsPart, SpellsParts, greatest, part_nesting, part_width}
 use Rattle.mj_expr.specs.Machine as phrase
-use Rattle.mj_line.specs.Forms.{Mode, Starts, Node, SetTarget, PieceOpens, PieceVariable, PieceComma, PieceText, PieceBehind, SetBehind, SetValue, SetEnd, Talk, Writes, Reads, OutputWanted, OutputEnd, MarksEnd, ColumnWanted, CodeWanted, IntoWanted, IntoEnd, IntoTimed, DeviceWanted, DeviceEnd, DeviceColon, DeviceTimed, DeviceWaited, KillWanted, NameWanted, NameBehind, KillEnd, MergeInto, MergeBehind, MergeFrom, MergeEnd, ValueWanted, ValueEnd, ForWanted, ForBehind, RangeWanted, RangeEnd, StepWanted, StepEnd, LimitWanted, LimitEnd, NewWanted, KeptWanted, KeptBehind, NewEnd, EntryWanted, LabelEnd, RoutineWanted, RoutineEnd, ActualWanted, ActualEnd, ActualsEnd, WaitColon, GuardWanted, GuardEnd, LockWanted, LockSigned, LockListed, LockBehind, LockNamed, LockTimed, LockEnd, Want, AnExpr, AVar, ALocal, next_of, piece_part, part_of, part_at, labels, takes, wants, ends, first_node, may_be_bare, Goes, Fits}
+use Rattle.mj_line.specs.Forms.{Mode, Starts, Node, SetTarget, PieceOpens, PieceVariable, PieceComma, PieceText, PieceBehind, SetBehind, SetValue, SetEnd, Talk, Writes, Reads, OutputWanted, OutputEnd, MarksEnd, ColumnWanted, CodeWanted, IntoWanted, IntoEnd, IntoTimed, DeviceWanted, DeviceEnd, DeviceColon, DeviceTimed, DeviceWaited, KillWanted, NameWanted, NameBehind, KillEnd, MergeInto, MergeBehind, MergeFrom, MergeEnd, ValueWanted, ValueEnd, ForWanted, ForBehind, RangeWanted, RangeEnd, StepWanted, StepEnd, LimitWanted, LimitEnd, NewWanted, KeptWanted, KeptBehind, NewEnd, EntryWanted, LabelEnd, RoutineWanted, RoutineEnd, ActualWanted, ActualEnd, ActualsEnd, WaitColon, GuardWanted, GuardEnd, LockWanted, LockSigned, LockListed, LockBehind, LockNamed, LockTimed, LockEnd, RestartWanted, RestoredOpens, RestoredWanted, RestoredBehind, RestoredEnd, SerialWanted, SerialInside, SerialBehind, SerialEnd, Sort, Names, Labels, Serials, Want, AnExpr, AVar, ALocal, next_of, piece_part, part_of, part_at, sort_of, takes, wants, ends, first_node, may_be_bare, Goes, Fits}
 use Rattle.mj_line.specs.Machine.{wanted, level_of}
 
 pub none_some : {A : Type 0} (x : A) → None ≡ Some x → ⊥
@@ -108,21 +108,30 @@ digits_alone : (d : List ℕ) (p : Part) (b : Bool) → nat_le (length d) 32767 
 digits_alone d p true h e = let P : Part → Type 0 = λ q. Alone (Digits d) q in subst P (some_same (Label d) p e) (record { spells = inr (refl, (let s : length d ≤ 32767 = grind (arith, nat_tests) in s)); token = tt })
 digits_alone d p false h e = absurd (none_some p e)
 
--- the same where a label may be wanted
-pub alone_at : (b : Bool) (t : Token) (p : Part) → part_at b t ≡ Some p → Alone t p
-alone_at true (Word w) p e = label_alone w p (nat_le (length w) 31) refl e
-alone_at true (Digits d) p e = digits_alone d p (nat_le (length d) 32767) refl e
-alone_at true (Signed z) p e = alone (Signed z) p e
-alone_at true (Called w) p e = alone (Called w) p e
-alone_at true (Quoted v) p e = quoted_alone v p (nat_le (length v) 32767) refl e
-alone_at true t p e = absurd (none_some p e)
-alone_at false t p e = alone t p e
+serial_alone : (w : List ℕ) (p : Part) (b : Bool) → is_serial_word w ≡ b → cond b (Some SerialWord) None ≡ Some p → Alone (Word w) p
+serial_alone w p true h e = let P : Part → Type 0 = λ q. Alone (Word w) q in subst P (some_same SerialWord p e) (record { spells = (w, refl, h); token = tt })
+serial_alone w p false h e = absurd (none_some p e)
+
+-- the same where a label may be wanted, or the word of SERIAL
+pub alone_at : (b : Sort) (t : Token) (p : Part) → part_at b t ≡ Some p → Alone t p
+alone_at Labels (Word w) p e = label_alone w p (nat_le (length w) 31) refl e
+alone_at Labels (Digits d) p e = digits_alone d p (nat_le (length d) 32767) refl e
+alone_at Labels (Signed z) p e = alone (Signed z) p e
+alone_at Labels (Called w) p e = alone (Called w) p e
+alone_at Labels (Quoted v) p e = quoted_alone v p (nat_le (length v) 32767) refl e
+alone_at Labels t p e = absurd (none_some p e)
+alone_at Serials (Word w) p e = serial_alone w p (is_serial_word w) refl e
+alone_at Serials (Signed z) p e = alone (Signed z) p e
+alone_at Serials (Called w) p e = alone (Called w) p e
+alone_at Serials t p e = absurd (none_some p e)
+alone_at Names t p e = alone t p e
 
 -- a part of one token leads where it is taken
 pub token_goes : (n next : Node) (p : Part) → IsTokenPart p → takes n p ≡ Some next → Goes n p next
 token_goes n next (Put s) h e = e
 token_goes n next (Named w) h e = e
 token_goes n next (Label w) h e = e
+token_goes n next SerialWord h e = e
 token_goes n next PieceCall h e = e
 token_goes n next (Prompt v) h e = e
 token_goes n next (Text level x) h e = absurd h
@@ -133,6 +142,7 @@ pub token_nesting : (p : Part) → IsTokenPart p → part_nesting p ≡ 0
 token_nesting (Put s) h = refl
 token_nesting (Named w) h = refl
 token_nesting (Label w) h = refl
+token_nesting SerialWord h = refl
 token_nesting PieceCall h = refl
 token_nesting (Prompt v) h = refl
 token_nesting (Text level x) h = absurd h
@@ -143,6 +153,7 @@ pub token_width : (p : Part) → IsTokenPart p → part_width p ≡ 0
 token_width (Put s) h = refl
 token_width (Named w) h = refl
 token_width (Label w) h = refl
+token_width SerialWord h = refl
 token_width PieceCall h = refl
 token_width (Prompt v) h = refl
 token_width (Text level x) h = absurd h
@@ -176,6 +187,7 @@ all_bare (Of keyword.Open) = λ e. e
 all_bare (Of keyword.Use) = λ e. e
 all_bare (Of keyword.Close) = λ e. e
 all_bare (Of keyword.Read) = λ e. e
+all_bare (Of keyword.TStart) = λ e. refl
 all_bare HaltOrHang = λ e. refl
 all_bare k = refl
 
@@ -203,7 +215,7 @@ conditional_bare v ps None h = tt
 conditional_bare v ps (Some e) h = sym (conditional_as v ps) ∙ h
 
 -- a label is taken only where one is wanted, and a name only where none is
-pub label_wanted : (n next : Node) (l : List ℕ) → takes n (Label l) ≡ Some next → labels n ≡ true
+pub label_wanted : (n next : Node) (l : List ℕ) → takes n (Label l) ≡ Some next → sort_of n ≡ Labels
 label_wanted (EntryWanted mode first) next l e = refl
 label_wanted (SetTarget false) next l e = absurd (none_some next e)
 label_wanted (SetTarget true) next l e = absurd (none_some next e)
@@ -214,7 +226,7 @@ label_wanted (SetBehind true) next l e = absurd (none_some next e)
 label_wanted n next l e = absurd (none_some next e)
 
 -- and a text in quotes where it may stand alone
-pub prompt_wanted : (n next : Node) (v : List ℕ) → takes n (Prompt v) ≡ Some next → labels n ≡ true
+pub prompt_wanted : (n next : Node) (v : List ℕ) → takes n (Prompt v) ≡ Some next → sort_of n ≡ Labels
 prompt_wanted (OutputWanted Reads) next v e = refl
 prompt_wanted (OutputWanted Writes) next v e = absurd (none_some next e)
 prompt_wanted (SetTarget false) next v e = absurd (none_some next e)
@@ -225,15 +237,29 @@ prompt_wanted (SetBehind false) next v e = absurd (none_some next e)
 prompt_wanted (SetBehind true) next v e = absurd (none_some next e)
 prompt_wanted n next v e = absurd (none_some next e)
 
-pub name_wanted : (n next : Node) (w : List ℕ) → takes n (Named w) ≡ Some next → labels n ≡ false
+pub name_wanted : (n next : Node) (w : List ℕ) → takes n (Named w) ≡ Some next → sort_of n ≡ Names
 name_wanted (EntryWanted mode first) next w e = absurd (none_some next e)
 name_wanted (OutputWanted talk) next w e = absurd (none_some next e)
+name_wanted SerialWanted next w e = absurd (none_some next e)
+name_wanted SerialInside next w e = absurd (none_some next e)
 name_wanted n next w e = refl
+
+-- and the word of SERIAL where it is wanted
+pub serial_wanted : (n next : Node) → takes n SerialWord ≡ Some next → sort_of n ≡ Serials
+serial_wanted SerialWanted next e = refl
+serial_wanted SerialInside next e = refl
+serial_wanted (SetTarget false) next e = absurd (none_some next e)
+serial_wanted (SetTarget true) next e = absurd (none_some next e)
+serial_wanted (PieceBehind listed zero) next e = absurd (none_some next e)
+serial_wanted (PieceBehind listed (suc more)) next e = absurd (none_some next e)
+serial_wanted (SetBehind false) next e = absurd (none_some next e)
+serial_wanted (SetBehind true) next e = absurd (none_some next e)
+serial_wanted n next e = absurd (none_some next e)
 
 -- nor where a phrase is, but for a text in quotes
 abbrev IsUnlabelled : Node → Option Want → Type 0
 IsUnlabelled n None = Unit {0}
-IsUnlabelled n (Some w) = (labels n ≡ false) ⊎ (n ≡ OutputWanted Reads)
+IsUnlabelled n (Some w) = (sort_of n ≡ Names) ⊎ (n ≡ OutputWanted Reads)
 
 all_unlabelled : (n : Node) → IsUnlabelled n (wants n)
 all_unlabelled (SetTarget listed) = inl refl
@@ -264,7 +290,7 @@ all_unlabelled LockListed = inl refl
 all_unlabelled LockTimed = inl refl
 all_unlabelled n = tt
 
-pub unlabelled : (n : Node) (w : Want) → wants n ≡ Some w → (labels n ≡ false) ⊎ (n ≡ OutputWanted Reads)
+pub unlabelled : (n : Node) (w : Want) → wants n ≡ Some w → (sort_of n ≡ Names) ⊎ (n ≡ OutputWanted Reads)
 unlabelled n w e = let P : Option Want → Type 0 = λ q. IsUnlabelled n q in subst P e (all_unlabelled n)
 
 -- ---- what follows a phrase
@@ -503,6 +529,7 @@ all_ends (Of keyword.Open) = λ e. e
 all_ends (Of keyword.Use) = λ e. e
 all_ends (Of keyword.Close) = λ e. e
 all_ends (Of keyword.Read) = λ e. e
+all_ends (Of keyword.TStart) = λ e. refl
 all_ends HaltOrHang = λ e. refl
 all_ends k = tt
 
@@ -644,7 +671,7 @@ label_apart : (w : List ℕ) (b : Bool) → part_taken (OutputWanted Reads) (con
 label_apart w true = refl
 label_apart w false = refl
 
-read_apart : (m : phrase.Limits) (t : Token) → (phrase.seek phrase.AsTarget (symbol t) ≡ phrase.Stuck) ⊎ (part_taken (OutputWanted Reads) (part_at true t) ≡ None)
+read_apart : (m : phrase.Limits) (t : Token) → (phrase.seek phrase.AsTarget (symbol t) ≡ phrase.Stuck) ⊎ (part_taken (OutputWanted Reads) (part_at Labels t) ≡ None)
 read_apart m (Word w) = inr (label_apart w (nat_le (length w) 31))
 read_apart m (Digits d) = inr (label_apart d (nat_le (length d) 32767))
 read_apart m (Called w) = inl (called_sought (callee_of w) (nat_le (length w) 31))
@@ -652,16 +679,16 @@ read_apart m (Quoted v) = inl (quoted_sought v (nat_le (length v) 32767))
 read_apart m (Signed s) = input_sign m s
 read_apart m t = inr refl
 
-pub apart_at : (m : phrase.Limits) (n : Node) (t : Token) (w : Want) → wants n ≡ Some w → (phrase.step m (wanted w) (symbol t) ≡ phrase.Stuck) ⊎ (part_taken n (part_at (labels n) t) ≡ None)
+pub apart_at : (m : phrase.Limits) (n : Node) (t : Token) (w : Want) → wants n ≡ Some w → (phrase.step m (wanted w) (symbol t) ≡ phrase.Stuck) ⊎ (part_taken n (part_at (sort_of n) t) ≡ None)
 apart_at m n t w e = by (unlabelled n w e)
   where
-    by : (labels n ≡ false) ⊎ (n ≡ OutputWanted Reads) → (phrase.step m (wanted w) (symbol t) ≡ phrase.Stuck) ⊎ (part_taken n (part_at (labels n) t) ≡ None)
+    by : (sort_of n ≡ Names) ⊎ (n ≡ OutputWanted Reads) → (phrase.step m (wanted w) (symbol t) ≡ phrase.Stuck) ⊎ (part_taken n (part_at (sort_of n) t) ≡ None)
     by (inl h) =
-        let P : Bool → Type 0 = λ b. (phrase.step m (wanted w) (symbol t) ≡ phrase.Stuck) ⊎ (part_taken n (part_at b t) ≡ None) in
+        let P : Sort → Type 0 = λ b. (phrase.step m (wanted w) (symbol t) ≡ phrase.Stuck) ⊎ (part_taken n (part_at b t) ≡ None) in
         subst P (sym h) (apart m n t w e)
     by (inr h) =
-        let Q : Want → Type 0 = λ x. (phrase.step m (wanted x) (symbol t) ≡ phrase.Stuck) ⊎ (part_taken (OutputWanted Reads) (part_at true t) ≡ None) in
-        let P : Node → Type 0 = λ x. (phrase.step m (wanted w) (symbol t) ≡ phrase.Stuck) ⊎ (part_taken x (part_at (labels x) t) ≡ None) in
+        let Q : Want → Type 0 = λ x. (phrase.step m (wanted x) (symbol t) ≡ phrase.Stuck) ⊎ (part_taken (OutputWanted Reads) (part_at Labels t) ≡ None) in
+        let P : Node → Type 0 = λ x. (phrase.step m (wanted w) (symbol t) ≡ phrase.Stuck) ⊎ (part_taken x (part_at (sort_of x) t) ≡ None) in
         subst P (sym h) (subst Q (some_same (AVar 0 IntoEnd) w (ap wants (sym h) ∙ e)) (read_apart m t))
 
 -- ---- a way to the end of the arguments
@@ -768,6 +795,18 @@ into_finish = sign_before MergeBehind MergeFrom Equals refl from_finish
 range_finish : Finish RangeWanted
 range_finish = text_before RangeWanted RangeEnd 0 (omega arith) refl (at_end RangeEnd refl)
 
+-- `S` and `)`, and what they stand in
+serial_inside : Finish SerialInside
+serial_inside =
+    token_before SerialInside SerialBehind (Word (83 ∷ [])) SerialWord refl (record { spells = (83 ∷ [], refl, refl); token = tt })
+    (sign_before SerialBehind SerialEnd Close refl (at_end SerialEnd refl))
+
+a_name : {n next : Node} → takes n (Named (65 ∷ [])) ≡ Some next → Finish next → Finish n
+a_name {n} {next} e f = token_before n next (Word (65 ∷ [])) (Named (65 ∷ [])) e (record { spells = (refl, lit≤ tt); token = tt }) f
+
+restored_closes : Finish RestoredBehind
+restored_closes = sign_before RestoredBehind RestoredEnd Close refl (at_end RestoredEnd refl)
+
 pub finish : (n : Node) → Finish n
 finish (SetTarget listed) = place_before (SetTarget listed) (SetBehind listed) 0 (omega arith) refl (behind_finish listed)
 finish (PieceOpens listed) = sign_before (PieceOpens listed) (PieceVariable listed) Open refl (variable_finish listed)
@@ -830,3 +869,12 @@ finish LockBehind = sign_before LockBehind LockNamed Close refl (at_end LockName
 finish LockNamed = at_end LockNamed refl
 finish LockTimed = text_before LockTimed LockEnd 0 (omega arith) refl (at_end LockEnd refl)
 finish LockEnd = at_end LockEnd refl
+finish RestartWanted = at_end RestartWanted refl
+finish RestoredOpens = sign_before RestoredOpens RestoredEnd Close refl (at_end RestoredEnd refl)
+finish RestoredWanted = a_name refl restored_closes
+finish RestoredBehind = restored_closes
+finish RestoredEnd = at_end RestoredEnd refl
+finish SerialWanted = sign_before SerialWanted SerialInside Open refl serial_inside
+finish SerialInside = serial_inside
+finish SerialBehind = sign_before SerialBehind SerialEnd Close refl (at_end SerialEnd refl)
+finish SerialEnd = at_end SerialEnd refl

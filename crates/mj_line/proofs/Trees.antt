@@ -6,11 +6,14 @@ use Rattle.mj_ast.specs.declared.keyword.Keyword.{Keyword}
 use Rattle.mj_ast.specs.declared.keyword.Keyword.TheVariants as keyword
 use Rattle.mj_ast.specs.declared.keyword.Verb.TheVariants.{Of}
 use Rattle.mj_ast.specs.declared.routine.ReadMode.TheVariants.{Line, Byte}
+use Rattle.mj_ast.specs.declared.routine.Serial.TheVariants as serial
 use Rattle.mj_ast.specs.declared.routine.LockMode.TheVariants.{Whole, Plus as Added, Minus as Taken}
-use Rattle.mj_ast.specs.Syntax.{Expr, No, More, Gone, Spared, Shown, Coded, Prompted, Into, Opened, Called, Jumped, Started, Range, Single, Endless, UpTo, Fresh, Kept, Command, Set, Write, Halt, Hang, Job, Lock, Kill, Merge, If, Else, For, Forever, Do, Goto, Quit, New, OpenDevice, UseDevice, CloseDevice, Read}
+use Rattle.mj_ast.specs.Syntax.{Expr, No, More, Gone, Spared, Shown, Coded, Prompted, Into, Opened, Called, Jumped, Started, Range, Single, Endless, UpTo, Fresh, Kept, Command, Set, Write, Halt, Hang, Job, Lock, Kill, Merge, If, Else, For, Forever, Do, Goto, Quit, New, OpenDevice, UseDevice, CloseDevice, Read, TStart, TCommit, TRestart, TRollback, Break}
 use Rattle.mj_ast.specs.Commands.{Part, Put, Named, Label, PieceCall, Prompt, Text, Place, Control, with_commas, behind_commas, value_parts, routine_parts, actual_parts, as_called, jumped_parts, started_parts, variable_parts, guard_parts, locked_parts, range_parts, renewed_parts, is_local, is_bare, is_called, is_jumped, is_started, more_parts, targets_parts, assignment_parts, mark_part, column_parts, wait_parts, opened_parts, name_parts, killed_parts, merged_parts, command_parts, keyword_for, has_items, every, are_targets, is_assignment, is_formed}
-use Rattle.mj_line.specs.Forms.{Mode, Calls, Jumps, Starts, Node, SetTarget, PieceOpens, PieceVariable, PieceComma, PieceText, PieceBehind, SetBehind, SetValue, SetEnd, Talk, Writes, Reads, OutputWanted, OutputEnd, MarksEnd, ColumnWanted, CodeWanted, IntoWanted, IntoEnd, IntoTimed, DeviceWanted, DeviceEnd, DeviceColon, DeviceTimed, DeviceWaited, KillWanted, NameWanted, NameBehind, KillEnd, MergeInto, MergeBehind, MergeFrom, MergeEnd, ValueWanted, ValueEnd, ForWanted, ForBehind, RangeWanted, RangeEnd, StepWanted, StepEnd, LimitWanted, LimitEnd, NewWanted, KeptWanted, KeptBehind, NewEnd, EntryWanted, LabelEnd, RoutineWanted, RoutineEnd, ActualWanted, ActualEnd, ActualsEnd, WaitColon, GuardWanted, GuardEnd, LockWanted, LockSigned, LockListed, LockBehind, LockNamed, LockTimed, LockEnd, actuals_at, colon_at, ends, first_node, may_be_bare, Goes, Fits, IsForm}
+use Rattle.mj_line.specs.Forms.{Mode, Calls, Jumps, Starts, Node, SetTarget, PieceOpens, PieceVariable, PieceComma, PieceText, PieceBehind, SetBehind, SetValue, SetEnd, Talk, Writes, Reads, OutputWanted, OutputEnd, MarksEnd, ColumnWanted, CodeWanted, IntoWanted, IntoEnd, IntoTimed, DeviceWanted, DeviceEnd, DeviceColon, DeviceTimed, DeviceWaited, KillWanted, NameWanted, NameBehind, KillEnd, MergeInto, MergeBehind, MergeFrom, MergeEnd, ValueWanted, ValueEnd, ForWanted, ForBehind, RangeWanted, RangeEnd, StepWanted, StepEnd, LimitWanted, LimitEnd, NewWanted, KeptWanted, KeptBehind, NewEnd, EntryWanted, LabelEnd, RoutineWanted, RoutineEnd, ActualWanted, ActualEnd, ActualsEnd, WaitColon, GuardWanted, GuardEnd, LockWanted, LockSigned, LockListed, LockBehind, LockNamed, LockTimed, LockEnd, RestartWanted, RestoredOpens, RestoredWanted, RestoredBehind, RestoredEnd, SerialWanted, SerialInside, SerialBehind, SerialEnd, actuals_at, colon_at, ends, first_node, may_be_bare, Goes, Fits, IsForm}
 use Rattle.mj_line.proofs.Tables.{none_some}
+use Rattle.mj_line.proofs.Restartables.{restart_part, restored_part, restored_behind, restored_end, serial_part, serial_inside, serial_behind, serial_end}
+use Rattle.mj_line.proofs.Restartables as restart
 use Rattle.mj_line.proofs.Formed.{speech_parts, is_speech, Plainly, entered_parts, as_entered, jumps, starts}
 use Rattle.mj_line.proofs.Shapes.{true_false, false_true, both, first_of, second_of, Acted, limit_parts, step_parts, Shape, at_node, text_node, place_node, local_node, text_wrong, place_wrong, local_text, local_place, text_local, place_of_local, before, text_zero, text_one, place_zero, place_one, piece_aims, plain_aims, several_aims, more_aims, format_at, assignment_at, next_kill, spared_at, next_item, kept_at, plain_none, none_others, others_guard, guard_acted, comma_others, colon_guard, open_acted, entries_at, timed_none, timed_comma, timed_colon, naming_one, naming_several, locks_at}
 
@@ -42,6 +45,9 @@ shape_end (GuardEnd mode) f = none_others mode
 shape_end (LockWanted first) f = ([], refl, refl, λ e. true_false (sym f ∙ e))
 shape_end LockNamed f = timed_none
 shape_end LockEnd f = ([], refl, refl)
+shape_end RestartWanted f = (None, refl)
+shape_end RestoredEnd f = (serial.No, refl)
+shape_end SerialEnd f = refl
 shape_end n f = false_true f
 
 target_part : (p : Part) (ps : List Part) (next : Node) → Goes (SetTarget false) p next → Shape next ps → Shape (SetTarget false) (p ∷ ps)
@@ -695,6 +701,15 @@ shape_part LockBehind p ps next e h = lock_behind p ps next e h
 shape_part LockNamed p ps next e h = lock_named p ps next e h
 shape_part LockTimed p ps next e h = lock_timed p ps next e h
 shape_part LockEnd p ps next e h = lock_end p ps next e h
+shape_part RestartWanted p ps next e h = restart_part p ps next e h
+shape_part RestoredOpens p ps next e h = restart.opens_part p ps next e h
+shape_part RestoredWanted p ps next e h = restored_part p ps next e h
+shape_part RestoredBehind p ps next e h = restored_behind p ps next e h
+shape_part RestoredEnd p ps next e h = restored_end p ps next e h
+shape_part SerialWanted p ps next e h = serial_part p ps next e h
+shape_part SerialInside p ps next e h = serial_inside p ps next e h
+shape_part SerialBehind p ps next e h = serial_behind p ps next e h
+shape_part SerialEnd p ps next e h = serial_end p ps next e h
 
 shape : (ps : List Part) (n : Node) → Fits n ps → Shape n ps
 shape [] n f = shape_end n f
@@ -773,6 +788,11 @@ some_bare keyword.Open e = false_true e
 some_bare keyword.Use e = false_true e
 some_bare keyword.Close e = false_true e
 some_bare keyword.Read e = false_true e
+some_bare keyword.TStart e = record { command = TStart None; formed = refl; named = refl; parts = refl }
+some_bare keyword.TCommit e = record { command = TCommit; formed = refl; named = refl; parts = refl }
+some_bare keyword.TRestart e = record { command = TRestart; formed = refl; named = refl; parts = refl }
+some_bare keyword.TRollback e = record { command = TRollback; formed = refl; named = refl; parts = refl }
+some_bare keyword.Break e = record { command = Break; formed = refl; named = refl; parts = refl }
 
 for_made : (ps : List Part) → Shape ForWanted ps → Made keyword.For ps
 for_made ps (inl e) = record { command = Forever; formed = refl; named = refl; parts = sym e }
@@ -840,6 +860,13 @@ some_made keyword.Close ps n e h =
 some_made keyword.Read ps n e h =
     let x = at_node (OutputWanted Reads) n ps e h in
     record { command = Read (x.0 ∷ x.1); formed = both (is_speech Reads x.0) (every (is_speech Reads) x.1) x.3 x.4; named = refl; parts = x.2 }
+some_made keyword.TStart ps n e h =
+    let x = at_node RestartWanted n ps e h in
+    record { command = TStart x.0; formed = refl; named = refl; parts = x.1 }
+some_made keyword.TCommit ps n e h = absurd (none_some n e)
+some_made keyword.TRestart ps n e h = absurd (none_some n e)
+some_made keyword.TRollback ps n e h = absurd (none_some n e)
+some_made keyword.Break ps n e h = absurd (none_some n e)
 some_made keyword.Kill ps n e h =
     let x = at_node (KillWanted true) n ps e h in
     record { command = Kill x.0; formed = x.2; named = refl; parts = x.1 }

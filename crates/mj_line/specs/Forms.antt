@@ -10,7 +10,7 @@ use Rattle.mj_ast.specs.declared.keyword.Verb.TheVariants.{Of, HaltOrHang}
 use Rattle.mj_ast.specs.Tokens.{Token, Word, Called, Digits, Quoted, Signed}
 use Rattle.mj_ast.specs.Expressions.{callee_of, name_limit}
 use Rattle.mj_text.specs.declared.text.TheConstants.{TEXT_LIMIT}
-use Rattle.mj_ast.specs.Commands.{Part, Put, Named, Label, PieceCall, Prompt, Text, Place, Control, is_local}
+use Rattle.mj_ast.specs.Commands.{Part, Put, Named, Label, SerialWord, PieceCall, Prompt, Text, Place, Control, is_local, is_serial_word}
 
 -- ---- places
 
@@ -107,6 +107,17 @@ pub data Node : Type 0 where
   LockNamed : Node
   LockTimed : Node
   LockEnd : Node
+  -- TSTART: its argument is wanted; the `(` of a list was read; another name of it is wanted; a name of it was read; the locals were read; the
+  -- word of SERIAL is wanted; it is wanted behind a `(`; it was read there; the argument was read
+  RestartWanted : Node
+  RestoredOpens : Node
+  RestoredWanted : Node
+  RestoredBehind : Node
+  RestoredEnd : Node
+  SerialWanted : Node
+  SerialInside : Node
+  SerialBehind : Node
+  SerialEnd : Node
 
 -- ---- what goes on
 
@@ -121,18 +132,27 @@ part_of (Word w) = if nat_le (length w) name_limit then Some (Named w) else None
 part_of (Called w) = if nat_le (length w) name_limit then piece_part (callee_of w) else None
 part_of _ = None
 
--- a label is wanted here, a name or digits, or a text in quotes may stand alone
-abbrev pub labels : Node → Bool
-labels (EntryWanted mode first) = true
-labels (OutputWanted Reads) = true
-labels n = false
+-- what a word is at a place: a name, a label where one is wanted, or the word that makes a transaction SERIAL
+pub data Sort : Type 0 where
+  Names : Sort
+  Labels : Sort
+  Serials : Sort
 
--- the part that a token alone is where a label or a text in quotes is wanted, or isn't
-abbrev pub part_at : Bool → Token → Option Part
-part_at true (Word w) = if nat_le (length w) name_limit then Some (Label w) else None
-part_at true (Digits d) = if nat_le (length d) TEXT_LIMIT then Some (Label d) else None
-part_at true (Quoted v) = if nat_le (length v) TEXT_LIMIT then Some (Prompt v) else None
-part_at label t = part_of t
+-- where a label is wanted, a name or digits, or a text in quotes may stand alone, and where the word of SERIAL is
+abbrev pub sort_of : Node → Sort
+sort_of (EntryWanted mode first) = Labels
+sort_of (OutputWanted Reads) = Labels
+sort_of SerialWanted = Serials
+sort_of SerialInside = Serials
+sort_of n = Names
+
+-- the part that a token alone is there
+abbrev pub part_at : Sort → Token → Option Part
+part_at Labels (Word w) = if nat_le (length w) name_limit then Some (Label w) else None
+part_at Labels (Digits d) = if nat_le (length d) TEXT_LIMIT then Some (Label d) else None
+part_at Labels (Quoted v) = if nat_le (length v) TEXT_LIMIT then Some (Prompt v) else None
+part_at Serials (Word w) = if is_serial_word w then Some SerialWord else None
+part_at sort t = part_of t
 
 -- where actuals may stand
 abbrev pub actuals_at : Mode → Option Node
@@ -231,6 +251,19 @@ takes LockBehind (Put Close) = Some LockNamed
 takes LockNamed (Put Colon) = Some LockTimed
 takes LockNamed (Put Comma) = Some (LockWanted false)
 takes LockEnd (Put Comma) = Some (LockWanted false)
+takes RestartWanted (Named w) = Some RestoredEnd
+takes RestartWanted (Put Star) = Some RestoredEnd
+takes RestartWanted (Put Open) = Some RestoredOpens
+takes RestoredOpens (Named w) = Some RestoredBehind
+takes RestoredOpens (Put Close) = Some RestoredEnd
+takes RestoredWanted (Named w) = Some RestoredBehind
+takes RestoredBehind (Put Comma) = Some RestoredWanted
+takes RestoredBehind (Put Close) = Some RestoredEnd
+takes RestoredEnd (Put Colon) = Some SerialWanted
+takes SerialWanted SerialWord = Some SerialEnd
+takes SerialWanted (Put Open) = Some SerialInside
+takes SerialInside SerialWord = Some SerialBehind
+takes SerialBehind (Put Close) = Some SerialEnd
 takes _ _ = None
 
 -- an expression or a variable, inside so many levels that the command opens, or a variable that is a local, and the place behind it
@@ -307,6 +340,9 @@ ends (GuardEnd mode) = true
 ends (LockWanted first) = first
 ends LockNamed = true
 ends LockEnd = true
+ends RestartWanted = true
+ends RestoredEnd = true
+ends SerialEnd = true
 ends _ = false
 
 -- ---- commands
@@ -332,6 +368,11 @@ first_node (Of keyword.Open) = Some DeviceWanted
 first_node (Of keyword.Use) = Some (ValueWanted false)
 first_node (Of keyword.Close) = Some (ValueWanted false)
 first_node (Of keyword.Read) = Some (OutputWanted Reads)
+first_node (Of keyword.TStart) = Some RestartWanted
+first_node (Of keyword.TCommit) = None
+first_node (Of keyword.TRestart) = None
+first_node (Of keyword.TRollback) = None
+first_node (Of keyword.Break) = None
 first_node HaltOrHang = Some (ValueWanted true)
 
 -- it may have none

@@ -9,7 +9,7 @@ use Rattle.mj_ast.specs.Tokens.{Token, Word, Called, Special, Digits, Signed, Bl
 use Rattle.mj_ast.specs.Expressions.{Symbol, Mark, symbol, name_limit}
 use Rattle.mj_ast.specs.Commands.{Part, Text, Place, Control, verb_of, bare_of, meant, is_conditional}
 use Rattle.mj_expr.specs.Machine as phrase
-use Rattle.mj_line.specs.Forms.{Node, Want, AnExpr, AVar, ALocal, next_of, part_at, labels, takes, wants, ends, first_node, may_be_bare}
+use Rattle.mj_line.specs.Forms.{Node, Want, AnExpr, AVar, ALocal, next_of, part_at, sort_of, takes, wants, ends, first_node, may_be_bare}
 use Rattle.mj_line.specs.Sentences.{Clause, Sentence}
 
 -- ---- spots between phrases
@@ -215,7 +215,7 @@ own (Indented l) (Signed Dot) = Go (At (Indented (dotted l)))
 own (Worded l verb) (Signed Colon) = if is_conditional (bare_of verb) then Go (At (Asked l verb)) else Stuck
 own (Worded l verb) Blank = arguments l None verb
 own (Bare l condition verb) Blank = arguments l condition verb
-own (Args l condition verb done n) t = taken l condition verb done n (part_at (labels n) t)
+own (Args l condition verb done n) t = taken l condition verb done n (part_at (sort_of n) t)
 own p k = Stuck
 
 -- a command begins

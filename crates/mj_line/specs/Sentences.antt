@@ -1,5 +1,5 @@
 -- Lines by the parts of their commands, and how they are spelled.
-use Rattle.std.specs.Prelude.{◌≡◌, ℕ, suc, ◌≤◌, max, List, [], ◌∷◌, ◌++◌, Option, Some, replicate, map}
+use Rattle.std.specs.Prelude.{◌≡◌, ℕ, suc, ◌≤◌, max, List, [], ◌∷◌, ◌++◌, Option, replicate, map}
 use Rattle.mj_ast.specs.declared.keyword.Keyword.{Keyword}
 use Rattle.mj_ast.specs.Syntax.{Expr, Step, Line}
 use Rattle.mj_ast.specs.Tokens.{Token, Word, Blank}

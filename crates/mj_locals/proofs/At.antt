@@ -10,6 +10,7 @@ use Rattle.mj_tree.specs.Nest.{nodes_of}
 use Rattle.mj_globs.proofs.Groups.{W}
 use Rattle.mj_locals.specs.Trees.{Trees, at, has_room, placed, added, word_at}
 use Rattle.mj_locals.specs.Hiding.{Grows, all_put}
+use Rattle.mj_locals.specs.Snapshots.{HaveRoom}
 use Rattle.mj_locals.proofs.Places.{same_word, itself, word_placed, length_placed, word_front}
 
 -- ---- one word
@@ -131,11 +132,6 @@ grows_length ts us g = elim (cases_lt 0 (length ts)) [
 ]
 
 -- ---- trees are put to their words
-
--- each of these words stands there
-abbrev pub HaveRoom : Trees → Trees → Type 0
-HaveRoom ts [] = Unit {0}
-HaveRoom ts (k ∷ ks) = (has_room ts k.0 ≡ true) × HaveRoom ts ks
 
 pub word_all_put : (ks ts : Trees) (p : ℕ) → word_at (all_put ks ts) p ≡ word_at ts p
 word_all_put [] ts p = refl

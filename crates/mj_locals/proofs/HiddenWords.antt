@@ -12,7 +12,8 @@ use Rattle.mj_locals.specs.Kept.{named, HavePlaces, AreOthers}
 use Rattle.mj_locals.specs.Trees.{Trees, at, has_room, placed, added, word_at, IsPlace}
 use Rattle.mj_locals.specs.Hiding.{Grows, Hides, HidesOnly, HidesOthersTo, all_put}
 use Rattle.mj_locals.proofs.Places.{same_word, itself, word_placed, length_placed}
-use Rattle.mj_locals.proofs.At.{HaveRoom, at_placed, at_added, at_pushed, room_pushed, room_at, grows_itself, grows_on, grows_added, grows_length, grows_same, at_all_put, word_all_put, length_all_put}
+use Rattle.mj_locals.specs.Snapshots.{HaveRoom}
+use Rattle.mj_locals.proofs.At.{at_placed, at_added, at_pushed, room_pushed, room_at, grows_itself, grows_on, grows_added, grows_length, grows_same, at_all_put, word_all_put, length_all_put}
 
 -- ---- words in place of places
 

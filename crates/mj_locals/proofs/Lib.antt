@@ -1,5 +1,6 @@
 pub mod Places
 pub mod Spared
+pub mod Snapshots
 pub mod Marks
 pub mod At
 pub mod Names

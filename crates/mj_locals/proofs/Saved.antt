@@ -12,17 +12,14 @@ use Rattle.mj_globs.proofs.Groups.{W}
 use Rattle.mj_semantics.specs.State.{Only, AllBut, Saved, covers, put_back}
 use Rattle.mj_locals.specs.Held.{Held, with_now, after_new, after_undo}
 use Rattle.mj_locals.specs.Groups.{Pairs, Group, newest, rest, spared_by, AreTreesOf, AreSorted}
-use Rattle.mj_locals.specs.Kept.{named, words_of, seen, HavePlaces, AreOthers, AreCovered, CanBeUndone}
+use Rattle.mj_locals.specs.Kept.{named, words_of, seen, held_of, HavePlaces, AreOthers, AreCovered, CanBeUndone}
 use Rattle.mj_locals.specs.Trees.{Trees, at, has_room, placed, added, word_at, all_spared, AreTrees, content}
 use Rattle.mj_locals.specs.Hiding.{Grows, HidesOnly, HidesOthers, all_put, kept_of}
 use Rattle.mj_locals.proofs.Places.{same_word, trees_pushed}
-use Rattle.mj_locals.proofs.At.{HaveRoom, at_all_put, at_nowhere, at_added, grows_on, grows_placed, grows_added, grows_length, grows_same, word_all_put, length_all_put}
+use Rattle.mj_locals.specs.Snapshots.{HaveRoom}
+use Rattle.mj_locals.proofs.At.{at_all_put, at_nowhere, at_added, grows_on, grows_placed, grows_added, grows_length, grows_same, word_all_put, length_all_put}
 use Rattle.mj_locals.proofs.Content.{same_at, picked_content, restored_content, at_spared}
 use Rattle.mj_locals.proofs.HiddenWords.{named_grown, named_words, places_grown, have_room}
-
--- the locals of words and of what NEWs saved
-abbrev pub held_of : Trees → List Group → Held
-held_of ts gs = record { now = content ts; saved = map (seen ts) gs }
 
 -- ---- words that come leave what is saved
 
@@ -76,7 +73,7 @@ newest_places ts [] h = tt
 newest_places ts (g ∷ gs) h = h.0
 
 -- a word stands among words
-room_among : (ks : Trees) (v : List ℕ) → has_room ks v ≡ list_any (bytes_eq v) (map (λ k. k.0) ks)
+pub room_among : (ks : Trees) (v : List ℕ) → has_room ks v ≡ list_any (bytes_eq v) (map (λ k. k.0) ks)
 room_among [] v = refl
 room_among (k ∷ ks) v =
     split (is_eq (W v k.0)) (lookup (is_at (W v)) ks) k.1
@@ -97,7 +94,7 @@ others_none ws (k ∷ ks) v h e = by (others_none ws ks v h.1 e) (is_eq (W v k.0
     by below false f = ap (λ b. is_some (cond b (Some k.1) (lookup (is_at (W v)) ks))) f ∙ below
 
 -- a word that stands there has a place
-has_place : (ts : Trees) (v : List ℕ) → has_room ts v ≡ true → (p : ℕ) × ((p < length ts) × (word_at ts p ≡ v))
+pub has_place : (ts : Trees) (v : List ℕ) → has_room ts v ≡ true → (p : ℕ) × ((p < length ts) × (word_at ts p ≡ v))
 has_place [] v h = absurd cc
 has_place (k ∷ ks) v h = by (has_place ks v) (is_eq (W v k.0)) refl
   where
@@ -219,7 +216,7 @@ length_kept : (kept : Option (List (List ℕ))) (ts : Trees) → length (kept_of
 length_kept None ts = refl
 length_kept (Some ws) ts = length_spared ws ts
 
-grows_put : (ks ts : Trees) (kept : Option (List (List ℕ))) → Grows ts (all_put ks (kept_of kept ts))
+pub grows_put : (ks ts : Trees) (kept : Option (List (List ℕ))) → Grows ts (all_put ks (kept_of kept ts))
 grows_put ks ts kept =
     grows_same ts (all_put ks (kept_of kept ts)) (length_all_put ks (kept_of kept ts) ∙ length_kept kept ts) (λ p. word_all_put ks (kept_of kept ts) p ∙ word_kept kept ts p)
 

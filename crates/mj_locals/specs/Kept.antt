@@ -22,8 +22,12 @@ words_of (Some kept) saved = AllBut kept
 abbrev pub seen : Trees → Group → Saved
 seen ts g = record { words = words_of g.0 (named ts g.1); locals = content (named ts g.1) }
 
+-- the locals of words and of what NEWs saved
+abbrev pub held_of : Trees → List Group → Held
+held_of ts gs = record { now = content ts; saved = map (seen ts) gs }
+
 abbrev pub held_by : Inside → Held
-held_by a = record { now = content a.table; saved = map (seen a.table) a.trail }
+held_by a = held_of a.table a.trail
 
 -- each tree has its place among so many
 abbrev pub HavePlaces : ℕ → Pairs → Type 0

@@ -5,3 +5,4 @@ pub mod Groups
 pub mod Marks
 pub mod Kept
 pub mod Hiding
+pub mod Snapshots

@@ -4,7 +4,8 @@ ghost use Rattle.std.specs.Prelude.{◌≡◌, ◌<◌, ℕ, [], None, Some, OnO
 ghost use Rattle.std.specs.Option.{option_map};
 ghost use Rattle.mj_semantics.specs.State.{bound};
 ghost use Rattle.mj_locals.specs.Groups.{newest, spared_by, rest, begun, saved};
-ghost use Rattle.mj_locals.specs.Kept.{named, HavePlaces};
+ghost use Rattle.mj_locals.specs.Held.{after_unwind};
+ghost use Rattle.mj_locals.specs.Kept.{named, held_of, HavePlaces, CanBeUndone};
 ghost use Rattle.mj_locals.specs.Trees.{at, placed, word_at, content};
 ghost use Rattle.mj_locals.specs.Hiding.{Grows, Hides, HidesOnly, HidesOthers, all_put, kept_of};
 
@@ -144,6 +145,21 @@ pub fn show(table: &mut Table, trail: &mut Trail)
         table.spare(words);
     }
     put_back(table, trail);
+}
+
+/// What was saved above a height is put back, the newest first. It takes no memory.
+pub fn unwind(table: &mut Table, trail: &mut Trail, height: usize)
+    requires { CanBeUndone table.old trail.old }
+    ensures held { held_of table.new trail.new ≡ after_unwind height (held_of table.old trail.old) }
+    ensures kept { CanBeUndone table.new trail.new }
+    ensures grows { Grows table.old table.new }
+{
+    while trail.height() > height {
+        table.rises();
+        trail.rises();
+        show(table, trail);
+        table.rises();
+    }
 }
 
 // The trees of the newest group go back to their places, the newest first, and the group ends.

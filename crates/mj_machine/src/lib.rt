@@ -14,9 +14,11 @@ pub mod calls;
 mod control;
 pub mod format;
 mod machine;
+mod mark;
 pub mod quiet;
 pub mod stack;
 pub mod values;
 
 pub use control::Control;
 pub use machine::{Machine, STEPS_LIMIT, Step};
+pub use mark::{Mark, Return};

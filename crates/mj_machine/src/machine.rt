@@ -3,6 +3,7 @@
 ghost use Rattle.std.specs.Prelude.{◌≤◌};
 
 use crate::control::Control;
+use crate::mark::{Mark, Return};
 use mj_ask::Ask;
 use mj_frames::{Call, Frames, Loop};
 use mj_locals::Locals;
@@ -32,11 +33,19 @@ pub struct Machine {
     // where the frames below go on, the topmost last
     pub calls: Vec<Call>,
     pub devices: Devices,
+    // `$TLEVEL`
+    pub level: u8,
+    // `$TRESTART`
+    pub restarts: u64,
+    // the outermost TSTART, if a transaction is open
+    pub mark: Option<Mark>,
+    // where a restart goes on
+    pub restart: Option<Return>,
     // asks that were replied to
     pub replied: u64,
     // what a MERGE has read and not put yet
     pub held: Nodes,
-    ghost bounded: { (devices.writes ≤ replied) × (replied ≤ 1000000) },
+    ghost bounded: { (devices.writes ≤ replied) × (restarts ≤ replied) × (replied ≤ 1000000) },
 }
 
 /// How a turn goes. It is small, so that a turn that asks nothing moves little.

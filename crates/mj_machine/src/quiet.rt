@@ -63,6 +63,8 @@ fn special_value(alloc: Global, special: Special, machine: &Machine) -> Result<T
         Special::Io => return machine.devices.current(alloc),
         Special::Job => Text::from_number(alloc, machine.job as i64),
         Special::Test => truth_text(alloc, machine.test),
+        Special::TLevel => Text::from_number(alloc, machine.level as i64),
+        Special::TRestart => Text::from_number(alloc, machine.restarts as i64),
         Special::X => Text::from_number(alloc, machine.devices.column() as i64),
         Special::Y => Text::from_number(alloc, machine.devices.row() as i64),
     };

@@ -31,7 +31,7 @@ pub fn put_value(
     requires enough { count ≤ length machine.old.stack.items }
     ensures ok { (r : Result (List ℕ) faults.Fault) → AnswersOrMemory r value → IfOk result (λ done. DidAlone (λ next. told.given r (with_value machine.old pc count next)) machine.old machine.new) }
     ensures err { OnErr result (Stays machine.old machine.new) }
-    ensures same { (machine.new.replied ≡ machine.old.replied) × (machine.new.devices ≡ machine.old.devices) }
+    ensures same { (machine.new.replied ≡ machine.old.replied) × (machine.new.devices ≡ machine.old.devices) × (machine.new.restarts ≡ machine.old.restarts) }
 {
     match value {
         Ok(text) => {

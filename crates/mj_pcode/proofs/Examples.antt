@@ -61,7 +61,7 @@ module _ (u : Unit) (is_line : slice_get u.instrs.items 0 ≡ Some (line 2)) (is
   c = at_unit 0 []
 
   abbrev next : ℕ → Next
-  next n d pc stack m = exec (u ∷ []) n d pc stack
+  next n = exec (u ∷ []) n
 
   -- with n turns
   abbrev run : ℕ → Outcome
@@ -71,7 +71,7 @@ module _ (u : Unit) (is_line : slice_get u.instrs.items 0 ≡ Some (line 2)) (is
   begun = passed (codes "X" ∷ codes "Y" ∷ []) [] (pushed (place_in u 1) 1 false None (opening 1))
 
   abbrev from : ℕ → Stack → ℕ → Outcome
-  from pc stack n = exec (u ∷ []) n c pc stack no_restart begun []
+  from pc stack n = exec (u ∷ []) n c pc stack n no_restart begun []
 
   counted : (v : List ℕ) (stack : Stack) (n : ℕ) → from 0 (v ∷ stack) (suc n) ≡ from 0 stack n
   counted v stack n = ap (λ i. act (u ∷ []) u i (next n) c 0 (v ∷ stack) n no_restart begun []) is_line

@@ -4,3 +4,4 @@ pub mod Context
 pub mod Machine
 pub mod Checked
 pub mod Sound
+pub mod Laws

@@ -51,6 +51,17 @@ pub enum Wait {
     Timed,
 }
 
+/// Which locals a restart of a transaction restores.
+#[derive(Drop)]
+pub enum Restores {
+    /// there is no restart
+    Never,
+    /// the locals of these names
+    Only(Words),
+    /// all
+    All,
+}
+
 /// An instruction. Operands lie on a stack of texts.
 #[derive(Drop)]
 pub enum Instr {
@@ -167,6 +178,18 @@ pub enum Instr {
     New(Words),
     /// all locals but those of these names are saved, and have no value any more
     NewExcept(Words),
+    /// begins a transaction, which is SERIAL or not. Where one is open it gets a level more, and the next instruction is passed over
+    StartTransaction(Restores, bool),
+    /// here a restart of the transaction goes on
+    MarkRestart,
+    /// one level less; at the last one the transaction is committed. The next instruction is passed over, unless it clashed
+    Commit,
+    /// the transaction is rolled back, if it can be restarted
+    GiveBack,
+    /// the transaction begins once more, as all stood there, and goes on where it was marked
+    BeginAgain,
+    /// the transaction is rolled back, and isn't open any more
+    RollBack,
 }
 
 /// A line as it is found: where its instructions begin, its level, and its formals.

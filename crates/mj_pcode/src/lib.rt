@@ -6,14 +6,16 @@
 mod find;
 mod instr;
 mod labels;
+mod laws;
 mod marks;
 mod references;
 mod shape;
 mod words;
 
 pub use find::{Target, find_line};
-pub use instr::{Depth, Head, Instr, LineStart, Reference, Span, Unit, Wait};
+pub use instr::{Depth, Head, Instr, LineStart, Reference, Restores, Span, Unit, Wait};
 pub use labels::Labels;
+pub use laws::{deep_enough, hands_on_at_most};
 pub use marks::Marks;
 pub use references::References;
 pub use shape::Shape;

@@ -8,10 +8,10 @@ use Rattle.mj_text.specs.declared.text.TheConstants.{TEXT_LIMIT}
 use Rattle.mj_ast.specs.declared.sign.Sign.TheVariants.{Colon, Open, Close}
 use Rattle.mj_ast.specs.declared.function.Callee.{Callee}
 use Rattle.mj_ast.specs.declared.function.Special.{Special as SpecialVariable}
-use Rattle.mj_ast.specs.Syntax.{Expr, Command, Set, Write, Halt, Hang, Job, Lock, Kill, Merge, If, Else, For, Forever, Do, Goto, Quit, New, OpenDevice, UseDevice, CloseDevice, Read, Step, Line, Routine}
+use Rattle.mj_ast.specs.Syntax.{Expr, Command, Set, Write, Halt, Hang, Job, Lock, Kill, Merge, If, Else, For, Forever, Do, Goto, Quit, New, OpenDevice, UseDevice, CloseDevice, Read, TStart, TCommit, TRestart, TRollback, Break, Step, Line, Routine}
 use Rattle.mj_ast.specs.Tokens.{Token, Word, Called, Special, Digits, Quoted, Signed, Blank, Comment, Unclosed, Stray, AreDigits, IsWord, IsSpelledBy, Lexeme, IsTokenisation, lexemes, tokens}
 use Rattle.mj_ast.specs.Expressions.{Symbol, Name, Overlong, Constant, Other, symbol, constant_of, function_symbol, special_symbol, callee_of, special_of, expr_symbols, variable_symbols}
-use Rattle.mj_ast.specs.Commands.{Part, Put, Named, Label, PieceCall, Prompt, Text, Place, Control, with_commas, behind_commas, target_parts, guard_parts, wait_parts, actuals_parts, called_parts, started_parts, command_parts, plain_actuals, plain_called, plain_started, plain, plain_step, SpellsPart, SpellsParts, SpellsCondition, SpellsArguments, SpellsStep, gap_of, comment_gap_of, greatest}
+use Rattle.mj_ast.specs.Commands.{Part, Put, Named, Label, SerialWord, PieceCall, Prompt, Text, Place, Control, with_commas, behind_commas, target_parts, guard_parts, wait_parts, actuals_parts, called_parts, started_parts, command_parts, plain_actuals, plain_called, plain_started, plain, plain_step, SpellsPart, SpellsParts, SpellsCondition, SpellsArguments, SpellsStep, gap_of, comment_gap_of, greatest}
 use Rattle.mj_ast.specs.Lines.{SpellsSteps, SpellsLabel, comma_names, name_tokens, SpellsFormals, SpellsWritten, SpellsLine}
 use Rattle.mj_ast.specs.Routines.{IsName, lines_of}
 use Rattle.mj_rou.specs.Words.{Each, IsWorded, IsPartWorded, IsConditionWorded, IsStepWorded, IsLabelled, IsLineWorded, IsRoutineWorded}
@@ -108,6 +108,7 @@ part_worded ks (Put s) h i = tt
 part_worded ks (Named w) h i = record { spelled = (same ks (Word w ∷ []) i.0 h).0; short = i.1 }
 part_worded ks (Label l) h (inl i) = inl (record { spelled = (same ks (Word l ∷ []) i.0 h).0; short = i.1 })
 part_worded ks (Label l) h (inr i) = inr ((same ks (Digits l ∷ []) i.0 h).0, i.1)
+part_worded ks SerialWord h i = tt
 part_worded ks PieceCall h i = tt
 part_worded ks (Prompt value) h i = tt
 part_worded ks (Text level e) h i = spelled ks (expr_symbols e) i.0 h
@@ -216,6 +217,11 @@ plain_worded (OpenDevice list) h = h
 plain_worded (UseDevice list) h = h
 plain_worded (CloseDevice list) h = h
 plain_worded (Read list) h = h
+plain_worded (TStart argument) h = h
+plain_worded TCommit h = h
+plain_worded TRestart h = h
+plain_worded TRollback h = h
+plain_worded Break h = h
 
 plain_steps : (ss : List Step) → Each IsStepWorded ss → Each IsStepWorded (map plain_step ss)
 plain_steps [] h = tt

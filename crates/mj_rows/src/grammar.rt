@@ -134,6 +134,57 @@ fn control_and_expressions_are_as_the_grammar_says(rt: HostRuntime) -> Result<()
 }
 
 #[test]
+fn transactions_are_as_the_grammar_says(rt: HostRuntime) -> Result<(), Fail> {
+    let rows = " TSTART => ok
+ TS  W 1 => ok
+ ts ;c => ok
+ TS:X  W 1 => ok
+ TSTART X W 1 => ok
+ TS:X (A,%B) W 1 => ok
+ TS () => ok
+ TS * => ok
+ TSTART ():SERIAL => ok
+ TS *:(s) W 1 => ok
+ TS X:S => ok
+ TS (A,B):(Serial) ;c => ok
+ TSTART (),() => L2 R:1:11
+ TS A,B => L2 R:1:6
+ TS (A,) => L2 R:1:8
+ TS (,A) => L2 R:1:6
+ TS (A => L2 R:1:7
+ TS (A(1)) => L2 R:1:7
+ TS (*) => L2 R:1:6
+ TS X(1) => L2 R:1:6
+ TS ^X => L2 R:1:5
+ TS 1 => L2 R:1:5
+ TS *: => L2 R:1:7
+ TS *:X => L2 R:1:7
+ TS *:SERIALS => L2 R:1:7
+ TS *:(S => L2 R:1:9
+ TS *:(S:S) => L2 R:1:9
+ TS *:() => L2 R:1:8
+ TS *:S:S => L2 R:1:8
+ TS *:@X => L2 R:1:7
+ TC => ok
+ TCOMMIT:X  TC => ok
+ TCOMMIT X => L2 R:1:10
+ TRE => ok
+ TRESTART:X  W 1 => ok
+ TRESTART 1 => L2 R:1:11
+ TRO => ok
+ TROLLBACK:X ;c => ok
+ TRO 1 => L2 R:1:6
+ B => ok
+ BREAK:X  W 1 => ok
+ BREAK \"x\" => L2 R:1:8
+ W $TL,$tlevel,$TR,$TRESTART => ok
+";
+    let wrong = wrong_rows(rt.alloc(), rows)?;
+    assert_eq!(rt; wrong.as_str(), "");
+    Ok(())
+}
+
+#[test]
 fn each_refusal_is_given(rt: HostRuntime) -> Result<(), Fail> {
     let rows = "A Q~A Q => L3 R:2
  W ABCDEFGHIJKLMNOPQRSTUVWXYZABCDEF => L5 R:1
@@ -190,7 +241,16 @@ fn each_refusal_is_given(rt: HostRuntime) -> Result<(), Fail> {
  XECUTE \"X\" => L7 R:1:2 command
  WRITE $$A => L7 R:1:8 extrinsic
  QUIT 1 => L7 R:1:7 extrinsic
- BREAK => L2 R:1:2
+ TSTART ():T=\"x\" => L7 R:1:12 transaction id
+ TS X:(TRANSACTIONID=X) => L7 R:1:8 transaction id
+ TSTART *:ts => L7 R:1:11 transaction id
+ TSTART :S => L7 R:1:9 bare serial
+ TS :X W 1 => L7 R:1:5 bare serial
+ TSTART (A,@X) => L7 R:1:12 indirection
+ TS @X => L7 R:1:5 indirection
+ TS $H => L7 R:1:5 variable
+ TREST => L7 R:1:2 command
+ BR => L7 R:1:2 command
 ";
     let wrong = wrong_rows(rt.alloc(), rows)?;
     assert_eq!(rt; wrong.as_str(), "");

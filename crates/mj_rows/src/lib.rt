@@ -31,6 +31,8 @@ mod runs;
 #[cfg(test)]
 mod serial;
 #[cfg(test)]
+mod serving;
+#[cfg(test)]
 mod sharing;
 #[cfg(test)]
 mod steps;

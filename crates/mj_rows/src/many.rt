@@ -28,7 +28,7 @@ fn stepped(rt: &HostRuntime, options: &str, routine: &str, steps: &str) -> Resul
 }
 
 // Whether jobs that are stepped so print this, and give this status.
-fn gives(
+pub(crate) fn gives(
     rt: &HostRuntime,
     options: &str,
     routine: &str,

@@ -1,332 +1,128 @@
-// Transactions in what jobs share, by the events of two jobs: each line is an event, as a trace has it. What a job asks is read from it, and the
-// line that the answer makes must be the same.
+// Transactions: TSTART, TCOMMIT, TROLLBACK, TRESTART and BREAK, in one job and among several.
 
-ghost use Rattle.std.specs.Prelude.{◌≡◌, ◌≤◌, [], length};
-ghost use Rattle.mj_dev.specs.Shelves.{principal, left_of};
-ghost use Rattle.mj_jobs.specs.Rows.{rows_limit};
-ghost use Rattle.mj_sys.specs.Opening.{opening_of};
-
-use mj_ask::{Ask, Entry, Kind, Names, Start};
-use mj_dev::{Memory, Pool};
-use mj_globs::Globals;
-use mj_num::Num;
-use mj_store::{Access, Direction};
-use mj_subs::{Name, Sub, Subs};
-use mj_sys::{Claim, Opening, Served, System};
-use mj_text::{Failure, Text};
-use mj_trace::event_line;
-use std::alloc::Global;
-use std::marker::Brand;
+use crate::many::gives;
+use crate::runs::row;
+use std::str;
 use std::test::Fail;
 
 #[test]
-fn the_second_of_two_that_add_to_one_number_clashes(rt: HostRuntime) -> Result<(), Fail> {
-    let lines = [
-        "1 set ^A \"5\" done",
-        "1 begin serial done",
-        "1 value ^A \"5\"",
-        "2 begin serial done",
-        "2 value ^A \"5\"",
-        "1 set ^A \"6\" done",
-        "1 commit done",
-        "2 set ^A \"6\" done",
-        "2 commit clash 1 \"5\" \"6\"",
-        "2 begin serial done",
-        "2 value ^A \"6\"",
-        "2 set ^A \"7\" done",
-        "2 commit done",
-        "1 value ^A \"7\"",
-    ];
-    assert!(rt; tells(&rt, &lines)?);
+fn transactions_of_one_job(rt: HostRuntime) -> Result<(), Fail> {
+    for (bytes, out, status) in [
+        (
+            " SET X=1,^A=1 TSTART  SET X=2,^A=2 TROLLBACK  WRITE X,^A\n",
+            "21",
+            0,
+        ),
+        (
+            " SET X=0\n TSTART (X):SERIAL\n SET X=X+1 IF $TRESTART<2 TRESTART\n TCOMMIT  WRITE X,\" \",$TRESTART\n",
+            "1 0",
+            0,
+        ),
+        (" TS  S ^A=1 W ^A,$TL TC  W $D(^A),$tl\n", "1110", 0),
+        (
+            " SET ^A(1)=1,^A(2)=2 TSTART  KILL ^A(1) WRITE $ORDER(^A(\"\")) TRO  WRITE $ORDER(^A(\"\"))\n",
+            "21",
+            0,
+        ),
+        (
+            " SET X=1,Y=1,W=0 FOR I=1:1:2 TSTART (X) WRITE I_X_Y_W_$TEST_\" \" DO A TCOMMIT\n QUIT\nA NEW Y SET X=5,Y=7,W=W+1 IF 1 FOR  TRE:$TR<1  QUIT\n",
+            "11100 11110 25121 25131 ",
+            0,
+        ),
+        (
+            " TSTART * WRITE $DATA(X) SET X=1 TRESTART:'$TRESTART  TCOMMIT\n",
+            "00",
+            0,
+        ),
+        (
+            " SET X=1,Y=1 TSTART (X) WRITE $TLEVEL,X,Y,\" \" SET X=2 TSTART *:(S) SET Y=2 TRESTART:$TRESTART<1  TCOMMIT  TCOMMIT\n",
+            "111 112 ",
+            0,
+        ),
+        (
+            " TSTART  LOCK +^A LOCK -^A TCOMMIT  LOCK ^A:0 WRITE $TEST\n",
+            "1",
+            0,
+        ),
+        (" SET ^A=1 TSTART  SET ^A=2 HALT\n", "", 0),
+        (" BREAK  WRITE 1 B:0  WRITE 2\n", "12", 0),
+    ] {
+        let ran = row(&rt, "transactions", bytes)?;
+        assert_eq!(rt; str::from_utf8(&ran.out)?, out);
+        assert_eq!(rt; str::from_utf8(&ran.err)?, "");
+        assert_eq!(rt; ran.status, status);
+    }
     Ok(())
 }
 
 #[test]
-fn each_that_reads_what_the_other_writes_sees_one_order(rt: HostRuntime) -> Result<(), Fail> {
-    let lines = [
-        "1 set ^A \"0\" done",
-        "1 set ^B \"0\" done",
-        "1 begin serial done",
-        "1 value ^B \"0\"",
-        "2 begin serial done",
-        "2 value ^A \"0\"",
-        "1 set ^A \"1\" done",
-        "1 commit done",
-        "2 set ^B \"1\" done",
-        "2 commit clash 1 \"0\" \"1\"",
-        "2 begin serial done",
-        "2 value ^A \"1\"",
-        "2 set ^B \"2\" done",
-        "2 commit done",
-        "1 value ^A \"1\"",
-        "1 value ^B \"2\"",
-    ];
-    assert!(rt; tells(&rt, &lines)?);
+fn faults_of_transactions(rt: HostRuntime) -> Result<(), Fail> {
+    for (bytes, out) in [
+        (" TSTART  QUIT\n", "F10 TXQUIT R:1\n"),
+        (" TSTART\n SET X=1\n", "F10 TXQUIT R:2\n"),
+        (
+            " DO A WRITE \"x\"\n QUIT\nA TSTART\n SET X=1\n",
+            "F10 TXQUIT R:4\n",
+        ),
+        (" TCOMMIT\n", "F11 NOTX R:1\n"),
+        (" TROLLBACK\n", "F11 NOTX R:1\n"),
+        (" TRESTART\n", "F11 NOTX R:1\n"),
+        (" TSTART  TCOMMIT  TCOMMIT\n", "F11 NOTX R:1\n"),
+        (" TSTART  TRESTART\n", "F12 NORESTART R:1\n"),
+        (" TSTART  TSTART () TRESTART\n", "F12 NORESTART R:1\n"),
+        (" TSTART  LOCK ^A\n", "F13 INTX R:1\n"),
+        (" TSTART  LOCK\n", "F13 INTX R:1\n"),
+        (" TSTART  JOB A\nA QUIT\n", "F13 INTX R:1\n"),
+        (" TSTART  JOB A(1/0)\nA QUIT\n", "F2 DIVIDE R:1\n"),
+        (
+            " FOR I=1:1:256 TSTART  WRITE:I=255 $TLEVEL\n",
+            "255\nF18 LIMIT R:1\n",
+        ),
+    ] {
+        let ran = row(&rt, "transaction_faults", bytes)?;
+        assert_eq!(rt; str::from_utf8(&ran.out)?, out);
+        assert_eq!(rt; str::from_utf8(&ran.err)?, "");
+        assert_eq!(rt; ran.status, 1);
+    }
     Ok(())
 }
 
+// Both have read before the first commits: the second clashes, and is restarted.
 #[test]
-fn what_comes_where_nothing_was_seen_clashes(rt: HostRuntime) -> Result<(), Fail> {
-    let lines = [
-        "1 begin serial done",
-        "1 order ^Q(\"\") 1 -",
-        "2 set ^Q(1) \"x\" done",
-        "1 commit clash 1 - 1",
-    ];
-    assert!(rt; tells(&rt, &lines)?);
-    let counted = [
-        "1 begin serial done",
-        "1 set ^B \"1\" done",
-        "1 unlock ^B done",
-        "1 data ^Q 0",
-        "2 set ^Q(1) \"x\" done",
-        "1 commit clash 3 0 10",
-    ];
-    assert!(rt; tells(&rt, &counted)?);
+fn serial_transactions_among_jobs(rt: HostRuntime) -> Result<(), Fail> {
+    for (options, routine, steps, out) in [
+        (
+            "--start|^R|--start|^R",
+            " SET N=0 TSTART ():SERIAL SET N=N+1,X=$GET(^A),^A=X+1 TCOMMIT  WRITE ^A,N HALT\n",
+            "1\n1\n1\n2\n2\n2\n1\n1\n1\n1\n1\n1\n1\n2\n2\n2\n2\n2\n2\n2\n2\n2\n2\n2\n",
+            "--- job 1\n11\n--- job 2\n22\n",
+        ),
+        // write skew
+        (
+            "--start|A^R|--start|B^R",
+            "A TSTART ():SERIAL SET X=$GET(^B),^A=X+1 TCOMMIT  HALT\nB TSTART ():SERIAL SET X=$GET(^A),^B=X+1 TCOMMIT  WRITE ^A,^B HALT\n",
+            "1\n1\n1\n2\n2\n2\n1\n1\n1\n1\n2\n2\n2\n2\n2\n2\n2\n2\n2\n2\n2\n2\n",
+            "--- job 1\n--- job 2\n12\n",
+        ),
+        // a phantom
+        (
+            "--start|A^R|--start|B^R",
+            "A SET N=0 TSTART ():SERIAL SET N=N+1,X=$ORDER(^Q(\"\")) TCOMMIT  WRITE N,X HALT\nB SET ^Q(1)=1 HALT\n",
+            "1\n1\n1\n2\n2\n2\n2\n1\n1\n1\n1\n1\n1\n1\n1\n",
+            "--- job 1\n21\n--- job 2\n",
+        ),
+        // in turn, again and again
+        (
+            "--start|^R|--start|^R",
+            " FOR I=1:1:20 TSTART ():SERIAL SET ^C=$GET(^C)+1 TCOMMIT\n WRITE:$JOB=2 ^C\n",
+            "",
+            "--- job 1\n--- job 2\n40\n",
+        ),
+    ] {
+        assert!(rt;
+            gives(&rt, options, routine, steps, out, "", 0)?,
+            "{routine}"
+        );
+    }
     Ok(())
-}
-
-#[test]
-fn changes_are_seen_by_the_job_alone(rt: HostRuntime) -> Result<(), Fail> {
-    let lines = [
-        "2 set ^A(1) \"1\" done",
-        "2 set ^A(2) \"2\" done",
-        "1 begin done",
-        "1 set ^A \"0\" done",
-        "1 data ^A 11",
-        "1 data ^A(1) 1",
-        "1 kill ^A done",
-        "1 order ^A(\"\") 1 -",
-        "1 data ^A 0",
-        "1 value ^A(1) -",
-        "2 set ^A(3) \"3\" done",
-        "1 value ^A(3) -",
-        "1 set ^A(2) \"9\" done",
-        "1 order ^A(\"\") 1 2",
-        "1 data ^A 10",
-        "2 value ^A(2) \"2\"",
-        "1 commit done",
-        "2 value ^A(1) -",
-        "2 value ^A(2) \"9\"",
-        "2 value ^A(3) -",
-        "2 begin done",
-        "2 set ^B(1) \"1\" done",
-        "2 kill ^B(2) done",
-        "1 set ^B(2) \"2\" done",
-        "1 set ^B(3) \"3\" done",
-        "2 order ^B(1) 1 3",
-        "2 data ^B 10",
-        "2 rollback done",
-        "2 order ^B(1) 1 2",
-        "2 commit done",
-    ];
-    assert!(rt; tells(&rt, &lines)?);
-    Ok(())
-}
-
-#[test]
-fn names_are_locked_at_once_and_given_up_at_the_commit(rt: HostRuntime) -> Result<(), Fail> {
-    let lines = [
-        "1 try ^A got",
-        "1 begin done",
-        "1 unlock ^A done",
-        "1 try ^B got",
-        "2 try ^A :0 late",
-        "2 try ^B :0 late",
-        "1 rollback done",
-        "2 try ^A :0 late",
-        "2 try ^B :0 got",
-        "1 begin done",
-        "1 unlock * done",
-        "2 try ^A :0 late",
-        "1 commit done",
-        "2 try ^A :0 got",
-        "1 begin done",
-        "1 try ^C got",
-        "1 halt done",
-        "2 try ^C :0 got",
-    ];
-    assert!(rt; tells(&rt, &lines)?);
-    Ok(())
-}
-
-// Whether what two jobs ask makes these lines.
-fn tells(rt: &HostRuntime, lines: &[&str]) -> Result<bool, Failure> {
-    let alloc = rt.alloc();
-    let name = Text::from_number(alloc, 0);
-    let mut pool = Pool::new(alloc);
-    let mut starts = Vec::new(alloc);
-    for _ in 0..2 {
-        if pool
-            .add(&name, Memory::new(alloc, Vec::new(alloc)))
-            .is_err()
-        {
-            return Err(Failure::Memory);
-        }
-        starts.push(start(alloc)?)?;
-    }
-    if starts.len() != 2 || !pool.fits(2) {
-        return Ok(false);
-    }
-    tell::<Brand>(alloc, pool, starts, lines)
-}
-
-// A start at the first line of R.
-fn start(alloc: Global) -> Result<Start, Failure> {
-    let entry = Entry {
-        label: None,
-        routine: Text::from(alloc, b"R")?,
-    };
-    Ok(Start::new(entry, Vec::new(alloc)))
-}
-
-// The same, from a system that begins so.
-fn tell<O: Opening>(
-    alloc: Global,
-    pool: Pool<Memory>,
-    starts: Vec<Start>,
-    lines: &[&str],
-) -> Result<bool, Failure>
-    requires opening { opening_of [] pool starts.items ≡ O.opening }
-    requires some { 1 ≤ length starts.items }
-    requires few { length starts.items ≤ rows_limit }
-    requires fits { length starts.items ≤ left_of principal pool }
-{
-    let mut system = match System::<Memory, O>::new(alloc, Globals::new(alloc), pool, starts) {
-        Ok(system) => system,
-        Err(back) => {
-            drop(back);
-            return Err(Failure::Memory);
-        }
-    };
-    let told = tell_all(alloc, &mut system, lines);
-    drop(system);
-    told
-}
-
-fn tell_all<O: Opening>(
-    alloc: Global,
-    system: &mut System<Memory, O>,
-    lines: &[&str],
-) -> Result<bool, Failure> {
-    let mut claims = Vec::new(alloc);
-    for _ in 0..2 {
-        if let Some((claim, session)) = system.claim()? {
-            drop(session);
-            claims.push(claim)?;
-        }
-    }
-    for line in lines {
-        if !is_told(alloc, system, &mut claims, line)? {
-            return Ok(false);
-        }
-    }
-    Ok(true)
-}
-
-// Whether what the job of a line asks makes that line.
-fn is_told<O: Opening>(
-    alloc: Global,
-    system: &mut System<Memory, O>,
-    claims: &mut [Claim],
-    line: &str,
-) -> Result<bool, Failure> {
-    let at = if line.starts_with("1") { 0 } else { 1 };
-    let Some(claim) = claims.get_mut(at) else {
-        return Ok(false);
-    };
-    let Some(ask) = ask_of(alloc, line)? else {
-        return Ok(false);
-    };
-    let told = is_spelled(alloc, system, claim, &ask, line);
-    drop(ask);
-    told
-}
-
-fn is_spelled<O: Opening>(
-    alloc: Global,
-    system: &mut System<Memory, O>,
-    claim: &mut Claim,
-    ask: &Ask,
-    line: &str,
-) -> Result<bool, Failure> {
-    if !ask.is_shared() {
-        return Ok(false);
-    }
-    match system.serve(claim, ask, false) {
-        Ok(Served::Reply(reply)) => {
-            let spelled = event_line(alloc, claim.job(), ask, &reply)?;
-            drop(reply);
-            Ok(spelled.as_slice() == line.as_bytes())
-        }
-        Ok(other) => {
-            drop(other);
-            Ok(false)
-        }
-        Err(_) => Ok(false),
-    }
-}
-
-// What the job of a line asks.
-fn ask_of(alloc: Global, line: &str) -> Result<Option<Ask>, Failure> {
-    let mut words: Vec<&str> = Vec::new(alloc);
-    for word in line.split(' ') {
-        words.push(word)?;
-    }
-    Ok(match words.as_slice() {
-        [_, "begin", "serial", ..] => Some(Ask::Begin(Kind::Serial)),
-        [_, "begin", ..] => Some(Ask::Begin(Kind::Plain)),
-        [_, "commit", ..] => Some(Ask::Commit),
-        [_, "rollback", ..] => Some(Ask::Rollback),
-        [_, "halt", ..] => Some(Ask::Halt(None)),
-        [_, "unlock", "*", ..] => Some(Ask::UnlockAll),
-        [_, "unlock", name, ..] => Some(Ask::Unlock(Names::one(alloc, name_of(alloc, name)?)?)),
-        [_, "try", name, ":0", ..] => Some(Ask::Try(
-            Names::one(alloc, name_of(alloc, name)?)?,
-            Some(Num::from_truth(false)),
-        )),
-        [_, "try", name, ..] => Some(Ask::Try(Names::one(alloc, name_of(alloc, name)?)?, None)),
-        [_, what, name, rest @ ..] => access_of(alloc, what, name, rest)?,
-        _ => None,
-    })
-}
-
-// An access.
-fn access_of(alloc: Global, what: &str, name: &str, rest: &[&str]) -> Result<Option<Ask>, Failure> {
-    let name = name_of(alloc, name)?;
-    let access = match (what, rest) {
-        ("value", _) => Access::Value(name),
-        ("data", _) => Access::Data(name),
-        ("order", _) => Access::Order(name, Direction::Forward),
-        ("kill", _) => Access::Kill(name),
-        ("set", [text, ..]) => Access::Set(name, text_of(alloc, text)?),
-        _ => return Ok(None),
-    };
-    Ok(Some(Ask::Access(access)))
-}
-
-// A global of one letter, with a digit or nothing as its subscript, if it has one.
-fn name_of(alloc: Global, name: &str) -> Result<Name, Failure> {
-    let mut subs = Subs::new(alloc);
-    let letter = match name.as_bytes() {
-        [b'^', letter] => *letter,
-        [b'^', letter, b'(', b'"', b'"', b')'] => {
-            subs.push(Sub::from_text(Text::new(alloc)))?;
-            *letter
-        }
-        [b'^', letter, b'(', digit, b')'] => {
-            subs.push(Sub::from_text(Text::from(alloc, &[*digit])?))?;
-            *letter
-        }
-        _ => b'Z',
-    };
-    Ok(Name::global(Text::from(alloc, &[letter])?, subs))
-}
-
-// A text in quotes.
-fn text_of(alloc: Global, text: &str) -> Result<Text, Failure> {
-    match text.as_bytes() {
-        [b'"', inner @ .., b'"'] => Text::from(alloc, inner),
-        _ => Ok(Text::new(alloc)),
-    }
 }

@@ -11,16 +11,17 @@ use Rattle.mj_ask.specs.declared.entry.Entry.{Entry}
 use Rattle.mj_ast.specs.declared.expr.Scope.TheVariants.{Local}
 use Rattle.mj_ast.specs.declared.routine.Mark.{Mark}
 use Rattle.mj_ast.specs.declared.function.NameFunction.{NameFunction}
-use Rattle.mj_ast.specs.Syntax.{Expr, Chain, Tails, Done, Then, Operand, Literal, Value, Intrinsic, Unary, Group, Call, About, Select, Variable, Var, Exprs, No, More as Another, Choices, Last, Before, Destination, Plain, Pieces, Targets, One, Several, Assignment, Killed, Gone, Spared, Merged, Output, Shown, Format, Coded, Called as Calling, Jumped as Jumping, Started as Starting, LockNames, Lone, Together, Locked, Opened, Received, Input, Prompted, Arranged, Into, Range, Single, Endless, UpTo, Command, Set, Write, Halt, Hang, Job, Lock, OpenDevice, UseDevice, CloseDevice, Read, Kill, Merge, If, Else, For, Forever, Do, Goto, Quit, New, Step, Line, Routine}
+use Rattle.mj_ast.specs.Syntax.{Expr, Chain, Tails, Done, Then, Operand, Literal, Value, Intrinsic, Unary, Group, Call, About, Select, Variable, Var, Exprs, No, More as Another, Choices, Last, Before, Destination, Plain, Pieces, Targets, One, Several, Assignment, Killed, Gone, Spared, Merged, Output, Shown, Format, Coded, Called as Calling, Jumped as Jumping, Started as Starting, LockNames, Lone, Together, Locked, Opened, Received, Input, Prompted, Arranged, Into, Range, Single, Endless, UpTo, Command, Set, Write, Halt, Hang, Job, Lock, OpenDevice, UseDevice, CloseDevice, Read, Kill, Merge, If, Else, For, Forever, Do, Goto, Quit, New, Restartable, TStart, TCommit, TRestart, TRollback, Break, Step, Line, Routine}
 use Rattle.mj_semantics.specs.State.{State, principal, level_of, special_value, set_test, spare, passed, popped, pushed, at_place, may_go}
 use Rattle.mj_semantics.specs.Outcome.{Outcome, More, Handler, Timed, no_restart, turn}
 use Rattle.mj_semantics.specs.Lines.{Here, place_at, next_line, line_before, line_at, levels_of, entered, entry_of}
 use Rattle.mj_semantics.specs.Points.{Leave, Ways, Loop, Point, AtLine, Called, Jumped, Pass, Started, Points}
 use Rattle.mj_semantics.specs.Functions.{call_value, optional}
 use Rattle.mj_semantics.specs.Evaluation.{name_of, named_for, ev, ev_tails, ev_operand, ev_choices, ev_name, ev_named, ev_all, ev_actuals, ev_local, when}
-use Rattle.mj_semantics.specs.Commands.{Aim, Whole, Part, mark_byte, quit_frame, ev_destination, ev_destinations, assign_to, assign_all, kill, kill_list, kill_all, merge, merge_all, arrange, output, output_all, ev_timeout, hang_all, start_all, ev_names, ev_lock_names, lock_list, lock_all, open_all, use_all, close_all, receive, input, read_all, ifs, ranges, calls, block, jumps, do_all, if_all, obey, obey_all}
+use Rattle.mj_semantics.specs.Commands.{Aim, Whole, Part, mark_byte, quit_frame, ev_destination, ev_destinations, assign_to, assign_all, kill, kill_list, kill_all, merge, merge_all, arrange, output, output_all, ev_timeout, hang_all, start_all, ev_names, ev_lock_names, lock_list, lock_all, open_all, use_all, close_all, receive, input, read_all, ifs, ranges, calls, block, jumps, do_all, if_all, start_transaction, obey, obey_all}
+use Rattle.mj_semantics.specs.Transactions.{restored_by, listed_by, serial_by}
 use Rattle.mj_semantics.specs.Job.{quit_before, obey_line, call, jump, in_pass, at_point, points_of, Start, start, opening, run, next}
-use Rattle.mj_semantics.proofs.Words.{Stays, spent, same, Back, Keeps, none_back, less, no_turns, turned, a_turn, some_turns, looked, changed, chosen, ended, faulted, is_given, to_its_device, restarts, reads, is_about, stores, puts, puts_all, removes, names_keep, takes_nodes, puts_nodes, news_all, quits_frame, goes_deeper, writes, tabs, writes_code, tests, goes_again, begins, reads_two, hangs, starts_job, unlocks_all, locks, opens, uses, closes, reads_input}
+use Rattle.mj_semantics.proofs.Words.{Stays, spent, same, Back, Keeps, none_back, less, no_turns, turned, a_turn, some_turns, looked, changed, chosen, ended, faulted, is_given, to_its_device, restarts, reads, is_about, stores, puts, puts_all, removes, names_keep, takes_nodes, puts_nodes, news_all, quits_frame, goes_deeper, writes, tabs, writes_code, tests, goes_again, begins, reads_two, hangs, starts_job, unlocks_all, locks, opens, uses, closes, reads_input, begins_transaction, commits, rolls_back, gives_back, begins_again}
 
 data KeepsQuit (more b : ℕ) : Option Timed → Option Timed → Type 0 where
   no_for : KeepsQuit more b None None
@@ -248,6 +249,10 @@ module _ (more b : ℕ) (P Q : Points) (keeps : KeepsPoints more b P Q) (here : 
   quit_keeps no_for l = quits_frame (l [])
   quit_keeps (a_for k) l = k
 
+  starts_transaction : (a : Option Restartable) {f g : Timed} → Keeps more (suc b) f g → Keeps more (suc b) (start_transaction P here a f) (start_transaction Q here a g)
+  starts_transaction a l =
+      names_keep (listed_by a) (a_turn (begins_transaction (restored_by a) (serial_by a) l (turned (keeps.by (started (less l))))))
+
   obeys : (c : Command) (o : Option Expr) (body : List Step) {w v : Ways} {f g : Timed} → KeepsWays more (suc b) w v → Keeps more (suc b) f g
       → Keeps more (suc b) (obey P here c o body w f) (obey Q here c o body v g)
   obeys (Set list) o body w l = where_so o (assigns_all list l) l
@@ -270,6 +275,11 @@ module _ (more b : ℕ) (P Q : Points) (keeps : KeepsPoints more b P Q) (here : 
   obeys (Goto list) o body w l = where_so o (jumps_keep list w.leave l) l
   obeys Quit o body w l = where_so o (a_turn (quit_keeps w.for_quit w.leave)) l
   obeys (New list) o body w l = where_so o (news_all list l) l
+  obeys (TStart a) o body w l = where_so o (starts_transaction a l) l
+  obeys TCommit o body w l = where_so o (a_turn (commits (a_turn begins_again) l)) l
+  obeys TRestart o body w l = where_so o (a_turn (gives_back (a_turn begins_again))) l
+  obeys TRollback o body w l = where_so o (a_turn (rolls_back l)) l
+  obeys Break o body w l = where_so o (a_turn l) l
 
   obeys_all : (steps : List Step) {w v : Ways} → KeepsWays more (suc b) w v → Keeps more (suc b) (obey_all P here steps w) (obey_all Q here steps v)
   obeys_all [] w = w.line_end

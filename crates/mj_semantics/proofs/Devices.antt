@@ -1,12 +1,12 @@
 -- Devices that fail, where writing leads to, and marks, by computing.
-use Rattle.std.specs.Prelude.{◌≡◌, refl, ℕ, true, false, List, [], ◌∷◌, ◌++◌, Some, None, codes}
+use Rattle.std.specs.Prelude.{◌≡◌, refl, ℕ, true, false, List, [], ◌∷◌, ◌++◌, length, Some, None, codes}
 use Rattle.std.specs.Fmt.{digits}
 use Rattle.mj_text.specs.declared.fault.Fault.TheVariants as faults
 use Rattle.mj_ask.specs.declared.ask.Ask.TheVariants as ask
 use Rattle.mj_ask.specs.declared.ask.Reply.TheVariants as reply
 use Rattle.mj_ast.specs.Syntax.{Line}
 use Rattle.mj_semantics.specs.State.{State, OpenDevice, Frame, Mark, principal, untouched, ending_order, wrote, broke, dropped}
-use Rattle.mj_semantics.specs.Outcome.{Outcome, Needs, Ended, More, Handler, no_restart, over, restartable, settled, go_back}
+use Rattle.mj_semantics.specs.Outcome.{Outcome, Needs, Ended, More, Handler, no_restart, over, restartable, go_back}
 use Rattle.mj_semantics.specs.Devices.{close}
 use Rattle.mj_semantics.specs.Commands.{quit_frame}
 use Rattle.mj_semantics.specs.Job.{next, opening}
@@ -116,7 +116,7 @@ abbrev frame : Frame
 frame = record { place = spot 4; level = 1; function = false; test = None; height = 0 }
 
 abbrev mark : List Frame → Mark
-mark frames = record { restored = None; serial = false; locals = []; saved = []; test = false; frames = frames }
+mark frames = record { restored = None; serial = false; locals = []; test = false; height = 0; depth = length frames; place = Some (spot 4) }
 
 abbrev in_transaction : List Frame → List Frame → State
 in_transaction now then = record (opening 1) { frames = now; level = 1; mark = Some (mark then) }
@@ -139,9 +139,6 @@ goes_back = (refl, refl)
 abbrev earlier : Handler
 earlier = λ n s replies. Ended
 
--- a restart behind the end of a transaction comes to nothing, and so does one that leads behind a mark where another is made
-settles : (settled go_back 9 earlier (opening 1) [] ≡ More) × (restartable over (settled go_back) 9 earlier (opening 1) [] ≡ More)
-settles = (refl, refl)
-
-forgets : restartable go_back go_back 9 earlier (opening 1) [] ≡ More
+-- behind it there is no other restart
+forgets : restartable go_back go_back 9 earlier (opening 1) [] ≡ Ended
 forgets = refl

@@ -7,3 +7,4 @@ pub mod Depth
 pub mod Devices
 pub mod Sharing
 pub mod Sessions
+pub mod Transactions

@@ -2,7 +2,7 @@
 -- this.
 use Rattle.std.proofs.Common.{◌≡◌, ℕ, zero, suc, ◌<◌, ◌≤◌, List, [], ◌∷◌, length, Bool, true, false, Option, Some, None, Result, Ok, Err, refl, arith}
 use Rattle.std.proofs.lemmas.Bool.{leb-false}
-use Rattle.std.specs.Prelude.{◌+◌, ℤ, pos, int_lt, ◌+ℤ◌, not, nat_lt, nat_le, if◌then◌else◌}
+use Rattle.std.specs.Prelude.{◌+◌, ℤ, pos, int_lt, ◌+ℤ◌, not, nat_eq, nat_lt, nat_le, if◌then◌else◌}
 use Rattle.mj_text.specs.declared.text.TheConstants.{TEXT_LIMIT}
 use Rattle.mj_text.specs.declared.fault.Fault.{Fault}
 use Rattle.mj_text.specs.declared.fault.Fault.TheVariants.{Undefined, ForIndex}
@@ -25,8 +25,8 @@ use Rattle.mj_ast.specs.declared.routine.ReadMode.{ReadMode}
 use Rattle.mj_ast.specs.declared.function.NameFunction.{NameFunction}
 use Rattle.mj_ast.specs.Syntax.{Renewed, Fresh, Kept}
 use Rattle.mj_strfn.specs.Functions.{assigned_pieces, set_piece_value}
-use Rattle.mj_semantics.specs.State.{State, Only, AllBut, accessed, wrote, broke, counted, hold, column_at, has_failed, principal, devices_limit, ending_order, is_open, may_close, with_device, used, dropped, is_at_mark, newed}
-use Rattle.mj_semantics.specs.Outcome.{Outcome, More, Handler, Timed, turn, turns, look, change, asking, over, no_restart, until, restartable, settled, go_back, halt, ends, end, fault, steps_limit, ask, tell, is_failed, to_device, need, given}
+use Rattle.mj_semantics.specs.State.{State, Words as Listed, Only, AllBut, accessed, wrote, broke, counted, hold, column_at, has_failed, principal, devices_limit, ending_order, is_open, may_close, with_device, used, dropped, is_at_mark, newed, marked, raised, lowered, settled, can_restart, is_serial, restarted}
+use Rattle.mj_semantics.specs.Outcome.{Outcome, More, Handler, Timed, turn, turns, look, change, asking, over, no_restart, until, restartable, go_back, halt, ends, end, fault, steps_limit, ask, tell, is_failed, to_device, need, given}
 use Rattle.mj_semantics.specs.Names.{spelled, asks, question, told}
 use Rattle.mj_semantics.specs.Functions.{needed, optional}
 use Rattle.mj_semantics.specs.Accesses.{answer_told, answered, access, value_told, nodes_told}
@@ -34,6 +34,7 @@ use Rattle.mj_semantics.specs.Evaluation.{read, about}
 use Rattle.mj_semantics.specs.Points.{Loop, Once, Always, By}
 use Rattle.mj_semantics.specs.Sharing.{is_limit, in_time, served, out_of_transaction, hang, start_job, unlock_all, take_names, give_names, lock}
 use Rattle.mj_semantics.specs.Devices.{is_got, has_no_session, obtain, open_device, use_device, close, is_input, input_ask, input_told, read_input}
+use Rattle.mj_semantics.specs.Transactions.{levels_limit, kind_of, begin_transaction, in_transaction, is_clash, commit, roll_back, give_back, begin_again}
 use Rattle.mj_semantics.specs.Commands.{Aim, Whole, Part, store, or_empty, renewed, renew, put, put_all, remove, named, take_nodes, put_these, put_nodes, renewal, new_list, new_all, frames_limit, quit_frame, deeper, write, tab_bytes, tab, coded, write_code, if_test, is_within, stepped, again, first, reading_two}
 
 -- what a run comes to with more turns, beside what it comes to with some: the same, or these were used up
@@ -133,7 +134,12 @@ gone_back = record { by = λ n q lt le up h k e s rs. e.by n q (omega arith) le 
 
 -- no restart, beside none
 pub none_back : {more : ℕ} (n q : ℕ) → Back more n q no_restart no_restart
-none_back n q = record { by = λ m i u v w z s rs. spent }
+none_back {more} n q = record { by = at }
+  where
+    at : (m i : ℕ) → m ≤ n → m ≤ i → i ≤ q → i ≤ m + more → (s : State) (rs : List Reply) → Stays (no_restart i s rs) (no_restart m s rs)
+    at zero i u v w z s rs = spent
+    at (suc m) zero u v w z s rs = absurd (omega arith)
+    at (suc m) (suc i) u v w z s rs = same
 
 pub restarts : {more b : ℕ} {f g f' g' : Timed} → Keeps more b f g → Keeps more b f' g' → Keeps more b (restartable f f') (restartable g g')
 restarts {more} {b} {f} {g} l l' = record { by = λ n q lt le up h k e s rs. l'.by n q lt le up (until n f) (until q g) (backs n q lt) s rs }
@@ -146,9 +152,6 @@ restarts {more} {b} {f} {g} l l' = record { by = λ n q lt le up h k e s rs. l'.
 
     backs : (n q : ℕ) → n < b → Back more n q (until n f) (until q g)
     backs n q lt = record { by = λ m i u v w z s rs. back n q lt m i u v w z s rs (nat_le m n) (nat_le i q) refl refl }
-
-pub is_settled : {more b : ℕ} {f g : Timed} → Keeps more b f g → Keeps more b (settled f) (settled g)
-is_settled l = record { by = λ n q lt le up h k e s rs. l.by n q lt le up no_restart no_restart (none_back n q) s rs }
 
 -- Accesses.
 
@@ -311,3 +314,28 @@ closes name l = looked (λ s.
 pub reads_input : {more b : ℕ} (m : ReadMode) (timeout : Option ℤ) {f g : List ℕ → Timed} → ((v : List ℕ) → Keeps more b (f v) (g v)) → Keeps more b (read_input m timeout f) (read_input m timeout g)
 reads_input m timeout l = looked (λ s.
     to_its_device s.current (input_ask m s.current timeout) (λ r. changed {c = in_time timeout (is_input r)} (l (input_told m r))))
+
+-- Transactions.
+
+pub begins_transaction : {more b : ℕ} (o : Option Listed) (serial : Bool) {f g f' g' : Timed} → Keeps more b f g → Keeps more b f' g'
+    → Keeps more b (begin_transaction o serial f f') (begin_transaction o serial g g')
+begins_transaction o serial l m = looked (λ s.
+    chosen (nat_eq s.level 0) (asked (ask_kinds.Begin (kind_of serial)) (λ r. changed {c = marked o serial} m))
+    (chosen (nat_lt s.level levels_limit) (changed {c = raised} l) faulted))
+
+within : {more b : ℕ} {f g : Timed} → Keeps more b f g → Keeps more b (in_transaction f) (in_transaction g)
+within l = looked (λ s. chosen (nat_eq s.level 0) faulted l)
+
+pub commits : {more b : ℕ} {f g f' g' : Timed} → Keeps more b f g → Keeps more b f' g' → Keeps more b (commit f f') (commit g g')
+commits l m = within (looked (λ s.
+    chosen (nat_lt 1 s.level) (changed {c = lowered} m)
+    (asked ask_kinds.Commit (λ r. chosen (is_clash r) l (changed {c = settled} m)))))
+
+pub rolls_back : {more b : ℕ} {f g : Timed} → Keeps more b f g → Keeps more b (roll_back f) (roll_back g)
+rolls_back l = within (asked ask_kinds.Rollback (λ r. changed {c = settled} l))
+
+pub gives_back : {more b : ℕ} {f g : Timed} → Keeps more b f g → Keeps more b (give_back f) (give_back g)
+gives_back l = within (looked (λ s. chosen (can_restart s) (asked ask_kinds.Rollback (λ r. l)) faulted))
+
+pub begins_again : {more b : ℕ} → Keeps more b begin_again begin_again
+begins_again = looked (λ s. asked (ask_kinds.Begin (kind_of (is_serial s))) (λ r. changed {c = restarted} gone_back))

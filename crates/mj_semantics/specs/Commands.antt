@@ -11,16 +11,17 @@ use Rattle.mj_store.specs.declared.access.Access.TheVariants as accesses
 use Rattle.mj_ask.specs.declared.ask.Ask.TheVariants as asks
 use Rattle.mj_ast.specs.declared.routine.Mark.{Mark}
 use Rattle.mj_ast.specs.declared.routine.Mark.TheVariants.{NewLine, NewPage}
-use Rattle.mj_ast.specs.Syntax.{Expr, Chain, Done, Literal, Destination, Plain, Pieces, Targets, One, Several, Assignment, Killed, Gone, Spared, Merged, Output, Shown, Format, Coded, Called, Jumped, Started, LockNames, Lone, Together, Locked, Opened, Received, Input, Prompted, Arranged, Into, Range, Single, Endless, UpTo, Renewed, Fresh, Kept, Variable, Command, Set, Write, Halt, Hang, Job, Lock, OpenDevice, UseDevice, CloseDevice, Read, Kill, Merge, If, Else, For, Forever, Do, Goto, Quit, New, Step}
+use Rattle.mj_ast.specs.Syntax.{Expr, Chain, Done, Literal, Destination, Plain, Pieces, Targets, One, Several, Assignment, Killed, Gone, Spared, Merged, Output, Shown, Format, Coded, Called, Jumped, Started, LockNames, Lone, Together, Locked, Opened, Received, Input, Prompted, Arranged, Into, Range, Single, Endless, UpTo, Renewed, Fresh, Kept, Variable, Command, Set, Write, Halt, Hang, Job, Lock, OpenDevice, UseDevice, CloseDevice, Read, Kill, Merge, If, Else, For, Forever, Do, Goto, Quit, New, Restartable, TStart, TCommit, TRestart, TRollback, Break, Step}
 use Rattle.mj_strfn.specs.Functions.{place, assigned_pieces, set_piece_value}
 use Rattle.mj_semantics.specs.State.{Only, AllBut, column_at, column_after, wrote, spare, hold, level_of, is_at_mark, set_test, newed, pushed, popped}
 use Rattle.mj_semantics.specs.Outcome.{Timed, turn, look, change, to_device, need, given, end, fault}
 use Rattle.mj_semantics.specs.Lines.{Here, place_at, next_line, entry_of}
-use Rattle.mj_semantics.specs.Points.{Leave, Ways, Loop, Once, Always, By, Points, AtLine, Called as CalledAt, Jumped as JumpedAt, Pass}
+use Rattle.mj_semantics.specs.Points.{Leave, Ways, Loop, Once, Always, By, Points, AtLine, Called as CalledAt, Jumped as JumpedAt, Pass, Started as StartedAt}
 use Rattle.mj_semantics.specs.Accesses.{access, value_told, nodes_told}
 use Rattle.mj_semantics.specs.Functions.{needed, optional}
 use Rattle.mj_semantics.specs.Sharing.{hang, start_job, unlock_all, lock}
 use Rattle.mj_semantics.specs.Devices.{open_device, use_device, close, read_input}
+use Rattle.mj_semantics.specs.Transactions.{restored_by, listed_by, serial_by, begin_transaction, commit, roll_back, give_back, begin_again}
 use Rattle.mj_semantics.specs.Evaluation.{ev, ev_all, ev_name, ev_local, ev_actuals, when}
 
 -- SET (8.2.18).
@@ -374,6 +375,20 @@ module _ (points : Points) (here : Here) where
   if_all [] line_end rest = turn (if_test true line_end rest)
   if_all (e ∷ es) line_end rest = ifs (e ∷ es) line_end rest
 
+  -- TSTART (8.2.22): a list of names takes a turn for each. What stands behind the outermost one is reached again by a restart, so it has a turn
+  -- of its own (this profile)
+  abbrev pub start_transaction : Option Restartable → Timed → Timed
+  start_transaction a rest =
+      named (listed_by a) (turn (begin_transaction (restored_by a) (serial_by a) rest (turn (points (StartedAt rest)))))
+
+  -- TCOMMIT (8.2.19); a clash leads to a restart
+  abbrev pub commit_transaction : Timed → Timed
+  commit_transaction rest = turn (commit (turn begin_again) rest)
+
+  -- TRESTART (8.2.20)
+  abbrev pub restart_transaction : Timed
+  restart_transaction = turn (give_back (turn begin_again))
+
   -- a command with its postcondition, where these are the commands behind it in its line, and then the rest. HALT (8.2.7) has none.
   -- IF, ELSE and FOR have no postcondition
   abbrev pub obey : Command → Option Expr → List Step → Ways → Timed → Timed
@@ -397,6 +412,11 @@ module _ (points : Points) (here : Here) where
   obey (Goto list) c steps ways rest = when points here c (jumps list ways.leave rest) rest
   obey Quit c steps ways rest = when points here c (turn (elim ways.for_quit [ None ↦ quit_frame (ways.leave []) | Some out ↦ out ])) rest
   obey (New list) c steps ways rest = when points here c (new_all list rest) rest
+  obey (TStart a) c steps ways rest = when points here c (start_transaction a rest) rest
+  obey TCommit c steps ways rest = when points here c (commit_transaction rest) rest
+  obey TRestart c steps ways rest = when points here c restart_transaction rest
+  obey TRollback c steps ways rest = when points here c (turn (roll_back rest)) rest
+  obey Break c steps ways rest = when points here c (turn rest) rest
 
   -- commands in order, up to the end of their line
   abbrev pub obey_all : List Step → Ways → Timed

@@ -9,6 +9,7 @@ pub mod Lines
 pub mod Points
 pub mod Sharing
 pub mod Devices
+pub mod Transactions
 pub mod Commands
 pub mod Job
 pub mod Laws

@@ -51,9 +51,10 @@ asking a rest n h s (r ∷ replies) = rest r n h s replies
 abbrev pub over : Timed
 over = turn (λ n h s replies. Ended)
 
--- outside a transaction nothing goes back
+-- outside a transaction nothing goes back, so nothing is left to do
 abbrev pub no_restart : Handler
-no_restart = λ n s replies. More
+no_restart zero = λ s replies. More
+no_restart (suc n) = λ s replies. Ended
 
 -- a restart goes on as said, for no more turns than these; that it does so again is for it to say
 abbrev pub until : ℕ → Timed → Handler
@@ -62,10 +63,6 @@ until n again m = if nat_le m n then again m no_restart else λ s replies. More
 -- the rest behind the outermost TSTART, in which a restart goes on as said. What was said of an earlier transaction is forgotten
 abbrev pub restartable : Timed → Timed → Timed
 restartable again rest n h = rest n (until n again)
-
--- the rest behind the end of a transaction
-abbrev pub settled : Timed → Timed
-settled rest n h = rest n no_restart
 
 -- behind the outermost TSTART again
 abbrev pub go_back : Timed

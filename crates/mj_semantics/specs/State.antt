@@ -7,7 +7,7 @@ use Rattle.mj_num.specs.Number.{canonic_text}
 use Rattle.mj_subs.specs.Name.{Name}
 use Rattle.mj_oper.specs.Operators.{truth_text}
 use Rattle.mj_ast.specs.declared.function.Special.{Special}
-use Rattle.mj_ast.specs.declared.function.Special.TheVariants.{Io, Job, Test, X, Y}
+use Rattle.mj_ast.specs.declared.function.Special.TheVariants.{Io, Job, Test, TLevel, TRestart, X, Y}
 use Rattle.mj_store.specs.Questions.{Content, Subtree}
 use Rattle.mj_store.specs.Changes.{after_set}
 use Rattle.mj_store.specs.Runs.{after_access}
@@ -48,15 +48,17 @@ pub record OpenDevice : Type 0 where
   pub row : ℕ
   pub failed : Bool
 
--- the outermost TSTART (8.2.22): which locals a restart restores, if it can be restarted; whether it is SERIAL; and what stood there:
--- the locals, what NEWs had saved, `$TEST` and the frames
+-- the outermost TSTART (8.2.22): which locals a restart restores, if it can be restarted, and those of them that had a value there, with
+-- it; whether it is SERIAL; and what else stood there: `$TEST`, how many NEWs had saved locals, how many frames there were, and the place of
+-- the innermost one. That frame and those below it stay until the transaction is over
 pub record Mark : Type 0 where
   pub restored : Option Words
   pub serial : Bool
   pub locals : Locals
-  pub saved : List Saved
   pub test : Bool
-  pub frames : List Frame
+  pub height : ℕ
+  pub depth : ℕ
+  pub place : Option Place
 
 -- the job's number, `$JOB`; the locals; what NEWs saved, the newest first; `$TEST`; the frames, the innermost first; the open
 -- devices in order of opening, of which the principal one is the first; the name of the current one, `$IO`; `$TLEVEL`, `$TRESTART`
@@ -103,7 +105,7 @@ level_of s = elim s.frames [ [] ↦ 1 | f ∷ fs ↦ f.level ]
 
 -- whether the frame of the outermost TSTART is the innermost one
 abbrev pub is_at_mark : State → Bool
-is_at_mark s = elim s.mark [ None ↦ false | Some m ↦ length m.frames == length s.frames ]
+is_at_mark s = elim s.mark [ None ↦ false | Some m ↦ m.depth == length s.frames ]
 
 -- an open device by its name
 abbrev pub device_at : List ℕ → List OpenDevice → Option OpenDevice
@@ -141,6 +143,8 @@ abbrev pub special_value : Special → State → List ℕ
 special_value Io s = s.current
 special_value Job s = canonic_text (pos s.job)
 special_value Test s = truth_text s.test
+special_value TLevel s = canonic_text (pos s.level)
+special_value TRestart s = canonic_text (pos s.restarts)
 special_value X s = canonic_text (pos (column_at s.current s))
 special_value Y s = canonic_text (pos (row_at s.current s))
 
@@ -286,3 +290,68 @@ dropped name s = record s {
   devices = filter (λ d. not (bytes_eq d.name name)) s.devices;
   current = if bytes_eq s.current name then principal else s.current;
 }
+
+-- Transactions (8.2.19 to 8.2.22).
+
+-- of these locals, those of some words
+abbrev pub those_of : Option Words → Locals → Locals
+those_of None locals = []
+those_of (Some words) locals = filter (λ e. covers words e.0.word) locals
+
+-- the outermost TSTART was done, and says which locals a restart restores, if it can be restarted, and whether it is SERIAL
+abbrev pub marked : Option Words → Bool → State → State
+marked restored serial s = record s {
+  level = 1;
+  mark = Some (record {
+    restored = restored;
+    serial = serial;
+    locals = those_of restored s.locals;
+    test = s.test;
+    height = length s.saved;
+    depth = length s.frames;
+    place = place_of s;
+  });
+}
+
+-- one more TSTART was done in it, or a TCOMMIT that isn't that of the outermost
+abbrev pub raised : State → State
+raised s = record s { level = s.level + 1 }
+
+abbrev pub lowered : State → State
+lowered s = record s { level = s.level - 1 }
+
+-- the transaction is over
+abbrev pub settled : State → State
+settled s = record s { level = 0; restarts = 0; mark = None }
+
+-- whether the open transaction can be restarted
+abbrev pub can_restart : State → Bool
+can_restart s = elim s.mark [ None ↦ false | Some m ↦ is_some m.restored ]
+
+-- whether the open transaction is SERIAL
+abbrev pub is_serial : State → Bool
+is_serial s = elim s.mark [ None ↦ false | Some m ↦ m.serial ]
+
+-- the locals that a restart restores as they were at the mark, and all others as they are
+abbrev pub restored_at : Mark → Locals → Locals
+restored_at m now = elim m.restored [ None ↦ now | Some words ↦ put_back (record { words = words; locals = m.locals }) now ]
+
+-- the innermost of some frames at a place, if that is one
+abbrev pub standing_at : Option Place → List Frame → List Frame
+standing_at None frames = frames
+standing_at (Some p) frames = elim frames [ [] ↦ [] | f ∷ fs ↦ record f { place = p } ∷ fs ]
+
+-- A restart (8.2.20): what NEWs saved since the mark is put back, the newest first, and the frames since then are gone; `$TEST` is that of the
+-- mark; then the locals that are to be restored are. Devices and `$IO` stay (this profile)
+abbrev pub back_at : Mark → State → State
+back_at m s = record s {
+  locals = restored_at m (undone (take (length s.saved - m.height) s.saved) s.locals);
+  saved = drop (length s.saved - m.height) s.saved;
+  test = m.test;
+  frames = standing_at m.place (drop (length s.frames - m.depth) s.frames);
+  level = 1;
+  restarts = s.restarts + 1;
+}
+
+abbrev pub restarted : State → State
+restarted s = elim s.mark [ None ↦ s | Some m ↦ back_at m s ]

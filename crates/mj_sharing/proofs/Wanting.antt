@@ -1,14 +1,17 @@
 -- What a turn of LOCK or JOB does, by what its operands ask for.
 use Rattle.std.proofs.Common.{◌≡◌, ℕ, zero, ◌<◌, ◌≤◌, suc, ◌+◌, List, [], ◌∷◌, ◌++◌, length, drop, append_assoc, Option, Some, None, Bool, true, false, Result, Ok, Err, refl, sym, ap, ◌∙◌, arith}
-use Rattle.std.specs.Prelude.{ℤ, not}
+use Rattle.std.specs.Prelude.{ℤ, not, nat_lt, if◌then◌else◌}
+use Rattle.std.proofs.lemmas.Bool.{lt-ltb}
 use Rattle.mj_text.specs.declared.fault.Fault.{Fault}
+use Rattle.mj_text.specs.declared.fault.Fault.TheVariants.{InTransaction}
 use Rattle.mj_text.specs.Failing.{then_value}
 use Rattle.mj_num.specs.Number.{reading}
 use Rattle.mj_subs.specs.Name.{Name}
 use Rattle.mj_ask.specs.declared.ask.Ask.TheVariants.{Try, Unlock}
+use Rattle.mj_ask.specs.declared.ask.Reply.{Reply}
 use Rattle.mj_semantics.specs.State.{State}
-use Rattle.mj_semantics.specs.Outcome.{Timed, ask, given}
-use Rattle.mj_semantics.specs.Sharing.{served, in_time, take_names, give_names}
+use Rattle.mj_semantics.specs.Outcome.{Handler, Timed, ask, given, fault}
+use Rattle.mj_semantics.specs.Sharing.{served, in_time, out_of_transaction, take_names, give_names}
 use Rattle.mj_pcode.specs.declared.instr.Reference.{Reference}
 use Rattle.mj_pcode.specs.declared.instr.Wait.{Wait}
 use Rattle.mj_pcode.specs.declared.instr.Wait.TheVariants.{Ever, Timed as Limited}
@@ -60,3 +63,10 @@ pub names_grow : (r : Result (List Name) Fault) (old new : List Name) (x : Name)
     → then_value r (λ xs. Ok (new ++ xs)) ≡ then_value (then_value r (λ xs. Ok (x ∷ xs))) (λ xs. Ok (old ++ xs))
 names_grow (Ok xs) old new x e = ap Ok (ap (λ l. l ++ xs) e ∙ append_assoc old (x ∷ []) xs)
 names_grow (Err f) old new x e = refl
+
+-- In a transaction, and outside one.
+pub in_it : (rest : Timed) (n : ℕ) (back : Handler) (s : State) (replies : List Reply) → 0 < s.level → out_of_transaction rest n back s replies ≡ fault InTransaction n back s replies
+in_it rest n back s replies h = ap (λ b. (if b then fault InTransaction else rest) n back s replies) (lt-ltb 0 s.level h)
+
+pub outside_it : (rest : Timed) (n : ℕ) (back : Handler) (s : State) (replies : List Reply) → s.level ≡ 0 → out_of_transaction rest n back s replies ≡ rest n back s replies
+outside_it rest n back s replies e = ap (λ k. (if nat_lt 0 k then fault InTransaction else rest) n back s replies) e

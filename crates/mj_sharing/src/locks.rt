@@ -17,7 +17,7 @@ use mj_subs::Name;
 use mj_text::Fault;
 use std::alloc::{AllocError, Global};
 
-/// All names that the job holds are given up.
+/// All names that the job holds are given up. In a transaction it is a fault.
 #[inline(never)]
 pub fn unlock_all(
     alloc: Global,
@@ -29,6 +29,9 @@ pub fn unlock_all(
     ensures ok { IfOk result (λ step. Obeys instrs.UnlockAll pc machine.old (replied given.entry) step machine.new) }
     ensures err { OnErr result (Stays machine.old machine.new) }
 {
+    if machine.level > 0 {
+        return Ok(fail(Fault::InTransaction, machine));
+    }
     ask_in_time(alloc, pc, 0, Ask::UnlockAll, None, machine, given)
 }
 

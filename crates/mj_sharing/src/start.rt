@@ -11,9 +11,10 @@ use mj_ask::{Ask, Entry, Reply, Start};
 use mj_machine::quiet::fail;
 use mj_machine::{Machine, Step, stack};
 use mj_pcode::{Shape, Wait};
+use mj_text::Fault;
 use std::alloc::{AllocError, Global};
 
-/// Another job starts at an entry, with the actuals that lie on top, below its timeout.
+/// Another job starts at an entry, with the actuals that lie on top, below its timeout. In a transaction it is a fault.
 #[inline(never)]
 pub fn start_job(
     alloc: Global,
@@ -33,6 +34,9 @@ pub fn start_job(
         Ok(timeout) => timeout,
         Err(fault) => return Ok(fail(fault, machine)),
     };
+    if machine.level > 0 {
+        return Ok(fail(Fault::InTransaction, machine));
+    }
     let above = wait_size(wait);
     let actuals = given_count(shape.as_slice());
     let operands = stack::topmost(stack::under(&machine.stack, above), actuals);

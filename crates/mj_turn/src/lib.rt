@@ -5,7 +5,8 @@
 // changes nothing. Among units that are checked it leads only to where no operand and no FOR is missing (`specs/Sound.antt`).
 //
 // Here is what control does: lines, calls, blocks, jumps, FORs, NEW, the ends of frames, and the turns before a job's first instruction and after its
-// last. What the instructions on data do is in `mj_machine` and `mj_access`, and what those of the world outside do in `mj_sharing` and `mj_talk`.
+// last. What the instructions on data do is in `mj_machine` and `mj_access`, what those of the world outside do in `mj_sharing` and `mj_talk`, and what
+// those of transactions do in `mj_restart`.
 #![tactic(auto)]
 
 mod calling;

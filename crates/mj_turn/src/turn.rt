@@ -6,7 +6,7 @@ ghost use Rattle.mj_machine.specs.Kept.{standing, stack_of, context_of, Acts, St
 ghost use Rattle.mj_turn.specs.Turns.{Turns};
 ghost use Rattle.mj_pcode.specs.Checked.{footing};
 ghost use Rattle.mj_pcode.specs.Sound.{AreChecked};
-ghost use Rattle.mj_turn.specs.Groups.{IsOther, IsOutside};
+ghost use Rattle.mj_turn.specs.Groups.{IsAlike, IsOther, IsOutside};
 ghost use Rattle.mj_turn.specs.Sound.{IsReady, IsSound};
 ghost use Rattle.mj_turn.specs.Units.{AreSmall, IsSmall};
 
@@ -29,6 +29,10 @@ use mj_machine::quiet::{discard, fail, halt, jump, push, spare, special};
 use mj_machine::values::{apply_binary, apply_unary, call, test, write};
 use mj_machine::{Control, Machine, Step};
 use mj_pcode::{Instr, Unit};
+use mj_restart::again::begin_again;
+use mj_restart::ending::{commit, give_back, roll_back};
+use mj_restart::marking::mark_restart;
+use mj_restart::starting::start_transaction;
 use mj_sharing::hang::{hang, number};
 use mj_sharing::locks::{lock, unlock, unlock_all};
 use mj_sharing::start::start_job;
@@ -40,7 +44,7 @@ use mj_talk::using::use_device;
 use mj_text::Fault;
 use std::alloc::{AllocError, Global};
 
-/// An instruction of a unit.
+/// An instruction of a unit, but for one that marks where a restart goes on, or leads there.
 pub fn obey(
     alloc: Global,
     units: &[Unit],
@@ -54,6 +58,7 @@ pub fn obey(
     requires small { IsSmall unit.now }
     requires all { AreSmall units.now }
     requires enough { IsReady instr.now (footing (length (stack_of machine.old)) (length (context_of machine.old).loops)) }
+    requires alike { IsAlike instr.now }
     ensures ok { IfOk result (λ step. Acts units.now unit.now (Some instr.now) pc machine.old (replied given.entry) step machine.new) }
     ensures err { OnErr result (Stays machine.old machine.new) }
 {
@@ -130,7 +135,7 @@ fn obey_control(
     }
 }
 
-// An instruction of the world outside: time, jobs, locks and devices.
+// An instruction of the world outside: time, jobs, locks, devices and transactions.
 fn obey_outside(
     alloc: Global,
     units: &[Unit],
@@ -163,6 +168,12 @@ fn obey_outside(
         Instr::GiveUpFailed => give_up_failed(alloc, machine, given),
         Instr::GiveUp => give_up(alloc, pc, machine, given),
         Instr::Read(mode, wait) => read(alloc, pc, *mode, *wait, machine, given),
+        Instr::StartTransaction(restores, serial) => {
+            start_transaction(alloc, pc, restores, *serial, machine, given)
+        }
+        Instr::Commit => commit(alloc, pc, machine, given),
+        Instr::GiveBack => give_back(alloc, pc, machine, given),
+        Instr::RollBack => roll_back(alloc, pc, machine, given),
         _ => unreachable!(),
     }
 }
@@ -189,7 +200,11 @@ pub fn make_turn(
             None => unreachable!(),
             Some(unit) => match unit.instrs.get(pc) {
                 None => end_unit(unit, machine),
-                Some(instr) => obey(alloc, units, unit, pc, instr, machine, given),
+                Some(instr) => match instr {
+                    Instr::MarkRestart => mark_restart(alloc, pc, machine),
+                    Instr::BeginAgain => begin_again(alloc, machine, given),
+                    _ => obey(alloc, units, unit, pc, instr, machine, given),
+                },
             },
         },
         Control::Faulted(fault) => tell_fault(alloc, fault, machine, given),

@@ -19,7 +19,7 @@ use Rattle.mj_ast.specs.declared.routine.Mark.{Mark as FormatMark}
 use Rattle.mj_ast.specs.declared.expr.Scope.{Scope}
 use Rattle.mj_ast.specs.declared.expr.Scope.TheVariants.{Local, Global}
 use Rattle.mj_ast.specs.declared.function.NameFunction.{NameFunction}
-use Rattle.mj_ast.specs.Syntax.{Expr, Chain, Tails, Done, Then, Operand, Literal, Value, Intrinsic, Unary, Group, Call, About, Select, Variable, Var, Exprs, No, More as Another, Choices, Last, Before, Destination, Plain, Pieces, Targets, One, Several, Assignment, Killed, Gone, Spared, Merged, Layout, Output, Shown, Format, Coded, Opened, Received, Input, Prompted, Arranged, Into, Called as Calling, Jumped as Jumping, Started as Starting, LockNames, Lone, Together, Locked, Range, Single, Endless, UpTo, Command, Set, Write, Halt, Hang, Job, Lock, OpenDevice, UseDevice, CloseDevice, Read, Kill, Merge, If, Else, For, Forever, Do, Goto, Quit, New, Step, Line, Routine}
+use Rattle.mj_ast.specs.Syntax.{Expr, Chain, Tails, Done, Then, Operand, Literal, Value, Intrinsic, Unary, Group, Call, About, Select, Variable, Var, Exprs, No, More as Another, Choices, Last, Before, Destination, Plain, Pieces, Targets, One, Several, Assignment, Killed, Gone, Spared, Merged, Layout, Output, Shown, Format, Coded, Opened, Received, Input, Prompted, Arranged, Into, Called as Calling, Jumped as Jumping, Started as Starting, LockNames, Lone, Together, Locked, Range, Single, Endless, UpTo, Command, Set, Write, Halt, Hang, Job, Lock, OpenDevice, UseDevice, CloseDevice, Read, Kill, Merge, If, Else, For, Forever, Do, Goto, Quit, New, Restartable, TStart, TCommit, TRestart, TRollback, Break, Step, Line, Routine}
 use Rattle.mj_ast.specs.Expressions.{Symbol, Name as NameSymbol, Mark, scoped, expr_symbols, tails_symbols, operand_symbols, variable_symbols, list_symbols, more_symbols, choices_symbols}
 use Rattle.mj_ast.specs.Commands.{Part, Put, Place as PlacePart, Text, with_commas, behind_commas, more_parts, destination_parts, targets_parts, assignment_parts, mark_part, column_parts, layout_parts, output_parts, opened_parts, read_mode_parts, received_parts, input_parts, killed_parts, merged_parts, value_parts, target_parts, guard_parts, wait_parts, actual_parts, actuals_parts, called_parts, jumped_parts, started_parts, mode_parts, variable_parts, lock_names_parts, locked_parts, range_parts, command_parts}
 use Rattle.mj_semantics.specs.State.{State, Locals, Place, principal, level_of, special_value, set_test, spare, passed, popped, pushed, at_place, may_go}
@@ -28,13 +28,14 @@ use Rattle.mj_semantics.specs.Lines.{Here, place_at, next_line, line_before, lin
 use Rattle.mj_semantics.specs.Points.{Leave, Ways, Loop, Once, Always, By, Point, AtLine, Called, Jumped, Pass, Started, Points}
 use Rattle.mj_semantics.specs.Functions.{call_value, optional}
 use Rattle.mj_semantics.specs.Evaluation.{name_of, named_for, ev, ev_tails, ev_operand, ev_choices, ev_name, ev_named, ev_all, ev_actuals, ev_local, when}
-use Rattle.mj_semantics.specs.Commands.{Aim, Whole, Part as PartAim, mark_byte, quit_frame, ev_destination, ev_destinations, assign_to, assign_all, kill, kill_list, kill_all, merge, merge_all, arrange, output, output_all, ev_timeout, hang_all, start_all, ev_names, ev_lock_names, lock_list, lock_all, open_all, use_all, close_all, receive, input, read_all, ifs, ranges, calls, block, jumps, do_all, if_all, obey, obey_all}
+use Rattle.mj_semantics.specs.Commands.{Aim, Whole, Part as PartAim, mark_byte, quit_frame, ev_destination, ev_destinations, assign_to, assign_all, kill, kill_list, kill_all, merge, merge_all, arrange, output, output_all, ev_timeout, hang_all, start_all, ev_names, ev_lock_names, lock_list, lock_all, open_all, use_all, close_all, receive, input, read_all, ifs, ranges, calls, block, jumps, do_all, if_all, start_transaction, obey, obey_all}
+use Rattle.mj_semantics.specs.Transactions.{restored_by, listed_by, serial_by}
 use Rattle.mj_semantics.specs.Job.{quit_before, obey_line, call, jump, in_pass, at_point, points_of, Start, start as starting, opening, next}
 use Rattle.mj_rou.specs.Words.{Each, IsWorded, IsExprWorded, IsVariableWorded, IsPartWorded, IsConditionWorded, IsStepWorded, IsLineWorded, IsRoutineWorded}
 use Rattle.mj_written.specs.Formed.{are_locals}
 use Rattle.mj_written.proofs.Names.{word_is, entry_is, routine_is, IsNamed, named, Suits, suits}
 use Rattle.mj_written.proofs.States.{IsFormed, pops, passes_on, spares}
-use Rattle.mj_written.proofs.Words.{IsFine, Asks, none_back, a_turn, some_turns, looked, changed, chosen, ended, faulted, is_known, is_given, to_its_device, restarts, reads, is_about, stores, IsAimed, puts, puts_all, removes, names_ask, takes_nodes, puts_nodes, news_all, quits_frame, goes_deeper, writes, tabs, writes_code, tests, IsLoop, goes_again, begins, reads_two, hangs, starts_job, unlocks_all, locks, opens_device, uses_device, closes, reads_input}
+use Rattle.mj_written.proofs.Words.{IsFine, Asks, none_back, a_turn, some_turns, looked, changed, chosen, ended, faulted, is_known, is_given, to_its_device, restarts, reads, is_about, stores, IsAimed, puts, puts_all, removes, names_ask, takes_nodes, puts_nodes, news_all, quits_frame, goes_deeper, writes, tabs, writes_code, tests, IsLoop, goes_again, begins, reads_two, hangs, starts_job, unlocks_all, locks, opens_device, uses_device, closes, reads_input, begins_transaction, commits, rolls_back, gives_back, begins_again}
 
 -- ---- lists
 
@@ -318,7 +319,7 @@ module _ (P : Points) (points : ArePoints P) (here : Here) (word : is_word here.
   inputs_all (i ∷ list) h l = inputs i h.0 (inputs_all list h.1 l)
 
   still : (b : Bool) (s : State) → IsFormed s → IsFormed (set_test b s)
-  still b s h = record { locals = h.locals; saved = h.saved; held = h.held }
+  still b s h = record { locals = h.locals; saved = h.saved; mark = h.mark; held = h.held }
 
   ifs_ask : (es : List Expr) {f f' : Timed} → Parted value_parts es → Asks f → Asks f' → Asks (ifs P here es f f')
   ifs_ask [] h l m = m
@@ -354,7 +355,7 @@ module _ (P : Points) (points : ArePoints P) (here : Here) (word : is_word here.
       (calls_ask list h.1 l)
 
   pushes : (p : Place) (level : ℕ) (function : Bool) (test : Option Bool) (s : State) → IsFormed s → IsFormed (pushed p level function test s)
-  pushes p level function test s h = record { locals = h.locals; saved = h.saved; held = h.held }
+  pushes p level function test s h = record { locals = h.locals; saved = h.saved; mark = h.mark; held = h.held }
 
   block_asks : {f : Timed} → Asks f → Asks (block P here f)
   block_asks l =
@@ -374,6 +375,10 @@ module _ (P : Points) (points : ArePoints P) (here : Here) (word : is_word here.
   quit_asks : (o : Option Timed) {l : Leave} → IsQuit o → IsLeave l → Asks (elim o [ None ↦ quit_frame (l []) | Some out ↦ out ])
   quit_asks None h l = quits_frame (l [])
   quit_asks (Some f) h l = h
+
+  starts_transaction : (a : Option Restartable) {f : Timed} → Asks f → Asks (start_transaction P here a f)
+  starts_transaction a {f} l =
+      names_ask (listed_by a) (a_turn (begins_transaction (restored_by a) (serial_by a) l (a_turn (points.by (Started f) l))))
 
   obeys : (c : Command) (o : Option Expr) (body : List Step) {w : Ways} {f : Timed} → IsConditionWorded o → Each IsPartWorded (command_parts c) → Each IsStepWorded body → IsWays w → Asks f
       → Asks (obey P here c o body w f)
@@ -397,6 +402,11 @@ module _ (P : Points) (points : ArePoints P) (here : Here) (word : is_word here.
   obeys (Goto list) o body k h b w l = where_so o k (jumps_ask list (items jumped_parts list h) w.leave l) l
   obeys Quit o body {w = ways} k h b w l = where_so o k (a_turn (quit_asks ways.for_quit w.for_quit w.leave)) l
   obeys (New list) o body k h b w l = where_so o k (news_all list l) l
+  obeys (TStart a) o body k h b w l = where_so o k (starts_transaction a l) l
+  obeys TCommit o body k h b w l = where_so o k (a_turn (commits (a_turn begins_again) l)) l
+  obeys TRestart o body k h b w l = where_so o k (a_turn (gives_back (a_turn begins_again))) l
+  obeys TRollback o body k h b w l = where_so o k (a_turn (rolls_back l)) l
+  obeys Break o body k h b w l = where_so o k (a_turn l) l
 
   obeys_all : (steps : List Step) {w : Ways} → Each IsStepWorded steps → IsWays w → Asks (obey_all P here steps w)
   obeys_all [] h w = w.line_end
@@ -405,7 +415,7 @@ module _ (P : Points) (points : ArePoints P) (here : Here) (word : is_word here.
   -- Lines.
 
   stands : (p : Place) (s : State) → IsFormed s → IsFormed (at_place p s)
-  stands p s h = record { locals = h.locals; saved = h.saved; held = h.held }
+  stands p s h = record { locals = h.locals; saved = h.saved; mark = h.mark; held = h.held }
 
   quits_before : {l : Leave} → IsLeave l → Asks (quit_before here l)
   quits_before l = changed {c = at_place (place_at (line_before here))} (stands (place_at (line_before here))) (quits_frame (l []))
@@ -476,7 +486,7 @@ module _ (image : List Routine) (worded : Each IsRoutineWorded image) (P : Point
       chosen (nat_eq to.1.level 1)
       (chosen (nat_lt (length to.1.formals) (length vs)) faulted
       (goes_deeper (changed {c = λ s. passed to.1.formals vs (pushed (place_at to.0) 1 function (if function then Some s.test else None) s)}
-      (λ s k. passes_on to.1.formals vs (pushed (place_at to.0) 1 function (if function then Some s.test else None) s) (h.line to refl).formals (record { locals = k.locals; saved = k.saved; held = k.held }))
+      (λ s k. passes_on to.1.formals vs (pushed (place_at to.0) 1 function (if function then Some s.test else None) s) (h.line to refl).formals (record { locals = k.locals; saved = k.saved; mark = k.mark; held = k.held }))
       (some_turns (length to.1.formals) (a_turn (points.by (AtLine to.0 m) (h.word to refl, l)))))))
       faulted
 
@@ -506,7 +516,7 @@ starts_ask image job d w h =
     (λ r p. (points_ask image w d).by (Called false job.entry job.values _) (h, λ v. ended)))
 
 opens : (job : ℕ) → IsFormed (opening job)
-opens job = record { locals = refl; saved = tt; held = refl }
+opens job = record { locals = refl; saved = tt; mark = tt; held = refl }
 
 entry_word : (e : Entry) → is_entry e ≡ true → is_word e.routine ≡ true
 entry_word e h = (both_true _ (is_word e.routine) h).1

@@ -8,7 +8,7 @@ use Rattle.mj_store.specs.Questions.{Subtree}
 use Rattle.mj_store.specs.Changes.{after_set}
 use Rattle.mj_ask.specs.Formed.{is_subtree}
 use Rattle.mj_ast.specs.Routines.{IsName}
-use Rattle.mj_semantics.specs.State.{Locals, Words, Only, Saved, Frame, State, covers, put_back, undone, newed, plain_name, bound, passed, popped, spare, hold}
+use Rattle.mj_semantics.specs.State.{Locals, Words, Only, Saved, Frame, Mark, State, covers, put_back, undone, newed, plain_name, bound, passed, popped, spare, hold, those_of, marked, raised, lowered, settled, restored_at, back_at, restarted}
 use Rattle.mj_semantics.specs.Sharing.{in_time}
 use Rattle.mj_rou.specs.Words.{Each}
 use Rattle.mj_written.specs.Formed.{are_locals}
@@ -19,10 +19,16 @@ use Rattle.mj_written.proofs.Names.{word_is, local_is}
 abbrev pub IsSaved : Saved → Type 0
 IsSaved v = are_locals v.locals ≡ true
 
--- the locals are formed, those that were saved, and what a MERGE has in hand
+-- what a mark keeps for a restart is formed
+abbrev pub IsMarked : Option Mark → Type 0
+IsMarked None = Unit {0}
+IsMarked (Some m) = are_locals m.locals ≡ true
+
+-- the locals are formed, those that were saved, those that a restart restores, and what a MERGE has in hand
 pub record IsFormed (s : State) : Type 0 where
   pub locals : are_locals s.locals ≡ true
   pub saved : Each IsSaved s.saved
+  pub mark : IsMarked s.mark
   pub held : is_subtree s.held ≡ true
 
 first_ones : (k : ℕ) (list : List Saved) → Each IsSaved list → Each IsSaved (take k list)
@@ -60,6 +66,7 @@ pops s h = by s.frames
     by (f ∷ fs) = record {
       locals = undoes (take (length s.saved - f.height) s.saved) s.locals (first_ones (length s.saved - f.height) s.saved h.saved) h.locals;
       saved = others (length s.saved - f.height) s.saved h.saved;
+      mark = h.mark;
       held = h.held;
     }
 
@@ -67,6 +74,7 @@ pub news : (words : Words) (s : State) → IsFormed s → IsFormed (newed words 
 news words s h = record {
   locals = some_stay (λ w. not (covers words w)) s.locals h.locals;
   saved = (some_stay (covers words) s.locals h.locals, h.saved);
+  mark = h.mark;
   held = h.held;
 }
 
@@ -81,14 +89,51 @@ binds (x ∷ xs) (Some v ∷ vs) locals n h =
 pub passes_on : (formals : List (List ℕ)) (vs : List (Option (List ℕ))) (s : State) → Each IsName formals → IsFormed s → IsFormed (passed formals vs s)
 passes_on formals vs s n h =
     let k : IsFormed (newed (Only formals) s) = news (Only formals) s h in
-    record { locals = binds formals vs (newed (Only formals) s).locals n k.locals; saved = k.saved; held = k.held }
+    record { locals = binds formals vs (newed (Only formals) s).locals n k.locals; saved = k.saved; mark = k.mark; held = k.held }
 
 pub spares : (words : List (List ℕ)) (s : State) → IsFormed s → IsFormed (spare words s)
-spares words s h = record { locals = some_stay (λ w. list_any (bytes_eq w) words) s.locals h.locals; saved = h.saved; held = h.held }
+spares words s h = record { locals = some_stay (λ w. list_any (bytes_eq w) words) s.locals h.locals; saved = h.saved; mark = h.mark; held = h.held }
 
 pub holds_on : (nodes : Subtree) (s : State) → is_subtree nodes ≡ true → IsFormed s → IsFormed (hold nodes s)
-holds_on nodes s n h = record { locals = h.locals; saved = h.saved; held = n }
+holds_on nodes s n h = record { locals = h.locals; saved = h.saved; mark = h.mark; held = n }
 
 pub times : (timeout : Option ℤ) (b : Bool) (s : State) → IsFormed s → IsFormed (in_time timeout b s)
 times None b s h = h
-times (Some n) b s h = record { locals = h.locals; saved = h.saved; held = h.held }
+times (Some n) b s h = record { locals = h.locals; saved = h.saved; mark = h.mark; held = h.held }
+
+-- Transactions.
+
+keeps_some : (restored : Option Words) (locals : Locals) → are_locals locals ≡ true → are_locals (those_of restored locals) ≡ true
+keeps_some None locals h = refl
+keeps_some (Some words) locals h = some_stay (covers words) locals h
+
+pub marks : (restored : Option Words) (serial : Bool) (s : State) → IsFormed s → IsFormed (marked restored serial s)
+marks restored serial s h = record { locals = h.locals; saved = h.saved; mark = keeps_some restored s.locals h.locals; held = h.held }
+
+pub raises : (s : State) → IsFormed s → IsFormed (raised s)
+raises s h = record { locals = h.locals; saved = h.saved; mark = h.mark; held = h.held }
+
+pub lowers : (s : State) → IsFormed s → IsFormed (lowered s)
+lowers s h = record { locals = h.locals; saved = h.saved; mark = h.mark; held = h.held }
+
+pub settles : (s : State) → IsFormed s → IsFormed (settled s)
+settles s h = record { locals = h.locals; saved = h.saved; mark = tt; held = h.held }
+
+restores : (m : Mark) (now : Locals) → are_locals m.locals ≡ true → are_locals now ≡ true → are_locals (restored_at m now) ≡ true
+restores m now h k = by m.restored
+  where
+    by : (o : Option Words) → are_locals (elim o [ None ↦ now | Some words ↦ put_back (record { words = words; locals = m.locals }) now ]) ≡ true
+    by None = k
+    by (Some words) = back (record { words = words; locals = m.locals }) now h k
+
+pub restarts : (s : State) → IsFormed s → IsFormed (restarted s)
+restarts s h = by s.mark h.mark
+  where
+    by : (o : Option Mark) → IsMarked o → IsFormed (elim o [ None ↦ s | Some m ↦ back_at m s ])
+    by None k = h
+    by (Some m) k = record {
+      locals = restores m (undone (take (length s.saved - m.height) s.saved) s.locals) k (undoes (take (length s.saved - m.height) s.saved) s.locals (first_ones (length s.saved - m.height) s.saved h.saved) h.locals);
+      saved = others (length s.saved - m.height) s.saved h.saved;
+      mark = h.mark;
+      held = h.held;
+    }

@@ -1,11 +1,11 @@
 -- What a run asks can be written: the words that runs are made of keep this.
 use Rattle.std.proofs.Common.{◌≡◌, ℕ, zero, suc, List, [], ◌∷◌, length, Bool, true, false, Option, Some, None, Result, Ok, Err, refl, arith}
-use Rattle.std.specs.Prelude.{ℤ, pos, int_lt, ◌+ℤ◌, not, cond, nat_lt, nat_le, if◌then◌else◌}
+use Rattle.std.specs.Prelude.{ℤ, pos, int_lt, ◌+ℤ◌, not, cond, nat_eq, nat_lt, nat_le, if◌then◌else◌}
 use Rattle.std.specs.List.{list_all}
 use Rattle.std.proofs.lemmas.Bool.{lt-ltb}
 use Rattle.mj_text.specs.declared.text.TheConstants.{TEXT_LIMIT}
 use Rattle.mj_text.specs.declared.fault.Fault.{Fault}
-use Rattle.mj_text.specs.declared.fault.Fault.TheVariants.{Undefined, ForIndex, Steps, QuitInTransaction, Depth, InTransaction, Limit, Device, NoDevice}
+use Rattle.mj_text.specs.declared.fault.Fault.TheVariants.{Undefined, ForIndex, Steps, QuitInTransaction, Depth, NoTransaction, NoRestart, InTransaction, Limit, Device, NoDevice}
 use Rattle.mj_text.specs.Failing.{then_value}
 use Rattle.mj_num.specs.Number.{reading, sum_of, canonic_text}
 use Rattle.mj_subs.specs.Name.{Name, overlaps}
@@ -37,8 +37,8 @@ use Rattle.mj_ast.specs.declared.routine.ReadMode.{ReadMode}
 use Rattle.mj_ast.specs.declared.routine.ReadMode.TheVariants as read_mode
 use Rattle.mj_ast.specs.Syntax.{Renewed, Fresh, Kept}
 use Rattle.mj_strfn.specs.Functions.{assigned_pieces, set_piece_value}
-use Rattle.mj_semantics.specs.State.{State, Only, AllBut, accessed, wrote, broke, counted, hold, has_failed, principal, ending_order, is_at_mark, newed, devices_limit, is_open, may_close, column_at, with_device, used, dropped}
-use Rattle.mj_semantics.specs.Outcome.{Outcome, Needs, Ended, More, Handler, Timed, turn, turns, look, change, asking, over, no_restart, until, restartable, halt, ends, end, fault_bytes, fault, steps_limit, ask, tell, is_failed, to_device, need, given}
+use Rattle.mj_semantics.specs.State.{State, Words as Listed, Only, AllBut, accessed, wrote, broke, counted, hold, has_failed, principal, ending_order, is_at_mark, newed, devices_limit, is_open, may_close, column_at, with_device, used, dropped, marked, raised, lowered, settled, can_restart, is_serial, restarted}
+use Rattle.mj_semantics.specs.Outcome.{Outcome, Needs, Ended, More, Handler, Timed, turn, turns, look, change, asking, over, no_restart, until, restartable, go_back, halt, ends, end, fault_bytes, fault, steps_limit, ask, tell, is_failed, to_device, need, given}
 use Rattle.mj_semantics.specs.Names.{direction_of, spelled, told}
 use Rattle.mj_semantics.specs.Functions.{needed, optional}
 use Rattle.mj_semantics.specs.Accesses.{answer_told, answered, access, value_told, nodes_told}
@@ -46,12 +46,13 @@ use Rattle.mj_semantics.specs.Evaluation.{read, about}
 use Rattle.mj_semantics.specs.Points.{Loop, Once, Always, By}
 use Rattle.mj_semantics.specs.Sharing.{is_limit, in_time, served, out_of_transaction, hang, start_job, unlock_all, take_names, give_names, lock}
 use Rattle.mj_semantics.specs.Commands.{Aim, Whole, Part, store, or_empty, renewed, renew, put, put_all, remove, named, take_nodes, put_these, put_nodes, renewal, new_list, new_all, frames_limit, quit_frame, deeper, write, tab_bytes, tab, coded, write_code, if_test, is_within, stepped, again, first, reading_two}
+use Rattle.mj_semantics.specs.Transactions.{levels_limit, kind_of, begin_transaction, in_transaction, is_clash, commit, roll_back, give_back, begin_again}
 use Rattle.mj_semantics.specs.Devices.{is_got, has_no_session, obtained, obtain, begin_session, open_device, use_device, end_session, give_up, close, is_input, input_ask, input_told, read_input}
 use Rattle.mj_rou.specs.Words.{Each}
 use Rattle.mj_written.specs.Formed.{are_locals}
 use Rattle.mj_written.proofs.Locals.{subtree_fits, set_stays, kill_stays, put_kept}
 use Rattle.mj_written.proofs.Names.{IsNamed, IsSought, name_is, global_is, search_is, local_is, Suits}
-use Rattle.mj_written.proofs.States.{IsFormed, news, holds_on, times}
+use Rattle.mj_written.proofs.States.{IsFormed, news, holds_on, times, marks, raises, lowers, settles, restarts as goes_back}
 
 -- what is asked can be written, and the locals there are formed
 abbrev pub IsFine : Outcome → Type 0
@@ -132,10 +133,10 @@ pub is_given : {A : Type 0} {g : A → Timed} (r : Result A Fault) → ((v : A) 
 is_given r l = is_known r (λ v e. l v)
 
 count_on : (s : State) → IsFormed s → IsFormed (counted s)
-count_on s h = record { locals = h.locals; saved = h.saved; held = h.held }
+count_on s h = record { locals = h.locals; saved = h.saved; mark = h.mark; held = h.held }
 
 breaks : (name : List ℕ) (s : State) → IsFormed s → IsFormed (broke name s)
-breaks name s h = record { locals = h.locals; saved = h.saved; held = h.held }
+breaks name s h = record { locals = h.locals; saved = h.saved; mark = h.mark; held = h.held }
 
 pub asked : (a : Ask) {f : Reply → Timed} → is_ask a ≡ true → ((r : Reply) → is_reply r ≡ true → Asks (f r)) → Asks (ask a f)
 asked a q l = looked (λ s k. chosen (nat_lt s.replied steps_limit) (replied_to a q (λ r p. changed {c = counted} count_on (l r p))) (faulted {f = Steps}))
@@ -147,7 +148,14 @@ to_its_device name a q l = asked a q (λ r p. chosen (is_failed r) (changed {c =
 
 -- no restart
 pub none_back : IsBack no_restart
-none_back = record { by = λ m s rs k t. tt }
+none_back = record { by = at }
+  where
+    at : (m : ℕ) (s : State) (rs : List Reply) → IsFormed s → AreTold rs → IsFine (no_restart m s rs)
+    at zero s rs k t = tt
+    at (suc m) s rs k t = tt
+
+pub gone_back : Asks go_back
+gone_back = record { by = λ n h s rs e k t. e.by n s rs k t }
 
 pub restarts : {f f' : Timed} → Asks f → Asks f' → Asks (restartable f f')
 restarts {f} {f'} l l' = record { by = λ n h s rs e k t. l'.by n (until n f) s rs (back n) k t }
@@ -194,7 +202,7 @@ makes a {f} w l = by (name_of a).global refl
         → Asks (if b then ask (ask_kinds.Access a) (λ r. given (answered (answer_told r)) f) else look (λ s. change (accessed a) (given (answered (answer_of a s.locals)) f)))
     by true e = asked (ask_kinds.Access a) (w.asked e) (λ r p. with_answer (answer_told r) (reply_nodes r p) l)
     by false e =
-        looked (λ s k. changed {c = accessed a} (λ t j. record { locals = w.kept e t.locals j.locals; saved = j.saved; held = j.held })
+        looked (λ s k. changed {c = accessed a} (λ t j. record { locals = w.kept e t.locals j.locals; saved = j.saved; mark = j.mark; held = j.held })
         (with_answer (answer_of a s.locals) (w.nodes s.locals k.locals) l))
 
 value_may : (x : Name) → IsNamed x → IsAllowed (accesses.Value x)
@@ -310,7 +318,7 @@ pub goes_deeper : {f : Timed} → Asks f → Asks (deeper f)
 goes_deeper l = looked (λ s k. chosen (nat_lt (length s.frames) frames_limit) l (faulted {f = Depth}))
 
 write_on : (bytes : List ℕ) (s : State) → IsFormed s → IsFormed (wrote bytes s)
-write_on bytes s h = record { locals = h.locals; saved = h.saved; held = h.held }
+write_on bytes s h = record { locals = h.locals; saved = h.saved; mark = h.mark; held = h.held }
 
 pub writes : (bytes : List ℕ) {f : Timed} → Asks f → Asks (write bytes f)
 writes [] l = l
@@ -395,13 +403,13 @@ tells : (a : Ask) {f : Timed} → is_ask a ≡ true → Asks f → Asks (tell a 
 tells a q l = asked a q (λ r p. l)
 
 opens_one : (name : List ℕ) (s : State) → IsFormed s → IsFormed (with_device name s)
-opens_one name s h = record { locals = h.locals; saved = h.saved; held = h.held }
+opens_one name s h = record { locals = h.locals; saved = h.saved; mark = h.mark; held = h.held }
 
 uses_one : (name : List ℕ) (s : State) → IsFormed s → IsFormed (used name s)
-uses_one name s h = record { locals = h.locals; saved = h.saved; held = h.held }
+uses_one name s h = record { locals = h.locals; saved = h.saved; mark = h.mark; held = h.held }
 
 drops_one : (name : List ℕ) (s : State) → IsFormed s → IsFormed (dropped name s)
-drops_one name s h = record { locals = h.locals; saved = h.saved; held = h.held }
+drops_one name s h = record { locals = h.locals; saved = h.saved; mark = h.mark; held = h.held }
 
 is_obtained : (name : List ℕ) (timeout : Option ℤ) (r : Reply) {f g : Timed} → Asks f → Asks g → Asks (obtained name timeout r f g)
 is_obtained name timeout r l m =
@@ -448,3 +456,29 @@ reads_input m timeout l =
     looked (λ s k.
     to_its_device s.current (input_ask m s.current timeout) (input_is m s.current timeout)
     (λ r p. changed {c = in_time timeout (is_input r)} (times timeout (is_input r)) (l (input_told m r))))
+
+-- Transactions.
+
+pub begins_transaction : (o : Option Listed) (serial : Bool) {f f' : Timed} → Asks f → Asks f' → Asks (begin_transaction o serial f f')
+begins_transaction o serial l m =
+    looked (λ s k.
+    chosen (nat_eq s.level 0) (asked (ask_kinds.Begin (kind_of serial)) refl (λ r p. changed {c = marked o serial} (marks o serial) m))
+    (chosen (nat_lt s.level levels_limit) (changed {c = raised} raises l) (faulted {f = Limit})))
+
+within : {f : Timed} → Asks f → Asks (in_transaction f)
+within l = looked (λ s k. chosen (nat_eq s.level 0) (faulted {f = NoTransaction}) l)
+
+pub commits : {f f' : Timed} → Asks f → Asks f' → Asks (commit f f')
+commits l m =
+    within (looked (λ s k.
+    chosen (nat_lt 1 s.level) (changed {c = lowered} lowers m)
+    (asked ask_kinds.Commit refl (λ r p. chosen (is_clash r) l (changed {c = settled} settles m)))))
+
+pub rolls_back : {f : Timed} → Asks f → Asks (roll_back f)
+rolls_back l = within (asked ask_kinds.Rollback refl (λ r p. changed {c = settled} settles l))
+
+pub gives_back : {f : Timed} → Asks f → Asks (give_back f)
+gives_back l = within (looked (λ s k. chosen (can_restart s) (asked ask_kinds.Rollback refl (λ r p. l)) (faulted {f = NoRestart})))
+
+pub begins_again : Asks begin_again
+begins_again = looked (λ s k. asked (ask_kinds.Begin (kind_of (is_serial s))) refl (λ r p. changed {c = restarted} goes_back gone_back))

@@ -6,7 +6,7 @@ use Rattle.mj_semantics.specs.State.{State, hold}
 use Rattle.mj_locals.specs.Held.{Held}
 use Rattle.mj_semantics.specs.Outcome.{change, fault}
 use Rattle.mj_machine.specs.Standing.{given_first}
-use Rattle.mj_machine.specs.Kept.{context_of, stack_of, state_of, in_locals}
+use Rattle.mj_machine.specs.Kept.{restart_of, context_of, stack_of, state_of, in_locals}
 use Rattle.mj_access.proofs.Altered.{put_too_deep, refused_put}
 use Rattle.mj_access.proofs.merges.put_local.Goals as goal
 
@@ -22,7 +22,7 @@ returns-in-Fault-clause-ok c = λ reply. (
       let kept : c.put.new.self ≡ old.locals = subst P c.in-Err.is c.put.ensures.err in
       let why = refused_put (is_too_deep x old.held) c.in-Err.failure f c.put.result c.in-Err.is c.in-Fault.is c.put.ensures.error in
       let there : Held → State = λ h. in_locals h (state_of old) in
-      put_too_deep x old.held (change (hold []) (next (context_of old) (c.args.pc + 1) (drop c.args.count (stack_of old)))) n (handle None) (state_of old) all c.requires.local why.0
-      ∙ ap (λ q. fault q n (handle None) (state_of old) all) (sym why.1)
-      ∙ ap (λ l. fault f n (handle None) (there l) all) (sym kept),
+      put_too_deep x old.held (change (hold []) (next (context_of old) (c.args.pc + 1) (drop c.args.count (stack_of old)))) n (handle (restart_of old)) (state_of old) all c.requires.local why.0
+      ∙ ap (λ q. fault q n (handle (restart_of old)) (state_of old) all) (sym why.1)
+      ∙ ap (λ l. fault f n (handle (restart_of old)) (there l) all) (sym kept),
 )

@@ -7,7 +7,7 @@ use Rattle.mj_machine.specs.Standing.{given_first}
 use Rattle.mj_semantics.specs.Outcome.{given, fault}
 use Rattle.mj_semantics.specs.Evaluation.{name_of}
 use Rattle.mj_pcode.specs.Machine.{operands}
-use Rattle.mj_machine.specs.Kept.{context_of, stack_of, state_of}
+use Rattle.mj_machine.specs.Kept.{restart_of, context_of, stack_of, state_of}
 use Rattle.mj_machine.proofs.Asks.{does_as, given_is}
 use Rattle.mj_access.proofs.variables.check.Goals as goal
 
@@ -30,4 +30,4 @@ returns-then-is_plain_local-clause-ok c = λ reply all u.
     let plain = c.is_plain_local.ensures.plain c.if-is_plain_local.true in
     let is : name_of r.scope r.word (operands r.count (stack_of old)) ≡ Ok (plain_name r.word) =
     ap (λ (s : Scope). name_of s r.word (operands r.count (stack_of old))) plain.0 ∙ ap (λ (k : ℕ). name_of scopes.Local r.word (operands k (stack_of old))) plain.1 in
-    (tt, λ next n handle replies. given_is (name_of r.scope r.word (operands r.count (stack_of old))) (Ok (plain_name r.word)) (λ x. next (context_of old) (c.args.pc + 1) (stack_of old)) n (handle None) (state_of old) (given_first reply replies) is)
+    (tt, λ next n handle replies. given_is (name_of r.scope r.word (operands r.count (stack_of old))) (Ok (plain_name r.word)) (λ x. next (context_of old) (c.args.pc + 1) (stack_of old)) n (handle (restart_of old)) (state_of old) (given_first reply replies) is)

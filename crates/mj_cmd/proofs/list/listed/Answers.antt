@@ -3,7 +3,7 @@ use Rattle.mj_ast.specs.declared.sign.Sign.TheVariants.{Close}
 use Rattle.mj_ast.specs.Tokens.{Signed}
 use Rattle.mj_ast.specs.Commands.{Part, Put}
 use Rattle.mj_lex.specs.Seen.{tokens_seen}
-use Rattle.mj_line.specs.Forms.{labels}
+use Rattle.mj_line.specs.Forms.{sort_of}
 use Rattle.mj_cmd.specs.Lists.{AreItems}
 use Rattle.mj_cmd.proofs.Follow.{fails_behind, joined, refuses_from, sign_at, went_token}
 use Rattle.mj_cmd.proofs.Lists.{unclosed_stuck}
@@ -19,4 +19,4 @@ returns-in-Some-clause-reads g c = λ q m r b o condition k done.
     joined c.args.phrases.limited (λ ps. AreItems g.T.Item.spells ps c.in_ok-items.items.items) (λ ps. ps ≡ Put Close ∷ []) (λ ps. (qs : List Part) × (ps ≡ qs ++ Put Close ∷ []) × AreItems g.T.Item.spells qs c.in_ok-items.items.items) m c.args.tokens.now (g.T.Item.first_at q) c.in_ok-items.rest.now (g.T.Item.behind_at q) c.in-Some.behind.now (g.T.Enclosed.closed_at (g.T.Item.behind_at q)) o condition k done
     (λ ps qs i j. (ps, ap (λ (zs : List Part). ps ++ zs) j, i))
     (c.in_ok-items.ensures.reads q m r b o condition k done)
-    (λ d. went_token c.args.phrases.limited (Signed Close) (Put Close) m c.in_ok-items.rest.now (g.T.Item.behind_at q) c.in-Some.behind.now (g.T.Enclosed.closed_at (g.T.Item.behind_at q)) o condition k d c.in-Some.ensures.0 (sign_at (labels (g.T.Item.behind_at q)) Close) (g.met.T.Enclosed.close q))
+    (λ d. went_token c.args.phrases.limited (Signed Close) (Put Close) m c.in_ok-items.rest.now (g.T.Item.behind_at q) c.in-Some.behind.now (g.T.Enclosed.closed_at (g.T.Item.behind_at q)) o condition k d c.in-Some.ensures.0 (sign_at (sort_of (g.T.Item.behind_at q)) Close) (g.met.T.Enclosed.close q))

@@ -4,7 +4,7 @@ use Rattle.mj_ast.specs.Tokens.{Signed}
 use Rattle.mj_ast.specs.Commands.{Put, Text, more_parts}
 use Rattle.mj_ast.specs.Trees.{expr_of, exprs_of}
 use Rattle.mj_lex.specs.Seen.{tokens_seen}
-use Rattle.mj_line.specs.Forms.{PieceComma, PieceText, PieceBehind, SetBehind, AnExpr, labels}
+use Rattle.mj_line.specs.Forms.{PieceComma, PieceText, PieceBehind, SetBehind, AnExpr, sort_of}
 use Rattle.mj_line.specs.Machine.{Argument}
 use Rattle.mj_cmd.specs.Parts.{piece_node}
 use Rattle.mj_cmd.proofs.Follow.{sign_at, reads_err, room_for, went_then, went_token, went_text, fails_then, fails_enter, fails_here}
@@ -56,4 +56,4 @@ returns-in-None-behind_close-clause-reads c = λ m r listed o condition k done.
 pub returns-clause-reads : goal.returns-clause-reads
 returns-clause-reads c = λ m r listed o condition k done.
     went_then c.args.phrases.limited (more_parts (exprs_of c.commas.texts.items)) (Put Close ∷ []) m c.args.tokens.now (PieceComma listed) c.commas.rest.now (piece_node listed (length c.commas.texts.items)) c.in-Some-behind_close.behind.now (SetBehind listed) o condition k done (c.commas.invariant.goes m r listed o condition k done)
-    (λ d. went_token c.args.phrases.limited (Signed Close) (Put Close) m c.commas.rest.now (piece_node listed (length c.commas.texts.items)) c.in-Some-behind_close.behind.now (SetBehind listed) o condition k d c.in-Some-behind_close.ensures.0 (sign_at (labels (piece_node listed (length c.commas.texts.items))) Close) (piece_closes listed (length c.commas.texts.items) c.commas.invariant.some.0))
+    (λ d. went_token c.args.phrases.limited (Signed Close) (Put Close) m c.commas.rest.now (piece_node listed (length c.commas.texts.items)) c.in-Some-behind_close.behind.now (SetBehind listed) o condition k d c.in-Some-behind_close.ensures.0 (sign_at (sort_of (piece_node listed (length c.commas.texts.items))) Close) (piece_closes listed (length c.commas.texts.items) c.commas.invariant.some.0))

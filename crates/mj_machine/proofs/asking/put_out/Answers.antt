@@ -1,4 +1,4 @@
-use Rattle.std.proofs.Common.{◌≡◌, ◌+◌, ◌∷◌, ◌≤◌, drop, length, [], ℕ, List, None, true, false, sym, ap, ◌∙◌, arith}
+use Rattle.std.proofs.Common.{◌≡◌, ◌+◌, ◌∷◌, ◌≤◌, drop, length, [], ℕ, List, true, false, sym, ap, ◌∙◌, arith}
 use Rattle.std.specs.Prelude.{option_map}
 use Rattle.std.proofs.lemmas.Result.{IfOk-weaker}
 use Rattle.mj_text.specs.declared.fault.Fault.TheVariants.{Steps, Device}
@@ -9,7 +9,7 @@ use Rattle.mj_semantics.specs.Commands.{write}
 use Rattle.mj_pcode.specs.Machine.{Next}
 use Rattle.mj_open.specs.Opened.{Opened, after_write}
 use Rattle.mj_machine.specs.Standing.{given_first}
-use Rattle.mj_machine.specs.Kept.{context_of, stack_of, state_of, replied, without}
+use Rattle.mj_machine.specs.Kept.{context_of, stack_of, state_of, restart_of, replied, without}
 use Rattle.mj_machine.proofs.Asks.{does_as, waits, no_more, one_more, written_by, device_told, device_tells}
 use Rattle.mj_machine.proofs.asking.put_out.Goals as goal
 
@@ -49,10 +49,10 @@ returns-then-is_failed-clause-ok c =
     let rest : Next → Timed = without old c.args.pc c.args.count in (
       tt,
       λ next n handle replies.
-          let goes : Opened → Outcome = λ o. fault Device n (handle None) (record (counted (state_of old)) { devices = o.devices; current = o.current }) replies in
-          ap (λ g. write t (rest next) n (handle None) (state_of old) (given_first (replied g) replies)) c.in-Some.is
-          ∙ written_by t (rest next) n (handle None) (state_of old) (r ∷ replies) some short
-          ∙ device_tells old.devices.current (DeviceWrite old.devices.current t) (change (wrote t) (rest next)) n (handle None) (state_of old) r true replies c.if-machine-ge-STEPS_LIMIT.false (sym c.is_failed.ensures ∙ c.if-is_failed.true)
+          let goes : Opened → Outcome = λ o. fault Device n (handle (restart_of old)) (record (counted (state_of old)) { devices = o.devices; current = o.current }) replies in
+          ap (λ g. write t (rest next) n (handle (restart_of old)) (state_of old) (given_first (replied g) replies)) c.in-Some.is
+          ∙ written_by t (rest next) n (handle (restart_of old)) (state_of old) (r ∷ replies) some short
+          ∙ device_tells old.devices.current (DeviceWrite old.devices.current t) (change (wrote t) (rest next)) n (handle (restart_of old)) (state_of old) r true replies c.if-machine-ge-STEPS_LIMIT.false (sym c.is_failed.ensures ∙ c.if-is_failed.true)
           ∙ ap goes (sym c.fail_current.ensures),
     )
 
@@ -68,10 +68,10 @@ returns-else-is_failed-clause-ok c =
       tt,
       λ next n handle replies.
           let goes : Opened → List (List ℕ) → Outcome = λ o l.
-          next (context_of old) (c.args.pc + 1) l n (handle None) (record (counted (state_of old)) { devices = o.devices; current = o.current }) replies in
-          ap (λ g. write t (rest next) n (handle None) (state_of old) (given_first (replied g) replies)) c.in-Some.is
-          ∙ written_by t (rest next) n (handle None) (state_of old) (r ∷ replies) some short
-          ∙ device_tells old.devices.current (DeviceWrite old.devices.current t) (change (wrote t) (rest next)) n (handle None) (state_of old) r false replies c.if-machine-ge-STEPS_LIMIT.false (sym c.is_failed.ensures ∙ c.if-is_failed.false)
+          next (context_of old) (c.args.pc + 1) l n (handle (restart_of old)) (record (counted (state_of old)) { devices = o.devices; current = o.current }) replies in
+          ap (λ g. write t (rest next) n (handle (restart_of old)) (state_of old) (given_first (replied g) replies)) c.in-Some.is
+          ∙ written_by t (rest next) n (handle (restart_of old)) (state_of old) (r ∷ replies) some short
+          ∙ device_tells old.devices.current (DeviceWrite old.devices.current t) (change (wrote t) (rest next)) n (handle (restart_of old)) (state_of old) r false replies c.if-machine-ge-STEPS_LIMIT.false (sym c.is_failed.ensures ∙ c.if-is_failed.false)
           ∙ ap (λ o. goes o (drop c.args.count (stack_of old))) (sym devices)
           ∙ ap (goes c.write.new.self) (sym c.take_off-in-Some.ensures),
     )

@@ -5,7 +5,7 @@ use Rattle.mj_semantics.specs.State.{counted, with_device}
 use Rattle.mj_semantics.specs.Outcome.{Timed, change, fault}
 use Rattle.mj_semantics.specs.Sharing.{in_time}
 use Rattle.mj_semantics.specs.Devices.{is_got}
-use Rattle.mj_machine.specs.Kept.{state_of}
+use Rattle.mj_machine.specs.Kept.{restart_of, state_of}
 use Rattle.mj_talk.specs.Talked.{past, begun, named_under}
 use Rattle.mj_talk.proofs.opening.take_opened.Goals as goal
 
@@ -21,7 +21,7 @@ returns-then-has_no_session-clause-ok c = (
         let late : Timed = past old c.args.pc c.args.above next in
         let got : Timed = begun old c.args.pc c.args.above next in
         let other : Timed = if is_got r then change (in_time c.args.timeout true) (change (with_device name) got) else change (in_time c.args.timeout false) late in
-        ap (λ b. (if b then fault NoDevice else other) n (handle None) (counted (state_of old)) replies) (sym c.has_no_session.ensures ∙ c.if-has_no_session.true),
+        ap (λ b. (if b then fault NoDevice else other) n (handle (restart_of old)) (counted (state_of old)) replies) (sym c.has_no_session.ensures ∙ c.if-has_no_session.true),
   ),
 )
 
@@ -39,8 +39,8 @@ returns-then-not-is_got-clause-ok c = (
         let opened : Timed = change (in_time c.args.timeout true) (change (with_device name) got) in
         let missed : Timed = change (in_time c.args.timeout false) late in
         let other : Timed = if is_got r then opened else missed in
-        ap (λ b. (if b then fault NoDevice else other) n (handle None) (counted (state_of old)) replies) (sym c.has_no_session.ensures ∙ c.if-has_no_session.false)
-        ∙ ap (λ b. (if b then opened else missed) n (handle None) (counted (state_of old)) replies) (sym c.if-not-is_got.ensures)
+        ap (λ b. (if b then fault NoDevice else other) n (handle (restart_of old)) (counted (state_of old)) replies) (sym c.has_no_session.ensures ∙ c.if-has_no_session.false)
+        ∙ ap (λ b. (if b then opened else missed) n (handle (restart_of old)) (counted (state_of old)) replies) (sym c.if-not-is_got.ensures)
         ∙ (c.go_past.ensures None).1 next n handle replies,
   ),
 )

@@ -12,7 +12,7 @@ use Rattle.mj_turn.specs.Starts.{start_of}
 use Rattle.mj_machine.specs.Standing as standings
 use Rattle.mj_machine.specs.Standing.{Standing}
 use Rattle.mj_machine.specs.declared.machine.Step.TheVariants as steps
-use Rattle.mj_machine.specs.Kept.{standing, state_of, replied}
+use Rattle.mj_machine.specs.Kept.{restart_of, standing, state_of, replied}
 use Rattle.mj_machine.proofs.Asks.{does_as, waits, takes, no_more, one_more, device_told, device_tells}
 use Rattle.mj_turn.proofs.calling.begin.Goals as goal
 
@@ -45,9 +45,9 @@ returns-then-is_failed-clause-ok c =
     let rest : Next → Timed = λ next. calls false (found c.args.units.now start.entry) start.values [] next in (
       tt,
       λ next n handle replies.
-          ap (λ g. standings.begin start c.args.units.now next n (handle None) (state_of old) (standings.given_first (replied g) replies)) c.in-Some.is
-          ∙ device_tells principal (DeviceBegin principal) (rest next) n (handle None) (state_of old) r true replies c.if-machine-ge-STEPS_LIMIT.false (sym c.is_failed.ensures ∙ c.if-is_failed.true)
-          ∙ ap (λ (o : Opened). fault Device n (handle None) (record (counted (state_of old)) { devices = o.devices; current = o.current }) replies) (sym c.fail_principal.ensures),
+          ap (λ g. standings.begin start c.args.units.now next n (handle (restart_of old)) (state_of old) (standings.given_first (replied g) replies)) c.in-Some.is
+          ∙ device_tells principal (DeviceBegin principal) (rest next) n (handle (restart_of old)) (state_of old) r true replies c.if-machine-ge-STEPS_LIMIT.false (sym c.is_failed.ensures ∙ c.if-is_failed.true)
+          ∙ ap (λ (o : Opened). fault Device n (handle (restart_of old)) (record (counted (state_of old)) { devices = o.devices; current = o.current }) replies) (sym c.fail_principal.ensures),
     )
 
 pub returns-in-Err-clause-err : goal.returns-in-Err-clause-err

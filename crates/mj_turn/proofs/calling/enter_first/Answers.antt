@@ -10,7 +10,7 @@ use Rattle.mj_frames.specs.declared.loops.Loop as kept_loop
 use Rattle.mj_machine.specs.Contexts.{loops_of, calls_of}
 use Rattle.mj_turn.specs.Enters.{found_of, found_at, entered, opened_at}
 use Rattle.mj_machine.specs.Standing.{Standing, given_first}
-use Rattle.mj_machine.specs.Kept.{state_of}
+use Rattle.mj_machine.specs.Kept.{restart_of, state_of}
 use Rattle.mj_turn.proofs.Opened.{opens, called}
 use Rattle.mj_turn.proofs.calling.enter_first.Goals as goal
 
@@ -26,8 +26,8 @@ returns-in-Err-clause-ok c = λ reply. (
       ∙ ap (λ k. entered (found_at c.find_line-to.result) k (length (state_of old).frames)) (let many : length vs ≡ c.len.result = omega (arith, c.len.ensures, c.args.start.now.values.ok.0) in many)
       ∙ ap (entered (found_at c.find_line-to.result) c.len.result) (sym c.len-2.ensures)
       ∙ c.in-Err.ensures.err in
-      called vs [] next to n (handle None) (state_of old) (given_first reply replies)
-      ∙ ap (λ r. given r (opens vs [] next) n (handle None) (state_of old) (given_first reply replies)) e,
+      called vs [] next to n (handle (restart_of old)) (state_of old) (given_first reply replies)
+      ∙ ap (λ r. given r (opens vs [] next) n (handle (restart_of old)) (state_of old) (given_first reply replies)) e,
 )
 
 pub returns-clause-ok : goal.returns-clause-ok
@@ -45,11 +45,11 @@ returns-clause-ok c = λ reply. (
       ∙ ap (entered (found_at c.find_line-to.result) c.len.result) (sym c.len-2.ensures)
       ∙ c.in-Ok.ensures.ok.0 in
       let tallied : Stack = tallies (length f.head.formals) in
-      let goes : State → Outcome = λ s. next (at_unit f.at []) f.head.start tallied n (handle None) s rs in
+      let goes : State → Outcome = λ s. next (at_unit f.at []) f.head.start tallied n (handle (restart_of old)) s rs in
       let there : List kept_loop.Loop → List kept.Call → Stack → Outcome = λ ls ks st.
-      next (record { unit = f.at; loops = loops_of ls; calls = calls_of ks }) f.head.start st n (handle None) (state_of c.open_frame.new.machine) rs in
-      called vs [] next to n (handle None) (state_of old) rs
-      ∙ ap (λ r. given r (opens vs [] next) n (handle None) (state_of old) rs) e
+      next (record { unit = f.at; loops = loops_of ls; calls = calls_of ks }) f.head.start st n (handle (restart_of old)) (state_of c.open_frame.new.machine) rs in
+      called vs [] next to n (handle (restart_of old)) (state_of old) rs
+      ∙ ap (λ r. given r (opens vs [] next) n (handle (restart_of old)) (state_of old) rs) e
       ∙ ap (λ l. goes (opened_at f l (state_of old))) (sym (c.in_ok-values.ensures ∙ c.deref.ensures.value))
       ∙ ap (λ (st : Standing). goes st.state) (sym (c.in_ok-open_frame.ensures.ok reply))
       ∙ ap (λ ls. there ls [] tallied) (sym c.clear.ensures.items)

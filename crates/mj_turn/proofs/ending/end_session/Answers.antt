@@ -3,7 +3,7 @@ use Rattle.std.specs.Prelude.{option_map}
 use Rattle.std.proofs.lemmas.Result.{IfOk-weaker}
 use Rattle.mj_ask.specs.declared.ask.Ask.TheVariants.{DeviceEnd}
 use Rattle.mj_machine.specs.Standing.{given_first}
-use Rattle.mj_machine.specs.Kept.{state_of, replied}
+use Rattle.mj_machine.specs.Kept.{restart_of, state_of, replied}
 use Rattle.mj_machine.proofs.Asks.{waits}
 use Rattle.mj_turn.specs.Faults.{closing_one}
 use Rattle.mj_turn.proofs.ending.end_session.Goals as goal
@@ -16,4 +16,4 @@ returns-in-None-clause-ok c =
 
 pub returns-in-Some-clause-ok : goal.returns-in-Some-clause-ok
 returns-in-Some-clause-ok c =
-    (tt, λ next n handle replies. ap (λ g. closing_one c.args.done c.args.device c.args.fault n (handle None) (state_of c.args.machine.now) (given_first (replied g) replies)) c.in-Some.is)
+    (tt, λ next n handle replies. ap (λ g. closing_one c.args.done c.args.device c.args.fault n (handle (restart_of c.args.machine.now)) (state_of c.args.machine.now) (given_first (replied g) replies)) c.in-Some.is)

@@ -3,7 +3,7 @@ use Rattle.std.specs.Prelude.{option_map}
 use Rattle.std.proofs.lemmas.Result.{IfOk-weaker}
 use Rattle.mj_ask.specs.declared.ask.Ask.TheVariants.{Halt}
 use Rattle.mj_machine.specs.Standing.{given_first}
-use Rattle.mj_machine.specs.Kept.{state_of, replied}
+use Rattle.mj_machine.specs.Kept.{restart_of, state_of, replied}
 use Rattle.mj_machine.proofs.Asks.{waits}
 use Rattle.mj_turn.specs.Faults.{halting}
 use Rattle.mj_turn.proofs.ending.finish.Goals as goal
@@ -16,4 +16,4 @@ returns-in-None-clause-ok c =
     c.wait.ensures
 
 pub returns-in-Some-clause-ok : goal.returns-in-Some-clause-ok
-returns-in-Some-clause-ok c = (tt, λ next n handle replies. ap (λ g. halting c.args.fault n (handle None) (state_of c.args.machine.now) (given_first (replied g) replies)) c.in-Some.is)
+returns-in-Some-clause-ok c = (tt, λ next n handle replies. ap (λ g. halting c.args.fault n (handle (restart_of c.args.machine.now)) (state_of c.args.machine.now) (given_first (replied g) replies)) c.in-Some.is)

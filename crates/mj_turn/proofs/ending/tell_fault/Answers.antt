@@ -5,7 +5,7 @@ use Rattle.mj_ask.specs.declared.ask.Ask.TheVariants.{DeviceWrite}
 use Rattle.mj_semantics.specs.State.{principal, places}
 use Rattle.mj_semantics.specs.Outcome.{Needs, asking, end, fault_bytes}
 use Rattle.mj_machine.specs.Standing.{given_first}
-use Rattle.mj_machine.specs.Kept.{state_of, replied}
+use Rattle.mj_machine.specs.Kept.{restart_of, state_of, replied}
 use Rattle.mj_machine.proofs.Asks.{waits}
 use Rattle.mj_turn.specs.Faults.{telling}
 use Rattle.mj_turn.proofs.ending.tell_fault.Goals as goal
@@ -30,8 +30,8 @@ returns-in-Some-clause-ok c = (
       let old = c.args.machine.now in
       let f = c.args.fault in
       let line = asking (DeviceWrite principal (fault_bytes f (state_of old))) (λ r. end (Some f)) in
-      ap (λ g. telling f n (handle None) (state_of old) (given_first (replied g) replies)) c.in-Some.is
-      ∙ ap (λ b. (if b then end (Some f) else line) n (handle None) (state_of old) (given_first (replied (Some c.in-Some.field-0)) replies)) (sym c.principal_failed.ensures ∙ c.if-principal_failed.false),
+      ap (λ g. telling f n (handle (restart_of old)) (state_of old) (given_first (replied g) replies)) c.in-Some.is
+      ∙ ap (λ b. (if b then end (Some f) else line) n (handle (restart_of old)) (state_of old) (given_first (replied (Some c.in-Some.field-0)) replies)) (sym c.principal_failed.ensures ∙ c.if-principal_failed.false),
 )
 
 pub returns-then-principal_failed-clause-ok : goal.returns-then-principal_failed-clause-ok
@@ -41,5 +41,5 @@ returns-then-principal_failed-clause-ok c = (
       let old = c.args.machine.now in
       let f = c.args.fault in
       let line = asking (DeviceWrite principal (fault_bytes f (state_of old))) (λ r. end (Some f)) in
-      ap (λ b. (if b then end (Some f) else line) n (handle None) (state_of old) (given_first (replied c.args.given) replies)) (sym c.principal_failed.ensures ∙ c.if-principal_failed.true),
+      ap (λ b. (if b then end (Some f) else line) n (handle (restart_of old)) (state_of old) (given_first (replied c.args.given) replies)) (sym c.principal_failed.ensures ∙ c.if-principal_failed.true),
 )

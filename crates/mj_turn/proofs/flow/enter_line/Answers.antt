@@ -6,7 +6,7 @@ use Rattle.mj_semantics.specs.State.{State, Frame, level_of, at_place}
 use Rattle.mj_semantics.specs.Outcome.{change}
 use Rattle.mj_pcode.specs.Machine.{below, comes_to, quits, place_in}
 use Rattle.mj_machine.specs.Standing.{given_first}
-use Rattle.mj_machine.specs.Kept.{context_of, stack_of, state_of}
+use Rattle.mj_machine.specs.Kept.{restart_of, context_of, stack_of, state_of}
 use Rattle.mj_machine.proofs.Asks.{does_as}
 use Rattle.mj_turn.proofs.Going.{comes_tallied, comes_bare, entered_less, entered_deeper, entered_level}
 use Rattle.mj_turn.proofs.flow.enter_line.Goals as goal
@@ -44,8 +44,8 @@ returns-then-level-line-clause-ok c = λ all reply.
     let less : level_of (state_of old) < c.args.line.level = omega (arith, c.if-level-line.true, c.level-level.ensures.value) in (
       tt,
       λ next n handle replies.
-          ap (λ t. t n (handle None) (state_of old) (given_first reply replies)) (comes_bare c.args.unit.now c.args.line next (context_of old) c.args.pc (stack_of old) none)
-          ∙ entered_deeper c.args.unit.now c.args.line next (context_of old) c.args.pc (stack_of old) n (handle None) (state_of old) (given_first reply replies) least less,
+          ap (λ t. t n (handle (restart_of old)) (state_of old) (given_first reply replies)) (comes_bare c.args.unit.now c.args.line next (context_of old) c.args.pc (stack_of old) none)
+          ∙ entered_deeper c.args.unit.now c.args.line next (context_of old) c.args.pc (stack_of old) n (handle (restart_of old)) (state_of old) (given_first reply replies) least less,
     )
 
 pub returns-clause-ok : goal.returns-clause-ok
@@ -58,7 +58,7 @@ returns-clause-ok c = λ all reply.
     let most : c.args.line.level ≤ level_of s = omega (arith, c.if-level-line.false, c.level-level.ensures.value) in (
       tt,
       λ next n handle replies.
-          ap (λ t. t n (handle None) s (given_first reply replies)) (comes_bare c.args.unit.now c.args.line next (context_of old) c.args.pc (stack_of old) none)
-          ∙ entered_level c.args.unit.now c.args.line next (context_of old) c.args.pc (stack_of old) n (handle None) s (given_first reply replies) least most
-          ∙ ap (λ l. next (context_of old) (c.args.pc + 1) (stack_of old) n (handle None) (with l) (given_first reply replies)) (sym c.in_ok-enter.ensures.ok),
+          ap (λ t. t n (handle (restart_of old)) s (given_first reply replies)) (comes_bare c.args.unit.now c.args.line next (context_of old) c.args.pc (stack_of old) none)
+          ∙ entered_level c.args.unit.now c.args.line next (context_of old) c.args.pc (stack_of old) n (handle (restart_of old)) s (given_first reply replies) least most
+          ∙ ap (λ l. next (context_of old) (c.args.pc + 1) (stack_of old) n (handle (restart_of old)) (with l) (given_first reply replies)) (sym c.in_ok-enter.ensures.ok),
     )

@@ -7,7 +7,7 @@ use Rattle.mj_pcode.specs.Context.{Loop}
 use Rattle.mj_pcode.specs.Machine as machines
 use Rattle.mj_machine.specs.Contexts.{loop_of, loops_of}
 use Rattle.mj_turn.specs.Loops.{innermost}
-use Rattle.mj_machine.specs.Kept.{state_of, context_of, stack_of, in_locals}
+use Rattle.mj_machine.specs.Kept.{restart_of, state_of, context_of, stack_of, in_locals}
 use Rattle.mj_machine.specs.Standing.{given_first}
 use Rattle.mj_turn.proofs.Ranges.{loops_by}
 use Rattle.mj_turn.proofs.repeat.again.Goals as goal
@@ -25,9 +25,9 @@ returns-in-Ok-true-clause-ok c = λ reply all u. (
       let after : Timed = next ctx l.resume (stack_of m) in
       let pass : Timed = next ctx l.body (stack_of m) in
       let is : innermost ls ≡ Some l = sym (c.in-Some.ensures ∙ ap (λ k. innermost (loops_of k)) c.deref.ensures.value) in
-      ap (λ k. machines.passes k next ctx c.args.pc (stack_of m) n (handle None) (state_of m) rs) (loops_by ls l is)
-      ∙ c.in_ok-pass_on.ensures.ok after pass n (handle None) (state_of m) rs
-      ∙ ap (λ w. given w (λ b. if b then pass else after) n (handle None) s rs) (c.in-Ok-true.is ∙ ap Ok c.in-Ok-true.field-0-test),
+      ap (λ k. machines.passes k next ctx c.args.pc (stack_of m) n (handle (restart_of m)) (state_of m) rs) (loops_by ls l is)
+      ∙ c.in_ok-pass_on.ensures.ok after pass n (handle (restart_of m)) (state_of m) rs
+      ∙ ap (λ w. given w (λ b. if b then pass else after) n (handle (restart_of m)) s rs) (c.in-Ok-true.is ∙ ap Ok c.in-Ok-true.field-0-test),
 )
 
 pub returns-in-Ok-false-clause-ok : goal.returns-in-Ok-false-clause-ok
@@ -43,9 +43,9 @@ returns-in-Ok-false-clause-ok c = λ reply all u. (
       let after : Timed = next ctx l.resume (stack_of m) in
       let pass : Timed = next ctx l.body (stack_of m) in
       let is : innermost ls ≡ Some l = sym (c.in-Some.ensures ∙ ap (λ k. innermost (loops_of k)) c.deref.ensures.value) in
-      ap (λ k. machines.passes k next ctx c.args.pc (stack_of m) n (handle None) (state_of m) rs) (loops_by ls l is)
-      ∙ c.in_ok-pass_on.ensures.ok after pass n (handle None) (state_of m) rs
-      ∙ ap (λ w. given w (λ b. if b then pass else after) n (handle None) s rs) (c.in-Ok-false.is ∙ ap Ok c.in-Ok-false.field-0-test),
+      ap (λ k. machines.passes k next ctx c.args.pc (stack_of m) n (handle (restart_of m)) (state_of m) rs) (loops_by ls l is)
+      ∙ c.in_ok-pass_on.ensures.ok after pass n (handle (restart_of m)) (state_of m) rs
+      ∙ ap (λ w. given w (λ b. if b then pass else after) n (handle (restart_of m)) s rs) (c.in-Ok-false.is ∙ ap Ok c.in-Ok-false.field-0-test),
 )
 
 pub returns-in-Err-clause-ok : goal.returns-in-Err-clause-ok
@@ -61,7 +61,7 @@ returns-in-Err-clause-ok c = λ reply all u. (
       let after : Timed = next ctx l.resume (stack_of m) in
       let pass : Timed = next ctx l.body (stack_of m) in
       let is : innermost ls ≡ Some l = sym (c.in-Some.ensures ∙ ap (λ k. innermost (loops_of k)) c.deref.ensures.value) in
-      ap (λ k. machines.passes k next ctx c.args.pc (stack_of m) n (handle None) (state_of m) rs) (loops_by ls l is)
-      ∙ c.in_ok-pass_on.ensures.ok after pass n (handle None) (state_of m) rs
-      ∙ ap (λ w. given w (λ b. if b then pass else after) n (handle None) s rs) c.in-Err.is,
+      ap (λ k. machines.passes k next ctx c.args.pc (stack_of m) n (handle (restart_of m)) (state_of m) rs) (loops_by ls l is)
+      ∙ c.in_ok-pass_on.ensures.ok after pass n (handle (restart_of m)) (state_of m) rs
+      ∙ ap (λ w. given w (λ b. if b then pass else after) n (handle (restart_of m)) s rs) c.in-Err.is,
 )

@@ -1,0 +1,322 @@
+-- A job asks at most 1,000,000 times before its ending: the words that rows are made of keep this.
+use Rattle.std.proofs.Common.{◌≡◌, ℕ, zero, suc, ◌+◌, ◌≤◌, ◌<◌, List, [], ◌∷◌, length, map, Option, Some, None, Bool, true, false, inl, inr, refl, subst, arith, length-append}
+use Rattle.std.specs.Prelude.{ℤ, nat_lt, nat_le, nat_eq, if◌then◌else◌}
+use Rattle.std.proofs.lemmas.Bool.{ltb-true, ltb-false}
+use Rattle.std.proofs.lemmas.List.{length-map}
+use Rattle.mj_text.specs.declared.fault.Fault.{Fault}
+use Rattle.mj_text.specs.declared.fault.Fault.TheVariants as faults
+use Rattle.mj_ask.specs.declared.ask.Ask.{Ask}
+use Rattle.mj_ask.specs.declared.ask.Ask.TheVariants as asks
+use Rattle.mj_ask.specs.declared.ask.Reply.{Reply}
+use Rattle.mj_semantics.specs.State.{State, Locals, Words, Mark, Place, OpenDevice, principal, devices_limit, has_failed, ending_order, with_device, is_open, counted, marked, raised, lowered, settled, can_restart, is_serial, back_at, restarted}
+use Rattle.mj_semantics.specs.Outcome.{Needs, More, Handler, Timed, turn, turns, look, change, asking, no_restart, until, restartable, go_back, over, halt, ends, end, fault_bytes, fault, steps_limit, ask}
+use Rattle.mj_semantics.specs.Devices.{is_got, has_no_session, obtained, obtain}
+use Rattle.mj_semantics.specs.Sharing.{in_time as test_in_time}
+use Rattle.mj_semantics.specs.Transactions.{levels_limit, kind_of, begin_transaction, in_transaction, is_clash, commit, roll_back, give_back, begin_again}
+use Rattle.mj_semantics.specs.Commands.{again}
+use Rattle.mj_jobvm.specs.Limit.{IsAllowed}
+use Rattle.mj_jobvm.proofs.Rows.{Rule}
+
+-- no more asks were replied to than may be, and no more devices are open
+abbrev pub IsFair : State → Type 0
+IsFair s = (s.replied ≤ steps_limit) × (length s.devices ≤ devices_limit + 1)
+
+-- as many asks were replied to in one state as in another, and as many devices are open
+abbrev IsLike : State → State → Type 0
+IsLike s t = (t.replied ≡ s.replied) × (length t.devices ≡ length s.devices)
+
+like_fair : (s t : State) → IsLike s t → IsFair s → IsFair t
+like_fair s t same fair = (omega (arith, same.0, fair.0), omega (arith, same.1, fair.1))
+
+-- what a restart goes on with asks only what it may, behind the replies before it and those that it is told
+pub record Goes (h : Handler) : Type 0 where
+  pub by : (n : ℕ) (s : State) (replies : List Reply) (a : Ask) (locals : Locals) (at : List Place)
+      → IsFair s → h n s replies ≡ Needs a locals at → IsAllowed (s.replied + length replies) a
+
+-- and so does what is left to do
+pub record Keeps (t : Timed) : Type 0 where
+  pub by : (n : ℕ) (h : Handler) (back : Goes h) (s : State) (replies : List Reply) (a : Ask) (locals : Locals) (at : List Place)
+      → IsFair s → t n h s replies ≡ Needs a locals at → IsAllowed (s.replied + length replies) a
+
+asks_it : (a b : Ask) (locals locals' : Locals) (at at' : List Place) → Needs a locals at ≡ Needs b locals' at' → a ≡ b
+asks_it a b locals locals' at at' e = cc
+
+-- an ask that is known, at its place
+allowed_as : (a b : Ask) (k : ℕ) (locals locals' : Locals) (at at' : List Place) → Needs a locals at ≡ Needs b locals' at' → IsAllowed k a → IsAllowed k b
+allowed_as a b k locals locals' at at' e = subst (IsAllowed k) (asks_it a b locals locals' at at' e)
+
+module _ (rest : Timed) (k : Keeps rest) where
+  pub turn_keeps : Keeps (turn rest)
+  turn_keeps = record { by = at }
+    where
+      at : (n : ℕ) (h : Handler) (back : Goes h) (s : State) (replies : List Reply) (a : Ask) (locals : Locals) (at : List Place)
+          → IsFair s → turn rest n h s replies ≡ Needs a locals at → IsAllowed (s.replied + length replies) a
+      at zero h back s replies a locals places le e = cc
+      at (suc n) h back s replies a locals places le e = k.by n h back s replies a locals places le e
+
+  pub change_keeps : (f : State → State) → ((s : State) → IsLike s (f s)) → Keeps (change f rest)
+  change_keeps f same = record {
+    by = λ n h back s replies a locals at le e.
+        subst (λ r. IsAllowed (r + length replies) a) (same s).0
+        (k.by n h back (f s) replies a locals at (like_fair s (f s) (same s) le) e);
+  }
+
+  -- behind a change after which no more devices are open
+  fewer_keeps : (f : State → State) → ((s : State) → ((f s).replied ≡ s.replied) × (length (f s).devices ≤ length s.devices)) → Keeps (change f rest)
+  fewer_keeps f less = record {
+    by = λ n h back s replies a locals at le e.
+        subst (λ r. IsAllowed (r + length replies) a) (less s).0
+        (k.by n h back (f s) replies a locals at (let fair : IsFair (f s) = (omega (arith, (less s).0, le.0), omega (arith, (less s).1, le.1)) in fair) e);
+  }
+
+pub turns_keep : (many : ℕ) (rest : Timed) → Keeps rest → Keeps (turns many rest)
+turns_keep zero rest k = k
+turns_keep (suc many) rest k = turn_keeps (turns many rest) (turns_keep many rest k)
+
+pub look_keeps : (rest : State → Timed) → ((s : State) → Keeps (rest s)) → Keeps (look rest)
+look_keeps rest k = record { by = λ n h back s replies a locals at le e. (k s).by n h back s replies a locals at le e }
+
+-- The ending.
+
+over_asks : (n : ℕ) (h : Handler) (s : State) (replies : List Reply) (a : Ask) (locals : Locals) (at : List Place) → over n h s replies ≡ Needs a locals at → ⊥
+over_asks zero h s replies a locals at e = cc
+over_asks (suc n) h s replies a locals at e = cc
+
+-- its last ask, behind so many
+halt_keeps : (f : Option Fault) (n k : ℕ) (h : Handler) (s : State) (replies : List Reply) (a : Ask) (locals : Locals) (at : List Place)
+    → k ≤ steps_limit + 2 + devices_limit → halt f n h s replies ≡ Needs a locals at → IsAllowed (k + length replies) a
+halt_keeps f zero k h s replies a locals at le e = cc
+halt_keeps f (suc n) k h s [] a locals at le e =
+    allowed_as (asks.Halt f) a (k + 0) s.locals locals _ at e (inr (let l : k + 0 ≤ steps_limit + 2 + devices_limit = omega (arith, le) in l))
+halt_keeps f (suc n) k h s (r ∷ replies) a locals at le e = absurd (over_asks n h s replies a locals at e)
+
+-- the ends of sessions before it
+ends_within : (names : List (List ℕ)) (f : Option Fault) (n k : ℕ) (h : Handler) (s : State) (replies : List Reply) (a : Ask) (locals : Locals) (at : List Place)
+    → k + length names ≤ steps_limit + 2 + devices_limit → ends names f n h s replies ≡ Needs a locals at → IsAllowed (k + length replies) a
+ends_within [] f n k h s replies a locals at le e = halt_keeps f n k h s replies a locals at (omega (arith, le)) e
+ends_within (name ∷ names) f zero k h s replies a locals at le e = cc
+ends_within (name ∷ names) f (suc n) k h s [] a locals at le e =
+    allowed_as (asks.DeviceEnd name) a (k + 0) s.locals locals _ at e (inr (let l : k + 0 ≤ steps_limit + 1 + devices_limit = omega (arith, le) in l))
+ends_within (name ∷ names) f (suc n) k h s (r ∷ replies) a locals at le e =
+    let g : k + 1 + length names ≤ steps_limit + 2 + devices_limit = omega (arith, le) in
+    let is : k + 1 + length replies ≡ k + length (r ∷ replies) = omega arith in
+    subst (λ i. IsAllowed i a) is (ends_within names f n (k + 1) h s replies a locals at g e)
+
+-- as many sessions end as devices are open
+ending_length : (devices : List OpenDevice) → length (ending_order devices) ≡ length devices
+ending_length [] = refl
+ending_length (p ∷ others) =
+    omega (arith, length-append (map (λ d. d.name) others) (p.name ∷ []), length-map others (λ d. d.name))
+
+end_within : (f : Option Fault) (n k : ℕ) (h : Handler) (s : State) (replies : List Reply) (a : Ask) (locals : Locals) (at : List Place)
+    → k ≤ steps_limit + 1 → IsFair s → end f n h s replies ≡ Needs a locals at → IsAllowed (k + length replies) a
+end_within f n k h s replies a locals at le fair e =
+    let g : k + length (ending_order s.devices) ≤ steps_limit + 2 + devices_limit = omega (arith, le, fair.1, ending_length s.devices) in
+    ends_within (ending_order s.devices) f n k h s replies a locals at g e
+
+pub end_keeps : (f : Option Fault) → Keeps (end f)
+end_keeps f = record {
+  by = λ n h back s replies a locals at le e. end_within f n s.replied h s replies a locals at (let l : s.replied ≤ steps_limit + 1 = omega (arith, le.0) in l) le e;
+}
+
+-- a fault writes its line first, unless the principal device failed
+abbrev telling : Fault → State → Timed
+telling f s = asking (asks.DeviceWrite principal (fault_bytes f s)) (λ r. end (Some f))
+
+telling_keeps : (f : Fault) (n : ℕ) (h : Handler) (s : State) (replies : List Reply) (a : Ask) (locals : Locals) (at : List Place)
+    → IsFair s → telling f s n h s replies ≡ Needs a locals at → IsAllowed (s.replied + length replies) a
+telling_keeps f n h s [] a locals places le e =
+    allowed_as (asks.DeviceWrite principal (fault_bytes f s)) a (s.replied + 0) s.locals locals _ places e
+    (inr (let l : s.replied + 0 ≤ steps_limit = omega (arith, le.0) in l, refl, (f, s, refl)))
+telling_keeps f n h s (r ∷ replies) a locals places le e =
+    let g : s.replied + 1 ≤ steps_limit + 1 = omega (arith, le.0) in
+    let is : s.replied + 1 + length replies ≡ s.replied + length (r ∷ replies) = omega arith in
+    subst (λ i. IsAllowed i a) is (end_within (Some f) n (s.replied + 1) h s replies a locals places g le e)
+
+pub fault_keeps : (f : Fault) → Keeps (fault f)
+fault_keeps f = record { by = at }
+  where
+    by_device : (b : Bool) (n : ℕ) (h : Handler) (back : Goes h) (s : State) (replies : List Reply) (a : Ask) (locals : Locals) (at : List Place)
+        → IsFair s → (if b then end (Some f) else telling f s) n h s replies ≡ Needs a locals at → IsAllowed (s.replied + length replies) a
+    by_device true n h back s replies a locals places le e = (end_keeps (Some f)).by n h back s replies a locals places le e
+    by_device false n h back s replies a locals places le e = telling_keeps f n h s replies a locals places le e
+
+    at : (n : ℕ) (h : Handler) (back : Goes h) (s : State) (replies : List Reply) (a : Ask) (locals : Locals) (at : List Place)
+        → IsFair s → fault f n h s replies ≡ Needs a locals at → IsAllowed (s.replied + length replies) a
+    at zero h back s replies a locals places le e = cc
+    at (suc n) h back s replies a locals places le e = by_device (has_failed principal s) n h back s replies a locals places le e
+
+-- Asks.
+
+ask_by : (x : Ask) (rest : Reply → Timed) → ((r : Reply) → Keeps (rest r)) → (b : Bool)
+    → (n : ℕ) (h : Handler) (back : Goes h) (s : State) (replies : List Reply) (a : Ask) (locals : Locals) (at : List Place)
+    → nat_lt s.replied steps_limit ≡ b → IsFair s
+    → (if b then asking x (λ r. change counted (rest r)) else fault faults.Steps) n h s replies ≡ Needs a locals at
+    → IsAllowed (s.replied + length replies) a
+ask_by x rest k true n h back s [] a locals at b le e =
+    allowed_as x a (s.replied + 0) s.locals locals _ at e (inl (let q = ltb-true s.replied steps_limit b in let l : s.replied + 0 < steps_limit = omega (arith, q) in l))
+ask_by x rest k true n h back s (r ∷ replies) a locals at b le e =
+    let g : s.replied + 1 ≤ steps_limit = (let q = ltb-true s.replied steps_limit b in omega (arith, q)) in
+    let is : s.replied + 1 + length replies ≡ s.replied + length (r ∷ replies) = omega arith in
+    subst (λ i. IsAllowed i a) is ((k r).by n h back (counted s) replies a locals at (g, le.1) e)
+ask_by x rest k false n h back s replies a locals at b le e = (fault_keeps faults.Steps).by n h back s replies a locals at le e
+
+pub ask_keeps : (x : Ask) (rest : Reply → Timed) → ((r : Reply) → Keeps (rest r)) → Keeps (ask x rest)
+ask_keeps x rest k = record { by = λ n h back s replies a locals at le e. ask_by x rest k (nat_lt s.replied steps_limit) n h back s replies a locals at refl le e }
+
+pub if_keeps : (b : Bool) (t u : Timed) → Keeps t → Keeps u → Keeps (if b then t else u)
+if_keeps true t u k l = k
+if_keeps false t u k l = l
+
+-- `$TEST` behind an ask that may wait.
+
+tests_same : (timeout : Option ℤ) (b : Bool) (s : State) → IsLike s (test_in_time timeout b s)
+tests_same None b s = (refl, refl)
+tests_same (Some n) b s = (refl, refl)
+
+-- OPEN.
+
+-- the same where one more device may be open than there are
+record KeepsRoom (t : Timed) : Type 0 where
+  by : (n : ℕ) (h : Handler) (back : Goes h) (s : State) (replies : List Reply) (a : Ask) (locals : Locals) (at : List Place)
+      → IsFair s → length s.devices ≤ devices_limit → t n h s replies ≡ Needs a locals at → IsAllowed (s.replied + length replies) a
+
+with_room : (t : Timed) → Keeps t → KeepsRoom t
+with_room t k = record { by = λ n h back s replies a locals at le room e. k.by n h back s replies a locals at le e }
+
+room_if : (b : Bool) (t u : Timed) → KeepsRoom t → KeepsRoom u → KeepsRoom (if b then t else u)
+room_if true t u k l = k
+room_if false t u k l = l
+
+-- a device is added
+added_keeps : (name : List ℕ) (rest : Timed) → Keeps rest → KeepsRoom (change (with_device name) rest)
+added_keeps name rest k = record {
+  by = λ n h back s replies a locals at le room e.
+      let more : length (with_device name s).devices ≡ length s.devices + 1 = length-append s.devices (record { name = name; column = 0; row = 0; failed = false } ∷ []) in
+      k.by n h back (with_device name s) replies a locals at (let fair : IsFair (with_device name s) = (le.0, omega (arith, more, room)) in fair) e;
+}
+
+room_change : (f : State → State) (rest : Timed) → ((s : State) → IsLike s (f s)) → KeepsRoom rest → KeepsRoom (change f rest)
+room_change f rest same k = record {
+  by = λ n h back s replies a locals at le room e.
+      subst (λ r. IsAllowed (r + length replies) a) (same s).0
+      (k.by n h back (f s) replies a locals at (like_fair s (f s) (same s) le) (let few : length (f s).devices ≤ devices_limit = omega (arith, (same s).1, room) in few) e);
+}
+
+room_by : (x : Ask) (rest : Reply → Timed) → ((r : Reply) → KeepsRoom (rest r)) → (b : Bool)
+    → (n : ℕ) (h : Handler) (back : Goes h) (s : State) (replies : List Reply) (a : Ask) (locals : Locals) (at : List Place)
+    → nat_lt s.replied steps_limit ≡ b → IsFair s → length s.devices ≤ devices_limit
+    → (if b then asking x (λ r. change counted (rest r)) else fault faults.Steps) n h s replies ≡ Needs a locals at
+    → IsAllowed (s.replied + length replies) a
+room_by x rest k true n h back s [] a locals at b le room e =
+    allowed_as x a (s.replied + 0) s.locals locals _ at e (inl (let q = ltb-true s.replied steps_limit b in let l : s.replied + 0 < steps_limit = omega (arith, q) in l))
+room_by x rest k true n h back s (r ∷ replies) a locals at b le room e =
+    let g : s.replied + 1 ≤ steps_limit = (let q = ltb-true s.replied steps_limit b in omega (arith, q)) in
+    let is : s.replied + 1 + length replies ≡ s.replied + length (r ∷ replies) = omega arith in
+    subst (λ i. IsAllowed i a) is ((k r).by n h back (counted s) replies a locals at (g, le.1) room e)
+room_by x rest k false n h back s replies a locals at b le room e = (fault_keeps faults.Steps).by n h back s replies a locals at le e
+
+obtained_keeps : (name : List ℕ) (timeout : Option ℤ) (r : Reply) (late got : Timed) → Keeps late → Keeps got → KeepsRoom (obtained name timeout r late got)
+obtained_keeps name timeout r late got l k =
+    let in_time : Timed = change (test_in_time timeout true) (change (with_device name) got) in
+    let too_late : Timed = change (test_in_time timeout false) late in
+    room_if (has_no_session r) (fault faults.NoDevice) (if is_got r then in_time else too_late) (with_room _ (fault_keeps faults.NoDevice))
+    (room_if (is_got r) in_time too_late
+    (room_change (test_in_time timeout true) (change (with_device name) got) (tests_same timeout true) (added_keeps name got k))
+    (with_room _ (change_keeps late l (test_in_time timeout false) (tests_same timeout false))))
+
+obtain_keeps : (name : List ℕ) (timeout : Option ℤ) (late got : Timed) → Keeps late → Keeps got → Keeps (obtain name timeout late got)
+obtain_keeps name timeout late got l k = record { by = λ n h back s replies a locals at le e. at_state (is_open name s) (nat_lt devices_limit (length s.devices)) n h back s replies a locals at refl le e }
+  where
+    asks_for : Timed
+    asks_for = ask (asks.Open name timeout) (λ r. obtained name timeout r late got)
+
+    at_state : (b full : Bool) (n : ℕ) (h : Handler) (back : Goes h) (s : State) (replies : List Reply) (a : Ask) (locals : Locals) (at : List Place)
+        → nat_lt devices_limit (length s.devices) ≡ full → IsFair s
+        → (if b then change (test_in_time timeout true) late else if full then fault faults.Limit else asks_for) n h s replies ≡ Needs a locals at
+        → IsAllowed (s.replied + length replies) a
+    at_state true full n h back s replies a locals at q le e = (change_keeps late l (test_in_time timeout true) (tests_same timeout true)).by n h back s replies a locals at le e
+    at_state false true n h back s replies a locals at q le e = (fault_keeps faults.Limit).by n h back s replies a locals at le e
+    at_state false false n h back s replies a locals at q le e =
+        room_by (asks.Open name timeout) (λ r. obtained name timeout r late got) (λ r. obtained_keeps name timeout r late got l k) (nat_lt s.replied steps_limit)
+        n h back s replies a locals at refl le (ltb-false devices_limit (length s.devices) q) e
+
+-- Transactions.
+
+-- without a restart nothing is asked
+pub none_goes : Goes no_restart
+none_goes = record { by = at }
+  where
+    at : (n : ℕ) (s : State) (replies : List Reply) (a : Ask) (locals : Locals) (at : List Place)
+        → IsFair s → no_restart n s replies ≡ Needs a locals at → IsAllowed (s.replied + length replies) a
+    at zero s replies a locals places le e = cc
+    at (suc n) s replies a locals places le e = cc
+
+pub restartable_keeps : (again rest : Timed) → Keeps again → Keeps rest → Keeps (restartable again rest)
+restartable_keeps again rest g k = record { by = λ n h back s replies a locals at le e. k.by n (until n again) (goes n) s replies a locals at le e }
+  where
+    by_turns : (b : Bool) (m : ℕ) (s : State) (replies : List Reply) (a : Ask) (locals : Locals) (at : List Place)
+        → IsFair s → (if b then again m no_restart else (λ s replies. More)) s replies ≡ Needs a locals at → IsAllowed (s.replied + length replies) a
+    by_turns true m s replies a locals at le e = g.by m no_restart none_goes s replies a locals at le e
+    by_turns false m s replies a locals at le e = cc
+
+    goes : (n : ℕ) → Goes (until n again)
+    goes n = record { by = λ m s replies a locals at le e. by_turns (nat_le m n) m s replies a locals at le e }
+
+go_back_keeps : Keeps go_back
+go_back_keeps = record { by = λ n h back s replies a locals at le e. back.by n s replies a locals at le e }
+
+pub begin_transaction_keeps : (restored : Option Words) (serial : Bool) (inner outermost : Timed) → Keeps inner → Keeps outermost → Keeps (begin_transaction restored serial inner outermost)
+begin_transaction_keeps restored serial inner outermost k l =
+    let begun : Timed = ask (asks.Begin (kind_of serial)) (λ r. change (marked restored serial) outermost) in
+    let one_more : Timed = change raised inner in
+    look_keeps _ (λ s. if_keeps (nat_eq s.level 0) begun (if nat_lt s.level levels_limit then one_more else fault faults.Limit)
+    (ask_keeps (asks.Begin (kind_of serial)) _ (λ r. change_keeps outermost l (marked restored serial) (λ q. (refl, refl))))
+    (if_keeps (nat_lt s.level levels_limit) one_more (fault faults.Limit) (change_keeps inner k raised (λ q. (refl, refl))) (fault_keeps faults.Limit)))
+
+in_transaction_keeps : (rest : Timed) → Keeps rest → Keeps (in_transaction rest)
+in_transaction_keeps rest k = look_keeps _ (λ s. if_keeps (nat_eq s.level 0) (fault faults.NoTransaction) rest (fault_keeps faults.NoTransaction) k)
+
+pub commit_keeps : (clashed done : Timed) → Keeps clashed → Keeps done → Keeps (commit clashed done)
+commit_keeps clashed done k l =
+    let committed : Timed = ask asks.Commit (λ r. if is_clash r then clashed else change settled done) in
+    in_transaction_keeps _ (look_keeps _ (λ s. if_keeps (nat_lt 1 s.level) (change lowered done) committed (change_keeps done l lowered (λ q. (refl, refl)))
+    (ask_keeps asks.Commit _ (λ r. if_keeps (is_clash r) clashed (change settled done) k (change_keeps done l settled (λ q. (refl, refl)))))))
+
+pub roll_back_keeps : (rest : Timed) → Keeps rest → Keeps (roll_back rest)
+roll_back_keeps rest k = in_transaction_keeps _ (ask_keeps asks.Rollback _ (λ r. change_keeps rest k settled (λ q. (refl, refl))))
+
+pub give_back_keeps : (rest : Timed) → Keeps rest → Keeps (give_back rest)
+give_back_keeps rest k =
+    in_transaction_keeps _ (look_keeps _ (λ s. if_keeps (can_restart s) (ask asks.Rollback (λ r. rest)) (fault faults.NoRestart)
+    (ask_keeps asks.Rollback (λ r. rest) (λ r. k)) (fault_keeps faults.NoRestart)))
+
+restarted_same : (s : State) → IsLike s (restarted s)
+restarted_same s = by s.mark
+  where
+    by : (o : Option Mark) → IsLike s (elim o [ None ↦ s | Some m ↦ back_at m s ])
+    by None = (refl, refl)
+    by (Some m) = (refl, refl)
+
+pub begin_again_keeps : Keeps begin_again
+begin_again_keeps = look_keeps _ (λ s. ask_keeps (asks.Begin (kind_of (is_serial s))) _ (λ r. change_keeps go_back go_back_keeps restarted restarted_same))
+
+-- so what holds of a word holds of each row
+pub limited : Rule Keeps Keeps
+limited = record {
+  turned = turn_keeps;
+  looked = look_keeps;
+  changed = λ f t fewer k. fewer_keeps t k f (λ s. ((fewer s).0, (fewer s).1));
+  asked = ask_keeps;
+  ended = end_keeps;
+  faulted = fault_keeps;
+  spent = record { by = λ n h back s replies a locals at le e. cc };
+  obtained = obtain_keeps;
+  begun = begin_transaction_keeps;
+  committed = λ done k. commit_keeps (turn begin_again) done (turn_keeps begin_again begin_again_keeps) k;
+  rolled_back = roll_back_keeps;
+  given_back = give_back_keeps (turn begin_again) (turn_keeps begin_again begin_again_keeps);
+  started = restartable_keeps;
+  apart_turned = turn_keeps;
+  apart_spent = record { by = λ n h back s replies a locals at le e. cc };
+}

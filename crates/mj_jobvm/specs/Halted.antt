@@ -1,0 +1,37 @@
+-- That a run which is over has asked its halt last.
+use Rattle.std.specs.Prelude.{◌≡◌, ℕ, List, [], ◌∷◌, ◌++◌, Option}
+use Rattle.mj_text.specs.declared.fault.Fault.{Fault}
+use Rattle.mj_ask.specs.declared.ask.Ask.TheVariants.{Halt}
+use Rattle.mj_ask.specs.declared.ask.Reply.{Reply}
+use Rattle.mj_ast.specs.Syntax.{Routine}
+use Rattle.mj_semantics.specs.State.{Locals, Place}
+use Rattle.mj_semantics.specs.Outcome.{Outcome, Needs, Ended}
+use Rattle.mj_semantics.specs.Job.{Start, next}
+use Rattle.mj_jobvm.specs.Run.{Log, HasEnded, IsTrace}
+
+-- of some replies one is that to a halt, which the run needs after those before it; and with it the run is over, whatever is told behind it
+pub record Halted (run : List Reply → Outcome) (replies : List Reply) : Type 0 where
+  pub told : List Reply
+  pub last : Reply
+  pub more : List Reply
+  pub fault : Option Fault
+  pub locals : Locals
+  pub at : List Place
+  pub are : replies ≡ told ++ last ∷ more
+  pub asked : run told ≡ Needs (Halt fault) locals at
+  pub over : (behind : List Reply) → run (told ++ last ∷ behind) ≡ Ended
+
+-- a run is over only so: no restart and nothing else ends it
+abbrev pub EndsByHalt : Type 0
+EndsByHalt =
+    (image : List Routine) (start : Start) (n : ℕ) (replies : List Reply) → next image start n replies ≡ Ended
+    → Halted (λ told. next image start n told) replies
+
+-- the last entry of a log is the halt
+abbrev pub EndsInHalt : Log → Type 0
+EndsInHalt log = (earlier : Log) × (fault : Option Fault) × (r : Reply) × (log ≡ earlier ++ (Halt fault, r) ∷ [])
+
+-- a log with which the run is over ends in its halt
+abbrev pub IsHaltLast : Type 0
+IsHaltLast =
+    (image : List Routine) (start : Start) (log : Log) → IsTrace image start log → HasEnded image start log → EndsInHalt log
