@@ -23,6 +23,8 @@ mod names;
 #[cfg(test)]
 mod operators;
 #[cfg(test)]
+mod read_back;
+#[cfg(test)]
 mod reading;
 #[cfg(test)]
 mod runs;
