@@ -15,6 +15,7 @@ mod writing;
 
 pub use error::ReadError;
 pub use field::Field;
+pub use line::split_line;
 pub use name::{read_name, read_subscript, read_subscripts};
 pub use quoted::read_text;
 pub use reading::read;

@@ -25,6 +25,8 @@ mod names;
 #[cfg(test)]
 mod operators;
 #[cfg(test)]
+mod read_back;
+#[cfg(test)]
 mod reading;
 #[cfg(test)]
 mod runs;

@@ -1,2 +1,6 @@
 pub mod Spelling
 pub mod Trace
+pub mod Reading
+pub mod Lines
+pub mod Sized
+pub mod Laws

@@ -35,3 +35,13 @@ opening_text pool starts = header ++ 10 ∷ (pool_lines pool ++ start_lines star
 abbrev pub event_lines : List (ℕ × Ask × Reply) → List ℕ
 event_lines [] = []
 event_lines (e ∷ es) = event_text e.0 e.1 e.2 ++ 10 ∷ event_lines es
+
+-- a trace: the devices, by name, the starts, and the events, in order
+pub record Traced : Type 0 where
+  pub pool : List (List ℕ × ℕ)
+  pub starts : List Entry
+  pub events : List (ℕ × Ask × Reply)
+
+-- how a trace is written
+abbrev pub trace_text : Traced → List ℕ
+trace_text t = opening_text t.pool t.starts ++ event_lines t.events

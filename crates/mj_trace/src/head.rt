@@ -37,7 +37,7 @@ fn put_pool(bytes: &mut Vec<u8>, pool: &[(Text, u32)]) -> Result<(), AllocError>
 }
 
 // Puts the line of a device to the end, without its byte 10.
-fn put_device(bytes: &mut Vec<u8>, device: &Text, count: u32) -> Result<(), AllocError>
+pub(crate) fn put_device(bytes: &mut Vec<u8>, device: &Text, count: u32) -> Result<(), AllocError>
     ensures { OnOk result (bytes.new.items ≡ bytes.old.items ++ pool_line (device.now, count)) }
 {
     bytes.extend_from_slice(b"pool ")?;
@@ -58,7 +58,7 @@ fn put_starts(alloc: Global, bytes: &mut Vec<u8>, starts: &[Entry]) -> Result<()
 }
 
 // Puts the line of a start to the end, without its byte 10.
-fn put_start(alloc: Global, bytes: &mut Vec<u8>, start: &Entry) -> Result<(), AllocError>
+pub(crate) fn put_start(alloc: Global, bytes: &mut Vec<u8>, start: &Entry) -> Result<(), AllocError>
     ensures { OnOk result (bytes.new.items ≡ bytes.old.items ++ start_line start.now) }
 {
     bytes.extend_from_slice(b"start ")?;

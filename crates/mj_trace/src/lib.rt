@@ -1,17 +1,31 @@
 // Traces of runs: a text of lines, by which a run is shown to somebody else.
 //
-// What stands before the events, and a line for each event, as `specs/Trace.antt` and `specs/Spelling.antt` have them. They are written here; they aren't
-// read yet.
+// There is one spelling for each trace: `write_trace` writes it, `trace_text` of `specs/Trace.antt`, with the asks and replies of `specs/Spelling.antt`, and `read_trace`
+// reads it back. What else it is given it refuses, by the first line that is none: `reading_of` of `specs/Lines.antt`. What a line may say is found from the left
+// to the right (`specs/Reading.antt`); then it is spelled again, and must be the line. `specs/Laws.antt` has the laws.
 #![tactic(auto)]
 
+mod asked;
 mod asks;
 mod fields;
+mod found;
 mod head;
+mod lists;
+mod members;
+mod piece;
+mod read;
+mod refusal;
 mod replies;
+mod run;
+mod told;
+mod trace;
 
 pub use asks::put_ask;
 pub use head::{event_line, opening};
+pub use read::read_trace;
+pub use refusal::TraceError;
 pub use replies::put_reply;
+pub use trace::{Trace, write_trace};
 
 // The first line, without its byte 10.
 const HEADER: &[u8] = b"mj-trace 1";

@@ -144,17 +144,17 @@ node_whole e k h =
 -- ---- lines
 
 -- no byte ends a line
-no_end : ℕ → Bool
+unfoldable pub no_end : ℕ → Bool
 no_end c = not (eqb c 10)
 
-abbrev AreWithin : List ℕ → Type 0
+abbrev pub AreWithin : List ℕ → Type 0
 AreWithin bs = list_all no_end bs ≡ true
 
-within-append : (xs ys : List ℕ) → AreWithin xs → AreWithin ys → AreWithin (xs ++ ys)
+pub within-append : (xs ys : List ℕ) → AreWithin xs → AreWithin ys → AreWithin (xs ++ ys)
 within-append [] ys h k = k
 within-append (x ∷ xs) ys h k = let p = both_true (no_end x) (list_all no_end xs) h in λ i. p.0 i && within-append xs ys p.1 k i
 
-above_ten : (c : ℕ) → 10 < c → no_end c ≡ true
+pub above_ten : (c : ℕ) → 10 < c → no_end c ≡ true
 unfolding no_end
 above_ten c h = ap not (ne_eqb c 10 (λ e. omega arith))
 
@@ -164,10 +164,10 @@ digit_above d = grind (arith, nat_tests)
 shown_above : (c : ℕ) → is_shown c ≡ true → 10 < c
 shown_above c h = grind (arith, nat_tests)
 
-number_above : (c : ℕ) → is_number_byte c ≡ true → no_end c ≡ true
+pub number_above : (c : ℕ) → is_number_byte c ≡ true → no_end c ≡ true
 number_above c h = above_ten c (grind (arith, nat_tests))
 
-word_above : (c : ℕ) → is_ascii_alphanumeric c ≡ true → no_end c ≡ true
+pub word_above : (c : ℕ) → is_ascii_alphanumeric c ≡ true → no_end c ≡ true
 word_above c h = above_ten c (grind (arith, nat_tests))
 
 head_above : (c : ℕ) → (is_ascii_alphabetic c || eqb c 37) ≡ true → no_end c ≡ true
@@ -184,11 +184,11 @@ quoted_within : (t : List ℕ) → AreWithin (quoted_bytes t)
 quoted_within [] = refl
 quoted_within (c ∷ t) = within-append (quoted_byte c) (quoted_bytes t) (byte_within c (eqb c 34) (eqb c 92) (is_shown c) refl) (quoted_within t)
 
-text_within : (t : List ℕ) → AreWithin (listed_text t)
+pub text_within : (t : List ℕ) → AreWithin (listed_text t)
 unfolding no_end
 text_within t = within-append (quoted_bytes t) (34 ∷ []) (quoted_within t) refl
 
-subscript_within : (s : List ℕ) → AreWithin (listed_subscript s)
+pub subscript_within : (s : List ℕ) → AreWithin (listed_subscript s)
 subscript_within s = by (is_canonic s) refl
   where
     by : (b : Bool) → is_canonic s ≡ b → AreWithin (cond b s (listed_text s))
@@ -200,7 +200,7 @@ unfolding no_end
 rest_within [] = refl
 rest_within (s ∷ ss) = within-append (listed_subscript s) (listed_rest ss) (subscript_within s) (rest_within ss)
 
-subscripts_within : (ss : List (List ℕ)) → AreWithin (listed_subscripts ss)
+pub subscripts_within : (ss : List (List ℕ)) → AreWithin (listed_subscripts ss)
 unfolding no_end
 subscripts_within [] = refl
 subscripts_within (s ∷ ss) = within-append (listed_subscript s) (listed_rest ss) (subscript_within s) (rest_within ss)
@@ -219,7 +219,7 @@ line_within e k =
     (within-append (listed_subscripts e.0.subscripts) (61 ∷ listed_text e.1) (subscripts_within e.0.subscripts) (text_within e.1)))
 
 -- a line ends at the first byte 10
-line_first : (l r : List ℕ) → AreWithin l → lines_of (l ++ 10 ∷ r) ≡ (l, true) ∷ lines_of r
+pub line_first : (l r : List ℕ) → AreWithin l → lines_of (l ++ 10 ∷ r) ≡ (l, true) ∷ lines_of r
 unfolding no_end
 line_first [] r h = refl
 line_first (c ∷ l) r h = let p = both_true (not (eqb c 10)) (list_all no_end l) h in by (eqb c 10) p.0 (line_first l r p.1)

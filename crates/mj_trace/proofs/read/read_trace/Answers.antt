@@ -1,0 +1,13 @@
+-- What is read is spelled so, and what is spelled is read.
+use Rattle.mj_trace.specs.Laws.Spelled.{says_it}
+use Rattle.mj_trace.specs.Laws.Whole.{reads_it, reads_all}
+use Rattle.mj_trace.proofs.read.read_trace.Goals as goal
+
+pub returns-clause-spelled : goal.returns-clause-spelled
+returns-clause-spelled c = says_it c.args.bytes.now c.read.result c.read.ensures.ok
+
+pub returns-clause-same : goal.returns-clause-same
+returns-clause-same c = reads_it c.args.bytes.now c.read.result c.read.ensures.ok
+
+pub returns-clause-all : goal.returns-clause-all
+returns-clause-all c = reads_all c.args.bytes.now c.read.result c.read.ensures.err

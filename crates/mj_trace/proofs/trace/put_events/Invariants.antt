@@ -1,0 +1,8 @@
+use Rattle.std.proofs.Common.{◌≡◌, ◌++◌, drop}
+use Rattle.mj_trace.specs.Trace.{event_lines}
+use Rattle.mj_trace.proofs.trace.put_events.Given as goal
+
+abbrev pub invariant-loop-job : goal.invariant-loop-job
+invariant-loop-job l = record {
+  all : l.bytes.items ++ event_lines (drop l.job-index l.events) ≡ l.initial.bytes.items ++ event_lines l.events;
+}

@@ -1,0 +1,270 @@
+-- What is read of some bytes is a trace, and the bytes are how it is written.
+use Rattle.std.proofs.Common.{◌≡◌, ◌∙◌, ◌+◌, ◌-◌, ◌≤◌, suc, ℕ, Bool, true, false, cond, ◌&&◌, eqb, eqb-true, List, [], ◌∷◌, ◌++◌, length, length-append, slice_get, Option, Some, None, Result, Ok, Err, refl, sym, ap, subst, append_assoc, append-nil, arith}
+use Rattle.std.specs.Prelude.{IfOk, nat_lt}
+use Rattle.std.specs.List.{list_all}
+use Rattle.std.specs.Str.{bytes_eq}
+use Rattle.std.specs.Cmp.Lexicographic.{bytes_decides}
+use Rattle.std.proofs.lemmas.List.Folds.{list_all-append}
+use Rattle.std.proofs.lemmas.Bool.Decides.{nat_tests}
+use Rattle.mj_store.specs.Nodes.{is_empty}
+use Rattle.mj_ask.specs.Written.{is_entry}
+use Rattle.mj_ask.specs.declared.entry.Entry.{Entry}
+use Rattle.mj_ask.specs.declared.ask.Ask.{Ask}
+use Rattle.mj_ask.specs.declared.ask.Reply.{Reply}
+use Rattle.mj_gfile.specs.Listing.{begun_by, lines_of}
+use Rattle.mj_gfile.specs.Laws.Texts.{both_true}
+use Rattle.mj_trace.specs.declared.piece.Piece.{Piece}
+use Rattle.mj_trace.specs.declared.piece.Piece.TheVariants as pieces
+use Rattle.mj_trace.specs.declared.refusal.TraceError.{TraceError}
+use Rattle.mj_trace.specs.declared.refusal.TraceError.TheVariants as errors
+use Rattle.mj_trace.specs.Spelling.{event_text}
+use Rattle.mj_trace.specs.Trace.{Traced, header, pool_line, pool_lines, start_line, start_lines, event_lines, trace_text}
+use Rattle.mj_trace.specs.Lines.{piece_text, is_event, is_piece, piece_in, respelled, piece_of, starts_limit, events_limit, is_full, is_before, stands_behind, last_device, principal, may_start, may_follow, with_piece, followed_by, then_more, lines_from, no_lines, headed, reading_of, rises, IsTrace}
+
+-- ---- one line
+
+some_same : (p q : Piece) → Some p ≡ Some q → p ≡ q
+some_same p q e = cc
+
+-- what a line says is spelled so, and can be written
+pub piece_said : (line : List ℕ) (p : Piece) → piece_of line ≡ Some p → (line ≡ piece_text p) × (is_piece p ≡ true)
+piece_said line p h = by (piece_in line) h
+  where
+    tested : (q : Piece) (a b : Bool) → is_piece q ≡ a → bytes_eq (piece_text q) line ≡ b → cond (a && b) (Some q) None ≡ Some p → (line ≡ piece_text p) × (is_piece p ≡ true)
+    tested q true true e f k = subst (λ x. (line ≡ piece_text x) × (is_piece x ≡ true)) (some_same q p k) (sym ((bytes_decides (piece_text q) line).0 f), e)
+    tested q true false e f k = absurd cc
+    tested q false b e f k = absurd cc
+
+    by : (o : Option Piece) → respelled line o ≡ Some p → (line ≡ piece_text p) × (is_piece p ≡ true)
+    by None k = absurd cc
+    by (Some q) k = tested q (is_piece q) (bytes_eq (piece_text q) line) refl refl k
+
+-- ---- a line behind others
+
+pool_added : (ds : List (List ℕ × ℕ)) (d : List ℕ × ℕ) → pool_lines (ds ++ d ∷ []) ≡ pool_lines ds ++ (pool_line d ++ 10 ∷ [])
+pool_added [] d = refl
+pool_added (e ∷ ds) d = ap (λ l. pool_line e ++ 10 ∷ l) (pool_added ds d) ∙ sym (append_assoc (pool_line e) (10 ∷ pool_lines ds) (pool_line d ++ 10 ∷ []))
+
+starts_added : (es : List Entry) (e : Entry) → start_lines (es ++ e ∷ []) ≡ start_lines es ++ (start_line e ++ 10 ∷ [])
+starts_added [] e = refl
+starts_added (x ∷ es) e = ap (λ l. start_line x ++ 10 ∷ l) (starts_added es e) ∙ sym (append_assoc (start_line x) (10 ∷ start_lines es) (start_line e ++ 10 ∷ []))
+
+events_added : (vs : List (ℕ × Ask × Reply)) (v : ℕ × Ask × Reply) → event_lines (vs ++ v ∷ []) ≡ event_lines vs ++ (event_text v.0 v.1 v.2 ++ 10 ∷ [])
+events_added [] v = refl
+events_added (w ∷ vs) v =
+    ap (λ l. event_text w.0 w.1 w.2 ++ 10 ∷ l) (events_added vs v) ∙ sym (append_assoc (event_text w.0 w.1 w.2) (10 ∷ event_lines vs) (event_text v.0 v.1 v.2 ++ 10 ∷ []))
+
+-- the bytes of a trace of these
+text_of : List (List ℕ × ℕ) → List Entry → List (ℕ × Ask × Reply) → List ℕ
+text_of pool starts events = trace_text (record { pool = pool; starts = starts; events = events })
+
+device_text : (pool : List (List ℕ × ℕ)) (starts : List Entry) (events : List (ℕ × Ask × Reply)) (d : List ℕ × ℕ) → is_empty starts ≡ true → is_empty events ≡ true → text_of (pool ++ d ∷ []) starts events ≡ text_of pool starts events ++ (pool_line d ++ 10 ∷ [])
+unfolding text_of
+device_text pool (s ∷ starts) events d e f = absurd cc
+device_text pool [] (v ∷ events) d e f = absurd cc
+device_text pool [] [] d e f =
+    let more = pool_line d ++ 10 ∷ [] in
+    ap (λ l. (header ++ 10 ∷ (l ++ [])) ++ []) (pool_added pool d)
+    ∙ append-nil (header ++ 10 ∷ ((pool_lines pool ++ more) ++ [])) ∙ ap (λ l. header ++ 10 ∷ l) (append-nil (pool_lines pool ++ more))
+    ∙ ap (λ l. header ++ 10 ∷ (l ++ more)) (sym (append-nil (pool_lines pool)))
+    ∙ ap (λ l. l ++ more) (sym (append-nil (header ++ 10 ∷ (pool_lines pool ++ []))))
+
+start_text : (pool : List (List ℕ × ℕ)) (starts : List Entry) (events : List (ℕ × Ask × Reply)) (s : Entry) → is_empty events ≡ true → text_of pool (starts ++ s ∷ []) events ≡ text_of pool starts events ++ (start_line s ++ 10 ∷ [])
+unfolding text_of
+start_text pool starts (v ∷ events) s f = absurd cc
+start_text pool starts [] s f =
+    ap (λ l. (header ++ 10 ∷ (pool_lines pool ++ l)) ++ []) (starts_added starts s)
+    ∙ simp (append_assoc, append-nil) refl
+
+events_text : (pool : List (List ℕ × ℕ)) (starts : List Entry) (events : List (ℕ × Ask × Reply)) (v : ℕ × Ask × Reply) → text_of pool starts (events ++ v ∷ []) ≡ text_of pool starts events ++ (event_text v.0 v.1 v.2 ++ 10 ∷ [])
+unfolding text_of
+events_text pool starts events v =
+    ap (λ l. (header ++ 10 ∷ (pool_lines pool ++ start_lines starts)) ++ l) (events_added events v)
+    ∙ sym (append_assoc (header ++ 10 ∷ (pool_lines pool ++ start_lines starts)) (event_lines events) (event_text v.0 v.1 v.2 ++ 10 ∷ []))
+
+-- the text of a trace with one line more
+text_added : (t : Traced) (p : Piece) → may_follow t p ≡ true → trace_text (with_piece t p) ≡ trace_text t ++ (piece_text p ++ 10 ∷ [])
+unfolding text_of
+text_added t (pieces.Device name count) h =
+    let a = both_true (is_empty t.starts && is_empty t.events) (stands_behind (last_device t.pool) name) h in
+    let b = both_true (is_empty t.starts) (is_empty t.events) a.0 in
+    device_text t.pool t.starts t.events (name, count) b.0 b.1
+text_added t (pieces.Start entry) h = start_text t.pool t.starts t.events entry (both_true (is_empty t.events) (may_start t.pool (length t.starts)) h).0
+text_added t (pieces.Event job ask reply) h = events_text t.pool t.starts t.events (job, ask, reply)
+
+-- ---- the front of a trace
+
+record IsFront (t : Traced) : Type 0 where
+  devices : rises t.pool ≡ true
+  starts : list_all is_entry t.starts ≡ true
+  starts_few : length t.starts ≤ starts_limit
+  sessions : length t.starts ≤ principal t.pool
+  events : list_all is_event t.events ≡ true
+  events_few : length t.events ≤ events_limit
+
+pub last_pushed : (d e : List ℕ × ℕ) (ds : List (List ℕ × ℕ)) → last_device (d ∷ e ∷ ds) ≡ last_device (e ∷ ds)
+last_pushed d e ds =
+    let long : length (d ∷ e ∷ ds) - 1 ≡ suc (length ds) = omega arith in
+    let short : length ds ≡ length (e ∷ ds) - 1 = omega arith in
+    ap (λ n. slice_get (d ∷ e ∷ ds) n) long ∙ ap (λ n. slice_get (e ∷ ds) n) short
+
+rises_added : (ds : List (List ℕ × ℕ)) (name : List ℕ) (count : ℕ) → rises ds ≡ true → stands_behind (last_device ds) name ≡ true → rises (ds ++ (name, count) ∷ []) ≡ true
+rises_added [] name count h k = refl
+rises_added (d ∷ []) name count h k = λ i. k i && true
+rises_added (d ∷ e ∷ ds) name count h k =
+    let p = both_true (is_before d.0 e.0) (rises (e ∷ ds)) h in
+    λ i. p.0 i && rises_added (e ∷ ds) name count p.1 (ap (λ l. stands_behind l name) (sym (last_pushed d e ds)) ∙ k) i
+
+all_added : {A : Type 0} (p : A → Bool) (xs : List A) (x : A) → list_all p xs ≡ true → p x ≡ true → list_all p (xs ++ x ∷ []) ≡ true
+all_added p xs x h k = list_all-append p xs (x ∷ []) ∙ (λ i. h i && (k i && true))
+
+pub one_longer : {A : Type 0} (xs : List A) (x : A) → length (xs ++ x ∷ []) ≡ length xs + 1
+one_longer xs x = length-append xs (x ∷ [])
+
+none_there : {A : Type 0} (xs : List A) → is_empty xs ≡ true → length xs ≡ 0
+none_there [] h = refl
+none_there (x ∷ xs) h = absurd cc
+
+below_limit : (n m : ℕ) → nat_lt n m ≡ true → n + 1 ≤ m
+below_limit n m h = grind (arith, nat_tests)
+
+not_yet : (n m : ℕ) → n ≤ m → eqb n m ≡ false → n + 1 ≤ m
+not_yet n m h e = grind (arith, nat_tests)
+
+front_added : (t : Traced) (p : Piece) → IsFront t → is_full t ≡ false → is_piece p ≡ true → may_follow t p ≡ true → IsFront (with_piece t p)
+front_added t (pieces.Device name count) f full is h =
+    let a = both_true (is_empty t.starts && is_empty t.events) (stands_behind (last_device t.pool) name) h in
+    let none = none_there t.starts (both_true (is_empty t.starts) (is_empty t.events) a.0).0 in
+    record {
+      devices = rises_added t.pool name count f.devices a.1;
+      starts = f.starts;
+      starts_few = f.starts_few;
+      sessions = omega (arith, none);
+      events = f.events;
+      events_few = f.events_few;
+    }
+front_added t (pieces.Start entry) f full is h =
+    let a = both_true (is_empty t.events) (may_start t.pool (length t.starts)) h in
+    let b = both_true (nat_lt (length t.starts) starts_limit) (nat_lt (length t.starts) (principal t.pool)) a.1 in
+    record {
+      devices = f.devices;
+      starts = all_added is_entry t.starts entry f.starts is;
+      starts_few = subst (λ n. n ≤ starts_limit) (sym (one_longer t.starts entry)) (below_limit (length t.starts) starts_limit b.0);
+      sessions = subst (λ n. n ≤ principal t.pool) (sym (one_longer t.starts entry)) (below_limit (length t.starts) (principal t.pool) b.1);
+      events = f.events;
+      events_few = f.events_few;
+    }
+front_added t (pieces.Event job ask reply) f full is h = record {
+  devices = f.devices;
+  starts = f.starts;
+  starts_few = f.starts_few;
+  sessions = f.sessions;
+  events = all_added is_event t.events (job, ask, reply) f.events is;
+  events_few = subst (λ n. n ≤ events_limit) (sym (one_longer t.events (job, ask, reply))) (not_yet (length t.events) events_limit f.events_few full);
+}
+
+-- ---- all lines
+
+-- the bytes of lines
+bytes_of : List (List ℕ × Bool) → List ℕ
+bytes_of [] = []
+bytes_of ((l, true) ∷ ls) = l ++ 10 ∷ bytes_of ls
+bytes_of ((l, false) ∷ ls) = l ++ bytes_of ls
+
+begun_bytes : (c : ℕ) (ls : List (List ℕ × Bool)) → bytes_of (begun_by c ls) ≡ c ∷ bytes_of ls
+unfolding bytes_of
+begun_bytes c [] = refl
+begun_bytes c ((l, true) ∷ ls) = refl
+begun_bytes c ((l, false) ∷ ls) = refl
+
+bytes-lines : (bs : List ℕ) → bytes_of (lines_of bs) ≡ bs
+unfolding bytes_of
+bytes-lines [] = refl
+bytes-lines (c ∷ cs) = by (eqb c 10) refl (bytes-lines cs)
+  where
+    by : (b : Bool) → eqb c 10 ≡ b → bytes_of (lines_of cs) ≡ cs → bytes_of (cond b (([], true) ∷ lines_of cs) (begun_by c (lines_of cs))) ≡ c ∷ cs
+    by true e rec = ap (λ l. 10 ∷ l) rec ∙ ap (λ d. d ∷ cs) (sym (eqb-true c 10 e))
+    by false e rec = begun_bytes c (lines_of cs) ∙ ap (λ l. c ∷ l) rec
+
+-- what a reading of lines behind a trace says of their bytes
+abbrev AreSaid : Traced → List (List ℕ × Bool) → Result Traced TraceError → Type 0
+AreSaid t ls (Err e) = Unit {0}
+AreSaid t ls (Ok u) = (trace_text u ≡ trace_text t ++ bytes_of ls) × IsFront u × (is_empty u.starts ≡ false)
+
+one_more : (t : Traced) (p : Piece) (l : List ℕ) (ls : List (List ℕ × Bool)) (r : Result Traced TraceError) → l ≡ piece_text p → may_follow t p ≡ true → AreSaid (with_piece t p) ls r → AreSaid t ((l, true) ∷ ls) r
+unfolding bytes_of
+one_more t p l ls (Err e) is m h = tt
+one_more t p l ls (Ok u) is m h = (
+  h.0 ∙ ap (λ x. x ++ bytes_of ls) (text_added t p m) ∙ append_assoc (trace_text t) (piece_text p ++ 10 ∷ []) (bytes_of ls)
+      ∙ ap (λ x. trace_text t ++ x) (append_assoc (piece_text p) (10 ∷ []) (bytes_of ls)) ∙ ap (λ x. trace_text t ++ (x ++ 10 ∷ bytes_of ls)) (sym is),
+  h.1,
+  h.2,
+)
+
+module _ (t : Traced) (k : ℕ) (l : List ℕ) (ls : List (List ℕ × Bool)) (more : Traced → Result Traced TraceError) (f : IsFront t) (rec : (u : Traced) → IsFront u → AreSaid u ls (more u)) where
+  follows : (p : Piece) (b : Bool) → may_follow t p ≡ b → is_full t ≡ false → l ≡ piece_text p → is_piece p ≡ true → AreSaid t ((l, true) ∷ ls) (then_more more (cond b (Ok (with_piece t p)) (Err (errors.Line k))))
+  follows p false m full is can = tt
+  follows p true m full is can = one_more t p l ls (more (with_piece t p)) is m (rec (with_piece t p) (front_added t p f full can m))
+
+  says : (o : Option Piece) → piece_of l ≡ o → is_full t ≡ false → AreSaid t ((l, true) ∷ ls) (then_more more (followed_by t k o))
+  says None e full = tt
+  says (Some p) e full = let said = piece_said l p e in follows p (may_follow t p) refl full said.0 said.1
+
+  fills : (b : Bool) → is_full t ≡ b → AreSaid t ((l, true) ∷ ls) (then_more more (cond b (Err (errors.Long k)) (followed_by t k (piece_of l))))
+  fills true full = tt
+  fills false full = says (piece_of l) refl full
+
+lines_said : (t : Traced) (k : ℕ) (ls : List (List ℕ × Bool)) → IsFront t → AreSaid t ls (lines_from t k ls)
+unfolding bytes_of
+lines_said t k [] f = by (is_empty t.starts) refl
+  where
+    by : (b : Bool) → is_empty t.starts ≡ b → AreSaid t [] (cond b (Err (errors.Line k)) (Ok t))
+    by true e = tt
+    by false e = (sym (append-nil (trace_text t)), f, e)
+lines_said t k ((l, false) ∷ ls) f = tt
+lines_said t k ((l, true) ∷ ls) f = fills t k l ls (λ u. lines_from u (suc k) ls) f (λ u g. lines_said u (suc k) ls g) (is_full t) refl
+
+-- what a reading says of the bytes
+abbrev IsSaid : List ℕ → Result Traced TraceError → Type 0
+IsSaid bs (Err e) = Unit {0}
+IsSaid bs (Ok t) = (bs ≡ trace_text t) × IsTrace t
+
+trace_of_front : (t : Traced) → IsFront t → is_empty t.starts ≡ false → IsTrace t
+trace_of_front t f e = record {
+  devices = f.devices;
+  starts = f.starts;
+  started = e;
+  starts_few = f.starts_few;
+  sessions = f.sessions;
+  events = f.events;
+  events_few = f.events_few;
+}
+
+behind_header : (l : List ℕ) (ls : List (List ℕ × Bool)) (r : Result Traced TraceError) → l ≡ header → AreSaid no_lines ls r → IsSaid (bytes_of ((l, true) ∷ ls)) r
+unfolding bytes_of
+behind_header l ls (Err e) is h = tt
+behind_header l ls (Ok t) is h = (ap (λ x. x ++ 10 ∷ bytes_of ls) is ∙ sym h.0, trace_of_front t h.1 h.2)
+
+none_yet : IsFront no_lines
+none_yet = record { devices = refl; starts = refl; starts_few = omega arith; sessions = omega arith; events = refl; events_few = omega arith }
+
+headed_said : (ls : List (List ℕ × Bool)) → IsSaid (bytes_of ls) (headed ls)
+headed_said [] = tt
+headed_said ((l, false) ∷ ls) = tt
+headed_said ((l, true) ∷ ls) = by (bytes_eq l header) refl
+  where
+    by : (b : Bool) → bytes_eq l header ≡ b → IsSaid (bytes_of ((l, true) ∷ ls)) (cond b (lines_from no_lines 2 ls) (Err errors.Header))
+    by false e = tt
+    by true e = behind_header l ls (lines_from no_lines 2 ls) ((bytes_decides l header).0 e) (lines_said no_lines 2 ls none_yet)
+
+reading_said : (bs : List ℕ) → IsSaid bs (reading_of bs)
+reading_said bs = subst (λ x. IsSaid x (reading_of bs)) (bytes-lines bs) (headed_said (lines_of bs))
+
+-- what is read is a trace, and the bytes are how it is written
+pub is_said : (bs : List ℕ) (t : Traced) → reading_of bs ≡ Ok t → (bs ≡ trace_text t) × IsTrace t
+is_said bs t e = subst (IsSaid bs) e (reading_said bs)
+
+-- the same of what a call gives
+pub says_it : (bs : List ℕ) (r : Result Traced TraceError) → IfOk r (λ t. reading_of bs ≡ Ok t) → IfOk r (λ t. (bs ≡ trace_text t) × IsTrace t)
+says_it bs (Ok t) h = is_said bs t h
+says_it bs (Err e) h = tt

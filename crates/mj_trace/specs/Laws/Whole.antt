@@ -1,0 +1,194 @@
+-- The bytes of a trace are read as this trace.
+use Rattle.std.proofs.Common.{◌≡◌, ◌⊎◌, inl, inr, ◌∙◌, ◌+◌, ◌<◌, ◌≤◌, suc, ℕ, pos, Bool, true, false, not, cond, ◌&&◌, eqb, List, [], ◌∷◌, ◌++◌, length, Some, None, Result, Ok, Err, refl, sym, ap, subst, append_assoc, append-nil, arith}
+use Rattle.std.specs.Prelude.{IfOk, IfErr, nat_lt, decimal}
+use Rattle.std.specs.Option.{option_map}
+use Rattle.std.specs.List.{list_all}
+use Rattle.std.specs.Char.{is_ascii_lowercase}
+use Rattle.std.specs.Cmp.Lexicographic.{bytes_decides}
+use Rattle.std.proofs.lemmas.Bool.Decides.{nat_tests}
+use Rattle.mj_store.specs.Nodes.{is_empty}
+use Rattle.mj_ask.specs.Written.{is_entry}
+use Rattle.mj_ask.specs.declared.entry.Entry.{Entry}
+use Rattle.mj_ask.specs.declared.ask.Ask.{Ask}
+use Rattle.mj_ask.specs.declared.ask.Reply.{Reply}
+use Rattle.mj_ask.specs.Formed.{is_ask, is_reply}
+use Rattle.mj_ask.specs.Fits.{is_reply_to}
+use Rattle.mj_gfile.specs.Reading.{is_number_byte}
+use Rattle.mj_gfile.specs.Listing.{is_text, lines_of}
+use Rattle.mj_gfile.specs.Laws.Texts.{both_true}
+use Rattle.mj_gfile.specs.Laws.Listings.{no_end, AreWithin, line_first}
+use Rattle.mj_trace.specs.declared.run.Run.TheVariants as runs
+use Rattle.mj_trace.specs.declared.piece.Piece.{Piece}
+use Rattle.mj_trace.specs.declared.piece.Piece.TheVariants as pieces
+use Rattle.mj_trace.specs.declared.refusal.TraceError.{TraceError}
+use Rattle.mj_trace.specs.declared.refusal.TraceError.TheVariants as errors
+use Rattle.mj_trace.specs.Spelling.{ask_text, reply_text, event_text}
+use Rattle.mj_trace.specs.Trace.{Traced, header, pool_line, pool_lines, start_line, start_lines, event_lines, trace_text}
+use Rattle.mj_trace.specs.Reading.{onward, front, behind}
+use Rattle.mj_trace.specs.Lines.{piece_text, are_told, is_event, is_piece, told, asked, event_in, counted, piece_with, piece_in, respelled, piece_of, starts_limit, events_limit, is_before, stands_behind, last_device, principal, may_start, may_follow, with_piece, followed_by, then_more, lines_from, no_lines, headed, reading_of, rises, IsTrace}
+use Rattle.mj_trace.specs.Sized.{is_count, ask_fits, reply_fits, IsSized}
+use Rattle.mj_trace.specs.Laws.Spelled.{last_pushed, one_longer}
+use Rattle.mj_trace.specs.Laws.Found.{number_bytes, count_found, text_found}
+use Rattle.mj_trace.specs.Laws.Asked.{ask_found, entry_read}
+use Rattle.mj_trace.specs.Laws.Told.{IsGiven, number_mark, count_ranged, count_all, reply_found, reply_told}
+use Rattle.mj_trace.specs.Laws.Within.{entry_within, event_within, device_line_within}
+
+-- ---- one line
+
+respelled_found : (p : Piece) (line : List ℕ) → piece_in line ≡ Some p → is_piece p ≡ true → piece_text p ≡ line → piece_of line ≡ Some p
+respelled_found p line found can is =
+    ap (respelled line) found ∙ (λ i. cond (can i && (bytes_decides (piece_text p) line).1 is i) (Some p) None)
+
+digit_no_letter : (c : ℕ) → is_number_byte c ≡ true → is_ascii_lowercase c ≡ false
+digit_no_letter c h = grind (arith, nat_tests)
+
+-- a line that begins with a number is that of an event
+numbered : (s r : List ℕ) → IsGiven s → list_all is_number_byte s ≡ true → piece_in (s ++ r) ≡ event_in (s ++ r)
+numbered [] r g h = absurd g
+numbered (c ∷ cs) r g h =
+    ap (λ b. piece_with (c ∷ (cs ++ r)) (cond b (c ∷ front runs.Letters (cs ++ r)) []) (cond b (behind runs.Letters (cs ++ r)) (c ∷ (cs ++ r))))
+    (digit_no_letter c (both_true (is_number_byte c) (list_all is_number_byte cs) h).0)
+
+-- an event that can be written, within the limits
+record IsWritten (job : ℕ) (a : Ask) (r : Reply) : Type 0 where
+  number : is_count job ≡ true
+  ask : is_ask a ≡ true
+  ask_sized : ask_fits a ≡ true
+  reply : is_reply r ≡ true
+  reply_sized : reply_fits r ≡ true
+  told : is_reply_to a r ≡ true
+
+written : (job : ℕ) (a : Ask) (r : Reply) → are_told a r ≡ true → (is_count job && ask_fits a && reply_fits r) ≡ true → IsWritten job a r
+written job a r h k =
+    let p = both_true (is_ask a && is_reply r) (is_reply_to a r) h in
+    let q = both_true (is_ask a) (is_reply r) p.0 in
+    let x = both_true (is_count job && ask_fits a) (reply_fits r) k in
+    let y = both_true (is_count job) (ask_fits a) x.0 in
+    record { number = y.0; ask = q.0; ask_sized = y.1; reply = q.1; reply_sized = x.1; told = p.1 }
+
+event_found : (job : ℕ) (a : Ask) (r : Reply) → IsWritten job a r → are_told a r ≡ true → piece_of (event_text job a r) ≡ Some (pieces.Event job a r)
+event_found job a r w h =
+    let range = count_ranged job w.number in
+    respelled_found (pieces.Event job a r) (event_text job a r)
+    (numbered (decimal job) (32 ∷ (ask_text a ++ 32 ∷ reply_text r)) (number_mark (pos job) range) (number_bytes (pos job) range)
+    ∙ ap (onward asked) (count_found job (32 ∷ (ask_text a ++ 32 ∷ reply_text r)) w.number (refl, refl, refl, refl))
+    ∙ ap (onward (told job)) (ask_found a (reply_text r) w.ask w.ask_sized (reply_told r w.reply w.reply_sized))
+    ∙ ap (option_map (λ reply. pieces.Event job a reply)) (reply_found a r w.told w.reply w.reply_sized))
+    h refl
+
+start_found : (e : Entry) → is_entry e ≡ true → piece_of (start_line e) ≡ Some (pieces.Start e)
+start_found e h = respelled_found (pieces.Start e) (start_line e) (ap (option_map pieces.Start) (entry_read e h)) h refl
+
+device_found : (name : List ℕ) (count : ℕ) → is_text name ≡ true → is_count count ≡ true → piece_of (pool_line (name, count)) ≡ Some (pieces.Device name count)
+device_found name count h k =
+    respelled_found (pieces.Device name count) (pool_line (name, count))
+    (ap (onward counted) (text_found name (32 ∷ decimal count) h (refl, refl, refl, refl)) ∙ ap (option_map (λ p. pieces.Device name p.0)) (count_all count k))
+    refl refl
+
+-- ---- one line behind others
+
+not_yet_full : (n : ℕ) → n < events_limit → eqb n events_limit ≡ false
+not_yet_full n h = grind (arith, nat_tests)
+
+below : (n m : ℕ) → n < m → nat_lt n m ≡ true
+below n m h = grind (arith, nat_tests)
+
+-- a line that may follow is read
+follows : (t : Traced) (k : ℕ) (p : Piece) (rest : List ℕ) → AreWithin (piece_text p) → length t.events < events_limit → piece_of (piece_text p) ≡ Some p → may_follow t p ≡ true
+    → lines_from t k (lines_of (piece_text p ++ 10 ∷ rest)) ≡ lines_from (with_piece t p) (suc k) (lines_of rest)
+follows t k p rest within few found may =
+    let more : Traced → Result Traced TraceError = λ u. lines_from u (suc k) (lines_of rest) in
+    ap (lines_from t k) (line_first (piece_text p) rest within)
+    ∙ ap (λ b. then_more more (cond b (Err (errors.Long k)) (followed_by t k (piece_of (piece_text p))))) (not_yet_full (length t.events) few)
+    ∙ ap (λ o. then_more more (followed_by t k o)) found
+    ∙ ap (λ b. then_more more (cond b (Ok (with_piece t p)) (Err (errors.Line k)))) may
+
+is_sized_event : ℕ × Ask × Reply → Bool
+is_sized_event e = is_count e.0 && ask_fits e.1 && reply_fits e.2
+
+abbrev at : List (List ℕ × ℕ) → List Entry → List (ℕ × Ask × Reply) → Traced
+at pool starts events = record { pool = pool; starts = starts; events = events }
+
+events_read : (pool : List (List ℕ × ℕ)) (starts : List Entry) (acc : List (ℕ × Ask × Reply)) (k : ℕ) (es : List (ℕ × Ask × Reply)) → is_empty starts ≡ false → list_all is_event es ≡ true → list_all is_sized_event es ≡ true → length acc + length es ≤ events_limit
+    → lines_from (at pool starts acc) k (lines_of (event_lines es)) ≡ Ok (at pool starts (acc ++ es))
+unfolding is_sized_event
+events_read pool starts acc k [] some can fit few =
+    ap (λ b. cond b (Err (errors.Line k)) (Ok (at pool starts acc))) some ∙ ap (λ es. Ok (at pool starts es)) (sym (append-nil acc))
+events_read pool starts acc k ((job, a, r) ∷ es) some can fit few =
+    let p = both_true (are_told a r) (list_all is_event es) can in
+    let q = both_true (is_count job && ask_fits a && reply_fits r) (list_all is_sized_event es) fit in
+    let w = written job a r p.0 q.0 in
+    follows (at pool starts acc) k (pieces.Event job a r) (event_lines es) (event_within job a r w.number w.ask w.ask_sized w.reply w.reply_sized) (omega (arith, few)) (event_found job a r w p.0) (ap not some)
+    ∙ events_read pool starts (acc ++ (job, a, r) ∷ []) (suc k) es some p.1 q.1 (omega (arith, few, one_longer acc (job, a, r)))
+    ∙ ap (λ xs. Ok (at pool starts xs)) (append_assoc acc ((job, a, r) ∷ []) es)
+
+some_more : (acc : List Entry) (s : Entry) (ss : List Entry) → is_empty (acc ++ s ∷ ss) ≡ false
+some_more [] s ss = refl
+some_more (x ∷ acc) s ss = refl
+
+starts_read : (pool : List (List ℕ × ℕ)) (acc : List Entry) (k : ℕ) (ss : List Entry) (es : List (ℕ × Ask × Reply)) → list_all is_entry ss ≡ true → is_empty (acc ++ ss) ≡ false → length acc + length ss ≤ starts_limit → length acc + length ss ≤ principal pool
+    → list_all is_event es ≡ true → list_all is_sized_event es ≡ true → length es ≤ events_limit
+    → lines_from (at pool acc []) k (lines_of (start_lines ss ++ event_lines es)) ≡ Ok (at pool (acc ++ ss) es)
+unfolding no_end
+starts_read pool acc k [] es can some few sessions good fit most =
+    let same = append-nil acc in
+    events_read pool acc [] k es (ap is_empty (sym same) ∙ some) good fit (omega (arith, most)) ∙ ap (λ ss. Ok (at pool ss es)) (sym same)
+starts_read pool acc k (s ∷ ss) es can some few sessions good fit most =
+    let p = both_true (is_entry s) (list_all is_entry ss) can in
+    let may : may_start pool (length acc) ≡ true = λ i. below (length acc) starts_limit (omega (arith, few)) i && below (length acc) (principal pool) (omega (arith, sessions)) i in
+    ap (λ l. lines_from (at pool acc []) k (lines_of l)) (append_assoc (start_line s) (10 ∷ start_lines ss) (event_lines es))
+    ∙ follows (at pool acc []) k (pieces.Start s) (start_lines ss ++ event_lines es) (entry_within s p.0) (omega arith) (start_found s p.0) may
+    ∙ starts_read pool (acc ++ s ∷ []) (suc k) ss es p.1 (ap is_empty (append_assoc acc (s ∷ []) ss) ∙ some) (omega (arith, few, one_longer acc s)) (omega (arith, sessions, one_longer acc s)) good fit most
+    ∙ ap (λ xs. Ok (at pool xs es)) (append_assoc acc (s ∷ []) ss)
+
+rises_behind : (acc : List (List ℕ × ℕ)) (name : List ℕ) (count : ℕ) (ds : List (List ℕ × ℕ)) → rises (acc ++ (name, count) ∷ ds) ≡ true → stands_behind (last_device acc) name ≡ true
+rises_behind [] name count ds h = refl
+rises_behind (c ∷ []) name count ds h = (both_true (is_before c.0 name) (rises ((name, count) ∷ ds)) h).0
+rises_behind (c ∷ e ∷ acc) name count ds h =
+    ap (λ l. stands_behind l name) (last_pushed c e acc) ∙ rises_behind (e ∷ acc) name count ds (both_true (is_before c.0 e.0) (rises ((e ∷ acc) ++ (name, count) ∷ ds)) h).1
+
+is_sized_device : List ℕ × ℕ → Bool
+is_sized_device d = is_text d.0 && is_count d.1
+
+pool_read : (acc : List (List ℕ × ℕ)) (k : ℕ) (ds : List (List ℕ × ℕ)) (ss : List Entry) (es : List (ℕ × Ask × Reply)) → rises (acc ++ ds) ≡ true → list_all is_sized_device ds ≡ true
+    → list_all is_entry ss ≡ true → is_empty ss ≡ false → length ss ≤ starts_limit → length ss ≤ principal (acc ++ ds)
+    → list_all is_event es ≡ true → list_all is_sized_event es ≡ true → length es ≤ events_limit
+    → lines_from (at acc [] []) k (lines_of (pool_lines ds ++ (start_lines ss ++ event_lines es))) ≡ Ok (at (acc ++ ds) ss es)
+unfolding is_sized_device no_end
+pool_read acc k [] ss es up sized can some few sessions good fit most =
+    let same = append-nil acc in
+    starts_read acc [] k ss es can some (omega (arith, few)) (let here : length ss ≤ principal acc = subst (λ ds. length ss ≤ principal ds) same sessions in omega (arith, here)) good fit most ∙ ap (λ ds. Ok (at ds ss es)) (sym same)
+pool_read acc k ((name, count) ∷ ds) ss es up sized can some few sessions good fit most =
+    let p = both_true (is_text name && is_count count) (list_all is_sized_device ds) sized in
+    let q = both_true (is_text name) (is_count count) p.0 in
+    let same = append_assoc acc ((name, count) ∷ []) ds in
+    ap (λ l. lines_from (at acc [] []) k (lines_of l)) (append_assoc (pool_line (name, count)) (10 ∷ pool_lines ds) (start_lines ss ++ event_lines es))
+    ∙ follows (at acc [] []) k (pieces.Device name count) (pool_lines ds ++ (start_lines ss ++ event_lines es)) (device_line_within name count q.1) (omega arith) (device_found name count q.0 q.1) (rises_behind acc name count ds up)
+    ∙ pool_read (acc ++ (name, count) ∷ []) (suc k) ds ss es (ap rises same ∙ up) p.1 can some few (subst (λ xs. length ss ≤ principal xs) (sym same) sessions) good fit most
+    ∙ ap (λ xs. Ok (at xs ss es)) same
+
+-- ---- the whole
+
+-- the bytes of a trace that can be written, within the limits, are read as this trace
+pub is_read : (t : Traced) → IsTrace t → IsSized t → reading_of (trace_text t) ≡ Ok t
+unfolding no_end is_sized_device is_sized_event
+is_read t h k =
+    ap headed (line_first header ((pool_lines t.pool ++ start_lines t.starts) ++ event_lines t.events) refl)
+    ∙ ap (λ l. lines_from no_lines 2 (lines_of l)) (append_assoc (pool_lines t.pool) (start_lines t.starts) (event_lines t.events))
+    ∙ pool_read [] 2 t.pool t.starts t.events h.devices k.devices h.starts h.started h.starts_few h.sessions h.events k.events h.events_few
+
+ok_same : (r : Result Traced TraceError) (u t : Traced) → r ≡ Ok u → r ≡ Ok t → u ≡ t
+ok_same r u t e f = cc
+
+-- the same of what a call gives
+pub reads_it : (bs : List ℕ) (r : Result Traced TraceError) → IfOk r (λ t. reading_of bs ≡ Ok t) → (t : Traced) → bs ≡ trace_text t → IsTrace t → IsSized t → IfOk r (λ u. u ≡ t)
+reads_it bs (Ok u) h t is a b = ok_same (reading_of bs) u t h (ap reading_of is ∙ is_read t a b)
+reads_it bs (Err e) h t is a b = tt
+
+pub reads_all : (bs : List ℕ) (r : Result Traced TraceError) → IfErr r (λ e. (e ≡ errors.Memory) ⊎ (reading_of bs ≡ Err e)) → (t : Traced) → bs ≡ trace_text t → IsTrace t → IsSized t → IfErr r (λ e. e ≡ errors.Memory)
+reads_all bs (Ok u) h t is a b = tt
+reads_all bs (Err e) h t is a b = by h (ap reading_of is ∙ is_read t a b)
+  where
+    by : (e ≡ errors.Memory) ⊎ (reading_of bs ≡ Err e) → reading_of bs ≡ Ok t → e ≡ errors.Memory
+    by (inl m) ok = m
+    by (inr x) ok = absurd cc

@@ -1,0 +1,186 @@
+-- Traces as a whole: which trace some bytes are, and which refusal comes for bytes that are none.
+use Rattle.std.specs.Prelude.{◌≡◌, ◌≤◌, ℕ, suc, ◌-◌, Bool, true, false, not, ◌&&◌, ◌==◌, nat_lt, if◌then◌else◌, List, [], ◌∷◌, ◌++◌, length, slice_get, Option, Some, None, Result, Ok, Err, codes}
+use Rattle.std.specs.Option.{option_map}
+use Rattle.std.specs.List.{list_all}
+use Rattle.std.specs.Str.{bytes_eq}
+use Rattle.std.specs.Cmp.Lexicographic.{slice_cmp}
+use Rattle.std.specs.Ordering.{nat_cmp, is_lt}
+use Rattle.mj_store.specs.Nodes.{is_empty}
+use Rattle.mj_ask.specs.Written.{is_entry, entry_of}
+use Rattle.mj_ask.specs.declared.ask.Ask.{Ask}
+use Rattle.mj_ask.specs.declared.ask.Reply.{Reply}
+use Rattle.mj_ask.specs.Formed.{is_ask, is_reply}
+use Rattle.mj_ask.specs.Fits.{is_reply_to}
+use Rattle.mj_gfile.specs.Listing.{lines_of}
+use Rattle.mj_trace.specs.declared.piece.Piece.{Piece}
+use Rattle.mj_trace.specs.declared.piece.Piece.TheVariants as pieces
+use Rattle.mj_trace.specs.declared.refusal.TraceError.{TraceError}
+use Rattle.mj_trace.specs.declared.refusal.TraceError.TheVariants as errors
+use Rattle.mj_trace.specs.declared.run.Run.TheVariants as runs
+use Rattle.mj_trace.specs.Spelling.{event_text}
+use Rattle.mj_trace.specs.Trace.{Traced, header, pool_line, start_line}
+use Rattle.mj_trace.specs.Reading.{onward, front, behind, skipped, count_in, text_in, ask_in, reply_in}
+
+-- ---- one line
+
+-- the line, without its byte 10
+abbrev pub piece_text : Piece → List ℕ
+piece_text (pieces.Device name count) = pool_line (name, count)
+piece_text (pieces.Start entry) = start_line entry
+piece_text (pieces.Event job ask reply) = event_text job ask reply
+
+-- what was asked and told can be written: the reply stands in the table behind the ask, whatever the ask's timeout
+abbrev pub are_told : Ask → Reply → Bool
+are_told ask reply = is_ask ask && is_reply reply && is_reply_to ask reply
+
+-- an event that can be written
+abbrev pub is_event : ℕ × Ask × Reply → Bool
+is_event e = are_told e.1 e.2
+
+-- a line that can be written
+abbrev pub is_piece : Piece → Bool
+is_piece (pieces.Device name count) = true
+is_piece (pieces.Start entry) = is_entry entry
+is_piece (pieces.Event job ask reply) = are_told ask reply
+
+abbrev pub told : ℕ → Ask → List ℕ → Option Piece
+told job ask rest = option_map (λ reply. pieces.Event job ask reply) (reply_in ask (skipped rest))
+
+abbrev pub asked : ℕ → List ℕ → Option Piece
+asked job rest = onward (told job) (ask_in (skipped rest))
+
+-- an event
+abbrev pub event_in : List ℕ → Option Piece
+event_in line = onward asked (count_in line)
+
+abbrev pub counted : List ℕ → List ℕ → Option Piece
+counted name rest = option_map (λ p. pieces.Device name p.0) (count_in (skipped rest))
+
+-- a device, behind its word
+abbrev pub pooled : List ℕ → Option Piece
+pooled bs = onward counted (text_in bs)
+
+-- a start, behind its word
+abbrev pub starting : List ℕ → Option Piece
+starting bs = option_map pieces.Start (entry_of bs)
+
+abbrev pub piece_with : List ℕ → List ℕ → List ℕ → Option Piece
+piece_with line word rest =
+    if bytes_eq word (codes "pool") then pooled (skipped rest)
+    else (if bytes_eq word (codes "start") then starting (skipped rest) else event_in line)
+
+-- what a line may say
+abbrev pub piece_in : List ℕ → Option Piece
+piece_in line = piece_with line (front runs.Letters line) (behind runs.Letters line)
+
+-- what was found, where it is spelled so
+abbrev pub respelled : List ℕ → Option Piece → Option Piece
+respelled line None = None
+respelled line (Some p) = if is_piece p && bytes_eq (piece_text p) line then Some p else None
+
+-- what a line says
+abbrev pub piece_of : List ℕ → Option Piece
+piece_of line = respelled line (piece_in line)
+
+-- ---- one line behind others
+
+-- the most starts, and the most events
+abbrev pub starts_limit : ℕ
+starts_limit = 255
+
+abbrev pub events_limit : ℕ
+events_limit = 1000000
+
+-- there may be no more events
+abbrev pub is_full : Traced → Bool
+is_full t = length t.events == events_limit
+
+-- a name comes after another by its bytes
+abbrev pub is_before : List ℕ → List ℕ → Bool
+is_before a b = is_lt (slice_cmp nat_cmp a b)
+
+-- a name stands behind that of a device, if there is one
+abbrev pub stands_behind : Option (List ℕ × ℕ) → List ℕ → Bool
+stands_behind None name = true
+stands_behind (Some d) name = is_before d.0 name
+
+-- the last device
+abbrev pub last_device : List (List ℕ × ℕ) → Option (List ℕ × ℕ)
+last_device ds = slice_get ds (length ds - 1)
+
+-- the sessions of the principal device, which is called `0`
+abbrev pub principal : List (List ℕ × ℕ) → ℕ
+principal [] = 0
+principal (d ∷ ds) = if bytes_eq d.0 (codes "0") then d.1 else principal ds
+
+-- one more start: no more than there may be, and than the principal device has sessions
+abbrev pub may_start : List (List ℕ × ℕ) → ℕ → Bool
+may_start pool count = nat_lt count starts_limit && nat_lt count (principal pool)
+
+-- a line may follow: devices come first, by their names, then the starts, of which there is one at least, then the events
+abbrev pub may_follow : Traced → Piece → Bool
+may_follow t (pieces.Device name count) = is_empty t.starts && is_empty t.events && stands_behind (last_device t.pool) name
+may_follow t (pieces.Start entry) = is_empty t.events && may_start t.pool (length t.starts)
+may_follow t (pieces.Event job ask reply) = not (is_empty t.starts)
+
+-- the trace with one line more
+abbrev pub with_piece : Traced → Piece → Traced
+with_piece t (pieces.Device name count) = record { pool = t.pool ++ (name, count) ∷ []; starts = t.starts; events = t.events }
+with_piece t (pieces.Start entry) = record { pool = t.pool; starts = t.starts ++ entry ∷ []; events = t.events }
+with_piece t (pieces.Event job ask reply) = record { pool = t.pool; starts = t.starts; events = t.events ++ (job, ask, reply) ∷ [] }
+
+abbrev pub followed_by : Traced → ℕ → Option Piece → Result Traced TraceError
+followed_by t k None = Err (errors.Line k)
+followed_by t k (Some p) = if may_follow t p then Ok (with_piece t p) else Err (errors.Line k)
+
+-- the trace with line k, which byte 10 ends. One more than there may be is too many, whatever it says
+abbrev pub lined : Traced → ℕ → List ℕ → Result Traced TraceError
+lined t k line = if is_full t then Err (errors.Long k) else followed_by t k (piece_of line)
+
+-- ---- all lines
+
+-- why line k is refused that no byte 10 ends
+abbrev pub unfinished : Traced → ℕ → TraceError
+unfinished t k = if is_full t then errors.Long k else errors.Line k
+
+abbrev pub line_added : Traced → ℕ → List ℕ × Bool → Result Traced TraceError
+line_added t k l = if l.1 then lined t k l.0 else Err (unfinished t k)
+
+abbrev pub then_more : (Traced → Result Traced TraceError) → Result Traced TraceError → Result Traced TraceError
+then_more more (Ok t) = more t
+then_more more (Err e) = Err e
+
+-- the trace with the lines from k on: the first that is refused decides. Where no start stood, it is missing at the end
+abbrev pub lines_from : Traced → ℕ → List (List ℕ × Bool) → Result Traced TraceError
+lines_from t k [] = if is_empty t.starts then Err (errors.Line k) else Ok t
+lines_from t k (l ∷ ls) = then_more (λ u. lines_from u (suc k) ls) (line_added t k l)
+
+abbrev pub no_lines : Traced
+no_lines = record { pool = []; starts = []; events = [] }
+
+-- the lines of a file: the first must be the header
+abbrev pub headed : List (List ℕ × Bool) → Result Traced TraceError
+headed [] = Err errors.Header
+headed (l ∷ ls) = if l.1 && bytes_eq l.0 header then lines_from no_lines 2 ls else Err errors.Header
+
+-- the trace that some bytes are, or their refusal
+abbrev pub reading_of : List ℕ → Result Traced TraceError
+reading_of bs = headed (lines_of bs)
+
+-- ---- traces
+
+-- the names rise by their bytes
+abbrev pub rises : List (List ℕ × ℕ) → Bool
+rises [] = true
+rises (d ∷ []) = true
+rises (d ∷ e ∷ ds) = is_before d.0 e.0 && rises (e ∷ ds)
+
+-- a trace that can be written: its devices rise by name, it has a start for each session that it takes and one at least, and no more events than there may be
+pub record IsTrace (t : Traced) : Type 0 where
+  pub devices : rises t.pool ≡ true
+  pub starts : list_all is_entry t.starts ≡ true
+  pub started : is_empty t.starts ≡ false
+  pub starts_few : length t.starts ≤ starts_limit
+  pub sessions : length t.starts ≤ principal t.pool
+  pub events : list_all is_event t.events ≡ true
+  pub events_few : length t.events ≤ events_limit

@@ -1,0 +1,107 @@
+-- What the values of a trace's types can hold: a text is no longer than one may be, and a number is in its range.
+use Rattle.std.specs.Prelude.{◌≡◌, ℕ, ℤ, ◌^◌, Bool, true, ◌&&◌, nat_lt, nat_le, List, length, Option, Some, None}
+use Rattle.std.specs.List.{list_all}
+use Rattle.mj_num.specs.Number.{is_in_range}
+use Rattle.mj_subs.specs.Name.{Name}
+use Rattle.mj_store.specs.Questions.{Subtree}
+use Rattle.mj_store.specs.declared.access.Access.{Access}
+use Rattle.mj_store.specs.declared.access.Access.TheVariants as accesses
+use Rattle.mj_store.specs.declared.access.Answer.{Answer}
+use Rattle.mj_store.specs.declared.access.Answer.TheVariants as answers_are
+use Rattle.mj_ask.specs.declared.clash.Kept.{Kept}
+use Rattle.mj_ask.specs.declared.clash.Kept.TheVariants as kepts
+use Rattle.mj_ask.specs.declared.ask.Ask.{Ask}
+use Rattle.mj_ask.specs.declared.ask.Ask.TheVariants as asks
+use Rattle.mj_ask.specs.declared.ask.Reply.{Reply}
+use Rattle.mj_ask.specs.declared.ask.Reply.TheVariants as replies
+use Rattle.mj_gfile.specs.Listing.{is_text}
+use Rattle.mj_trace.specs.Trace.{Traced}
+
+-- a count
+abbrev pub is_count : ℕ → Bool
+is_count n = nat_lt n (2 ^ 32)
+
+-- a code, of a byte
+abbrev pub is_code : ℕ → Bool
+is_code n = nat_lt n 256
+
+abbrev pub are_texts : List (List ℕ) → Bool
+are_texts ts = list_all is_text ts
+
+-- the subscripts of a name
+abbrev pub name_fits : Name → Bool
+name_fits n = are_texts n.subscripts
+
+-- nodes, each with no more subscripts than there may be
+abbrev pub nodes_fit : Subtree → Bool
+nodes_fit nodes = list_all (λ e. nat_le (length e.0) 31 && are_texts e.0 && is_text e.1) nodes
+
+abbrev pub access_fits : Access → Bool
+access_fits (accesses.Value n) = name_fits n
+access_fits (accesses.Data n) = name_fits n
+access_fits (accesses.Order n way) = name_fits n
+access_fits (accesses.Query n) = name_fits n
+access_fits (accesses.Subtree n) = name_fits n
+access_fits (accesses.Set n t) = name_fits n && is_text t
+access_fits (accesses.Kill n) = name_fits n
+access_fits (accesses.Put n nodes) = name_fits n && nodes_fit nodes
+
+abbrev pub timeout_fits : Option ℤ → Bool
+timeout_fits timeout = elim timeout [ None ↦ true | Some n ↦ is_in_range n ]
+
+abbrev pub value_fits : Option (List ℕ) → Bool
+value_fits value = elim value [ None ↦ true | Some t ↦ is_text t ]
+
+abbrev pub ask_fits : Ask → Bool
+ask_fits (asks.DeviceBegin device) = is_text device
+ask_fits (asks.DeviceWrite device bytes) = is_text device && is_text bytes
+ask_fits (asks.DeviceLine device timeout) = is_text device && timeout_fits timeout
+ask_fits (asks.DeviceByte device timeout) = is_text device && timeout_fits timeout
+ask_fits (asks.DeviceEnd device) = is_text device
+ask_fits (asks.Access a) = access_fits a
+ask_fits (asks.Try names timeout) = list_all name_fits names && timeout_fits timeout
+ask_fits (asks.Unlock names) = list_all name_fits names
+ask_fits (asks.Open device timeout) = is_text device && timeout_fits timeout
+ask_fits (asks.Close device) = is_text device
+ask_fits (asks.Start start timeout) = list_all value_fits start.values && timeout_fits timeout
+ask_fits (asks.Rest n) = is_in_range n
+ask_fits asks.UnlockAll = true
+ask_fits (asks.Begin kind) = true
+ask_fits asks.Commit = true
+ask_fits asks.Rollback = true
+ask_fits (asks.Halt fault) = true
+
+abbrev pub answer_fits : Answer → Bool
+answer_fits (answers_are.Value v) = value_fits v
+answer_fits (answers_are.Data d) = is_code d
+answer_fits (answers_are.Order s) = value_fits s
+answer_fits (answers_are.Query m) = elim m [ None ↦ true | Some n ↦ name_fits n ]
+answer_fits (answers_are.Subtree nodes) = nodes_fit nodes
+answer_fits answers_are.Done = true
+answer_fits answers_are.Limit = true
+
+abbrev pub kept_fits : Kept → Bool
+kept_fits kepts.Nothing = true
+kept_fits (kepts.Text t) = is_text t
+kept_fits (kepts.Number n) = is_in_range n
+kept_fits (kepts.Name n) = name_fits n
+kept_fits (kepts.Subtree nodes) = nodes_fit nodes
+
+abbrev pub reply_fits : Reply → Bool
+reply_fits (replies.Answer x) = answer_fits x
+reply_fits (replies.Line t) = is_text t
+reply_fits (replies.Byte b) = is_code b
+reply_fits (replies.Job n) = is_count n
+reply_fits (replies.Clash clash) = is_count clash.place && kept_fits clash.then && kept_fits clash.now
+reply_fits replies.Done = true
+reply_fits replies.Limit = true
+reply_fits replies.Got = true
+reply_fits replies.Late = true
+reply_fits replies.NoSession = true
+reply_fits replies.Failed = true
+reply_fits replies.End = true
+
+-- the values of a trace
+pub record IsSized (t : Traced) : Type 0 where
+  pub devices : list_all (λ d. is_text d.0 && is_count d.1) t.pool ≡ true
+  pub events : list_all (λ e. is_count e.0 && ask_fits e.1 && reply_fits e.2) t.events ≡ true

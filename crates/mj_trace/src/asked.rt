@@ -1,0 +1,308 @@
+// What a job asked is found in a line.
+
+ghost use Rattle.std.specs.Prelude.{◌≡◌, Some, IfOk};
+ghost use Rattle.std.specs.Option.{option_map};
+ghost use Rattle.mj_trace.specs.Reading.{try_in, open_in, close_in, rest_in, access_in};
+ghost use Rattle.mj_trace.specs.Reading.{timeout_in, start_in, fault_of, halt_in, device_with, device_in, way_of, access_with, begun, unlock_in, ask_with, ask_in};
+
+use crate::found::{Found, find_text, read_count, read_number};
+use crate::members::{find_name, find_names, find_subtree, find_values};
+use crate::run::{Run, begins_with, skip, split};
+use mj_ask::{Ask, Entry, Kind, Start};
+use mj_num::Num;
+use mj_store::{Access, Direction};
+use mj_subs::Name;
+use mj_text::{Fault, Text};
+use std::alloc::{AllocError, Global};
+
+/// The ask at the front.
+pub(crate) fn find_ask<'a>(alloc: Global, bytes: &'a [u8]) -> Result<Found<'a, Ask>, AllocError>
+    ensures { IfOk result (λ r. option_map (λ p. (p.0, p.1.now)) r ≡ ask_in bytes.now) }
+{
+    let (word, rest) = split(bytes, Run::Letters);
+    find_ask_with(alloc, word, rest)
+}
+
+// The ask with this word.
+fn find_ask_with<'a>(
+    alloc: Global,
+    word: &[u8],
+    rest: &'a [u8],
+) -> Result<Found<'a, Ask>, AllocError>
+    ensures { IfOk result (λ r. option_map (λ p. (p.0, p.1.now)) r ≡ ask_with word.now rest.now) }
+{
+    if word == b"dev".as_slice() {
+        find_device(alloc, skip(rest))
+    } else if word == b"try".as_slice() {
+        find_try(alloc, skip(rest))
+    } else if word == b"unlock".as_slice() {
+        find_unlock(alloc, skip(rest))
+    } else if word == b"begin".as_slice() {
+        let (kind, behind) = split(skip(rest), Run::Letters);
+        Ok(Some(begin_of(rest, kind, behind)))
+    } else if word == b"commit".as_slice() {
+        Ok(Some((Ask::Commit, rest)))
+    } else if word == b"rollback".as_slice() {
+        Ok(Some((Ask::Rollback, rest)))
+    } else if word == b"open".as_slice() {
+        find_open(alloc, skip(rest))
+    } else if word == b"close".as_slice() {
+        find_close(alloc, skip(rest))
+    } else if word == b"start".as_slice() {
+        find_start(alloc, skip(rest))
+    } else if word == b"rest".as_slice() {
+        Ok(find_rest(skip(rest)))
+    } else if word == b"halt".as_slice() {
+        Ok(find_halt(rest))
+    } else {
+        find_access(alloc, word, skip(rest))
+    }
+}
+
+// The timeout at the front, if there is one, and what follows it.
+fn read_timeout(bytes: &[u8]) -> (Option<Num>, &[u8])
+    ensures { (result.0, result.1.now) ≡ timeout_in bytes.now }
+{
+    if !begins_with(b':', skip(bytes)) {
+        return (None, bytes);
+    }
+    match read_number(skip(skip(bytes))) {
+        Some((number, rest)) => (Some(number), rest),
+        None => (None, bytes),
+    }
+}
+
+// What is asked of a device.
+fn find_device<'a>(alloc: Global, bytes: &'a [u8]) -> Result<Found<'a, Ask>, AllocError>
+    ensures { IfOk result (λ r. option_map (λ p. (p.0, p.1.now)) r ≡ device_in bytes.now) }
+{
+    let Some((device, behind)) = find_text(alloc, bytes)? else {
+        return Ok(None);
+    };
+    let (word, rest) = split(skip(behind), Run::Letters);
+    find_device_with(alloc, device, word, rest)
+}
+
+// The same, by the word for it.
+fn find_device_with<'a>(
+    alloc: Global,
+    device: Text,
+    word: &[u8],
+    rest: &'a [u8],
+) -> Result<Found<'a, Ask>, AllocError>
+    ensures { IfOk result (λ r. option_map (λ p. (p.0, p.1.now)) r ≡ device_with device word.now rest.now) }
+{
+    if word == b"begin".as_slice() {
+        Ok(Some((Ask::DeviceBegin(device), rest)))
+    } else if word == b"end".as_slice() {
+        Ok(Some((Ask::DeviceEnd(device), rest)))
+    } else if word == b"line".as_slice() {
+        let (timeout, behind) = read_timeout(rest);
+        Ok(Some((Ask::DeviceLine(device, timeout), behind)))
+    } else if word == b"byte".as_slice() {
+        let (timeout, behind) = read_timeout(rest);
+        Ok(Some((Ask::DeviceByte(device, timeout), behind)))
+    } else if word == b"write".as_slice() {
+        match find_text(alloc, skip(rest))? {
+            Some((text, behind)) => Ok(Some((Ask::DeviceWrite(device, text), behind))),
+            None => Ok(None),
+        }
+    } else {
+        Ok(None)
+    }
+}
+
+// The names to take.
+fn find_try<'a>(alloc: Global, bytes: &'a [u8]) -> Result<Found<'a, Ask>, AllocError>
+    ensures { IfOk result (λ r. option_map (λ p. (p.0, p.1.now)) r ≡ try_in bytes.now) }
+{
+    let Some((names, behind)) = find_names(alloc, bytes)? else {
+        return Ok(None);
+    };
+    let (timeout, rest) = read_timeout(behind);
+    Ok(Some((Ask::Try(names, timeout), rest)))
+}
+
+// The names to give up, or all.
+fn find_unlock<'a>(alloc: Global, bytes: &'a [u8]) -> Result<Found<'a, Ask>, AllocError>
+    ensures { IfOk result (λ r. option_map (λ p. (p.0, p.1.now)) r ≡ unlock_in bytes.now) }
+{
+    if begins_with(b'*', bytes) {
+        return Ok(Some((Ask::UnlockAll, skip(bytes))));
+    }
+    match find_names(alloc, bytes)? {
+        Some((names, rest)) => Ok(Some((Ask::Unlock(names), rest))),
+        None => Ok(None),
+    }
+}
+
+// The begin of a transaction, where the word behind it and what follows that are given.
+fn begin_of<'a>(rest: &'a [u8], word: &[u8], behind: &'a [u8]) -> (Ask, &'a [u8])
+    ensures { Some (result.0, result.1.now) ≡ begun rest.now word.now behind.now }
+{
+    if word == b"serial".as_slice() {
+        (Ask::Begin(Kind::Serial), behind)
+    } else {
+        (Ask::Begin(Kind::Plain), rest)
+    }
+}
+
+// A device that is opened.
+fn find_open<'a>(alloc: Global, bytes: &'a [u8]) -> Result<Found<'a, Ask>, AllocError>
+    ensures { IfOk result (λ r. option_map (λ p. (p.0, p.1.now)) r ≡ open_in bytes.now) }
+{
+    let Some((device, behind)) = find_text(alloc, bytes)? else {
+        return Ok(None);
+    };
+    let (timeout, rest) = read_timeout(behind);
+    Ok(Some((Ask::Open(device, timeout), rest)))
+}
+
+// A device that is closed.
+fn find_close<'a>(alloc: Global, bytes: &'a [u8]) -> Result<Found<'a, Ask>, AllocError>
+    ensures { IfOk result (λ r. option_map (λ p. (p.0, p.1.now)) r ≡ close_in bytes.now) }
+{
+    match find_text(alloc, bytes)? {
+        Some((device, rest)) => Ok(Some((Ask::Close(device), rest))),
+        None => Ok(None),
+    }
+}
+
+// Another job that starts.
+fn find_start<'a>(alloc: Global, bytes: &'a [u8]) -> Result<Found<'a, Ask>, AllocError>
+    ensures { IfOk result (λ r. option_map (λ p. (p.0, p.1.now)) r ≡ start_in bytes.now) }
+{
+    let (entry, behind) = split(bytes, Run::Filled);
+    let Some(entry) = Entry::read(alloc, entry)? else {
+        return Ok(None);
+    };
+    let Some((values, more)) = find_values(alloc, skip(behind))? else {
+        return Ok(None);
+    };
+    let (timeout, rest) = read_timeout(more);
+    let start = Start::new(entry, values.into_list());
+    Ok(Some((Ask::Start(start, timeout), rest)))
+}
+
+// Seconds to wait.
+fn find_rest(bytes: &[u8]) -> Found<'_, Ask>
+    ensures { option_map (λ p. (p.0, p.1.now)) result ≡ rest_in bytes.now }
+{
+    match read_number(bytes) {
+        Some((seconds, rest)) => Some((Ask::Rest(seconds), rest)),
+        None => None,
+    }
+}
+
+// The end of a job.
+fn find_halt(bytes: &[u8]) -> Found<'_, Ask>
+    ensures { option_map (λ p. (p.0, p.1.now)) result ≡ halt_in bytes.now }
+{
+    if !begins_with(b'F', skip(bytes)) {
+        return Some((Ask::Halt(None), bytes));
+    }
+    let Some((code, rest)) = read_count(skip(skip(bytes))) else {
+        return None;
+    };
+    match fault_of(code) {
+        Some(fault) => Some((Ask::Halt(Some(fault)), rest)),
+        None => None,
+    }
+}
+
+// The fault of this number.
+fn fault_of(code: u32) -> Option<Fault>
+    ensures { result ≡ fault_of code }
+{
+    match code {
+        1 => Some(Fault::Undefined),
+        2 => Some(Fault::Divide),
+        3 => Some(Fault::Fraction),
+        4 => Some(Fault::Range),
+        5 => Some(Fault::Length),
+        6 => Some(Fault::Subscript),
+        7 => Some(Fault::Select),
+        8 => Some(Fault::NoLine),
+        9 => Some(Fault::Quit),
+        10 => Some(Fault::QuitInTransaction),
+        11 => Some(Fault::NoTransaction),
+        12 => Some(Fault::NoRestart),
+        13 => Some(Fault::InTransaction),
+        14 => Some(Fault::Overlap),
+        15 => Some(Fault::NoDevice),
+        16 => Some(Fault::Device),
+        17 => Some(Fault::Depth),
+        18 => Some(Fault::Limit),
+        19 => Some(Fault::Steps),
+        20 => Some(Fault::ForIndex),
+        21 => Some(Fault::Char),
+        22 => Some(Fault::Params),
+        _ => None,
+    }
+}
+
+// An access, whose word stands before.
+fn find_access<'a>(
+    alloc: Global,
+    word: &[u8],
+    bytes: &'a [u8],
+) -> Result<Found<'a, Ask>, AllocError>
+    ensures { IfOk result (λ r. option_map (λ p. (p.0, p.1.now)) r ≡ access_in word.now bytes.now) }
+{
+    let Some((name, behind)) = find_name(alloc, bytes)? else {
+        return Ok(None);
+    };
+    match find_access_with(alloc, word, name, behind)? {
+        Some((access, rest)) => Ok(Some((Ask::Access(access), rest))),
+        None => Ok(None),
+    }
+}
+
+// The access with this word.
+fn find_access_with<'a>(
+    alloc: Global,
+    word: &[u8],
+    name: Name,
+    rest: &'a [u8],
+) -> Result<Found<'a, Access>, AllocError>
+    ensures { IfOk result (λ r. option_map (λ p. (p.0, p.1.now)) r ≡ access_with word.now name rest.now) }
+{
+    if word == b"value".as_slice() {
+        Ok(Some((Access::Value(name), rest)))
+    } else if word == b"data".as_slice() {
+        Ok(Some((Access::Data(name), rest)))
+    } else if word == b"query".as_slice() {
+        Ok(Some((Access::Query(name), rest)))
+    } else if word == b"subtree".as_slice() {
+        Ok(Some((Access::Subtree(name), rest)))
+    } else if word == b"kill".as_slice() {
+        Ok(Some((Access::Kill(name), rest)))
+    } else if word == b"order".as_slice() {
+        match read_number(skip(rest)) {
+            Some((way, behind)) => Ok(Some((Access::Order(name, way_of(way)), behind))),
+            None => Ok(None),
+        }
+    } else if word == b"set".as_slice() {
+        match find_text(alloc, skip(rest))? {
+            Some((text, behind)) => Ok(Some((Access::Set(name, text), behind))),
+            None => Ok(None),
+        }
+    } else if word == b"put".as_slice() {
+        match find_subtree(alloc, skip(rest))? {
+            Some((nodes, behind)) => Ok(Some((Access::Put(name, nodes), behind))),
+            None => Ok(None),
+        }
+    } else {
+        Ok(None)
+    }
+}
+
+fn way_of(number: Num) -> Direction
+    ensures { result ≡ way_of number }
+{
+    if number.value() < 0 {
+        Direction::Backward
+    } else {
+        Direction::Forward
+    }
+}

@@ -1,0 +1,61 @@
+// Lists in a line: what stands in them one behind the other, with commas between.
+
+ghost use Rattle.std.specs.Prelude.{◌≡◌, ◌+◌, ℕ, List, length, Option, IfOk};
+ghost use Rattle.std.specs.Option.{option_map};
+ghost use Rattle.mj_trace.specs.Reading.{all_more, closed};
+
+use crate::found::Found;
+use crate::run::{begins_with, skip};
+use std::alloc::{AllocError, Global};
+
+/// A list that is read, one thing after the other.
+pub(crate) trait List: Sized + Drop {
+    // the list with what stands at the front of some bytes, and what follows that
+    ghost one: { Self → List ℕ → Option (Self × List ℕ) };
+
+    /// The list with what stands at the front of some bytes behind it, and what follows that.
+    fn more<'a>(self, alloc: Global, bytes: &'a [u8]) -> Result<Found<'a, Self>, AllocError>
+        ensures { IfOk result (λ r. option_map (λ p. (p.0, p.1.now)) r ≡ one self bytes.now) };
+}
+
+/// The list with all that stand at the front behind it.
+pub(crate) fn read_all<'a, L: List>(
+    alloc: Global,
+    list: L,
+    bytes: &'a [u8],
+) -> Result<Found<'a, L>, AllocError>
+    ensures { IfOk result (λ r. option_map (λ p. (p.0, p.1.now)) r ≡ all_more L.one (length bytes.now + 1) list bytes.now) }
+{
+    let mut list = list;
+    let mut rest = bytes;
+    // Behind each but the first a comma stands.
+    for _place in 0..bytes.len() + 1 {
+        let Some((longer, behind)) = list.more(alloc, rest)? else {
+            return Ok(None);
+        };
+        if !begins_with(b',', behind) {
+            return Ok(Some((longer, behind)));
+        }
+        list = longer;
+        rest = skip(behind);
+    }
+    Ok(None)
+}
+
+/// A list up to the byte that closes it, where none is given.
+pub(crate) fn read_closed<'a, L: List>(
+    alloc: Global,
+    none: L,
+    close: u8,
+    bytes: &'a [u8],
+) -> Result<Found<'a, L>, AllocError>
+    ensures { IfOk result (λ r. option_map (λ p. (p.0, p.1.now)) r ≡ closed L.one close none bytes.now) }
+{
+    if begins_with(close, bytes) {
+        return Ok(Some((none, skip(bytes))));
+    }
+    match read_all(alloc, none, bytes)? {
+        Some((list, rest)) => Ok(Some((list, skip(rest)))),
+        None => Ok(None),
+    }
+}

@@ -1,0 +1,94 @@
+// Traces are read.
+
+ghost use Rattle.std.specs.Prelude.{◌≡◌, ◌+◌, ◌<◌, ◌^◌, ◌⊎◌, length, IfOk, IfErr, OnOk, Ok, Err};
+ghost use Rattle.mj_gfile.specs.Listing.{lines_of};
+ghost use Rattle.mj_trace.specs.declared.refusal.TraceError.TheVariants as error;
+ghost use Rattle.mj_trace.specs.Lines.{no_lines, unfinished, lined, lines_from, reading_of, IsTrace};
+ghost use Rattle.mj_trace.specs.Trace.{Traced, trace_text};
+ghost use Rattle.mj_trace.specs.Sized.{IsSized};
+
+use crate::HEADER;
+use crate::piece::read_piece;
+use crate::refusal::TraceError;
+use crate::trace::Trace;
+use mj_gfile::split_line;
+use std::alloc::Global;
+
+/// The trace that some bytes are. A trace is refused for want of memory alone, and anything else by the first line that is none: one more than there
+/// may be before one that isn't spelled so. The line where the first start should stand is refused where there is none.
+pub fn read_trace(alloc: Global, bytes: &[u8]) -> Result<Trace, TraceError>
+    ensures ok { IfOk result (λ trace. reading_of bytes.now ≡ Ok trace) }
+    ensures err { IfErr result (λ e. (e ≡ error.Memory) ⊎ (reading_of bytes.now ≡ Err e)) }
+    ensures spelled { IfOk result (λ trace. (bytes.now ≡ trace_text trace) × IsTrace trace) }
+    ensures same { (t : Traced) → bytes.now ≡ trace_text t → IsTrace t → IsSized t → IfOk result (λ trace. trace ≡ t) }
+    ensures all { (t : Traced) → bytes.now ≡ trace_text t → IsTrace t → IsSized t → IfErr result (λ e. e ≡ error.Memory) }
+{
+    read(alloc, bytes)
+}
+
+fn read(alloc: Global, bytes: &[u8]) -> Result<Trace, TraceError>
+    ensures ok { IfOk result (λ trace. reading_of bytes.now ≡ Ok trace) }
+    ensures err { IfErr result (λ e. (e ≡ error.Memory) ⊎ (reading_of bytes.now ≡ Err e)) }
+{
+    let Some((first, rest)) = split_line(bytes) else {
+        return Err(TraceError::Header);
+    };
+    if first != HEADER {
+        return Err(TraceError::Header);
+    }
+    read_lines(alloc, rest)
+}
+
+// The trace that the lines behind the header are.
+fn read_lines(alloc: Global, bytes: &[u8]) -> Result<Trace, TraceError>
+    requires { length bytes.now + 2 < 2 ^ 64 }
+    ensures ok { IfOk result (λ trace. lines_from no_lines 2 (lines_of bytes.now) ≡ Ok trace) }
+    ensures err { IfErr result (λ e. (e ≡ error.Memory) ⊎ (lines_from no_lines 2 (lines_of bytes.now) ≡ Err e)) }
+{
+    let mut trace = Trace::empty(alloc);
+    let mut number = 2;
+    let mut rest = bytes;
+    while let Some((line, behind)) = split_line(rest) {
+        add_line(alloc, &mut trace, number, line)?;
+        number += 1;
+        rest = behind;
+    }
+    if !rest.is_empty() {
+        Err(unfinished(&trace, number))
+    } else if trace.starts().is_empty() {
+        Err(TraceError::Line(number))
+    } else {
+        Ok(trace)
+    }
+}
+
+// Why the line of this number is refused that no byte 10 ends.
+fn unfinished(trace: &Trace, number: usize) -> TraceError
+    ensures { result ≡ unfinished trace.now number }
+{
+    if trace.is_full() {
+        TraceError::Long(number)
+    } else {
+        TraceError::Line(number)
+    }
+}
+
+// The line of this number is put behind the others.
+fn add_line(alloc: Global, trace: &mut Trace, number: usize, line: &[u8]) -> Result<(), TraceError>
+    ensures ok { OnOk result (lined trace.old number line.now ≡ Ok trace.new) }
+    ensures err { IfErr result (λ e. (e ≡ error.Memory) ⊎ (lined trace.old number line.now ≡ Err e)) }
+{
+    if trace.is_full() {
+        return Err(TraceError::Long(number));
+    }
+    let Some(piece) = read_piece(alloc, line)? else {
+        return Err(TraceError::Line(number));
+    };
+    if trace.may_follow(&piece) {
+        trace.add(piece)?;
+        Ok(())
+    } else {
+        drop(piece);
+        Err(TraceError::Line(number))
+    }
+}

@@ -1,0 +1,197 @@
+// What a job was told is found in a line.
+
+ghost use Rattle.std.specs.Prelude.{◌≡◌, IfOk};
+ghost use Rattle.std.specs.Option.{option_map};
+ghost use Rattle.mj_trace.specs.Reading.{is_absent, answer_in, number_kept, kept_in, clash_in, job_in, given_in, done_of, limit_of, reply_in};
+
+use crate::found::{Found, find_subscript, find_text, read_code, read_count, read_number};
+use crate::members::{find_name, find_subtree};
+use crate::run::{Run, begins_with, skip, split};
+use mj_ask::{Ask, Clash, Kept, Reply};
+use mj_store::{Access, Answer};
+use std::alloc::{AllocError, Global};
+
+/// The reply to an ask.
+pub(crate) fn find_reply(
+    alloc: Global,
+    ask: &Ask,
+    bytes: &[u8],
+) -> Result<Option<Reply>, AllocError>
+    ensures { IfOk result (λ r. r ≡ reply_in ask.now bytes.now) }
+{
+    Ok(if bytes == b"done".as_slice() {
+        Some(done_of(ask))
+    } else if bytes == b"limit".as_slice() {
+        Some(limit_of(ask))
+    } else if bytes == b"got".as_slice() {
+        Some(Reply::Got)
+    } else if bytes == b"late".as_slice() {
+        Some(Reply::Late)
+    } else if bytes == b"none".as_slice() {
+        Some(Reply::NoSession)
+    } else if bytes == b"failed".as_slice() {
+        Some(Reply::Failed)
+    } else if bytes == b"end".as_slice() {
+        Some(Reply::End)
+    } else {
+        find_given(alloc, ask, bytes)?
+    })
+}
+
+fn done_of(ask: &Ask) -> Reply
+    ensures { result ≡ done_of ask.now }
+{
+    match ask {
+        Ask::Access(_) => Reply::Answer(Answer::Done),
+        _ => Reply::Done,
+    }
+}
+
+fn limit_of(ask: &Ask) -> Reply
+    ensures { result ≡ limit_of ask.now }
+{
+    match ask {
+        Ask::Access(_) => Reply::Answer(Answer::Limit),
+        _ => Reply::Limit,
+    }
+}
+
+// A reply that is no word.
+fn find_given(alloc: Global, ask: &Ask, bytes: &[u8]) -> Result<Option<Reply>, AllocError>
+    ensures { IfOk result (λ r. r ≡ given_in ask.now bytes.now) }
+{
+    match ask {
+        Ask::Access(access) => match find_answer(alloc, access, bytes)? {
+            Some(answer) => Ok(Some(Reply::Answer(answer))),
+            None => Ok(None),
+        },
+        Ask::DeviceLine(_, _) => match find_text(alloc, bytes)? {
+            Some((text, _)) => Ok(Some(Reply::Line(text))),
+            None => Ok(None),
+        },
+        Ask::DeviceByte(_, _) => match read_code(bytes) {
+            Some((code, _)) => Ok(Some(Reply::Byte(code))),
+            None => Ok(None),
+        },
+        Ask::Start(_, _) => Ok(read_job(bytes)),
+        Ask::Commit => find_clash(alloc, bytes),
+        _ => Ok(None),
+    }
+}
+
+// What an access is answered.
+fn find_answer(alloc: Global, access: &Access, bytes: &[u8]) -> Result<Option<Answer>, AllocError>
+    ensures { IfOk result (λ r. r ≡ answer_in access.now bytes.now) }
+{
+    match access {
+        Access::Value(_) => {
+            if is_absent(bytes) {
+                return Ok(Some(Answer::Value(None)));
+            }
+            match find_text(alloc, bytes)? {
+                Some((text, _)) => Ok(Some(Answer::Value(Some(text)))),
+                None => Ok(None),
+            }
+        }
+        Access::Data(_) => match read_code(bytes) {
+            Some((data, _)) => Ok(Some(Answer::Data(data))),
+            None => Ok(None),
+        },
+        Access::Order(_, _) => {
+            if is_absent(bytes) {
+                return Ok(Some(Answer::Order(None)));
+            }
+            match find_subscript(alloc, bytes)? {
+                Some((sub, _)) => Ok(Some(Answer::Order(Some(sub)))),
+                None => Ok(None),
+            }
+        }
+        Access::Query(_) => {
+            if is_absent(bytes) {
+                return Ok(Some(Answer::Query(None)));
+            }
+            match find_name(alloc, bytes)? {
+                Some((name, _)) => Ok(Some(Answer::Query(Some(name)))),
+                None => Ok(None),
+            }
+        }
+        Access::Subtree(_) => match find_subtree(alloc, bytes)? {
+            Some((nodes, _)) => Ok(Some(Answer::Subtree(nodes))),
+            None => Ok(None),
+        },
+        Access::Set(_, _) | Access::Kill(_) | Access::Put(_, _) => Ok(None),
+    }
+}
+
+// Whether the bytes say that there is nothing.
+fn is_absent(bytes: &[u8]) -> bool
+    ensures { result ≡ is_absent bytes.now }
+{
+    bytes == b"-".as_slice()
+}
+
+// The number of a job, behind its word.
+fn read_job(bytes: &[u8]) -> Option<Reply>
+    ensures { result ≡ job_in bytes.now }
+{
+    let (_, behind) = split(bytes, Run::Letters);
+    match read_count(skip(behind)) {
+        Some((job, _)) => Some(Reply::Job(job)),
+        None => None,
+    }
+}
+
+// A clash, behind its word.
+fn find_clash(alloc: Global, bytes: &[u8]) -> Result<Option<Reply>, AllocError>
+    ensures { IfOk result (λ r. r ≡ clash_in bytes.now) }
+{
+    let (_, behind) = split(bytes, Run::Letters);
+    let Some((place, rest)) = read_count(skip(behind)) else {
+        return Ok(None);
+    };
+    let Some((then, rest)) = find_kept(alloc, skip(rest))? else {
+        return Ok(None);
+    };
+    let Some((now, _)) = find_kept(alloc, skip(rest))? else {
+        return Ok(None);
+    };
+    Ok(Some(Reply::Clash(Clash { place, then, now })))
+}
+
+// What a clash keeps.
+fn find_kept<'a>(alloc: Global, bytes: &'a [u8]) -> Result<Found<'a, Kept>, AllocError>
+    ensures { IfOk result (λ r. option_map (λ p. (p.0, p.1.now)) r ≡ kept_in bytes.now) }
+{
+    if begins_with(b'"', bytes) {
+        match find_text(alloc, bytes)? {
+            Some((text, rest)) => Ok(Some((Kept::Text(text), rest))),
+            None => Ok(None),
+        }
+    } else if begins_with(b'^', bytes) {
+        match find_name(alloc, bytes)? {
+            Some((name, rest)) => Ok(Some((Kept::Name(name), rest))),
+            None => Ok(None),
+        }
+    } else if begins_with(b'{', bytes) {
+        match find_subtree(alloc, bytes)? {
+            Some((nodes, rest)) => Ok(Some((Kept::Subtree(nodes), rest))),
+            None => Ok(None),
+        }
+    } else {
+        Ok(read_kept_number(bytes))
+    }
+}
+
+// A number that a clash keeps, or nothing.
+fn read_kept_number(bytes: &[u8]) -> Found<'_, Kept>
+    ensures { option_map (λ p. (p.0, p.1.now)) result ≡ number_kept bytes.now }
+{
+    let (sign, behind) = split(bytes, Run::Number);
+    if is_absent(sign) {
+        return Some((Kept::Nothing, behind));
+    }
+    match read_number(bytes) {
+        Some((number, rest)) => Some((Kept::Number(number), rest)),
+        None => None,
+    }
+}

@@ -1,0 +1,175 @@
+// Traces.
+
+ghost use Rattle.std.specs.Prelude.{◌≡◌, ◌++◌, codes, IfOk, OnOk};
+ghost use Rattle.std.specs.Str.{bytes_eq};
+ghost use Rattle.std.specs.Option.{option_copied};
+ghost use Rattle.mj_trace.specs.Trace.{trace_text, event_lines};
+ghost use Rattle.mj_trace.specs.Lines.{no_lines, is_full, stands_behind, principal, may_start, may_follow, with_piece};
+
+use crate::head::{event_line, opening};
+use crate::piece::Piece;
+use mj_ask::{Ask, Entry, Reply};
+use mj_text::{Digits, Text};
+use std::alloc::{AllocError, Global};
+use std::marker::Model;
+
+/// The most first jobs, and the most events of a run.
+const STARTS_LIMIT: usize = 255;
+
+const EVENTS_LIMIT: usize = 1_000_000;
+
+/// A run as it is written down: the devices that there are, where the first jobs start, and what each job asked and was told.
+#[derive(Drop)]
+pub struct Trace {
+    pool: Vec<(Text, u32)>,
+    starts: Vec<Entry>,
+    events: Vec<(u32, Ask, Reply)>,
+}
+
+impl Model for Trace {
+    ghost use Rattle.mj_trace.specs.Trace.{Traced};
+
+    ghost Value = { Traced };
+
+    ghost view = { λ t. record { pool = t.pool.items; starts = t.starts.items; events = t.events.items } };
+}
+
+impl Trace {
+    /// The trace of these: each device by its name with the number of its sessions, the starts, and the events with their jobs.
+    pub fn new(pool: Vec<(Text, u32)>, starts: Vec<Entry>, events: Vec<(u32, Ask, Reply)>) -> Trace
+        ensures { result ≡ record { pool = pool.items; starts = starts.items; events = events.items } }
+    {
+        Trace {
+            pool,
+            starts,
+            events,
+        }
+    }
+
+    /// The devices, each with the number of its sessions.
+    pub fn pool(&self) -> &[(Text, u32)]
+        ensures { result.now ≡ self.now.pool }
+    {
+        &self.pool
+    }
+
+    /// Where the first jobs start.
+    pub fn starts(&self) -> &[Entry]
+        ensures { result.now ≡ self.now.starts }
+    {
+        &self.starts
+    }
+
+    /// What each job asked and was told, in order.
+    pub fn events(&self) -> &[(u32, Ask, Reply)]
+        ensures { result.now ≡ self.now.events }
+    {
+        &self.events
+    }
+
+    /// A trace without a line.
+    pub(crate) fn empty(alloc: Global) -> Trace
+        ensures { result ≡ no_lines }
+    {
+        Trace {
+            pool: Vec::new(alloc),
+            starts: Vec::new(alloc),
+            events: Vec::new(alloc),
+        }
+    }
+
+    /// Whether there may be no more events.
+    pub(crate) fn is_full(&self) -> bool
+        ensures { result ≡ is_full self.now }
+    {
+        self.events.len() == EVENTS_LIMIT
+    }
+
+    /// Whether a line may follow that says this.
+    pub(crate) fn may_follow(&self, piece: &Piece) -> bool
+        ensures { result ≡ may_follow self.now piece.now }
+    {
+        match piece {
+            Piece::Device(name, _) => {
+                self.starts.is_empty()
+                    && self.events.is_empty()
+                    && stands_behind(self.pool.last(), name)
+            }
+            Piece::Start(_) => self.events.is_empty() && may_start(&self.pool, self.starts.len()),
+            Piece::Event(_, _, _) => !self.starts.is_empty(),
+        }
+    }
+
+    /// One line more.
+    pub(crate) fn add(&mut self, piece: Piece) -> Result<(), AllocError>
+        ensures { OnOk result (self.new ≡ with_piece self.old piece) }
+    {
+        match piece {
+            Piece::Device(name, count) => self.pool.push((name, count))?,
+            Piece::Start(entry) => self.starts.push(entry)?,
+            Piece::Event(job, ask, reply) => self.events.push((job, ask, reply))?,
+        }
+        Ok(())
+    }
+}
+
+// Whether a name stands behind that of a device, if there is one.
+fn stands_behind(last: Option<&(Text, u32)>, name: &Text) -> bool
+    ensures { result ≡ stands_behind (option_copied last.entry) name.now }
+{
+    match last {
+        None => true,
+        Some(device) => device.0.cmp_bytes(name).is_lt(),
+    }
+}
+
+// Whether one start more may stand behind so many.
+fn may_start(pool: &[(Text, u32)], count: usize) -> bool
+    ensures { result ≡ may_start pool.now count }
+{
+    count < STARTS_LIMIT && count < principal(pool) as usize
+}
+
+// The sessions of the principal device.
+fn principal(pool: &[(Text, u32)]) -> u32
+    ensures { result ≡ principal pool.now }
+{
+    for (name, count) in pool {
+        if is_principal(name) {
+            return *count;
+        }
+    }
+    0
+}
+
+fn is_principal(name: &Text) -> bool
+    ensures { result ≡ bytes_eq name.now (codes "0") }
+{
+    let mut digits = Digits::new();
+    name.bytes(&mut digits) == b"0".as_slice()
+}
+
+/// Writes a trace.
+pub fn write_trace(alloc: Global, trace: &Trace) -> Result<Vec<u8>, AllocError>
+    ensures { IfOk result (λ bytes. bytes.items ≡ trace_text trace.now) }
+{
+    let mut bytes = opening(alloc, &trace.pool, &trace.starts)?;
+    put_events(alloc, &mut bytes, &trace.events)?;
+    Ok(bytes)
+}
+
+// Puts the lines of events to the end.
+fn put_events(
+    alloc: Global,
+    bytes: &mut Vec<u8>,
+    events: &[(u32, Ask, Reply)],
+) -> Result<(), AllocError>
+    ensures { OnOk result (bytes.new.items ≡ bytes.old.items ++ event_lines events.now) }
+{
+    for (job, ask, reply) in events {
+        let line = event_line(alloc, *job, ask, reply)?;
+        bytes.extend_from_slice(&line)?;
+        bytes.push(b'\n')?;
+    }
+    Ok(())
+}
