@@ -9,6 +9,8 @@ mod control;
 #[cfg(test)]
 mod devices;
 #[cfg(test)]
+mod drops;
+#[cfg(test)]
 mod functions;
 #[cfg(test)]
 mod grammar;
