@@ -105,7 +105,7 @@ nowhere job = record { log = []; block = None }
 
 -- the committed transactions and the single accesses of a history, in the order of their commits
 abbrev pub blocks_of : History → List Block
-blocks_of h = blocks_from 0 nowhere h
+blocks_of h = blocks_from 1 nowhere h
 
 -- where the jobs stand after a history
 abbrev pub stands_from : ℕ → (ℕ → Stand) → History → ℕ → Stand
@@ -114,4 +114,4 @@ stands_from place w (e ∷ h) = stands_from (suc place) (stand_after place w e) 
 
 -- the transaction that a job has open after a history, if it has one
 abbrev pub open_after : History → ℕ → Option Block
-open_after h job = (stands_from 0 nowhere h job).block
+open_after h job = (stands_from 1 nowhere h job).block
