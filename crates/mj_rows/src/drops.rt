@@ -1,6 +1,6 @@
 // What becomes of devices, whatever ends the jobs that had them. Each device counts its drops.
 
-ghost use Rattle.std.specs.Prelude.{◌≡◌, ◌≤◌, [], length, All, IfOk};
+ghost use Rattle.std.specs.Prelude.{◌≡◌, ◌≤◌, [], length, IfOk};
 ghost use Rattle.mj_dev.specs.Heard.{IsFresh};
 ghost use Rattle.mj_dev.specs.Shelves.{principal, left_of};
 ghost use Rattle.mj_jobs.specs.Rows.{rows_limit};
@@ -8,6 +8,7 @@ ghost use Rattle.mj_load.specs.Image.{IsWithinLimits};
 ghost use Rattle.mj_sys.specs.Opening.{opening_of};
 
 use mj_ask::{Entry, Start};
+use mj_ast::Routine;
 use mj_core::{Core, Refusal, Seen, Step, Way};
 use mj_dev::{Counted, Device, Fail, Pool};
 use mj_globs::Globals;
@@ -281,15 +282,25 @@ fn start(alloc: Global) -> Result<Start, Failure> {
     Ok(Start::new(entry, Vec::new(alloc)))
 }
 
-// The routine R.
+// The image of the routine R alone.
 fn image(alloc: Global, bytes: &str) -> Result<Image, Failure> {
+    let routine = routine(alloc, bytes)?;
     let mut routines = Vec::new(alloc);
-    match mj_rou::read(alloc, b"R", bytes.as_bytes()) {
-        Ok(routine) => routines.push(routine)?,
-        Err(_) => return Err(Failure::Memory),
+    if routines.push(routine).is_err() {
+        return Err(Failure::Memory);
     }
     match load(alloc, routines) {
         Ok(image) => Ok(image),
+        Err(_) => Err(Failure::Memory),
+    }
+}
+
+// The routine R.
+fn routine(alloc: Global, bytes: &str) -> Result<Routine, Failure>
+    ensures { IfOk result IsWithinLimits }
+{
+    match mj_rou::read(alloc, b"R", bytes.as_bytes()) {
+        Ok(routine) => Ok(routine),
         Err(_) => Err(Failure::Memory),
     }
 }
