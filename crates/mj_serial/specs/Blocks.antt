@@ -39,7 +39,7 @@ abbrev pub accesses_of : Log → Accesses
 accesses_of [] = []
 accesses_of (e ∷ log) = cons_option (entry_of e.0 e.1) (accesses_of log)
 
--- A committed transaction, or a single access: its job, whether it is SERIAL, the place in the history where it begins (the first event's is 0),
+-- A committed transaction, or a single access: its job, whether it is SERIAL, the place in the history where it begins (the first event's is 1),
 -- the job's log when it had begun, and its log since then
 pub record Block : Type 0 where
   pub job : ℕ
