@@ -246,29 +246,36 @@ impl Read for Broken {
     }
 }
 
+// Runs these words with standard input that can't be read.
+fn run_broken(rt: &HostRuntime, words: &[&str]) -> Ran {
+    let mut out = Vec::new(rt.alloc());
+    let mut err = Vec::new(rt.alloc());
+    let status = mj_main::run(rt, words, &mut Broken, &mut out, &mut err);
+    Ran { out, err, status }
+}
+
 // Standard input comes behind the routines, and the listing of globals.
 #[test]
 fn standard_input_fails(rt: HostRuntime) -> Result<(), Fail> {
-    let alloc = rt.alloc();
     let folder = folder(&rt, "broken")?;
-    let file = format!(in alloc; "{folder}/R.m")?;
-    for (bytes, words, err, status) in [
-        (" WRITE 1\n", ["--stdin"].as_slice(), "file -\n", 4),
-        (" WRITE \"abc", &["--stdin"], "L2 R:1:8\n", 2),
-        (" WRITE 1\n", &[], "", 0),
-    ] {
-        fs::write(&rt, file.as_str(), bytes)?;
-        let mut list: Vec<&str> = Vec::new(alloc);
-        list.extend_from_slice(["mj", "run", "--start", "^R"].as_slice())?;
-        list.extend_from_slice(words)?;
-        list.push(file.as_str())?;
-        let mut out = Vec::new(alloc);
-        let mut told = Vec::new(alloc);
-        let given = mj_main::run(&rt, &list, &mut Broken, &mut out, &mut told);
-        assert_eq!(rt; str::from_utf8(&told)?, err);
-        assert_eq!(rt; given, status);
-        assert_eq!(rt; out.is_empty(), status != 0);
-    }
+    let path = format!(in rt.alloc(); "{folder}/R.m")?;
+    let file = path.as_str();
+    let with = ["mj", "run", "--start", "^R", "--stdin", file];
+    let without = ["mj", "run", "--start", "^R", file];
+    fs::write(&rt, file, " WRITE 1\n")?;
+    let ran = run_broken(&rt, &with);
+    assert!(rt; ran.out.is_empty());
+    assert_eq!(rt; str::from_utf8(&ran.err)?, "file -\n");
+    assert_eq!(rt; ran.status, 4);
+    let ran = run_broken(&rt, &without);
+    assert_eq!(rt; str::from_utf8(&ran.out)?, "1");
+    assert!(rt; ran.err.is_empty());
+    assert_eq!(rt; ran.status, 0);
+    fs::write(&rt, file, " WRITE \"abc")?;
+    let ran = run_broken(&rt, &with);
+    assert!(rt; ran.out.is_empty());
+    assert_eq!(rt; str::from_utf8(&ran.err)?, "L2 R:1:8\n");
+    assert_eq!(rt; ran.status, 2);
     fs::remove_dir_all(&rt, folder.as_str())?;
     Ok(())
 }

@@ -3,6 +3,8 @@
 #![tactic(auto)]
 
 #[cfg(test)]
+mod clashes;
+#[cfg(test)]
 mod commands;
 #[cfg(test)]
 mod control;
@@ -10,6 +12,8 @@ mod control;
 mod devices;
 #[cfg(test)]
 mod drops;
+#[cfg(test)]
+mod examples;
 #[cfg(test)]
 mod functions;
 #[cfg(test)]
