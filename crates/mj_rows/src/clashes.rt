@@ -3,10 +3,12 @@
 use crate::runs::{folder, run_words};
 use mj_ask::{Ask, Reply};
 use mj_serial::{Block, serial_blocks};
+use mj_store::{Access, Answer};
 use mj_sys::Event;
+use mj_text::Failure;
 use mj_trace::{Trace, event_line, read_trace};
 use mj_txlog::Entry;
-use std::alloc::Global;
+use std::alloc::{AllocError, Global};
 use std::test::Fail;
 use std::{fs, str};
 
@@ -211,43 +213,91 @@ plain from 26
 }
 
 // The blocks of a trace: of each a line that says whether it is SERIAL and where it begins, and its accesses as a trace has them.
-fn blocks(alloc: Global, trace: &Trace) -> Result<Vec<u8>, Fail> {
+fn blocks(alloc: Global, trace: &Trace) -> Result<Vec<u8>, Failure> {
     let mut history = Vec::new(alloc);
     for (job, ask, reply) in trace.events() {
-        let ask = ask.try_clone()?;
-        let reply = reply.try_clone()?;
-        let job = *job;
-        history.push(Event { job, ask, reply })?;
+        add(&mut history, *job, ask, reply)?;
     }
     let blocks = serial_blocks(alloc, &history)?;
+    lines_of(alloc, &blocks)
+}
+
+fn add(history: &mut Vec<Event>, job: u32, ask: &Ask, reply: &Reply) -> Result<(), Failure> {
+    let event = event(job, ask, reply)?;
+    history.push(event)?;
+    Ok(())
+}
+
+// The same event once more.
+fn event(job: u32, ask: &Ask, reply: &Reply) -> Result<Event, AllocError> {
+    let ask = ask.try_clone()?;
+    match reply.try_clone() {
+        Ok(reply) => Ok(Event { job, ask, reply }),
+        Err(refused) => {
+            drop(ask);
+            Err(refused)
+        }
+    }
+}
+
+fn lines_of(alloc: Global, blocks: &[Block]) -> Result<Vec<u8>, Failure> {
     let mut lines = Vec::new(alloc);
-    for block in &blocks {
-        put_block(alloc, &mut lines, block)?;
+    for block in blocks {
+        put_head(alloc, &mut lines, block.serial, block.place)?;
+        put_accesses(alloc, &mut lines, block.job, &block.accesses)?;
     }
     Ok(lines)
 }
 
-fn put_block(alloc: Global, lines: &mut Vec<u8>, block: &Block) -> Result<(), Fail> {
-    let kind = if block.serial { "serial" } else { "plain" };
-    let place = block.place;
+fn put_head(
+    alloc: Global,
+    lines: &mut Vec<u8>,
+    serial: bool,
+    place: usize,
+) -> Result<(), AllocError> {
+    let kind = if serial { "serial" } else { "plain" };
     let head = format!(in alloc; "{kind} from {place}\n")?;
-    lines.extend_from_slice(head.as_bytes())?;
-    for entry in &block.accesses {
-        let line = access_line(alloc, block.job, entry)?;
+    lines.extend_from_slice(head.as_bytes())
+}
+
+fn put_accesses(
+    alloc: Global,
+    lines: &mut Vec<u8>,
+    job: u32,
+    accesses: &[Entry],
+) -> Result<(), AllocError> {
+    for entry in accesses {
+        let line = access_line(alloc, job, entry)?;
         lines.extend_from_slice(&line)?;
-        lines.push(b'\n')?;
+        lines.extend_from_slice(b"\n")?;
     }
     Ok(())
 }
 
 // An access as a line of a trace. An unlock has no names there.
-fn access_line(alloc: Global, job: u32, entry: &Entry) -> Result<Vec<u8>, Fail> {
+fn access_line(alloc: Global, job: u32, entry: &Entry) -> Result<Vec<u8>, AllocError> {
     match entry {
         Entry::Access(access, answer) => {
-            let ask = Ask::Access(access.try_clone()?);
-            let reply = Reply::Answer(answer.try_clone()?);
-            Ok(event_line(alloc, job, &ask, &reply)?)
+            let ask = asked(access)?;
+            let line = told_line(alloc, job, &ask, answer);
+            drop(ask);
+            line
         }
-        Entry::Unlock(_) => Ok(event_line(alloc, job, &Ask::UnlockAll, &Reply::Done)?),
+        Entry::Unlock(_) => event_line(alloc, job, &Ask::UnlockAll, &Reply::Done),
     }
+}
+
+fn asked(access: &Access) -> Result<Ask, AllocError> {
+    Ok(Ask::Access(access.try_clone()?))
+}
+
+fn told_line(alloc: Global, job: u32, ask: &Ask, answer: &Answer) -> Result<Vec<u8>, AllocError> {
+    let reply = told(answer)?;
+    let line = event_line(alloc, job, ask, &reply);
+    drop(reply);
+    line
+}
+
+fn told(answer: &Answer) -> Result<Reply, AllocError> {
+    Ok(Reply::Answer(answer.try_clone()?))
 }
