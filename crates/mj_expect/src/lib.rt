@@ -1,0 +1,6 @@
+// Asks and replies, compared.
+#![tactic(auto)]
+
+mod same;
+
+pub use same::{is_same_ask, is_same_reply};
