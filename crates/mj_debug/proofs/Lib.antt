@@ -1,3 +1,4 @@
 pub mod Asking
 pub mod Serving
 pub mod Staging
+pub mod Fronts

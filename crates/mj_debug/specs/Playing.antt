@@ -64,9 +64,9 @@ Plays image opening old claim job heeds ask reply true new claim' job' heeds' =
     × (new ≡ record old { history = old.history ++ shared_of (record { job = claim.job; ask = ask; reply = reply } ∷ []) })
 Plays image opening old claim job heeds ask reply false new claim' job' heeds' =
     ((turns : ℕ) × (turns_limit ≤ turns) × GoesOn (routines_of image) (start_of claim) job.run.log turns)
-    ⊎ (IsTrace (routines_of image) (start_of claim) (job.run.log ++ (ask, reply) ∷ []) → ⊥)
-    ⊎ (Happens (state_of opening old.history) (record { job = claim.job; ask = ask; reply = reply }) → ⊥)
-    ⊎ (AreTalks (job.run.log ++ (ask, reply) ∷ []) → ⊥)
+    ⊎ ((IsTrace (routines_of image) (start_of claim) (job.run.log ++ (ask, reply) ∷ []) → ⊥)
+    ⊎ ((Happens (state_of opening old.history) (record { job = claim.job; ask = ask; reply = reply }) → ⊥)
+    ⊎ (AreTalks (job.run.log ++ (ask, reply) ∷ []) → ⊥)))
 
 -- ---- all jobs
 

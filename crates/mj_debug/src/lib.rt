@@ -5,7 +5,9 @@
 // device is recorded to have answered must be what the device protocol allows, which no device is called for.
 #![tactic(auto)]
 
+mod laws;
 mod playing;
 mod replay;
 
+pub use laws::fronts_are_runs;
 pub use replay::{Verdict, replay};

@@ -109,7 +109,7 @@ fn admit<D: Device, O: Opening>(
 ) -> Result<(), AllocError>
     requires staged { (history : History) × AreStaged image.now O.opening history system.old jobs.old.items }
     requires row { job ≤ length (state_of O.opening system.old.history).rows }
-    ensures staged { (history : History) → AreStaged image.now O.opening history system.old jobs.old.items → AreStaged image.now O.opening history system.new jobs.new.items }
+    ensures staged { OnOk result ((history : History) → AreStaged image.now O.opening history system.old jobs.old.items → AreStaged image.now O.opening history system.new jobs.new.items) }
     ensures history { system.new.history ≡ system.old.history }
     ensures there { OnOk result (job ≤ length jobs.new.items) }
 {
@@ -128,19 +128,21 @@ fn start_next<D: Device, O: Opening>(
 ) -> Result<(), AllocError>
     requires staged { (history : History) × AreStaged image.now O.opening history system.old jobs.old.items }
     requires row { length jobs.old.items < length (state_of O.opening system.old.history).rows }
-    ensures staged { (history : History) → AreStaged image.now O.opening history system.old jobs.old.items → AreStaged image.now O.opening history system.new jobs.new.items }
+    ensures staged { OnOk result ((history : History) → AreStaged image.now O.opening history system.old jobs.old.items → AreStaged image.now O.opening history system.new jobs.new.items) }
     ensures history { system.new.history ≡ system.old.history }
     ensures more { OnOk result (length jobs.new.items ≡ suc (length jobs.old.items)) }
 {
+    jobs.reserve(1)?;
     let Some((claim, session)) = system.claim()? else {
         unreachable!();
     };
     drop(session);
     let (entry, values) = claim.start().try_clone()?.into_parts();
     let job = Job::start(alloc, image, claim.job(), entry, values);
-    jobs.push(Played {
+    jobs.push_reserved(Played {
         claim,
         job,
         heeds: Heeds::new(alloc),
-    })
+    });
+    Ok(())
 }

@@ -111,11 +111,11 @@ no_code (byte ∷ bytes) code r not t = not byte t.0
 only_one_more : (n code : ℕ) (rest : List ℕ) (b : Stand) (below : Bool) → nat_lt n TEXT_LIMIT ≡ below → length rest + n ≤ TEXT_LIMIT
     → TakesOne rest (codes.Byte code) b.rest → b.state ≡ states.Open
     → MayBe (if below then Some (heeds.Rest (n + 1) (code == 10)) else (if code == 10 then Some heeds.Quiet else None)) b
-only_one_more n code rest b true is le t open = (open, left_one rest n code b.rest le t)
-only_one_more n code [] b false is le t open =
+only_one_more n code rest b true is le t usable = (usable, left_one rest n code b.rest le t)
+only_one_more n code [] b false is le t usable =
     let ten : code ≡ 10 = let same : codes.Byte code ≡ codes.Byte 10 = t.0 in cc in
-    subst (λ c. MayBe (if c then Some heeds.Quiet else None) b) (sym (eq-eqb code 10 ten)) (open, t.1)
-only_one_more n code (byte ∷ bytes) b false is le t open =
+    subst (λ c. MayBe (if c then Some heeds.Quiet else None) b) (sym (eq-eqb code 10 ten)) (usable, t.1)
+only_one_more n code (byte ∷ bytes) b false is le t usable =
     let above : TEXT_LIMIT ≤ n = grind (arith, is) in
     absurd (omega (arith, le, above))
 
@@ -203,9 +203,9 @@ is_beginning s m =
     ap (λ r. of r s.state) m.1 ∙ ap (of None) m.0
 
 is_open : (s : Stand) (r : Option (List ℕ)) → s.state ≡ states.Open → s.rest ≡ r → s ≡ at_rest r
-is_open s r open rest =
+is_open s r usable rest =
     let of : Option (List ℕ) → State → Stand = λ rest state. record { rest = rest; state = state } in
-    ap (λ x. of x s.state) rest ∙ ap (of r) open
+    ap (λ x. of x s.state) rest ∙ ap (of r) usable
 
 -- ---- each heed with what is reached by it
 
@@ -216,7 +216,7 @@ module _ (talk : List Exchange) where
   abbrev Next : Exchange → Stand → Type 0
   Next x s = Follow beginning (talk ++ x ∷ []) s
 
-  -- one step of an open session
+  -- one step of an usable session
   go : (x : Exchange) (rest : Option (List ℕ)) (b t : Stand) → Stood (at_rest rest) → AllowsOpen (at_rest rest) x b → t ≡ behind x b → Next x t
   go x rest b t f a same =
       let P : Stand → Type 0 = λ y. Next x y in
@@ -277,19 +277,19 @@ module _ (talk : List Exchange) where
   reach_new_byte codes.Failed f = failed_by (ByteRead codes.Failed) (record beginning { state = states.Failed }) (go (ByteRead codes.Failed) None (record beginning { state = states.Failed }) (record beginning { state = states.Failed }) f refl refl)
   reach_new_byte codes.Memory f = quiet_by (ByteRead codes.Memory) (go (ByteRead codes.Memory) None beginning beginning f refl refl)
 
-  -- where a stand that is open was reached
+  -- where a stand that is usable was reached
   stood_open : (s : Stand) → Stood s → s.state ≡ states.Open → Stood (at_rest s.rest)
-  stood_open s f open =
+  stood_open s f usable =
       let P : Stand → Type 0 = λ y. Stood y in
-      subst P (is_open s s.rest open refl) f
+      subst P (is_open s s.rest usable refl) f
 
   -- a call that reads nothing
   module _ (x : Exchange) (answer : Did) (allowed : (s b : Stand) → s.state ≡ states.Open → b ≡ stand_after s answer → Allows s s.state x b)
       (still : (b : Stand) → behind x b ≡ b) where
     step : (s b : Stand) → Stood s → s.state ≡ states.Open → b ≡ stand_after s answer → Next x b
-    step s b f open e =
+    step s b f usable e =
         let P : Stand → Type 0 = λ y. Next x y in
-        subst P (still b) (follow_on beginning s b talk x f (allowed s b open e))
+        subst P (still b) (follow_on beginning s b talk x f (allowed s b usable e))
 
   reach_call : (x : Exchange) (answer : Did) → ((s b : Stand) → s.state ≡ states.Open → b ≡ stand_after s answer → Allows s s.state x b) → ((b : Stand) → behind x b ≡ b)
       → (h : Heed) → IsHeed h talk → Reach (after_call h answer) x
@@ -384,9 +384,9 @@ module _ (talk : List Exchange) where
     reach_rest_byte codes.Memory false e = tt
 
   opened : (s : Stand) (x : Exchange) (b : Stand) → s.state ≡ states.Open → AllowsOpen s x b → Allows s s.state x b
-  opened s x b open a =
+  opened s x b usable a =
       let A : State → Type 0 = λ state. Allows s state x b in
-      subst A (sym open) a
+      subst A (sym usable) a
 
   may_end : (h : Heed) (s : Stand) → MayStand h s → (s.state ≡ states.Open) ⊎ (s.state ≡ states.Failed)
   may_end heeds.Quiet s m = inl m.0
@@ -394,8 +394,8 @@ module _ (talk : List Exchange) where
   may_end heeds.Failed s m = inr m
 
   reach : (h : Heed) (x : Exchange) → IsHeed h talk → Reach (heed_after h x) x
-  reach h (Begun answer) is = reach_call (Begun answer) answer (λ s b open e. opened s (Begun answer) b open e) (λ b. refl) h is
-  reach h (Written bytes answer) is = reach_call (Written bytes answer) answer (λ s b open e. opened s (Written bytes answer) b open e) (λ b. refl) h is
+  reach h (Begun answer) is = reach_call (Begun answer) answer (λ s b usable e. opened s (Begun answer) b usable e) (λ b. refl) h is
+  reach h (Written bytes answer) is = reach_call (Written bytes answer) answer (λ s b usable e. opened s (Written bytes answer) b usable e) (λ b. refl) h is
   reach heeds.Quiet (LineRead read) is = reach_new_line read (is.all beginning (refl, refl))
   reach (heeds.Rest n over) (LineRead read) is = reach_rest_line n over is read
   reach heeds.Failed (LineRead read) is = tt

@@ -40,15 +40,21 @@ own_found name h (e ∷ es) = by (bytes_eq e.0 name) refl (own_found name h es) 
 other_found : (name m : List ℕ) (h : Heed) (es : Heeds) → bytes_eq name m ≡ false → heed_of m (with_heed name h es) ≡ heed_of m es
 other_found name m h [] apart = other_kept name m h apart
 other_found name m h (e ∷ es) apart = by (bytes_eq e.0 name) refl (other_found name m h es apart) where
-  abbrev rest_of : Heeds
-  rest_of = filter (is_other name) es ++ kept_of name h
-
-  by : (b : Bool) → bytes_eq e.0 name ≡ b → heed_of m rest_of ≡ heed_of m es
+  by : (b : Bool) → bytes_eq e.0 name ≡ b → heed_of m (filter (is_other name) es ++ kept_of name h) ≡ heed_of m es
       → heed_of m (cond (not b) (e ∷ filter (is_other name) es) (filter (is_other name) es) ++ kept_of name h) ≡ (if bytes_eq e.0 m then e.1 else heed_of m es)
   by true is rest =
       let to : e.0 ≡ name = (bytes_eq-Decides e.0 name).0 is in
       rest ∙ sym (ap (λ b. if b then e.1 else heed_of m es) (ap (λ n. bytes_eq n m) to ∙ apart))
   by false is rest = ap (λ (x : Heed). if bytes_eq e.0 m then e.1 else x) rest
+
+-- what is kept of a device, by whether that is more than where a talk begins
+pub kept_other : (name : List ℕ) (h : Heed) → (h ≡ heeds.Quiet → ⊥) → kept_of name h ≡ (name, h) ∷ []
+kept_other name heeds.Quiet not = absurd (not refl)
+kept_other name (heeds.Rest read over) not = refl
+kept_other name heeds.Failed not = refl
+
+pub kept_quiet : (name : List ℕ) (h : Heed) → h ≡ heeds.Quiet → kept_of name h ≡ []
+kept_quiet name h is = ap (kept_of name) is
 
 -- ---- what the log has of a name
 

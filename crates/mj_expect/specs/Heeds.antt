@@ -149,8 +149,8 @@ AreHeeds log es = (name : List ℕ) → IsHeed (heed_of name es) (talk_on name l
 
 -- what is told of an ask that the shared state doesn't serve is one that the protocol allows, and what is known goes on; or it isn't
 abbrev pub Heard : Log → Ask → Reply → Bool → Heeds → Type 0
-Heard log ask reply heard new =
-    if heard then AreHeeds (log ++ (ask, reply) ∷ []) new else (AreTalks (log ++ (ask, reply) ∷ []) → ⊥)
+Heard log ask reply true new = AreHeeds (log ++ (ask, reply) ∷ []) new
+Heard log ask reply false new = AreTalks (log ++ (ask, reply) ∷ []) → ⊥
 
 -- what is known of a device is what is reached by a call more, if it is reached
 abbrev pub TakesOn : List ℕ → Heeds → Option Heed → Bool → Heeds → Type 0

@@ -1,6 +1,6 @@
 // What a job's device sessions may be told.
 
-ghost use Rattle.std.specs.Prelude.{◌≡◌, [], false, IfOk, OnOk, option_copied};
+ghost use Rattle.std.specs.Prelude.{◌≡◌, ◌++◌, ◌∷◌, [], false, IfOk, OnOk, option_copied};
 ghost use Rattle.mj_ask.specs.Fits.{is_shared};
 ghost use Rattle.mj_sessions.specs.Events.{Log, device_of, did_of, input_of, code_of};
 ghost use Rattle.mj_expect.specs.Heeds.{heed_of, with_heed, heed_by, after_call, after_end, after_line, rest_line, after_byte, one_more, AreHeeds, Heard, Takes};
@@ -86,9 +86,18 @@ impl Heeds {
         ensures { OnOk result (self.new ≡ with_heed device.now heed self.old) }
     {
         self.list.retain(|entry| entry.0 != *device);
-        if heed != Heed::Quiet {
-            self.list.push((device.try_clone()?, heed))?;
+        match heed {
+            Heed::Quiet => Ok(()),
+            Heed::Rest(_, _) | Heed::Failed => self.keep(device, heed),
         }
+    }
+
+    // One more device of which more is known.
+    fn keep(&mut self, device: &Text, heed: Heed) -> Result<(), AllocError>
+        ensures { OnOk result (self.new ≡ self.old ++ (device.now, heed) ∷ []) }
+    {
+        let name = device.try_clone()?;
+        self.list.push((name, heed))?;
         Ok(())
     }
 }

@@ -93,7 +93,7 @@ fn is_same_access(one: &Access, other: &Access) -> bool
 
 // Whether the clashes are the same.
 fn is_same_clash(one: &Clash, other: &Clash) -> bool
-    ensures { IsTrue result ↔ (one.now ≡ other.now) }
+    ensures { IsTrue result ↔ (one.entry.now ≡ other.entry.now) }
 {
     one.place == other.place && is_same_kept(&one.then, &other.then) && is_same_kept(&one.now, &other.now)
 }
@@ -130,7 +130,15 @@ fn is_same_entry(one: &Entry, other: &Entry) -> bool
 fn are_same_values(one: &[Option<Text>], other: &[Option<Text>]) -> bool
     ensures { IsTrue result ↔ (one.now ≡ other.now) }
 {
-    one == other
+    if one.len() != other.len() {
+        return false;
+    }
+    for (i, value) in one.iter().enumerate() {
+        if *value != other[i] {
+            return false;
+        }
+    }
+    true
 }
 
 // Whether the names are the same.
