@@ -9,8 +9,8 @@ use Rattle.mj_sys.specs.declared.event.Event.{Event}
 use Rattle.mj_sys.specs.Shared.{Shared}
 use Rattle.mj_sys.specs.History.{History, state_of, log_of}
 use Rattle.mj_core.specs.Runs.{IsRun, start_in}
-use Rattle.mj_debug.specs.declared.replay.Verdict.{Verdict}
-use Rattle.mj_debug.specs.declared.replay.Verdict.TheVariants as verdicts
+use Rattle.mj_debug.specs.declared.replaying.Verdict.{Verdict}
+use Rattle.mj_debug.specs.declared.replaying.Verdict.TheVariants as verdicts
 
 -- an event as it is recorded: its job, what that asked, and what it was told
 abbrev pub event_of : ℕ × Ask × Reply → Event

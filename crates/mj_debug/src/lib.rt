@@ -7,7 +7,7 @@
 
 mod laws;
 mod playing;
-mod replay;
+mod replaying;
 
 pub use laws::fronts_are_runs;
-pub use replay::{Verdict, replay};
+pub use replaying::{Verdict, replay};

@@ -18,9 +18,7 @@ pub fn is_same_ask(one: &Ask, other: &Ask) -> bool
         (Ask::DeviceByte(a, c), Ask::DeviceByte(b, d)) => a == b && c == d,
         (Ask::DeviceEnd(a), Ask::DeviceEnd(b)) => a == b,
         (Ask::Access(a), Ask::Access(b)) => is_same_access(a, b),
-        (Ask::Try(a, c), Ask::Try(b, d)) => {
-            are_same_names(a.as_slice(), b.as_slice()) && c == d
-        }
+        (Ask::Try(a, c), Ask::Try(b, d)) => { are_same_names(a.as_slice(), b.as_slice()) && c == d }
         (Ask::Unlock(a), Ask::Unlock(b)) => are_same_names(a.as_slice(), b.as_slice()),
         (Ask::UnlockAll, Ask::UnlockAll)
         | (Ask::Commit, Ask::Commit)
@@ -95,7 +93,9 @@ fn is_same_access(one: &Access, other: &Access) -> bool
 fn is_same_clash(one: &Clash, other: &Clash) -> bool
     ensures { IsTrue result ↔ (one.entry.now ≡ other.entry.now) }
 {
-    one.place == other.place && is_same_kept(&one.then, &other.then) && is_same_kept(&one.now, &other.now)
+    one.place == other.place
+        && is_same_kept(&one.then, &other.then)
+        && is_same_kept(&one.now, &other.now)
 }
 
 // Whether the same is kept.
@@ -134,11 +134,22 @@ fn are_same_values(one: &[Option<Text>], other: &[Option<Text>]) -> bool
         return false;
     }
     for (i, value) in one.iter().enumerate() {
-        if *value != other[i] {
+        if !is_same_value(value, &other[i]) {
             return false;
         }
     }
     true
+}
+
+// Whether the two values are the same, if they are there.
+fn is_same_value(one: &Option<Text>, other: &Option<Text>) -> bool
+    ensures { IsTrue result ↔ (one.now ≡ other.now) }
+{
+    match (one, other) {
+        (None, None) => true,
+        (Some(a), Some(b)) => a == b,
+        _ => false,
+    }
 }
 
 // Whether the names are the same.

@@ -1,0 +1,71 @@
+-- One event after the other.
+use Rattle.std.specs.Prelude.{slice_get, slice_set, map, take}
+use Rattle.std.specs.Option.{option_map}
+use Rattle.std.proofs.Common.{◌≡◌, ℕ, suc, ◌+◌, ◌<◌, List, [], ◌∷◌, ◌++◌, length, Bool, true, false, Option, Some, None, refl, sym, ap, ◌∙◌, subst, arith}
+use Rattle.std.proofs.lemmas.Option.{slice_get-map, slice_get_within, get_or_from_slice_get}
+use Rattle.std.proofs.lemmas.List.{take_more}
+use Rattle.mj_ask.specs.declared.ask.Ask.{Ask}
+use Rattle.mj_ask.specs.declared.ask.Reply.{Reply}
+use Rattle.mj_load.specs.Image.{Loaded, routines_of}
+use Rattle.mj_sys.specs.declared.event.Event.{Event}
+use Rattle.mj_sys.specs.Shared.{Shared}
+use Rattle.mj_sys.specs.History.{History}
+use Rattle.mj_sys.specs.System.{Recorded}
+use Rattle.mj_core.specs.Runs.{IsRun}
+use Rattle.mj_debug.specs.Replays.{event_of, history_of, IsUnmade, IsFirstUnmade}
+use Rattle.mj_debug.specs.Playing.{Playing, Plays, AreStaged, Stages}
+use Rattle.mj_debug.proofs.Staging.{is_run, unmade, staged_on}
+
+abbrev Recording : Type 0
+Recording = ℕ × Ask × Reply
+
+event_there : (events : List Recording) (at : ℕ) (e : Recording) → slice_get events at ≡ Some e → slice_get (history_of events) at ≡ Some (event_of e)
+event_there events at e is = slice_get-map event_of events at ∙ ap (option_map event_of) is
+
+-- one event more
+take_on : (events : List Recording) (at : ℕ) (e : Recording) → slice_get events at ≡ Some e → take (at + 1) (history_of events) ≡ take at (history_of events) ++ event_of e ∷ []
+take_on events at e is =
+    let there = event_there events at e is in
+    take_more (history_of events) at (event_of e) (slice_get_within (history_of events) at (event_of e) there)
+    ∙ ap (λ x. take at (history_of events) ++ x ∷ []) (get_or_from_slice_get (history_of events) at (event_of e) (event_of e) there)
+
+module _ (image : Loaded) (opening : Shared) (events : List Recording) (at : ℕ) (e : Recording) (is : slice_get events at ≡ Some e) (system : Recorded) (jobs : List Playing)
+    (staged : AreStaged image opening (take at (history_of events)) system jobs) (new : Recorded) (jobs' : List Playing) where
+  -- it was made
+  pub round_on : Stages image opening (take at (history_of events)) (event_of e) true new jobs' → AreStaged image opening (take (at + 1) (history_of events)) new jobs'
+  round_on made =
+      let P : History → Type 0 = λ h. AreStaged image opening h new jobs' in
+      subst P (sym (take_on events at e is)) made
+
+  -- it wasn't
+  pub round_off : Stages image opening (take at (history_of events)) (event_of e) false new jobs' → IsFirstUnmade (routines_of image) opening (history_of events) at
+  round_off not = record {
+    event = event_of e;
+    there = event_there events at e is;
+    before = is_run image opening (take at (history_of events)) system jobs staged;
+    unmade = not;
+  }
+
+take_all : {X : Type 0} {Y : Type 0} (f : X → Y) (xs : List X) → take (length xs) (map f xs) ≡ map f xs
+take_all f [] = refl
+take_all f (x ∷ xs) = ap (λ l. f x ∷ l) (take_all f xs)
+
+-- all were made
+pub all_made : (image : Loaded) (opening : Shared) (events : List Recording) (system : Recorded) (jobs : List Playing)
+    → AreStaged image opening (take (length events) (history_of events)) system jobs → IsRun (routines_of image) opening (history_of events)
+all_made image opening events system jobs staged =
+    let P : History → Type 0 = λ h. IsRun (routines_of image) opening h in
+    subst P (take_all event_of events) (is_run image opening (take (length events) (history_of events)) system jobs staged)
+
+-- a job's event, made or not
+module _ (image : Loaded) (opening : Shared) (history : History) (system new : Recorded) (jobs jobs' : List Playing) (staged : AreStaged image opening history system jobs)
+    (k job : ℕ) (numbered : job ≡ suc k) (played played' : Playing) (here : slice_get jobs k ≡ Some played) (ask : Ask) (reply : Reply) (set : jobs' ≡ slice_set jobs k played') where
+  pub made_so : (made : Bool) → Plays image opening system played.claim played.job played.heeds ask reply made new played'.claim played'.job played'.heeds
+      → Stages image opening history (record { job = job; ask = ask; reply = reply }) made new jobs'
+  made_so true plays =
+      let P : ℕ → Type 0 = λ j. AreStaged image opening (history ++ record { job = j; ask = ask; reply = reply } ∷ []) new jobs' in
+      let Q : List Playing → Type 0 = λ l. AreStaged image opening (history ++ record { job = suc k; ask = ask; reply = reply } ∷ []) new l in
+      subst P (sym numbered) (subst Q (sym set) (staged_on image opening history system jobs staged k played here ask reply new played' plays))
+  made_so false plays =
+      let P : ℕ → Type 0 = λ j. IsUnmade (routines_of image) opening history (record { job = j; ask = ask; reply = reply }) in
+      subst P (sym numbered) (unmade image opening history system jobs staged k played here ask reply new played'.claim played'.job played'.heeds plays)
