@@ -83,7 +83,7 @@ fn asks_it(image: &Image, job: &mut Job, ask: &Ask, reply: &Reply) -> Result<boo
 
 // Whether what a job asks is this.
 fn is_it(asked: Option<&Ask>, ask: &Ask) -> bool
-    ensures { IsTrue result ↔ (option_copied asked ≡ Some ask.now) }
+    ensures { IsTrue result ↔ (option_copied asked.entry ≡ Some ask.now) }
 {
     match asked {
         None => false,

@@ -1,5 +1,5 @@
 -- A job's log goes on, and what is known of its talks with devices.
-use Rattle.std.specs.Prelude.{not, if◌then◌else◌}
+use Rattle.std.specs.Prelude.{not, if◌then◌else◌, Result, Ok, Err, IfOk, OnOk}
 use Rattle.std.specs.List.{filter}
 use Rattle.std.specs.Str.{bytes_eq}
 use Rattle.std.proofs.Common.{ℕ, Bool, true, false, cond, List, [], ◌∷◌, ◌++◌, Option, Some, None, ◌≡◌, refl, sym, ap, ◌∙◌, subst, append-nil}
@@ -47,14 +47,15 @@ other_found name m h (e ∷ es) apart = by (bytes_eq e.0 name) refl (other_found
       rest ∙ sym (ap (λ b. if b then e.1 else heed_of m es) (ap (λ n. bytes_eq n m) to ∙ apart))
   by false is rest = ap (λ (x : Heed). if bytes_eq e.0 m then e.1 else x) rest
 
--- what is kept of a device, by whether that is more than where a talk begins
-pub kept_other : (name : List ℕ) (h : Heed) → (h ≡ heeds.Quiet → ⊥) → kept_of name h ≡ (name, h) ∷ []
-kept_other name heeds.Quiet not = absurd (not refl)
-kept_other name (heeds.Rest read over) not = refl
-kept_other name heeds.Failed not = refl
+-- what is known of a device is put in the place of what was
+pub put_so : (device : List ℕ) (h : Heed) (es inside left new k : Heeds) → left ≡ filter (is_other device) inside → inside ≡ es → kept_of device h ≡ k → new ≡ left ++ k
+    → new ≡ with_heed device h es
+put_so device h es inside left new k is view kept on =
+    on ∙ ap (λ l. l ++ k) is ∙ ap (λ l. filter (is_other device) inside ++ l) (sym kept) ∙ ap (λ (l : Heeds). filter (is_other device) l ++ kept_of device h) view
 
-pub kept_quiet : (name : List ℕ) (h : Heed) → h ≡ heeds.Quiet → kept_of name h ≡ []
-kept_quiet name h is = ap (kept_of name) is
+pub on_ok : {A E : Type 0} {P Q : Type 0} (result : Result A E) → (P → Q) → OnOk result P → OnOk result Q
+on_ok (Ok a) f p = f p
+on_ok (Err e) f p = tt
 
 -- ---- what the log has of a name
 
@@ -182,3 +183,8 @@ module _ (log : Log) (es : Heeds) (all : AreHeeds log es) where
   takes_heard (asks.Close d) reply h heard new t = absurd (let no : true ≡ false = h in cc)
   takes_heard (asks.Start start time) reply h heard new t = absurd (let no : true ≡ false = h in cc)
   takes_heard (asks.Halt fault) reply h heard new t = absurd (let no : true ≡ false = h in cc)
+
+  pub heard_so : {E : Type 0} (ask : Ask) (reply : Reply) → is_shared ask ≡ false → (new : Heeds) (result : Result Bool E)
+      → IfOk result (λ heard. Takes es ask reply heard new) → IfOk result (λ heard. Heard log ask reply heard new)
+  heard_so ask reply h new (Ok heard) t = takes_heard ask reply h heard new t
+  heard_so ask reply h new (Err e) t = tt

@@ -48,7 +48,7 @@ impl Heeds {
     /// Takes in what a job's session was told, or a rest, and answers whether some device may have answered so.
     pub fn hear(&mut self, ask: &Ask, reply: &Reply) -> Result<bool, AllocError>
         requires { is_shared ask.now ≡ false }
-        ensures heard { (log : Log) → AreHeeds log self.old → IfOk result (λ heard. Heard log ask.now reply.now heard self.new) }
+        ensures { (log : Log) → AreHeeds log self.old → IfOk result (λ heard. Heard log ask.now reply.now heard self.new) }
     {
         self.take(ask, reply)
     }
@@ -88,7 +88,8 @@ impl Heeds {
         self.list.retain(|entry| entry.0 != *device);
         match heed {
             Heed::Quiet => Ok(()),
-            Heed::Rest(_, _) | Heed::Failed => self.keep(device, heed),
+            Heed::Rest(read, over) => self.keep(device, Heed::Rest(read, over)),
+            Heed::Failed => self.keep(device, Heed::Failed),
         }
     }
 
