@@ -10,6 +10,7 @@
 
 mod bytes;
 mod devices;
+mod lines;
 mod port;
 #[cfg(test)]
 mod tests;

@@ -5,7 +5,8 @@ ghost use Rattle.std.specs.Option.{is_some};
 ghost use Rattle.mj_files.specs.Ported.{untouched, HasFile, Begins, Gets};
 
 use crate::bytes::{Trouble, whole};
-use mj_dev::{Device, Did, Input, Memory};
+use crate::lines::Lines;
+use mj_dev::{Device, Did, Input};
 use mj_text::Text;
 use std::alloc::Global;
 use std::fs::File;
@@ -27,14 +28,14 @@ pub struct Port<R: Files + Drop> {
     alloc: Global,
     source: Option<Place<R>>,
     target: Option<Place<R>>,
-    lines: Memory,
+    lines: Lines,
     file: Option<R::File>,
     failures: u64,
     taken: Vec<u8>,
 }
 
 impl<R: Files + Drop> Model for Port<R> {
-    ghost use Rattle.std.specs.Prelude.{◌≤◌, Some, None};
+    ghost use Rattle.std.specs.Prelude.{Some, None};
     ghost use Rattle.std.specs.Option.{is_some};
     ghost use Rattle.mj_files.specs.Ported.{Ported};
 
@@ -49,9 +50,6 @@ impl<R: Files + Drop> Model for Port<R> {
       taken = p.taken.items;
       given = p.lines.given;
     } };
-
-    // the failures of reading are among all
-    ghost invariant = { λ p. p.lines.failures ≤ p.failures };
 }
 
 impl<R: Files + Drop> Port<R> {
@@ -88,7 +86,7 @@ impl<R: Files + Drop> Port<R> {
             alloc,
             source,
             target,
-            lines: Memory::new(alloc, input),
+            lines: Lines::new(alloc, input),
             file: None,
             failures: 0,
             taken: Vec::new(alloc),
@@ -128,7 +126,7 @@ impl<R: Files + Drop> Port<R> {
         if let Some(input) = input
             && self.lines.given().is_empty()
         {
-            self.lines = Memory::new(self.alloc, input);
+            self.lines = Lines::new(self.alloc, input);
         }
         if file.is_some() {
             self.file = file;

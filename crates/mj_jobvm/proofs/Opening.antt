@@ -26,4 +26,4 @@ module _ (image : Loaded) (is : IsImage image) (start : Start) where
       by false = ap (λ f. f no_restart (counted (opening start.job)) replies) (is.does start.entry start.values (suc m) m (let le : m ≤ suc m = omega arith in le))
 
   pub starts : IsRunOfAfter image start 0 (opened start)
-  starts = started (routines_of image) start (code_in image start) (opening_at start.job) (tt, tt) opens
+  starts = started (routines_of image) start (code_in image start) (opening_at start.job) tt opens

@@ -157,40 +157,66 @@ fn files_fail(rt: HostRuntime) -> Result<(), Fail> {
     Ok(())
 }
 
-// A line that is longer than a text.
+// A line that is longer than a text, and one that just isn't. A job whose principal device fails says nothing more; another device's failure is
+// told there.
 #[test]
 fn a_long_line_is_a_failure(rt: HostRuntime) -> Result<(), Fail> {
+    let alloc = rt.alloc();
     let folder = folder(&rt, "long")?;
-    let mut input = b"first\n".to_vec(rt.alloc())?;
-    input.extend_from_slice([120; 32_768].as_slice())?;
-    let asks = " READ X WRITE X,! READ Y WRITE Y\n";
-    let ran = ran_in(&rt, folder.as_str(), "run --stdin --start ^R", asks, &input)?;
-    assert_eq!(rt; str::from_utf8(&ran.out)?, "first\n");
-    assert_eq!(rt; ran.status, 1);
+    let asks = " READ X WRITE X,! READ Y WRITE $LENGTH(Y)\n";
+    let other = " OPEN \"F\" USE \"F\" READ X,Y USE 0 WRITE X,!,$LENGTH(Y)\n";
+    let from = "run --device F=in:DIR/lines --start ^R";
+    for (words, bytes, length, out, status) in [
+        ("run --stdin --start ^R", asks, 32_767, "first\n32767", 0),
+        ("run --stdin --start ^R", asks, 32_768, "first\n", 1),
+        (from, other, 32_767, "first\n32767", 0),
+        (from, other, 32_768, "F16 DEVICE R:1\n", 1),
+    ] {
+        let mut input = b"first\n".to_vec(alloc)?;
+        input.resize(6 + length, 120)?;
+        let lines = format!(in alloc; "{folder}/lines")?;
+        fs::write(&rt, lines.as_str(), &input)?;
+        let ran = ran_in(&rt, folder.as_str(), words, bytes, &input)?;
+        assert_eq!(rt; str::from_utf8(&ran.out)?, out);
+        assert!(rt; ran.err.is_empty());
+        assert_eq!(rt; ran.status, status);
+    }
     fs::remove_dir_all(&rt, folder.as_str())?;
     Ok(())
 }
 
-// Two sessions of one name: the second job gets the second one, once the first job has ended.
+// Two sessions of one name: the second job gets the second one, once the first job has ended. What the first one set in a transaction is gone
+// then, and so is its lock.
 #[test]
 fn a_device_goes_from_job_to_job(rt: HostRuntime) -> Result<(), Fail> {
     let alloc = rt.alloc();
     let folder = folder(&rt, "sessions")?;
-    let ran = ran_in(
-        &rt,
-        folder.as_str(),
-        "run --device F=out:DIR/first --device F=out:DIR/second --start A^R --start B^R",
-        "A OPEN \"F\" USE \"F\" WRITE \"x\" LOCK +^L HALT\nB OPEN \"F\" LOCK +^L:0 WRITE $TEST CLOSE \"F\" OPEN \"F\"\n",
-        b"",
-    )?;
-    assert_eq!(rt;
-        str::from_utf8(&ran.out)?,
-        "--- job 1\n--- job 2\n1\nF15 NODEVICE R:2\n"
-    );
-    assert_eq!(rt; ran.status, 1);
-    for (name, bytes) in [("first", "x"), ("second", "")] {
-        let path = format!(in alloc; "{folder}/{name}")?;
-        assert_eq!(rt; fs::read_to_string(&rt, path.as_str())?.as_str(), bytes);
+    let kept = format!(in alloc; "{folder}/kept")?;
+    for change in ["", "TSTART  SET ^A=2 "] {
+        fs::write(&rt, kept.as_str(), "mj-globals 1\n^A=\"1\"\n")?;
+        let bytes = format!(in alloc;
+            "A OPEN \"F\" USE \"F\" WRITE \"x\" LOCK +^L {change}HALT\nB OPEN \"F\" LOCK +^L:0 WRITE $TEST,^A CLOSE \"F\" OPEN \"F\"\n"
+        )?;
+        let ran = ran_in(
+            &rt,
+            folder.as_str(),
+            "run --globals DIR/kept --save DIR/kept --device F=out:DIR/first --device F=out:DIR/second --start A^R --start B^R",
+            bytes.as_str(),
+            b"",
+        )?;
+        assert_eq!(rt;
+            str::from_utf8(&ran.out)?,
+            "--- job 1\n--- job 2\n11\nF15 NODEVICE R:2\n"
+        );
+        assert_eq!(rt; ran.status, 1);
+        for (name, bytes) in [
+            ("first", "x"),
+            ("second", ""),
+            ("kept", "mj-globals 1\n^A=\"1\"\n"),
+        ] {
+            let path = format!(in alloc; "{folder}/{name}")?;
+            assert_eq!(rt; fs::read_to_string(&rt, path.as_str())?.as_str(), bytes);
+        }
     }
     fs::remove_dir_all(&rt, folder.as_str())?;
     Ok(())
@@ -220,29 +246,36 @@ impl Read for Broken {
     }
 }
 
+// Runs these words with standard input that can't be read.
+fn run_broken(rt: &HostRuntime, words: &[&str]) -> Ran {
+    let mut out = Vec::new(rt.alloc());
+    let mut err = Vec::new(rt.alloc());
+    let status = mj_main::run(rt, words, &mut Broken, &mut out, &mut err);
+    Ran { out, err, status }
+}
+
 // Standard input comes behind the routines, and the listing of globals.
 #[test]
 fn standard_input_fails(rt: HostRuntime) -> Result<(), Fail> {
-    let alloc = rt.alloc();
     let folder = folder(&rt, "broken")?;
-    let file = format!(in alloc; "{folder}/R.m")?;
-    for (bytes, words, err, status) in [
-        (" WRITE 1\n", ["--stdin"].as_slice(), "file -\n", 4),
-        (" WRITE \"abc", &["--stdin"], "L2 R:1:8\n", 2),
-        (" WRITE 1\n", &[], "", 0),
-    ] {
-        fs::write(&rt, file.as_str(), bytes)?;
-        let mut list: Vec<&str> = Vec::new(alloc);
-        list.extend_from_slice(["mj", "run", "--start", "^R"].as_slice())?;
-        list.extend_from_slice(words)?;
-        list.push(file.as_str())?;
-        let mut out = Vec::new(alloc);
-        let mut told = Vec::new(alloc);
-        let given = mj_main::run(&rt, &list, &mut Broken, &mut out, &mut told);
-        assert_eq!(rt; str::from_utf8(&told)?, err);
-        assert_eq!(rt; given, status);
-        assert_eq!(rt; out.is_empty(), status != 0);
-    }
+    let path = format!(in rt.alloc(); "{folder}/R.m")?;
+    let file = path.as_str();
+    let with = ["mj", "run", "--start", "^R", "--stdin", file];
+    let without = ["mj", "run", "--start", "^R", file];
+    fs::write(&rt, file, " WRITE 1\n")?;
+    let ran = run_broken(&rt, &with);
+    assert!(rt; ran.out.is_empty());
+    assert_eq!(rt; str::from_utf8(&ran.err)?, "file -\n");
+    assert_eq!(rt; ran.status, 4);
+    let ran = run_broken(&rt, &without);
+    assert_eq!(rt; str::from_utf8(&ran.out)?, "1");
+    assert!(rt; ran.err.is_empty());
+    assert_eq!(rt; ran.status, 0);
+    fs::write(&rt, file, " WRITE \"abc")?;
+    let ran = run_broken(&rt, &with);
+    assert!(rt; ran.out.is_empty());
+    assert_eq!(rt; str::from_utf8(&ran.err)?, "L2 R:1:8\n");
+    assert_eq!(rt; ran.status, 2);
     fs::remove_dir_all(&rt, folder.as_str())?;
     Ok(())
 }

@@ -3,11 +3,17 @@
 #![tactic(auto)]
 
 #[cfg(test)]
+mod clashes;
+#[cfg(test)]
 mod commands;
 #[cfg(test)]
 mod control;
 #[cfg(test)]
 mod devices;
+#[cfg(test)]
+mod drops;
+#[cfg(test)]
+mod examples;
 #[cfg(test)]
 mod functions;
 #[cfg(test)]

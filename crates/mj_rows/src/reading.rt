@@ -196,7 +196,7 @@ fn calls_that_are_left_out_are_named(rt: HostRuntime) -> Result<(), Fail> {
  W 1 ZW => L7 R:1:6 command
  HALT X => L2 R:1:7
  H X => ok
- tstart () => L2 R:1:2
+ tstart () => ok
  W 1J 2 => L2 R:1:5
 ";
     let wrong = wrong_rows(rt.alloc(), rows)?;

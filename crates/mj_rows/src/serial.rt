@@ -15,9 +15,9 @@ fn blocks_come_in_the_order_of_their_commits(rt: HostRuntime) -> Result<(), Fail
     assert_eq!(rt;
         blocks(rt.alloc())?,
         [
-            Some((2, false, 2, 1)),
-            Some((1, true, 0, 2)),
-            Some((2, false, 8, 2)),
+            Some((2, false, 3, 1)),
+            Some((1, true, 1, 2)),
+            Some((2, false, 9, 2)),
             None
         ]
     );

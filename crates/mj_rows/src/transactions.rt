@@ -46,6 +46,16 @@ fn transactions_of_one_job(rt: HostRuntime) -> Result<(), Fail> {
         ),
         (" SET ^A=1 TSTART  SET ^A=2 HALT\n", "", 0),
         (" BREAK  WRITE 1 B:0  WRITE 2\n", "12", 0),
+        (
+            " SET ^A(1)=1,^A(2)=2,^A(3)=3\n TSTART  KILL ^A(2) WRITE $ORDER(^A(1)),$ORDER(^A(2)) TROLLBACK  WRITE $ORDER(^A(1))\n",
+            "332",
+            0,
+        ),
+        (
+            " SET ^A(1)=1,^A(2)=2,^A(3)=3\n TSTART  KILL ^A(2) SET ^A(2,5)=\"\" WRITE $ORDER(^A(1)),$DATA(^A(2)),$QUERY(^A(1)) TROLLBACK\n",
+            "210^A(2,5)",
+            0,
+        ),
     ] {
         let ran = row(&rt, "transactions", bytes)?;
         assert_eq!(rt; str::from_utf8(&ran.out)?, out);
@@ -60,6 +70,7 @@ fn faults_of_transactions(rt: HostRuntime) -> Result<(), Fail> {
     for (bytes, out) in [
         (" TSTART  QUIT\n", "F10 TXQUIT R:1\n"),
         (" TSTART\n SET X=1\n", "F10 TXQUIT R:2\n"),
+        (" DO A QUIT\nA TSTART  QUIT\n", "F10 TXQUIT R:2\n"),
         (
             " DO A WRITE \"x\"\n QUIT\nA TSTART\n SET X=1\n",
             "F10 TXQUIT R:4\n",
@@ -122,6 +133,39 @@ fn serial_transactions_among_jobs(rt: HostRuntime) -> Result<(), Fail> {
         assert!(rt;
             gives(&rt, options, routine, steps, out, "", 0)?,
             "{routine}"
+        );
+    }
+    Ok(())
+}
+
+// What is taken in a transaction is given back by a rollback, and what is given up in it is given up by its commit. A second job tries both names
+// before the first one has ended.
+#[test]
+fn locks_of_a_transaction(rt: HostRuntime) -> Result<(), Fail> {
+    for (ending, steps, out) in [
+        ("TROLLBACK  HALT", "1\n1\n1\n1\n1\n1\n", "01"),
+        ("TCOMMIT  HALT", "1\n1\n1\n1\n1\n1\n", "10"),
+        // each count is 1
+        ("TROLLBACK  LOCK -^L HALT", "1\n1\n1\n1\n1\n1\n1\n", "11"),
+        ("TCOMMIT  LOCK -^M HALT", "1\n1\n1\n1\n1\n1\n1\n", "11"),
+    ] {
+        let alloc = rt.alloc();
+        let routine = format!(in alloc;
+            "A LOCK +^L TSTART  LOCK -^L,+^M {ending}\nB LOCK +^L:0 WRITE $TEST LOCK +^M:0 WRITE $TEST HALT\n"
+        )?;
+        let steps = format!(in alloc; "{steps}2\n2\n2\n2\n2\n2\n2\n1\n1\n")?;
+        let out = format!(in alloc; "--- job 1\n--- job 2\n{out}\n")?;
+        assert!(rt;
+            gives(
+                &rt,
+                "--start|A^R|--start|B^R",
+                routine.as_str(),
+                steps.as_str(),
+                out.as_str(),
+                "",
+                0,
+            )?,
+            "{ending}"
         );
     }
     Ok(())

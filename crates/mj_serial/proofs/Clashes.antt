@@ -241,6 +241,6 @@ clash_is programs st g0 h j log (Some t) (Some b) clash o f s = by_kind t.serial
 
 pub clashes : ClashesMustBy Exactly
 clashes programs g h later j clash st r =
-    let i : IsAt Exactly programs (sight_behind (sight_of g) h) (stands_from 0 nowhere h) (clashes_at j clash ∷ later)
-    = all_on h 0 (clashes_at j clash ∷ later) (at_first r) in
-    clash_is programs st g h j (stands_from 0 nowhere h j).log ((sight_behind (sight_of g) h).transactions j) (open_after h j) clash refl (i.fits j) i.told.0
+    let i : IsAt Exactly programs (sight_behind (sight_of g) h) (stands_from 1 nowhere h) (clashes_at j clash ∷ later)
+    = all_on h 1 (clashes_at j clash ∷ later) (at_first r) in
+    clash_is programs st g h j (stands_from 1 nowhere h j).log ((sight_behind (sight_of g) h).transactions j) (open_after h j) clash refl (i.fits j) i.told.0

@@ -48,11 +48,11 @@ transfer = by 0 ((begin, replies.Done) ∷ (value a, saw (codes "5")) ∷ (sets 
     ++ by 0 ((value b, saw (codes "1")) ∷ (sets b (codes "2"), done) ∷ (asks.Commit, replies.Done) ∷ [])
 
 -- the look comes first, as it was before the commit
-transfer_blocks : map shown (blocks_of transfer) ≡ record { job = 1; serial = false; place = 3; accesses = entry.Access (access.Value a) (answer.Value (Some (codes "5"))) ∷ [] }
+transfer_blocks : map shown (blocks_of transfer) ≡ record { job = 1; serial = false; place = 4; accesses = entry.Access (access.Value a) (answer.Value (Some (codes "5"))) ∷ [] }
     ∷ record {
       job = 0;
       serial = true;
-      place = 0;
+      place = 1;
       accesses = entry.Access (access.Value a) (answer.Value (Some (codes "5"))) ∷ entry.Access (access.Set a (codes "4")) answer.Done
           ∷ entry.Access (access.Value b) (answer.Value (Some (codes "1"))) ∷ entry.Access (access.Set b (codes "2")) answer.Done ∷ [];
     } ∷ []
@@ -110,7 +110,7 @@ skewed = by 0 ((begin, replies.Done) ∷ (value b, saw (codes "0")) ∷ []) ++ b
     ++ by 1 ((begin, replies.Done) ∷ (value a, saw (codes "10")) ∷ (sets b (codes "110"), done) ∷ (asks.Commit, replies.Done) ∷ [])
 
 -- the second block begins with the second `begin` of its job
-skew_places : map (λ x. x.place) (blocks_of skewed) ≡ 0 ∷ 8 ∷ []
+skew_places : map (λ x. x.place) (blocks_of skewed) ≡ 1 ∷ 9 ∷ []
 skew_places = refl
 
 skew_left : committed_by zeros skewed ≡ (a, codes "10") ∷ (b, codes "110") ∷ []
@@ -181,7 +181,7 @@ appears = record { place = 1; then = answer.Order None; now = answer.Order (Some
 abbrev phantom : History
 phantom = by 0 ((begin, replies.Done) ∷ (first, comes None) ∷ []) ++ by 1 ((sets a one, done) ∷ []) ++ by 0 ((asks.Commit, replies.Clash (clash_of appears)) ∷ [])
 
-phantom_blocks : map shown (blocks_of phantom) ≡ record { job = 1; serial = false; place = 2; accesses = entry.Access (access.Set a one) answer.Done ∷ [] } ∷ []
+phantom_blocks : map shown (blocks_of phantom) ≡ record { job = 1; serial = false; place = 3; accesses = entry.Access (access.Set a one) answer.Done ∷ [] } ∷ []
 phantom_blocks = refl
 
 phantom_asked : (j : ℕ) → AreAsked (two looks adds j) [] (log_of j phantom)

@@ -315,5 +315,5 @@ at_first r = record { fits = λ j. tt; told = r.told; asked = r.asked }
 pub serial : IsSerialBy Exactly
 serial programs g h st r =
     let i = at_first r in
-    let x = alone_from programs st h (sight_of g) nowhere 0 i in
-    record { turns = x.turns; same = x.same; stand = x.stand; parts = in_is_part h (blocks_of h) (all_in Exactly programs h (sight_of g) nowhere 0 i) }
+    let x = alone_from programs st h (sight_of g) nowhere 1 i in
+    record { turns = x.turns; same = x.same; stand = x.stand; parts = in_is_part h (blocks_of h) (all_in Exactly programs h (sight_of g) nowhere 1 i) }

@@ -74,5 +74,5 @@ from_shown (e ∷ h) place w =
     ∙ ap (λ v. shown_from (suc place) v h) (fun_ext (λ j. stand_shown place w e j (e.job == j) refl)))
 
 -- the scan of a whole history
-pub of_shown : (h : History) → shown_from 0 (λ j. None) h ≡ map shown (blocks_of h)
-of_shown h = sym (from_shown h 0 nowhere)
+pub of_shown : (h : History) → shown_from 1 (λ j. None) h ≡ map shown (blocks_of h)
+of_shown h = sym (from_shown h 1 nowhere)

@@ -39,7 +39,7 @@ abbrev pub accesses_of : Log → Accesses
 accesses_of [] = []
 accesses_of (e ∷ log) = cons_option (entry_of e.0 e.1) (accesses_of log)
 
--- A committed transaction, or a single access: its job, whether it is SERIAL, the place in the history where it begins (the first event's is 0),
+-- A committed transaction, or a single access: its job, whether it is SERIAL, the place in the history where it begins (the first event's is 1),
 -- the job's log when it had begun, and its log since then
 pub record Block : Type 0 where
   pub job : ℕ
@@ -105,7 +105,7 @@ nowhere job = record { log = []; block = None }
 
 -- the committed transactions and the single accesses of a history, in the order of their commits
 abbrev pub blocks_of : History → List Block
-blocks_of h = blocks_from 0 nowhere h
+blocks_of h = blocks_from 1 nowhere h
 
 -- where the jobs stand after a history
 abbrev pub stands_from : ℕ → (ℕ → Stand) → History → ℕ → Stand
@@ -114,4 +114,4 @@ stands_from place w (e ∷ h) = stands_from (suc place) (stand_after place w e) 
 
 -- the transaction that a job has open after a history, if it has one
 abbrev pub open_after : History → ℕ → Option Block
-open_after h job = (stands_from 0 nowhere h job).block
+open_after h job = (stands_from 1 nowhere h job).block

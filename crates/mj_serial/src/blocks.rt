@@ -20,7 +20,7 @@ pub struct Block {
     pub job: u32,
     /// whether it is a SERIAL transaction
     pub serial: bool,
-    /// the place in the history of the event where it begins, from 0: that of the transaction's `begin`, or of the access
+    /// the place in the history of the event where it begins, from 1: that of the transaction's `begin`, or of the access
     pub place: usize,
     /// its accesses with their answers, in order
     pub accesses: Vec<Entry>,
@@ -60,10 +60,10 @@ fn scan(
     done: &mut Vec<Block>,
     history: &[Event],
 ) -> Result<(), AllocError>
-    ensures { OnOk result (done.new.items ≡ all_from done.old.items table.old.items 0 history.now) }
+    ensures { OnOk result (done.new.items ≡ all_from done.old.items table.old.items 1 history.now) }
 {
     for (place, event) in history.iter().enumerate() {
-        look(alloc, table, done, place, event)?;
+        look(alloc, table, done, place + 1, event)?;
     }
     Ok(())
 }

@@ -1,6 +1,5 @@
-use Rattle.std.proofs.Common.{◌≡◌, List, [], Option, None, Ok, Err, length, sym, ap, ◌∙◌, arith}
+use Rattle.std.proofs.Common.{◌≡◌, List, [], Option, Ok, Err, length, sym, ap, ◌∙◌, arith}
 use Rattle.mj_ask.specs.declared.ask.Reply.{Reply}
-use Rattle.mj_semantics.specs.State.{State}
 use Rattle.mj_semantics.specs.Outcome.{Outcome, given}
 use Rattle.mj_pcode.specs.Found.{Found, found}
 use Rattle.mj_pcode.specs.Context.{at_unit}
@@ -10,7 +9,7 @@ use Rattle.mj_frames.specs.declared.loops.Loop as kept_loop
 use Rattle.mj_machine.specs.Contexts.{loops_of, calls_of}
 use Rattle.mj_turn.specs.Enters.{found_of, found_at, entered, opened_at}
 use Rattle.mj_machine.specs.Standing.{Standing, given_first}
-use Rattle.mj_machine.specs.Kept.{restart_of, state_of}
+use Rattle.mj_machine.specs.Kept.{restart_of, standing, in_state, state_of}
 use Rattle.mj_turn.proofs.Opened.{opens, called}
 use Rattle.mj_turn.proofs.calling.enter_first.Goals as goal
 
@@ -45,13 +44,13 @@ returns-clause-ok c = λ reply. (
       ∙ ap (entered (found_at c.find_line-to.result) c.len.result) (sym c.len-2.ensures)
       ∙ c.in-Ok.ensures.ok.0 in
       let tallied : Stack = tallies (length f.head.formals) in
-      let goes : State → Outcome = λ s. next (at_unit f.at []) f.head.start tallied n (handle (restart_of old)) s rs in
+      let goes : Standing → Outcome = λ st. next (at_unit f.at []) f.head.start tallied n (handle st.restart) st.state rs in
       let there : List kept_loop.Loop → List kept.Call → Stack → Outcome = λ ls ks st.
-      next (record { unit = f.at; loops = loops_of ls; calls = calls_of ks }) f.head.start st n (handle (restart_of old)) (state_of c.open_frame.new.machine) rs in
+      next (record { unit = f.at; loops = loops_of ls; calls = calls_of ks }) f.head.start st n (handle (restart_of c.open_frame.new.machine)) (state_of c.open_frame.new.machine) rs in
       called vs [] next to n (handle (restart_of old)) (state_of old) rs
       ∙ ap (λ r. given r (opens vs [] next) n (handle (restart_of old)) (state_of old) rs) e
-      ∙ ap (λ l. goes (opened_at f l (state_of old))) (sym (c.in_ok-values.ensures ∙ c.deref.ensures.value))
-      ∙ ap (λ (st : Standing). goes st.state) (sym (c.in_ok-open_frame.ensures.ok reply))
+      ∙ ap (λ l. goes (in_state (opened_at f l (state_of old)) (standing old reply))) (sym (c.in_ok-values.ensures ∙ c.deref.ensures.value))
+      ∙ ap goes (sym (c.in_ok-open_frame.ensures.ok reply))
       ∙ ap (λ ls. there ls [] tallied) (sym c.clear.ensures.items)
       ∙ ap (λ ks. there c.clear.new.self.items ks tallied) (sym c.clear-2.ensures.items)
       ∙ ap (λ st. there c.clear.new.self.items c.clear-2.new.self.items st) (sym c.put_tallies.ensures),

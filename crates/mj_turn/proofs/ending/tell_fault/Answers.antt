@@ -1,4 +1,4 @@
-use Rattle.std.proofs.Common.{[], None, sym, ap, ◌∙◌}
+use Rattle.std.proofs.Common.{[], sym, ap, ◌∙◌}
 use Rattle.std.specs.Prelude.{option_map, if◌then◌else◌, Some}
 use Rattle.std.proofs.lemmas.Result.{IfOk-weaker}
 use Rattle.mj_ask.specs.declared.ask.Ask.TheVariants.{DeviceWrite}

@@ -1,4 +1,4 @@
-use Rattle.std.proofs.Common.{◌≡◌, List, Some, Ok, sym, ap, ◌∙◌, None}
+use Rattle.std.proofs.Common.{◌≡◌, List, Some, Ok, sym, ap, ◌∙◌}
 use Rattle.std.specs.Prelude.{if◌then◌else◌}
 use Rattle.mj_ask.specs.declared.ask.Reply.{Reply}
 use Rattle.mj_semantics.specs.State.{State}

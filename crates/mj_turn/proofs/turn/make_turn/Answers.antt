@@ -49,8 +49,8 @@ returns-in-None-get-clause-ok c =
     (d units pc (replied c.args.given)))
     c.end_unit.ensures.ok
 
-pub returns-in-Some-get-clause-ok : goal.returns-in-Some-get-clause-ok
-returns-in-Some-get-clause-ok c =
+pub returns-in_default-clause-ok : goal.returns-in_default-clause-ok
+returns-in_default-clause-ok c =
     let old = c.args.machine.now in
     let units = c.args.units.now in
     let code : Code = record { units = units; start = start_of c.args.start.now } in
@@ -119,8 +119,8 @@ returns-in-None-get-clause-sound c =
     (act_keeps units c.requires.checked u (context_of old) pc (stack_of old) found place None none) stands.1 c.requires.sound
     (IfOk-weaker c.end_unit.result _ _ (λ step d. d units pc (replied c.args.given)) c.end_unit.ensures.ok) c.end_unit.ensures.err
 
-pub returns-in-Some-get-clause-sound : goal.returns-in-Some-get-clause-sound
-returns-in-Some-get-clause-sound c =
+pub returns-in_default-clause-sound : goal.returns-in_default-clause-sound
+returns-in_default-clause-sound c =
     let old = c.args.machine.now in
     let units = c.args.units.now in
     let u = c.in-Some.unit.now in

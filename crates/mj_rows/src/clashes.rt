@@ -1,0 +1,253 @@
+// SERIAL transactions of two jobs, step by step: what they ask and are told, and the blocks of that.
+
+use crate::runs::{folder, run_words};
+use mj_ask::{Ask, Reply};
+use mj_serial::{Block, serial_blocks};
+use mj_sys::Event;
+use mj_trace::{Trace, event_line, read_trace};
+use mj_txlog::Entry;
+use std::alloc::Global;
+use std::test::Fail;
+use std::{fs, str};
+
+// The trace of two jobs of the routine R, of which these are the starts, from these globals and by these steps; where the exit status isn't 0, what
+// was said.
+fn traced(
+    rt: &HostRuntime,
+    starts: [&str; 2],
+    routine: &str,
+    globals: &str,
+    steps: &str,
+) -> Result<String, Fail> {
+    let alloc = rt.alloc();
+    let folder = folder(rt, "clashes")?;
+    let file = format!(in alloc; "{folder}/R.m")?;
+    let before = format!(in alloc; "{folder}/globals")?;
+    let list = format!(in alloc; "{folder}/steps")?;
+    let trace = format!(in alloc; "{folder}/trace")?;
+    fs::write(rt, file.as_str(), routine)?;
+    fs::write(rt, before.as_str(), globals)?;
+    fs::write(rt, list.as_str(), steps)?;
+    let [first, second] = starts;
+    let words = [
+        "mj",
+        "step",
+        "--start",
+        first,
+        "--start",
+        second,
+        "--globals",
+        before.as_str(),
+        "--steps",
+        list.as_str(),
+        "--trace",
+        trace.as_str(),
+        file.as_str(),
+    ];
+    let ran = run_words(rt, &words);
+    let left = fs::read_to_string(rt, trace.as_str())?;
+    fs::remove_dir_all(rt, folder.as_str())?;
+    if ran.status == 0 {
+        Ok(left)
+    } else {
+        Ok(String::from_utf8(ran.err)?)
+    }
+}
+
+// Two that add to one number, both of which read it before the first commits.
+#[test]
+fn the_second_to_commit_is_restarted(rt: HostRuntime) -> Result<(), Fail> {
+    let trace = traced(
+        &rt,
+        ["^R", "^R"],
+        " TSTART ():SERIAL\n SET X=^A\n SET ^A=X+1\n TCOMMIT\n",
+        "mj-globals 1\n^A=\"5\"\n",
+        "1\n1\n1\n2\n2\n2\n1\n1\n2\n2\n2\n2\n2\n2\n",
+    )?;
+    let lines = "mj-trace 1
+pool \"0\" 255
+start ^R
+start ^R
+1 dev \"0\" begin done
+1 begin serial done
+1 value ^A \"5\"
+2 dev \"0\" begin done
+2 begin serial done
+2 value ^A \"5\"
+1 set ^A \"6\" done
+1 commit done
+2 set ^A \"6\" done
+2 commit clash 1 \"5\" \"6\"
+2 begin serial done
+2 value ^A \"6\"
+2 set ^A \"7\" done
+2 commit done
+";
+    assert_eq!(rt; trace.as_str(), lines);
+    Ok(())
+}
+
+// Each reads what the other one writes.
+#[test]
+fn write_skew_is_refused(rt: HostRuntime) -> Result<(), Fail> {
+    let trace = traced(
+        &rt,
+        ["A^R", "B^R"],
+        "A TSTART ():SERIAL SET X=^B,^A=X+1 TCOMMIT\n QUIT\nB TSTART ():SERIAL SET X=^A,^B=X+1 TCOMMIT\n",
+        "mj-globals 1\n^A=\"0\"\n^B=\"0\"\n",
+        "1\n1\n1\n2\n2\n2\n1\n1\n2\n2\n2\n2\n2\n2\n",
+    )?;
+    let lines = "mj-trace 1
+pool \"0\" 255
+start A^R
+start B^R
+1 dev \"0\" begin done
+1 begin serial done
+1 value ^B \"0\"
+2 dev \"0\" begin done
+2 begin serial done
+2 value ^A \"0\"
+1 set ^A \"1\" done
+1 commit done
+2 set ^B \"1\" done
+2 commit clash 1 \"0\" \"1\"
+2 begin serial done
+2 value ^A \"1\"
+2 set ^B \"2\" done
+2 commit done
+";
+    assert_eq!(rt; trace.as_str(), lines);
+    Ok(())
+}
+
+// Something comes where nothing was seen: that is a clash.
+#[test]
+fn a_phantom_clashes(rt: HostRuntime) -> Result<(), Fail> {
+    let trace = traced(
+        &rt,
+        ["A^R", "B^R"],
+        "A TSTART ():SERIAL SET X=$ORDER(^Q(\"\")) TCOMMIT\n QUIT\nB SET ^Q(1)=1\n",
+        "mj-globals 1\n",
+        "1\n1\n1\n2\n2\n1\n1\n1\n1\n",
+    )?;
+    let lines = "mj-trace 1
+pool \"0\" 255
+start A^R
+start B^R
+1 dev \"0\" begin done
+1 begin serial done
+1 order ^Q(\"\") 1 -
+2 dev \"0\" begin done
+2 set ^Q(1) \"1\" done
+1 commit clash 1 - 1
+1 begin serial done
+1 order ^Q(\"\") 1 1
+1 commit done
+";
+    assert_eq!(rt; trace.as_str(), lines);
+    Ok(())
+}
+
+// A global that has come back to what was read of it is none.
+#[test]
+fn what_came_back_is_no_clash(rt: HostRuntime) -> Result<(), Fail> {
+    let trace = traced(
+        &rt,
+        ["A^R", "B^R"],
+        "A TSTART ():SERIAL SET X=^A,^B=X TCOMMIT\n QUIT\nB SET ^A=6,^A=5\n",
+        "mj-globals 1\n^A=\"5\"\n",
+        "1\n1\n1\n2\n2\n2\n1\n1\n",
+    )?;
+    assert!(rt;
+        trace.as_str().ends_with(
+            "\n1 value ^A \"5\"\n2 dev \"0\" begin done\n2 set ^A \"6\" done\n2 set ^A \"5\" done\n1 set ^B \"5\" done\n1 commit done\n"
+        )
+    );
+    Ok(())
+}
+
+// A single change, two SERIAL transactions of which the second clashed once, one that isn't SERIAL, and a single read: in the order of their
+// commits. What clashed and what was rolled back isn't there, and the accesses that were done are.
+#[test]
+fn blocks_of_a_run(rt: HostRuntime) -> Result<(), Fail> {
+    let trace = traced(
+        &rt,
+        ["A^R", "B^R"],
+        "A SET ^N=0
+ TSTART ():SERIAL SET X=^A,^A=X+1 TCOMMIT
+ TSTART  SET ^A=9 TROLLBACK
+ QUIT
+B TSTART ():SERIAL SET X=^A,^A=X+1 TCOMMIT
+ TSTART  SET ^B=^A LOCK -^L TCOMMIT
+ SET X=$DATA(^N)
+",
+        "mj-globals 1\n^A=\"5\"\n",
+        "1\n1\n1\n1\n2\n2\n2\n1\n1\n2\n2\n2\n2\n2\n2\n1\n1\n1\n1\n1\n2\n2\n2\n2\n2\n2\n2\n2\n",
+    )?;
+    assert!(rt;
+        trace
+            .as_str()
+            .ends_with("\n2 data ^N 1\n2 dev \"0\" end done\n2 halt done\n")
+    );
+    let trace = read_trace(rt.alloc(), trace.as_bytes())?;
+    let blocks = blocks(rt.alloc(), &trace)?;
+    let lines = "plain from 2
+1 set ^N \"0\" done
+serial from 3
+1 value ^A \"5\"
+1 set ^A \"6\" done
+serial from 12
+2 value ^A \"6\"
+2 set ^A \"7\" done
+plain from 21
+2 value ^A \"7\"
+2 set ^B \"7\" done
+2 unlock * done
+plain from 26
+2 data ^N 1
+";
+    assert_eq!(rt; str::from_utf8(&blocks)?, lines);
+    Ok(())
+}
+
+// The blocks of a trace: of each a line that says whether it is SERIAL and where it begins, and its accesses as a trace has them.
+fn blocks(alloc: Global, trace: &Trace) -> Result<Vec<u8>, Fail> {
+    let mut history = Vec::new(alloc);
+    for (job, ask, reply) in trace.events() {
+        let ask = ask.try_clone()?;
+        let reply = reply.try_clone()?;
+        let job = *job;
+        history.push(Event { job, ask, reply })?;
+    }
+    let blocks = serial_blocks(alloc, &history)?;
+    let mut lines = Vec::new(alloc);
+    for block in &blocks {
+        put_block(alloc, &mut lines, block)?;
+    }
+    Ok(lines)
+}
+
+fn put_block(alloc: Global, lines: &mut Vec<u8>, block: &Block) -> Result<(), Fail> {
+    let kind = if block.serial { "serial" } else { "plain" };
+    let place = block.place;
+    let head = format!(in alloc; "{kind} from {place}\n")?;
+    lines.extend_from_slice(head.as_bytes())?;
+    for entry in &block.accesses {
+        let line = access_line(alloc, block.job, entry)?;
+        lines.extend_from_slice(&line)?;
+        lines.push(b'\n')?;
+    }
+    Ok(())
+}
+
+// An access as a line of a trace. An unlock has no names there.
+fn access_line(alloc: Global, job: u32, entry: &Entry) -> Result<Vec<u8>, Fail> {
+    match entry {
+        Entry::Access(access, answer) => {
+            let ask = Ask::Access(access.try_clone()?);
+            let reply = Reply::Answer(answer.try_clone()?);
+            Ok(event_line(alloc, job, &ask, &reply)?)
+        }
+        Entry::Unlock(_) => Ok(event_line(alloc, job, &Ask::UnlockAll, &Reply::Done)?),
+    }
+}
