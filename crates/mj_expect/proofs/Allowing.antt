@@ -1,6 +1,6 @@
 -- One call more, where a talk may stand.
 use Rattle.std.specs.Prelude.{◌⊎◌, ◌==◌, ◌||◌, T, nat_le, nat_lt, if◌then◌else◌, ⊤}
-use Rattle.std.proofs.Common.{ℕ, zero, suc, ◌+◌, ◌<◌, ◌≤◌, Bool, true, false, List, [], ◌∷◌, ◌++◌, Option, Some, None, ◌≡◌, length, refl, sym, ap, ◌∙◌, subst, inl, inr, arith, eqb→eq, eq-eqb}
+use Rattle.std.proofs.Common.{ℕ, suc, ◌+◌, ◌<◌, ◌≤◌, Bool, true, false, List, [], ◌∷◌, ◌++◌, Option, Some, None, ◌≡◌, length, refl, sym, ap, ◌∙◌, subst, inl, inr, arith, eqb→eq, eq-eqb}
 use Rattle.mj_text.specs.declared.text.TheConstants.{TEXT_LIMIT}
 use Rattle.mj_dev.specs.declared.device.Did.{Did}
 use Rattle.mj_dev.specs.declared.device.Did.TheVariants as did
@@ -11,13 +11,13 @@ use Rattle.mj_dev.specs.declared.talk.Code.TheVariants as codes
 use Rattle.mj_dev.specs.declared.talk.State.{State}
 use Rattle.mj_dev.specs.declared.talk.State.TheVariants as states
 use Rattle.mj_dev.specs.Did.{IsAnswered}
-use Rattle.mj_dev.specs.Rest.{TakesOne, TakesRest}
+use Rattle.mj_dev.specs.Rest.{TakesOne}
 use Rattle.mj_dev.specs.Talk.{Exchange, Begun, Written, LineRead, ByteRead, Ended, Stand, beginning, Allows, AllowsOpen, AllowsFailed, AllowsLine, AllowsByte, stand_after}
 use Rattle.mj_sessions.specs.Follow.{behind, Follow}
 use Rattle.mj_sessions.proofs.Telling.{follow_on}
 use Rattle.mj_expect.specs.declared.heed.Heed.{Heed}
 use Rattle.mj_expect.specs.declared.heed.Heed.TheVariants as heeds
-use Rattle.mj_expect.specs.Heeds.{IsLeft, MayStand, called, after_call, after_end, new_line, rest_line, after_line, new_byte, one_more, rest_byte, after_byte, heed_after, AllFollow, IsHeed}
+use Rattle.mj_expect.specs.Heeds.{IsLeft, MayStand, called, after_call, after_end, new_line, rest_line, new_byte, rest_byte, heed_after, AllFollow, IsHeed}
 
 -- a talk may stand so, where the call was allowed
 abbrev MayBe : Option Heed → Stand → Type 0

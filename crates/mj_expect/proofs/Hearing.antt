@@ -9,7 +9,7 @@ use Rattle.mj_ask.specs.declared.ask.Ask.TheVariants as asks
 use Rattle.mj_ask.specs.declared.ask.Reply.{Reply}
 use Rattle.mj_ask.specs.Fits.{is_shared}
 use Rattle.mj_dev.specs.Talk.{Exchange, Begun, Written, LineRead, ByteRead, Ended, Stand, beginning}
-use Rattle.mj_sessions.specs.Events.{Log, did_of, input_of, code_of, exchange_of, exchange_on, talk_on}
+use Rattle.mj_sessions.specs.Events.{Log, did_of, input_of, code_of, exchange_on, talk_on}
 use Rattle.mj_sessions.specs.Follow.{Follow, AreTalks}
 use Rattle.mj_sessions.proofs.Telling.{talk_more}
 use Rattle.mj_expect.specs.declared.heed.Heed.{Heed}

@@ -6,4 +6,4 @@ use Rattle.mj_expect.proofs.heed.Heeds.new.Goals as goal
 pub returns : goal.returns
 returns c =
     let P : Heeds → Type 0 = λ l. AreHeeds [] l in
-    subst P (sym c.new.ensures) heard_nothing
+    subst P (sym c.new.ensures.items) heard_nothing

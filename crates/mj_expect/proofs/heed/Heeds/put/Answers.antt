@@ -1,4 +1,4 @@
-use Rattle.std.proofs.Common.{◌≡◌, ◌++◌, ◌∷◌, [], rules, sym, ap, append-nil}
+use Rattle.std.proofs.Common.{◌≡◌, ◌∷◌, [], rules, sym, ap, append-nil}
 use Rattle.std.specs.List.{filter}
 use Rattle.std.proofs.lemmas.Fn.{filter_same}
 use Rattle.mj_expect.specs.declared.heed.Heed.TheVariants as heeds
