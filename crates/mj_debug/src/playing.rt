@@ -57,15 +57,18 @@ pub fn play<D: Device, O: Opening>(
         return Ok(false);
     }
     let told = reply.try_clone()?;
-    let made = if ask.is_shared() {
-        serves_it(system, claim, ask, reply)?
-    } else {
-        heeds.hear(ask, reply)?
-    };
-    if made {
+    if ask.is_shared() {
+        if !serves_it(system, claim, ask, reply)? {
+            return Ok(false);
+        }
         job.answer(told);
+        return Ok(true);
     }
-    Ok(made)
+    if !heeds.hear(ask, reply)? {
+        return Ok(false);
+    }
+    job.answer(told);
+    Ok(true)
 }
 
 // Brings a job to its next ask, and says whether that is this, and the reply fits it.
