@@ -54,6 +54,11 @@ ServesIt opening old claim ask reply true new claim' =
 ServesIt opening old claim ask reply false new claim' =
     (left : Shared) → served (state_of opening old.history) claim.job ask true ≡ Some (reply, left) → ⊥
 
+-- the job was told the reply to what it asked
+abbrev pub IsToldOn : Running → Ask → Reply → Running → Type 0
+IsToldOn old ask reply new =
+    (new.run.log ≡ old.run.log ++ (ask, reply) ∷ []) × ((image : Loaded) (start : Start) → IsRunOf image start old → IsRunOf image start new)
+
 -- an event of a job, made: it could happen, and all that is known goes on; or why it isn't made
 abbrev pub Plays : Loaded → Shared → Recorded → Claimed → Running → Heeds → Ask → Reply → Bool → Recorded → Claimed → Running → Heeds → Type 0
 Plays image opening old claim job heeds ask reply true new claim' job' heeds' =

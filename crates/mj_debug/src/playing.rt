@@ -1,14 +1,14 @@
 // One job of a replay.
 
 ghost use Rattle.std.specs.Prelude.{◌≡◌, ◌<◌, ◌↔◌, length, true, Some, IsTrue, IfOk, OnErr, option_copied};
-ghost use Rattle.mj_ask.specs.Fits.{is_shared};
+ghost use Rattle.mj_ask.specs.Fits.{fits, is_shared};
 ghost use Rattle.mj_jobs.specs.Rows.{IsLive};
 ghost use Rattle.mj_semantics.specs.Job.{Start as Starts};
 ghost use Rattle.mj_jobvm.specs.Jobs.{IsRunOf, IsIn};
 ghost use Rattle.mj_sys.specs.History.{state_of};
 ghost use Rattle.mj_sys.specs.System.{history_limit};
 ghost use Rattle.mj_sys.specs.Told.{IsTurn};
-ghost use Rattle.mj_debug.specs.Playing.{IsPlaying, AsksIt, ServesIt, Plays};
+ghost use Rattle.mj_debug.specs.Playing.{IsPlaying, AsksIt, ServesIt, IsToldOn, Plays};
 
 use mj_ask::{Ask, Reply};
 use mj_dev::Device;
@@ -56,17 +56,24 @@ pub fn play<D: Device, O: Opening>(
     if !asks_it(image, job, ask, reply)? {
         return Ok(false);
     }
-    let told = reply.try_clone()?;
     if ask.is_shared() {
         if !serves_it(system, claim, ask, reply)? {
             return Ok(false);
         }
-        job.answer(told);
-        return Ok(true);
+        return tell(job, ask, reply);
     }
     if !heeds.hear(ask, reply)? {
         return Ok(false);
     }
+    tell(job, ask, reply)
+}
+
+// Tells a job the reply to what it asks.
+fn tell(job: &mut Job, ask: &Ask, reply: &Reply) -> Result<bool, AllocError>
+    requires { (job.old.run.pending ≡ Some ask.now) × (fits ask.now reply.now ≡ true) }
+    ensures { IfOk result (λ made. (made ≡ true) × IsToldOn job.old ask.now reply.now job.new) }
+{
+    let told = reply.try_clone()?;
     job.answer(told);
     Ok(true)
 }
@@ -79,7 +86,8 @@ fn asks_it(image: &Image, job: &mut Job, ask: &Ask, reply: &Reply) -> Result<boo
     ensures asks { IfOk result (λ made. (start : Starts) → IsRunOf image.now start job.old → AsksIt image.now start job.old ask.now reply.now made job.new) }
 {
     match job.advance(image, TURNS)? {
-        Turn::Ran | Turn::Ended => Ok(false),
+        Turn::Ran => Ok(false),
+        Turn::Ended => Ok(false),
         Turn::Asks => Ok(is_it(job.ask(), ask) && ask.fits(reply)),
     }
 }
