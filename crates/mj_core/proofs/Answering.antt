@@ -73,7 +73,7 @@ module _ (opening : Shared) (old : Shown) (step : Step) where
         pub is_done : (IsLive (state_of opening old.history).rows step.job → ⊥) → Gives opening old step (Ok seen.Ended) (record old { over = with_over old.over (suc at) })
         is_done done =
             is_made (Ok seen.Ended) (record old { over = with_over old.over (suc at) })
-            (λ row here. inl ((λ live. done (subst (λ j. IsLive (state_of opening old.history).rows j) (sym is) live)), refl))
+            (λ row here. ((λ live. done (subst (λ j. IsLive (state_of opening old.history).rows j) (sym is) live)), refl))
 
         pub is_short : Gives opening old step (Err refusals.Memory) old
         is_short = is_made (Err refusals.Memory) old (λ row here. (tt, refl))
@@ -108,7 +108,7 @@ module _ (opening : Shared) (old : Shown) (job : ℕ) where
       pub ready_done : (IsLive (state_of opening old.history).rows job → ⊥) → GivesReady opening old job (Ok turns.Ended) old
       ready_done done =
           ready_made (Ok turns.Ended) old
-          (λ row here. (inl (λ live. done (subst (λ j. IsLive (state_of opening old.history).rows j) (sym is) live)), refl))
+          (λ row here. ((λ live. done (subst (λ j. IsLive (state_of opening old.history).rows j) (sym is) live)), refl))
 
       pub ready_short : GivesReady opening old job (Err refusals.Memory) old
       ready_short = ready_made (Err refusals.Memory) old (λ row here. (refl, refl))

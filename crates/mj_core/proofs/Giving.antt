@@ -160,8 +160,9 @@ module _ (image : Loaded) (opening : Shared) (system : Recorded) (slots : List P
         let F : ℕ → Start → Log → Shared → Type 0 = λ j st l s. Makes (routines_of image) st l a in
         (a, move F makes, timely, unfit, is_still)
 
+    -- its run is over with its events
     pub gives_ended : Steps (routines_of image) opening late system slot made.Ended system' slot'
-        → Goes (routines_of image) opening (suc k) start late old seen.Ended (shown image slots' order (with_over over (suc k)) n)
+        → HasEnded (routines_of image) start (log_of (suc k) old.history) × (shown image slots' order (with_over over (suc k)) n ≡ record old { over = with_over over (suc k) })
     gives_ended t =
         let F : ℕ → Start → Log → Shared → Type 0 = λ j st l s. HasEnded (routines_of image) st l in
         (move F t.0, ap (λ (x : Shown). record x { over = with_over over (suc k) }) is_still)

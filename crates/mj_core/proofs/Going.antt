@@ -20,11 +20,12 @@ use Rattle.mj_core.specs.declared.slot.Made.TheVariants as made
 use Rattle.mj_core.specs.Runs.{start_in}
 use Rattle.mj_core.specs.Shown.{with_over}
 use Rattle.mj_core.specs.Having.{IsUnfit}
-use Rattle.mj_core.specs.Gives.{IsRefused, Goes}
+use Rattle.mj_core.specs.Gives.{IsRefused}
 use Rattle.mj_core.specs.Gives as gives
 use Rattle.mj_core.specs.Ties.{Placed, IsPlaced, Steps, IsStill, start_of, IsShut, IsTwice}
 use Rattle.mj_core.specs.Kept.{AreKept, logs_of, shown}
-use Rattle.mj_core.proofs.Histories.{same_state}
+use Rattle.mj_core.proofs.Histories.{same_state, is_run}
+use Rattle.mj_core.proofs.Ended.{has_halted}
 use Rattle.mj_core.proofs.Keeping.{keeps_event, keeps_still}
 use Rattle.mj_core.proofs.Views.{as_many}
 use Rattle.mj_core.proofs.Giving.{shown_still, gives_event, gives_busy, gives_not_yet, gives_unfit, unfit, gives_ran, gives_ended, refuses}
@@ -104,46 +105,47 @@ module _ (image : Loaded) (opening : Shared) (system : Recorded) (slots : List P
       sym ((kept.tied k slot here).held twice.1.0) ∙ twice.1.2,
     )
 
-    -- this is seen
+    -- this is what it gives, of a job that goes on
     abbrev Goal : Made → Type 0
     Goal m =
-        Goes (routines_of image) opening (suc k) (start_in (suc k) row.start) late (shown image slots order over n) (seen_of (length order) m)
+        gives.Made opening (shown image slots order over n) (suc k) row late (Ok (seen_of (length order) m))
         (shown image slots' (order_on order k slot.job.run.log m) (over_on over k m) n)
 
-    pub goes_on : (m : Made) → Steps (routines_of image) opening late system slot m system' slot' → Goal m
-    goes_on made.Event t =
-        gives_event image opening system slots waiting order kept over n k few slot slot' here numbered row is late t.0 t.1 system' t.6 t.7 (keeps_step made.Event t) t.2 t.3 t.5
-    goes_on (made.Busy holder held) t =
-        gives_busy image opening system slots waiting order kept over n k few slot slot' here numbered row is late t.6.0 t.6.2 t.6.1 system' (placed_as t.5) holder held t
-    goes_on made.NotYet t =
-        gives_not_yet image opening system slots waiting order kept over n k few slot slot' here numbered row is late t.7.0 t.7.2 t.7.1 system' (placed_as t.6) t
-    goes_on made.Unfit t =
-        gives_unfit image opening system slots waiting order kept over n k few slot slot' here numbered row is late t.5.0 t.5.2 t.5.1 system' (placed_as t.4) t.0 t.1 t.2 (by t.3) where
-          by : IsShut slot.sessions.sessions t.0 ⊎ IsTwice (state_of opening system.history) slot.sessions.sessions t.0 → IsUnfit opening (woven (logs_of slots) order) (suc k) t.0
-          by (inl shut) = unfit image opening system slots waiting order kept over n k few slot slot' here numbered row is late t.0 shut
-          by (inr twice) = unfit_twice t.0 twice
-    goes_on made.Ran t =
-        gives_ran image opening system slots waiting order kept over n k few slot slot' here numbered row is late t.3 t.4 (placed_as t.2) t.0 t.1
-    goes_on made.Ended t =
-        gives_ended image opening system slots waiting order kept over n k few slot slot' here numbered row is late t.2.0 t.2.2 t.2.1 system' (placed_as t.1) t
-
-    -- of a job that goes on
-    pub makes_step : IsLive (state_of opening system.history).rows (suc k) → (m : Made) → Steps (routines_of image) opening late system slot m system' slot'
-        → gives.Made opening (shown image slots order over n) (suc k) row late (Ok (seen_of (length order) m))
-        (shown image slots' (order_on order k slot.job.run.log m) (over_on over k m) n)
-    makes_step live m t = by m t (goes_on m t) where
+    pub makes_step : IsLive (state_of opening system.history).rows (suc k) → (m : Made) → Steps (routines_of image) opening late system slot m system' slot' → Goal m
+    makes_step live m t = by m t where
       live_there : IsLive (state_of opening (woven (logs_of slots) order)).rows (suc k)
       live_there = subst (λ (s : Shared). IsLive s.rows (suc k)) (sym (same_state image opening system slots waiting order kept)) live
 
+      shuts : (a : Ask) → IsShut slot.sessions.sessions a ⊎ IsTwice (state_of opening system.history) slot.sessions.sessions a → IsUnfit opening (woven (logs_of slots) order) (suc k) a
+      shuts a (inl shut) = unfit image opening system slots waiting order kept over n k few slot slot' here numbered row is late a shut
+      shuts a (inr twice) = unfit_twice a twice
+
       by : (m : Made) → Steps (routines_of image) opening late system slot m system' slot' → Goal m
-          → gives.Made opening (shown image slots order over n) (suc k) row late (Ok (seen_of (length order) m))
-          (shown image slots' (order_on order k slot.job.run.log m) (over_on over k m) n)
-      by made.Event t goes = (live_there, goes)
-      by (made.Busy holder held) t goes = (live_there, goes)
-      by made.NotYet t goes = (live_there, goes)
-      by made.Unfit t goes = (live_there, goes)
-      by made.Ran t goes = (live_there, goes)
-      by made.Ended t goes = inr (live_there, goes)
+      by made.Event t = (
+        live_there,
+        gives_event image opening system slots waiting order kept over n k few slot slot' here numbered row is late t.0 t.1 system' t.6 t.7 (keeps_step made.Event t) t.2 t.3 t.5,
+      )
+      by (made.Busy holder held) t = (
+        live_there,
+        gives_busy image opening system slots waiting order kept over n k few slot slot' here numbered row is late t.6.0 t.6.2 t.6.1 system' (placed_as t.5) holder held t,
+      )
+      by made.NotYet t = (
+        live_there,
+        gives_not_yet image opening system slots waiting order kept over n k few slot slot' here numbered row is late t.7.0 t.7.2 t.7.1 system' (placed_as t.6) t,
+      )
+      by made.Unfit t = (
+        live_there,
+        gives_unfit image opening system slots waiting order kept over n k few slot slot' here numbered row is late t.5.0 t.5.2 t.5.1 system' (placed_as t.4) t.0 t.1 t.2 (shuts t.0 t.3),
+      )
+      by made.Ran t = (
+        live_there,
+        gives_ran image opening system slots waiting order kept over n k few slot slot' here numbered row is late t.3 t.4 (placed_as t.2) t.0 t.1,
+      )
+      by made.Ended t =
+          let over_now = gives_ended image opening system slots waiting order kept over n k few slot slot' here numbered row is late t.2.0 t.2.2 t.2.1 system' (placed_as t.1) t in (
+            (has_halted (routines_of image) opening (woven (logs_of slots) order) (is_run image opening system slots waiting order kept) (suc k) row is over_now.0).1,
+            over_now.1,
+          )
 
     -- and where it isn't made, nothing changes
     pub makes_none : (why : Refusal) → IsRefused (routines_of image) (start_of slot) slot.job.run.log late why → (system' ≡ system) × IsStill slot slot'

@@ -11,3 +11,4 @@ mod Readying
 mod Answering
 mod Answered
 mod Readied
+mod Ended

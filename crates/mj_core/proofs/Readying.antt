@@ -1,6 +1,6 @@
 -- A job among all that is let go on, and isn't served.
 use Rattle.std.specs.Prelude.{slice_get, slice_set, Result, Ok, Err, IfOk}
-use Rattle.std.proofs.Common.{◌≡◌, ℕ, suc, ◌<◌, List, Bool, false, Option, Some, refl, sym, ap, ◌∙◌, subst, inr}
+use Rattle.std.proofs.Common.{◌≡◌, ℕ, suc, ◌<◌, List, Bool, false, Option, Some, refl, sym, ap, ◌∙◌, subst}
 use Rattle.std.specs.declared.alloc.AllocError.{AllocError}
 use Rattle.mj_ask.specs.declared.ask.Ask.{Ask}
 use Rattle.mj_load.specs.Image.{Loaded, routines_of}
@@ -23,7 +23,9 @@ use Rattle.mj_core.specs.declared.seen.Refusal.TheVariants as refusals
 use Rattle.mj_core.specs.Gives.{Makes, Readies}
 use Rattle.mj_core.specs.Ties.{Placed, IsPlaced, start_of}
 use Rattle.mj_core.specs.Kept.{AreKept, logs_of, shown}
+use Rattle.mj_core.proofs.Histories.{is_run}
 use Rattle.mj_core.proofs.Keeping.{keeps_still}
+use Rattle.mj_core.proofs.Ended.{has_halted}
 use Rattle.mj_core.proofs.Giving.{shown_still, gives_ran, move}
 
 module _ (image : Loaded) (opening : Shared) (system : Recorded) (slots : List Placed) (waiting : Option Claimed) (order : List Happened)
@@ -72,7 +74,9 @@ module _ (image : Loaded) (opening : Shared) (system : Recorded) (slots : List P
     readies turns.Ended told spent =
         let F : ℕ → Start → Log → Shared → Type 0 = λ j st l s. HasEnded (routines_of image) st l in
         let L : Log → Type 0 = λ l. HasEnded (routines_of image) (start_of slot) l in
-        (inr (move image opening system slots waiting order kept over n k few slot slot_on here refl row is false F (subst L log told)), still spent)
+        let over_now = move image opening system slots waiting order kept over n k few slot slot_on here refl row is false F (subst L log told) in
+        let run = is_run image opening system slots waiting order kept in
+        ((has_halted (routines_of image) opening (woven (logs_of slots) order) run (suc k) row is over_now).1, still spent)
 
     -- memory was refused
     pub readies_none : job.run.spent ≡ slot.job.run.spent

@@ -12,7 +12,7 @@ use Rattle.mj_load.specs.Image.{routines_of}
 use Rattle.mj_jobs.specs.Rows.{Row, row_at, IsLive}
 use Rattle.mj_jobvm.specs.declared.job.Turn.{Turn}
 use Rattle.mj_jobvm.specs.declared.job.Turn.TheVariants as turns
-use Rattle.mj_jobvm.specs.Run.{Log, replies_of, GoesOn, HasEnded}
+use Rattle.mj_jobvm.specs.Run.{Log, replies_of, GoesOn}
 use Rattle.mj_ask.specs.Late.{is_over}
 use Rattle.mj_sessions.specs.Answers.{IsReading}
 use Rattle.mj_sys.specs.declared.event.Event.{Event}
@@ -65,7 +65,7 @@ Runs image job start old new =
     × (new ≡ record old { spent = with_spent old.spent job turns })
 
 -- What a step of a live job gives: an event, of what the job asks after its events so far, which is told its reply; what keeps it busy; that there
--- is nothing to read yet; that no session of the job can serve it; that it goes on for all turns of the step; or that it has ended.
+-- is nothing to read yet; that no session of the job can serve it; or that it goes on for all turns of the step.
 abbrev pub Goes : List Routine → Shared → ℕ → Start → Bool → Shown → Seen → Shown → Type 0
 Goes image opening job start late old (seen.Event at) new =
     (a : Ask) × (reply : Reply) × Makes image start (log_of job old.history) a × IsTimely late a
@@ -83,19 +83,16 @@ Goes image opening job start late old seen.NotYet new =
 Goes image opening job start late old seen.Unfit new =
     (a : Ask) × Makes image start (log_of job old.history) a × IsTimely late a × IsUnfit opening old.history job a × (new ≡ old)
 Goes image opening job start late old seen.Ran new = Runs image job start old new
-Goes image opening job start late old seen.Ended new =
-    HasEnded image start (log_of job old.history) × (new ≡ record old { over = with_over old.over job })
+Goes image opening job start late old seen.Ended new = ⊥
 
 -- the job's row isn't that of a job that goes on
 abbrev pub IsDone : Shared → Shown → ℕ → Type 0
 IsDone opening old job = IsLive (state_of opening old.history).rows job → ⊥
 
--- What a step of a job gives that has a row, whose end wasn't seen, where the history has room: its job has halted, which is seen now; or it goes
--- on; or its step isn't made.
+-- What a step of a job gives that has a row, whose end wasn't seen, where the history has room: its job has halted, which is seen now, and no other
+-- job's end is; or it goes on; or its step isn't made.
 abbrev pub Made : Shared → Shown → ℕ → Row → Bool → Result Seen Refusal → Shown → Type 0
-Made opening old job row late (Ok seen.Ended) new =
-    (IsDone opening old job × (new ≡ record old { over = with_over old.over job }))
-    ⊎ (IsLive (state_of opening old.history).rows job × Goes (routines_of old.image) opening job (start_in job row.start) late old seen.Ended new)
+Made opening old job row late (Ok seen.Ended) new = IsDone opening old job × (new ≡ record old { over = with_over old.over job })
 Made opening old job row late (Ok what) new =
     IsLive (state_of opening old.history).rows job × Goes (routines_of old.image) opening job (start_in job row.start) late old what new
 Made opening old job row late (Err why) new =
@@ -123,13 +120,12 @@ RunGives opening old [] (answer ∷ answers) new = ⊥
 RunGives opening old (step ∷ steps) [] new = ⊥
 
 -- What it gives to make a job ready that has a row, and whose end wasn't seen: it asks, and isn't told; or it goes on for all turns of a step; or
--- it has ended, which a step is to see yet.
+-- it has halted, which a step is to see yet.
 abbrev pub Readies : Shared → Shown → ℕ → Row → Result Turn Refusal → Shown → Type 0
 Readies opening old job row (Ok turns.Asks) new =
     ((a : Ask) × Makes (routines_of old.image) (start_in job row.start) (log_of job old.history) a) × (new ≡ old)
 Readies opening old job row (Ok turns.Ran) new = Runs (routines_of old.image) job (start_in job row.start) old new
-Readies opening old job row (Ok turns.Ended) new =
-    (IsDone opening old job ⊎ HasEnded (routines_of old.image) (start_in job row.start) (log_of job old.history)) × (new ≡ old)
+Readies opening old job row (Ok turns.Ended) new = IsDone opening old job × (new ≡ old)
 Readies opening old job row (Err why) new = (why ≡ refusals.Memory) × (new ≡ old)
 
 -- What it gives to make a job ready. That there is no such job is tested first, then that its end was seen.

@@ -4,3 +4,4 @@ pub mod Having
 pub mod Gives
 pub mod Ties
 pub mod Kept
+pub mod Ended

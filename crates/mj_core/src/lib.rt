@@ -7,10 +7,12 @@
 // contract of `run`. One job's step among many is in `slot.rt`.
 #![tactic(auto)]
 
+mod laws;
 mod seen;
 mod slot;
 mod together;
 
+pub use laws::ended_by_halt;
 pub use seen::{Refusal, Seen, Step, Way};
 pub use slot::{FUEL, Made, Slot, step_slot};
 pub use together::Core;

@@ -280,19 +280,37 @@ fn find_access_with<'a>(
     } else if word == b"order".as_slice() {
         match read_number(skip(rest)) {
             Some((way, behind)) => Ok(Some((Access::Order(name, way_of(way)), behind))),
-            None => Ok(None),
+            None => {
+                drop(name);
+                Ok(None)
+            }
         }
     } else if word == b"set".as_slice() {
-        match find_text(alloc, skip(rest))? {
-            Some((text, behind)) => Ok(Some((Access::Set(name, text), behind))),
-            None => Ok(None),
+        match find_text(alloc, skip(rest)) {
+            Ok(Some((text, behind))) => Ok(Some((Access::Set(name, text), behind))),
+            Ok(None) => {
+                drop(name);
+                Ok(None)
+            }
+            Err(refused) => {
+                drop(name);
+                Err(refused)
+            }
         }
     } else if word == b"put".as_slice() {
-        match find_subtree(alloc, skip(rest))? {
-            Some((nodes, behind)) => Ok(Some((Access::Put(name, nodes), behind))),
-            None => Ok(None),
+        match find_subtree(alloc, skip(rest)) {
+            Ok(Some((nodes, behind))) => Ok(Some((Access::Put(name, nodes), behind))),
+            Ok(None) => {
+                drop(name);
+                Ok(None)
+            }
+            Err(refused) => {
+                drop(name);
+                Err(refused)
+            }
         }
     } else {
+        drop(name);
         Ok(None)
     }
 }

@@ -138,8 +138,15 @@ fn find_event(alloc: Global, line: &[u8]) -> Result<Option<Piece>, AllocError>
     let Some((ask, rest)) = find_ask(alloc, skip(rest))? else {
         return Ok(None);
     };
-    match find_reply(alloc, &ask, skip(rest))? {
-        Some(reply) => Ok(Some(Piece::Event(job, ask, reply))),
-        None => Ok(None),
+    match find_reply(alloc, &ask, skip(rest)) {
+        Ok(Some(reply)) => Ok(Some(Piece::Event(job, ask, reply))),
+        Ok(None) => {
+            drop(ask);
+            Ok(None)
+        }
+        Err(refused) => {
+            drop(ask);
+            Err(refused)
+        }
     }
 }
