@@ -1,5 +1,5 @@
 -- What a job asks next, and what a trace says of that.
-use Rattle.std.specs.Prelude.{◌⊎◌, IsTrue, ◌&&◌, min, Ok, Result}
+use Rattle.std.specs.Prelude.{◌⊎◌, IsTrue, ◌&&◌, ◌^◌, min}
 use Rattle.std.proofs.Common.{◌≡◌, ℕ, ◌+◌, ◌≤◌, Bool, true, false, List, [], ◌∷◌, ◌++◌, Option, Some, None, refl, sym, ap, ◌∙◌, subst, inl, inr, arith}
 use Rattle.mj_ask.specs.declared.ask.Ask.{Ask}
 use Rattle.mj_ask.specs.declared.ask.Reply.{Reply}
@@ -123,4 +123,4 @@ module _ (image : Loaded) (start : Start) (old new : Running) (a : Ask) (r : Rep
   asks_so false fit is only fitting told = inr (λ trace. (
     let P : Log → Type 0 = λ l. IsTrace (routines_of image) start (l ++ (a, r) ∷ []) in
     let one = asks_one (routines_of image) start new.run.log a r told.2.0 told.0 new.run.at.state.locals (places new.run.at.state) told.2.1 (subst P (sym log) trace) in
-    only (told.1 ∙ ap Some one.0)))
+    (let no : false ≡ true = only (told.1 ∙ ap Some one.0) in cc)))

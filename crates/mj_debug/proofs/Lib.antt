@@ -4,3 +4,4 @@ pub mod Staging
 pub mod Fronts
 pub mod Admitting
 pub mod Rounds
+pub mod Telling
