@@ -15,11 +15,10 @@ use Rattle.mj_debug.specs.Playing.{Playing, start_of, AreStaged}
 use Rattle.mj_debug.proofs.Staging.{staged_more}
 
 -- what stands while jobs are started: nothing was asked, and there are as many as were counted
-pub record AreAdmitted (image : Loaded) (opening : Shared) (job : ℕ) (system : Recorded) (jobs : List Playing) (system' : Recorded) (jobs' : List Playing) (counter end : ℕ) : Type 0 where
+pub record AreAdmitted (image : Loaded) (opening : Shared) (system : Recorded) (jobs : List Playing) (system' : Recorded) (jobs' : List Playing) (counter : ℕ) : Type 0 where
   pub staged : (history : History) → AreStaged image opening history system jobs → AreStaged image opening history system' jobs'
   pub history : system'.history ≡ system.history
   pub counted : counter ≡ length jobs'
-  pub ends : end ≡ job
 
 -- a row was claimed, and its job starts
 module _ (image : Loaded) (opening : Shared) (system new : Recorded) (jobs more : List Playing) (claim : Claimed)

@@ -1,5 +1,5 @@
 -- An event of a job, made or not, by what its parts say.
-use Rattle.std.specs.Prelude.{not, Result, Ok, Err, IfOk}
+use Rattle.std.specs.Prelude.{Result, Ok, Err, IfOk}
 use Rattle.std.proofs.Common.{◌≡◌, ℕ, List, [], ◌∷◌, ◌++◌, Bool, true, false, Option, Some, refl, sym, ap, ◌∙◌, subst}
 use Rattle.mj_ask.specs.declared.ask.Ask.{Ask}
 use Rattle.mj_ask.specs.declared.ask.Reply.{Reply}
@@ -14,53 +14,45 @@ use Rattle.mj_expect.specs.Heeds.{Heeds, Heard}
 use Rattle.mj_debug.specs.Playing.{start_of, IsPlaying, AsksIt, ServesIt, IsToldOn, Plays}
 use Rattle.mj_debug.proofs.Staging.{unasked, unheard, unserved, heard, shares}
 
-pub not_true : (b : Bool) → not b ≡ true → b ≡ false
-not_true true e = absurd (let no : false ≡ true = e in cc)
-not_true false e = refl
-
-pub not_false : (b : Bool) → not b ≡ false → b ≡ true
-not_false true e = refl
-not_false false e = absurd (let no : true ≡ false = e in cc)
-
 module _ (image : Loaded) (opening : Shared) (old : Recorded) (claim : Claimed) (job : Running) (heeds : Heeds) (ask : Ask) (reply : Reply)
     (tied : IsPlaying image opening old claim job heeds) (mid : Running) where
   -- it isn't asked
-  pub isnt_asked : (b : Bool) → not b ≡ true → AsksIt image (start_of claim) job ask reply b mid → Plays image opening old claim job heeds ask reply false old claim mid heeds
+  pub isnt_asked : (b : Bool) → b ≡ false → AsksIt image (start_of claim) job ask reply b mid → Plays image opening old claim job heeds ask reply false old claim mid heeds
   isnt_asked b is asks =
       let P : Bool → Type 0 = λ x. AsksIt image (start_of claim) job ask reply x mid in
-      unasked image opening old claim job heeds ask reply tied mid (subst P (not_true b is) asks) old claim mid heeds
+      unasked image opening old claim job heeds ask reply tied mid (subst P is asks) old claim mid heeds
 
   -- it isn't served
-  pub isnt_served : (b : Bool) → not b ≡ true → is_shared ask ≡ true → (new : Recorded) (claim' : Claimed) → ServesIt opening old claim ask reply b new claim'
+  pub isnt_served : (b : Bool) → b ≡ false → is_shared ask ≡ true → (new : Recorded) (claim' : Claimed) → ServesIt opening old claim ask reply b new claim'
       → Plays image opening old claim job heeds ask reply false new claim' mid heeds
   isnt_served b is shared new claim' serves =
       let P : Bool → Type 0 = λ x. ServesIt opening old claim ask reply x new claim' in
-      unserved image opening old claim job heeds ask reply tied new claim' shared (subst P (not_true b is) serves) new claim' mid heeds
+      unserved image opening old claim job heeds ask reply tied new claim' shared (subst P is serves) new claim' mid heeds
 
   -- it isn't heard
-  pub isnt_heard : (b : Bool) → not b ≡ true → (heeds' : Heeds) → Heard job.run.log ask reply b heeds' → Plays image opening old claim job heeds ask reply false old claim mid heeds'
+  pub isnt_heard : (b : Bool) → b ≡ false → (heeds' : Heeds) → Heard job.run.log ask reply b heeds' → Plays image opening old claim job heeds ask reply false old claim mid heeds'
   isnt_heard b is heeds' told =
       let P : Bool → Type 0 = λ x. Heard job.run.log ask reply x heeds' in
-      unheard image opening old claim job heeds ask reply tied heeds' (subst P (not_true b is) told) old claim mid heeds'
+      unheard image opening old claim job heeds ask reply tied heeds' (subst P is told) old claim mid heeds'
 
   module _ (live : IsLive (state_of opening old.history).rows claim.job) (log : mid.run.log ≡ job.run.log) (run : IsRunOf image (start_of claim) mid) (job' : Running) where
     on : IsToldOn mid ask reply job' → job'.run.log ≡ job.run.log ++ (ask, reply) ∷ []
     on told = told.0 ∙ ap (λ l. l ++ (ask, reply) ∷ []) log
 
     -- it is served, and told
-    pub is_served_on : {E : Type 0} (b : Bool) → not b ≡ false → is_shared ask ≡ true → (new : Recorded) (claim' : Claimed) → ServesIt opening old claim ask reply b new claim'
+    pub is_served_on : {E : Type 0} (b : Bool) → b ≡ true → is_shared ask ≡ true → (new : Recorded) (claim' : Claimed) → ServesIt opening old claim ask reply b new claim'
         → (result : Result Bool E) → IfOk result (λ made. (made ≡ true) × IsToldOn mid ask reply job') → IfOk result (λ made. Plays image opening old claim job heeds ask reply made new claim' job' heeds)
     is_served_on b is shared new claim' serves (Ok made) told =
         let P : Bool → Type 0 = λ x. ServesIt opening old claim ask reply x new claim' in
         let Q : Bool → Type 0 = λ x. Plays image opening old claim job heeds ask reply x new claim' job' heeds in
-        subst Q (sym told.0) (shares image opening old claim job heeds ask reply tied live job' (on told.1) (told.1.1 image (start_of claim) run) shared new claim' (subst P (not_false b is) serves))
+        subst Q (sym told.0) (shares image opening old claim job heeds ask reply tied live job' (on told.1) (told.1.1 image (start_of claim) run) shared new claim' (subst P is serves))
     is_served_on b is shared new claim' serves (Err e) told = tt
 
     -- it is heard, and told
-    pub is_heard_on : {E : Type 0} (b : Bool) → not b ≡ false → is_shared ask ≡ false → (heeds' : Heeds) → Heard job.run.log ask reply b heeds'
+    pub is_heard_on : {E : Type 0} (b : Bool) → b ≡ true → is_shared ask ≡ false → (heeds' : Heeds) → Heard job.run.log ask reply b heeds'
         → (result : Result Bool E) → IfOk result (λ made. (made ≡ true) × IsToldOn mid ask reply job') → IfOk result (λ made. Plays image opening old claim job heeds ask reply made old claim job' heeds')
     is_heard_on b is unshared heeds' all (Ok made) told =
         let P : Bool → Type 0 = λ x. Heard job.run.log ask reply x heeds' in
         let Q : Bool → Type 0 = λ x. Plays image opening old claim job heeds ask reply x old claim job' heeds' in
-        subst Q (sym told.0) (heard image opening old claim job heeds ask reply tied live job' (on told.1) (told.1.1 image (start_of claim) run) unshared heeds' (subst P (not_false b is) all))
+        subst Q (sym told.0) (heard image opening old claim job heeds ask reply tied live job' (on told.1) (told.1.1 image (start_of claim) run) unshared heeds' (subst P is all))
     is_heard_on b is unshared heeds' all (Err e) told = tt

@@ -4,7 +4,7 @@ ghost use Rattle.std.specs.Prelude.{◌≡◌, ◌<◌, ◌≤◌, ℕ, suc, len
 ghost use Rattle.mj_ask.specs.declared.ask.Ask as asks;
 ghost use Rattle.mj_ask.specs.declared.ask.Reply as replies;
 ghost use Rattle.mj_dev.specs.Shelves.{principal, left_of};
-ghost use Rattle.mj_jobs.specs.Rows.{rows_limit};
+ghost use Rattle.mj_jobs.specs.Rows.{IsLive, rows_limit};
 ghost use Rattle.mj_load.specs.Image.{routines_of};
 ghost use Rattle.mj_sys.specs.History.{History, state_of};
 ghost use Rattle.mj_sys.specs.Opening.{opening_of};
@@ -87,7 +87,28 @@ fn make<D: Device, O: Opening>(
         return Ok(false);
     }
     admit(alloc, image, system, jobs, *job as usize)?;
-    let played = &mut jobs[*job as usize - 1];
+    make_of(image, system, jobs, *job, ask, reply)
+}
+
+// Makes an event of a job again that was started, if it is the next.
+fn make_of<D: Device, O: Opening>(
+    image: &Image,
+    system: &mut System<D, O>,
+    jobs: &mut [Played],
+    job: u32,
+    ask: &Ask,
+    reply: &Reply,
+) -> Result<bool, AllocError>
+    requires numbered { 1 ≤ job }
+    requires there { job ≤ length jobs.old }
+    requires staged { (history : History) × AreStaged image.now O.opening history system.old jobs.old }
+    requires live { IsLive (state_of O.opening system.old.history).rows job }
+    requires room { length system.old.history < history_limit }
+    ensures { (history : History) → AreStaged image.now O.opening history system.old jobs.old
+        → IfOk result (λ made. Stages image.now O.opening history (record { job = job; ask = ask.now; reply = reply.now }) made system.new jobs.new) }
+{
+    let at = job as usize - 1;
+    let played = &mut jobs[at];
     play(
         image,
         system,

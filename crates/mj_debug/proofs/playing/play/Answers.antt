@@ -1,7 +1,7 @@
 use Rattle.std.proofs.Common.{◌≡◌, Bool, true, false, sym, ◌∙◌, subst}
 use Rattle.mj_ask.specs.Fits.{is_shared}
 use Rattle.mj_debug.specs.Playing.{start_of, AsksIt}
-use Rattle.mj_debug.proofs.Telling.{not_false, isnt_asked, isnt_served, isnt_heard, is_served_on, is_heard_on}
+use Rattle.mj_debug.proofs.Telling.{isnt_asked, isnt_served, isnt_heard, is_served_on, is_heard_on}
 use Rattle.mj_debug.proofs.playing.play.Goals as goal
 
 pub returns-then-not-branch : goal.returns-then-not-branch
@@ -46,7 +46,7 @@ tell-requires g c =
     let mid = c.asks_it.new.job in
     let asks = c.in_ok-asks_it.ensures.asks (start_of claim) c.requires.tied.run in
     let P : Bool → Type 0 = λ b. AsksIt image (start_of claim) job ask reply b mid in
-    subst P (not_false c.in_ok-asks_it.field-0 c.if-not-branch.false) asks
+    subst P c.if-not-branch.false asks
 
 pub returns-then-is_shared : goal.returns-then-is_shared
 returns-then-is_shared g c =
@@ -92,7 +92,7 @@ tell-requires-2 g c =
     let mid = c.asks_it.new.job in
     let asks = c.in_ok-asks_it.ensures.asks (start_of claim) c.requires.tied.run in
     let P : Bool → Type 0 = λ b. AsksIt image (start_of claim) job ask reply b mid in
-    subst P (not_false c.in_ok-asks_it.field-0 c.if-not-branch.false) asks
+    subst P c.if-not-branch.false asks
 
 pub returns : goal.returns
 returns g c =
