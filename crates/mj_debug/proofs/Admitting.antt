@@ -1,6 +1,5 @@
 -- Jobs are started, one after the other, up to the one whose event comes.
-use Rattle.std.proofs.Common.{◌≡◌, ℕ, ◌+◌, List, [], ◌∷◌, ◌++◌, length, Option, Some, refl, sym, ap, ◌∙◌, subst}
-use Rattle.mj_ask.specs.Started.{Started}
+use Rattle.std.proofs.Common.{◌≡◌, ℕ, ◌+◌, List, [], ◌∷◌, ◌++◌, length, Option, Some, sym, ap, ◌∙◌, subst}
 use Rattle.mj_ask.specs.declared.entry.Entry.{Entry}
 use Rattle.mj_semantics.specs.Job.{Start}
 use Rattle.mj_load.specs.Image.{Loaded}
@@ -10,7 +9,6 @@ use Rattle.mj_sys.specs.Shared.{Shared}
 use Rattle.mj_sys.specs.History.{History, state_of}
 use Rattle.mj_sys.specs.System.{Recorded, Claimed}
 use Rattle.mj_expect.specs.Heeds.{Heeds, AreHeeds}
-use Rattle.mj_core.specs.Runs.{start_in}
 use Rattle.mj_debug.specs.Playing.{Playing, start_of, AreStaged}
 use Rattle.mj_debug.proofs.Staging.{staged_more}
 

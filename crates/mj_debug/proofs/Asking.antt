@@ -1,16 +1,15 @@
 -- What a job asks next, and what a trace says of that.
 use Rattle.std.specs.Prelude.{◌⊎◌, IsTrue, ◌&&◌, ◌^◌, min}
-use Rattle.std.proofs.Common.{◌≡◌, ℕ, ◌+◌, ◌≤◌, Bool, true, false, List, [], ◌∷◌, ◌++◌, Option, Some, None, refl, sym, ap, ◌∙◌, subst, inl, inr, arith}
+use Rattle.std.proofs.Common.{◌≡◌, ℕ, ◌+◌, ◌≤◌, Bool, true, false, List, [], ◌∷◌, ◌++◌, Some, refl, sym, ap, ◌∙◌, subst, inl, inr, arith}
 use Rattle.mj_ask.specs.declared.ask.Ask.{Ask}
 use Rattle.mj_ask.specs.declared.ask.Reply.{Reply}
 use Rattle.mj_ask.specs.Fits.{fits}
 use Rattle.mj_ast.specs.Syntax.{Routine}
 use Rattle.mj_semantics.specs.State.{Locals, Place, places}
-use Rattle.mj_semantics.specs.Outcome.{Outcome, Needs, Ended, More}
+use Rattle.mj_semantics.specs.Outcome.{Needs, Ended, More}
 use Rattle.mj_semantics.specs.Job.{Start, next}
 use Rattle.mj_semantics.proofs.Depth.{one_answer}
 use Rattle.mj_load.specs.Image.{Loaded, routines_of}
-use Rattle.mj_jobvm.specs.declared.job.Turn.{Turn}
 use Rattle.mj_jobvm.specs.declared.job.Turn.TheVariants as turns
 use Rattle.mj_jobvm.specs.Run.{Log, replies_of, IsTrace, begins, goes_on, GoesOn, HasEnded}
 use Rattle.mj_jobvm.specs.Jobs.{Running}
@@ -117,10 +116,10 @@ module _ (image : Loaded) (start : Start) (old new : Running) (a : Ask) (r : Rep
       → Told (routines_of image) start turns.Asks new.run → AsksIt image start old a r (test && fit) new
   asks_so true true is only fitting told = (is refl, fitting)
   asks_so true false is only fitting told = inr (λ trace. (
-    let P : Log → Type 0 = λ l. IsTrace (routines_of image) start (l ++ (a, r) ∷ []) in
-    let one = asks_one (routines_of image) start new.run.log a r told.2.0 told.0 new.run.at.state.locals (places new.run.at.state) told.2.1 (subst P (sym log) trace) in
-    (let no : true ≡ false = sym one.1 ∙ fitting in cc)))
+      let P : Log → Type 0 = λ l. IsTrace (routines_of image) start (l ++ (a, r) ∷ []) in
+      let one = asks_one (routines_of image) start new.run.log a r told.2.0 told.0 new.run.at.state.locals (places new.run.at.state) told.2.1 (subst P (sym log) trace) in
+      (let no : true ≡ false = sym one.1 ∙ fitting in cc)))
   asks_so false fit is only fitting told = inr (λ trace. (
-    let P : Log → Type 0 = λ l. IsTrace (routines_of image) start (l ++ (a, r) ∷ []) in
-    let one = asks_one (routines_of image) start new.run.log a r told.2.0 told.0 new.run.at.state.locals (places new.run.at.state) told.2.1 (subst P (sym log) trace) in
-    (let no : false ≡ true = only (told.1 ∙ ap Some one.0) in cc)))
+      let P : Log → Type 0 = λ l. IsTrace (routines_of image) start (l ++ (a, r) ∷ []) in
+      let one = asks_one (routines_of image) start new.run.log a r told.2.0 told.0 new.run.at.state.locals (places new.run.at.state) told.2.1 (subst P (sym log) trace) in
+      (let no : false ≡ true = only (told.1 ∙ ap Some one.0) in cc)))

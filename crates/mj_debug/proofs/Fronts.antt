@@ -1,22 +1,19 @@
 -- A front of a run is a run.
-use Rattle.std.specs.Prelude.{◌⊎◌, IsTrue}
-use Rattle.std.proofs.Common.{◌≡◌, ℕ, List, [], ◌∷◌, ◌++◌, Option, Some, refl, sym, ap, ◌∙◌, subst, inl, inr, append-nil}
-use Rattle.mj_ask.specs.declared.ask.Ask.{Ask}
-use Rattle.mj_ask.specs.declared.ask.Reply.{Reply}
+use Rattle.std.specs.Prelude.{◌⊎◌}
+use Rattle.std.proofs.Common.{◌≡◌, List, [], ◌∷◌, ◌++◌, Some, refl, sym, ap, ◌∙◌, subst, inl, inr, append-nil}
 use Rattle.mj_ast.specs.Syntax.{Routine}
 use Rattle.mj_semantics.specs.Job.{Start}
-use Rattle.mj_jobs.specs.Rows.{Row, row_at}
+use Rattle.mj_jobs.specs.Rows.{row_at}
 use Rattle.mj_jobvm.specs.Run.{Log, IsTrace, begins, goes_on}
 use Rattle.mj_dev.specs.Talk.{Exchange, Stand, beginning}
 use Rattle.mj_sessions.specs.Events.{talk_on}
-use Rattle.mj_sessions.specs.Follow.{behind, Follow, AreTalks}
+use Rattle.mj_sessions.specs.Follow.{behind, Follow}
 use Rattle.mj_sessions.proofs.Telling.{talk_more}
-use Rattle.mj_sys.specs.declared.event.Event.{Event}
 use Rattle.mj_sys.specs.Shared.{Shared}
 use Rattle.mj_sys.specs.History.{History, after, state_of, log_of}
 use Rattle.mj_sys.proofs.Rows.{rows_kept, state_of_append, log_of_append}
 use Rattle.mj_events.specs.Happen.{AllHappen}
-use Rattle.mj_core.specs.Runs.{IsRun, start_in}
+use Rattle.mj_core.specs.Runs.{start_in}
 use Rattle.mj_debug.specs.Laws.{AreFrontsRuns}
 
 tails : {X : Type 0} (x y : X) (xs ys : List X) → x ∷ xs ≡ y ∷ ys → (x ≡ y) × (xs ≡ ys)

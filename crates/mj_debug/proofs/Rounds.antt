@@ -1,7 +1,7 @@
 -- One event after the other.
 use Rattle.std.specs.Prelude.{slice_get, slice_set, map, take, if◌then◌else◌, Result, Ok, Err, IfOk}
 use Rattle.std.specs.Option.{option_map}
-use Rattle.std.proofs.Common.{◌≡◌, ℕ, zero, suc, ◌+◌, ◌<◌, ◌≤◌, List, [], ◌∷◌, ◌++◌, length, Bool, true, false, Option, Some, None, refl, sym, ap, ◌∙◌, subst, arith}
+use Rattle.std.proofs.Common.{◌≡◌, ℕ, zero, suc, ◌+◌, ◌<◌, ◌≤◌, List, [], ◌∷◌, ◌++◌, length, Bool, true, false, Some, refl, sym, ap, ◌∙◌, subst, arith}
 use Rattle.std.proofs.lemmas.Option.{slice_get-map, slice_get_within, get_or_from_slice_get, none-some}
 use Rattle.std.proofs.lemmas.List.{take_more}
 use Rattle.mj_ask.specs.declared.ask.Ask.{Ask}
@@ -10,7 +10,6 @@ use Rattle.mj_ask.specs.Fits.{is_shared}
 use Rattle.mj_jobs.specs.Rows.{Row, IsLive}
 use Rattle.mj_events.specs.Happen.{shared_of}
 use Rattle.mj_load.specs.Image.{Loaded, routines_of}
-use Rattle.mj_sys.specs.declared.event.Event.{Event}
 use Rattle.mj_sys.specs.Shared.{Shared}
 use Rattle.mj_sys.specs.History.{History}
 use Rattle.mj_sys.specs.System.{Recorded}

@@ -1,5 +1,5 @@
 -- What the shared state tells an ask that is late is what it tells it in time, where it tells it anything then.
-use Rattle.std.specs.Prelude.{ℤ, pos, int_le, ◌==◌, ◌||◌, ◌⊎◌}
+use Rattle.std.specs.Prelude.{ℤ, pos, int_le, ◌==◌}
 use Rattle.std.specs.Str.{bytes_eq}
 use Rattle.std.proofs.Common.{◌≡◌, ℕ, ◌+◌, List, [], ◌∷◌, ◌++◌, Bool, true, false, cond, Option, Some, None, refl, sym, ap, ◌∙◌, subst}
 use Rattle.mj_ask.specs.declared.ask.Ask.{Ask}
@@ -8,7 +8,6 @@ use Rattle.mj_ask.specs.declared.ask.Reply.{Reply}
 use Rattle.mj_ask.specs.declared.ask.Reply.TheVariants as replies
 use Rattle.mj_ask.specs.Fits.{is_shared}
 use Rattle.mj_dev.specs.Shelves.{principal}
-use Rattle.mj_dev.specs.Heard.{Heard}
 use Rattle.mj_jobs.specs.Rows.{IsLive}
 use Rattle.mj_locktab.specs.declared.taken.Taken.{Taken}
 use Rattle.mj_locktab.specs.declared.taken.Taken.TheVariants as takes
@@ -19,9 +18,6 @@ use Rattle.mj_sys.specs.Devices.{Device, device_at}
 use Rattle.mj_sys.specs.Shared.{Shared, busy, tried, open_free, open_known, served}
 use Rattle.mj_sys.specs.History.{state_of, after, IsServed}
 use Rattle.mj_sys.specs.System.{Recorded, Claimed}
-use Rattle.mj_sys.specs.declared.served.Served.{Served}
-use Rattle.mj_sys.specs.declared.served.Served.TheVariants as serveds
-use Rattle.mj_sys.specs.Told.{Serves}
 use Rattle.mj_sys.proofs.Replays.{left}
 use Rattle.mj_debug.specs.Playing.{ServesIt}
 
@@ -110,8 +106,8 @@ module _ (opening : Shared) (old new : Recorded) (claim claim' : Claimed) (ask :
       let R : Reply → Type 0 = λ r. new ≡ record { history = old.history ++ record { job = claim.job; ask = ask; reply = r } ∷ []; claimed = old.claimed } in
       (subst Now same now, subst R same new_is, claim_is)
   told_so now new_is claim_is false is only = λ left e. (
-    let same = same_told told reply (state_of opening new.history) left now e in
-    let no : false ≡ true = only same in cc)
+      let same = same_told told reply (state_of opening new.history) left now e in
+      let no : false ≡ true = only same in cc)
 
   -- it was busy
   pub busy_so : served state claim.job ask true ≡ None → ServesIt opening old claim ask reply false new claim'

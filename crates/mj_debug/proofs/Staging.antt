@@ -1,5 +1,5 @@
 -- What a replay keeps is kept by each event, and makes what was replayed a run.
-use Rattle.std.specs.Prelude.{◌⊎◌, ◌==◌, slice_get, slice_set, if◌then◌else◌}
+use Rattle.std.specs.Prelude.{◌⊎◌, slice_get, slice_set, if◌then◌else◌}
 use Rattle.std.proofs.Common.{◌≡◌, ℕ, zero, suc, ◌+◌, ◌<◌, ◌≤◌, List, [], ◌∷◌, ◌++◌, length, Bool, true, false, cond, Option, Some, None, refl, sym, ap, ◌∙◌, subst, inl, inr, append-nil, arith, length-append, eq-eqb}
 use Rattle.std.proofs.lemmas.Option.{slice_get_within, none-some, same_Some}
 use Rattle.std.proofs.lemmas.List.{length-set}
@@ -14,7 +14,7 @@ use Rattle.mj_jobvm.specs.Run.{Log, IsTrace, begins, GoesOn}
 use Rattle.mj_jobvm.specs.Jobs.{Running, IsRunOf}
 use Rattle.mj_sessions.specs.Follow.{AreTalks}
 use Rattle.mj_sys.specs.declared.event.Event.{Event}
-use Rattle.mj_sys.specs.Shared.{Shared, served}
+use Rattle.mj_sys.specs.Shared.{Shared}
 use Rattle.mj_sys.specs.History.{History, after, state_of, log_of, events_of}
 use Rattle.mj_sys.specs.System.{Recorded, Claimed}
 use Rattle.mj_sys.specs.Told.{recorded}
@@ -22,12 +22,12 @@ use Rattle.mj_sys.proofs.Replays.{no_events}
 use Rattle.mj_sys.proofs.Rows.{rows_kept, state_of_append, log_of_append, events_of_append}
 use Rattle.mj_events.specs.Happen.{AllHappen, Happens, shared_of}
 use Rattle.mj_events.proofs.Happen.{shared_append, happen_more, shared_leaves}
-use Rattle.mj_events.proofs.Logs.{log_own, log_other, same_job, other_job, shared_silent}
+use Rattle.mj_events.proofs.Logs.{log_own, log_other, shared_silent}
 use Rattle.mj_expect.specs.Heeds.{Heeds, AreHeeds, Heard}
 use Rattle.mj_expect.proofs.Hearing.{heard_shared, heard_talks}
 use Rattle.mj_core.specs.Runs.{IsRun, start_in}
-use Rattle.mj_debug.specs.Replays.{turns_limit, IsLong, IsUnmade}
-use Rattle.mj_debug.specs.Playing.{Playing, start_of, IsPlaying, AsksIt, ServesIt, Plays, IsAt, AreStaged, Stages}
+use Rattle.mj_debug.specs.Replays.{IsUnmade}
+use Rattle.mj_debug.specs.Playing.{Playing, start_of, IsPlaying, AsksIt, ServesIt, Plays, IsAt, AreStaged}
 use Rattle.mj_debug.proofs.Serving.{not_served, is_served}
 
 -- an element of a list with one that was changed
@@ -211,8 +211,8 @@ module _ (image : Loaded) (opening : Shared) (history : History) (system : Recor
   -- its job isn't there, or has ended
   pub dead : (e : Event) → (IsLive (state_of opening system.history).rows e.job → ⊥) → IsUnmade (routines_of image) opening history e
   dead e not = inl (λ run. not (
-    let L : Shared → Type 0 = λ s. IsLive s.rows e.job in
-    subst L same_state (happen_last opening history e run.happen).0))
+      let L : Shared → Type 0 = λ s. IsLive s.rows e.job in
+      subst L same_state (happen_last opening history e run.happen).0))
 
   module _ (k : ℕ) (played : Playing) (here : slice_get jobs k ≡ Some played) (ask : Ask) (reply : Reply) where
     abbrev own : Event

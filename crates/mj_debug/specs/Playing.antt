@@ -1,12 +1,12 @@
 -- One job of a replay, and all of them.
-use Rattle.std.specs.Prelude.{◌≡◌, ℕ, suc, ◌+◌, ◌≤◌, ◌<◌, List, [], ◌∷◌, ◌++◌, length, Bool, true, false, Option, Some, None, slice_get, ◌⊎◌, if◌then◌else◌}
+use Rattle.std.specs.Prelude.{◌≡◌, ℕ, suc, ◌+◌, ◌≤◌, ◌<◌, List, [], ◌∷◌, ◌++◌, length, Bool, true, false, Some, slice_get, ◌⊎◌}
 use Rattle.mj_ask.specs.declared.ask.Ask.{Ask}
 use Rattle.mj_ask.specs.declared.ask.Reply.{Reply}
-use Rattle.mj_ask.specs.Fits.{fits, is_shared}
+use Rattle.mj_ask.specs.Fits.{fits}
 use Rattle.mj_semantics.specs.Job.{Start}
 use Rattle.mj_load.specs.Image.{Loaded, routines_of}
-use Rattle.mj_jobs.specs.Rows.{Row, row_at, IsLive}
-use Rattle.mj_jobvm.specs.Run.{Log, GoesOn, IsTrace}
+use Rattle.mj_jobs.specs.Rows.{Row, row_at}
+use Rattle.mj_jobvm.specs.Run.{GoesOn, IsTrace}
 use Rattle.mj_jobvm.specs.Jobs.{Running, IsRunOf}
 use Rattle.mj_sessions.specs.Follow.{AreTalks}
 use Rattle.mj_sys.specs.declared.event.Event.{Event}

@@ -1,4 +1,4 @@
-use Rattle.std.proofs.Common.{◌≡◌, ◌++◌, ◌∷◌, [], ◌+◌, Option, Some, sym, ap, ◌∙◌, subst}
+use Rattle.std.proofs.Common.{◌≡◌, ◌++◌, ◌∷◌, [], ◌+◌, Option, Some, ap, ◌∙◌, subst}
 use Rattle.std.specs.Prelude.{IfSome}
 use Rattle.mj_ask.specs.Started.{Started}
 use Rattle.mj_dev.specs.Heard.{Heard}
