@@ -1,0 +1,197 @@
+// Asks and replies, compared.
+
+ghost use Rattle.std.specs.Prelude.{◌≡◌, ◌↔◌, IsTrue};
+
+use mj_ask::{Ask, Clash, Entry, Kept, Reply, Start};
+use mj_store::{Access, Answer};
+use mj_subs::{Name, Subs};
+use mj_text::Text;
+
+// Whether the asks are the same.
+pub fn is_same_ask(one: &Ask, other: &Ask) -> bool
+    ensures { IsTrue result ↔ (one.now ≡ other.now) }
+{
+    match (one, other) {
+        (Ask::DeviceBegin(a), Ask::DeviceBegin(b)) => a == b,
+        (Ask::DeviceWrite(a, c), Ask::DeviceWrite(b, d)) => a == b && c == d,
+        (Ask::DeviceLine(a, c), Ask::DeviceLine(b, d)) => a == b && c == d,
+        (Ask::DeviceByte(a, c), Ask::DeviceByte(b, d)) => a == b && c == d,
+        (Ask::DeviceEnd(a), Ask::DeviceEnd(b)) => a == b,
+        (Ask::Access(a), Ask::Access(b)) => is_same_access(a, b),
+        (Ask::Try(a, c), Ask::Try(b, d)) => { are_same_names(a.as_slice(), b.as_slice()) && c == d }
+        (Ask::Unlock(a), Ask::Unlock(b)) => are_same_names(a.as_slice(), b.as_slice()),
+        (Ask::UnlockAll, Ask::UnlockAll)
+        | (Ask::Commit, Ask::Commit)
+        | (Ask::Rollback, Ask::Rollback) => true,
+        (Ask::Begin(a), Ask::Begin(b)) => a == b,
+        (Ask::Open(a, c), Ask::Open(b, d)) => a == b && c == d,
+        (Ask::Close(a), Ask::Close(b)) => a == b,
+        (Ask::Start(a, c), Ask::Start(b, d)) => is_same_start(a, b) && c == d,
+        (Ask::Rest(a), Ask::Rest(b)) => a == b,
+        (Ask::Halt(a), Ask::Halt(b)) => a == b,
+        _ => false,
+    }
+}
+
+// Whether the replies are the same.
+pub fn is_same_reply(one: &Reply, other: &Reply) -> bool
+    ensures { IsTrue result ↔ (one.now ≡ other.now) }
+{
+    match (one, other) {
+        (Reply::Answer(a), Reply::Answer(b)) => is_same_answer(a, b),
+        (Reply::Line(a), Reply::Line(b)) => a == b,
+        (Reply::Byte(a), Reply::Byte(b)) => a == b,
+        (Reply::Job(a), Reply::Job(b)) => a == b,
+        (Reply::Clash(a), Reply::Clash(b)) => is_same_clash(a, b),
+        (Reply::Done, Reply::Done)
+        | (Reply::Limit, Reply::Limit)
+        | (Reply::Got, Reply::Got)
+        | (Reply::Late, Reply::Late)
+        | (Reply::NoSession, Reply::NoSession)
+        | (Reply::Failed, Reply::Failed)
+        | (Reply::End, Reply::End) => true,
+        _ => false,
+    }
+}
+
+// Whether the answers are the same.
+fn is_same_answer(one: &Answer, other: &Answer) -> bool
+    ensures { IsTrue result ↔ (one.now ≡ other.now) }
+{
+    match (one, other) {
+        (Answer::Value(a), Answer::Value(b)) => a == b,
+        (Answer::Data(a), Answer::Data(b)) => a == b,
+        (Answer::Order(a), Answer::Order(b)) => a == b,
+        (Answer::Query(None), Answer::Query(None)) => true,
+        (Answer::Query(Some(a)), Answer::Query(Some(b))) => is_same_name(a, b),
+        (Answer::Subtree(a), Answer::Subtree(b)) => are_same_nodes(a.as_slice(), b.as_slice()),
+        (Answer::Done, Answer::Done) | (Answer::Limit, Answer::Limit) => true,
+        _ => false,
+    }
+}
+
+// Whether the accesses are the same.
+fn is_same_access(one: &Access, other: &Access) -> bool
+    ensures { IsTrue result ↔ (one.now ≡ other.now) }
+{
+    match (one, other) {
+        (Access::Value(a), Access::Value(b)) => is_same_name(a, b),
+        (Access::Data(a), Access::Data(b)) => is_same_name(a, b),
+        (Access::Order(a, c), Access::Order(b, d)) => is_same_name(a, b) && c == d,
+        (Access::Query(a), Access::Query(b)) => is_same_name(a, b),
+        (Access::Subtree(a), Access::Subtree(b)) => is_same_name(a, b),
+        (Access::Set(a, c), Access::Set(b, d)) => is_same_name(a, b) && c == d,
+        (Access::Kill(a), Access::Kill(b)) => is_same_name(a, b),
+        (Access::Put(a, c), Access::Put(b, d)) => {
+            is_same_name(a, b) && are_same_nodes(c.as_slice(), d.as_slice())
+        }
+        _ => false,
+    }
+}
+
+// Whether the clashes are the same.
+fn is_same_clash(one: &Clash, other: &Clash) -> bool
+    ensures { IsTrue result ↔ (one.entry.now ≡ other.entry.now) }
+{
+    one.place == other.place
+        && is_same_kept(&one.then, &other.then)
+        && is_same_kept(&one.now, &other.now)
+}
+
+// Whether the same is kept.
+fn is_same_kept(one: &Kept, other: &Kept) -> bool
+    ensures { IsTrue result ↔ (one.now ≡ other.now) }
+{
+    match (one, other) {
+        (Kept::Nothing, Kept::Nothing) => true,
+        (Kept::Text(a), Kept::Text(b)) => a == b,
+        (Kept::Number(a), Kept::Number(b)) => a == b,
+        (Kept::Name(a), Kept::Name(b)) => is_same_name(a, b),
+        (Kept::Subtree(a), Kept::Subtree(b)) => are_same_nodes(a.as_slice(), b.as_slice()),
+        _ => false,
+    }
+}
+
+// Whether two jobs start so.
+fn is_same_start(one: &Start, other: &Start) -> bool
+    ensures { IsTrue result ↔ (one.now ≡ other.now) }
+{
+    is_same_entry(one.entry(), other.entry()) && are_same_values(one.values(), other.values())
+}
+
+// Whether the entries are the same.
+fn is_same_entry(one: &Entry, other: &Entry) -> bool
+    ensures { IsTrue result ↔ (one.now ≡ other.now) }
+{
+    one.label == other.label && one.routine == other.routine
+}
+
+// Whether the values are the same.
+fn are_same_values(one: &[Option<Text>], other: &[Option<Text>]) -> bool
+    ensures { IsTrue result ↔ (one.now ≡ other.now) }
+{
+    if one.len() != other.len() {
+        return false;
+    }
+    for (i, value) in one.iter().enumerate() {
+        if !is_same_value(value, &other[i]) {
+            return false;
+        }
+    }
+    true
+}
+
+// Whether the two values are the same, if they are there.
+fn is_same_value(one: &Option<Text>, other: &Option<Text>) -> bool
+    ensures { IsTrue result ↔ (one.now ≡ other.now) }
+{
+    match (one, other) {
+        (None, None) => true,
+        (Some(a), Some(b)) => a == b,
+        _ => false,
+    }
+}
+
+// Whether the names are the same.
+fn are_same_names(one: &[Name], other: &[Name]) -> bool
+    ensures { IsTrue result ↔ (one.now ≡ other.now) }
+{
+    if one.len() != other.len() {
+        return false;
+    }
+    for (i, name) in one.iter().enumerate() {
+        if !is_same_name(name, &other[i]) {
+            return false;
+        }
+    }
+    true
+}
+
+// Whether the nodes are the same.
+fn are_same_nodes(one: &[(Subs, Text)], other: &[(Subs, Text)]) -> bool
+    ensures { IsTrue result ↔ (one.now ≡ other.now) }
+{
+    if one.len() != other.len() {
+        return false;
+    }
+    for (i, node) in one.iter().enumerate() {
+        if !is_same_node(node, &other[i]) {
+            return false;
+        }
+    }
+    true
+}
+
+// Whether the two nodes are the same.
+fn is_same_node(one: &(Subs, Text), other: &(Subs, Text)) -> bool
+    ensures { IsTrue result ↔ (one.now ≡ other.now) }
+{
+    one.0 == other.0 && one.1 == other.1
+}
+
+// Whether the names are the same.
+fn is_same_name(one: &Name, other: &Name) -> bool
+    ensures { IsTrue result ↔ (one.now ≡ other.now) }
+{
+    one == other
+}
