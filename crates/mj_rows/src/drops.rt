@@ -383,14 +383,14 @@ fn put_line<D: Device, O: Opening>(
 
 // How many jobs have ended.
 fn ended<D: Device, O: Opening>(core: &mut Core<D, O>) -> u64 {
-    let mut ended = 0;
+    let mut ended: u64 = 0;
     for done in 0..core.jobs() as u32 {
         let step = Step {
             job: done + 1,
             way: Way::Go,
         };
         if let Err(Refusal::Ended) = core.step(step) {
-            ended += 1;
+            ended = ended.saturating_add(1);
         }
     }
     ended
