@@ -11,8 +11,6 @@ mod control;
 #[cfg(test)]
 mod devices;
 #[cfg(test)]
-mod drops;
-#[cfg(test)]
 mod examples;
 #[cfg(test)]
 mod functions;
