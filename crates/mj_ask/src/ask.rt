@@ -3,7 +3,7 @@
 ghost use Rattle.std.specs.Prelude.{◌≡◌, IfOk};
 ghost use Rattle.mj_ask.specs.Fits.{fits, is_reply_to, is_late, is_shared, timeout_of, answers, is_data};
 
-use crate::clash::Clash;
+use crate::clash::BoxedClash;
 use crate::names::Names;
 use crate::start::Start;
 use mj_num::Num;
@@ -86,7 +86,7 @@ pub enum Reply {
     /// the number of the job that was started
     Job(u32),
     /// the transaction's changes aren't made
-    Clash(Clash),
+    Clash(BoxedClash),
 }
 
 impl Ask {

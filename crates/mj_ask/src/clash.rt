@@ -8,7 +8,8 @@ use mj_num::Num;
 use mj_store::{Answer, Nodes};
 use mj_subs::{Name, Sub};
 use mj_text::Text;
-use std::alloc::AllocError;
+use std::alloc::{AllocError, Global};
+use std::marker::Model;
 
 /// The answer to a question, as a clash keeps it: it is forgotten what was asked.
 #[derive(Drop)]
@@ -105,5 +106,45 @@ impl Clash {
             then: self.then.try_clone()?,
             now: self.now.try_clone()?,
         })
+    }
+}
+
+/// A clash behind a pointer, so that a reply is small. A contract sees the clash.
+#[derive(Drop)]
+pub struct BoxedClash {
+    kept: Box<Clash>,
+}
+
+impl Model for BoxedClash {
+    ghost use Rattle.mj_ask.specs.declared.clash.Clash.{Clash as Seen};
+
+    ghost Value = { Seen };
+
+    ghost view = { λ b. b.kept.value };
+}
+
+impl BoxedClash {
+    /// The clash behind a pointer.
+    pub fn new(alloc: Global, clash: Clash) -> Result<BoxedClash, AllocError>
+        ensures { IfOk result (λ boxed. boxed ≡ clash) }
+    {
+        Ok(BoxedClash {
+            kept: Box::new(alloc, clash)?,
+        })
+    }
+
+    /// The clash.
+    pub fn get(&self) -> &Clash
+        ensures { result.now ≡ self.entry.now }
+    {
+        &self.kept
+    }
+
+    /// The same clash once more.
+    pub fn try_clone(&self) -> Result<BoxedClash, AllocError>
+        ensures { IfOk result (λ boxed. boxed ≡ self.entry.now) }
+    {
+        let alloc = *Box::allocator(&self.kept);
+        BoxedClash::new(alloc, self.kept.try_clone()?)
     }
 }

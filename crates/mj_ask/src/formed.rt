@@ -179,7 +179,7 @@ pub fn is_reply(reply: &Reply) -> bool
 {
     match reply {
         Reply::Answer(answer) => is_answer(answer),
-        Reply::Clash(clash) => is_clash(clash),
+        Reply::Clash(clash) => is_clash(clash.get()),
         _ => true,
     }
 }

@@ -12,7 +12,7 @@ mod names;
 mod start;
 
 pub use ask::{Ask, Kind, Reply};
-pub use clash::{Clash, Kept};
+pub use clash::{BoxedClash, Clash, Kept};
 pub use entry::Entry;
 pub use formed::{
     is_access, is_ask, is_clash, is_global_name, is_name, is_reply, is_search_name, is_subtree,

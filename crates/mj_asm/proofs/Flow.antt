@@ -23,12 +23,13 @@ use Rattle.mj_pcode.specs.declared.instr.Unit as unit
 use Rattle.mj_pcode.specs.Found.{Found, found, start_of, levels_in}
 use Rattle.mj_pcode.specs.Context.{Passes, Once, Always, By, Loop, Call, Context, passes_of, nameless, suspended, at_unit}
 use Rattle.mj_pcode.specs.Machine as machine
-use Rattle.mj_pcode.specs.Machine.{Stack, Next, exec, returns, operands, spread, given_count, place_in, with_passes}
+use Rattle.mj_pcode.specs.Machine.{Stack, exec, returns, spread, place_in, with_passes}
 use Rattle.mj_asm.specs.Code.{reference, expr_code, subscripts_code, actuals_code, shape_of, code_if, call_code, calls_code, do_code, jump_code, jumps_code, quit_code, ifs_code, if_code, range_code, ranges_code, body_code, for_code, command_code, and_then, obey_code, steps_code}
 use Rattle.mj_asm.specs.Correct.{Agree, next_of, DoLines, IsFound, LeadAlike}
 use Rattle.mj_asm.specs.Laws.{after_one, Leaves, same_place, at_found, call_follows}
 use Rattle.mj_pcode.proofs.Agree.{if_at, look_at, change_at, deeper_at, quit_frame_at, given_at, store_at, if_test_at, again_at, first_at, reading_two_at}
-use Rattle.mj_asm.proofs.Follows.{HasAt, has_front, has_back, from, acts, one, moved, expr_follows, onto, operands_are, rest_below, assigns_follow, outputs_follow, hangs_follow, jobs_follow, lock_all_follows, opens_follow, uses_follow, closes_follow, inputs_follow, kill_all_follows, merges_follow, new_all_follows, actuals_follow, local_follows, when_follows}
+use Rattle.mj_asm.proofs.Lies.{onto, operands_are, rest_below}
+use Rattle.mj_asm.proofs.Follows.{HasAt, has_front, has_back, from, acts, one, moved, expr_follows, assigns_follow, outputs_follow, hangs_follow, jobs_follow, lock_all_follows, opens_follow, uses_follow, closes_follow, inputs_follow, kill_all_follows, merges_follow, new_all_follows, actuals_follow, local_follows, when_follows}
 use Rattle.mj_asm.proofs.Transactions.{transaction_follows, commit_follows, restart_follows, roll_back_follows, break_follows}
 
 -- what holds for so many turns holds for fewer

@@ -1,4 +1,5 @@
 pub mod Rows
+pub mod Lies
 pub mod Follows
 pub mod Transactions
 pub mod Flow

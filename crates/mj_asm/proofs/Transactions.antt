@@ -1,5 +1,5 @@
 -- The code of the commands of transactions does what they say.
-use Rattle.std.proofs.Common.{◌≡◌, ℕ, zero, suc, ◌+◌, ◌≤◌, List, [], ◌∷◌, ◌++◌, length, Option, Some, None, refl, ap, ◌∙◌, arith, length-append}
+use Rattle.std.proofs.Common.{◌≡◌, ℕ, zero, suc, ◌+◌, ◌≤◌, List, [], ◌++◌, length, Option, Some, None, refl, ap, ◌∙◌, arith, length-append}
 use Rattle.std.specs.Prelude.{slice_get}
 use Rattle.mj_ast.specs.Syntax.{Restored, Alone, Listed, Everything, Restartable, Routine}
 use Rattle.mj_semantics.specs.Outcome.{Timed, turn}

@@ -164,7 +164,8 @@ fn emit_ifs(
     conditions: &[Expr],
     behind: &[Step],
 ) -> Result<(), AllocError>
-    ensures { OnOk result (code.new.items ≡ code.old.items ++ ifs_code (length code.old.items) (map expr_of conditions.now) (λ p. steps_code (here_of site.entry) p close (map step_of behind.now))) }
+    ensures { OnOk result (code.new.items ≡ code.old.items
+        ++ ifs_code (length code.old.items) (map expr_of conditions.now) (λ p. steps_code (here_of site.entry) p close (map step_of behind.now))) }
 {
     match conditions.split_first() {
         None => emit_steps(site, code, close, behind),
@@ -189,7 +190,8 @@ fn emit_for(
     ranges: &[Range],
     behind: &[Step],
 ) -> Result<(), AllocError>
-    ensures { OnOk result (code.new.items ≡ code.old.items ++ for_code (length code.old.items) (variable_of variable.now) (map range_of ranges.now) (λ p o. steps_code (here_of site.entry) p o (map step_of behind.now))) }
+    ensures { OnOk result (code.new.items ≡ code.old.items
+        ++ for_code (length code.old.items) (variable_of variable.now) (map range_of ranges.now) (λ p o. steps_code (here_of site.entry) p o (map step_of behind.now))) }
 {
     emit_subscripts(code, variable)?;
     let local = reference(variable)?;
@@ -254,7 +256,8 @@ fn emit_step(
     close: Option<usize>,
     step: &Step,
 ) -> Result<(), AllocError>
-    ensures { OnOk result (code.new.items ≡ code.old.items ++ code_if (length code.old.items) (option_map expr_of step.now.condition) (λ p. command_code (here_of site.entry) p close (command_of step.now.command))) }
+    ensures { OnOk result (code.new.items ≡ code.old.items
+        ++ code_if (length code.old.items) (option_map expr_of step.now.condition) (λ p. command_code (here_of site.entry) p close (command_of step.now.command))) }
 {
     match &step.condition {
         None => emit_command(site, code, close, &step.command),

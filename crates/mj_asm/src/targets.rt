@@ -64,7 +64,8 @@ fn emit_destination(code: &mut Vec<Instr>, destination: &Destination) -> Result<
 
 /// The subscripts, and then the name's check.
 pub fn emit_name(code: &mut Vec<Instr>, variable: &Variable) -> Result<(), AllocError>
-    ensures { OnOk result (code.new.items ≡ code.old.items ++ (subscripts_code (length code.old.items) (variable_of variable.now) ++ Instr.Check (code_spec.reference (variable_of variable.now)) ∷ [])) }
+    ensures { OnOk result (code.new.items ≡ code.old.items
+        ++ (subscripts_code (length code.old.items) (variable_of variable.now) ++ Instr.Check (code_spec.reference (variable_of variable.now)) ∷ [])) }
 {
     emit_subscripts(code, variable)?;
     let checked = reference(variable)?;

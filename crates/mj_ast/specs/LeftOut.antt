@@ -28,8 +28,7 @@
 --   command           a word that is no command's where a command may begin
 --   extrinsic         `$$`; before all others, what may begin an expression, or an indirection, as an argument of QUIT
 --
--- The first row that fits is the one that is given. A row without a place holds wherever the line can't go on. Words of commands
--- and of variables that the profile has and the reader doesn't read yet are left out by no name.
+-- The first row that fits is the one that is given. A row without a place holds wherever the line can't go on.
 --
 -- A row looks at the token, at those before it, which begin a line, and at those behind it. Where something may begin is said by the
 -- grammar itself: where a token may stand that could begin it, and that could stand nowhere else.
@@ -316,7 +315,7 @@ abbrev pub is_unknown : Token → Bool
 is_unknown (Word w) = not (has_verb (verb_of w))
 is_unknown t = false
 
--- the words of variables, those that the reader doesn't read yet among them
+-- the words of variables
 abbrev pub is_variable : List ℕ → Bool
 is_variable w =
     is_named w (codes "IO") (codes "I")

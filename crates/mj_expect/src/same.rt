@@ -42,7 +42,7 @@ pub fn is_same_reply(one: &Reply, other: &Reply) -> bool
         (Reply::Line(a), Reply::Line(b)) => a == b,
         (Reply::Byte(a), Reply::Byte(b)) => a == b,
         (Reply::Job(a), Reply::Job(b)) => a == b,
-        (Reply::Clash(a), Reply::Clash(b)) => is_same_clash(a, b),
+        (Reply::Clash(a), Reply::Clash(b)) => is_same_clash(a.get(), b.get()),
         (Reply::Done, Reply::Done)
         | (Reply::Limit, Reply::Limit)
         | (Reply::Got, Reply::Got)

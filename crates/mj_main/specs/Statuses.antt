@@ -7,7 +7,7 @@ use Rattle.mj_sys.specs.History.{History}
 use Rattle.mj_main.specs.declared.stop.Stop.{Stop}
 use Rattle.mj_main.specs.declared.stop.Stop.TheVariants as stops
 
--- the status where it stops before its end: 2 where a routine or a listing is refused, 3 where the command line is wrong, 4 where memory
+-- the status where it stops before its end: 2 where a routine, a listing or a trace is refused, 3 where the command line is wrong, 4 where memory
 -- or a file fails, or a job goes on for too long
 abbrev pub status_of : Stop → ℕ
 status_of (stops.Value value) = 3
@@ -16,6 +16,7 @@ status_of (stops.Name file) = 2
 status_of (stops.Routine refusal) = 2
 status_of (stops.Twice name) = 2
 status_of (stops.Listing refusal) = 2
+status_of (stops.Trace refusal) = 2
 status_of (stops.Steps refusal) = 2
 status_of (stops.Step why step) = 2
 status_of stops.Stuck = 4

@@ -12,6 +12,7 @@ mod files;
 mod jobs;
 mod listings;
 mod program;
+mod replays;
 mod routines;
 mod stop;
 mod traces;

@@ -10,6 +10,7 @@ use crate::begin::{devices, pool, starts, steps};
 use crate::files::whole;
 use crate::jobs::Jobs;
 use crate::listings::{listed, save};
+use crate::replays::replayed;
 use crate::routines::loaded;
 use crate::stop::{FAULTED, Stop, WORDS};
 use crate::traces::{Trace, trace_of, write_trace};
@@ -22,15 +23,15 @@ use mj_jobs::ROWS_LIMIT;
 use mj_load::Image;
 use mj_steps::{Ending, Step};
 use mj_sys::Opening;
-use mj_words::{Order, Refusal, Run, read_words};
+use mj_words::{Order, Refusal, Replay, Run, read_words};
 use std::alloc::{AllocError, Global};
 use std::convert::AsStr;
 use std::io::{Read, Write};
 use std::marker::Brand;
 use std::rt::Files;
 
-/// Does what the words ask for, of which the first is the program's name, and gives the exit status: 0; 1 where a job faulted; 2
-/// where a routine, a listing, a file of steps or a step is refused; 3 where the words are wrong; 4 where memory or a file fails, where all jobs
+/// Does what the words ask for, of which the first is the program's name, and gives the exit status: 0; 1 where a job faulted, or a trace isn't that of a run; 2
+/// where a routine, a listing, a trace, a file of steps or a step is refused; 3 where the words are wrong; 4 where memory or a file fails, where all jobs
 /// wait, or where they went on for too long; the greatest where several apply. What the jobs write goes to `out`; a refusal goes to `err`, on one
 /// line, but the text on wrong words, which is clap's. Where the words ask for it, `input` is read whole before the run, and its lines are those of the
 /// first job's principal session. The globals that are left and the trace of the run are written after the output.
@@ -46,6 +47,10 @@ where
     match read_words(rt.alloc(), words) {
         Ok(Order::Run(order)) => run_jobs(rt, &order, input, out, err),
         Ok(Order::Check { files }) => match check(rt, &files, out) {
+            Ok(status) => status,
+            Err(stop) => stopped(&stop, err),
+        },
+        Ok(Order::Replay(order)) => match replay(rt, &order, out) {
             Ok(status) => status,
             Err(stop) => stopped(&stop, err),
         },
@@ -366,6 +371,19 @@ fn check<'a, R: Files + AllocGlobal, O: Write>(
     let told = format!(in rt.alloc(); "ok {count}\n")?;
     print(told.as_bytes(), out)?;
     Ok(0)
+}
+
+// Replays a trace, and says whether it is that of a run.
+fn replay<'a, R: Files + AllocGlobal, O: Write>(
+    rt: &R,
+    order: &Replay<'a>,
+    out: &mut O,
+) -> Result<u8, Stop<'a>>
+    ensures { IfOk result (λ status. status ≤ 1) }
+{
+    let (told, status) = replayed(rt, order)?;
+    print(told.as_bytes(), out)?;
+    Ok(status)
 }
 
 // The text on words that are no order: help, which was asked for, or what is wrong.

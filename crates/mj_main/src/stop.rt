@@ -7,6 +7,7 @@ use mj_gfile::ReadError;
 use mj_rou::LoadError;
 use mj_steps::{Ending, Refused, StepsError};
 use mj_text::{Digits, Text};
+use mj_trace::TraceError;
 use std::alloc::AllocError;
 use std::{fmt, str};
 use thiserror::Error;
@@ -32,6 +33,9 @@ pub enum Stop<'a> {
     /// a listing of globals is refused
     #[error("{0}")]
     Listing(ReadError),
+    /// a trace is refused
+    #[error("{0}")]
+    Trace(TraceError),
     /// a file of steps is refused
     #[error("{0}")]
     Steps(StepsError),
@@ -57,7 +61,9 @@ impl<'a> From<AllocError> for Stop<'a> {
 
 /// The exit status of a run in which a job faulted.
 pub const FAULTED: u8 = 1;
-/// The exit status where a routine or a listing is refused.
+/// The exit status where a trace isn't that of a run.
+pub const DIFFERS: u8 = 1;
+/// The exit status where a routine, a listing or a trace is refused.
 pub const REFUSED: u8 = 2;
 /// The exit status where the command line is wrong.
 pub const WORDS: u8 = 3;
@@ -92,7 +98,7 @@ impl Stop<'_> {
     {
         match self {
             Stop::Name(_) | Stop::Routine(_) | Stop::Twice(_) | Stop::Listing(_) => REFUSED,
-            Stop::Steps(_) | Stop::Step { .. } => REFUSED,
+            Stop::Trace(_) | Stop::Steps(_) | Stop::Step { .. } => REFUSED,
             Stop::Value(_) => WORDS,
             Stop::File(_) | Stop::Stuck | Stop::Full | Stop::Memory => FAILED,
         }

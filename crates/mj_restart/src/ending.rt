@@ -72,18 +72,16 @@ pub fn roll_back(
     if machine.replied >= STEPS_LIMIT {
         return Ok(fail(Fault::Steps, machine));
     }
-    match given {
-        None => wait(alloc, Ask::Rollback),
-        Some(_) => {
-            machine.replied += 1;
-            // where a restart of it would go on is kept until the next one is marked: nothing leads there
-            machine.level = 0;
-            machine.restarts = 0;
-            machine.mark = None;
-            machine.control = Control::At(pc + 1);
-            Ok(Step::Took)
-        }
-    }
+    let Some(_) = given else {
+        return wait(alloc, Ask::Rollback);
+    };
+    machine.replied += 1;
+    // where a restart of it would go on is kept until the next one is marked: nothing leads there
+    machine.level = 0;
+    machine.restarts = 0;
+    machine.mark = None;
+    machine.control = Control::At(pc + 1);
+    Ok(Step::Took)
 }
 
 /// The transaction is rolled back, if it can be restarted, and begins once more behind it.

@@ -1,5 +1,5 @@
-// Rows: runs of the whole program, from the words of the command line to what it prints and its exit status, and what the crates below it
-// give by themselves. Their expected values were written down before the program ran. A crate with tests is proved twice, so they stand here.
+// Rows: runs of the whole program, from the words of the command line to what it prints and its exit status. Their expected values were
+// written down before the program ran. A crate with tests is proved twice, so they stand here; rows of single crates are in `mj_rows_parts`.
 #![tactic(auto)]
 
 #[cfg(test)]
@@ -15,13 +15,9 @@ mod examples;
 #[cfg(test)]
 mod functions;
 #[cfg(test)]
-mod grammar;
-#[cfg(test)]
 mod input;
 #[cfg(test)]
 mod listings;
-#[cfg(test)]
-mod locals;
 #[cfg(test)]
 mod many;
 #[cfg(test)]
@@ -29,26 +25,14 @@ mod names;
 #[cfg(test)]
 mod operators;
 #[cfg(test)]
-mod read_back;
-#[cfg(test)]
-mod reading;
+mod replays;
 #[cfg(test)]
 mod runs;
 #[cfg(test)]
-mod serial;
-#[cfg(test)]
-mod serving;
-#[cfg(test)]
 mod sharing;
-#[cfg(test)]
-mod steps;
-#[cfg(test)]
-mod texts;
 #[cfg(test)]
 mod traces;
 #[cfg(test)]
 mod transactions;
-#[cfg(test)]
-mod trees;
 #[cfg(test)]
 mod words;

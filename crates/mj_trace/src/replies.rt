@@ -30,7 +30,7 @@ pub fn put_reply(bytes: &mut Vec<u8>, reply: &Reply) -> Result<(), AllocError>
         }
         Reply::Clash(clash) => {
             bytes.extend_from_slice(b"clash ")?;
-            put_clash(bytes, clash)
+            put_clash(bytes, clash.get())
         }
     }
 }

@@ -7,7 +7,7 @@ ghost use Rattle.mj_trace.specs.Reading.{is_absent, answer_in, number_kept, kept
 use crate::found::{Found, find_subscript, find_text, read_code, read_count, read_number};
 use crate::members::{find_name, find_subtree};
 use crate::run::{Run, begins_with, skip, split};
-use mj_ask::{Ask, Clash, Kept, Reply};
+use mj_ask::{Ask, BoxedClash, Clash, Kept, Reply};
 use mj_store::{Access, Answer};
 use std::alloc::{AllocError, Global};
 
@@ -155,7 +155,8 @@ fn find_clash(alloc: Global, bytes: &[u8]) -> Result<Option<Reply>, AllocError>
     let Some((now, _)) = find_kept(alloc, skip(rest))? else {
         return Ok(None);
     };
-    Ok(Some(Reply::Clash(Clash { place, then, now })))
+    let clash = BoxedClash::new(alloc, Clash { place, then, now })?;
+    Ok(Some(Reply::Clash(clash)))
 }
 
 // What a clash keeps.

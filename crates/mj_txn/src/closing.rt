@@ -9,13 +9,13 @@ ghost use Rattle.mj_txlog.specs.declared.entry.Unlock.TheVariants as unlocks;
 
 use crate::changed::Changed;
 use crate::committing::{Outcome, commit};
-use mj_ask::{Clash, Kept, Reply};
+use mj_ask::{BoxedClash, Clash, Kept, Reply};
 use mj_globs::Globals;
 use mj_locktab::{LockTable, Taken};
 use mj_store::{Access, Answer};
 use mj_subs::Name;
 use mj_txlog::{Entry, NameList, TxLog, Unlock, is_refused, is_write};
-use std::alloc::AllocError;
+use std::alloc::{AllocError, Global};
 
 /// Makes an access of the job in its transaction. A change of a local name is done without a change, and is no access of the transaction. The
 /// answer is there twice, once for the job and once for who writes it down.
@@ -111,7 +111,7 @@ pub fn close(
             Ok((Reply::Done, Reply::Done))
         }
         Outcome::Clash(changed) => {
-            let told = clash_twice(changed)?;
+            let told = clash_twice(log.allocator(), changed)?;
             roll_back(log, locks, job);
             Ok(told)
         }
@@ -119,7 +119,7 @@ pub fn close(
 }
 
 // What a clash is told, twice.
-fn clash_twice(changed: Changed) -> Result<(Reply, Reply), AllocError>
+fn clash_twice(alloc: Global, changed: Changed) -> Result<(Reply, Reply), AllocError>
     ensures one { IfOk result (λ told. told.0 ≡ replies.Clash (clash_of changed)) }
     ensures other { IfOk result (λ told. told.1 ≡ replies.Clash (clash_of changed)) }
 {
@@ -129,6 +129,7 @@ fn clash_twice(changed: Changed) -> Result<(Reply, Reply), AllocError>
         then: Kept::of(then),
         now: Kept::of(now),
     };
+    let clash = BoxedClash::new(alloc, clash)?;
     match clash.try_clone() {
         Ok(copy) => Ok((Reply::Clash(clash), Reply::Clash(copy))),
         Err(refused) => {

@@ -9,6 +9,8 @@ pub enum Order<'a> {
     Run(Run<'a>),
     /// to load the routines of these files, and to say how many there are
     Check { files: Vec<&'a str> },
+    /// to say whether a trace is that of a run
+    Replay(Replay<'a>),
 }
 
 /// Jobs that are to run.
@@ -32,6 +34,17 @@ pub struct Run<'a> {
     pub steps: Option<&'a str>,
     /// whether to say, where all jobs wait, what each waits for
     pub why: bool,
+}
+
+/// A trace that is to be replayed.
+#[derive(Drop)]
+pub struct Replay<'a> {
+    /// the file of the trace
+    pub trace: &'a str,
+    /// the files of the routines
+    pub files: Vec<&'a str>,
+    /// the file that lists the globals that were there at first
+    pub globals: Option<&'a str>,
 }
 
 /// Why words are no order.

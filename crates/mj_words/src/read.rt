@@ -1,7 +1,7 @@
 // The words of the command line.
 
-use crate::order::{Order, Refusal, Run};
-use crate::texts::{CHECK_EXAMPLE, EXAMPLES, RUN_EXAMPLE, STEP_EXAMPLE, VERSION};
+use crate::order::{Order, Refusal, Replay, Run};
+use crate::texts::{CHECK_EXAMPLE, EXAMPLES, REPLAY_EXAMPLE, RUN_EXAMPLE, STEP_EXAMPLE, VERSION};
 use clap::error::ErrorKind;
 use clap::{Arg, ArgAction, ArgMatches, Command, Error};
 use std::alloc::{AllocError, Global};
@@ -31,6 +31,7 @@ fn ordered<'a, S: AsStr>(
     match matches.subcommand() {
         Some(("run", found)) | Some(("step", found)) => Ok(run_order(alloc, found)?),
         Some(("check", found)) => Ok(check_order(alloc, found)?),
+        Some(("replay", found)) => Ok(replay_order(alloc, found)?),
         _ => Err(command.error(ErrorKind::MissingSubcommand, "a command is required")?),
     }
 }
@@ -76,6 +77,19 @@ fn check_order<'a>(alloc: Global, found: &ArgMatches<'a>) -> Result<Order<'a>, A
     })
 }
 
+// The trace is required, so that it is given.
+fn replay_order<'a>(alloc: Global, found: &ArgMatches<'a>) -> Result<Order<'a>, AllocError> {
+    let trace = match found.get_str("trace") {
+        Some(trace) => trace,
+        None => "",
+    };
+    Ok(Order::Replay(Replay {
+        trace,
+        files: files(alloc, found)?,
+        globals: found.get_str("globals"),
+    }))
+}
+
 // The files of the routines.
 fn files<'a>(alloc: Global, found: &ArgMatches<'a>) -> Result<Vec<&'a str>, AllocError> {
     let mut files = Vec::new(alloc);
@@ -93,7 +107,8 @@ fn command<'a>(alloc: Global) -> Result<Command<'a>, AllocError> {
         .subcommand_required(true)
         .subcommand(run_command(alloc)?)?
         .subcommand(step_command(alloc)?)?
-        .subcommand(check_command(alloc)?)
+        .subcommand(check_command(alloc)?)?
+        .subcommand(replay_command(alloc)?)
 }
 
 fn run_command<'a>(alloc: Global) -> Result<Command<'a>, AllocError> {
@@ -128,6 +143,15 @@ fn check_command<'a>(alloc: Global) -> Result<Command<'a>, AllocError> {
     Command::new(alloc, "check")
         .about("Loads routines without running them, and prints how many there are")
         .after_help(CHECK_EXAMPLE)
+        .arg(routines(alloc))
+}
+
+fn replay_command<'a>(alloc: Global) -> Result<Command<'a>, AllocError> {
+    Command::new(alloc, "replay")
+        .about("Says whether a trace is that of a run of these routines, or which line isn't")
+        .after_help(REPLAY_EXAMPLE)
+        .arg(recorded(alloc))?
+        .arg(globals(alloc))?
         .arg(routines(alloc))
 }
 
@@ -179,6 +203,15 @@ fn trace<'a>(alloc: Global) -> Arg<'a> {
         .value_name("FILE")
         .help("Where the trace of the run is written: each event, a line")
         .action(ArgAction::Set)
+}
+
+fn recorded<'a>(alloc: Global) -> Arg<'a> {
+    Arg::new(alloc, "trace")
+        .long("trace")
+        .value_name("FILE")
+        .help("The trace, as `mj run --trace` or `mj step --trace` writes it")
+        .action(ArgAction::Set)
+        .required(true)
 }
 
 fn stdin<'a>(alloc: Global) -> Arg<'a> {

@@ -12,11 +12,12 @@ Examples:
   mj run --trace TRACE --globals DATA --save DATA --start ^R R.m
   mj step --steps STEPS --start A^R --start B^R R.m
   mj check R.m _TOOL.m
+  mj replay --trace TRACE R.m
 
 Exit statuses:
   0  all is done
-  1  a job faulted
-  2  a routine, a listing of globals or a file of steps was refused, or a step was
+  1  a job faulted, or a trace isn't that of a run
+  2  a routine, a listing of globals, a trace or a file of steps was refused, or a step was
   3  the words of the command line are wrong
   4  memory was refused, a file failed, all jobs wait, or they went on for too long";
 
@@ -42,3 +43,8 @@ Examples, by the steps in a file (`1`, `2` and `1 late` are such lines), and in 
 pub const CHECK_EXAMPLE: &str = "\
 Example, which prints `ok 2`, or why one of the routines is refused:
   mj check R.m _TOOL.m";
+
+/// What stands below the help of `replay`.
+pub const REPLAY_EXAMPLE: &str = "\
+Example, which prints `same`, or `differs at line 6` where the event in line 6 of the trace isn't made, over the globals that were there at first:
+  mj replay --trace TRACE --globals DATA R.m";

@@ -1,6 +1,6 @@
 // The blocks of a history of two jobs.
 
-use mj_ask::{Ask, Clash, Kept, Kind, Reply};
+use mj_ask::{Ask, BoxedClash, Clash, Kept, Kind, Reply};
 use mj_serial::{Block, serial_blocks};
 use mj_store::{Access, Answer};
 use mj_subs::{Name, Subs};
@@ -66,12 +66,13 @@ fn second(alloc: Global, history: &mut Vec<Event>) -> Result<(), Failure> {
     add(history, 1, Ask::Rollback, Reply::Done)
 }
 
-fn clash(alloc: Global) -> Result<Clash, Failure> {
-    Ok(Clash {
+fn clash(alloc: Global) -> Result<BoxedClash, Failure> {
+    let clash = Clash {
         place: 1,
         then: Kept::Nothing,
         now: Kept::Text(Text::from(alloc, b"1")?),
-    })
+    };
+    Ok(BoxedClash::new(alloc, clash)?)
 }
 
 fn read(alloc: Global, history: &mut Vec<Event>, job: u32) -> Result<(), Failure> {

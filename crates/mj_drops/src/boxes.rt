@@ -1,0 +1,85 @@
+// Devices of the tests, which fail once and count their drops, in a pool.
+
+use mj_dev::{Counted, Fail, Pool};
+use mj_text::{Failure, Text};
+use std::alloc::{AllocError, Global};
+use std::sync::Arc;
+use std::sync::atomic::{AtomicU64, Ordering};
+
+/// The devices of the tests.
+pub type Counting = Counted<Fail>;
+
+/// The drops of the device `F`, of which there is one, and those of the two principal devices.
+#[derive(Drop)]
+pub struct Drops {
+    named: Arc<AtomicU64, Global>,
+    principal: Arc<AtomicU64, Global>,
+}
+
+impl Drops {
+    pub fn new(alloc: Global) -> Result<Drops, AllocError> {
+        let named = Arc::new(alloc, AtomicU64::new(0))?;
+        let principal = Arc::new(alloc, AtomicU64::new(0))?;
+        Ok(Drops { named, principal })
+    }
+
+    /// How often `F` was dropped, and how many principal devices were.
+    pub fn counts(&self) -> (u64, u64) {
+        (
+            self.named.load(Ordering::SeqCst),
+            self.principal.load(Ordering::SeqCst),
+        )
+    }
+}
+
+/// The device `F` and two principal ones. Which call of `F` fails, and which of the first principal one, counts from 1; 0 is none.
+pub fn pool(
+    alloc: Global,
+    named: u64,
+    principal: u64,
+    drops: &Drops,
+) -> Result<Pool<Counting>, Failure> {
+    let mut pool = Pool::new(alloc);
+    match fill(alloc, &mut pool, named, principal, drops) {
+        Ok(()) => Ok(pool),
+        Err(failure) => {
+            drop(pool);
+            Err(failure)
+        }
+    }
+}
+
+fn fill(
+    alloc: Global,
+    pool: &mut Pool<Counting>,
+    named: u64,
+    principal: u64,
+    drops: &Drops,
+) -> Result<(), Failure> {
+    let zero = Text::from_number(alloc, 0);
+    put(alloc, pool, &Text::from(alloc, b"F")?, named, &drops.named)?;
+    put(alloc, pool, &zero, principal, &drops.principal)?;
+    put(alloc, pool, &zero, 0, &drops.principal)
+}
+
+// Adds a device of this name that fails in this call.
+fn put(
+    alloc: Global,
+    pool: &mut Pool<Counting>,
+    name: &Text,
+    at: u64,
+    drops: &Arc<AtomicU64, Global>,
+) -> Result<(), Failure> {
+    let drops = Arc::try_clone(drops)?;
+    let device = Counted {
+        device: Fail::new(alloc, at),
+        drops,
+    };
+    match pool.add(name, device) {
+        Ok(()) => Ok(()),
+        Err(device) => {
+            drop(device);
+            Err(Failure::Memory)
+        }
+    }
+}

@@ -1,0 +1,89 @@
+// Traces that are replayed.
+
+ghost use Rattle.std.specs.Prelude.{◌≡◌, ◌≤◌, IfOk, true};
+ghost use Rattle.mj_sys.specs.Shared.{are_global};
+
+use crate::files::file_bytes;
+use crate::listings::listed;
+use crate::routines::loaded;
+use crate::stop::{DIFFERS, Stop};
+use mj_debug::Verdict;
+use mj_globs::Globals;
+use mj_load::Image;
+use mj_replay::replay_trace;
+use mj_trace::{Trace, TraceError, read_trace};
+use mj_words::Replay;
+use std::alloc::{AllocError, Global};
+use std::rt::Files;
+
+/// What is to be printed of a trace that is replayed, and the exit status. The trace is read first, then the routines, then the globals.
+pub fn replayed<'a, R: Files + AllocGlobal>(
+    rt: &R,
+    order: &Replay<'a>,
+) -> Result<(String, u8), Stop<'a>>
+    ensures { IfOk result (λ told. told.1 ≤ 1) }
+{
+    let trace = recorded(rt, order.trace)?;
+    match verdict(rt, order, &trace) {
+        Ok(verdict) => {
+            let told = told(rt.alloc(), &trace, verdict);
+            drop(trace);
+            Ok(told?)
+        }
+        Err(stop) => {
+            drop(trace);
+            Err(stop)
+        }
+    }
+}
+
+// The trace in a file.
+fn recorded<'a, R: Files + AllocGlobal>(rt: &R, file: &'a str) -> Result<Trace, Stop<'a>> {
+    let bytes = file_bytes(rt, file)?;
+    match read_trace(rt.alloc(), &bytes) {
+        Ok(trace) => Ok(trace),
+        Err(TraceError::Memory) => Err(Stop::Memory),
+        Err(refusal) => Err(Stop::Trace(refusal)),
+    }
+}
+
+// What its replay comes to.
+fn verdict<'a, R: Files + AllocGlobal>(
+    rt: &R,
+    order: &Replay<'a>,
+    trace: &Trace,
+) -> Result<Verdict, Stop<'a>> {
+    let image = loaded(rt, &order.files)?;
+    let verdict = match listed(rt, order.globals) {
+        Ok(globals) => over(rt.alloc(), &image, globals, trace),
+        Err(stop) => Err(stop),
+    };
+    drop(image);
+    verdict
+}
+
+// What its replay over these routines and globals comes to.
+fn over<'a>(
+    alloc: Global,
+    image: &Image,
+    globals: Globals,
+    trace: &Trace,
+) -> Result<Verdict, Stop<'a>>
+    requires { are_global globals ≡ true }
+{
+    Ok(replay_trace(alloc, image, globals, trace)?)
+}
+
+// What is printed of a verdict, and the exit status. Lines count from 1: before the events stand the header, and a line for each device and each start.
+fn told(alloc: Global, trace: &Trace, verdict: Verdict) -> Result<(String, u8), AllocError>
+    ensures { IfOk result (λ told. told.1 ≤ 1) }
+{
+    match verdict {
+        Verdict::Same => Ok((format!(in alloc; "same\n")?, 0)),
+        Verdict::Differs(at) => {
+            let before = trace.pool().len().saturating_add(trace.starts().len());
+            let line = before.saturating_add(at).saturating_add(2);
+            Ok((format!(in alloc; "differs at line {line}\n")?, DIFFERS))
+        }
+    }
+}

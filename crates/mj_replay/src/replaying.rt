@@ -1,0 +1,97 @@
+// A trace, replayed over globals.
+
+ghost use Rattle.std.specs.Prelude.{◌≡◌, ◌≤◌, length, map, true, IfOk};
+ghost use Rattle.mj_dev.specs.Shelves.{principal, left_of};
+ghost use Rattle.mj_jobs.specs.Rows.{rows_limit};
+ghost use Rattle.mj_load.specs.Image.{routines_of};
+ghost use Rattle.mj_sys.specs.Opening.{opening_of};
+ghost use Rattle.mj_sys.specs.Shared.{are_global};
+ghost use Rattle.mj_sys.specs.System.{history_limit};
+ghost use Rattle.mj_debug.specs.Replays.{history_of, Says};
+ghost use Rattle.mj_replay.specs.Traces.{opening_in, start_at};
+
+use crate::pools::{Blank, pool_of};
+use mj_ask::{Ask, Entry, Reply, Start};
+use mj_debug::{Verdict, replay};
+use mj_dev::Pool;
+use mj_globs::Globals;
+use mj_jobs::ROWS_LIMIT;
+use mj_load::Image;
+use mj_sys::HISTORY_LIMIT;
+use mj_trace::Trace;
+use std::alloc::{AllocError, Global};
+use std::marker::Brand;
+
+/// Whether the events of a trace are a run of its opening over these globals, or which one, from 0, is the first that isn't made. Beside want of memory
+/// it is an error where nothing can open so: without a start, with over 255, with fewer sessions of the device `0` than starts, or with over 1,000,000
+/// events. No trace that was read from its text is such.
+pub fn replay_trace(
+    alloc: Global,
+    image: &Image,
+    globals: Globals,
+    trace: &Trace,
+) -> Result<Verdict, AllocError>
+    requires global { are_global globals ≡ true }
+    ensures { IfOk result (λ verdict. Says (routines_of image.now) (opening_in globals trace.now) (history_of trace.now.events) verdict) }
+{
+    let (pool, starts) = match opened(alloc, trace) {
+        Ok(opened) => opened,
+        Err(error) => {
+            drop(globals);
+            return Err(error);
+        }
+    };
+    let events = trace.events();
+    let few = !starts.is_empty() && starts.len() <= ROWS_LIMIT;
+    if !few || !pool.fits(starts.len() as u32) || events.len() > HISTORY_LIMIT {
+        drop(globals);
+        drop(pool);
+        drop(starts);
+        return Err(AllocError);
+    }
+    over(alloc, image, globals, pool, starts, events)
+}
+
+// The devices and the starts of a trace.
+fn opened(alloc: Global, trace: &Trace) -> Result<(Pool<Blank>, Vec<Start>), AllocError>
+    ensures { (globals : _) → IfOk result (λ x. opening_of globals x.0 x.1.items ≡ opening_in globals trace.now) }
+{
+    let starts = starts_of(alloc, trace.starts())?;
+    match pool_of(alloc, trace.pool()) {
+        Ok(pool) => Ok((pool, starts)),
+        Err(error) => {
+            drop(starts);
+            Err(error)
+        }
+    }
+}
+
+// Starts at these entries, without values.
+fn starts_of(alloc: Global, entries: &[Entry]) -> Result<Vec<Start>, AllocError>
+    ensures { IfOk result (λ starts. starts.items ≡ map start_at entries.now) }
+{
+    let mut starts = Vec::with_capacity(alloc, entries.len())?;
+    for entry in entries {
+        starts.push(Start::new(entry.try_clone()?, Vec::new(alloc)))?;
+    }
+    Ok(starts)
+}
+
+// Replays events over an opening.
+fn over(
+    alloc: Global,
+    image: &Image,
+    globals: Globals,
+    pool: Pool<Blank>,
+    starts: Vec<Start>,
+    events: &[(u32, Ask, Reply)],
+) -> Result<Verdict, AllocError>
+    requires global { are_global globals ≡ true }
+    requires some { 1 ≤ length starts.items }
+    requires few { length starts.items ≤ rows_limit }
+    requires fits { length starts.items ≤ left_of principal pool }
+    requires short { length events.now ≤ history_limit }
+    ensures { IfOk result (λ verdict. Says (routines_of image.now) (opening_of globals pool starts.items) (history_of events.now) verdict) }
+{
+    replay::<Blank, Brand>(alloc, image, globals, pool, starts, events)
+}
