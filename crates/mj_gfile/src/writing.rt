@@ -18,16 +18,17 @@ pub fn write(alloc: Global, globals: &Globals) -> Result<Vec<u8>, AllocError>
     let mut bytes = Vec::new(alloc);
     bytes.extend_from_slice(HEADER)?;
     bytes.push(b'\n')?;
-    add_nodes(&mut bytes, globals)?;
+    let nodes = globals.nodes()?;
+    add_nodes(&mut bytes, &nodes)?;
     Ok(bytes)
 }
 
-/// Puts the lines of all names of a store that have a text to the end of some bytes.
-pub fn put_nodes(bytes: &mut Vec<u8>, globals: &Globals) -> Result<(), AllocError>
-    ensures { bytes.new.items ≡ (if is_ok result then bytes.old.items ++ listed_lines globals.now else bytes.old.items) }
+/// Puts the lines of names and their texts to the end of some bytes.
+pub fn put_nodes(bytes: &mut Vec<u8>, nodes: &[(Name, Text)]) -> Result<(), AllocError>
+    ensures { bytes.new.items ≡ (if is_ok result then bytes.old.items ++ listed_lines nodes.now else bytes.old.items) }
 {
     let before = bytes.len();
-    let added = add_nodes(bytes, globals);
+    let added = add_nodes(bytes, nodes);
     if added.is_err() {
         bytes.truncate(before);
     }
@@ -36,12 +37,11 @@ pub fn put_nodes(bytes: &mut Vec<u8>, globals: &Globals) -> Result<(), AllocErro
 
 // The same, but that after want of memory a part may stand there.
 #[tactic(auto, using(crate::proofs::Longer::begins_same, crate::proofs::Longer::begins_more, crate::proofs::Longer::begins_trans))]
-fn add_nodes(bytes: &mut Vec<u8>, globals: &Globals) -> Result<(), AllocError>
-    ensures ok { OnOk result (bytes.new.items ≡ bytes.old.items ++ listed_lines globals.now) }
+fn add_nodes(bytes: &mut Vec<u8>, nodes: &[(Name, Text)]) -> Result<(), AllocError>
+    ensures ok { OnOk result (bytes.new.items ≡ bytes.old.items ++ listed_lines nodes.now) }
     ensures kept { Begins bytes.old.items bytes.new.items }
 {
-    let nodes = globals.nodes()?;
-    for (name, text) in nodes.as_slice() {
+    for (name, text) in nodes {
         add_node(bytes, name, text)?;
     }
     Ok(())

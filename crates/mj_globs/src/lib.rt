@@ -14,3 +14,4 @@ mod words;
 
 pub use change::Change;
 pub use globals::Globals;
+pub use words::{Words, add, gather};

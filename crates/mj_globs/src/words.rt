@@ -177,8 +177,8 @@ fn name_of(word: &[u8], alloc: Global, global: bool, subscripts: Subs) -> Result
     })
 }
 
-// One word more, or another tree in place of that of the word.
-fn add(words: &mut Words, alloc: Global, word: &[u8], tree: Tree) -> Result<(), AllocError>
+/// One word more, or another tree in place of that of the word.
+pub fn add(words: &mut Words, alloc: Global, word: &[u8], tree: Tree) -> Result<(), AllocError>
     ensures ok { OnOk result (spelled words.new.entries ≡ insert_entry (slice_cmp nat_cmp) (spelled words.old.entries) word.now tree) }
     ensures err { OnErr result (spelled words.new.entries ≡ spelled words.old.entries) }
 {
