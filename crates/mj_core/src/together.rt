@@ -210,6 +210,13 @@ impl<D: Device, O: Opening> Core<D, O> {
         go_ready(&self.image, &self.system, &mut self.slots, &self.order, at)
     }
 
+    /// The routines.
+    pub fn image(&self) -> &Image
+        ensures { result.now ≡ self.now.image }
+    {
+        &self.image
+    }
+
     /// How many events there are. The history is a run, whatever steps were made.
     pub fn len(&self) -> usize
         ensures value { result ≡ length self.now.history }

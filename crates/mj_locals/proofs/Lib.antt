@@ -5,6 +5,7 @@ pub mod Marks
 pub mod At
 pub mod Names
 pub mod Content
+pub mod InOrder
 pub mod HiddenWords
 pub mod Formals
 pub mod Saved

@@ -5,6 +5,6 @@ use Rattle.mj_gfile.proofs.writing.add_nodes.Given as goal
 
 abbrev pub invariant-loop-name : goal.invariant-loop-name
 invariant-loop-name l = record {
-  all : l.bytes.items ++ listed_lines (drop l.name-index l.name-items) ≡ l.fn.bytes.items ++ listed_lines l.name-items;
+  all : l.bytes.items ++ listed_lines (drop l.name-index l.nodes) ≡ l.fn.bytes.items ++ listed_lines l.nodes;
   kept : Begins l.fn.bytes.items l.bytes.items;
 }
