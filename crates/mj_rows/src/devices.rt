@@ -1,6 +1,6 @@
 // Devices in routines: columns, rows and codes, and devices that aren't there.
 
-use crate::runs::row;
+use mj_rows_runs::row;
 use std::str;
 use std::test::Fail;
 

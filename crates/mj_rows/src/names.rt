@@ -1,6 +1,6 @@
 // Functions of variables in routines.
 
-use crate::runs::row;
+use mj_rows_runs::row;
 use std::str;
 use std::test::Fail;
 

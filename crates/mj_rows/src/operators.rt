@@ -1,6 +1,6 @@
 // Operators in routines.
 
-use crate::runs::row;
+use mj_rows_runs::row;
 use std::str;
 use std::test::Fail;
 

@@ -1,45 +1,8 @@
 // The program on routines, and on what it refuses.
 
+use mj_rows_runs::{folder, row, run_words};
 use std::test::Fail;
-use std::{env, fs, io, process, str};
-
-// A new folder for the files of a test.
-pub(crate) fn folder(rt: &HostRuntime, test: &str) -> Result<String, Fail> {
-    let id = process::id(rt.process());
-    let temporary = env::temp_dir(rt)?;
-    let above = temporary.as_str();
-    let folder = format!(in rt.alloc(); "{above}/mj_rows_{test}_{id}")?;
-    if fs::exists(rt, folder.as_str())? {
-        fs::remove_dir_all(rt, folder.as_str())?;
-    }
-    fs::create_dir_all(rt, folder.as_str())?;
-    Ok(folder)
-}
-
-// What a run printed on its two outputs, and its exit status.
-#[derive(Drop)]
-pub(crate) struct Ran {
-    pub(crate) out: Vec<u8>,
-    pub(crate) err: Vec<u8>,
-    pub(crate) status: u8,
-}
-
-pub(crate) fn run_words(rt: &HostRuntime, words: &[&str]) -> Ran {
-    let mut out = Vec::new(rt.alloc());
-    let mut err = Vec::new(rt.alloc());
-    let status = mj_main::run(rt, words, &mut io::empty(), &mut out, &mut err);
-    Ran { out, err, status }
-}
-
-// Runs a routine of these bytes from its first line.
-pub(crate) fn row(rt: &HostRuntime, test: &str, bytes: &str) -> Result<Ran, Fail> {
-    let folder = folder(rt, test)?;
-    let file = format!(in rt.alloc(); "{folder}/R.m")?;
-    fs::write(rt, file.as_str(), bytes)?;
-    let ran = run_words(rt, &["mj", "run", "--start", "^R", file.as_str()]);
-    fs::remove_dir_all(rt, folder.as_str())?;
-    Ok(ran)
-}
+use std::{fs, str};
 
 #[test]
 fn routines_run(rt: HostRuntime) -> Result<(), Fail> {

@@ -1,6 +1,6 @@
 // HANG, JOB, LOCK and `$JOB` in one job.
 
-use crate::runs::row;
+use mj_rows_runs::row;
 use std::str;
 use std::test::Fail;
 

@@ -1,7 +1,6 @@
 // Transactions: TSTART, TCOMMIT, TROLLBACK, TRESTART and BREAK, in one job and among several.
 
-use crate::many::gives;
-use crate::runs::row;
+use mj_rows_runs::{gives, row};
 use std::str;
 use std::test::Fail;
 

@@ -1,45 +1,7 @@
 // Several jobs, as the program runs them.
 
-use crate::runs::{Ran, folder, run_words};
+use mj_rows_runs::gives;
 use std::test::Fail;
-use std::{fs, str};
-
-// Steps jobs of the routine R by `mj step`: by words of options with `|` between them, and by these steps, in turn where there are none.
-fn stepped(rt: &HostRuntime, options: &str, routine: &str, steps: &str) -> Result<Ran, Fail> {
-    let folder = folder(rt, "many")?;
-    let file = format!(in rt.alloc(); "{folder}/R.m")?;
-    let list = format!(in rt.alloc(); "{folder}/steps")?;
-    fs::write(rt, file.as_str(), routine)?;
-    fs::write(rt, list.as_str(), steps)?;
-    let mut words: Vec<&str> = Vec::new(rt.alloc());
-    words.push("mj")?;
-    words.push("step")?;
-    if !steps.is_empty() {
-        words.push("--steps")?;
-        words.push(list.as_str())?;
-    }
-    for option in options.split('|') {
-        words.push(option)?;
-    }
-    words.push(file.as_str())?;
-    let ran = run_words(rt, words.as_slice());
-    fs::remove_dir_all(rt, folder.as_str())?;
-    Ok(ran)
-}
-
-// Whether jobs that are stepped so print this, and give this status.
-pub(crate) fn gives(
-    rt: &HostRuntime,
-    options: &str,
-    routine: &str,
-    steps: &str,
-    out: &str,
-    err: &str,
-    status: u8,
-) -> Result<bool, Fail> {
-    let ran = stepped(rt, options, routine, steps)?;
-    Ok(str::from_utf8(&ran.out)? == out && str::from_utf8(&ran.err)? == err && ran.status == status)
-}
 
 #[test]
 fn jobs_have_numbers_and_start_others(rt: HostRuntime) -> Result<(), Fail> {

@@ -1,6 +1,6 @@
 // Traces that are replayed.
 
-use crate::runs::{Ran, folder, run_words};
+use mj_rows_runs::{Ran, folder, run_words};
 use std::test::Fail;
 use std::{fs, str};
 

@@ -1,6 +1,6 @@
 // The examples under examples/: the same files, and what they print and leave.
 
-use crate::runs::{folder, run_words};
+use mj_rows_runs::{folder, run_words};
 use std::test::Fail;
 use std::{fs, str};
 

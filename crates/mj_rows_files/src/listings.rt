@@ -1,6 +1,6 @@
 // The listings of globals that a run begins with and leaves.
 
-use crate::runs::{folder, run_words};
+use mj_rows_runs::{folder, run_words};
 use std::fs;
 use std::test::Fail;
 

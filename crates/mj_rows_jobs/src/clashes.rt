@@ -1,7 +1,7 @@
 // SERIAL transactions of two jobs, step by step: what they ask and are told, and the blocks of that.
 
-use crate::runs::{folder, run_words};
 use mj_ask::{Ask, Reply};
+use mj_rows_runs::{folder, run_words};
 use mj_serial::{Block, serial_blocks};
 use mj_store::{Access, Answer};
 use mj_sys::Event;

@@ -1,6 +1,6 @@
 // The words of the command line: help, the version, words that are wrong, and the command `check`.
 
-use crate::runs::{folder, run_words};
+use mj_rows_runs::{folder, run_words};
 use std::test::Fail;
 use std::{fs, str};
 

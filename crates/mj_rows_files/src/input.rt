@@ -1,6 +1,6 @@
 // Standard input, and devices over files.
 
-use crate::runs::{Ran, folder, run_words};
+use mj_rows_runs::{Ran, folder, run_words};
 use std::io::{Error, ErrorKind, Read, Result as IoResult};
 use std::test::Fail;
 use std::{fs, str};

@@ -1,0 +1,11 @@
+// Rows of the whole program, as in `mj_rows`: several jobs, what their steps come to, and traces, as they are written and replayed.
+#![tactic(auto)]
+
+#[cfg(test)]
+mod clashes;
+#[cfg(test)]
+mod many;
+#[cfg(test)]
+mod replays;
+#[cfg(test)]
+mod traces;

@@ -1,0 +1,9 @@
+// Rows of single crates, as in `mj_rows_parts`: routines and traces, as they are read and refused.
+#![tactic(auto)]
+
+#[cfg(test)]
+mod grammar;
+#[cfg(test)]
+mod read_back;
+#[cfg(test)]
+mod reading;

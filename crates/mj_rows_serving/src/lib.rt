@@ -1,0 +1,7 @@
+// Rows of single crates, as in `mj_rows_parts`: what jobs share, served event by event, and the blocks of a history.
+#![tactic(auto)]
+
+#[cfg(test)]
+mod serial;
+#[cfg(test)]
+mod serving;
