@@ -4,3 +4,5 @@ pub mod Sorted
 pub mod Looks
 pub mod Same
 pub mod Laid
+pub mod Firsts
+pub mod Stands

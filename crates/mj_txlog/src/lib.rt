@@ -8,9 +8,11 @@
 #![tactic(auto)]
 
 mod answers;
+mod below;
 mod entry;
 mod log;
 mod names;
+mod next;
 mod overlay;
 mod sight;
 
