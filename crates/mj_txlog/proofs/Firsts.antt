@@ -33,12 +33,12 @@ pub not_both : {A : Type 0} (b : Bool) → b ≡ true → b ≡ false → A
 not_both true e f = absurd cc
 not_both false e f = absurd cc
 
-lt_is : (r : Ordering) → is_lt r ≡ true → r ≡ Less
+pub lt_is : (r : Ordering) → is_lt r ≡ true → r ≡ Less
 lt_is Less e = refl
 lt_is Equal e = absurd cc
 lt_is Greater e = absurd cc
 
-eq_is : (r : Ordering) → is_eq r ≡ true → r ≡ Equal
+pub eq_is : (r : Ordering) → is_eq r ≡ true → r ≡ Equal
 eq_is Less e = absurd cc
 eq_is Equal e = refl
 eq_is Greater e = absurd cc
@@ -69,10 +69,10 @@ module _ {K : Type 0} (Q : K → K → Ordering) (o : IsTotalOrder Q) (same : Is
   lt_trans : (x y z : K) → is_lt (Q x y) ≡ true → is_lt (Q y z) ≡ true → is_lt (Q x z) ≡ true
   lt_trans x y z p q = ap is_lt (o.trans x y z (lt_is (Q x y) p) (lt_is (Q y z) q))
 
-  lt_asym : (x y : K) → is_lt (Q x y) ≡ true → is_lt (Q y x) ≡ false
+  pub lt_asym : (x y : K) → is_lt (Q x y) ≡ true → is_lt (Q y x) ≡ false
   lt_asym x y p = ap is_lt (o.antisymm y x ∙ ap ordering_reverse (lt_is (Q x y) p))
 
-  lt_not : (x y : K) → is_lt (Q x y) ≡ false → (x ≡ y) ⊎ (is_lt (Q y x) ≡ true)
+  pub lt_not : (x y : K) → is_lt (Q x y) ≡ false → (x ≡ y) ⊎ (is_lt (Q y x) ≡ true)
   lt_not x y p =
       elim (Q x y) as (λ r. Q x y ≡ r → is_lt r ≡ false → (x ≡ y) ⊎ (is_lt (Q y x) ≡ true)) [
         | Less ↦ λ e f. absurd cc
@@ -107,33 +107,33 @@ module _ {K : Type 0} (Q : K → K → Ordering) (o : IsTotalOrder Q) (same : Is
 
   module _ (test : K → Bool) where
     one_kept : (has : K → Bool) (acc : Option K) (x : K) → test x ≡ false → IsNext Q has test acc → IsNext Q (λ u. has u || is_eq (Q u x)) test acc
-    one_kept has None x no h = λ u y. elim (either_true (has u) (is_eq (Q u x)) y) [
+    one_kept has None x fails h = λ u y. elim (either_true (has u) (is_eq (Q u x)) y) [
       | inl e ↦ h u e
-      | inr e ↦ ap test (same u x (eq_is (Q u x) e)) ∙ no
+      | inr e ↦ ap test (same u x (eq_is (Q u x) e)) ∙ fails
     ]
-    one_kept has (Some t) x no h = (
+    one_kept has (Some t) x fails h = (
       first_true (has t) (is_eq (Q t x)) h.0,
       h.1,
       λ u y z. elim (either_true (has u) (is_eq (Q u x)) y) [
         | inl e ↦ h.2 u e z
-        | inr e ↦ not_both (test u) z (ap test (same u x (eq_is (Q u x) e)) ∙ no)
+        | inr e ↦ not_both (test u) z (ap test (same u x (eq_is (Q u x) e)) ∙ fails)
       ],
     )
 
     one_more : (has : K → Bool) (acc : Option K) (x : K) → test x ≡ true → IsNext Q has test acc → IsNext Q (λ u. has u || is_eq (Q u x)) test (first_of Q acc x)
-    one_more has None x yes h = (
+    one_more has None x passes h = (
       second_true (has x) (is_eq (Q x x)) (ap is_eq (tied_itself o x)),
-      yes,
+      passes,
       λ u y z. elim (either_true (has u) (is_eq (Q u x)) y) [
         | inl e ↦ not_both (test u) z (h u e)
         | inr e ↦ ap is_lt (eq_is (Q u x) e)
       ],
     )
-    one_more has (Some t) x yes h =
+    one_more has (Some t) x passes h =
         elim (is_lt (Q x t)) as (λ b. is_lt (Q x t) ≡ b → IsNext Q (λ u. has u || is_eq (Q u x)) test (cond b (Some x) (Some t))) [
           | true ↦ λ b. (
             second_true (has x) (is_eq (Q x x)) (ap is_eq (tied_itself o x)),
-            yes,
+            passes,
             λ u y z. elim (either_true (has u) (is_eq (Q u x)) y) [
               | inl e ↦ not_before x t u (lt_asym x t b) (h.2 u e z)
               | inr e ↦ ap is_lt (eq_is (Q u x) e)

@@ -12,7 +12,7 @@ use Rattle.mj_store.specs.Changes.{followed_by}
 use Rattle.mj_txlog.specs.Accesses.{front_of}
 
 -- a value that is there only where a test passes
-taken_so : {A : Type 0} (b : Bool) (r : Option A) (a : A) → cond b r None ≡ Some a → (b ≡ true) × (r ≡ Some a)
+pub taken_so : {A : Type 0} (b : Bool) (r : Option A) (a : A) → cond b r None ≡ Some a → (b ≡ true) × (r ≡ Some a)
 taken_so true r a e = (refl, e)
 taken_so false r a e = absurd cc
 
@@ -38,24 +38,24 @@ bytes_itself : (s : List ℕ) → bytes_eq s s ≡ true
 bytes_itself s = (bytes_eq-Decides s s).1 refl
 
 -- subscripts that tie are the same
-ties_same : (s t : List ℕ) → eq_by_cmp subscript_cmp s t ≡ true → s ≡ t
+pub ties_same : (s t : List ℕ) → eq_by_cmp subscript_cmp s t ≡ true → s ≡ t
 ties_same s t e = (bytes_eq-Decides s t).0 (bytes_eq-subscript_cmp s t ∙ e)
 
-tie_itself : (s : List ℕ) → eq_by_cmp subscript_cmp s s ≡ true
+pub tie_itself : (s : List ℕ) → eq_by_cmp subscript_cmp s s ≡ true
 tie_itself s = sym (bytes_eq-subscript_cmp s s) ∙ bytes_itself s
 
-front_split : (p q l : List (List ℕ)) → after_front subscript_cmp p q ≡ Some l → p ++ l ≡ q
+pub front_split : (p q l : List (List ℕ)) → after_front subscript_cmp p q ≡ Some l → p ++ l ≡ q
 front_split [] q l e = sym (cc)
 front_split (s ∷ p) [] l e = absurd cc
 front_split (s ∷ p) (t ∷ q) l e =
     let h = taken_so (eq_by_cmp subscript_cmp s t) (after_front subscript_cmp p q) l e in
     λ i. ties_same s t h.0 i ∷ front_split p q l h.1 i
 
-front_itself : (p : List (List ℕ)) → after_front subscript_cmp p p ≡ Some []
+pub front_itself : (p : List (List ℕ)) → after_front subscript_cmp p p ≡ Some []
 front_itself [] = refl
 front_itself (s ∷ p) = ap (λ b. cond b (after_front subscript_cmp p p) None) (tie_itself s) ∙ front_itself p
 
-front_more : (p l : List (List ℕ)) → after_front subscript_cmp p (p ++ l) ≡ Some l
+pub front_more : (p l : List (List ℕ)) → after_front subscript_cmp p (p ++ l) ≡ Some l
 front_more [] l = refl
 front_more (s ∷ p) l = ap (λ b. cond b (after_front subscript_cmp p (p ++ l)) None) (tie_itself s) ∙ front_more p l
 

@@ -6,3 +6,4 @@ pub mod Same
 pub mod Laid
 pub mod Firsts
 pub mod Stands
+pub mod Walks

@@ -14,6 +14,7 @@ mod log;
 mod names;
 mod next;
 mod overlay;
+mod query;
 mod sight;
 
 pub use answers::{copy_of, copy_of_nodes, is_same};

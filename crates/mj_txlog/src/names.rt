@@ -1,10 +1,10 @@
 // Lists of names, and names with other subscripts.
 
-ghost use Rattle.std.specs.Prelude.{◌≡◌, ◌++◌, ◌∷◌, [], if◌then◌else◌, is_ok, IfOk, OnOk};
+ghost use Rattle.std.specs.Prelude.{◌≡◌, ◌<◌, ◌++◌, ◌∷◌, [], if◌then◌else◌, is_ok, length, IfOk, OnOk};
 ghost use Rattle.mj_store.specs.Questions.{with_subscripts};
 ghost use Rattle.mj_store.specs.Changes.{followed_by};
 
-use mj_subs::{Name, Sub, Subs};
+use mj_subs::{Name, SUBSCRIPT_LIMIT, Sub, Subs};
 use std::alloc::{AllocError, Global};
 use std::marker::Model;
 
@@ -95,10 +95,14 @@ fn subs_of(alloc: Global, list: &[Sub]) -> Result<Subs, AllocError>
     Ok(subs)
 }
 
-// The name with one subscript more, of which it then has no more than a name can have.
+// The name with one subscript more, for which there is room.
 pub(crate) fn with_one(alloc: Global, name: &Name, sub: &Sub) -> Result<Name, AllocError>
-    ensures { IfOk result (λ n. n ≡ followed_by name.now (sub.now ∷ [])) }
+    ensures value { IfOk result (λ n. n ≡ followed_by name.now (sub.now ∷ [])) }
+    ensures room { IfOk result (λ n. length name.now.subscripts < SUBSCRIPT_LIMIT) }
 {
+    if SUBSCRIPT_LIMIT <= name.subscripts().len() {
+        return Err(AllocError);
+    }
     let word = name.word().try_clone()?;
     let mut subscripts = subs_of(alloc, name.subscripts().as_slice())?;
     add_one(&mut subscripts, sub)?;
@@ -109,7 +113,7 @@ pub(crate) fn with_one(alloc: Global, name: &Name, sub: &Sub) -> Result<Name, Al
     })
 }
 
-// The name with more subscripts, likewise.
+// The name with more subscripts, for which there is room.
 pub(crate) fn followed(alloc: Global, name: &Name, more: &Subs) -> Result<Name, AllocError>
     ensures { IfOk result (λ n. n ≡ followed_by name.now more.now) }
 {

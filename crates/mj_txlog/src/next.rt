@@ -3,9 +3,9 @@
 // The own texts are all seen. So of two subscripts, the next one among them and the next one in the globals below which something is left of the
 // own kills, the first is the answer. One of the globals below which nothing is left is passed over, whatever stood below it.
 
-ghost use Rattle.std.specs.Prelude.{◌≡◌, ◌∷◌, [], not, nat_eq, IfOk, option_map};
-ghost use Rattle.std.specs.Ordering.{is_lt};
+ghost use Rattle.std.specs.Prelude.{◌≡◌, ◌∷◌, [], not, nat_eq, nat_lt, IfOk};
 ghost use Rattle.mj_subs.specs.Collation.{subscript_cmp};
+ghost use Rattle.mj_store.specs.declared.store.Direction.TheVariants as way;
 ghost use Rattle.mj_store.specs.Nodes.{along};
 ghost use Rattle.mj_store.specs.Questions.{order_at, data_at};
 ghost use Rattle.mj_store.specs.Changes.{followed_by};
@@ -36,6 +36,9 @@ pub(crate) fn next_below(
 {
     if front.subscripts().len() < SUBSCRIPT_LIMIT {
         let mine = next_in(own.over(), front, from, way)?;
+        if own.went(front)? {
+            return Ok(mine);
+        }
         let mut at = from.try_clone()?;
         for _ in 0..ACCESS_LIMIT {
             let next = match next_in(globals, front, &at, way)? {
@@ -56,8 +59,17 @@ pub(crate) fn next_below(
             }
             at = next;
         }
+    } else if is_leaf(own.over(), front) && is_leaf(globals, front) {
+        return Ok(None);
     }
     next_copied(globals, own, front, from, way)
+}
+
+// Whether nothing stands below a name.
+fn is_leaf(store: &Globals, name: &Name) -> bool
+    ensures { result ≡ nat_lt (data_at store.now name.now) 10 }
+{
+    store.data(name) < 10
 }
 
 // Whether a text stands at the name or below it.
@@ -77,9 +89,21 @@ pub(crate) fn stands(globals: &Globals, own: &Overlay, name: &Name) -> Result<bo
     if globals.value(name).is_some() {
         return Ok(true);
     }
-    let first = Sub::from_text(Text::new(globals.allocator()));
-    let next = next_below(globals, own, name, &first, Direction::Forward)?;
+    let blank = Sub::from_text(Text::new(globals.allocator()));
+    let next = next_below(globals, own, name, &blank, Direction::Forward)?;
     Ok(next.is_some())
+}
+
+// The first subscript below a name.
+pub(crate) fn first_sub(
+    globals: &Globals,
+    own: &Overlay,
+    name: &Name,
+) -> Result<Option<Sub>, AllocError>
+    ensures { IfOk result (λ next. (es : Accesses) → IsLaid own.now es → next ≡ order_at (seen globals.now es) (followed_by name.now ([] ∷ [])) way.Forward) }
+{
+    let blank = Sub::from_text(Text::new(globals.allocator()));
+    next_below(globals, own, name, &blank, Direction::Forward)
 }
 
 // The same, where what stands below the name is copied.

@@ -4,7 +4,7 @@
 // `$ORDER`, and on the whole word for `$QUERY`.
 
 ghost use Rattle.std.specs.Prelude.{◌≡◌, false, IfOk};
-ghost use Rattle.mj_store.specs.Questions.{with_subscripts, value_at, order_at};
+ghost use Rattle.mj_store.specs.Questions.{with_subscripts, value_at, data_at, order_at};
 ghost use Rattle.mj_store.specs.Runs.{answer_of};
 ghost use Rattle.mj_txlog.specs.Accesses.{Accesses, is_write, seen, front_of};
 ghost use Rattle.mj_txlog.specs.Sight.{reach_of};
@@ -13,8 +13,9 @@ ghost use Rattle.mj_txlog.specs.Laid.{IsLaid};
 use crate::below::seen_below;
 use crate::entry::Entry;
 use crate::names::cut_to;
-use crate::next::next_below;
+use crate::next::{first_sub, next_below};
 use crate::overlay::{Overlay, data_either};
+use crate::query::query;
 use mj_globs::Globals;
 use mj_store::{Access, Answer, Direction, Store};
 use mj_subs::{Name, Sub};
@@ -82,9 +83,29 @@ fn answer_at(
             own.over().data(name),
             globals.data(name),
         ))),
+        Access::Data(name) => Ok(Answer::Data(data(globals, own, name)?)),
         Access::Order(name, way) => Ok(Answer::Order(order(globals, own, name, *way, reach)?)),
+        Access::Query(name) => match query(globals, own, name)? {
+            Some(next) => Ok(Answer::Query(next)),
+            None => answer_among(globals, own, read, reach),
+        },
         _ => answer_among(globals, own, read, reach),
     }
+}
+
+// Whether a text stands at the name, and whether one stands below it.
+fn data(globals: &Globals, own: &Overlay, name: &Name) -> Result<u8, AllocError>
+    ensures { IfOk result (λ d. (es : Accesses) → IsLaid own.now es → d ≡ data_at (seen globals.now es) name.now) }
+{
+    let mut digits = 0;
+    if own.is_text(globals, name)? {
+        digits += 1;
+    }
+    let below = first_sub(globals, own, name)?;
+    if below.is_some() {
+        digits += 10;
+    }
+    Ok(digits)
 }
 
 // The next subscript in place of the name's last one.
