@@ -7,5 +7,5 @@ pub mod Laid
 pub mod Firsts
 pub mod Stands
 pub mod Walks
-pub mod Below
+pub mod Kept
 pub mod Nexts

@@ -1,16 +1,21 @@
 -- What stands next among what is seen, by what stands next of the own texts and of the globals.
-use Rattle.std.proofs.Common.{◌≡◌, ℕ, Bool, true, false, ◌||◌, List, [], ◌∷◌, Option, Some, None, sym, ◌∙◌, subst}
+use Rattle.std.proofs.Common.{◌≡◌, ℕ, Bool, true, false, not, nat_eq, ◌||◌, List, [], ◌∷◌, Option, Some, None, ◌⊎◌, refl, sym, ap, ◌∙◌, subst}
+use Rattle.std.specs.Prelude.{T, ◌↔◌, IsTrue}
+use Rattle.std.specs.FinMap.{is_sorted}
 use Rattle.std.specs.Ordering.{is_lt}
 use Rattle.mj_subs.specs.Name.{Name}
-use Rattle.mj_subs.specs.Collation.{subscript_cmp}
+use Rattle.mj_subs.specs.Collation.{subscript_cmp, name_cmp}
 use Rattle.mj_store.specs.declared.store.Direction.{Direction}
-use Rattle.mj_store.specs.Nodes.{is_empty, along}
-use Rattle.mj_store.specs.Questions.{Content, order_at}
+use Rattle.mj_store.specs.Nodes.{is_empty, along, next_past, first_subscripts}
+use Rattle.mj_store.specs.Questions.{Content, Subtree, data_at, order_at}
 use Rattle.mj_store.specs.Changes.{followed_by}
 use Rattle.mj_txlog.specs.Accesses.{Accesses, seen}
 use Rattle.mj_txlog.specs.Laid.{Laid, IsLaid, is_before}
-use Rattle.mj_txlog.proofs.Firsts.{IsNext, IsPast, none_past, only_next, own_alone, own_first, other_first, passed, past_on}
-use Rattle.mj_txlog.proofs.Stands.{stands, is_past, level, along_total, along_same, order_next, own_stands, seen_stands}
+use Rattle.mj_txlog.proofs.Firsts.{IsNext, IsPast, none_past, only_next, own_alone, own_first, other_first, passed, past_on, not_both}
+use Rattle.mj_txlog.specs.Sight.{AreAlike}
+use Rattle.mj_txlog.proofs.Looks.{subtree_alike}
+use Rattle.mj_txlog.proofs.Sorted.{rises_seen}
+use Rattle.mj_txlog.proofs.Stands.{stands, data_stands, is_past, level, along_total, along_same, order_level, order_next, own_stands, seen_stands}
 
 -- from the one subscript to the other, what stands in the globals isn't to be seen
 abbrev pub ArePassed : Content → Content → Name → Direction → List ℕ → List ℕ → Type 0
@@ -23,7 +28,7 @@ module _ (o : Laid) (es : Accesses) (laid : IsLaid o es) (g : Content) (f : Name
   up : (u : List ℕ) → level o.over f u ≡ true → level (seen g es) f u ≡ true
   up u = own_stands o es laid g (followed_by f (u ∷ []))
 
-  down : (u : List ℕ) → level (seen g es) f u ≡ true → _
+  down : (u : List ℕ) → level (seen g es) f u ≡ true → (level o.over f u ≡ true) ⊎ (level g f u ≡ true)
   down u = seen_stands o es laid g (followed_by f (u ∷ []))
 
   -- the next one of those that are seen
@@ -56,3 +61,22 @@ module _ (o : Laid) (es : Accesses) (laid : IsLaid o es) (g : Content) (f : Name
       subst (λ (b : Bool). IsPast (along way subscript_cmp) (is_past way s) (λ v. b || is_lt (along way subscript_cmp u v)) (level g f) (level (seen g es) f)) (sym full)
       (passed (along way subscript_cmp) (along_total way) (along_same way) (is_past way s) (is_past way t) (level o.over f) (level g f) (level (seen g es) f) up down past u (other_next (Some u) k) none
       (λ v x y. past_on (along way subscript_cmp) (along_total way) (along_same way) (is_empty s) s u v x y))
+
+-- $ORDER of a store that is as what is seen, at a name and below it
+pub copied_order : (f : Name) (s : List ℕ) (way : Direction) (below g : Content) (es : Accesses) → T (is_sorted name_cmp below) → T (is_sorted name_cmp g) → AreAlike f below (seen g es) → order_at below (followed_by f (s ∷ [])) way ≡ order_at (seen g es) (followed_by f (s ∷ [])) way
+copied_order f s way below g es h k alike =
+    order_level below f s way
+    ∙ ap (λ (nodes : Subtree). next_past subscript_cmp way (is_empty s) s (first_subscripts nodes)) (subtree_alike f below (seen g es) h (rises_seen g es k) alike)
+    ∙ sym (order_level (seen g es) f s way)
+
+-- a subscript that isn't blank, as the crate below says it
+pub full_so : (b : Bool) (s : List ℕ) → (IsTrue b ↔ (s ≡ [])) → b ≡ false → is_empty s ≡ false
+full_so b [] h e = not_both b (h.1 refl) e
+full_so b (x ∷ s) h e = refl
+
+-- $DATA says whether something stands
+pub said : (c : Content) (n : Name) (b : Bool) → stands c n ≡ b → b ≡ not (nat_eq (data_at c n) 0)
+said c n b e = sym (data_stands c n ∙ e)
+
+pub told : (c : Content) (n : Name) (b r : Bool) → r ≡ not (nat_eq (data_at c n) 0) → r ≡ b → stands c n ≡ b
+told c n b r e k = sym (data_stands c n) ∙ sym e ∙ k

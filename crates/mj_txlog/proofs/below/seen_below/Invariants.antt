@@ -1,5 +1,5 @@
 use Rattle.std.proofs.Common.{◌≡◌, take, []}
-use Rattle.mj_txlog.proofs.Below.{kept}
+use Rattle.mj_txlog.proofs.Kept.{kept}
 use Rattle.mj_txlog.proofs.below.seen_below.Given as goal
 
 -- what is kept of the nodes so far
