@@ -1,5 +1,5 @@
 -- Names that stand at a name or below it.
-use Rattle.std.proofs.Common.{◌≡◌, ℕ, ◌-◌, ◌<◌, Bool, true, false, cond, ◌&&◌, List, [], ◌∷◌, ◌++◌, length, take, Option, Some, None, refl, sym, ap, ◌∙◌, subst, arith}
+use Rattle.std.proofs.Common.{◌≡◌, ℕ, ◌-◌, ◌<◌, ◌≤◌, Bool, true, false, cond, ◌&&◌, List, [], ◌∷◌, ◌++◌, length, take, get_or, Option, Some, None, refl, sym, ap, ◌∙◌, subst, arith}
 use Rattle.std.specs.Ordering.{eq_by_cmp}
 use Rattle.std.specs.Str.{bytes_eq}
 use Rattle.std.proofs.lemmas.Slice.Eq.{bytes_eq-Decides}
@@ -107,3 +107,16 @@ but_last_take s (t ∷ p) = ap (λ (ts : List (List ℕ)). s ∷ ts) (but_last_t
 pub front_of_take : (p : List (List ℕ)) → 0 < length p → take (length p - 1) p ≡ front_of p
 front_of_take [] h = absurd (omega arith)
 front_of_take (s ∷ p) h = ap (λ (k : ℕ). take k (s ∷ p)) {x = length (s ∷ p) - 1} {y = length p} (omega arith) ∙ but_last_take s p
+
+-- the last one after them
+last_at : (s : List ℕ) (p : List (List ℕ)) (x : List ℕ) → x ≡ get_or (s ∷ p) (length p) x → but_last s p ++ x ∷ [] ≡ s ∷ p
+last_at s [] x e = ap (λ (u : List ℕ). u ∷ []) e
+last_at s (t ∷ p) x e = ap (λ (ts : List (List ℕ)). s ∷ ts) (last_at t p x e)
+
+pub front_last : (p : List (List ℕ)) (x : List ℕ) → 1 ≤ length p → x ≡ get_or p (length p - 1) x → front_of p ++ x ∷ [] ≡ p
+front_last [] x h e = absurd (omega (arith, h))
+front_last (s ∷ p) x h e = last_at s p x (e ∙ ap (λ (k : ℕ). get_or (s ∷ p) k x) {x = length (s ∷ p) - 1} {y = length p} (omega arith))
+
+pub none_in : (p : List (List ℕ)) → length p < 1 → p ≡ []
+none_in [] h = refl
+none_in (s ∷ p) h = absurd (omega (arith, h))

@@ -77,14 +77,14 @@ fn is_leaf(store: &Globals, name: &Name) -> bool
 pub(crate) fn stands(globals: &Globals, own: &Overlay, name: &Name) -> Result<bool, AllocError>
     ensures { IfOk result (λ b. (es : Accesses) → IsLaid own.now es → b ≡ not (nat_eq (data_at (seen globals.now es) name.now) 0)) }
 {
-    if own.over().data(name) != 0 {
+    if is_any(own.over(), name) {
         return Ok(true);
     }
     if own.went(name)? {
         return Ok(false);
     }
     if !own.is_any_gone(name) {
-        return Ok(globals.data(name) != 0);
+        return Ok(is_any(globals, name));
     }
     if globals.value(name).is_some() {
         return Ok(true);
@@ -92,6 +92,13 @@ pub(crate) fn stands(globals: &Globals, own: &Overlay, name: &Name) -> Result<bo
     let blank = Sub::from_text(Text::new(globals.allocator()));
     let next = next_below(globals, own, name, &blank, Direction::Forward)?;
     Ok(next.is_some())
+}
+
+// Whether a text stands at a name of one store, or below it.
+fn is_any(store: &Globals, name: &Name) -> bool
+    ensures { result ≡ not (nat_eq (data_at store.now name.now) 0) }
+{
+    store.data(name) != 0
 }
 
 // The first subscript below a name.

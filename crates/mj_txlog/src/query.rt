@@ -92,8 +92,10 @@ fn first_beside(
 {
     match next_below(globals, own, front, last, Direction::Forward)? {
         None => first_past(globals, own, front),
-        Some(sub) if sub.is_empty() => Ok(None),
         Some(sub) => {
+            if sub.is_empty() {
+                return Ok(None);
+            }
             let beside = with_one(globals.allocator(), front, &sub)?;
             let found = first_within(globals, own, &beside);
             drop(beside);

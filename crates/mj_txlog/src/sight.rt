@@ -3,7 +3,7 @@
 // A read depends on what stands at one name and below it: at the name itself for a text, `$DATA` and a subtree, one level above it for
 // `$ORDER`, and on the whole word for `$QUERY`.
 
-ghost use Rattle.std.specs.Prelude.{◌≡◌, false, IfOk};
+ghost use Rattle.std.specs.Prelude.{◌≡◌, ◌+◌, false, cond, IfOk};
 ghost use Rattle.mj_store.specs.Questions.{with_subscripts, value_at, data_at, order_at};
 ghost use Rattle.mj_store.specs.Runs.{answer_of};
 ghost use Rattle.mj_txlog.specs.Accesses.{Accesses, is_write, seen, front_of};
@@ -97,15 +97,22 @@ fn answer_at(
 fn data(globals: &Globals, own: &Overlay, name: &Name) -> Result<u8, AllocError>
     ensures { IfOk result (λ d. (es : Accesses) → IsLaid own.now es → d ≡ data_at (seen globals.now es) name.now) }
 {
-    let mut digits = 0;
-    if own.is_text(globals, name)? {
-        digits += 1;
-    }
+    let here = own.is_text(globals, name)?;
     let below = first_sub(globals, own, name)?;
-    if below.is_some() {
-        digits += 10;
-    }
+    let digits = digits_of(here, below.is_some());
     Ok(digits)
+}
+
+// `$DATA` of a name with a text there, and with one below it.
+fn digits_of(here: bool, below: bool) -> u8
+    ensures { result ≡ cond here 1 0 + cond below 10 0 }
+{
+    match (here, below) {
+        (false, false) => 0,
+        (true, false) => 1,
+        (false, true) => 10,
+        (true, true) => 11,
+    }
 }
 
 // The next subscript in place of the name's last one.

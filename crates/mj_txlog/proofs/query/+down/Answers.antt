@@ -16,7 +16,7 @@ first_below-returns-in_ok-child-in-Some t c = IfOk-weaker c.first_within-found.r
     (λ next h es laid.
     let sees = seen c.args.globals.now es in
     h es laid
-    ∙ ap (λ (k : Name). first_in sees k (is_within k.subscripts)) c.in_ok-child.ensures.value
+    ∙ ap (λ (k : Name). first_in sees k (is_within k.subscripts)) c.in_ok-child-in-Some.ensures.value
     ∙ first_below sees c.args.name.now c.in-Some.sub (sym (c.in_ok-first_sub.ensures es laid) ∙ c.in-Some.is))
     c.first_within-found.ensures
 

@@ -1,11 +1,12 @@
-use Rattle.std.proofs.Common.{rules, ◌≡◌, false, IfOk, ℕ, ◌+◌, ◌-◌, ◌*◌, ◌<◌, ◌≤◌, length, ◌/◌, ◌%◌, Bool, true, nat_eq, nat_lt, List, [], ◌∷◌, ◌++◌, slice_index_or, slice_set, bit_and, bit_or, Fits, w8, w32, w64, Bor, MutBor}
-use Rattle.mj_store.specs.Questions.{with_subscripts, value_at, data_at, order_at}
-use Rattle.mj_store.specs.Runs.{answer_of}
-use Rattle.mj_txlog.specs.Accesses.{Accesses, is_write, seen, front_of}
-use Rattle.mj_txlog.specs.Sight.{reach_of}
-use Rattle.mj_txlog.specs.Laid.{IsLaid}
+use Rattle.std.proofs.Common.{◌≡◌, ◌+◌, cond, sym, ap, ◌∙◌}
+use Rattle.std.specs.Option.{is_some}
+use Rattle.mj_store.specs.declared.store.Direction.TheVariants as way
+use Rattle.mj_txlog.specs.Accesses.{seen}
+use Rattle.mj_txlog.proofs.Stands.{data_split}
 use Rattle.mj_txlog.proofs.sight.data.Goals as goal
 
--- src/sight.rt:97:1
 pub returns : goal.returns
-returns c = ?
+returns c es laid =
+    let here = c.in_ok-here.ensures ∙ sym (ap is_some (laid c.args.name.now c.args.globals.now)) in
+    let below = c.is_some.ensures ∙ ap is_some (c.in_ok-below.ensures es laid) in
+    c.digits_of-digits.ensures ∙ (λ i. cond (here i) 1 0 + cond (below i) 10 0) ∙ sym (data_split (seen c.args.globals.now es) c.args.name.now way.Forward)
