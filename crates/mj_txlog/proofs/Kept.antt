@@ -7,7 +7,7 @@ use Rattle.std.specs.List.{fold}
 use Rattle.std.specs.Option.{option_or}
 use Rattle.mj_subs.specs.Name.{Name}
 use Rattle.mj_subs.specs.Collation.{name_cmp}
-use Rattle.mj_store.specs.Questions.{Content, Subtree, rest_of, value_at, subtree_at}
+use Rattle.mj_store.specs.Questions.{Content, Subtree, rest_of, subtree_at}
 use Rattle.mj_store.specs.Changes.{after_set, after_put, followed_by}
 use Rattle.mj_txlog.specs.Accesses.{Accesses, seen}
 use Rattle.mj_txlog.specs.Sight.{AreAlike}

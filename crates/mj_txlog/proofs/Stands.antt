@@ -18,10 +18,9 @@ use Rattle.mj_store.specs.Nodes.{is_empty, but_last, last_of, after_front, along
 use Rattle.mj_store.specs.Questions.{Content, Subtree, same_word, with_subscripts, rest_of, value_at, data_at, subtree_at, order_at, order_under}
 use Rattle.mj_store.specs.Changes.{followed_by}
 use Rattle.mj_txlog.specs.Accesses.{Accesses, seen}
-use Rattle.mj_txlog.specs.Laid.{Laid, went, IsLaid, is_before}
-use Rattle.mj_txlog.specs.Sight.{AreAlike}
-use Rattle.mj_txlog.proofs.Fronts.{rest_split, rest_itself, rest_followed}
-use Rattle.mj_txlog.proofs.Firsts.{among, IsNext, IsPast, next_like, none_past, only_next, least_next, own_alone, own_first, other_first, passed, past_on, either_true, not_both}
+use Rattle.mj_txlog.specs.Laid.{Laid, went, IsLaid}
+use Rattle.mj_txlog.proofs.Fronts.{rest_split, rest_followed}
+use Rattle.mj_txlog.proofs.Firsts.{among, IsNext, next_like, only_next, least_next, not_both}
 use Rattle.mj_txlog.proofs.Laid.{went_below, clear_below, here_in, below_in, found_here}
 
 -- whether a text stands at the name or below it

@@ -1,5 +1,5 @@
 -- The first text below a name, and the first past it and all below it.
-use Rattle.std.proofs.Common.{◌≡◌, ℕ, Bool, true, false, cond, not, ◌&&◌, ◌||◌, List, [], ◌∷◌, ◌++◌, map, Option, Some, None, ◌⊎◌, inl, inr, refl, sym, ap, ◌∙◌, subst}
+use Rattle.std.proofs.Common.{◌≡◌, ℕ, Bool, true, false, cond, ◌&&◌, ◌||◌, List, [], ◌∷◌, ◌++◌, map, Option, Some, None, inl, inr, refl, sym, ap, ◌∙◌, subst}
 use Rattle.std.specs.declared.cmp.Ordering.{Ordering}
 use Rattle.std.specs.declared.cmp.Ordering.TheVariants.{Less, Equal, Greater}
 use Rattle.std.specs.Ordering.{is_eq, is_lt, eq_by_cmp, ordering_then}
@@ -16,7 +16,7 @@ use Rattle.mj_subs.specs.Laws.Total.{subscript_cmp_total, name_cmp_total}
 use Rattle.mj_subs.specs.Laws.Ties.{subscript_cmp-IsAntisymmetric, name_cmp-IsAntisymmetric}
 use Rattle.mj_store.specs.declared.store.Direction.TheVariants.{Forward}
 use Rattle.mj_store.specs.Nodes.{is_empty, after_front, least}
-use Rattle.mj_store.specs.Questions.{Content, Subtree, with_subscripts, rest_of, value_at, subtree_at, order_at, query_at}
+use Rattle.mj_store.specs.Questions.{Content, with_subscripts, rest_of, value_at, subtree_at, order_at, query_at}
 use Rattle.mj_store.specs.Changes.{followed_by}
 use Rattle.mj_txlog.specs.Walks.{first_in, is_filled, is_within, is_below, is_beyond}
 use Rattle.mj_txlog.proofs.Fronts.{taken_so, ties_same, tie_itself, front_split, front_itself, front_more, rest_split, rest_followed}

@@ -1,13 +1,10 @@
-use Rattle.std.proofs.Common.{rules, ◌≡◌, ℕ, Bool, true, false, not, nat_eq, nat_lt, List, [], ◌∷◌, Some, None, sym, ap, ◌∙◌, subst}
+use Rattle.std.proofs.Common.{rules, ◌≡◌, ℕ, true, false, nat_lt, List, [], ◌∷◌, sym, ap, ◌∙◌, subst}
 use Rattle.std.specs.Option.{is_some}
-use Rattle.std.proofs.lemmas.Result.{IfOk-weaker}
-use Rattle.mj_subs.specs.Name.{Name}
 use Rattle.mj_store.specs.declared.store.Direction.TheVariants as way
 use Rattle.mj_store.specs.Nodes.{is_empty}
 use Rattle.mj_store.specs.Questions.{Content, value_at, order_at, data_at}
 use Rattle.mj_store.specs.Changes.{followed_by}
 use Rattle.mj_txlog.specs.Accesses.{seen}
-use Rattle.mj_txlog.specs.Laid.{went}
 use Rattle.mj_txlog.proofs.Laid.{none_gone}
 use Rattle.mj_txlog.proofs.Stands.{stands, data_stands, own_stands, gone_stands, clear_stands, text_stands, no_text, below_stands, leaf_order, gone_order}
 use Rattle.mj_txlog.proofs.Nexts.{ArePassed, none_passed, own_only, own_sooner, other_sooner, one_passed, full_so, said, told}

@@ -1,4 +1,4 @@
-use Rattle.std.proofs.Common.{◌≡◌, ◌+◌, cond, sym, ap, ◌∙◌}
+use Rattle.std.proofs.Common.{◌+◌, cond, sym, ap, ◌∙◌}
 use Rattle.std.specs.Option.{is_some}
 use Rattle.mj_store.specs.declared.store.Direction.TheVariants as way
 use Rattle.mj_txlog.specs.Accesses.{seen}
