@@ -49,10 +49,10 @@ module _ (m : Name) where
   find_killed : (c : Content) (n : Name) → find name_cmp m (after_kill c n) ≡ cond (is_none (rest_of n m)) (find name_cmp m c) None
   find_killed c n = find-where_key name_cmp (λ k. is_none (rest_of n k)) m (λ x e. ap (λ k. is_none (rest_of n k)) (sym (name_cmp-IsAntisymmetric m x e))) c
 
-  find_set : (c : Content) (n : Name) (v : List ℕ) → find name_cmp m (after_set c n v) ≡ cond (eq_by_cmp name_cmp m n) (Some v) (find name_cmp m c)
+  pub find_set : (c : Content) (n : Name) (v : List ℕ) → find name_cmp m (after_set c n v) ≡ cond (eq_by_cmp name_cmp m n) (Some v) (find name_cmp m c)
   find_set c n v = find-put name_cmp name_cmp_total m n v c
 
-  same_set : (c d : Content) (n : Name) (v : List ℕ) → find name_cmp m c ≡ find name_cmp m d → find name_cmp m (after_set c n v) ≡ find name_cmp m (after_set d n v)
+  pub same_set : (c d : Content) (n : Name) (v : List ℕ) → find name_cmp m c ≡ find name_cmp m d → find name_cmp m (after_set c n v) ≡ find name_cmp m (after_set d n v)
   same_set c d n v e = find_set c n v ∙ ap (cond (eq_by_cmp name_cmp m n) (Some v)) e ∙ sym (find_set d n v)
 
   same_put : (c d : Content) (n : Name) (more : Subtree) → find name_cmp m c ≡ find name_cmp m d → find name_cmp m (after_put c n more) ≡ find name_cmp m (after_put d n more)
@@ -72,7 +72,7 @@ module _ (m : Name) where
       elim (is_too_deep n nodes) as (λ b. find name_cmp m (cond b c (after_put c n nodes)) ≡ find name_cmp m (cond b d (after_put d n nodes))) [ true ↦ e | false ↦ same_put c d n nodes e ]
 
   -- names that tie are the same
-  tied : (k : Name) → eq_by_cmp name_cmp m k ≡ true → m ≡ k
+  pub tied : (k : Name) → eq_by_cmp name_cmp m k ≡ true → m ≡ k
   tied k e = elim (name_cmp m k) as (λ r. name_cmp m k ≡ r → is_eq r ≡ true → m ≡ k) [ Less ↦ λ p q. absurd cc | Equal ↦ λ p q. name_cmp-IsAntisymmetric m k p | Greater ↦ λ p q. absurd cc ] refl e
 
   module _ (n : Name) (b : List (List ℕ)) (below : rest_of n m ≡ Some b) where
@@ -110,7 +110,7 @@ module _ (m : Name) where
         elim (is_too_deep k nodes) as (λ t. find name_cmp m (cond t c (after_put c k nodes)) ≡ find name_cmp m c) [ true ↦ refl | false ↦ unput k nodes c apart ]
 
     -- the first of two texts that is there
-    first_found : Option (List ℕ) → Option (List ℕ) → Option (List ℕ)
+    abbrev pub first_found : Option (List ℕ) → Option (List ℕ) → Option (List ℕ)
     first_found None w = w
     first_found (Some v) w = Some v
 
@@ -119,8 +119,7 @@ module _ (m : Name) where
     nothing_there s (k ∷ ks) h = ap (λ r. cond (is_eq r) (Some k.1) (find name_cmp s ks)) (is_less _ (first_so _ _ h)) ∙ nothing_there s ks (second_so _ _ h)
 
     -- what stands below the name, put there over another content
-    filled : (g c : Content) → T (is_sorted name_cmp g) → find name_cmp m (after_put c n (subtree_at g n)) ≡ first_found (find name_cmp m g) (find name_cmp m c)
-    unfolding first_found
+    pub filled : (g c : Content) → T (is_sorted name_cmp g) → find name_cmp m (after_put c n (subtree_at g n)) ≡ first_found (find name_cmp m g) (find name_cmp m c)
     filled [] c h = refl
     filled (x ∷ g) c h =
         elim (rest_of n x.0) as (λ r. rest_of n x.0 ≡ r → find name_cmp m (after_put c n (cons_option (option_map (λ l. (l, x.1)) r) (subtree_at g n))) ≡ first_found (cond (eq_by_cmp name_cmp m x.0) (Some x.1) (find name_cmp m g)) (find name_cmp m c)) [
@@ -140,7 +139,6 @@ module _ (m : Name) where
         ] refl
 
     found_alone : (t : Option (List ℕ)) → first_found t None ≡ t
-    unfolding first_found
     found_alone None = refl
     found_alone (Some v) = refl
 
@@ -151,7 +149,7 @@ module _ (m : Name) where
 
 module _ (n : Name) where
   -- what holds of each name at n or below it
-  at_each : {P : Name → Type 0} → ((m : Name) (b : List (List ℕ)) → rest_of n m ≡ Some b → P m) → (m : Name) → is_some (rest_of n m) ≡ true → P m
+  pub at_each : {P : Name → Type 0} → ((m : Name) (b : List (List ℕ)) → rest_of n m ≡ Some b → P m) → (m : Name) → is_some (rest_of n m) ≡ true → P m
   at_each {P} f m h = elim (rest_of n m) as (λ r. rest_of n m ≡ r → is_some r ≡ true → P m) [ None ↦ λ e s. absurd cc | Some b ↦ λ e s. f m b e ] refl h
 
   -- the store that is filled with what stands below n is alike

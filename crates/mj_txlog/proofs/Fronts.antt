@@ -1,5 +1,5 @@
 -- Names that stand at a name or below it.
-use Rattle.std.proofs.Common.{◌≡◌, ℕ, ◌-◌, ◌<◌, Bool, true, false, cond, ◌&&◌, List, [], ◌∷◌, ◌++◌, length, take, Option, Some, None, refl, sym, ap, ◌∙◌, subst, arith}
+use Rattle.std.proofs.Common.{◌≡◌, ℕ, ◌-◌, ◌<◌, ◌≤◌, Bool, true, false, cond, ◌&&◌, List, [], ◌∷◌, ◌++◌, length, take, get_or, Option, Some, None, refl, sym, ap, ◌∙◌, subst, arith}
 use Rattle.std.specs.Ordering.{eq_by_cmp}
 use Rattle.std.specs.Str.{bytes_eq}
 use Rattle.std.proofs.lemmas.Slice.Eq.{bytes_eq-Decides}
@@ -12,7 +12,7 @@ use Rattle.mj_store.specs.Changes.{followed_by}
 use Rattle.mj_txlog.specs.Accesses.{front_of}
 
 -- a value that is there only where a test passes
-taken_so : {A : Type 0} (b : Bool) (r : Option A) (a : A) → cond b r None ≡ Some a → (b ≡ true) × (r ≡ Some a)
+pub taken_so : {A : Type 0} (b : Bool) (r : Option A) (a : A) → cond b r None ≡ Some a → (b ≡ true) × (r ≡ Some a)
 taken_so true r a e = (refl, e)
 taken_so false r a e = absurd cc
 
@@ -38,24 +38,24 @@ bytes_itself : (s : List ℕ) → bytes_eq s s ≡ true
 bytes_itself s = (bytes_eq-Decides s s).1 refl
 
 -- subscripts that tie are the same
-ties_same : (s t : List ℕ) → eq_by_cmp subscript_cmp s t ≡ true → s ≡ t
+pub ties_same : (s t : List ℕ) → eq_by_cmp subscript_cmp s t ≡ true → s ≡ t
 ties_same s t e = (bytes_eq-Decides s t).0 (bytes_eq-subscript_cmp s t ∙ e)
 
-tie_itself : (s : List ℕ) → eq_by_cmp subscript_cmp s s ≡ true
+pub tie_itself : (s : List ℕ) → eq_by_cmp subscript_cmp s s ≡ true
 tie_itself s = sym (bytes_eq-subscript_cmp s s) ∙ bytes_itself s
 
-front_split : (p q l : List (List ℕ)) → after_front subscript_cmp p q ≡ Some l → p ++ l ≡ q
+pub front_split : (p q l : List (List ℕ)) → after_front subscript_cmp p q ≡ Some l → p ++ l ≡ q
 front_split [] q l e = sym (cc)
 front_split (s ∷ p) [] l e = absurd cc
 front_split (s ∷ p) (t ∷ q) l e =
     let h = taken_so (eq_by_cmp subscript_cmp s t) (after_front subscript_cmp p q) l e in
     λ i. ties_same s t h.0 i ∷ front_split p q l h.1 i
 
-front_itself : (p : List (List ℕ)) → after_front subscript_cmp p p ≡ Some []
+pub front_itself : (p : List (List ℕ)) → after_front subscript_cmp p p ≡ Some []
 front_itself [] = refl
 front_itself (s ∷ p) = ap (λ b. cond b (after_front subscript_cmp p p) None) (tie_itself s) ∙ front_itself p
 
-front_more : (p l : List (List ℕ)) → after_front subscript_cmp p (p ++ l) ≡ Some l
+pub front_more : (p l : List (List ℕ)) → after_front subscript_cmp p (p ++ l) ≡ Some l
 front_more [] l = refl
 front_more (s ∷ p) l = ap (λ b. cond b (after_front subscript_cmp p (p ++ l)) None) (tie_itself s) ∙ front_more p l
 
@@ -107,3 +107,16 @@ but_last_take s (t ∷ p) = ap (λ (ts : List (List ℕ)). s ∷ ts) (but_last_t
 pub front_of_take : (p : List (List ℕ)) → 0 < length p → take (length p - 1) p ≡ front_of p
 front_of_take [] h = absurd (omega arith)
 front_of_take (s ∷ p) h = ap (λ (k : ℕ). take k (s ∷ p)) {x = length (s ∷ p) - 1} {y = length p} (omega arith) ∙ but_last_take s p
+
+-- the last one after them
+last_at : (s : List ℕ) (p : List (List ℕ)) (x : List ℕ) → x ≡ get_or (s ∷ p) (length p) x → but_last s p ++ x ∷ [] ≡ s ∷ p
+last_at s [] x e = ap (λ (u : List ℕ). u ∷ []) e
+last_at s (t ∷ p) x e = ap (λ (ts : List (List ℕ)). s ∷ ts) (last_at t p x e)
+
+pub front_last : (p : List (List ℕ)) (x : List ℕ) → 1 ≤ length p → x ≡ get_or p (length p - 1) x → front_of p ++ x ∷ [] ≡ p
+front_last [] x h e = absurd (omega (arith, h))
+front_last (s ∷ p) x h e = last_at s p x (e ∙ ap (λ (k : ℕ). get_or (s ∷ p) k x) {x = length (s ∷ p) - 1} {y = length p} (omega arith))
+
+pub none_in : (p : List (List ℕ)) → length p < 1 → p ≡ []
+none_in [] h = refl
+none_in (s ∷ p) h = absurd (omega (arith, h))

@@ -45,7 +45,7 @@ or_true : (b : Bool) → (b || true) ≡ true
 or_true true = refl
 or_true false = refl
 
-some_either : (b : Bool) (v : List ℕ) (t : Option (List ℕ)) → is_some (cond b (Some v) t) ≡ (b || is_some t)
+pub some_either : (b : Bool) (v : List ℕ) (t : Option (List ℕ)) → is_some (cond b (Some v) t) ≡ (b || is_some t)
 some_either true v t = refl
 some_either false v t = refl
 
@@ -209,7 +209,7 @@ front_not gone n k h none =
     subst (λ (j : ℕ). went_before gone n j ≡ false) {x = suc k} {y = k + 1} (omega arith) (λ i. h i || none i)
 
 -- what is below a name that went, went
-went_below : (gone : Content) (n : Name) (b : List (List ℕ)) → went gone n ≡ true → went gone (followed_by n b) ≡ true
+pub went_below : (gone : Content) (n : Name) (b : List (List ℕ)) → went gone n ≡ true → went gone (followed_by n b) ≡ true
 went_below gone n b h =
     subst (λ (j : ℕ). went_before gone (followed_by n b) j ≡ true) {x = length b + suc (length n.subscripts)} {y = suc (length (n.subscripts ++ b))} (omega (arith, length-append n.subscripts b))
     (went_more gone (followed_by n b) (suc (length n.subscripts)) (length b) (same_went gone n b (suc (length n.subscripts)) (omega arith) ∙ h))
@@ -229,7 +229,7 @@ clear_more gone n b h e (suc d) =
     subst (λ (j : ℕ). went_before gone (followed_by n b) j ≡ false) {x = suc k} {y = suc d + suc (length n.subscripts)} (omega arith)
     (λ i. clear_more gone n b h e d i || is_some (none i))
 
-clear_below : (gone : Content) (n : Name) (b : List (List ℕ)) → went gone n ≡ false → data_at gone n ≡ 0 → went gone (followed_by n b) ≡ false
+pub clear_below : (gone : Content) (n : Name) (b : List (List ℕ)) → went gone n ≡ false → data_at gone n ≡ 0 → went gone (followed_by n b) ≡ false
 clear_below gone n b h e =
     subst (λ (j : ℕ). went_before gone (followed_by n b) j ≡ false) {x = length b + suc (length n.subscripts)} {y = suc (length (n.subscripts ++ b))} (omega (arith, length-append n.subscripts b))
     (clear_more gone n b h e (length b))
@@ -288,17 +288,17 @@ nil_after : (p : List (List ℕ)) → p ++ [] ≡ p
 nil_after [] = refl
 nil_after (s ∷ p) = ap (λ (q : List (List ℕ)). s ∷ q) (nil_after p)
 
-abbrev here_in : Subtree → Bool
+abbrev pub here_in : Subtree → Bool
 here_in nodes = list_any (λ e. is_empty e.0) nodes
 
-abbrev below_in : Subtree → Bool
+abbrev pub below_in : Subtree → Bool
 below_in nodes = list_any (λ e. not (is_empty e.0)) nodes
 
 -- the nodes at and below a name, where the first of the content is this far below it
 abbrev nodes_with : Option (List (List ℕ)) → List ℕ → Subtree → Subtree
 nodes_with r v nodes = cons_option (option_map (λ l. (l, v)) r) nodes
 
-found_here : (n : Name) (c : Content) → here_in (subtree_at c n) ≡ is_some (find name_cmp n c)
+pub found_here : (n : Name) (c : Content) → here_in (subtree_at c n) ≡ is_some (find name_cmp n c)
 found_here n [] = refl
 found_here n (x ∷ c) = by (rest_of n x.0) refl (found_here n c)
   where

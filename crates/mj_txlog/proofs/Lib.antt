@@ -4,3 +4,8 @@ pub mod Sorted
 pub mod Looks
 pub mod Same
 pub mod Laid
+pub mod Firsts
+pub mod Stands
+pub mod Walks
+pub mod Kept
+pub mod Nexts

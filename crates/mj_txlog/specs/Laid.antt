@@ -1,6 +1,8 @@
 -- A transaction's own writes, as they lie over the globals: what the globals would be asked is answered without looking at each of the writes.
-use Rattle.std.specs.Prelude.{◌≡◌, ℕ, zero, suc, Bool, false, nat_eq, cond, ◌&&◌, ◌||◌, ◌+◌, List, [], length, take, Option, None}
+use Rattle.std.specs.Prelude.{◌≡◌, ℕ, zero, suc, Bool, true, false, nat_eq, cond, ◌&&◌, ◌||◌, ◌+◌, List, [], length, take, Option, Some, None}
 use Rattle.std.specs.Option.{is_some, option_or}
+use Rattle.std.specs.declared.cmp.Ordering.{Ordering}
+use Rattle.std.specs.Ordering.{is_lt}
 use Rattle.mj_subs.specs.Name.{Name}
 use Rattle.mj_store.specs.Questions.{Content, with_subscripts, value_at, data_at}
 use Rattle.mj_store.specs.Changes.{after_set}
@@ -60,3 +62,8 @@ says_below d = nat_eq d 10 || nat_eq d 11
 -- $DATA of a name that has texts of two contents
 abbrev pub data_either : ℕ → ℕ → ℕ
 data_either a b = cond (says_here a || says_here b) 1 0 + cond (says_below a || says_below b) 10 0
+
+-- one stands before another in an order, if that is there
+abbrev pub is_before : {K : Type 0} → (K → K → Ordering) → K → Option K → Bool
+is_before R x None = true
+is_before R x (Some y) = is_lt (R x y)

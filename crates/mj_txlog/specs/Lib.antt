@@ -1,3 +1,4 @@
 pub mod Accesses
 pub mod Sight
 pub mod Laid
+pub mod Walks

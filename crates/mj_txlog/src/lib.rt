@@ -3,15 +3,19 @@
 // A contract sees a transaction as what it is: SERIAL or not, the numbered list of its accesses with their answers, and the names of the
 // locks that were gained since it began. A read in it is answered on the globals as they are at that moment, with the transaction's own
 // writes before the read made on them. Nothing of that is done to the globals themselves, and they aren't copied. What the own writes leave is
-// kept beside the list, as what lies over the globals (`specs/Laid.antt`): from it and the globals most reads are answered, without a look at the list. Only where
-// own writes are among what `$ORDER`, `$QUERY` or a subtree depends on, a small store is made of what stands there, and answers.
+// kept beside the list, as what lies over the globals (`specs/Laid.antt`): from it and the globals each read is answered, without a look at the list. `$DATA`, `$ORDER`
+// and `$QUERY` take a few searches in both, and some more for each own kill that they pass over. Only for a subtree among own writes a small store is made of
+// what stands there, and answers.
 #![tactic(auto)]
 
 mod answers;
+mod below;
 mod entry;
 mod log;
 mod names;
+mod next;
 mod overlay;
+mod query;
 mod sight;
 
 pub use answers::{copy_of, copy_of_nodes, is_same};

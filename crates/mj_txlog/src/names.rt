@@ -1,9 +1,10 @@
 // Lists of names, and names with other subscripts.
 
-ghost use Rattle.std.specs.Prelude.{◌≡◌, ◌++◌, ◌∷◌, [], if◌then◌else◌, is_ok, IfOk};
+ghost use Rattle.std.specs.Prelude.{◌≡◌, ◌<◌, ◌++◌, ◌∷◌, [], if◌then◌else◌, is_ok, length, IfOk, OnOk};
 ghost use Rattle.mj_store.specs.Questions.{with_subscripts};
+ghost use Rattle.mj_store.specs.Changes.{followed_by};
 
-use mj_subs::{Name, Sub, Subs};
+use mj_subs::{Name, SUBSCRIPT_LIMIT, Sub, Subs};
 use std::alloc::{AllocError, Global};
 use std::marker::Model;
 
@@ -92,4 +93,48 @@ fn subs_of(alloc: Global, list: &[Sub]) -> Result<Subs, AllocError>
         }
     }
     Ok(subs)
+}
+
+// The name with one subscript more, for which there is room.
+pub(crate) fn with_one(alloc: Global, name: &Name, sub: &Sub) -> Result<Name, AllocError>
+    ensures value { IfOk result (λ n. n ≡ followed_by name.now (sub.now ∷ [])) }
+    ensures room { IfOk result (λ n. length name.now.subscripts < SUBSCRIPT_LIMIT) }
+{
+    if SUBSCRIPT_LIMIT <= name.subscripts().len() {
+        return Err(AllocError);
+    }
+    let word = name.word().try_clone()?;
+    let mut subscripts = subs_of(alloc, name.subscripts().as_slice())?;
+    add_one(&mut subscripts, sub)?;
+    Ok(if name.is_global() {
+        Name::global(word, subscripts)
+    } else {
+        Name::local(word, subscripts)
+    })
+}
+
+// The name with more subscripts, for which there is room.
+pub(crate) fn followed(alloc: Global, name: &Name, more: &Subs) -> Result<Name, AllocError>
+    ensures { IfOk result (λ n. n ≡ followed_by name.now more.now) }
+{
+    let word = name.word().try_clone()?;
+    let mut subscripts = subs_of(alloc, name.subscripts().as_slice())?;
+    for sub in more.as_slice() {
+        add_one(&mut subscripts, sub)?;
+    }
+    Ok(if name.is_global() {
+        Name::global(word, subscripts)
+    } else {
+        Name::local(word, subscripts)
+    })
+}
+
+// One subscript more.
+fn add_one(subs: &mut Subs, sub: &Sub) -> Result<(), AllocError>
+    ensures { OnOk result (subs.new ≡ subs.old ++ sub.now ∷ []) }
+{
+    match subs.push(sub.try_clone()?) {
+        Ok(()) => Ok(()),
+        Err(_) => Err(AllocError),
+    }
 }

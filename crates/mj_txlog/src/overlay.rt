@@ -6,6 +6,7 @@
 
 ghost use Rattle.std.specs.Prelude.{◌≡◌, ◌++◌, ◌∷◌, [], not, nat_eq, IfOk, OnOk, OnErr, T};
 ghost use Rattle.std.specs.FinMap.{is_sorted};
+ghost use Rattle.std.specs.Option.{is_some};
 ghost use Rattle.mj_subs.specs.Collation.{name_cmp};
 ghost use Rattle.mj_store.specs.Questions.{value_at, data_at};
 ghost use Rattle.mj_txlog.specs.Accesses.{Accesses};
@@ -121,6 +122,19 @@ impl Overlay {
         ensures { result ≡ not (nat_eq (data_at self.now.gone name.now) 0) }
     {
         self.gone.data(name) != 0
+    }
+
+    // Whether a name has a text over the globals.
+    pub(crate) fn is_text(&self, globals: &Globals, name: &Name) -> Result<bool, AllocError>
+        ensures { IfOk result (λ b. b ≡ is_some (text_over self.now name.now (value_at globals.now name.now))) }
+    {
+        if self.over.value(name).is_some() {
+            return Ok(true);
+        }
+        if globals.value(name).is_none() {
+            return Ok(false);
+        }
+        Ok(!self.went(name)?)
     }
 
     // The text of a name over the globals.

@@ -3,24 +3,26 @@
 // A read depends on what stands at one name and below it: at the name itself for a text, `$DATA` and a subtree, one level above it for
 // `$ORDER`, and on the whole word for `$QUERY`.
 
-ghost use Rattle.std.specs.Prelude.{◌≡◌, ◌∷◌, [], false, cond, IfOk, OnOk};
-ghost use Rattle.mj_store.specs.Questions.{value_at};
+ghost use Rattle.std.specs.Prelude.{◌≡◌, ◌+◌, false, cond, IfOk};
+ghost use Rattle.mj_store.specs.Questions.{with_subscripts, value_at, data_at, order_at};
 ghost use Rattle.mj_store.specs.Runs.{answer_of};
-ghost use Rattle.mj_txlog.specs.Accesses.{is_write, seen, front_of};
-ghost use Rattle.mj_txlog.specs.Sight.{reach_of, meets, AreAlike};
+ghost use Rattle.mj_txlog.specs.Accesses.{Accesses, is_write, seen, front_of};
+ghost use Rattle.mj_txlog.specs.Sight.{reach_of};
 ghost use Rattle.mj_txlog.specs.Laid.{IsLaid};
 
-use crate::entry::{Entry, is_write};
+use crate::below::seen_below;
+use crate::entry::Entry;
 use crate::names::cut_to;
+use crate::next::{first_sub, next_below};
 use crate::overlay::{Overlay, data_either};
+use crate::query::query;
 use mj_globs::Globals;
-use mj_store::{Access, Answer, Store, perform};
+use mj_store::{Access, Answer, Direction, Store};
 use mj_subs::{Name, Sub};
 use mj_text::Text;
 use std::alloc::{AllocError, Global};
 
-/// The answer to a read on the globals as they are, with the writes among these accesses made on them. The overlay has these writes: only where
-/// they are among what the read depends on each of them is looked at.
+/// The answer to a read on the globals as they are, with the writes among these accesses made on them. The overlay has these writes.
 pub fn answer(
     alloc: Global,
     globals: &Globals,
@@ -37,7 +39,7 @@ pub fn answer(
             let text = own.text(globals, name)?;
             Ok(Answer::Value(text))
         }
-        _ => seen_answer(alloc, globals, earlier, own, read),
+        _ => seen_answer(alloc, globals, own, read),
     }
 }
 
@@ -45,16 +47,14 @@ pub fn answer(
 fn seen_answer(
     alloc: Global,
     globals: &Globals,
-    earlier: &[Entry],
     own: &Overlay,
     read: &Access,
 ) -> Result<Answer, AllocError>
     requires read { is_write read.now ≡ false }
-    requires own { IsLaid own.now earlier.now }
-    ensures { IfOk result (λ a. a ≡ answer_of read.now (seen globals.now earlier.now)) }
+    ensures { IfOk result (λ a. (es : Accesses) → IsLaid own.now es → a ≡ answer_of read.now (seen globals.now es)) }
 {
     let reach = reach_of(alloc, read)?;
-    let answer = answer_at(alloc, globals, earlier, own, read, &reach);
+    let answer = answer_at(globals, own, read, &reach);
     drop(reach);
     answer
 }
@@ -62,17 +62,14 @@ fn seen_answer(
 // The same where that name is at hand. The name is given to `drop` above, and the store below: a function at whose ends either is dropped
 // by itself takes a long proof.
 fn answer_at(
-    alloc: Global,
     globals: &Globals,
-    earlier: &[Entry],
     own: &Overlay,
     read: &Access,
     reach: &Name,
 ) -> Result<Answer, AllocError>
     requires read { is_write read.now ≡ false }
-    requires own { IsLaid own.now earlier.now }
     requires reach { reach.now ≡ reach_of read.now }
-    ensures { IfOk result (λ a. a ≡ answer_of read.now (seen globals.now earlier.now)) }
+    ensures { IfOk result (λ a. (es : Accesses) → IsLaid own.now es → a ≡ answer_of read.now (seen globals.now es)) }
 {
     globals.rises();
     if own.went(reach)? {
@@ -86,24 +83,68 @@ fn answer_at(
             own.over().data(name),
             globals.data(name),
         ))),
-        _ => answer_among(alloc, globals, earlier, read, reach),
+        Access::Data(name) => Ok(Answer::Data(data(globals, own, name)?)),
+        Access::Order(name, way) => Ok(Answer::Order(order(globals, own, name, *way, reach)?)),
+        Access::Query(name) => match query(globals, own, name)? {
+            Some(next) => Ok(Answer::Query(next)),
+            None => answer_among(globals, own, read, reach),
+        },
+        _ => answer_among(globals, own, read, reach),
+    }
+}
+
+// Whether a text stands at the name, and whether one stands below it.
+fn data(globals: &Globals, own: &Overlay, name: &Name) -> Result<u8, AllocError>
+    ensures { IfOk result (λ d. (es : Accesses) → IsLaid own.now es → d ≡ data_at (seen globals.now es) name.now) }
+{
+    let here = own.is_text(globals, name)?;
+    let below = first_sub(globals, own, name)?;
+    let digits = digits_of(here, below.is_some());
+    Ok(digits)
+}
+
+// `$DATA` of a name with a text there, and with one below it.
+fn digits_of(here: bool, below: bool) -> u8
+    ensures { result ≡ cond here 1 0 + cond below 10 0 }
+{
+    match (here, below) {
+        (false, false) => 0,
+        (true, false) => 1,
+        (false, true) => 10,
+        (true, true) => 11,
+    }
+}
+
+// The next subscript in place of the name's last one.
+fn order(
+    globals: &Globals,
+    own: &Overlay,
+    name: &Name,
+    way: Direction,
+    front: &Name,
+) -> Result<Option<Sub>, AllocError>
+    requires { front.now ≡ with_subscripts name.now (front_of name.now.subscripts) }
+    ensures { IfOk result (λ next. (es : Accesses) → IsLaid own.now es → next ≡ order_at (seen globals.now es) name.now way) }
+{
+    match name.subscripts().as_slice() {
+        [] => Ok(None),
+        [.., last] => next_below(globals, own, front, last, way),
     }
 }
 
 // The answer to a read where own writes are among what it depends on.
 fn answer_among(
-    alloc: Global,
     globals: &Globals,
-    earlier: &[Entry],
+    own: &Overlay,
     read: &Access,
     reach: &Name,
 ) -> Result<Answer, AllocError>
     requires read { is_write read.now ≡ false }
     requires reach { reach.now ≡ reach_of read.now }
-    ensures { IfOk result (λ a. a ≡ answer_of read.now (seen globals.now earlier.now)) }
+    ensures { IfOk result (λ a. (es : Accesses) → IsLaid own.now es → a ≡ answer_of read.now (seen globals.now es)) }
 {
     globals.rises();
-    let below = seen_below(alloc, globals, earlier, reach)?;
+    let below = seen_below(globals, own, reach)?;
     below.rises();
     let found = look(&below, read);
     drop(below);
@@ -149,16 +190,6 @@ fn front_of<'a>(list: &'a [Sub]) -> &'a [Sub]
     }
 }
 
-// Whether it is a write to the name, to one above it or to one below it.
-fn meets(entry: &Entry, name: &Name) -> bool
-    ensures { result ≡ meets name.now entry.now }
-{
-    match entry {
-        Entry::Access(access, _) => is_write(access) && access.name().overlap(name),
-        Entry::Unlock(_) => false,
-    }
-}
-
 // The text of a name, for keeps.
 fn text_of(globals: &Globals, name: &Name) -> Result<Option<Text>, AllocError>
     ensures { IfOk result (λ text. text ≡ value_at globals.now name.now) }
@@ -167,39 +198,4 @@ fn text_of(globals: &Globals, name: &Name) -> Result<Option<Text>, AllocError>
         None => None,
         Some(text) => Some(text.try_clone()?),
     })
-}
-
-// A store that is as the globals with the writes made on them, at the name and below it.
-fn seen_below(
-    alloc: Global,
-    globals: &Globals,
-    entries: &[Entry],
-    name: &Name,
-) -> Result<Globals, AllocError>
-    ensures { IfOk result (λ below. AreAlike name.now below (seen globals.now entries.now)) }
-{
-    globals.rises();
-    let mut below = Globals::new(alloc);
-    let nodes = globals.subtree(name)?;
-    match below.put(name, &nodes) {
-        Ok(()) => {}
-        Err(_) => return Err(AllocError),
-    }
-    for entry in entries {
-        write_over(&mut below, entry, name)?;
-    }
-    Ok(below)
-}
-
-// Makes a write on the store, if it meets the name.
-fn write_over(below: &mut Globals, entry: &Entry, name: &Name) -> Result<(), AllocError>
-    ensures { OnOk result (below.new ≡ cond (meets name.now entry.now) (seen below.old (entry.now ∷ [])) below.old) }
-{
-    match entry {
-        Entry::Access(access, _) if meets(entry, name) => {
-            let _answer = perform(below, access)?;
-        }
-        _ => {}
-    }
-    Ok(())
 }

@@ -13,19 +13,20 @@ use Rattle.mj_txlog.proofs.sight.answer_at.Goals as goal
 
 pub returns-then-branch : goal.returns-then-branch
 returns-then-branch c = IfOk-weaker c.look.result _ _
-    (λ out h. answer_below c.args.read.now c.args.reach.now c.args.own.now.over c.args.globals.now c.args.earlier.now out c.requires.read c.over.ensures.rises c.rises.ensures c.requires.reach
-    (went_alike c.args.own.now c.args.earlier.now c.args.reach.now c.requires.own c.args.globals.now (sym c.in_ok-went.ensures ∙ c.if-branch.true))
+    (λ out h es laid. answer_below c.args.read.now c.args.reach.now c.args.own.now.over c.args.globals.now es out c.requires.read c.over.ensures.rises c.rises.ensures c.requires.reach
+    (went_alike c.args.own.now es c.args.reach.now laid c.args.globals.now (sym c.in_ok-went.ensures ∙ c.if-branch.true))
     (h ∙ ap (answer_of c.args.read.now) c.over.ensures.which))
     c.look.ensures
 
 pub returns-then-is_clear : goal.returns-then-is_clear
 returns-then-is_clear c = IfOk-weaker c.look-then-is_clear.result _ _
-    (λ out. answer_below c.args.read.now c.args.reach.now c.args.globals.now c.args.globals.now c.args.earlier.now out c.requires.read c.rises.ensures c.rises.ensures c.requires.reach
-    (clear_alike c.args.own.now c.args.earlier.now c.args.reach.now c.requires.own c.args.globals.now (sym c.in_ok-went.ensures ∙ c.if-branch.false) (sym c.if-is_clear.ensures)))
+    (λ out h es laid. answer_below c.args.read.now c.args.reach.now c.args.globals.now c.args.globals.now es out c.requires.read c.rises.ensures c.rises.ensures c.requires.reach
+    (clear_alike c.args.own.now es c.args.reach.now laid c.args.globals.now (sym c.in_ok-went.ensures ∙ c.if-branch.false) (sym c.if-is_clear.ensures))
+    h)
     c.look-then-is_clear.ensures
 
 pub returns-in-Data : goal.returns-in-Data
-returns-in-Data c =
+returns-in-Data c es laid =
     let same : c.args.reach.now ≡ c.in-Data.name = c.requires.reach ∙ ap reach_of c.in-Data.is in
     let stays : went c.args.own.now.gone c.in-Data.name ≡ false = ap (went c.args.own.now.gone) (sym same) ∙ sym c.in_ok-went.ensures ∙ c.if-branch.false in
     let none : data_at c.args.own.now.gone c.in-Data.name ≡ 0 = none_gone (data_at c.args.own.now.gone c.in-Data.name) (sym c.if-not-is_any_gone.ensures) in
@@ -33,5 +34,5 @@ returns-in-Data c =
     ap answer.Data
     (c.data_either.ensures
     ∙ (λ i. data_either (over i) (c.data-in-Data.ensures i))
-    ∙ data_laid c.args.own.now c.args.earlier.now c.in-Data.name c.requires.own c.args.globals.now stays none)
-    ∙ ap (λ (a : Access). answer_of a (seen c.args.globals.now c.args.earlier.now)) (sym c.in-Data.is)
+    ∙ data_laid c.args.own.now es c.in-Data.name laid c.args.globals.now stays none)
+    ∙ ap (λ (a : Access). answer_of a (seen c.args.globals.now es)) (sym c.in-Data.is)

@@ -1,0 +1,168 @@
+// What stands next among what a transaction sees.
+//
+// The own texts are all seen. So of two subscripts, the next one among them and the next one in the globals below which something is left of the
+// own kills, the first is the answer. One of the globals below which nothing is left is passed over, whatever stood below it.
+
+ghost use Rattle.std.specs.Prelude.{◌≡◌, ◌∷◌, [], not, nat_eq, nat_lt, IfOk};
+ghost use Rattle.mj_subs.specs.Collation.{subscript_cmp};
+ghost use Rattle.mj_store.specs.declared.store.Direction.TheVariants as way;
+ghost use Rattle.mj_store.specs.Nodes.{along};
+ghost use Rattle.mj_store.specs.Questions.{order_at, data_at};
+ghost use Rattle.mj_store.specs.Changes.{followed_by};
+ghost use Rattle.mj_txlog.specs.Accesses.{Accesses, seen};
+ghost use Rattle.mj_txlog.specs.Laid.{IsLaid, is_before};
+
+use crate::below::seen_below;
+use crate::log::ACCESS_LIMIT;
+use crate::names::with_one;
+use crate::overlay::Overlay;
+use mj_globs::Globals;
+use mj_store::{Direction, Store};
+use mj_subs::{Name, SUBSCRIPT_LIMIT, Sub};
+use mj_text::Text;
+use std::alloc::AllocError;
+
+// The next subscript below a name, in a direction; the first one, from the empty subscript. Each that is passed over was killed, or what stood below it was, by
+// kills of its own, of which there are no more than accesses: what stands behind the loop is for none that the language can make.
+#[cycle(ahead)]
+pub(crate) fn next_below(
+    globals: &Globals,
+    own: &Overlay,
+    front: &Name,
+    from: &Sub,
+    way: Direction,
+) -> Result<Option<Sub>, AllocError>
+    ensures { IfOk result (λ next. (es : Accesses) → IsLaid own.now es → next ≡ order_at (seen globals.now es) (followed_by front.now (from.now ∷ [])) way) }
+{
+    if front.subscripts().len() < SUBSCRIPT_LIMIT {
+        let mine = next_in(own.over(), front, from, way)?;
+        if own.went(front)? {
+            return Ok(mine);
+        }
+        let mut at = from.try_clone()?;
+        for _ in 0..ACCESS_LIMIT {
+            let next = match next_in(globals, front, &at, way)? {
+                None => return Ok(mine),
+                Some(next) => next,
+            };
+            if !is_before(&next, &mine, way) {
+                return Ok(mine);
+            }
+            if next.is_empty() {
+                break;
+            }
+            let child = with_one(globals.allocator(), front, &next)?;
+            let there = stands(globals, own, &child);
+            drop(child);
+            if there? {
+                return Ok(Some(next));
+            }
+            at = next;
+        }
+    } else if is_leaf(own.over(), front) && is_leaf(globals, front) {
+        return Ok(None);
+    }
+    next_copied(globals, own, front, from, way)
+}
+
+// Whether nothing stands below a name.
+fn is_leaf(store: &Globals, name: &Name) -> bool
+    ensures { result ≡ nat_lt (data_at store.now name.now) 10 }
+{
+    store.data(name) < 10
+}
+
+// Whether a text stands at the name or below it.
+#[cycle(ahead)]
+pub(crate) fn stands(globals: &Globals, own: &Overlay, name: &Name) -> Result<bool, AllocError>
+    ensures { IfOk result (λ b. (es : Accesses) → IsLaid own.now es → b ≡ not (nat_eq (data_at (seen globals.now es) name.now) 0)) }
+{
+    if is_any(own.over(), name) {
+        return Ok(true);
+    }
+    if own.went(name)? {
+        return Ok(false);
+    }
+    if !own.is_any_gone(name) {
+        return Ok(is_any(globals, name));
+    }
+    if globals.value(name).is_some() {
+        return Ok(true);
+    }
+    let blank = Sub::from_text(Text::new(globals.allocator()));
+    let next = next_below(globals, own, name, &blank, Direction::Forward)?;
+    Ok(next.is_some())
+}
+
+// Whether a text stands at a name of one store, or below it.
+fn is_any(store: &Globals, name: &Name) -> bool
+    ensures { result ≡ not (nat_eq (data_at store.now name.now) 0) }
+{
+    store.data(name) != 0
+}
+
+// The first subscript below a name.
+pub(crate) fn first_sub(
+    globals: &Globals,
+    own: &Overlay,
+    name: &Name,
+) -> Result<Option<Sub>, AllocError>
+    ensures { IfOk result (λ next. (es : Accesses) → IsLaid own.now es → next ≡ order_at (seen globals.now es) (followed_by name.now ([] ∷ [])) way.Forward) }
+{
+    let blank = Sub::from_text(Text::new(globals.allocator()));
+    next_below(globals, own, name, &blank, Direction::Forward)
+}
+
+// The same, where what stands below the name is copied.
+fn next_copied(
+    globals: &Globals,
+    own: &Overlay,
+    front: &Name,
+    from: &Sub,
+    way: Direction,
+) -> Result<Option<Sub>, AllocError>
+    ensures { IfOk result (λ next. (es : Accesses) → IsLaid own.now es → next ≡ order_at (seen globals.now es) (followed_by front.now (from.now ∷ [])) way) }
+{
+    globals.rises();
+    let below = seen_below(globals, own, front)?;
+    below.rises();
+    let next = next_in(&below, front, from, way);
+    drop(below);
+    next
+}
+
+// The next subscript in one store.
+fn next_in(
+    store: &Globals,
+    front: &Name,
+    from: &Sub,
+    way: Direction,
+) -> Result<Option<Sub>, AllocError>
+    ensures { IfOk result (λ next. next ≡ order_at store.now (followed_by front.now (from.now ∷ [])) way) }
+{
+    let at = with_one(store.allocator(), front, from)?;
+    let next = match store.order(&at, way) {
+        None => Ok(None),
+        Some(next) => kept(next),
+    };
+    drop(at);
+    next
+}
+
+// A subscript for keeps.
+fn kept(sub: &Sub) -> Result<Option<Sub>, AllocError>
+    ensures { IfOk result (λ s. s ≡ Some sub.now) }
+{
+    Ok(Some(sub.try_clone()?))
+}
+
+// Whether a subscript stands before another in a direction, if that is there.
+fn is_before(one: &Sub, other: &Option<Sub>, way: Direction) -> bool
+    ensures { result ≡ is_before (along way subscript_cmp) one.now other.now }
+{
+    match (other, way) {
+        (None, _) => true,
+        (Some(other), Direction::Forward) => one < other,
+        (Some(other), Direction::Backward) => other < one,
+    }
+}

@@ -1,0 +1,105 @@
+// The next name with a text among what a transaction sees.
+//
+// It is the first one below a name. Where there is none, it is the first one at or below the next subscript in place of the name's last one, or
+// else likewise one level above. So it is found by what stands next on some levels.
+
+ghost use Rattle.std.specs.Prelude.{◌≡◌, ◌++◌, ◌∷◌, [], IfOk};
+ghost use Rattle.std.specs.Option.{IfSome};
+ghost use Rattle.mj_store.specs.Questions.{query_at};
+ghost use Rattle.mj_txlog.specs.Accesses.{Accesses, seen};
+ghost use Rattle.mj_txlog.specs.Laid.{IsLaid};
+ghost use Rattle.mj_txlog.specs.Walks.{first_in, is_within, is_below, is_beyond};
+
+use crate::names::{cut_to, with_one};
+use crate::next::{first_sub, next_below};
+use crate::overlay::Overlay;
+use mj_globs::Globals;
+use mj_store::Direction;
+use mj_subs::{Name, Sub};
+use std::alloc::AllocError;
+
+// The next name. It is told if no text stands at or below a blank subscript of the name, as none does for all that the language can make.
+pub(crate) fn query(
+    globals: &Globals,
+    own: &Overlay,
+    name: &Name,
+) -> Result<Option<Option<Name>>, AllocError>
+    ensures { IfOk result (λ x. IfSome x (λ next. (es : Accesses) → IsLaid own.now es → next ≡ query_at (seen globals.now es) name.now)) }
+{
+    match first_below(globals, own, name)? {
+        Some(next) => Ok(Some(Some(next))),
+        None => first_past(globals, own, name),
+    }
+}
+
+// The first name with a text at the name or below it.
+#[cycle(down)]
+fn first_within(globals: &Globals, own: &Overlay, name: &Name) -> Result<Option<Name>, AllocError>
+    ensures { IfOk result (λ next. (es : Accesses) → IsLaid own.now es → next ≡ first_in (seen globals.now es) name.now (is_within name.now.subscripts)) }
+{
+    if own.is_text(globals, name)? {
+        return Ok(Some(name.try_clone()?));
+    }
+    first_below(globals, own, name)
+}
+
+// The first one below it.
+#[cycle(down)]
+fn first_below(globals: &Globals, own: &Overlay, name: &Name) -> Result<Option<Name>, AllocError>
+    ensures { IfOk result (λ next. (es : Accesses) → IsLaid own.now es → next ≡ first_in (seen globals.now es) name.now (is_below name.now.subscripts)) }
+{
+    match first_sub(globals, own, name)? {
+        None => Ok(None),
+        Some(sub) => {
+            let child = with_one(globals.allocator(), name, &sub)?;
+            let found = first_within(globals, own, &child);
+            drop(child);
+            found
+        }
+    }
+}
+
+// The first one past it and all below it.
+#[cycle(up)]
+fn first_past(
+    globals: &Globals,
+    own: &Overlay,
+    name: &Name,
+) -> Result<Option<Option<Name>>, AllocError>
+    ensures { IfOk result (λ x. IfSome x (λ next. (es : Accesses) → IsLaid own.now es → next ≡ first_in (seen globals.now es) name.now (is_beyond name.now.subscripts))) }
+{
+    match name.subscripts().as_slice() {
+        [] => Ok(Some(None)),
+        [above @ .., last] => {
+            let front = cut_to(globals.allocator(), name, above)?;
+            let found = first_beside(globals, own, &front, last);
+            drop(front);
+            found
+        }
+    }
+}
+
+// The first one past a name with this front and this last subscript. From the blank subscript the first one is told: where that is blank itself, the
+// one past it can't be told.
+#[cycle(up)]
+fn first_beside(
+    globals: &Globals,
+    own: &Overlay,
+    front: &Name,
+    last: &Sub,
+) -> Result<Option<Option<Name>>, AllocError>
+    ensures { IfOk result (λ x. IfSome x (λ next. (es : Accesses) → IsLaid own.now es → next ≡ first_in (seen globals.now es) front.now (is_beyond (front.now.subscripts ++ last.now ∷ [])))) }
+{
+    match next_below(globals, own, front, last, Direction::Forward)? {
+        None => first_past(globals, own, front),
+        Some(sub) => {
+            if sub.is_empty() {
+                return Ok(None);
+            }
+            let beside = with_one(globals.allocator(), front, &sub)?;
+            let found = first_within(globals, own, &beside);
+            drop(beside);
+            Ok(Some(found?))
+        }
+    }
+}
