@@ -15,6 +15,7 @@ fn devices_are_written_and_read(rt: HostRuntime) -> Result<(), Fail> {
         ),
         (" WRITE \"a\",#,$Y,\"b\",*13,$X\n", "a\x0c0b\r0", 0),
         (" WRITE ?40000\n", "F5 LENGTH R:1\n", 1),
+        (" WRITE *256\n", "F21 CHAR R:1\n", 1),
         (" WRITE *65,*256\n", "A\nF21 CHAR R:1\n", 1),
         (" WRITE *-1\n", "F21 CHAR R:1\n", 1),
         (" OPEN \"F\"\n", "F15 NODEVICE R:1\n", 1),

@@ -18,6 +18,11 @@ fn names_give_values(rt: HostRuntime) -> Result<(), Fail> {
             0,
         ),
         (
+            " SET ^A(1)=1,^A(2,3)=2 KILL ^A(1) WRITE $DATA(^A),$DATA(^A(2)),$DATA(^A(2,3)),$DATA(^A(1))\n",
+            "101010",
+            0,
+        ),
+        (
             " SET A(2,3)=2,A(2)=1,B=5 WRITE $d(A),$D(A(2)),$D(A(2,3)),$D(B),$D(A(2,3,4))\n",
             "1011110",
             0,

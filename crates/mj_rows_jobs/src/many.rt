@@ -54,6 +54,18 @@ fn a_deadlock_is_stuck(rt: HostRuntime) -> Result<(), Fail> {
             4,
         )?
     );
+    // what overlaps: the name that the other one has is told
+    assert!(rt;
+        gives(
+            &rt,
+            "--why|--start|A^R|--start|B^R",
+            "A LOCK +^A LOCK +^B HALT\nB LOCK +^B LOCK +^A(1) HALT\n",
+            "",
+            "--- job 1\n--- job 2\n",
+            "stuck\njob 1 waits for ^B, held by job 2 at R:2\njob 2 waits for ^A, held by job 1 at R:1\n",
+            4,
+        )?
+    );
     Ok(())
 }
 

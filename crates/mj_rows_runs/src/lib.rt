@@ -5,7 +5,7 @@
 use std::test::Fail;
 use std::{env, fs, io, process, str};
 
-// A new folder for the files of a test.
+/// A new folder for the files of a test, which is made anew where an earlier one was left.
 pub fn folder(rt: &HostRuntime, test: &str) -> Result<String, Fail> {
     let id = process::id(rt.process());
     let temporary = env::temp_dir(rt)?;
@@ -18,14 +18,18 @@ pub fn folder(rt: &HostRuntime, test: &str) -> Result<String, Fail> {
     Ok(folder)
 }
 
-// What a run printed on its two outputs, and its exit status.
+/// What a run printed on its two outputs, and its exit status.
 #[derive(Drop)]
 pub struct Ran {
+    /// on its output
     pub out: Vec<u8>,
+    /// on the other one
     pub err: Vec<u8>,
+    /// its exit status
     pub status: u8,
 }
 
+/// Runs the program by these words, over an input without bytes.
 pub fn run_words(rt: &HostRuntime, words: &[&str]) -> Ran {
     let mut out = Vec::new(rt.alloc());
     let mut err = Vec::new(rt.alloc());
@@ -33,7 +37,7 @@ pub fn run_words(rt: &HostRuntime, words: &[&str]) -> Ran {
     Ran { out, err, status }
 }
 
-// Runs a routine of these bytes from its first line.
+/// Runs a routine of these bytes from its first line.
 pub fn row(rt: &HostRuntime, test: &str, bytes: &str) -> Result<Ran, Fail> {
     let folder = folder(rt, test)?;
     let file = format!(in rt.alloc(); "{folder}/R.m")?;
@@ -66,7 +70,8 @@ fn stepped(rt: &HostRuntime, options: &str, routine: &str, steps: &str) -> Resul
     Ok(ran)
 }
 
-// Whether jobs that are stepped so print this, and give this status.
+/// Whether jobs of the routine R that are stepped so print this, and give this status: by words of options with `|` between them, and by these
+/// steps, in turn where there are none.
 pub fn gives(
     rt: &HostRuntime,
     options: &str,
