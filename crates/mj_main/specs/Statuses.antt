@@ -21,6 +21,7 @@ status_of (stops.Steps refusal) = 2
 status_of (stops.Step why step) = 2
 status_of stops.Stuck = 4
 status_of stops.Full = 4
+status_of stops.Long = 4
 status_of stops.Memory = 4
 
 -- a job ended by a fault

@@ -1,18 +1,142 @@
-// What a run begins with: the starts, the devices, the steps.
+// What a run begins with: the starts, the devices, the steps, the routines and the globals.
 
-ghost use Rattle.std.specs.Prelude.{◌≡◌, IfOk};
+ghost use Rattle.std.specs.Prelude.{◌≡◌, true, IfOk};
 ghost use Rattle.mj_files.specs.Named.{names_of, with_principals, with_devices};
 ghost use Rattle.mj_jobs.specs.Rows.{rows_limit};
+ghost use Rattle.mj_sys.specs.Shared.{are_global};
+ghost use Rattle.mj_debug.specs.Walks.{AreWhole};
 
-use crate::files::file_bytes;
+use crate::files::{file_bytes, whole};
+use crate::listings::listed;
+use crate::routines::loaded;
 use crate::stop::Stop;
+use crate::traces::{Trace, trace_of};
 use mj_ask::{Entry, Start};
 use mj_dev::Pool;
 use mj_files::{Named, Port, pool_of, read_device};
+use mj_globs::Globals;
 use mj_jobs::ROWS_LIMIT;
+use mj_load::Image;
 use mj_steps::{Step, StepsError};
-use std::alloc::Global;
+use mj_words::Run;
+use std::alloc::{AllocError, Global};
+use std::io::Read;
 use std::rt::Files;
+
+/// What a run begins with. Nothing was taken of its pool.
+#[derive(Drop)]
+pub struct Beginning<R: Files + Drop> {
+    pub steps: Option<Vec<Step>>,
+    pub image: Image,
+    pub globals: Globals,
+    pub pool: Pool<Port<R>>,
+    pub starts: Vec<Start>,
+    ghost global: { are_global globals ≡ true },
+    ghost whole: { AreWhole pool },
+}
+
+/// Reads all that a run begins with. The first that is refused ends it.
+pub fn begin<'a, R: Files + AllocGlobal + Copy + Drop, I: Read>(
+    rt: R,
+    order: &Run<'a>,
+    input: &mut I,
+) -> Result<Beginning<R>, Stop<'a>> {
+    let starts = starts(rt.alloc(), &order.starts)?;
+    match begin_at(rt, order, input) {
+        Ok(rest) => {
+            let (steps, stored) = rest;
+            let (image, globals, pool) = stored;
+            Ok(Beginning {
+                steps,
+                image,
+                globals,
+                pool,
+                starts,
+            })
+        }
+        Err(stop) => {
+            drop(starts);
+            Err(stop)
+        }
+    }
+}
+
+// Reads the rest of what a run begins with.
+fn begin_at<'a, R: Files + AllocGlobal + Copy + Drop, I: Read>(
+    rt: R,
+    order: &Run<'a>,
+    input: &mut I,
+) -> Result<(Option<Vec<Step>>, Stored<R>), Stop<'a>>
+    ensures global { IfOk result (λ x. are_global x.1.1 ≡ true) }
+    ensures whole { IfOk result (λ x. AreWhole x.1.2) }
+{
+    let devices = devices(rt.alloc(), &order.devices)?;
+    let steps = steps(&rt, order.steps)?;
+    match stored(rt, order, input, &devices) {
+        Ok(stored) => Ok((steps, stored)),
+        Err(stop) => {
+            drop(steps);
+            Err(stop)
+        }
+    }
+}
+
+// The routines, the globals and the devices.
+type Stored<R> = (Image, Globals, Pool<Port<R>>);
+
+// Reads the routines and the globals, and makes the devices.
+fn stored<'a, R: Files + AllocGlobal + Copy + Drop, I: Read>(
+    rt: R,
+    order: &Run<'a>,
+    input: &mut I,
+    devices: &[Named<'a>],
+) -> Result<Stored<R>, Stop<'a>>
+    ensures global { IfOk result (λ x. are_global x.1 ≡ true) }
+    ensures whole { IfOk result (λ x. AreWhole x.2) }
+{
+    let image = loaded(&rt, &order.files)?;
+    let globals = match listed(&rt, order.globals) {
+        Ok(globals) => globals,
+        Err(stop) => {
+            drop(image);
+            return Err(stop);
+        }
+    };
+    match pool_over(rt, order, input, devices) {
+        Ok(pool) => Ok((image, globals, pool)),
+        Err(stop) => {
+            drop(image);
+            drop(globals);
+            Err(stop)
+        }
+    }
+}
+
+// The devices. Standard input is read whole, where the words ask for it.
+fn pool_over<'a, R: Files + AllocGlobal + Copy + Drop, I: Read>(
+    rt: R,
+    order: &Run<'a>,
+    input: &mut I,
+    devices: &[Named<'a>],
+) -> Result<Pool<Port<R>>, Stop<'a>>
+    ensures { IfOk result (λ pool. AreWhole pool) }
+{
+    let lines = if order.stdin {
+        whole(rt.alloc(), input, "-")?
+    } else {
+        Vec::new(rt.alloc())
+    };
+    pool(rt, lines, devices)
+}
+
+/// The trace that a run will have from there, where a file is named for it.
+pub fn trace_from<'a, R: Files + Drop>(
+    alloc: Global,
+    file: Option<&'a str>,
+    beginning: &Beginning<R>,
+) -> Result<Option<Trace<'a>>, AllocError> {
+    trace_of(alloc, file, &beginning.pool, &beginning.starts)
+}
 
 /// The first jobs' starts, by the words that name them. One that is no entry is bad, and so is one more than there may be jobs.
 pub fn starts<'a>(alloc: Global, words: &[&'a str]) -> Result<Vec<Start>, Stop<'a>> {
@@ -51,7 +175,8 @@ pub fn pool<'a, R: Files + AllocGlobal + Copy + Drop>(
     input: Vec<u8>,
     devices: &[Named<'_>],
 ) -> Result<Pool<Port<R>>, Stop<'a>>
-    ensures { IfOk result (λ pool. pool ≡ with_devices (names_of devices.now) (with_principals rows_limit)) }
+    ensures value { IfOk result (λ pool. pool ≡ with_devices (names_of devices.now) (with_principals rows_limit)) }
+    ensures whole { IfOk result (λ pool. AreWhole pool) }
 {
     Ok(pool_of(rt.alloc(), rt, ROWS_LIMIT as u32, input, devices)?)
 }

@@ -114,28 +114,6 @@ impl<D: Device, O: Opening> Jobs<D, O> {
         self.core.out(job, &Text::from_number(alloc, 0), 1)
     }
 
-    /// Whether a job ended by a fault.
-    pub fn has_faulted(&self) -> bool
-        ensures { result ≡ has_faulted self.now.core.history }
-    {
-        'events: for at in 0..self.core.len() {
-            if self.faults_at(at) {
-                return true;
-            }
-        }
-        false
-    }
-
-    // Whether the event at a place of the history, from 0, is the end of a job by a fault.
-    fn faults_at(&self, at: usize) -> bool
-        ensures { result ≡ event_faults (slice_get self.now.core.history at) }
-    {
-        match self.core.event(at) {
-            None => false,
-            Some((_, ask, _)) => is_fault(ask),
-        }
-    }
-
     /// The globals that they left.
     pub fn globals(&self) -> &Globals {
         self.core.globals()
@@ -181,6 +159,28 @@ impl<D: Device, O: Opening> Jobs<D, O> {
             None => None,
             Some(found) => found.place(),
         }
+    }
+}
+
+/// Whether a job of a core ended by a fault.
+pub fn has_faulted<D: Device, O: Opening>(core: &Core<D, O>) -> bool
+    ensures { result ≡ has_faulted core.now.history }
+{
+    'events: for at in 0..core.len() {
+        if faults_at(core, at) {
+            return true;
+        }
+    }
+    false
+}
+
+// Whether the event at a place of the history, from 0, is the end of a job by a fault.
+fn faults_at<D: Device, O: Opening>(core: &Core<D, O>, at: usize) -> bool
+    ensures { result ≡ event_faults (slice_get core.now.history at) }
+{
+    match core.event(at) {
+        None => false,
+        Some((_, ask, _)) => is_fault(ask),
     }
 }
 

@@ -8,10 +8,13 @@
 #![tactic(auto)]
 
 mod begin;
+mod debugs;
 mod files;
 mod jobs;
 mod listings;
+mod printing;
 mod program;
+mod prompts;
 mod replays;
 mod routines;
 mod stop;

@@ -6,14 +6,15 @@ ghost use Rattle.mj_jobs.specs.Rows.{rows_limit};
 ghost use Rattle.mj_sys.specs.Opening.{opening_of};
 ghost use Rattle.mj_sys.specs.Shared.{are_global};
 
-use crate::begin::{devices, pool, starts, steps};
-use crate::files::whole;
-use crate::jobs::Jobs;
-use crate::listings::{listed, save};
+use crate::begin::{Beginning, begin, trace_from};
+use crate::debugs::debug;
+use crate::jobs::{Jobs, has_faulted};
+use crate::listings::save;
+use crate::printing::{print, stopped, tell_trouble};
 use crate::replays::replayed;
 use crate::routines::loaded;
 use crate::stop::{FAULTED, Stop, WORDS};
-use crate::traces::{Trace, trace_of, write_trace};
+use crate::traces::{Trace, write_trace};
 use mj_ask::Start;
 use mj_core::Core;
 use mj_dev::{Device, Pool};
@@ -34,7 +35,8 @@ use std::rt::Files;
 /// where a routine, a listing, a trace, a file of steps or a step is refused; 3 where the words are wrong; 4 where memory or a file fails, where all jobs
 /// wait, or where they went on for too long; the greatest where several apply. What the jobs write goes to `out`; a refusal goes to `err`, on one
 /// line, but the text on wrong words, which is clap's. Where the words ask for it, `input` is read whole before the run, and its lines are those of the
-/// first job's principal session. The globals that are left and the trace of the run are written after the output.
+/// first job's principal session. The globals that are left and the trace of the run are written after the output. Of a debugger the input has the commands, each of which is answered on `out`
+/// before the next is read.
 pub fn run<R, S, I, O, E>(rt: &R, words: &[S], input: &mut I, out: &mut O, err: &mut E) -> u8
 where
     R: Files + AllocGlobal,
@@ -46,6 +48,7 @@ where
 {
     match read_words(rt.alloc(), words) {
         Ok(Order::Run(order)) => run_jobs(rt, &order, input, out, err),
+        Ok(Order::Debug(order)) => debug(rt, &order, input, out, err),
         Ok(Order::Check { files }) => match check(rt, &files, out) {
             Ok(status) => status,
             Err(stop) => stopped(&stop, err),
@@ -61,17 +64,6 @@ where
     }
 }
 
-// What a run begins with.
-#[derive(Drop)]
-struct Beginning<R: Files + Drop> {
-    steps: Option<Vec<Step>>,
-    image: Image,
-    globals: Globals,
-    pool: Pool<Port<R>>,
-    starts: Vec<Start>,
-    ghost global: { are_global globals ≡ true },
-}
-
 // Runs jobs, and gives the exit status.
 fn run_jobs<R, I, O, E>(rt: R, order: &Run<'_>, input: &mut I, out: &mut O, err: &mut E) -> u8
 where
@@ -85,96 +77,6 @@ where
         Ok(beginning) => run_from(rt, order, beginning, out, err),
         Err(stop) => stopped(&stop, err),
     }
-}
-
-// Reads all that a run begins with. The first that is refused ends it.
-fn begin<'a, R: Files + AllocGlobal + Copy + Drop, I: Read>(
-    rt: R,
-    order: &Run<'a>,
-    input: &mut I,
-) -> Result<Beginning<R>, Stop<'a>> {
-    let starts = starts(rt.alloc(), &order.starts)?;
-    match begin_at(rt, order, input) {
-        Ok(rest) => {
-            let (steps, stored) = rest;
-            let (image, globals, pool) = stored;
-            Ok(Beginning {
-                steps,
-                image,
-                globals,
-                pool,
-                starts,
-            })
-        }
-        Err(stop) => {
-            drop(starts);
-            Err(stop)
-        }
-    }
-}
-
-// Reads the rest of what a run begins with.
-fn begin_at<'a, R: Files + AllocGlobal + Copy + Drop, I: Read>(
-    rt: R,
-    order: &Run<'a>,
-    input: &mut I,
-) -> Result<(Option<Vec<Step>>, Stored<R>), Stop<'a>>
-    ensures { IfOk result (λ x. are_global x.1.1 ≡ true) }
-{
-    let devices = devices(rt.alloc(), &order.devices)?;
-    let steps = steps(&rt, order.steps)?;
-    match stored(rt, order, input, &devices) {
-        Ok(stored) => Ok((steps, stored)),
-        Err(stop) => {
-            drop(steps);
-            Err(stop)
-        }
-    }
-}
-
-// The routines, the globals and the devices.
-type Stored<R> = (Image, Globals, Pool<Port<R>>);
-
-// Reads the routines and the globals, and makes the devices.
-fn stored<'a, R: Files + AllocGlobal + Copy + Drop, I: Read>(
-    rt: R,
-    order: &Run<'a>,
-    input: &mut I,
-    devices: &[Named<'a>],
-) -> Result<Stored<R>, Stop<'a>>
-    ensures { IfOk result (λ x. are_global x.1 ≡ true) }
-{
-    let image = loaded(&rt, &order.files)?;
-    let globals = match listed(&rt, order.globals) {
-        Ok(globals) => globals,
-        Err(stop) => {
-            drop(image);
-            return Err(stop);
-        }
-    };
-    match pool_over(rt, order, input, devices) {
-        Ok(pool) => Ok((image, globals, pool)),
-        Err(stop) => {
-            drop(image);
-            drop(globals);
-            Err(stop)
-        }
-    }
-}
-
-// The devices. Standard input is read whole, where the words ask for it.
-fn pool_over<'a, R: Files + AllocGlobal + Copy + Drop, I: Read>(
-    rt: R,
-    order: &Run<'a>,
-    input: &mut I,
-    devices: &[Named<'a>],
-) -> Result<Pool<Port<R>>, Stop<'a>> {
-    let lines = if order.stdin {
-        whole(rt.alloc(), input, "-")?
-    } else {
-        Vec::new(rt.alloc())
-    };
-    pool(rt, lines, devices)
 }
 
 // Runs jobs from what was read.
@@ -217,15 +119,6 @@ where
     drop(steps);
     drop(trace);
     status
-}
-
-// The trace that the run will have, where a file is named for it.
-fn trace_from<'a, R: Files + Drop>(
-    alloc: Global,
-    file: Option<&'a str>,
-    beginning: &Beginning<R>,
-) -> Result<Option<Trace<'a>>, AllocError> {
-    trace_of(alloc, file, &beginning.pool, &beginning.starts)
 }
 
 // Steps the jobs, and writes what comes of them.
@@ -312,7 +205,7 @@ where
 {
     let bytes = jobs.printed(rt.alloc())?;
     print(&bytes, out)?;
-    Ok(if jobs.has_faulted() { FAULTED } else { 0 })
+    Ok(if has_faulted(&jobs.core) { FAULTED } else { 0 })
 }
 
 // Says why stepping ended before its end, if it did, and gives the exit status.
@@ -337,25 +230,6 @@ where
         // Where this can't be written, the status alone tells.
         let _ = err.write_all(&lines);
     }
-}
-
-// Says why something couldn't be done, if so, and gives the exit status.
-fn tell_trouble<E: Write>(done: Result<(), Stop<'_>>, err: &mut E) -> u8
-    ensures { result ≤ 4 }
-{
-    match done {
-        Ok(()) => 0,
-        Err(stop) => stopped(&stop, err),
-    }
-}
-
-// Says why the program stops, and gives the exit status.
-fn stopped<E: Write>(stop: &Stop<'_>, err: &mut E) -> u8
-    ensures { result ≤ 4 }
-{
-    // Where this can't be written either, the status alone tells.
-    let _ = writeln!(err, "{stop}");
-    stop.status()
 }
 
 // Loads the routines of these files, and says how many they are.
@@ -402,12 +276,4 @@ fn tell<'a, O: Write, E: Write>(refusal: &Refusal, out: &mut O, err: &mut E) -> 
         }
         Refusal::Memory => Err(Stop::Memory),
     }
-}
-
-// Writes all bytes.
-fn print<'a, O: Write>(bytes: &[u8], out: &mut O) -> Result<(), Stop<'a>> {
-    if out.write_all(bytes).is_err() || out.flush().is_err() {
-        return Err(Stop::File("-"));
-    }
-    Ok(())
 }

@@ -3,6 +3,7 @@
 ghost use Rattle.std.specs.Prelude.{◌≡◌, ◌≤◌};
 ghost use Rattle.mj_main.specs.Statuses.{status_of};
 
+use mj_dialogue::Trouble;
 use mj_gfile::ReadError;
 use mj_rou::LoadError;
 use mj_steps::{Ending, Refused, StepsError};
@@ -48,6 +49,9 @@ pub enum Stop<'a> {
     /// there are as many events as there may be, or as many steps were made
     #[error("full")]
     Full,
+    /// a job goes on for longer between two of its events than it is followed when these are played again
+    #[error("long")]
+    Long,
     /// an allocation was refused
     #[error("memory")]
     Memory,
@@ -56,6 +60,16 @@ pub enum Stop<'a> {
 impl<'a> From<AllocError> for Stop<'a> {
     fn from(_error: AllocError) -> Stop<'a> {
         Stop::Memory
+    }
+}
+
+impl<'a> From<Trouble> for Stop<'a> {
+    fn from(trouble: Trouble) -> Stop<'a> {
+        match trouble {
+            Trouble::Memory => Stop::Memory,
+            Trouble::Long => Stop::Long,
+            Trouble::Unwritten => Stop::File("-"),
+        }
     }
 }
 
@@ -100,7 +114,7 @@ impl Stop<'_> {
             Stop::Name(_) | Stop::Routine(_) | Stop::Twice(_) | Stop::Listing(_) => REFUSED,
             Stop::Trace(_) | Stop::Steps(_) | Stop::Step { .. } => REFUSED,
             Stop::Value(_) => WORDS,
-            Stop::File(_) | Stop::Stuck | Stop::Full | Stop::Memory => FAILED,
+            Stop::File(_) | Stop::Stuck | Stop::Full | Stop::Long | Stop::Memory => FAILED,
         }
     }
 }

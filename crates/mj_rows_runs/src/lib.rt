@@ -37,6 +37,15 @@ pub fn run_words(rt: &HostRuntime, words: &[&str]) -> Ran {
     Ran { out, err, status }
 }
 
+/// Runs the program by these words, over an input of these bytes.
+pub fn run_over(rt: &HostRuntime, words: &[&str], input: &[u8]) -> Ran {
+    let mut rest = input;
+    let mut out = Vec::new(rt.alloc());
+    let mut err = Vec::new(rt.alloc());
+    let status = mj_main::run(rt, words, &mut rest, &mut out, &mut err);
+    Ran { out, err, status }
+}
+
 /// Runs a routine of these bytes from its first line.
 pub fn row(rt: &HostRuntime, test: &str, bytes: &str) -> Result<Ran, Fail> {
     let folder = folder(rt, test)?;

@@ -1,8 +1,8 @@
 // Steps: which job is stepped, and how.
 //
 // A file has a step a line. `read` accepts exactly the files whose lines all spell a step, and gives these steps; else it names the first
-// line that spells none. Without a file jobs are stepped in turn, round by round: `Round::next` says which step comes next. `step_by` and
-// `step_in_turn` make the steps, of whatever can be stepped.
+// line that spells none; `step_of` and `job_of` read one line, and one number of a job. Without a file jobs are stepped in turn, round by round:
+// `Round::next` says which step comes next. `step_by` and `step_in_turn` make the steps, of whatever can be stepped.
 #![tactic(auto)]
 
 mod drive;
@@ -13,5 +13,6 @@ mod step;
 
 pub use drive::{Ending, Refused, Stepped, step_by, step_in_turn};
 pub use file::{StepsError, read};
+pub use line::{job_of, step_of};
 pub use round::{Next, Round, Standing};
 pub use step::{Step, Way};

@@ -7,5 +7,5 @@ mod order;
 mod read;
 mod texts;
 
-pub use order::{Order, Refusal, Replay, Run};
+pub use order::{Debug, Order, Refusal, Replay, Run};
 pub use read::read_words;

@@ -7,6 +7,8 @@ use std::alloc::AllocError;
 pub enum Order<'a> {
     /// to run jobs
     Run(Run<'a>),
+    /// to step jobs by the commands of a debugger
+    Debug(Debug<'a>),
     /// to load the routines of these files, and to say how many there are
     Check { files: Vec<&'a str> },
     /// to say whether a trace is that of a run
@@ -34,6 +36,15 @@ pub struct Run<'a> {
     pub steps: Option<&'a str>,
     /// whether to say, where all jobs wait, what each waits for
     pub why: bool,
+}
+
+/// Jobs that are to be stepped by the commands of a debugger.
+#[derive(Drop)]
+pub struct Debug<'a> {
+    /// the jobs; standard input isn't theirs, and no file has their steps
+    pub run: Run<'a>,
+    /// whether a prompt is shown where a command is to be given
+    pub prompt: bool,
 }
 
 /// A trace that is to be replayed.

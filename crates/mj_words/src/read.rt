@@ -1,7 +1,7 @@
 // The words of the command line.
 
-use crate::order::{Order, Refusal, Replay, Run};
-use crate::texts::{CHECK_EXAMPLE, EXAMPLES, REPLAY_EXAMPLE, RUN_EXAMPLE, STEP_EXAMPLE, VERSION};
+use crate::order::{Debug, Order, Refusal, Replay, Run};
+use crate::texts::{CHECK_EXAMPLE, DEBUG_EXAMPLE, EXAMPLES, REPLAY_EXAMPLE, RUN_EXAMPLE, STEP_EXAMPLE, VERSION};
 use clap::error::ErrorKind;
 use clap::{Arg, ArgAction, ArgMatches, Command, Error};
 use std::alloc::{AllocError, Global};
@@ -29,7 +29,8 @@ fn ordered<'a, S: AsStr>(
 ) -> Result<Order<'a>, Error> {
     let matches = command.try_get_matches_from_mut(words)?;
     match matches.subcommand() {
-        Some(("run", found)) | Some(("step", found)) => Ok(run_order(alloc, found)?),
+        Some(("run", found)) | Some(("step", found)) => Ok(Order::Run(run_of(alloc, found)?)),
+        Some(("debug", found)) => Ok(debug_order(alloc, found)?),
         Some(("check", found)) => Ok(check_order(alloc, found)?),
         Some(("replay", found)) => Ok(replay_order(alloc, found)?),
         _ => Err(command.error(ErrorKind::MissingSubcommand, "a command is required")?),
@@ -49,7 +50,7 @@ fn refusal(alloc: Global, error: &Error) -> Refusal {
 }
 
 // An option that the command hasn't counts as one that isn't given.
-fn run_order<'a>(alloc: Global, found: &ArgMatches<'a>) -> Result<Order<'a>, AllocError> {
+fn run_of<'a>(alloc: Global, found: &ArgMatches<'a>) -> Result<Run<'a>, AllocError> {
     let mut starts = Vec::new(alloc);
     if let Some(given) = found.get_strs("start") {
         starts.extend_from_slice(given)?;
@@ -58,7 +59,7 @@ fn run_order<'a>(alloc: Global, found: &ArgMatches<'a>) -> Result<Order<'a>, All
     if let Some(given) = found.get_strs("device") {
         devices.extend_from_slice(given)?;
     }
-    Ok(Order::Run(Run {
+    Ok(Run {
         starts,
         files: files(alloc, found)?,
         globals: found.get_str("globals"),
@@ -68,6 +69,13 @@ fn run_order<'a>(alloc: Global, found: &ArgMatches<'a>) -> Result<Order<'a>, All
         devices,
         steps: found.get_str("steps"),
         why: found.get_flag("why"),
+    })
+}
+
+fn debug_order<'a>(alloc: Global, found: &ArgMatches<'a>) -> Result<Order<'a>, AllocError> {
+    Ok(Order::Debug(Debug {
+        run: run_of(alloc, found)?,
+        prompt: found.get_flag("prompt"),
     }))
 }
 
@@ -107,6 +115,7 @@ fn command<'a>(alloc: Global) -> Result<Command<'a>, AllocError> {
         .subcommand_required(true)
         .subcommand(run_command(alloc)?)?
         .subcommand(step_command(alloc)?)?
+        .subcommand(debug_command(alloc)?)?
         .subcommand(check_command(alloc)?)?
         .subcommand(replay_command(alloc)?)
 }
@@ -135,6 +144,19 @@ fn step_command<'a>(alloc: Global) -> Result<Command<'a>, AllocError> {
         .arg(save(alloc))?
         .arg(trace(alloc))?
         .arg(stdin(alloc))?
+        .arg(device(alloc))?
+        .arg(routines(alloc))
+}
+
+fn debug_command<'a>(alloc: Global) -> Result<Command<'a>, AllocError> {
+    Command::new(alloc, "debug")
+        .about("Steps jobs by the commands that standard input has, and prints what is answered to them")
+        .after_help(DEBUG_EXAMPLE)
+        .arg(prompt(alloc))?
+        .arg(start(alloc))?
+        .arg(globals(alloc))?
+        .arg(save(alloc))?
+        .arg(trace(alloc))?
         .arg(device(alloc))?
         .arg(routines(alloc))
 }
@@ -178,6 +200,15 @@ fn why<'a>(alloc: Global) -> Arg<'a> {
     Arg::new(alloc, "why")
         .long("why")
         .help("Says, where all jobs wait, what each waits for")
+        .action(ArgAction::SetTrue)
+}
+
+fn prompt<'a>(alloc: Global) -> Arg<'a> {
+    Arg::new(alloc, "prompt")
+        .long("prompt")
+        .help(
+            "Shows, on standard error, where a job stands and a prompt before each command; at a terminal it is shown anyway",
+        )
         .action(ArgAction::SetTrue)
 }
 

@@ -11,6 +11,7 @@ Examples:
   mj run --device LIST=in:NAMES --device OUT=out:LETTER --start ^R R.m
   mj run --trace TRACE --globals DATA --save DATA --start ^R R.m
   mj step --steps STEPS --start A^R --start B^R R.m
+  mj debug --start ^R R.m
   mj check R.m _TOOL.m
   mj replay --trace TRACE R.m
 
@@ -38,6 +39,21 @@ pub const STEP_EXAMPLE: &str = "\
 Examples, by the steps in a file (`1`, `2` and `1 late` are such lines), and in turn:
   mj step --steps STEPS --start A^R --start B^R R.m
   mj step --why --trace TRACE --start A^R --start B^R R.m";
+
+/// What stands below the help of `debug`.
+pub const DEBUG_EXAMPLE: &str = "\
+Commands, one a line:
+  s N         steps job N; `s N late` steps it where its timeout is over
+  go K        steps the jobs in turn, up to K times or to a breakpoint
+  b R:L       stops `go` at line L of the routine R; `d R:L` doesn't any more
+  back, fwd   go one event back or on along the record of what happened
+  f N, v N    show the frames and the variables of job N
+  k, g        show who holds which names, and the globals
+  q           ends
+
+Examples, at a terminal, and by the commands in a file:
+  mj debug --start ^R R.m
+  mj debug --globals DATA --start A^R --start B^R R.m < COMMANDS";
 
 /// What stands below the help of `check`.
 pub const CHECK_EXAMPLE: &str = "\

@@ -1,0 +1,120 @@
+-- What the debugger answers to a command.
+use Rattle.std.specs.Prelude.{◌≡◌, ℕ, zero, suc, List, [], ◌++◌, Bool, true, false, Option, None, Some, Result, Ok, Err, codes, ◌⊎◌}
+use Rattle.mj_semantics.specs.State.{Locals, Place}
+use Rattle.mj_gfile.specs.Spelling.{listed_lines}
+use Rattle.mj_load.specs.Image.{routines_of}
+use Rattle.mj_jobs.specs.Rows.{row_at}
+use Rattle.mj_sys.specs.Shared.{Shared}
+use Rattle.mj_sys.specs.History.{History, state_of}
+use Rattle.mj_steps.specs.declared.step.Step.{Step}
+use Rattle.mj_steps.specs.declared.step.Way.{Way}
+use Rattle.mj_steps.specs.declared.step.Way.TheVariants as ways
+use Rattle.mj_core.specs.declared.seen.Seen.{Seen}
+use Rattle.mj_core.specs.declared.seen.Refusal.{Refusal}
+use Rattle.mj_core.specs.declared.seen.Refusal.TheVariants as refusals
+use Rattle.mj_core.specs.declared.seen.Step.{Step as CoreStep}
+use Rattle.mj_core.specs.declared.seen.Way.{Way as CoreWay}
+use Rattle.mj_core.specs.declared.seen.Way.TheVariants as core_ways
+use Rattle.mj_debug.specs.declared.debugger.Refused.{Refused}
+use Rattle.mj_debug.specs.declared.debugger.Refused.TheVariants as refused
+use Rattle.mj_debug.specs.declared.debugger.Gone.{Gone}
+use Rattle.mj_debug.specs.declared.debugger.Gone.TheVariants as gones
+use Rattle.mj_debug.specs.Breaks.{AreMarked}
+use Rattle.mj_debug.specs.Goes.{GoGives}
+use Rattle.mj_debug.specs.Shows.{HasStood}
+use Rattle.mj_debug.specs.Walks.{Walk, front, told, StepGives, GoesBack, GoesForth}
+use Rattle.mj_commands.specs.declared.command.Command.{Command}
+use Rattle.mj_commands.specs.declared.command.Command.TheVariants as commands
+use Rattle.mj_dialogue.specs.Lines.{lined, event_line, seen_line, TellsRefusal, stop_line, spot_lines, held_lines}
+
+-- the same way and the same step, of a core
+abbrev pub way_of : Way → CoreWay
+way_of ways.Go = core_ways.Go
+way_of ways.Late = core_ways.Late
+
+abbrev pub step_of : Step → CoreStep
+step_of step = record { job = step.job; way = way_of step.way }
+
+-- what is told of a step: what came of it; why it isn't made; or that the place isn't the record's end
+abbrev pub Tells : History → Result Seen Refused → List ℕ → Type 0
+Tells history (Ok seen) bytes = bytes ≡ seen_line history seen
+Tells history (Err (refused.Step why)) bytes = TellsRefusal why bytes
+Tells history (Err refused.NotAtEnd) bytes = bytes ≡ lined (codes "not at end")
+
+-- whether a step isn't made since the record is full
+abbrev pub is_full : Result Seen Refused → Bool
+is_full (Err (refused.Step refusals.Full)) = true
+is_full _ = false
+
+-- what is told of one step of many in turn: of all jobs having ended, nothing
+abbrev pub TellsGone : History → Gone → List ℕ → Type 0
+TellsGone history gones.NotAtEnd bytes = bytes ≡ lined (codes "not at end")
+TellsGone history gones.Over bytes = bytes ≡ []
+TellsGone history (gones.At job routine line) bytes = bytes ≡ stop_line job routine line
+TellsGone history (gones.Step job answer) bytes = Tells history (told answer) bytes
+
+-- whether it isn't made since the record is full
+abbrev pub is_full_at : Gone → Bool
+is_full_at (gones.Step job answer) = is_full (told answer)
+is_full_at _ = false
+
+-- whether others follow it: where it was made
+abbrev pub is_made : Gone → Bool
+is_made (gones.Step job (Ok seen)) = true
+is_made _ = false
+
+-- Up to so many steps in turn, each told behind the one before it, up to the first that isn't made.
+abbrev pub Goes : Shared → ℕ → Bool → Walk → List ℕ → Bool → Walk → Type 0
+
+abbrev pub GoesOn : Shared → ℕ → Bool → Bool → Walk → List ℕ → Bool → Walk → Type 0
+Goes opening zero first old bytes full new = (bytes ≡ []) × (full ≡ false) × (new ≡ old)
+Goes opening (suc count) first old bytes full new =
+    (gone : Gone) × (mid : Walk) × GoGives opening old first gone mid
+    × ((told : List ℕ) × TellsGone mid.core.history gone told
+    × ((rest : List ℕ) × (bytes ≡ told ++ rest) × GoesOn opening count (is_made gone) (is_full_at gone) mid rest full new))
+GoesOn opening count true at mid rest full new = Goes opening count false mid rest full new
+GoesOn opening count false at mid rest full new = (rest ≡ []) × (full ≡ at) × (new ≡ mid)
+
+-- the event that was gone over, or that there is none
+abbrev pub walked_line : History → Option ℕ → List ℕ
+walked_line history None = lined (codes "none")
+walked_line history (Some at) = event_line history at
+
+-- no job has this number at the place
+abbrev pub IsNoJob : Shared → Walk → ℕ → List ℕ → Type 0
+IsNoJob opening walk job bytes = (row_at (state_of opening (front walk)).rows job ≡ None) × (bytes ≡ lined (codes "C1"))
+
+-- the lines of a job's frames, the innermost first, as it stood at the ask of its last event before the place
+abbrev pub ShowsFrames : Shared → Walk → ℕ → List ℕ → Type 0
+ShowsFrames opening walk job bytes =
+    IsNoJob opening walk job bytes
+    ⊎ ((locals : Locals) × (places : List Place) × HasStood (routines_of walk.core.image) opening (front walk) job locals places × (bytes ≡ spot_lines places))
+
+-- the lines of its locals there
+abbrev pub ShowsLocals : Shared → Walk → ℕ → List ℕ → Type 0
+ShowsLocals opening walk job bytes =
+    IsNoJob opening walk job bytes
+    ⊎ ((locals : Locals) × (places : List Place) × HasStood (routines_of walk.core.image) opening (front walk) job locals places × (bytes ≡ listed_lines locals))
+
+-- nothing changes but what is at hand
+abbrev pub IsKept : Walk → Walk → Type 0
+IsKept old new = new ≡ record old { ready = new.ready }
+
+-- What is answered to a command, whether it is told that the record is full, and what is left then.
+abbrev pub Says : Shared → Walk → Command → List ℕ → Bool → Walk → Type 0
+Says opening old (commands.Step step) bytes full new =
+    (answer : Result Seen Refused) × StepGives opening old (step_of step) answer new × Tells new.core.history answer bytes × (full ≡ is_full answer)
+Says opening old (commands.Go count) bytes full new = Goes opening count true old bytes full new
+Says opening old (commands.Set routine line) bytes full new =
+    AreMarked old.core.image (record { routine = routine; line = line }) true old.marks new.marks
+    × (new ≡ record old { marks = new.marks }) × (bytes ≡ lined (codes "ok")) × (full ≡ false)
+Says opening old (commands.Clear routine line) bytes full new =
+    AreMarked old.core.image (record { routine = routine; line = line }) false old.marks new.marks
+    × (new ≡ record old { marks = new.marks }) × (bytes ≡ lined (codes "ok")) × (full ≡ false)
+Says opening old commands.Back bytes full new = (at : Option ℕ) × GoesBack old at new × (bytes ≡ walked_line old.core.history at) × (full ≡ false)
+Says opening old commands.Forward bytes full new = (at : Option ℕ) × GoesForth old at new × (bytes ≡ walked_line old.core.history at) × (full ≡ false)
+Says opening old (commands.Frames job) bytes full new = IsKept old new × ShowsFrames opening old job bytes × (full ≡ false)
+Says opening old (commands.Locals job) bytes full new = IsKept old new × ShowsLocals opening old job bytes × (full ≡ false)
+Says opening old commands.Locks bytes full new = IsKept old new × (bytes ≡ held_lines (state_of opening (front old)).locks) × (full ≡ false)
+Says opening old commands.Globals bytes full new = IsKept old new × (bytes ≡ listed_lines (state_of opening (front old)).globals) × (full ≡ false)
+Says opening old commands.Quit bytes full new = (new ≡ old) × (bytes ≡ []) × (full ≡ false)

@@ -1,0 +1,169 @@
+// Steps, and what is answered of them.
+
+ghost use Rattle.std.specs.Prelude.{◌≡◌, Result, Ok, Err, IfOk, false};
+ghost use Rattle.mj_core.specs.declared.seen.Seen.{Seen as SeenOf};
+ghost use Rattle.mj_debug.specs.declared.debugger.Refused.{Refused as RefusedOf};
+ghost use Rattle.mj_debug.specs.declared.debugger.Refused.TheVariants as refused;
+ghost use Rattle.mj_debug.specs.declared.debugger.Gone.{Gone as GoneOf};
+ghost use Rattle.mj_debug.specs.Goes.{GoGives};
+ghost use Rattle.mj_debug.specs.Walks.{StepGives, told as as_told};
+ghost use Rattle.mj_dialogue.specs.Lines.{seen_line, TellsRefusal};
+ghost use Rattle.mj_dialogue.specs.Says.{step_of, is_full, is_full_at, is_made, Tells, TellsGone};
+
+use crate::tell::{busy, event, line, refusal, stop};
+use mj_core::{Core, Refusal, Seen};
+use mj_debug::{Debugger, Gone, Refused, Unshown};
+use mj_dev::Device;
+use mj_steps::{Step, Way};
+use mj_sys::Opening;
+use std::alloc::{AllocError, Global};
+
+// What is told of a step, and whether it isn't made since the record is full.
+#[derive(Drop)]
+pub struct Told {
+    pub bytes: Vec<u8>,
+    pub full: bool,
+}
+
+// Makes a step.
+pub fn step<D: Device, O: Opening>(
+    alloc: Global,
+    debugger: &mut Debugger<D, O>,
+    step: Step,
+) -> Result<Told, AllocError>
+    ensures { IfOk result (λ told. (answer : Result SeenOf RefusedOf) × StepGives O.opening debugger.old (step_of step) answer debugger.new
+        × Tells debugger.new.core.history answer told.bytes.items × (told.full ≡ is_full answer)) }
+{
+    let answer = debugger.step(core_step(step));
+    tell(alloc, debugger.core(), &answer)
+}
+
+// The same step, of a core.
+fn core_step(step: Step) -> mj_core::Step
+    ensures { result ≡ step_of step }
+{
+    mj_core::Step {
+        job: step.job,
+        way: match step.way {
+            Way::Go => mj_core::Way::Go,
+            Way::Late => mj_core::Way::Late,
+        },
+    }
+}
+
+// What is told of a step.
+fn tell<D: Device, O: Opening>(
+    alloc: Global,
+    core: &Core<D, O>,
+    answer: &Result<Seen, Refused>,
+) -> Result<Told, AllocError>
+    ensures { IfOk result (λ told. Tells core.now.history answer.now told.bytes.items × (told.full ≡ is_full answer.now)) }
+{
+    match answer {
+        Ok(seen) => tell_seen(alloc, core, seen),
+        Err(Refused::Step(why)) => tell_refusal(alloc, *why),
+        Err(Refused::NotAtEnd) => {
+            let bytes = line(alloc, b"not at end")?;
+            Ok(Told { bytes, full: false })
+        }
+    }
+}
+
+// What is told of a step that was made.
+fn tell_seen<D: Device, O: Opening>(
+    alloc: Global,
+    core: &Core<D, O>,
+    seen: &Seen,
+) -> Result<Told, AllocError>
+    ensures { IfOk result (λ told. (told.bytes.items ≡ seen_line core.now.history seen.now) × (told.full ≡ false)) }
+{
+    let bytes = match seen {
+        Seen::Event(at) => event(alloc, core, *at)?,
+        Seen::Busy { holder, held } => busy(alloc, *holder, held)?,
+        Seen::NotYet => line(alloc, b"notyet")?,
+        Seen::Unfit => line(alloc, b"unfit")?,
+        Seen::Ran => line(alloc, b"ran")?,
+        Seen::Ended => line(alloc, b"C3")?,
+    };
+    Ok(Told { bytes, full: false })
+}
+
+// What is told of a step that isn't.
+fn tell_refusal(alloc: Global, why: Refusal) -> Result<Told, AllocError>
+    ensures { IfOk result (λ told. TellsRefusal why told.bytes.items × (told.full ≡ is_full (Err (refused.Step why)))) }
+{
+    let bytes = refusal(alloc, why)?;
+    Ok(Told {
+        bytes,
+        full: why == Refusal::Full,
+    })
+}
+
+// One step of many in turn: what is told of it, and whether others follow.
+#[derive(Drop)]
+pub struct Passed {
+    pub told: Told,
+    pub made: bool,
+}
+
+// Makes the next of many steps in turn, `first` at the first of them.
+pub fn pass<D: Device, O: Opening>(
+    alloc: Global,
+    debugger: &mut Debugger<D, O>,
+    first: bool,
+) -> Result<Passed, Unshown>
+    ensures { IfOk result (λ passed. (gone : GoneOf) × GoGives O.opening debugger.old first gone debugger.new
+        × TellsGone debugger.new.core.history gone passed.told.bytes.items × (passed.told.full ≡ is_full_at gone) × (passed.made ≡ is_made gone)) }
+{
+    let gone = debugger.go(first)?;
+    Ok(tell_gone(alloc, debugger.core(), &gone)?)
+}
+
+// What is told of one step of many in turn.
+fn tell_gone<D: Device, O: Opening>(
+    alloc: Global,
+    core: &Core<D, O>,
+    gone: &Gone,
+) -> Result<Passed, AllocError>
+    ensures { IfOk result (λ passed. TellsGone core.now.history gone.now passed.told.bytes.items
+        × (passed.told.full ≡ is_full_at gone.now) × (passed.made ≡ is_made gone.now)) }
+{
+    match gone {
+        Gone::Step { answer, .. } => {
+            let told = tell_made(alloc, core, answer)?;
+            Ok(Passed {
+                told,
+                made: answer.is_ok(),
+            })
+        }
+        Gone::At { job, routine, line } => Ok(last(stop(alloc, *job, routine, *line)?)),
+        Gone::NotAtEnd => Ok(last(line(alloc, b"not at end")?)),
+        Gone::Over => Ok(last(Vec::new(alloc))),
+    }
+}
+
+// What is told of what a job does whose turn it is.
+fn tell_made<D: Device, O: Opening>(
+    alloc: Global,
+    core: &Core<D, O>,
+    answer: &Result<Seen, Refusal>,
+) -> Result<Told, AllocError>
+    ensures { IfOk result (λ told. Tells core.now.history (as_told answer.now) told.bytes.items × (told.full ≡ is_full (as_told answer.now))) }
+{
+    match answer {
+        Ok(seen) => tell_seen(alloc, core, seen),
+        Err(why) => tell_refusal(alloc, *why),
+    }
+}
+
+// What is told where no step is made, nor any behind it.
+fn last(bytes: Vec<u8>) -> Passed
+    ensures bytes { result.told.bytes ≡ bytes }
+    ensures full { result.told.full ≡ false }
+    ensures made { result.made ≡ false }
+{
+    Passed {
+        told: Told { bytes, full: false },
+        made: false,
+    }
+}

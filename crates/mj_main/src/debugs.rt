@@ -1,0 +1,255 @@
+// The debugger, over the commands that a reader gives.
+
+ghost use Rattle.std.specs.Prelude.{◌≡◌, ◌≤◌, length, true};
+ghost use Rattle.mj_dev.specs.Shelves.{principal, left_of};
+ghost use Rattle.mj_jobs.specs.Rows.{rows_limit};
+ghost use Rattle.mj_sys.specs.Opening.{opening_of};
+ghost use Rattle.mj_sys.specs.Shared.{are_global};
+ghost use Rattle.mj_debug.specs.Walks.{AreWhole};
+
+use crate::begin::{Beginning, begin, trace_from};
+use crate::jobs::has_faulted;
+use crate::listings::save;
+use crate::printing::{print, stopped, tell_trouble};
+use crate::prompts::{Prompt, prompt_of};
+use crate::stop::{FAILED, FAULTED, Stop};
+use crate::traces::{Trace, write_trace};
+use mj_ask::Start;
+use mj_commands::Command;
+use mj_debug::Debugger;
+use mj_dev::{Device, Pool};
+use mj_dialogue::{Trouble, answer};
+use mj_files::Port;
+use mj_globs::Globals;
+use mj_jobs::ROWS_LIMIT;
+use mj_load::Image;
+use mj_sys::Opening;
+use mj_words::{Debug, Run};
+use std::alloc::Global;
+use std::io::{BufRead, BufReader, ErrorKind, Read, Write};
+use std::marker::Brand;
+use std::rt::Files;
+
+/// Answers the commands of `input` on `out`, each before the next is read, and gives the exit status. The globals and the trace are written
+/// behind the last one, as they stand at the record's end.
+pub fn debug<R, I, O, E>(rt: R, order: &Debug<'_>, input: &mut I, out: &mut O, err: &mut E) -> u8
+where
+    R: Files + AllocGlobal + Copy + Drop,
+    I: Read,
+    O: Write,
+    E: Write,
+    ensures { result ≤ 4 }
+{
+    match begin(rt, &order.run, input) {
+        Ok(beginning) => debug_from(rt, order, beginning, input, out, err),
+        Err(stop) => stopped(&stop, err),
+    }
+}
+
+// Answers commands from what was read.
+fn debug_from<R, I, O, E>(
+    rt: R,
+    order: &Debug<'_>,
+    beginning: Beginning<R>,
+    input: &mut I,
+    out: &mut O,
+    err: &mut E,
+) -> u8
+where
+    R: Files + AllocGlobal + Copy + Drop,
+    I: Read,
+    O: Write,
+    E: Write,
+    ensures { result ≤ 4 }
+{
+    let starts = &beginning.starts;
+    if starts.is_empty() || starts.len() > ROWS_LIMIT || !beginning.pool.fits(starts.len() as u32) {
+        drop(beginning);
+        return stopped(&Stop::Memory, err);
+    }
+    let Ok(trace) = trace_from(rt.alloc(), order.run.trace, &beginning) else {
+        drop(beginning);
+        return stopped(&Stop::Memory, err);
+    };
+    let prompt = match prompt_of(&rt, order) {
+        Ok(prompt) => prompt,
+        Err(stop) => {
+            drop(beginning);
+            drop(trace);
+            return stopped(&stop, err);
+        }
+    };
+    let Beginning {
+        steps,
+        image,
+        globals,
+        pool,
+        starts,
+    } = beginning;
+    drop(steps);
+    let status = over::<R, I, O, E, Port<R>, Brand>(
+        &rt, &order.run, &prompt, &trace, image, globals, pool, starts, input, out, err,
+    );
+    drop(trace);
+    drop(prompt);
+    status
+}
+
+// Answers commands over a debugger, and writes what is left.
+fn over<R, I, O, E, D, G>(
+    rt: &R,
+    order: &Run<'_>,
+    prompt: &Option<Prompt>,
+    trace: &Option<Trace<'_>>,
+    image: Image,
+    globals: Globals,
+    pool: Pool<D>,
+    starts: Vec<Start>,
+    input: &mut I,
+    out: &mut O,
+    err: &mut E,
+) -> u8
+where
+    R: Files + AllocGlobal,
+    I: Read,
+    O: Write,
+    E: Write,
+    D: Device,
+    G: Opening,
+    requires opening { opening_of globals pool starts.items ≡ G.opening }
+    requires global { are_global globals ≡ true }
+    requires some { 1 ≤ length starts.items }
+    requires few { length starts.items ≤ rows_limit }
+    requires fits { length starts.items ≤ left_of principal pool }
+    requires whole { AreWhole pool }
+    ensures { result ≤ 4 }
+{
+    match Debugger::<D, G>::new(rt.alloc(), image, globals, pool, starts) {
+        Ok(mut debugger) => {
+            let told = converse(rt.alloc(), &mut debugger, prompt, input, out, err);
+            let status = finish(rt, &debugger, order, trace, told, err);
+            drop(debugger);
+            status
+        }
+        Err(back) => {
+            drop(back);
+            stopped(&Stop::Memory, err)
+        }
+    }
+}
+
+// Answers commands up to the one that ends, or up to the end of the input, or as far as they can be answered, and gives the exit status of that.
+fn converse<I, O, E, D, G>(
+    alloc: Global,
+    debugger: &mut Debugger<D, G>,
+    prompt: &Option<Prompt>,
+    input: &mut I,
+    out: &mut O,
+    err: &mut E,
+) -> u8
+where
+    I: Read,
+    O: Write,
+    E: Write,
+    D: Device,
+    G: Opening,
+    ensures { result ≤ 4 }
+{
+    let Ok(mut reader) = BufReader::new(alloc, input) else {
+        return stopped(&Stop::Memory, err);
+    };
+    let mut full = false;
+    for _ in 0..u64::MAX {
+        if let Some(prompt) = prompt {
+            prompt.show(debugger, err);
+        }
+        match exchange(alloc, debugger, prompt, &mut reader, out, err) {
+            Ok(Exchanged::Answered { full: told }) => full = full || told,
+            Ok(Exchanged::Over) => break,
+            Err(stop) => return stopped(&stop, err),
+        }
+    }
+    if full { FAILED } else { 0 }
+}
+
+// What comes of a line.
+enum Exchanged {
+    // it was answered; whether that the record is full
+    Answered { full: bool },
+    // it ends the commands, or there is none
+    Over,
+}
+
+// Reads the next command, and answers it.
+fn exchange<'a, B, O, E, D, G>(
+    alloc: Global,
+    debugger: &mut Debugger<D, G>,
+    prompt: &Option<Prompt>,
+    reader: &mut B,
+    out: &mut O,
+    err: &mut E,
+) -> Result<Exchanged, Stop<'a>>
+where
+    B: BufRead,
+    O: Write,
+    E: Write,
+    D: Device,
+    G: Opening,
+{
+    let Some(line) = next_line(alloc, reader)? else {
+        return Ok(Exchanged::Over);
+    };
+    let Some(command) = mj_commands::read(alloc, &line)? else {
+        print(b"?\n", out)?;
+        if let Some(prompt) = prompt {
+            prompt.help(&line, err);
+        }
+        return Ok(Exchanged::Answered { full: false });
+    };
+    if let Command::Quit = &command {
+        return Ok(Exchanged::Over);
+    }
+    let full = answer(alloc, debugger, &command, out)?;
+    print(b"", out)?;
+    Ok(Exchanged::Answered { full })
+}
+
+// The next line, without its end, which the last may lack.
+fn next_line<'a, B: BufRead>(alloc: Global, reader: &mut B) -> Result<Option<Vec<u8>>, Stop<'a>> {
+    let mut line = Vec::new(alloc);
+    match reader.read_until(b'\n', &mut line) {
+        Ok(0) => Ok(None),
+        Ok(_) => {
+            if line.last() == Some(&b'\n') {
+                let _ = line.pop();
+            }
+            Ok(Some(line))
+        }
+        Err(error) if error.kind() == ErrorKind::OutOfMemory => Err(Stop::Memory),
+        Err(_) => Err(Stop::File("-")),
+    }
+}
+
+// Writes the globals and the trace, and gives the exit status: the greatest where several apply.
+fn finish<R, E, D, G>(
+    rt: &R,
+    debugger: &Debugger<D, G>,
+    order: &Run<'_>,
+    trace: &Option<Trace<'_>>,
+    told: u8,
+    err: &mut E,
+) -> u8
+where
+    R: Files + AllocGlobal,
+    E: Write,
+    D: Device,
+    G: Opening,
+    requires { told ≤ 4 }
+    ensures { result ≤ 4 }
+{
+    let core = debugger.core();
+    let faulted = if has_faulted(core) { FAULTED } else { 0 };
+    let saved = tell_trouble(save(rt, core.globals(), order.save), err);
+    let traced = tell_trouble(write_trace(rt, trace, core), err);
+    told.max(faulted).max(saved).max(traced)
+}

@@ -1,0 +1,33 @@
+// What is printed, and the exit status that goes with it.
+
+ghost use Rattle.std.specs.Prelude.{◌≤◌};
+
+use crate::stop::Stop;
+use std::io::Write;
+
+/// Says why something couldn't be done, if so, and gives the exit status.
+pub fn tell_trouble<E: Write>(done: Result<(), Stop<'_>>, err: &mut E) -> u8
+    ensures { result ≤ 4 }
+{
+    match done {
+        Ok(()) => 0,
+        Err(stop) => stopped(&stop, err),
+    }
+}
+
+/// Says why the program stops, and gives the exit status.
+pub fn stopped<E: Write>(stop: &Stop<'_>, err: &mut E) -> u8
+    ensures { result ≤ 4 }
+{
+    // Where this can't be written either, the status alone tells.
+    let _ = writeln!(err, "{stop}");
+    stop.status()
+}
+
+/// Writes all bytes.
+pub fn print<'a, O: Write>(bytes: &[u8], out: &mut O) -> Result<(), Stop<'a>> {
+    if out.write_all(bytes).is_err() || out.flush().is_err() {
+        return Err(Stop::File("-"));
+    }
+    Ok(())
+}
