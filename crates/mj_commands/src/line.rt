@@ -62,10 +62,10 @@ fn numbered(line: &[u8]) -> Option<Command>
     if let Some(count) = going(line) {
         return Some(Command::Go(count));
     }
-    if let Some(job) = of_job(b"f ", line) {
+    if let Some(job) = framed(line) {
         return Some(Command::Frames(job));
     }
-    let job = of_job(b"v ", line)?;
+    let job = localed(line)?;
     Some(Command::Locals(job))
 }
 
@@ -85,12 +85,20 @@ fn going(line: &[u8]) -> Option<u32>
     count_of(line.strip_prefix(b"go ")?)
 }
 
-// The job of which something is to be shown.
-fn of_job(word: &[u8], line: &[u8]) -> Option<u32>
-    ensures some { IfSome result (λ job. IsJob job × (line.now ≡ word.now ++ decimal job)) }
-    ensures none { IfNone result ((job : ℕ) → IsJob job → line.now ≢ word.now ++ decimal job) }
+// The job whose frames are to be shown.
+fn framed(line: &[u8]) -> Option<u32>
+    ensures some { IfSome result (λ job. IsJob job × (line.now ≡ codes "f " ++ decimal job)) }
+    ensures none { IfNone result ((job : ℕ) → IsJob job → line.now ≢ codes "f " ++ decimal job) }
 {
-    job_of(line.strip_prefix(word)?)
+    job_of(line.strip_prefix(b"f ")?)
+}
+
+// The job whose locals are to be shown.
+fn localed(line: &[u8]) -> Option<u32>
+    ensures some { IfSome result (λ job. IsJob job × (line.now ≡ codes "v " ++ decimal job)) }
+    ensures none { IfNone result ((job : ℕ) → IsJob job → line.now ≢ codes "v " ++ decimal job) }
+{
+    job_of(line.strip_prefix(b"v ")?)
 }
 
 // A line of a routine that is to be stopped at.

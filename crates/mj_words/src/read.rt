@@ -1,7 +1,9 @@
 // The words of the command line.
 
 use crate::order::{Debug, Order, Refusal, Replay, Run};
-use crate::texts::{CHECK_EXAMPLE, DEBUG_EXAMPLE, EXAMPLES, REPLAY_EXAMPLE, RUN_EXAMPLE, STEP_EXAMPLE, VERSION};
+use crate::texts::{
+    CHECK_EXAMPLE, DEBUG_EXAMPLE, EXAMPLES, REPLAY_EXAMPLE, RUN_EXAMPLE, STEP_EXAMPLE, VERSION,
+};
 use clap::error::ErrorKind;
 use clap::{Arg, ArgAction, ArgMatches, Command, Error};
 use std::alloc::{AllocError, Global};
@@ -150,7 +152,9 @@ fn step_command<'a>(alloc: Global) -> Result<Command<'a>, AllocError> {
 
 fn debug_command<'a>(alloc: Global) -> Result<Command<'a>, AllocError> {
     Command::new(alloc, "debug")
-        .about("Steps jobs by the commands that standard input has, and prints what is answered to them")
+        .about(
+            "Steps jobs by the commands that standard input has, and prints what is answered to them",
+        )
         .after_help(DEBUG_EXAMPLE)
         .arg(prompt(alloc))?
         .arg(start(alloc))?
