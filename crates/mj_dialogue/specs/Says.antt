@@ -63,17 +63,19 @@ abbrev pub is_made : Gone → Bool
 is_made (gones.Step job (Ok seen)) = true
 is_made _ = false
 
+-- what is left to be told behind a step: what the further ones say, where it was made; else nothing, since it is the last
+abbrev pub IsLeft : Bool → Bool → Walk → List ℕ → Bool → Walk → Type 0 → Type 0
+IsLeft true last mid rest full new Further = Further
+IsLeft false last mid rest full new Further = (rest ≡ []) × (full ≡ last) × (new ≡ mid)
+
 -- Up to so many steps in turn, each told behind the one before it, up to the first that isn't made.
 abbrev pub Goes : Shared → ℕ → Bool → Walk → List ℕ → Bool → Walk → Type 0
-
-abbrev pub GoesOn : Shared → ℕ → Bool → Bool → Walk → List ℕ → Bool → Walk → Type 0
 Goes opening zero first old bytes full new = (bytes ≡ []) × (full ≡ false) × (new ≡ old)
 Goes opening (suc count) first old bytes full new =
     (gone : Gone) × (mid : Walk) × GoGives opening old first gone mid
     × ((told : List ℕ) × TellsGone mid.core.history gone told
-    × ((rest : List ℕ) × (bytes ≡ told ++ rest) × GoesOn opening count (is_made gone) (is_full_at gone) mid rest full new))
-GoesOn opening count true at mid rest full new = Goes opening count false mid rest full new
-GoesOn opening count false at mid rest full new = (rest ≡ []) × (full ≡ at) × (new ≡ mid)
+    × ((rest : List ℕ) × (bytes ≡ told ++ rest)
+    × IsLeft (is_made gone) (is_full_at gone) mid rest full new (Goes opening count false mid rest full new)))
 
 -- the event that was gone over, or that there is none
 abbrev pub walked_line : History → Option ℕ → List ℕ
