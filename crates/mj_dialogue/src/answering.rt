@@ -1,12 +1,11 @@
 // The answer to a command.
 
-ghost use Rattle.std.specs.Prelude.{◌≡◌, Bool, List, ℕ, IfOk, OnOk, OnErr, IfErr, true, false};
+ghost use Rattle.std.specs.Prelude.{◌≡◌, Bool, List, ℕ, IfOk, OnOk, OnErr, true, false};
 ghost use Rattle.std.specs.Io.KnownBytes.{Appends};
 ghost use Rattle.mj_dialogue.specs.Says.{Says, Goes};
 
-use crate::shows::{frames, globals, locals, locks};
-use crate::steps::{Told, pass, step};
-use crate::tell::{event, line};
+use crate::doing::{back, clear, forward, frames, globals, locals, locks, set};
+use crate::steps::{pass, step};
 use mj_commands::Command;
 use mj_debug::{Debugger, Unshown};
 use mj_dev::Device;
@@ -51,77 +50,32 @@ pub fn answer<D: Device, O: Opening, W: Write>(
     ensures { IfOk result (λ full. (bytes : List ℕ) × Says O.opening debugger.old command.now bytes full debugger.new
         × Appends (W.contents out.old) (W.contents out.new) bytes) }
 {
-    let told = match command {
-        Command::Go(count) => return go(alloc, debugger, *count, out),
-        Command::Step(given) => step(alloc, debugger, *given)?,
-        other => Told {
-            bytes: shown(alloc, debugger, other)?,
-            full: false,
-        },
-    };
-    put(out, &told.bytes)?;
-    Ok(told.full)
-}
-
-// What is answered to a command that makes no step.
-fn shown<D: Device, O: Opening>(
-    alloc: Global,
-    debugger: &mut Debugger<D, O>,
-    command: &Command,
-) -> Result<Vec<u8>, Trouble> {
     match command {
-        Command::Set {
-            routine,
-            line: number,
-        } => {
-            debugger.set(routine, *number)?;
-            Ok(line(alloc, b"ok")?)
+        Command::Go(count) => go(alloc, debugger, *count, out),
+        Command::Step(given) => {
+            let told = step(alloc, debugger, *given)?;
+            give(out, &told.bytes, told.full)
         }
-        Command::Clear {
-            routine,
-            line: number,
-        } => {
-            debugger.clear(routine, *number)?;
-            Ok(line(alloc, b"ok")?)
+        Command::Set { routine, line } => give(out, &set(alloc, debugger, routine, *line)?, false),
+        Command::Clear { routine, line } => {
+            give(out, &clear(alloc, debugger, routine, *line)?, false)
         }
-        Command::Back => {
-            let at = debugger.back();
-            Ok(walked(alloc, debugger, at)?)
-        }
-        Command::Forward => {
-            let at = debugger.forward();
-            Ok(walked(alloc, debugger, at)?)
-        }
-        Command::Frames(job) => {
-            debugger.show()?;
-            Ok(frames(alloc, debugger, *job)?)
-        }
-        Command::Locals(job) => {
-            debugger.show()?;
-            Ok(locals(alloc, debugger, *job)?)
-        }
-        Command::Locks => {
-            debugger.show()?;
-            Ok(locks(alloc, debugger)?)
-        }
-        Command::Globals => {
-            debugger.show()?;
-            Ok(globals(alloc, debugger)?)
-        }
-        _ => Ok(Vec::new(alloc)),
+        Command::Back => give(out, &back(alloc, debugger)?, false),
+        Command::Forward => give(out, &forward(alloc, debugger)?, false),
+        Command::Frames(job) => give(out, &frames(alloc, debugger, *job)?, false),
+        Command::Locals(job) => give(out, &locals(alloc, debugger, *job)?, false),
+        Command::Locks => give(out, &locks(alloc, debugger)?, false),
+        Command::Globals => give(out, &globals(alloc, debugger)?, false),
+        Command::Quit => Ok(false),
     }
 }
 
-// The event that was gone over, or that there is none.
-fn walked<D: Device, O: Opening>(
-    alloc: Global,
-    debugger: &Debugger<D, O>,
-    at: Option<usize>,
-) -> Result<Vec<u8>, AllocError> {
-    match at {
-        Some(at) => event(alloc, debugger.core(), at),
-        None => line(alloc, b"none"),
-    }
+// Writes an answer, which says or doesn't say that the record is full.
+fn give<W: Write>(out: &mut W, bytes: &[u8], full: bool) -> Result<bool, Trouble>
+    ensures { IfOk result (λ told. (told ≡ full) × Appends (W.contents out.old) (W.contents out.new) bytes.now) }
+{
+    put(out, bytes)?;
+    Ok(full)
 }
 
 // Makes up to so many steps in turn.

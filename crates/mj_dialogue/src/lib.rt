@@ -1,10 +1,11 @@
 // What a debugger answers to commands.
 //
 // `answer` does what a command asks for and writes its lines (`specs/Says.antt`): of a step what came of it, of a walk along the record the line of the event that it
-// went over, and of a show what stands at the place. `go_on` is one step of many in turn.
+// went over, and of a show what stands at the place. Each line of a `go` is written as soon as its step is made.
 #![tactic(auto)]
 
 mod answering;
+mod doing;
 mod shows;
 mod steps;
 mod tell;

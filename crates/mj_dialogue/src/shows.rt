@@ -21,7 +21,7 @@ use mj_sys::Opening;
 use std::alloc::{AllocError, Global};
 
 // The lines of a job's frames, the innermost first.
-pub fn frames<D: Device, O: Opening>(
+pub fn frames_at<D: Device, O: Opening>(
     alloc: Global,
     debugger: &Debugger<D, O>,
     job: u32,
@@ -47,7 +47,7 @@ fn frame_lines(alloc: Global, frames: &[Frame]) -> Result<Vec<u8>, AllocError>
 }
 
 // The lines of a job's locals.
-pub fn locals<D: Device, O: Opening>(
+pub fn locals_at<D: Device, O: Opening>(
     alloc: Global,
     debugger: &Debugger<D, O>,
     job: u32,
@@ -65,7 +65,7 @@ pub fn locals<D: Device, O: Opening>(
 }
 
 // The lines of the committed globals.
-pub fn globals<D: Device, O: Opening>(
+pub fn globals_at<D: Device, O: Opening>(
     alloc: Global,
     debugger: &Debugger<D, O>,
 ) -> Result<Vec<u8>, AllocError>
@@ -79,7 +79,7 @@ pub fn globals<D: Device, O: Opening>(
 }
 
 // The lines of the names that are held.
-pub fn locks<D: Device, O: Opening>(
+pub fn locks_at<D: Device, O: Opening>(
     alloc: Global,
     debugger: &Debugger<D, O>,
 ) -> Result<Vec<u8>, AllocError>

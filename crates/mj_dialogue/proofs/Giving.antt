@@ -1,0 +1,17 @@
+-- What a command leaves, and what is written of it.
+use Rattle.std.proofs.Common.{◌≡◌, ℕ, Bool, true, List, Option, Result, IfOk, sym, ap, ◌∙◌, subst}
+use Rattle.std.proofs.lemmas.Result.{IfOk-weaker}
+use Rattle.std.specs.Io.KnownBytes.{Appends}
+use Rattle.mj_debug.specs.Walks.{Walk}
+use Rattle.mj_dialogue.specs.Says.{IsKept}
+
+-- to get ready what is shown changes nothing else
+pub kept : (old new : Walk) → new ≡ record old { ready = true } → IsKept old new
+kept old new e = e ∙ ap (λ (ready : Bool). record old { ready = ready }) (sym (ap (λ (w : Walk). w.ready) e))
+
+-- what holds of an answer holds of what is written
+pub gives : {E : Type 0} (r : Result Bool E) (P : List ℕ → Bool → Type 0) (old new : Option (List ℕ)) (bytes : List ℕ) (full : Bool)
+    → P bytes full → IfOk r (λ told. (told ≡ full) × Appends old new bytes) → IfOk r (λ told. (x : List ℕ) × P x told × Appends old new x)
+gives r P old new bytes full says put =
+    IfOk-weaker r (λ told. (told ≡ full) × Appends old new bytes) (λ told. (x : List ℕ) × P x told × Appends old new x)
+    (λ told is. (bytes, subst (P bytes) (sym is.0) says, is.1)) put

@@ -1,0 +1,121 @@
+// What each command does that makes no step, and its lines.
+
+ghost use Rattle.std.specs.Prelude.{◌≡◌, IfOk, false};
+ghost use Rattle.mj_commands.specs.declared.command.Command.TheVariants as commands;
+ghost use Rattle.mj_dialogue.specs.Says.{Says, walked_line};
+
+use crate::shows::{frames_at, globals_at, locals_at, locks_at};
+use crate::tell::{event, line};
+use mj_debug::{Debugger, Unshown};
+use mj_dev::Device;
+use mj_sys::Opening;
+use mj_text::Text;
+use std::alloc::{AllocError, Global};
+
+// A line is a breakpoint from now on.
+pub fn set<D: Device, O: Opening>(
+    alloc: Global,
+    debugger: &mut Debugger<D, O>,
+    routine: &Text,
+    number: u32,
+) -> Result<Vec<u8>, AllocError>
+    ensures { IfOk result (λ bytes. Says O.opening debugger.old (commands.Set routine.now number) bytes.items false debugger.new) }
+{
+    debugger.set(routine, number)?;
+    line(alloc, b"ok")
+}
+
+// A line is no breakpoint from now on.
+pub fn clear<D: Device, O: Opening>(
+    alloc: Global,
+    debugger: &mut Debugger<D, O>,
+    routine: &Text,
+    number: u32,
+) -> Result<Vec<u8>, AllocError>
+    ensures { IfOk result (λ bytes. Says O.opening debugger.old (commands.Clear routine.now number) bytes.items false debugger.new) }
+{
+    debugger.clear(routine, number)?;
+    line(alloc, b"ok")
+}
+
+// One event back along the record.
+pub fn back<D: Device, O: Opening>(
+    alloc: Global,
+    debugger: &mut Debugger<D, O>,
+) -> Result<Vec<u8>, AllocError>
+    ensures { IfOk result (λ bytes. Says O.opening debugger.old commands.Back bytes.items false debugger.new) }
+{
+    let at = debugger.back();
+    walked(alloc, debugger, at)
+}
+
+// One event on along the record.
+pub fn forward<D: Device, O: Opening>(
+    alloc: Global,
+    debugger: &mut Debugger<D, O>,
+) -> Result<Vec<u8>, AllocError>
+    ensures { IfOk result (λ bytes. Says O.opening debugger.old commands.Forward bytes.items false debugger.new) }
+{
+    let at = debugger.forward();
+    walked(alloc, debugger, at)
+}
+
+// The event that was gone over, or that there is none.
+fn walked<D: Device, O: Opening>(
+    alloc: Global,
+    debugger: &Debugger<D, O>,
+    at: Option<usize>,
+) -> Result<Vec<u8>, AllocError>
+    ensures { IfOk result (λ bytes. bytes.items ≡ walked_line debugger.now.core.history at) }
+{
+    match at {
+        Some(at) => event(alloc, debugger.core(), at),
+        None => line(alloc, b"none"),
+    }
+}
+
+// The frames of a job.
+pub fn frames<D: Device, O: Opening>(
+    alloc: Global,
+    debugger: &mut Debugger<D, O>,
+    job: u32,
+) -> Result<Vec<u8>, Unshown>
+    ensures { IfOk result (λ bytes. Says O.opening debugger.old (commands.Frames job) bytes.items false debugger.new) }
+{
+    debugger.show()?;
+    Ok(frames_at(alloc, debugger, job)?)
+}
+
+// The locals of a job.
+pub fn locals<D: Device, O: Opening>(
+    alloc: Global,
+    debugger: &mut Debugger<D, O>,
+    job: u32,
+) -> Result<Vec<u8>, Unshown>
+    ensures { IfOk result (λ bytes. Says O.opening debugger.old (commands.Locals job) bytes.items false debugger.new) }
+{
+    debugger.show()?;
+    Ok(locals_at(alloc, debugger, job)?)
+}
+
+// The names that are held.
+pub fn locks<D: Device, O: Opening>(
+    alloc: Global,
+    debugger: &mut Debugger<D, O>,
+) -> Result<Vec<u8>, Unshown>
+    ensures { IfOk result (λ bytes. Says O.opening debugger.old commands.Locks bytes.items false debugger.new) }
+{
+    debugger.show()?;
+    Ok(locks_at(alloc, debugger)?)
+}
+
+// The committed globals.
+pub fn globals<D: Device, O: Opening>(
+    alloc: Global,
+    debugger: &mut Debugger<D, O>,
+) -> Result<Vec<u8>, Unshown>
+    ensures { IfOk result (λ bytes. Says O.opening debugger.old commands.Globals bytes.items false debugger.new) }
+{
+    debugger.show()?;
+    Ok(globals_at(alloc, debugger)?)
+}
