@@ -49,9 +49,9 @@ gone_on opening count old made now next told line gone so gives tells on = recor
       let one : made + suc left ≡ count = omega (arith, all) in
       let further : Goes opening left false next rest full new = subst (λ (first : Bool). Goes opening left first next rest full new) (not_zero made) goes in
       let is_left : IsLeft (is_made gone) (is_full_at gone) next rest full new (Goes opening left false next rest full new) =
-              subst (λ (b : Bool). IsLeft b (is_full_at gone) next rest full new (Goes opening left false next rest full new)) (sym on) further in
+      subst (λ (b : Bool). IsLeft b (is_full_at gone) next rest full new (Goes opening left false next rest full new)) (sym on) further in
       let all_told : Goes opening count true old (told ++ (line ++ rest)) full new =
-              so.more (suc left) (line ++ rest) full new one (gone, next, gives, (line, tells, (rest, refl, is_left))) in
+      so.more (suc left) (line ++ rest) full new one (gone, next, gives, (line, tells, (rest, refl, is_left))) in
       subst (λ (bytes : List ℕ). Goes opening count true old bytes full new) (sym (append_assoc told line rest)) all_told;
 }
 
@@ -62,7 +62,7 @@ pub gone_last : (opening : Shared) (count : ℕ) (old : Walk) (made : ℕ) (now 
     → Goes opening count true old (told ++ line) full next
 gone_last opening count old made now next told line gone full left so all gives tells off is =
     let is_left : IsLeft (is_made gone) (is_full_at gone) next [] full next (Goes opening left false next [] full next) =
-            subst (λ (b : Bool). IsLeft b (is_full_at gone) next [] full next (Goes opening left false next [] full next)) (sym off) (refl, is, refl) in
+    subst (λ (b : Bool). IsLeft b (is_full_at gone) next [] full next (Goes opening left false next [] full next)) (sym off) (refl, is, refl) in
     so.more (suc left) line full next all (gone, next, gives, (line, tells, ([], sym (append-nil line), is_left)))
 
 -- all steps were made

@@ -17,7 +17,7 @@ framed frames = spot_lines (map (λ f. f.place) (frames_of frames))
 pub framed_last : (front : List kept.Frame) (f : kept.Frame) → framed (front ++ f ∷ []) ≡ spot_line f.place.routine f.place.line ++ framed front
 framed_last front f =
     let all : frames_of (front ++ f ∷ []) ≡ frame_of f ∷ frames_of front =
-            ap reverse (map-append frame_of front (f ∷ [])) ∙ reverse-append (map frame_of front) (frame_of f ∷ []) in
+    ap reverse (map-append frame_of front (f ∷ [])) ∙ reverse-append (map frame_of front) (frame_of f ∷ []) in
     ap (λ (l : List Frame). spot_lines (map (λ f. f.place) l)) all
 
 -- the line of the last frame is put behind those that were put
@@ -51,7 +51,7 @@ pub listed_on : (lines bytes new : List ℕ) (list : List (ℕ × Name × ℕ)) 
 listed_on lines bytes new list i held all less is put =
     let next : suc i ≡ i + 1 = omega arith in
     let cut : drop i list ≡ held ∷ drop (i + 1) list =
-            drop-cons list i held less ∙ ap (λ (h : ℕ × Name × ℕ). h ∷ drop (suc i) list) (sym is) ∙ ap (λ (n : ℕ). held ∷ drop n list) next in
+    drop-cons list i held less ∙ ap (λ (h : ℕ × Name × ℕ). h ∷ drop (suc i) list) (sym is) ∙ ap (λ (n : ℕ). held ∷ drop n list) next in
     all
     ∙ ap (λ (l : List (ℕ × Name × ℕ)). bytes ++ listed l) cut
     ∙ sym (append_assoc bytes (held_line held.0 held.1 held.2) (listed (drop (i + 1) list)))
