@@ -2,6 +2,7 @@
 #![tactic(auto)]
 
 use std::env;
+use std::io::{self, IsTerminal};
 use std::process::ExitCode;
 
 fn main(rt: HostRuntime) -> ExitCode {
@@ -22,6 +23,20 @@ fn main(rt: HostRuntime) -> ExitCode {
     ExitCode::from(status)
 }
 
-fn words(rt: &HostRuntime) -> std::io::Result<Vec<String>> {
-    Ok(env::args(rt)?.collect(rt.alloc())?)
+// The words of the command line. Where a debugger's commands come from a terminal, its prompt is asked for too.
+fn words(rt: &HostRuntime) -> io::Result<Vec<String>> {
+    let mut words: Vec<String> = env::args(rt)?.collect(rt.alloc())?;
+    if words.len() >= 2 && lacks_prompt(&words) && rt.stdin().is_terminal() {
+        let prompt = String::from_str(rt.alloc(), "--prompt")?;
+        words.insert(2, prompt)?;
+    }
+    Ok(words)
+}
+
+// Whether these words are those of a debugger, and don't ask for its prompt.
+fn lacks_prompt(words: &[String]) -> bool {
+    match words.get(1) {
+        None => false,
+        Some(command) => command.as_str() == "debug" && !words.iter().any(|word| word.as_str() == "--prompt"),
+    }
 }
