@@ -37,6 +37,7 @@ fn words(rt: &HostRuntime) -> io::Result<Vec<String>> {
 fn lacks_prompt(words: &[String]) -> bool {
     match words.get(1) {
         None => false,
-        Some(command) => command.as_str() == "debug" && !words.iter().any(|word| word.as_str() == "--prompt"),
+        Some(command) => command.as_str() == "debug"
+            && !words.iter().any(|word| word.as_str() == "--prompt"),
     }
 }

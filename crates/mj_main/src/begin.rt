@@ -23,7 +23,7 @@ use std::alloc::{AllocError, Global};
 use std::io::Read;
 use std::rt::Files;
 
-/// What a run begins with. Nothing was taken of its pool.
+/// What a run begins with.
 #[derive(Drop)]
 pub struct Beginning<R: Files + Drop> {
     pub steps: Option<Vec<Step>>,
@@ -32,15 +32,16 @@ pub struct Beginning<R: Files + Drop> {
     pub pool: Pool<Port<R>>,
     pub starts: Vec<Start>,
     ghost global: { are_global globals ≡ true },
-    ghost whole: { AreWhole pool },
 }
 
-/// Reads all that a run begins with. The first that is refused ends it.
+/// Reads all that a run begins with. The first that is refused ends it. Nothing was taken of its pool.
 pub fn begin<'a, R: Files + AllocGlobal + Copy + Drop, I: Read>(
     rt: R,
     order: &Run<'a>,
     input: &mut I,
-) -> Result<Beginning<R>, Stop<'a>> {
+) -> Result<Beginning<R>, Stop<'a>>
+    ensures { IfOk result (λ b. AreWhole b.pool) }
+{
     let starts = starts(rt.alloc(), &order.starts)?;
     match begin_at(rt, order, input) {
         Ok(rest) => {

@@ -60,6 +60,7 @@ where
     I: Read,
     O: Write,
     E: Write,
+    requires { AreWhole beginning.pool }
     ensures { result ≤ 4 }
 {
     let starts = &beginning.starts;
