@@ -1,6 +1,7 @@
 -- What a job asks next, and what a trace says of that.
 use Rattle.std.specs.Prelude.{◌⊎◌, IsTrue, ◌&&◌, ◌^◌, min}
 use Rattle.std.proofs.Common.{◌≡◌, ℕ, ◌+◌, ◌≤◌, Bool, true, false, List, [], ◌∷◌, ◌++◌, Some, refl, sym, ap, ◌∙◌, subst, inl, inr, arith}
+use Rattle.std.proofs.lemmas.Option.{same_Some}
 use Rattle.mj_ask.specs.declared.ask.Ask.{Ask}
 use Rattle.mj_ask.specs.declared.ask.Reply.{Reply}
 use Rattle.mj_ask.specs.Fits.{fits}
@@ -114,7 +115,17 @@ module _ (image : Loaded) (start : Start) (old new : Running) (a : Ask) (r : Rep
   -- it asks, and that is compared
   pub asks_so : (test fit : Bool) → (IsTrue test → new.run.pending ≡ Some a) → (new.run.pending ≡ Some a → IsTrue test) → fits a r ≡ fit
       → Told (routines_of image) start turns.Asks new.run → AsksIt image start old a r (test && fit) new
-  asks_so true true is only fitting told = (is refl, fitting)
+  asks_so true true is only fitting told =
+      let pending = is refl in
+      let same : told.0 ≡ a = same_Some told.0 a (sym told.1 ∙ pending) in (
+        pending,
+        fitting,
+        (
+          told.2.0,
+          ap (λ l. next (routines_of image) start told.2.0 (replies_of l)) (sym log) ∙ told.2.1
+              ∙ ap (λ x. Needs x new.run.at.state.locals (places new.run.at.state)) same,
+        ),
+      )
   asks_so true false is only fitting told = inr (λ trace. (
       let P : Log → Type 0 = λ l. IsTrace (routines_of image) start (l ++ (a, r) ∷ []) in
       let one = asks_one (routines_of image) start new.run.log a r told.2.0 told.0 new.run.at.state.locals (places new.run.at.state) told.2.1 (subst P (sym log) trace) in

@@ -5,3 +5,8 @@ pub mod Fronts
 pub mod Admitting
 pub mod Rounds
 pub mod Telling
+pub mod Growing
+pub mod Standing
+pub mod Whole
+pub mod Pools
+pub mod Marking

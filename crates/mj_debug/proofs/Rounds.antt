@@ -1,21 +1,24 @@
 -- One event after the other.
-use Rattle.std.specs.Prelude.{slice_get, slice_set, map, take, if◌then◌else◌, Result, Ok, Err, IfOk}
+use Rattle.std.specs.Prelude.{◌⊎◌, slice_get, slice_set, map, take, drop, if◌then◌else◌, Result, Ok, Err, IfOk}
 use Rattle.std.specs.Option.{option_map}
-use Rattle.std.proofs.Common.{◌≡◌, ℕ, zero, suc, ◌+◌, ◌<◌, ◌≤◌, List, [], ◌∷◌, ◌++◌, length, Bool, true, false, Some, refl, sym, ap, ◌∙◌, subst, arith}
+use Rattle.std.proofs.Common.{◌≡◌, ℕ, zero, suc, ◌+◌, ◌<◌, ◌≤◌, List, [], ◌∷◌, ◌++◌, length, Bool, true, false, Some, refl, sym, ap, ◌∙◌, subst, inl, inr, arith}
 use Rattle.std.proofs.lemmas.Option.{slice_get-map, slice_get_within, get_or_from_slice_get, none-some}
-use Rattle.std.proofs.lemmas.List.{take_more}
+use Rattle.std.proofs.lemmas.List.{take_more, take-append-drop}
 use Rattle.mj_ask.specs.declared.ask.Ask.{Ask}
 use Rattle.mj_ask.specs.declared.ask.Reply.{Reply}
 use Rattle.mj_ask.specs.Fits.{is_shared}
 use Rattle.mj_jobs.specs.Rows.{Row, IsLive}
 use Rattle.mj_events.specs.Happen.{shared_of}
 use Rattle.mj_load.specs.Image.{Loaded, routines_of}
+use Rattle.mj_sys.specs.declared.event.Event.{Event}
 use Rattle.mj_sys.specs.Shared.{Shared}
 use Rattle.mj_sys.specs.History.{History}
 use Rattle.mj_sys.specs.System.{Recorded}
 use Rattle.mj_core.specs.Runs.{IsRun}
 use Rattle.mj_debug.specs.Replays.{event_of, history_of, IsUnmade, IsFirstUnmade}
 use Rattle.mj_debug.specs.Playing.{Playing, Plays, AreStaged, Stages}
+use Rattle.mj_debug.specs.Replicas.{IsLongAt}
+use Rattle.mj_debug.proofs.Fronts.{fronts}
 use Rattle.mj_debug.proofs.Staging.{is_run, unmade, staged_on}
 
 abbrev Recording : Type 0
@@ -115,3 +118,37 @@ module _ (image : Loaded) (opening : Shared) (history : History) (system new : R
       → IfOk result (λ made. Stages image opening history (record { job = job; ask = ask; reply = reply }) made new jobs')
   made_ok (Ok made) plays = made_so made plays
   made_ok (Err e) plays = tt
+
+-- a number below the next is the last or before it
+pub next_or_before : (n m : ℕ) → n < m + 1 → (n ≡ m) ⊎ (n < m)
+next_or_before zero zero below = inl refl
+next_or_before zero (suc m) below = inr (omega arith)
+next_or_before (suc n) zero below = absurd (omega (arith, below))
+next_or_before (suc n) (suc m) below = by (next_or_before n m (omega (arith, below))) where
+  by : (n ≡ m) ⊎ (n < m) → (suc n ≡ suc m) ⊎ (suc n < suc m)
+  by (inl e) = inl (ap suc e)
+  by (inr e) = inr (omega (arith, e))
+
+-- where a history has an event more than was played, the system has room
+pub room_in : (image : Loaded) (opening : Shared) (history : History) (at limit : ℕ) (system : Recorded) (jobs : List Playing)
+    → AreStaged image opening (take at history) system jobs → at < length history → length history ≤ limit → length system.history < limit
+room_in image opening history at limit system jobs staged within short =
+    let same : length (shared_of (take at history)) ≡ length system.history = ap (λ l. length l) staged.shared in
+    let one = shared_short (take at history) in
+    let two = take_short at history in
+    omega (arith, same, one, two, within, short)
+
+-- one event more of a history
+pub front_on : (history : History) (at : ℕ) (e : Event) → slice_get history at ≡ Some e → take (at + 1) history ≡ take at history ++ e ∷ []
+front_on history at e is =
+    take_more history at e (slice_get_within history at e is) ∙ ap (λ x. take at history ++ x ∷ []) (get_or_from_slice_get history at e e is)
+
+-- what is recorded is made, or its job goes on for too long
+pub is_long : (image : Loaded) (opening : Shared) (history : History) (at : ℕ) (e : Event) → slice_get history at ≡ Some e → IsRun (routines_of image) opening history
+    → IsUnmade (routines_of image) opening (take at history) e → IsLongAt image opening history at
+is_long image opening history at e is run (inr long) = (e, is, long)
+is_long image opening history at e is run (inl not) = absurd (not (
+    let whole : history ≡ (take at history ++ e ∷ []) ++ drop (at + 1) history =
+    sym (take-append-drop (at + 1) history) ∙ ap (λ l. l ++ drop (at + 1) history) (front_on history at e is) in
+    let P : History → Type 0 = λ h. IsRun (routines_of image) opening h in
+    fronts (routines_of image) opening (take at history ++ e ∷ []) (drop (at + 1) history) (subst P whole run)))

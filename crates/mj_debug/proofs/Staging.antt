@@ -7,6 +7,7 @@ use Rattle.mj_ask.specs.Fits.{is_shared}
 use Rattle.mj_ask.specs.declared.ask.Ask.{Ask}
 use Rattle.mj_ask.specs.declared.ask.Reply.{Reply}
 use Rattle.mj_dev.specs.Talk.{beginning}
+use Rattle.mj_semantics.specs.State.{places}
 use Rattle.mj_semantics.specs.Job.{Start}
 use Rattle.mj_load.specs.Image.{Loaded, routines_of}
 use Rattle.mj_jobs.specs.Rows.{Row, row_at, IsLive}
@@ -27,6 +28,7 @@ use Rattle.mj_expect.specs.Heeds.{Heeds, AreHeeds, Heard}
 use Rattle.mj_expect.proofs.Hearing.{heard_shared, heard_talks}
 use Rattle.mj_core.specs.Runs.{IsRun, start_in}
 use Rattle.mj_debug.specs.Replays.{IsUnmade}
+use Rattle.mj_debug.specs.Shows.{Stood}
 use Rattle.mj_debug.specs.Playing.{Playing, start_of, IsPlaying, AsksIt, ServesIt, Plays, IsAt, AreStaged}
 use Rattle.mj_debug.proofs.Serving.{not_served, is_served}
 
@@ -87,14 +89,14 @@ module _ (image : Loaded) (opening : Shared) (old : Recorded) (claim : Claimed) 
       inr (inr (inl (λ happens. not_served (state_of opening old.history) claim.job ask reply not (happens.1 shared))))
 
   module _ (live : IsLive (state_of opening old.history).rows claim.job) (job' : Running) (log : job'.run.log ≡ job.run.log ++ (ask, reply) ∷ [])
-      (run : IsRunOf image (start_of claim) job') where
+      (run : IsRunOf image (start_of claim) job') (stood : Stood (routines_of image) (start_of claim) job'.run.log job'.run.at.state.locals (places job'.run.at.state)) where
     pub heard : is_shared ask ≡ false → (heeds' : Heeds) → Heard job.run.log ask reply true heeds' → Made true old claim job' heeds'
     heard unshared heeds' all =
         let history : old.history ≡ old.history ++ shared_of (event ∷ []) =
         sym (append-nil old.history) ∙ sym (ap (λ c. old.history ++ (if c then event ∷ [] else [])) unshared) in
         let A : Log → Type 0 = λ l. AreHeeds l heeds' in (
           (live, (λ shared. absurd (let no : true ≡ false = sym shared ∙ unshared in cc))),
-          record { numbered = tied.numbered; claimed = tied.claimed; row = tied.row; counted = tied.counted; run = run; heard = subst A (sym log) all },
+          record { numbered = tied.numbered; claimed = tied.claimed; row = tied.row; counted = tied.counted; run = run; heard = subst A (sym log) all; stood = stood },
           refl,
           log,
           ap (λ h. record old { history = h }) history,
@@ -116,6 +118,7 @@ module _ (image : Loaded) (opening : Shared) (old : Recorded) (claim : Claimed) 
           counted = ap (λ n. n + 1) tied.counted ∙ sym (events_of_append claim.job old.history (event ∷ []) ∙ ap (λ n. events_of claim.job old.history + n) one_event);
           run = run;
           heard = subst A (sym log) (heard_shared job.run.log heeds ask reply shared tied.heard);
+          stood = stood;
         } in
         let P : Recorded → Type 0 = λ r. IsPlaying image opening r (record claim { events = claim.events + 1 }) job' heeds in
         let Q : Claimed → Type 0 = λ c. IsPlaying image opening new c job' heeds in (
@@ -140,6 +143,7 @@ playing_beside image opening old new more claim job heeds tied on claimed none =
       ∙ (let plus : events_of claim.job old.history + 0 ≡ events_of claim.job old.history = omega arith in plus));
   run = tied.run;
   heard = tied.heard;
+  stood = tied.stood;
 }
 
 -- ---- all jobs
@@ -160,7 +164,7 @@ module _ (image : Loaded) (opening : Shared) (history : History) (system : Recor
   same_state = sym (shared_leaves opening history) ∙ ap (state_of opening) staged.shared
 
   -- a job's row, behind all events
-  row_of : (k : ℕ) (played : Playing) → slice_get jobs k ≡ Some played
+  pub row_of : (k : ℕ) (played : Playing) → slice_get jobs k ≡ Some played
       → (row : Row) × (row_at (state_of opening history).rows (suc k) ≡ Some row) × (start_in (suc k) row.start ≡ start_of played.claim)
   row_of k played here =
       let at = staged.tied k played here in
@@ -331,7 +335,8 @@ module _ (image : Loaded) (opening : Shared) (history : History) (system : Recor
 
   module _ (new : Recorded) (claim : Claimed) (same : new.history ≡ system.history) (claimed : new.claimed ≡ system.claimed + 1) (numbered : claim.job ≡ system.claimed + 1)
       (events : claim.events ≡ 0) (row : (row : Row) × (row_at (state_of opening system.history).rows claim.job ≡ Some row) × (row.start ≡ claim.start))
-      (job : Running) (heeds : Heeds) (first : job.run.log ≡ []) (run : IsRunOf image (start_of claim) job) (heard_none : AreHeeds [] heeds) where
+      (job : Running) (heeds : Heeds) (first : job.run.log ≡ []) (run : IsRunOf image (start_of claim) job) (heard_none : AreHeeds [] heeds)
+      (stood : Stood (routines_of image) (start_of claim) job.run.log job.run.at.state.locals (places job.run.at.state)) where
     abbrev begun : Playing
     begun = record { claim = claim; job = job; heeds = heeds }
 
@@ -361,6 +366,7 @@ module _ (image : Loaded) (opening : Shared) (history : History) (system : Recor
             counted = events ∙ sym (ap (events_of claim.job) same ∙ no_events claim.job system.history silent);
             run = run;
             heard = subst H (sym first) heard_none;
+            stood = stood;
           };
           logged = silent_first ∙ sym first;
         }

@@ -1,16 +1,19 @@
 -- An event of a job, made or not, by what its parts say.
 use Rattle.std.specs.Prelude.{Result, Ok, Err, IfOk}
-use Rattle.std.proofs.Common.{◌≡◌, [], ◌∷◌, ◌++◌, Bool, true, false, sym, ap, ◌∙◌, subst}
+use Rattle.std.proofs.Common.{◌≡◌, [], ◌∷◌, ◌++◌, Bool, true, false, sym, ap, ◌∙◌, subst, inr}
 use Rattle.mj_ask.specs.declared.ask.Ask.{Ask}
 use Rattle.mj_ask.specs.declared.ask.Reply.{Reply}
 use Rattle.mj_ask.specs.Fits.{is_shared}
-use Rattle.mj_load.specs.Image.{Loaded}
+use Rattle.mj_semantics.specs.State.{State, places}
+use Rattle.mj_semantics.specs.Outcome.{Needs}
+use Rattle.mj_load.specs.Image.{Loaded, routines_of}
 use Rattle.mj_jobs.specs.Rows.{IsLive}
 use Rattle.mj_jobvm.specs.Jobs.{Running, IsRunOf}
 use Rattle.mj_sys.specs.Shared.{Shared}
 use Rattle.mj_sys.specs.History.{state_of}
 use Rattle.mj_sys.specs.System.{Recorded, Claimed}
 use Rattle.mj_expect.specs.Heeds.{Heeds, Heard}
+use Rattle.mj_debug.specs.Shows.{Stood}
 use Rattle.mj_debug.specs.Playing.{start_of, IsPlaying, AsksIt, ServesIt, IsToldOn, Plays}
 use Rattle.mj_debug.proofs.Staging.{unasked, unheard, unserved, heard, shares}
 
@@ -35,9 +38,15 @@ module _ (image : Loaded) (opening : Shared) (old : Recorded) (claim : Claimed) 
       let P : Bool → Type 0 = λ x. Heard job.run.log ask reply x heeds' in
       unheard image opening old claim job heeds ask reply tied heeds' (subst P is told) old claim mid heeds'
 
-  module _ (live : IsLive (state_of opening old.history).rows claim.job) (log : mid.run.log ≡ job.run.log) (run : IsRunOf image (start_of claim) mid) (job' : Running) where
+  module _ (live : IsLive (state_of opening old.history).rows claim.job) (log : mid.run.log ≡ job.run.log) (run : IsRunOf image (start_of claim) mid) (job' : Running)
+      (asks : AsksIt image (start_of claim) job ask reply true mid) where
     on : IsToldOn mid ask reply job' → job'.run.log ≡ job.run.log ++ (ask, reply) ∷ []
     on told = told.0 ∙ ap (λ l. l ++ (ask, reply) ∷ []) log
+
+    -- it stands where it asked
+    stood : IsToldOn mid ask reply job' → Stood (routines_of image) (start_of claim) job'.run.log job'.run.at.state.locals (places job'.run.at.state)
+    stood told =
+        inr (job.run.log, ask, reply, on told, (asks.2.0, asks.2.1 ∙ ap (λ (s : State). Needs ask s.locals (places s)) (sym told.2)))
 
     -- it is served, and told
     pub is_served_on : {E : Type 0} (b : Bool) → b ≡ true → is_shared ask ≡ true → (new : Recorded) (claim' : Claimed) → ServesIt opening old claim ask reply b new claim'
@@ -45,7 +54,7 @@ module _ (image : Loaded) (opening : Shared) (old : Recorded) (claim : Claimed) 
     is_served_on b is shared new claim' serves (Ok made) told =
         let P : Bool → Type 0 = λ x. ServesIt opening old claim ask reply x new claim' in
         let Q : Bool → Type 0 = λ x. Plays image opening old claim job heeds ask reply x new claim' job' heeds in
-        subst Q (sym told.0) (shares image opening old claim job heeds ask reply tied live job' (on told.1) (told.1.1 image (start_of claim) run) shared new claim' (subst P is serves))
+        subst Q (sym told.0) (shares image opening old claim job heeds ask reply tied live job' (on told.1) (told.1.1 image (start_of claim) run) (stood told.1) shared new claim' (subst P is serves))
     is_served_on b is shared new claim' serves (Err e) told = tt
 
     -- it is heard, and told
@@ -54,5 +63,5 @@ module _ (image : Loaded) (opening : Shared) (old : Recorded) (claim : Claimed) 
     is_heard_on b is unshared heeds' all (Ok made) told =
         let P : Bool → Type 0 = λ x. Heard job.run.log ask reply x heeds' in
         let Q : Bool → Type 0 = λ x. Plays image opening old claim job heeds ask reply x old claim job' heeds' in
-        subst Q (sym told.0) (heard image opening old claim job heeds ask reply tied live job' (on told.1) (told.1.1 image (start_of claim) run) unshared heeds' (subst P is all))
+        subst Q (sym told.0) (heard image opening old claim job heeds ask reply tied live job' (on told.1) (told.1.1 image (start_of claim) run) (stood told.1) unshared heeds' (subst P is all))
     is_heard_on b is unshared heeds' all (Err e) told = tt

@@ -3,10 +3,12 @@ use Rattle.std.specs.Prelude.{◌≡◌, ℕ, suc, ◌+◌, ◌≤◌, ◌<◌, 
 use Rattle.mj_ask.specs.declared.ask.Ask.{Ask}
 use Rattle.mj_ask.specs.declared.ask.Reply.{Reply}
 use Rattle.mj_ask.specs.Fits.{fits}
-use Rattle.mj_semantics.specs.Job.{Start}
+use Rattle.mj_semantics.specs.State.{places}
+use Rattle.mj_semantics.specs.Outcome as outcomes
+use Rattle.mj_semantics.specs.Job.{Start, next}
 use Rattle.mj_load.specs.Image.{Loaded, routines_of}
 use Rattle.mj_jobs.specs.Rows.{Row, row_at}
-use Rattle.mj_jobvm.specs.Run.{GoesOn, IsTrace}
+use Rattle.mj_jobvm.specs.Run.{replies_of, GoesOn, IsTrace}
 use Rattle.mj_jobvm.specs.Jobs.{Running, IsRunOf}
 use Rattle.mj_sessions.specs.Follow.{AreTalks}
 use Rattle.mj_sys.specs.declared.event.Event.{Event}
@@ -18,6 +20,7 @@ use Rattle.mj_events.specs.Happen.{shared_of, Happens, AllHappen}
 use Rattle.mj_expect.specs.Heeds.{Heeds, AreHeeds}
 use Rattle.mj_core.specs.Runs.{start_in}
 use Rattle.mj_debug.specs.Replays.{turns_limit, IsUnmade}
+use Rattle.mj_debug.specs.Shows.{Stood}
 
 -- a job with its claim, and what is known of its talks with devices
 pub record Playing : Type 0 where
@@ -30,7 +33,7 @@ abbrev pub start_of : Claimed → Start
 start_of claim = start_in claim.job claim.start
 
 -- the job's row was claimed, and it is that of its claim, which counts its events; it runs the routines from its row's start; and what is known of
--- its talks is what its log says of them
+-- its talks is what its log says of them; and it stands where it stood at its last ask
 pub record IsPlaying (image : Loaded) (opening : Shared) (system : Recorded) (claim : Claimed) (job : Running) (heeds : Heeds) : Type 0 where
   pub numbered : 1 ≤ claim.job
   pub claimed : claim.job ≤ system.claimed
@@ -38,10 +41,13 @@ pub record IsPlaying (image : Loaded) (opening : Shared) (system : Recorded) (cl
   pub counted : claim.events ≡ events_of claim.job system.history
   pub run : IsRunOf image (start_of claim) job
   pub heard : AreHeeds job.run.log heeds
+  pub stood : Stood (routines_of image) (start_of claim) job.run.log job.run.at.state.locals (places job.run.at.state)
 
--- behind its log the job asks just this, and the reply fits; or it goes on for too long, or it asks something else
+-- behind its log the job asks just this where it stands, and the reply fits; or it goes on for too long, or it asks something else
 abbrev pub AsksIt : Loaded → Start → Running → Ask → Reply → Bool → Running → Type 0
-AsksIt image start old ask reply true new = (new.run.pending ≡ Some ask) × (fits ask reply ≡ true)
+AsksIt image start old ask reply true new =
+    (new.run.pending ≡ Some ask) × (fits ask reply ≡ true)
+    × ((n : ℕ) × (next (routines_of image) start n (replies_of old.run.log) ≡ outcomes.Needs ask new.run.at.state.locals (places new.run.at.state)))
 AsksIt image start old ask reply false new =
     ((turns : ℕ) × (turns_limit ≤ turns) × GoesOn (routines_of image) start old.run.log turns)
     ⊎ (IsTrace (routines_of image) start (old.run.log ++ (ask, reply) ∷ []) → ⊥)
@@ -54,10 +60,11 @@ ServesIt opening old claim ask reply true new claim' =
 ServesIt opening old claim ask reply false new claim' =
     (left : Shared) → served (state_of opening old.history) claim.job ask true ≡ Some (reply, left) → ⊥
 
--- the job was told the reply to what it asked
+-- the job was told the reply to what it asked, and stands where it stood
 abbrev pub IsToldOn : Running → Ask → Reply → Running → Type 0
 IsToldOn old ask reply new =
     (new.run.log ≡ old.run.log ++ (ask, reply) ∷ []) × ((image : Loaded) (start : Start) → IsRunOf image start old → IsRunOf image start new)
+    × (new.run.at.state ≡ old.run.at.state)
 
 -- an event of a job, made: it could happen, and all that is known goes on; or why it isn't made
 abbrev pub Plays : Loaded → Shared → Recorded → Claimed → Running → Heeds → Ask → Reply → Bool → Recorded → Claimed → Running → Heeds → Type 0

@@ -60,34 +60,34 @@ pub fn replay<D: Device, O: Opening>(
     };
     let mut jobs = Vec::new(alloc);
     for at in 0..events.len() {
-        if !make(alloc, image, &mut system, &mut jobs, events, at)? {
+        let (job, ask, reply) = &events[at];
+        if !make_event(alloc, image, &mut system, &mut jobs, *job, ask, reply)? {
             return Ok(Verdict::Differs(at));
         }
     }
     Ok(Verdict::Same)
 }
 
-// Makes the event at a place again, if it is the next.
-fn make<D: Device, O: Opening>(
+// Makes an event again, if it is the next.
+pub fn make_event<D: Device, O: Opening>(
     alloc: Global,
     image: &Image,
     system: &mut System<D, O>,
     jobs: &mut Vec<Played>,
-    events: &[(u32, Ask, Reply)],
-    at: usize,
+    job: u32,
+    ask: &Ask,
+    reply: &Reply,
 ) -> Result<bool, AllocError>
-    requires staged { AreStaged image.now O.opening (take at (history_of events.now)) system.old jobs.old.items }
-    requires there { at < length events.now }
-    requires short { length events.now ≤ history_limit }
-    ensures { (e : ℕ × asks.Ask × replies.Reply) → slice_get events.now at ≡ Some e
-        → IfOk result (λ made. Stages image.now O.opening (take at (history_of events.now)) (event_of e) made system.new jobs.new.items) }
+    requires staged { (history : History) × AreStaged image.now O.opening history system.old jobs.old.items }
+    requires room { length system.old.history < history_limit }
+    ensures { (history : History) → AreStaged image.now O.opening history system.old jobs.old.items
+        → IfOk result (λ made. Stages image.now O.opening history (record { job = job; ask = ask.now; reply = reply.now }) made system.new jobs.new.items) }
 {
-    let (job, ask, reply) = &events[at];
-    if !system.is_live(*job) {
+    if !system.is_live(job) {
         return Ok(false);
     }
-    admit(alloc, image, system, jobs, *job as usize)?;
-    make_of(image, system, jobs, *job, ask, reply)
+    admit(alloc, image, system, jobs, job as usize)?;
+    make_of(image, system, jobs, job, ask, reply)
 }
 
 // Makes an event of a job again that was started, if it is the next.
@@ -121,7 +121,7 @@ fn make_of<D: Device, O: Opening>(
 }
 
 // Starts the jobs up to this one.
-fn admit<D: Device, O: Opening>(
+pub fn admit<D: Device, O: Opening>(
     alloc: Global,
     image: &Image,
     system: &mut System<D, O>,

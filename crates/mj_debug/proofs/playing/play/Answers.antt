@@ -46,7 +46,8 @@ tell-requires g c =
     let mid = c.asks_it.new.job in
     let asks = c.in_ok-asks_it.ensures.asks (start_of claim) c.requires.tied.run in
     let P : Bool → Type 0 = λ b. AsksIt image (start_of claim) job ask reply b mid in
-    subst P c.if-not-branch.false asks
+    let asked = subst P c.if-not-branch.false asks in
+    (asked.0, asked.1)
 
 pub returns-then-is_shared : goal.returns-then-is_shared
 returns-then-is_shared g c =
@@ -61,7 +62,8 @@ returns-then-is_shared g c =
     let mid = c.asks_it.new.job in
     let asks = c.in_ok-asks_it.ensures.asks (start_of claim) c.requires.tied.run in
     let shared : is_shared ask ≡ true = sym c.is_shared.ensures ∙ c.if-is_shared.true in
-    is_served_on image opening old claim job heeds ask reply c.requires.tied mid c.requires.live c.asks_it.ensures.log (c.asks_it.ensures.run (start_of claim) c.requires.tied.run) c.tell.new.job
+    let P : Bool → Type 0 = λ b. AsksIt image (start_of claim) job ask reply b mid in
+    is_served_on image opening old claim job heeds ask reply c.requires.tied mid c.requires.live c.asks_it.ensures.log (c.asks_it.ensures.run (start_of claim) c.requires.tied.run) c.tell.new.job (subst P c.if-not-branch.false asks)
     c.in_ok-serves_it.field-0 c.if-not-branch-2.false shared c.serves_it.new.system c.serves_it.new.claim c.in_ok-serves_it.ensures c.tell.result c.tell.ensures
 
 pub returns-then-not-branch-3 : goal.returns-then-not-branch-3
@@ -92,7 +94,8 @@ tell-requires-2 g c =
     let mid = c.asks_it.new.job in
     let asks = c.in_ok-asks_it.ensures.asks (start_of claim) c.requires.tied.run in
     let P : Bool → Type 0 = λ b. AsksIt image (start_of claim) job ask reply b mid in
-    subst P c.if-not-branch.false asks
+    let asked = subst P c.if-not-branch.false asks in
+    (asked.0, asked.1)
 
 pub returns : goal.returns
 returns g c =
@@ -107,5 +110,6 @@ returns g c =
     let mid = c.asks_it.new.job in
     let asks = c.in_ok-asks_it.ensures.asks (start_of claim) c.requires.tied.run in
     let unshared : is_shared ask ≡ false = sym c.is_shared.ensures ∙ c.if-is_shared.false in
-    is_heard_on image opening old claim job heeds ask reply c.requires.tied mid c.requires.live c.asks_it.ensures.log (c.asks_it.ensures.run (start_of claim) c.requires.tied.run) c.tell-2.new.job
+    let P : Bool → Type 0 = λ b. AsksIt image (start_of claim) job ask reply b mid in
+    is_heard_on image opening old claim job heeds ask reply c.requires.tied mid c.requires.live c.asks_it.ensures.log (c.asks_it.ensures.run (start_of claim) c.requires.tied.run) c.tell-2.new.job (subst P c.if-not-branch.false asks)
     c.in_ok-hear.field-0 c.if-not-branch-3.false unshared c.hear.new.self (c.in_ok-hear.ensures job.run.log c.requires.tied.heard) c.tell-2.result c.tell-2.ensures

@@ -3,7 +3,6 @@ use Rattle.std.specs.Prelude.{IfSome}
 use Rattle.mj_ask.specs.Started.{Started}
 use Rattle.mj_dev.specs.Heard.{Heard}
 use Rattle.mj_jobs.specs.Rows.{Row, row_at}
-use Rattle.mj_jobvm.specs.Jobs.{Running}
 use Rattle.mj_sys.specs.History.{state_of, log_of}
 use Rattle.mj_sys.specs.System.{Claimed}
 use Rattle.mj_debug.proofs.Admitting.{started}
@@ -25,6 +24,6 @@ returns-clause-staged g c = λ history staged.
     started c.args.image.now opening old new c.args.jobs.now.items c.push_reserved.new.self.items c.in-Some.claim c.claim.ensures.history some.1 some.0 fresh.0 row
     c.job.result c.into_parts-entry.result.0 c.into_parts-entry.result.1.items c.job.ensures.value
     (c.into_parts-entry.ensures.entry ∙ ap (λ (s : Started). s.entry) start) (c.into_parts-entry.ensures.values ∙ ap (λ (s : Started). s.values) start)
-    c.start-job.result (ap (λ (j : Running). j.run.log) c.start-job.ensures.opening) c.start-job.ensures.run c.new.result c.new.ensures
+    c.start-job.result c.start-job.ensures.opening c.start-job.ensures.run c.new.result c.new.ensures
     (c.push_reserved.ensures.items ∙ ap (λ l. l ++ record { claim = c.in-Some.claim; job = c.start-job.result; heeds = c.new.result } ∷ []) c.in_ok-reserve.ensures.items)
     history staged

@@ -1,0 +1,400 @@
+// A debugger.
+
+ghost use Rattle.std.specs.Prelude.{◌≡◌, ◌≤◌, List, [], ◌∷◌, length, map, All, true, false, Ok, OnOk, OnErr, IfOk, IfErr, IfSome, IfNone};
+ghost use Rattle.mj_dev.specs.Shelves.{principal, left_of};
+ghost use Rattle.mj_frames.specs.Frames.{frames_of, place_at};
+ghost use Rattle.mj_jobs.specs.Rows.{row_at, rows_limit};
+ghost use Rattle.mj_jobvm.specs.declared.job.Turn.TheVariants as turns;
+ghost use Rattle.mj_load.specs.Image.{routines_of};
+ghost use Rattle.mj_semantics.specs.State as states;
+ghost use Rattle.mj_sys.specs.History.{state_of};
+ghost use Rattle.mj_sys.specs.Opening.{opening_of};
+ghost use Rattle.mj_sys.specs.Shared.{are_global};
+ghost use Rattle.mj_core.specs.Gives.{Gives};
+ghost use Rattle.mj_debug.specs.Breaks.{AreMarked, is_there};
+ghost use Rattle.mj_debug.specs.Goes.{GoGives, IsTurnOf, IsStop, IsUnasked, IsPassed};
+ghost use Rattle.mj_debug.specs.Replicas.{IsReplica, IsFull, IsUnshown};
+ghost use Rattle.mj_debug.specs.Shows.{HasStood};
+ghost use Rattle.mj_debug.specs.Walks.{front, AreWhole, StepGives, IsOn, GoesBack, GoesForth};
+
+use crate::breaks::{Mark, is_breakpoint, put_mark};
+use crate::replica::{Kept, Replica, Unshown, bring, keep};
+use mj_ask::Start;
+use mj_core::{Core, Refusal, Seen, Step, Way};
+use mj_dev::{Device, Pool};
+use mj_frames::Frame;
+use mj_globs::Globals;
+use mj_jobvm::Turn;
+use mj_load::Image;
+use mj_locals::Locals;
+use mj_locktab::LockTable;
+use mj_sys::{Opening, Unmade};
+use mj_text::Text;
+use std::alloc::{AllocError, Global};
+use std::marker::Model;
+
+/// Why a step isn't made.
+#[derive(Clone, Copy, PartialEq, Eq, Debug)]
+pub enum Refused {
+    /// the place isn't the record's end
+    NotAtEnd,
+    /// the job isn't stepped there
+    Step(Refusal),
+}
+
+/// What comes of the next step of a `go`.
+#[derive(Drop)]
+pub enum Gone {
+    /// the place isn't the record's end: there is no step
+    NotAtEnd,
+    /// all jobs have ended: there is no step
+    Over,
+    /// the next ask of this job, whose turn it is, comes from a line that is a breakpoint, from which its ask before didn't come. The job isn't
+    /// stepped, and a later `go` begins with it.
+    At {
+        job: u32,
+        routine: Text,
+        line: u32,
+    },
+    /// this job, whose turn it was, was stepped by Go: what came of it
+    Step {
+        job: u32,
+        answer: Result<Seen, Refusal>,
+    },
+}
+
+/// Jobs that are stepped, with a place in the record of what happened, which is walked back and forth. A step is made at the record's end alone,
+/// and moves the place there with it; walking changes neither the jobs nor the record. What stands at the place is shown by playing the events
+/// before it again, for which no device is called. That takes as long as the run itself took for those events that weren't played yet, and begins anew
+/// where the place is before what was played last: so the first show behind a step back costs a replay from the opening.
+#[derive(Drop)]
+pub struct Debugger<D: Device, O: Opening> {
+    alloc: Global,
+    core: Core<D, O>,
+    place: usize,
+    kept: Kept,
+    // the run played again up to a place that was shown
+    replica: Option<Replica<O>>,
+    marks: Vec<Mark>,
+    turn: u32,
+}
+
+impl<D: Device, O: Opening> Model for Debugger<D, O> {
+    ghost use Rattle.std.specs.Coded.{codes};
+    ghost use Rattle.std.specs.Prelude.{◌≤◌, length, IfSome};
+    ghost use Rattle.mj_ast.specs.contracts.routine.Routine as routine;
+    ghost use Rattle.mj_pcode.specs.contracts.instr.Unit as unit;
+    ghost use Rattle.mj_sys.specs.System.{history_limit};
+    ghost use Rattle.mj_debug.specs.Replicas.{Begins, IsReplica, IsFull, is_at};
+    ghost use Rattle.mj_debug.specs.Walks.{Walk};
+
+    ghost Value = { Walk };
+
+    ghost coded = { Prim.hlevel (codes, routine.the_row.coded, unit.the_row.coded) };
+
+    ghost view = { λ d. record {
+      core = d.core;
+      place = d.place;
+      ready = is_at d.place d.replica;
+      marks = d.marks.items;
+      turn = d.turn;
+    } };
+
+    ghost invariant = { λ d.
+        Begins O.opening d.kept
+        × (d.place ≤ length d.core.history)
+        × (length d.core.history ≤ history_limit)
+        × IfSome d.replica (λ r. IsReplica d.core.image O.opening d.core.history r × IsFull O.opening r) };
+}
+
+impl<D: Device, O: Opening> Debugger<D, O> {
+    /// A debugger of jobs of which nothing was asked yet, with the arguments of `Core::new`. Nothing may have been taken of the pool. A job
+    /// stops at the lines that hold BREAK. At want of memory all comes back that the system was to be made of.
+    pub fn new(
+        alloc: Global,
+        image: Image,
+        globals: Globals,
+        pool: Pool<D>,
+        starts: Vec<Start>,
+    ) -> Result<Debugger<D, O>, Unmade<D>>
+        requires opening { opening_of globals pool starts.items ≡ O.opening }
+        requires global { are_global globals ≡ true }
+        requires some { 1 ≤ length starts.items }
+        requires few { length starts.items ≤ rows_limit }
+        requires fits { length starts.items ≤ left_of principal pool }
+        requires whole { AreWhole pool }
+        ensures image { IfOk result (λ d. d.core.image ≡ image) }
+        ensures record { IfOk result (λ d. d.core.history ≡ []) }
+        ensures place { IfOk result (λ d. d.place ≡ 0) }
+        ensures marks { IfOk result (λ d. d.marks ≡ []) }
+        ensures turn { IfOk result (λ d. d.turn ≡ 1) }
+        ensures globals { IfErr result (λ back. back.globals ≡ globals) }
+        ensures pool { IfErr result (λ back. back.pool ≡ pool) }
+        ensures starts { IfErr result (λ back. back.starts.items ≡ starts.items) }
+    {
+        let Ok(kept) = keep(alloc, &globals, &pool, &starts) else {
+            return Err(Unmade {
+                globals,
+                pool,
+                starts,
+            });
+        };
+        let core = Core::new(alloc, image, globals, pool, starts)?;
+        Ok(Debugger {
+            alloc,
+            core,
+            place: 0,
+            kept,
+            replica: None,
+            marks: Vec::new(alloc),
+            turn: 1,
+        })
+    }
+
+    /// The jobs as they stand at the record's end, wherever the place is: their events are the record.
+    pub fn core(&self) -> &Core<D, O>
+        ensures { result.now ≡ self.now.core }
+    {
+        &self.core
+    }
+
+    /// The place in the record: how many events are before it.
+    pub fn place(&self) -> usize
+        ensures value { result ≡ self.now.place }
+        ensures within { result ≤ length self.now.core.history }
+    {
+        self.place
+    }
+
+    /// Makes a step as `Core::step` does, where the place is the record's end, and goes with it.
+    pub fn step(&mut self, step: Step) -> Result<Seen, Refused>
+        ensures { StepGives O.opening self.old step result self.new }
+    {
+        if self.place < self.core.len() {
+            return Err(Refused::NotAtEnd);
+        }
+        match self.make(step) {
+            Ok(seen) => Ok(seen),
+            Err(why) => Err(Refused::Step(why)),
+        }
+    }
+
+    /// Goes one event back along the record: the place in the record of the event that it went over, from 0, or none before the first.
+    pub fn back(&mut self) -> Option<usize>
+        ensures { GoesBack self.old result self.new }
+    {
+        let at = self.place.checked_sub(1)?;
+        self.place = at;
+        Some(at)
+    }
+
+    /// Goes one event on along the record: the place in the record of the event that it went over, from 0, or none behind the last.
+    pub fn forward(&mut self) -> Option<usize>
+        ensures { GoesForth self.old result self.new }
+    {
+        let at = self.place;
+        if at >= self.core.len() {
+            return None;
+        }
+        self.place = at + 1;
+        Some(at)
+    }
+
+    /// Gets what stands at the place ready to be shown. It changes nothing. It plays the events again that it didn't play before, or all of those
+    /// before the place, where that lies before what was ready last.
+    pub fn show(&mut self) -> Result<(), Unshown>
+        ensures ok { OnOk result (self.new ≡ record self.old { ready = true }) }
+        ensures err { OnErr result (self.new ≡ record self.old { ready = false }) }
+        ensures why { IfErr result (λ why. IsUnshown self.old.core.image O.opening self.old.core.history why) }
+    {
+        let replica = self.replica.take();
+        match bring(self.alloc, &self.core, &self.kept, replica, self.place) {
+            Ok(replica) => {
+                self.replica = Some(replica);
+                Ok(())
+            }
+            Err(why) => Err(why),
+        }
+    }
+
+    /// The committed globals at the place.
+    pub fn globals(&self) -> &Globals
+        requires { self.now.ready ≡ true }
+        ensures { result.now ≡ (state_of O.opening (front self.now)).globals }
+    {
+        self.shown().globals()
+    }
+
+    /// Who holds which names at the place.
+    pub fn locks(&self) -> &LockTable
+        requires { self.now.ready ≡ true }
+        ensures { result.now ≡ (state_of O.opening (front self.now)).locks }
+    {
+        self.shown().locks()
+    }
+
+    /// The frames of a job, the outermost first, as it stood at the ask of its last event before the place. None where it has no row there.
+    pub fn frames(&self, job: u32) -> Option<&[Frame]>
+        requires { self.now.ready ≡ true }
+        ensures none { IfNone result (row_at (state_of O.opening (front self.now)).rows job ≡ None) }
+        ensures some { IfSome result (λ frames. (locals : states.Locals)
+            × HasStood (routines_of self.now.core.image) O.opening (front self.now) job locals (map (λ f. f.place) (frames_of frames.now))) }
+    {
+        let found = self.shown().job(job)?;
+        Some(found.frames())
+    }
+
+    /// The locals of a job, as it stood at the ask of its last event before the place. None where it has no row there.
+    pub fn locals(&self, job: u32) -> Option<&Locals>
+        requires { self.now.ready ≡ true }
+        ensures none { IfNone result (row_at (state_of O.opening (front self.now)).rows job ≡ None) }
+        ensures some { IfSome result (λ locals. (places : List states.Place)
+            × HasStood (routines_of self.now.core.image) O.opening (front self.now) job locals.now.now places) }
+    {
+        let found = self.shown().job(job)?;
+        Some(found.locals())
+    }
+
+    /// A line is a breakpoint from now on. Whether there is such a line isn't asked.
+    pub fn set(&mut self, routine: Text, line: u32) -> Result<(), AllocError>
+        ensures ok { OnOk result (AreMarked self.old.core.image (record { routine = routine; line = line }) true self.old.marks self.new.marks) }
+        ensures rest { self.new ≡ record self.old { marks = self.new.marks } }
+        ensures err { OnErr result (self.new.marks ≡ self.old.marks) }
+    {
+        put_mark(&mut self.marks, routine, line, true)
+    }
+
+    /// A line is no breakpoint from now on, even if it holds BREAK.
+    pub fn clear(&mut self, routine: Text, line: u32) -> Result<(), AllocError>
+        ensures ok { OnOk result (AreMarked self.old.core.image (record { routine = routine; line = line }) false self.old.marks self.new.marks) }
+        ensures rest { self.new ≡ record self.old { marks = self.new.marks } }
+        ensures err { OnErr result (self.new.marks ≡ self.old.marks) }
+    {
+        put_mark(&mut self.marks, routine, line, false)
+    }
+
+    /// Makes the next step of a `go`, `first` at its first: the next job that hasn't ended is stepped by Go, unless it comes to a breakpoint. To find
+    /// that out it is let go on as `Core::ready` does, and where it comes to no ask by that, this is its step.
+    pub fn go(&mut self, first: bool) -> Result<Gone, Unshown>
+        ensures ok { IfOk result (λ gone. GoGives O.opening self.old first gone self.new) }
+        ensures err { OnErr result (self.new ≡ record self.old { ready = self.new.ready }) }
+    {
+        if self.place < self.core.len() {
+            return Ok(Gone::NotAtEnd);
+        }
+        self.show()?;
+        let Some(job) = self.shown().turn(self.turn) else {
+            return Ok(Gone::Over);
+        };
+        if first {
+            return Ok(self.pass(job));
+        }
+        Ok(self.go_on(job)?)
+    }
+
+    // Lets the job whose turn it is go on to its next ask, and steps it, where that is none to stop at.
+    fn go_on(&mut self, job: u32) -> Result<Gone, AllocError>
+        requires end { self.old.place ≡ length self.old.core.history }
+        requires ready { self.old.ready ≡ true }
+        requires turn { IsTurnOf (state_of O.opening self.old.core.history).rows self.old.turn job }
+        requires few { job ≤ rows_limit }
+        ensures ok { IfOk result (λ gone. GoGives O.opening self.old false gone self.new) }
+        ensures err { OnErr result (self.new ≡ self.old) }
+    {
+        if let Some(answer) = unasked(self.core.ready(job)) {
+            self.turn = job + 1;
+            return Ok(Gone::Step { job, answer });
+        }
+        if let Some((routine, line)) = self.stop(job)? {
+            self.turn = job;
+            return Ok(Gone::At { job, routine, line });
+        }
+        Ok(self.pass(job))
+    }
+
+    // Steps a job by Go at the record's end. Then it is the next job's turn.
+    fn pass(&mut self, job: u32) -> Gone
+        requires end { self.old.place ≡ length self.old.core.history }
+        requires few { job ≤ rows_limit }
+        ensures { IsPassed O.opening self.old job result self.new }
+    {
+        let answer = self.make(Step { job, way: Way::Go });
+        self.turn = job + 1;
+        Gone::Step { job, answer }
+    }
+
+    // Makes a step at the record's end, and goes with it.
+    fn make(&mut self, step: Step) -> Result<Seen, Refusal>
+        requires { self.old.place ≡ length self.old.core.history }
+        ensures gives { Gives O.opening self.old.core step result self.new.core }
+        ensures rest { IsOn self.old self.new }
+    {
+        let answer = self.core.step(step);
+        self.place = self.core.len();
+        answer
+    }
+
+    // The line from which the next ask of a job comes that asks, if that is one to stop at.
+    fn stop(&self, job: u32) -> Result<Option<(Text, u32)>, AllocError>
+        requires end { self.now.place ≡ length self.now.core.history }
+        requires ready { self.now.ready ≡ true }
+        ensures some { IfOk result (λ r. IfSome r (λ line. (outer : List states.Place) × IsStop O.opening self.now job (record { routine = line.0; line = line.1 } ∷ outer) true)) }
+        ensures none { IfOk result (λ r. IfNone r ((places : List states.Place) × IsStop O.opening self.now job places false)) }
+    {
+        let Some(now) = self.core.job(job) else {
+            return Err(AllocError);
+        };
+        let Some(_) = now.ask() else {
+            return Err(AllocError);
+        };
+        let Some(then) = self.shown().job(job) else {
+            unreachable!();
+        };
+        let Some((routine, line)) = now.place() else {
+            return Ok(None);
+        };
+        if !is_breakpoint(self.core.image(), &self.marks, routine, line) {
+            return Ok(None);
+        }
+        if is_at(then.place(), routine, line) {
+            return Ok(None);
+        }
+        Ok(Some((routine.try_clone()?, line)))
+    }
+
+    // The run played again up to the place.
+    fn shown(&self) -> &Replica<O>
+        requires { self.now.ready ≡ true }
+        ensures replica { IsReplica self.now.core.image O.opening self.now.core.history result.now }
+        ensures full { IsFull O.opening result.now }
+        ensures made { result.now.made ≡ self.now.place }
+    {
+        let Some(replica) = &self.replica else {
+            unreachable!();
+        };
+        replica
+    }
+}
+
+// What a step comes to of a job that was let go on and doesn't come to an ask.
+fn unasked(turn: Result<Turn, Refusal>) -> Option<Result<Seen, Refusal>>
+    ensures some { IfSome result (λ answer. IsUnasked turn answer) }
+    ensures none { IfNone result (turn ≡ Ok turns.Asks) }
+{
+    match turn {
+        Ok(Turn::Asks) => None,
+        Ok(Turn::Ran) => Some(Ok(Seen::Ran)),
+        Ok(Turn::Ended) => Some(Ok(Seen::Ended)),
+        Err(why) => Some(Err(why)),
+    }
+}
+
+// Whether a place is this line.
+fn is_at(place: Option<(&Text, u32)>, routine: &Text, line: u32) -> bool
+    ensures { result ≡ is_there (record { routine = routine.now; line = line }) (place_at place) }
+{
+    match place {
+        None => false,
+        Some((name, number)) => *name == *routine && number == line,
+    }
+}

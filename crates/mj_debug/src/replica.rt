@@ -1,0 +1,298 @@
+// A run that is played again, over devices that nothing is asked of.
+
+ghost use Rattle.std.specs.Prelude.{◌≡◌, ◌<◌, ◌≤◌, ◌+◌, ◌∷◌, [], length, map, All, option_copied, IfOk, IfErr, OnOk, IfSome, IfNone};
+ghost use Rattle.mj_dev.specs.Shelves.{AreRising, IsBelow};
+ghost use Rattle.mj_jobs.specs.Rows.{rows_limit};
+ghost use Rattle.mj_sys.specs.History.{History, state_of};
+ghost use Rattle.mj_sys.specs.System.{history_limit};
+ghost use Rattle.mj_debug.specs.Goes.{IsTurnOf, IsLowest, AreOver};
+ghost use Rattle.mj_debug.specs.Replicas.{Begins, shelf_of, shelves_of, job_of, IsReplica, IsFull, IsUnshown};
+ghost use Rattle.mj_debug.specs.Walks.{AreWhole};
+
+use crate::playing::Played;
+use crate::replaying::{admit, make_event};
+use mj_ask::Start;
+use mj_core::Core;
+use mj_dev::{Device, Memory, Pool};
+use mj_globs::Globals;
+use mj_jobvm::Job;
+use mj_load::Image;
+use mj_locktab::LockTable;
+use mj_sys::{Opening, System};
+use mj_text::Text;
+use std::alloc::{AllocError, Global};
+use std::marker::Model;
+
+/// Why what stands at a place isn't shown.
+#[derive(Clone, Copy, PartialEq, Eq, Debug)]
+pub enum Unshown {
+    /// an allocation was refused
+    Memory,
+    /// a job went on for 10,000,000,000 turns between two of its events, and isn't followed so far
+    Long,
+}
+
+impl From<AllocError> for Unshown {
+    fn from(_error: AllocError) -> Unshown {
+        Unshown::Memory
+    }
+}
+
+// What a run can be begun with once more.
+#[derive(Drop)]
+pub struct Kept {
+    pub globals: Globals,
+    pub counts: Vec<(Text, u32)>,
+    pub starts: Vec<Start>,
+}
+
+impl Model for Kept {
+    ghost use Rattle.mj_debug.specs.Replicas.{Keeping};
+
+    ghost Value = { Keeping };
+
+    ghost view = { λ k. record { globals = k.globals; counts = k.counts.items; starts = k.starts.items } };
+}
+
+// The first events of a record, played again.
+#[derive(Drop)]
+pub struct Replica<O: Opening> {
+    system: System<Memory, O>,
+    jobs: Vec<Played>,
+    made: usize,
+}
+
+impl<O: Opening> Model for Replica<O> {
+    ghost use Rattle.mj_debug.specs.Replicas.{Replayed};
+
+    ghost Value = { Replayed };
+
+    ghost view = { λ r. record { system = r.system; jobs = r.jobs.items; made = r.made } };
+}
+
+impl<O: Opening> Replica<O> {
+    // A run of which no event was played yet.
+    fn begin(alloc: Global, kept: &Kept) -> Result<Replica<O>, AllocError>
+        requires { Begins O.opening kept.now }
+        ensures { IfOk result (λ replica. replica ≡ record { system = record { history = []; claimed = 0 }; jobs = []; made = 0 }) }
+    {
+        let globals = kept.globals.try_clone()?;
+        let pool = pool_of(alloc, &kept.counts)?;
+        let starts = clone_starts(alloc, &kept.starts)?;
+        match System::new(alloc, globals, pool, starts) {
+            Ok(system) => Ok(Replica {
+                system,
+                jobs: Vec::new(alloc),
+                made: 0,
+            }),
+            Err(back) => {
+                drop(back);
+                Err(AllocError)
+            }
+        }
+    }
+
+    // Plays the next event of a record.
+    fn play<D: Device>(&mut self, alloc: Global, core: &Core<D, O>) -> Result<(), Unshown>
+        requires replica { IsReplica core.now.image O.opening core.now.history self.old }
+        requires more { self.old.made < length core.now.history }
+        requires short { length core.now.history ≤ history_limit }
+        ensures ok { OnOk result (IsReplica core.now.image O.opening core.now.history self.new) }
+        ensures made { OnOk result (self.new.made ≡ self.old.made + 1) }
+        ensures err { IfErr result (λ why. IsUnshown core.now.image O.opening core.now.history why) }
+    {
+        let Some((job, ask, reply)) = core.event(self.made) else {
+            unreachable!();
+        };
+        let Ok(made) = make_event(
+            alloc,
+            core.image(),
+            &mut self.system,
+            &mut self.jobs,
+            job,
+            ask,
+            reply,
+        ) else {
+            return Err(Unshown::Memory);
+        };
+        if !made {
+            // what is recorded is a run
+            let _events = core.len();
+            return Err(Unshown::Long);
+        }
+        self.made += 1;
+        Ok(())
+    }
+
+    // Starts each job that has a row.
+    fn fill(&mut self, alloc: Global, image: &Image) -> Result<(), AllocError>
+        requires { (history : History) × IsReplica image.now O.opening history self.old }
+        ensures ok { OnOk result ((history : History) → IsReplica image.now O.opening history self.old → IsReplica image.now O.opening history self.new) }
+        ensures made { self.new.made ≡ self.old.made }
+        ensures full { OnOk result (IsFull O.opening self.new) }
+    {
+        let rows = self.system.rows();
+        admit(alloc, image, &mut self.system, &mut self.jobs, rows)
+    }
+
+    // The globals.
+    pub fn globals(&self) -> &Globals
+        ensures { result.now ≡ (state_of O.opening self.now.system.history).globals }
+    {
+        self.system.globals()
+    }
+
+    // Who holds which names.
+    pub fn locks(&self) -> &LockTable
+        ensures { result.now ≡ (state_of O.opening self.now.system.history).locks }
+    {
+        self.system.locks()
+    }
+
+    // A job that was started.
+    pub fn job(&self, job: u32) -> Option<&Job>
+        ensures { option_copied result ≡ job_of self.now job }
+    {
+        let at = (job as usize).checked_sub(1)?;
+        let played = self.jobs.get(at)?;
+        Some(&played.job)
+    }
+
+    // Whose turn it is: that of the lowest job from this number on that goes on, or of the lowest of all.
+    pub fn turn(&self, from: u32) -> Option<u32>
+        ensures none { IfNone result (AreOver (state_of O.opening self.now.system.history).rows 0) }
+        ensures some { IfSome result (λ job. IsTurnOf (state_of O.opening self.now.system.history).rows from job) }
+        ensures few { IfSome result (λ job. job ≤ rows_limit) }
+    {
+        match self.lowest(from) {
+            Some(job) => Some(job),
+            None => self.lowest(0),
+        }
+    }
+
+    // The lowest job from this number on that goes on.
+    fn lowest(&self, from: u32) -> Option<u32>
+        ensures none { IfNone result (AreOver (state_of O.opening self.now.system.history).rows from) }
+        ensures some { IfSome result (λ job. IsLowest (state_of O.opening self.now.system.history).rows from job) }
+        ensures few { IfSome result (λ job. job ≤ rows_limit) }
+    {
+        for job in from..self.system.rows() as u32 + 1 {
+            if self.system.is_live(job) {
+                return Some(job);
+            }
+        }
+        None
+    }
+}
+
+// The run with as many events of a record played as there are before a place, where each job that has a row there was started.
+pub fn bring<D: Device, O: Opening>(
+    alloc: Global,
+    core: &Core<D, O>,
+    kept: &Kept,
+    replica: Option<Replica<O>>,
+    place: usize,
+) -> Result<Replica<O>, Unshown>
+    requires kept { Begins O.opening kept.now }
+    requires replica { IfSome replica (λ r. IsReplica core.now.image O.opening core.now.history r) }
+    requires within { place ≤ length core.now.history }
+    requires short { length core.now.history ≤ history_limit }
+    ensures ok { IfOk result (λ r. IsReplica core.now.image O.opening core.now.history r) }
+    ensures made { IfOk result (λ r. r.made ≡ place) }
+    ensures full { IfOk result (λ r. IsFull O.opening r) }
+    ensures err { IfErr result (λ why. IsUnshown core.now.image O.opening core.now.history why) }
+{
+    let Ok(mut replica) = behind(alloc, core, kept, replica, place) else {
+        return Err(Unshown::Memory);
+    };
+    for _ in replica.made..place {
+        replica.play(alloc, core)?;
+    }
+    match replica.fill(alloc, core.image()) {
+        Ok(()) => Ok(replica),
+        Err(_) => Err(Unshown::Memory),
+    }
+}
+
+// The run that is at hand, if it isn't beyond a place, or else a new one.
+fn behind<D: Device, O: Opening>(
+    alloc: Global,
+    core: &Core<D, O>,
+    kept: &Kept,
+    replica: Option<Replica<O>>,
+    place: usize,
+) -> Result<Replica<O>, AllocError>
+    requires kept { Begins O.opening kept.now }
+    requires replica { IfSome replica (λ r. IsReplica core.now.image O.opening core.now.history r) }
+    ensures ok { IfOk result (λ r. IsReplica core.now.image O.opening core.now.history r) }
+    ensures made { IfOk result (λ r. r.made ≤ place) }
+{
+    if let Some(replica) = replica {
+        if replica.made <= place {
+            return Ok(replica);
+        }
+    }
+    Replica::begin(alloc, kept)
+}
+
+// What a run is to be begun with once more.
+pub fn keep<D: Device>(
+    alloc: Global,
+    globals: &Globals,
+    pool: &Pool<D>,
+    starts: &[Start],
+) -> Result<Kept, AllocError>
+    requires { AreWhole pool.now }
+    ensures globals { IfOk result (λ kept. kept.globals ≡ globals.now) }
+    ensures pool { IfOk result (λ kept. shelves_of kept ≡ pool.now) }
+    ensures starts { IfOk result (λ kept. kept.starts ≡ starts.now) }
+    ensures counted { IfOk result (λ kept. All (λ count. 1 ≤ count.1) kept.counts) }
+    ensures rising { AreRising pool.now }
+{
+    let counts = pool.counts()?;
+    Ok(Kept {
+        globals: globals.try_clone()?,
+        counts,
+        starts: clone_starts(alloc, starts)?,
+    })
+}
+
+// Devices of which nothing will be asked, so many of each name.
+fn pool_of(alloc: Global, counts: &[(Text, u32)]) -> Result<Pool<Memory>, AllocError>
+    requires rising { AreRising (map shelf_of counts.now) }
+    requires counted { All (λ count. 1 ≤ count.1) counts.now }
+    ensures { IfOk result (λ pool. pool ≡ map shelf_of counts.now) }
+{
+    let mut pool = Pool::new(alloc);
+    // from the last name on, so that each comes before those that are there
+    for left in 0..counts.len() {
+        let (name, count) = &counts[counts.len() - 1 - left];
+        add(alloc, &mut pool, name, *count)?;
+    }
+    Ok(pool)
+}
+
+// Adds so many devices of a name that comes before all that are there.
+fn add(alloc: Global, pool: &mut Pool<Memory>, name: &Text, count: u32) -> Result<(), AllocError>
+    requires below { IsBelow name.now pool.old }
+    requires some { 1 ≤ count }
+    ensures { OnOk result (pool.new ≡ shelf_of (name.now, count) ∷ pool.old) }
+{
+    for _ in 0..count {
+        if pool.add(name, Memory::new(alloc, Vec::new(alloc))).is_err() {
+            return Err(AllocError);
+        }
+    }
+    Ok(())
+}
+
+// The same starts once more.
+fn clone_starts(alloc: Global, starts: &[Start]) -> Result<Vec<Start>, AllocError>
+    ensures { IfOk result (λ copies. copies.items ≡ starts.now) }
+{
+    let mut copies = Vec::with_capacity(alloc, starts.len())?;
+    for start in starts {
+        copies.push(start.try_clone()?)?;
+    }
+    Ok(copies)
+}
