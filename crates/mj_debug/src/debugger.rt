@@ -205,7 +205,7 @@ impl<D: Device, O: Opening> Debugger<D, O> {
     pub fn show(&mut self) -> Result<(), Unshown>
         ensures ok { OnOk result (self.new ≡ record self.old { ready = true }) }
         ensures err { OnErr result (self.new ≡ record self.old { ready = false }) }
-        ensures why { IfErr result (λ why. IsUnshown self.old.core.image O.opening self.old.core.history why) }
+        ensures why { IfErr result (λ why. IsUnshown self.old.core.image O.opening self.old.core.history self.old.place why) }
     {
         let replica = self.replica.take();
         match bring(self.alloc, &self.core, &self.kept, replica, self.place) {
@@ -256,21 +256,21 @@ impl<D: Device, O: Opening> Debugger<D, O> {
     }
 
     /// A line is a breakpoint from now on. Whether there is such a line isn't asked.
-    pub fn set(&mut self, routine: Text, line: u32) -> Result<(), AllocError>
-        ensures ok { OnOk result (AreMarked self.old.core.image (record { routine = routine; line = line }) true self.old.marks self.new.marks) }
+    pub fn set(&mut self, routine: &Text, line: u32) -> Result<(), AllocError>
+        ensures ok { OnOk result (AreMarked self.old.core.image (record { routine = routine.now; line = line }) true self.old.marks self.new.marks) }
         ensures rest { self.new ≡ record self.old { marks = self.new.marks } }
         ensures err { OnErr result (self.new.marks ≡ self.old.marks) }
     {
-        put_mark(&mut self.marks, routine, line, true)
+        put_mark(&mut self.marks, routine.try_clone()?, line, true)
     }
 
     /// A line is no breakpoint from now on, even if it holds BREAK.
-    pub fn clear(&mut self, routine: Text, line: u32) -> Result<(), AllocError>
-        ensures ok { OnOk result (AreMarked self.old.core.image (record { routine = routine; line = line }) false self.old.marks self.new.marks) }
+    pub fn clear(&mut self, routine: &Text, line: u32) -> Result<(), AllocError>
+        ensures ok { OnOk result (AreMarked self.old.core.image (record { routine = routine.now; line = line }) false self.old.marks self.new.marks) }
         ensures rest { self.new ≡ record self.old { marks = self.new.marks } }
         ensures err { OnErr result (self.new.marks ≡ self.old.marks) }
     {
-        put_mark(&mut self.marks, routine, line, false)
+        put_mark(&mut self.marks, routine.try_clone()?, line, false)
     }
 
     /// Makes the next step of a `go`, `first` at its first: the next job that hasn't ended is stepped by Go, unless it comes to a breakpoint. To find
@@ -278,6 +278,7 @@ impl<D: Device, O: Opening> Debugger<D, O> {
     pub fn go(&mut self, first: bool) -> Result<Gone, Unshown>
         ensures ok { IfOk result (λ gone. GoGives O.opening self.old first gone self.new) }
         ensures err { OnErr result (self.new ≡ record self.old { ready = self.new.ready }) }
+        ensures why { IfErr result (λ why. IsUnshown self.old.core.image O.opening self.old.core.history self.old.place why) }
     {
         if self.place < self.core.len() {
             return Ok(Gone::NotAtEnd);
@@ -391,7 +392,7 @@ fn unasked(turn: Result<Turn, Refusal>) -> Option<Result<Seen, Refusal>>
 
 // Whether a place is this line.
 fn is_at(place: Option<(&Text, u32)>, routine: &Text, line: u32) -> bool
-    ensures { result ≡ is_there (record { routine = routine.now; line = line }) (place_at place) }
+    ensures { result ≡ is_there (record { routine = routine.now; line = line }) (place_at place.entry) }
 {
     match place {
         None => false,
