@@ -10,3 +10,4 @@ pub mod Standing
 pub mod Whole
 pub mod Pools
 pub mod Marking
+pub mod Turning
