@@ -1,6 +1,6 @@
 // A debugger.
 
-ghost use Rattle.std.specs.Prelude.{◌≡◌, ◌≤◌, List, [], ◌∷◌, length, map, All, true, false, Ok, OnOk, OnErr, IfOk, IfErr, IfSome, IfNone};
+ghost use Rattle.std.specs.Prelude.{◌≡◌, ◌≤◌, List, [], ◌∷◌, length, map, replicate, All, true, false, Ok, OnOk, OnErr, IfOk, IfErr, IfSome, IfNone};
 ghost use Rattle.mj_dev.specs.Shelves.{principal, left_of};
 ghost use Rattle.mj_frames.specs.Frames.{frames_of, place_at};
 ghost use Rattle.mj_jobs.specs.Rows.{row_at, rows_limit};
@@ -123,6 +123,7 @@ impl<D: Device, O: Opening> Debugger<D, O> {
         requires few { length starts.items ≤ rows_limit }
         requires fits { length starts.items ≤ left_of principal pool }
         requires whole { AreWhole pool }
+        ensures core { IfOk result (λ d. d.core ≡ record { image = image; history = []; over = replicate 255 false; spent = replicate 255 0 }) }
         ensures image { IfOk result (λ d. d.core.image ≡ image) }
         ensures record { IfOk result (λ d. d.core.history ≡ []) }
         ensures place { IfOk result (λ d. d.place ≡ 0) }
