@@ -1,12 +1,12 @@
 -- A line is marked, and no other line is another.
-use Rattle.std.specs.Prelude.{slice_index_or, slice_set, if◌then◌else◌, ◌==◌, ◌&&◌}
-use Rattle.std.specs.List.{position, position_or_len}
-use Rattle.std.specs.Str.{bytes_eq}
-use Rattle.std.proofs.lemmas.List.Quantifiers.{position-Some}
-use Rattle.std.proofs.lemmas.List.Sums.{prefix_len-le-length, prefix_len_passes}
 use borrow.Author.Tests.{ltb-false}
+use Rattle.std.specs.Prelude.{slice_index_or, slice_set, position, if◌then◌else◌, ◌==◌, ◌&&◌}
+use Rattle.std.specs.List.{position_or_len}
+use Rattle.std.specs.Str.{bytes_eq}
 use Rattle.std.proofs.lemmas.Slice.Eq.{bytes_eq-Decides}
-use Rattle.std.proofs.Common.{◌≡◌, ℕ, zero, suc, ◌+◌, ◌<◌, ◌≤◌, List, [], ◌∷◌, ◌++◌, length, Bool, true, false, Option, Some, None, cond, nat_lt, not, refl, sym, ap, ◌∙◌, arith}
+use Rattle.std.proofs.lemmas.Option.{none-some}
+use Rattle.std.proofs.lemmas.List.Sums.{fails_before_first, prefix_len-le-length}
+use Rattle.std.proofs.Common.{◌≡◌, ℕ, zero, suc, ◌+◌, ◌<◌, ◌≤◌, List, [], ◌∷◌, ◌++◌, length, Bool, true, false, Option, Some, None, cond, nat_lt, refl, sym, ap, ◌∙◌, arith}
 use Rattle.mj_semantics.specs.State.{Place}
 use Rattle.mj_load.specs.Image.{Loaded}
 use Rattle.mj_debug.specs.declared.breaks.Mark.{Mark}
@@ -74,28 +74,16 @@ module _ (image : Loaded) (line : Place) (on : Bool) (other : Place) where
       beside (line_of m) m.on (is_breakpoint image marks other) (none 0 m (omega arith)) (is_breakpoint image (marks ++ mark ∷ []) other)
       (marked marks mark new is_on (λ j d below. none (suc j) d (omega (arith, below))))
 
--- the mark of a line that has one is changed
-pub changed_at : (image : Loaded) (line : Place) (on : Bool) (other : Place) (marks : List Mark) (k : ℕ) (old mark : Mark) → position (λ m. is_same (line_of m) line) marks ≡ Some k
-    → old ≡ slice_index_or marks k old → line_of mark ≡ line_of old → mark.on ≡ on
-    → is_breakpoint image (slice_set marks k mark) other ≡ (if is_same line other then on else is_breakpoint image marks other)
-changed_at image line on other marks k old mark found is same is_on =
-    let its = position-Some (λ m. is_same (line_of m) line) marks k old found in
-    let new : line_of mark ≡ line_of (slice_index_or marks k old) = same ∙ ap (λ (m : Mark). line_of m) is in
-    changed image line on other marks k old mark its.0 its.1 its.2 new is_on
-
 -- where no element passes a test
-none_passes : {X : Type 0} (p : X → Bool) (xs : List X) → position p xs ≡ None → (k : ℕ) (d : X) → k < length xs → p (slice_index_or xs k d) ≡ false
-none_passes p xs none k d within =
-    let at_most : position_or_len p xs ≤ length xs = prefix_len-le-length _ xs in
-    let by_test : (b : Bool) → nat_lt (position_or_len p xs) (length xs) ≡ b → cond b (Some (position_or_len p xs)) None ≡ None → position_or_len p xs ≡ length xs =
-    λ b. elim b as (λ b. nat_lt (position_or_len p xs) (length xs) ≡ b → cond b (Some (position_or_len p xs)) None ≡ None → position_or_len p xs ≡ length xs)
-    [ true ↦ λ e q. cc | false ↦ λ e q. omega (arith, ltb-false) ] in
-    let all : position_or_len p xs ≡ length xs = by_test _ refl none in
-    let not_it : (b : Bool) → not b ≡ true → b ≡ false = λ b. elim b as (λ b. not b ≡ true → b ≡ false) [ true ↦ λ e. cc | false ↦ λ e. refl ] in
-    not_it (p (slice_index_or xs k d)) (prefix_len_passes (λ x. not (p x)) xs k d (omega (arith, all, within)))
+ends : {X : Type 0} (p : X → Bool) (xs : List X) → position p xs ≡ None → position_or_len p xs ≡ length xs
+ends p xs none = by (nat_lt (position_or_len p xs) (length xs)) refl none where
+  by : (b : Bool) → nat_lt (position_or_len p xs) (length xs) ≡ b → cond {A = Option ℕ} b (Some (position_or_len p xs)) None ≡ None → position_or_len p xs ≡ length xs
+  by true e q = absurd (none-some (position_or_len p xs) (sym q))
+  by false e q = let at_most : position_or_len p xs ≤ length xs = prefix_len-le-length _ xs in omega (arith, ltb-false, e, at_most)
 
--- one of a line that has none is added
-pub marked_new : (image : Loaded) (line : Place) (on : Bool) (other : Place) (marks new : List Mark) (mark : Mark) → position (λ m. is_same (line_of m) line) marks ≡ None
-    → line_of mark ≡ line → mark.on ≡ on → new ≡ marks ++ mark ∷ [] → is_breakpoint image new other ≡ (if is_same line other then on else is_breakpoint image marks other)
-marked_new image line on other marks new mark none same is_on is =
-    ap (λ l. is_breakpoint image l other) is ∙ marked image line on other marks mark same is_on (λ j d below. none_passes (λ m. is_same (line_of m) line) marks none j d below)
+-- a line that isn't found has no mark
+pub unmarked : (line : Place) (marks : List Mark) → position (λ m. is_same (line_of m) line) marks ≡ None
+    → (j : ℕ) (d : Mark) → j < length marks → is_same (line_of (slice_index_or marks j d)) line ≡ false
+unmarked line marks none j d below =
+    let end = ends (λ m. is_same (line_of m) line) marks none in
+    fails_before_first (λ m. is_same (line_of m) line) marks j d (omega (arith, end, below))

@@ -262,7 +262,7 @@ impl<D: Device, O: Opening> Debugger<D, O> {
         ensures rest { self.new ≡ record self.old { marks = self.new.marks } }
         ensures err { OnErr result (self.new.marks ≡ self.old.marks) }
     {
-        put_mark(&mut self.marks, routine.try_clone()?, line, true)
+        put_mark(&mut self.marks, routine, line, true)
     }
 
     /// A line is no breakpoint from now on, even if it holds BREAK.
@@ -271,7 +271,7 @@ impl<D: Device, O: Opening> Debugger<D, O> {
         ensures rest { self.new ≡ record self.old { marks = self.new.marks } }
         ensures err { OnErr result (self.new.marks ≡ self.old.marks) }
     {
-        put_mark(&mut self.marks, routine.try_clone()?, line, false)
+        put_mark(&mut self.marks, routine, line, false)
     }
 
     /// Makes the next step of a `go`, `first` at its first: the next job that hasn't ended is stepped by Go, unless it comes to a breakpoint. To find
