@@ -11,3 +11,4 @@ pub mod Whole
 pub mod Pools
 pub mod Marking
 pub mod Turning
+pub mod Stopping
