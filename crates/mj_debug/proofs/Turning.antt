@@ -1,6 +1,6 @@
 -- Whose step it is, and what comes of it.
 use Rattle.std.specs.Prelude.{◌⊎◌, Option, Some, None, Result, Ok, Err, IfSome, IfNone}
-use Rattle.std.proofs.Common.{◌≡◌, ℕ, suc, ◌≤◌, List, [], ◌∷◌, length, Bool, true, false, refl, sym, ap, ◌∙◌, subst, inl, inr}
+use Rattle.std.proofs.Common.{◌≡◌, ℕ, suc, ◌<◌, ◌≤◌, arith, List, [], ◌∷◌, length, Bool, true, false, refl, sym, ap, ◌∙◌, subst, inl, inr}
 use Rattle.mj_semantics.specs.State.{Place}
 use Rattle.mj_jobvm.specs.declared.job.Turn.{Turn}
 use Rattle.mj_jobvm.specs.declared.job.Turn.TheVariants as turns
@@ -54,6 +54,22 @@ pub stopped : (opening : Shared) (mid old new : Walk) (job : ℕ) (routine : Lis
     → IsTurnOf (state_of opening old.core.history).rows old.turn job → ((outer : List Place) × IsStop opening mid job (record { routine = routine; line = line } ∷ outer) true)
     → new ≡ record mid { turn = job } → GoGives opening old false (gones.At job routine line) new
 stopped opening mid old new job routine line same end ready turn stop is =
-    let P : Walk → Type 0 = λ w. (outer : List Place) × IsStop opening w job (record { routine = routine; line = line } ∷ outer) true in
-    (end, refl, turn, subst P same stop,
-    is ∙ ap (λ (w : Walk). record w { turn = job }) same ∙ ap (λ (b : Bool). record old { ready = b; turn = job }) ready)
+    let P : Walk → Type 0 = λ w. (outer : List Place) × IsStop opening w job (record { routine = routine; line = line } ∷ outer) true in (
+      end,
+      refl,
+      turn,
+      subst P same stop,
+      is ∙ ap (λ (w : Walk). record w { turn = job }) same ∙ ap (λ (b : Bool). record old { ready = b; turn = job }) ready,
+    )
+
+-- whether what stands at the place is at hand is nothing to a `go`
+pub go_so : (opening : Shared) (mid old : Walk) (first : Bool) (gone : Gone) (new : Walk) → mid ≡ record old { ready = true } → old.place ≡ length old.core.history
+    → GoGives opening mid first gone new → GoGives opening old first gone new
+go_so opening mid old first gone new same end gives =
+    let P : Walk → Type 0 = λ w. GoGives opening w first gone new in
+    by gone (subst P same gives) where
+      by : (g : Gone) → GoGives opening (record old { ready = true }) first g new → GoGives opening old first g new
+      by gones.NotAtEnd not = absurd (let before = not.0 in omega (arith, before, end))
+      by gones.Over over = over
+      by (gones.At job routine line) at = at
+      by (gones.Step job answer) step = step

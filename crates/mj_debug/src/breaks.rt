@@ -30,7 +30,12 @@ pub fn is_breakpoint(image: &Image, marks: &[Mark], routine: &Text, line: u32) -
 }
 
 // Says of a line whether it is a breakpoint from now on.
-pub fn put_mark(marks: &mut Vec<Mark>, routine: &Text, line: u32, on: bool) -> Result<(), AllocError>
+pub fn put_mark(
+    marks: &mut Vec<Mark>,
+    routine: &Text,
+    line: u32,
+    on: bool,
+) -> Result<(), AllocError>
     ensures ok { OnOk result ((image : Loaded) → AreMarked image (record { routine = routine.now; line = line }) on marks.old.items marks.new.items) }
     ensures err { OnErr result (marks.new.items ≡ marks.old.items) }
 {

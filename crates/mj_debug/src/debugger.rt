@@ -291,7 +291,10 @@ impl<D: Device, O: Opening> Debugger<D, O> {
         if first {
             return Ok(self.pass(job));
         }
-        Ok(self.go_on(job)?)
+        match self.go_on(job) {
+            Ok(gone) => Ok(gone),
+            Err(_) => Err(Unshown::Memory),
+        }
     }
 
     // Lets the job whose turn it is go on to its next ask, and steps it, where that is none to stop at.

@@ -32,12 +32,6 @@ pub enum Unshown {
     Long,
 }
 
-impl From<AllocError> for Unshown {
-    fn from(_error: AllocError) -> Unshown {
-        Unshown::Memory
-    }
-}
-
 // What a run can be begun with once more.
 #[derive(Drop)]
 pub struct Kept {
