@@ -1,5 +1,5 @@
 -- A pool is filled from the last name on.
-use Rattle.std.specs.Prelude.{take, drop, slice_index_or}
+use Rattle.std.specs.Prelude.{drop, slice_index_or}
 use Rattle.std.specs.Ordering.{nat_cmp, match_ordering, ordering_reverse}
 use Rattle.std.specs.Cmp.Lexicographic.{slice_cmp}
 use Rattle.std.specs.declared.cmp.Ordering.{Ordering}

@@ -1,20 +1,19 @@
 -- What a replica has is what stands at its place.
-use Rattle.std.specs.Prelude.{◌⊎◌, take, slice_get, IfNone}
+use Rattle.std.specs.Prelude.{take, slice_get, IfNone}
 use Rattle.std.specs.Option.{option_map}
-use Rattle.std.proofs.Common.{◌≡◌, ℕ, zero, suc, ◌+◌, ◌<◌, ◌≤◌, List, [], ◌∷◌, ◌++◌, length, Option, Some, None, refl, sym, ap, ◌∙◌, subst, inl, inr, arith}
+use Rattle.std.proofs.Common.{◌≡◌, ℕ, zero, suc, ◌≤◌, List, [], ◌∷◌, length, Option, Some, None, refl, sym, ap, ◌∙◌, subst, arith}
 use Rattle.std.proofs.lemmas.Option.{slice_get_past, none-some, same_Some}
-use Rattle.mj_ast.specs.Syntax.{Routine}
-use Rattle.mj_semantics.specs.State.{State, places}
+use Rattle.mj_semantics.specs.State.{places}
 use Rattle.mj_semantics.specs.Job.{Start}
 use Rattle.mj_load.specs.Image.{Loaded, routines_of}
-use Rattle.mj_jobs.specs.Rows.{Row, row_at}
+use Rattle.mj_jobs.specs.Rows.{row_at}
 use Rattle.mj_jobvm.specs.Run.{Log}
 use Rattle.mj_jobvm.specs.Jobs.{Running}
 use Rattle.mj_sys.specs.Shared.{Shared}
 use Rattle.mj_sys.specs.History.{History, state_of, log_of}
 use Rattle.mj_core.specs.Runs.{start_in}
 use Rattle.mj_debug.specs.Shows.{Stood, HasStood}
-use Rattle.mj_debug.specs.Playing.{Playing, start_of}
+use Rattle.mj_debug.specs.Playing.{Playing}
 use Rattle.mj_debug.specs.Replicas.{Replayed, job_of, IsReplica, IsFull}
 use Rattle.mj_debug.proofs.Staging.{same_state, row_of}
 

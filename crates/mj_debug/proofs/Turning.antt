@@ -1,16 +1,14 @@
 -- Whose step it is, and what comes of it.
-use Rattle.std.specs.Prelude.{◌⊎◌, Option, Some, None, Result, Ok, Err, IfSome, IfNone}
-use Rattle.std.proofs.Common.{◌≡◌, ℕ, suc, ◌<◌, ◌≤◌, arith, List, [], ◌∷◌, length, Bool, true, false, refl, sym, ap, ◌∙◌, subst, inl, inr}
+use Rattle.std.specs.Prelude.{◌⊎◌, Result, Ok}
+use Rattle.std.proofs.Common.{◌≡◌, ℕ, arith, List, ◌∷◌, length, Bool, true, false, refl, sym, ap, ◌∙◌, subst, inl, inr}
 use Rattle.mj_semantics.specs.State.{Place}
 use Rattle.mj_jobvm.specs.declared.job.Turn.{Turn}
 use Rattle.mj_jobvm.specs.declared.job.Turn.TheVariants as turns
 use Rattle.mj_sys.specs.Shared.{Shared}
 use Rattle.mj_sys.specs.History.{state_of}
 use Rattle.mj_core.specs.declared.seen.Refusal.{Refusal}
-use Rattle.mj_core.specs.declared.seen.Seen.{Seen}
-use Rattle.mj_core.specs.declared.seen.Way.TheVariants as ways
 use Rattle.mj_core.specs.Shown.{Shown}
-use Rattle.mj_core.specs.Gives.{Gives, GivesReady}
+use Rattle.mj_core.specs.Gives.{GivesReady}
 use Rattle.mj_debug.specs.declared.debugger.Gone.{Gone}
 use Rattle.mj_debug.specs.declared.debugger.Gone.TheVariants as gones
 use Rattle.mj_debug.specs.Goes.{IsTurnOf, IsStop, IsPassed, Passes, GoGives}

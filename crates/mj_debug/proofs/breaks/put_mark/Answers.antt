@@ -1,5 +1,5 @@
-use Rattle.std.specs.Prelude.{position, slice_index_or, slice_set}
-use Rattle.std.proofs.Common.{◌≡◌, ℕ, ◌<◌, List, [], ◌∷◌, ◌++◌, length, Bool, true, false, Some, None, refl, sym, ap, ◌∙◌, subst}
+use Rattle.std.specs.Prelude.{position}
+use Rattle.std.proofs.Common.{◌≡◌, [], ◌∷◌, ◌++◌, Bool, Some, None, refl, sym, ap, ◌∙◌}
 use Rattle.std.proofs.lemmas.List.Quantifiers.{position-Some}
 use Rattle.mj_semantics.specs.State.{Place}
 use Rattle.mj_debug.specs.declared.breaks.Mark.{Mark}

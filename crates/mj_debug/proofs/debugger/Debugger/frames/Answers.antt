@@ -1,5 +1,5 @@
 use Rattle.std.specs.Prelude.{option_copied}
-use Rattle.std.proofs.Common.{◌≡◌, List, map, sym, ap, ◌∙◌, subst}
+use Rattle.std.proofs.Common.{List, map, sym, ap, ◌∙◌, subst}
 use Rattle.mj_semantics.specs.State as states
 use Rattle.mj_load.specs.Image.{routines_of}
 use Rattle.mj_debug.specs.Shows.{HasStood}

@@ -1,5 +1,4 @@
-use Rattle.std.proofs.Common.{◌≡◌, ℕ, ◌<◌, ◌≤◌, length, Bool, true, false, refl, sym, ap, ◌∙◌, subst, inl, inr, arith}
-use Rattle.mj_jobs.specs.Rows.{IsLive}
+use Rattle.std.proofs.Common.{◌≡◌, ℕ, length, Bool, true, false, sym, ap, ◌∙◌, subst, inl, arith}
 use Rattle.mj_sys.specs.Shared.{Shared}
 use Rattle.mj_sys.specs.History.{state_of}
 use Rattle.mj_debug.specs.Goes.{GoGives, IsTurnOf, AreOver}

@@ -1,4 +1,4 @@
-use Rattle.std.proofs.Common.{◌≡◌, refl, sym, ap, ◌∙◌, subst, inl, inr}
+use Rattle.std.proofs.Common.{◌≡◌, refl, ap, ◌∙◌, inr}
 use Rattle.mj_core.specs.Shown.{Shown}
 use Rattle.mj_debug.specs.Walks.{Walk}
 use Rattle.mj_debug.specs.Replicas.{is_at}

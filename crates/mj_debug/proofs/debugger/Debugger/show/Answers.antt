@@ -1,4 +1,4 @@
-use Rattle.std.proofs.Common.{◌≡◌, subst}
+use Rattle.std.proofs.Common.{subst}
 use Rattle.mj_debug.specs.Walks.{Walk}
 use Rattle.mj_debug.specs.Replicas.{IsUnshown}
 use Rattle.mj_debug.proofs.debugger.Debugger.show.Goals as goal

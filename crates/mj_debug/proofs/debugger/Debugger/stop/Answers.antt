@@ -1,10 +1,9 @@
-use Rattle.std.specs.Prelude.{option_copied, take}
-use Rattle.std.proofs.Common.{◌≡◌, ℕ, ◌∷◌, List, Option, Some, None, Bool, true, false, refl, sym, ap, ◌∙◌, subst}
+use Rattle.std.specs.Prelude.{option_copied}
+use Rattle.std.proofs.Common.{◌≡◌, ℕ, ◌∷◌, List, Option, Some, None, true, false, sym, ap, ◌∙◌, subst}
 use Rattle.std.proofs.lemmas.Option.{none-some}
 use Rattle.mj_semantics.specs.State.{Place, places, place_of}
-use Rattle.mj_frames.specs.Frames.{place_at}
 use Rattle.mj_load.specs.Image.{Loaded, routines_of}
-use Rattle.mj_jobs.specs.Rows.{Row, row_at}
+use Rattle.mj_jobs.specs.Rows.{row_at}
 use Rattle.mj_sys.specs.History.{History, state_of}
 use Rattle.mj_debug.specs.declared.breaks.Mark.{Mark}
 use Rattle.mj_debug.specs.Breaks.{is_breakpoint, is_there}

@@ -1,12 +1,10 @@
 use Rattle.std.specs.Prelude.{slice_get, take}
-use Rattle.std.proofs.Common.{◌≡◌, ℕ, ◌+◌, ◌<◌, ◌≤◌, ◌++◌, ◌∷◌, [], length, Bool, true, false, Some, sym, ap, ◌∙◌, subst, arith}
-use Rattle.mj_load.specs.Image.{Loaded, routines_of}
+use Rattle.std.proofs.Common.{◌≡◌, Some, sym, ap, subst, arith}
+use Rattle.mj_load.specs.Image.{Loaded}
 use Rattle.mj_sys.specs.declared.event.Event.{Event}
-use Rattle.mj_sys.specs.History.{History}
 use Rattle.mj_sys.specs.System.{history_limit}
-use Rattle.mj_debug.specs.Playing.{AreStaged, Stages}
-use Rattle.mj_debug.specs.Replicas.{Replayed, IsReplica, IsUnshown}
-use Rattle.mj_debug.specs.declared.replica.Unshown.TheVariants as unshown
+use Rattle.mj_debug.specs.Playing.{AreStaged}
+use Rattle.mj_debug.specs.Replicas.{Replayed, IsReplica}
 use Rattle.mj_debug.proofs.Rounds.{room_in, play_off, play_on}
 use Rattle.mj_debug.proofs.replica.Replica.play.Goals as goal
 
