@@ -1,9 +1,7 @@
 -- A step leaves the routines as they are, and the record grows at its end.
-use Rattle.std.specs.Prelude.{◌⊎◌, Result, Ok, Err, take, slice_get}
-use Rattle.std.proofs.Common.{◌≡◌, ℕ, ◌+◌, ◌<◌, ◌≤◌, List, [], ◌∷◌, ◌++◌, length, Bool, Some, refl, sym, ap, ◌∙◌, subst, inl, inr, append-nil, length-append, arith}
+use Rattle.std.specs.Prelude.{Result, Ok, Err, take}
+use Rattle.std.proofs.Common.{◌≡◌, ℕ, ◌<◌, ◌≤◌, [], ◌∷◌, ◌++◌, length, Bool, sym, ap, ◌∙◌, subst, inl, inr, append-nil, length-append, arith}
 use Rattle.std.proofs.lemmas.List.{take-append-le}
-use Rattle.mj_ask.specs.declared.ask.Ask.{Ask}
-use Rattle.mj_ask.specs.declared.ask.Reply.{Reply}
 use Rattle.mj_load.specs.Image.{Loaded}
 use Rattle.mj_jobs.specs.Rows.{Row}
 use Rattle.mj_jobvm.specs.declared.job.Turn.{Turn}

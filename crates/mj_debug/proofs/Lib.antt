@@ -10,3 +10,5 @@ pub mod Standing
 pub mod Whole
 pub mod Pools
 pub mod Marking
+pub mod Turning
+pub mod Stopping

@@ -1,8 +1,12 @@
 -- A line is marked, and no other line is another.
-use Rattle.std.specs.Prelude.{slice_index_or, slice_set, if◌then◌else◌, ◌==◌, ◌&&◌}
+use borrow.Author.Tests.{ltb-false}
+use Rattle.std.specs.Prelude.{slice_index_or, slice_set, position, if◌then◌else◌, ◌==◌, ◌&&◌}
+use Rattle.std.specs.List.{position_or_len}
 use Rattle.std.specs.Str.{bytes_eq}
 use Rattle.std.proofs.lemmas.Slice.Eq.{bytes_eq-Decides}
-use Rattle.std.proofs.Common.{◌≡◌, ℕ, zero, suc, ◌+◌, ◌<◌, List, [], ◌∷◌, ◌++◌, length, Bool, true, false, refl, sym, ap, ◌∙◌, arith}
+use Rattle.std.proofs.lemmas.Option.{none-some}
+use Rattle.std.proofs.lemmas.List.Sums.{fails_before_first, prefix_len-le-length}
+use Rattle.std.proofs.Common.{◌≡◌, ℕ, zero, suc, ◌<◌, ◌≤◌, List, [], ◌∷◌, ◌++◌, length, Bool, true, false, Option, Some, None, cond, nat_lt, refl, sym, ap, ◌∙◌, arith}
 use Rattle.mj_semantics.specs.State.{Place}
 use Rattle.mj_load.specs.Image.{Loaded}
 use Rattle.mj_debug.specs.declared.breaks.Mark.{Mark}
@@ -69,3 +73,17 @@ module _ (image : Loaded) (line : Place) (on : Bool) (other : Place) where
   marked (m ∷ marks) mark new is_on none =
       beside (line_of m) m.on (is_breakpoint image marks other) (none 0 m (omega arith)) (is_breakpoint image (marks ++ mark ∷ []) other)
       (marked marks mark new is_on (λ j d below. none (suc j) d (omega (arith, below))))
+
+-- where no element passes a test
+ends : {X : Type 0} (p : X → Bool) (xs : List X) → position p xs ≡ None → position_or_len p xs ≡ length xs
+ends p xs none = by (nat_lt (position_or_len p xs) (length xs)) refl none where
+  by : (b : Bool) → nat_lt (position_or_len p xs) (length xs) ≡ b → cond {A = Option ℕ} b (Some (position_or_len p xs)) None ≡ None → position_or_len p xs ≡ length xs
+  by true e q = absurd (none-some (position_or_len p xs) (sym q))
+  by false e q = let at_most : position_or_len p xs ≤ length xs = prefix_len-le-length _ xs in omega (arith, ltb-false, e, at_most)
+
+-- a line that isn't found has no mark
+pub unmarked : (line : Place) (marks : List Mark) → position (λ m. is_same (line_of m) line) marks ≡ None
+    → (j : ℕ) (d : Mark) → j < length marks → is_same (line_of (slice_index_or marks j d)) line ≡ false
+unmarked line marks none j d below =
+    let end = ends (λ m. is_same (line_of m) line) marks none in
+    fails_before_first (λ m. is_same (line_of m) line) marks j d (omega (arith, end, below))

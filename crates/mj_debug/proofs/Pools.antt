@@ -1,13 +1,18 @@
 -- A pool is filled from the last name on.
-use Rattle.std.specs.Prelude.{take, drop, slice_index_or}
+use Rattle.std.specs.Prelude.{drop, slice_index_or}
 use Rattle.std.specs.Ordering.{nat_cmp, match_ordering, ordering_reverse}
 use Rattle.std.specs.Cmp.Lexicographic.{slice_cmp}
 use Rattle.std.specs.declared.cmp.Ordering.{Ordering}
 use Rattle.std.specs.declared.cmp.Ordering.TheVariants.{Less, Equal, Greater}
 use Rattle.std.proofs.lemmas.Cmp.{nat_list_cmp_total}
-use Rattle.std.proofs.Common.{◌≡◌, ℕ, zero, suc, ◌+◌, ◌-◌, ◌<◌, ◌≤◌, List, [], ◌∷◌, length, map, refl, sym, ap, ◌∙◌, subst, arith}
+use Rattle.std.proofs.Common.{Result, Ok, Err, OnOk, is_err, true, false, ◌≡◌, ℕ, zero, suc, ◌+◌, ◌-◌, ◌<◌, ◌≤◌, List, [], ◌∷◌, length, map, refl, sym, ap, ◌∙◌, subst, arith}
 use Rattle.mj_dev.specs.Shelves.{Shelf, new_shelf, one_more, added, IsBelow, AreRising}
 use Rattle.mj_debug.specs.Replicas.{shelf_of}
+
+-- what a result that is no error says
+pub of_ok : {T E : Type 0} (r : Result T E) (P : Type 0) → OnOk r P → is_err r ≡ false → P
+of_ok (Ok x) P said is = said
+of_ok (Err e) P said is = absurd (let no : true ≡ false = is in cc)
 
 -- a name is itself
 self_equal : (o : Ordering) → o ≡ ordering_reverse o → o ≡ Equal

@@ -152,3 +152,20 @@ is_long image opening history at e is run (inl not) = absurd (not (
     sym (take-append-drop (at + 1) history) ∙ ap (λ l. l ++ drop (at + 1) history) (front_on history at e is) in
     let P : History → Type 0 = λ h. IsRun (routines_of image) opening h in
     fronts (routines_of image) opening (take at history ++ e ∷ []) (drop (at + 1) history) (subst P whole run)))
+
+-- an event that is recorded and wasn't made
+pub play_off : (image image' : Loaded) (opening : Shared) (history : History) (at : ℕ) (e : Event) (made : Bool) (new : Recorded) (jobs' : List Playing) → image' ≡ image → slice_get history at ≡ Some e
+    → IsRun (routines_of image) opening history → made ≡ false → Stages image' opening (take at history) e made new jobs' → IsLongAt image opening history at
+play_off image image' opening history at e made new jobs' same there run off stages =
+    let P : Loaded → Type 0 = λ i. Stages i opening (take at history) e made new jobs' in
+    let Q : Bool → Type 0 = λ b. Stages image opening (take at history) e b new jobs' in
+    is_long image opening history at e there run (subst Q off (subst P same stages))
+
+-- one that was made
+pub play_on : (image image' : Loaded) (opening : Shared) (history : History) (at : ℕ) (e : Event) (made : Bool) (new : Recorded) (jobs' : List Playing) → image' ≡ image → slice_get history at ≡ Some e
+    → made ≡ true → Stages image' opening (take at history) e made new jobs' → AreStaged image opening (take (at + 1) history) new jobs'
+play_on image image' opening history at e made new jobs' same there on stages =
+    let P : Loaded → Type 0 = λ i. Stages i opening (take at history) e made new jobs' in
+    let Q : Bool → Type 0 = λ b. Stages image opening (take at history) e b new jobs' in
+    let R : History → Type 0 = λ h. AreStaged image opening h new jobs' in
+    subst R (sym (front_on history at e there)) (subst Q on (subst P same stages))

@@ -1,22 +1,26 @@
 -- What a replica has is what stands at its place.
-use Rattle.std.specs.Prelude.{◌⊎◌, take, slice_get}
+use Rattle.std.specs.Prelude.{take, slice_get, IfNone}
 use Rattle.std.specs.Option.{option_map}
-use Rattle.std.proofs.Common.{◌≡◌, ℕ, zero, suc, ◌+◌, ◌<◌, ◌≤◌, List, [], ◌∷◌, ◌++◌, length, Option, Some, None, refl, sym, ap, ◌∙◌, subst, inl, inr, arith}
+use Rattle.std.proofs.Common.{◌≡◌, ℕ, zero, suc, ◌≤◌, List, [], ◌∷◌, length, Option, Some, None, refl, sym, ap, ◌∙◌, subst, arith}
 use Rattle.std.proofs.lemmas.Option.{slice_get_past, none-some, same_Some}
-use Rattle.mj_ast.specs.Syntax.{Routine}
-use Rattle.mj_semantics.specs.State.{State, places}
+use Rattle.mj_semantics.specs.State.{places}
 use Rattle.mj_semantics.specs.Job.{Start}
 use Rattle.mj_load.specs.Image.{Loaded, routines_of}
-use Rattle.mj_jobs.specs.Rows.{Row, row_at}
+use Rattle.mj_jobs.specs.Rows.{row_at}
 use Rattle.mj_jobvm.specs.Run.{Log}
 use Rattle.mj_jobvm.specs.Jobs.{Running}
 use Rattle.mj_sys.specs.Shared.{Shared}
 use Rattle.mj_sys.specs.History.{History, state_of, log_of}
 use Rattle.mj_core.specs.Runs.{start_in}
 use Rattle.mj_debug.specs.Shows.{Stood, HasStood}
-use Rattle.mj_debug.specs.Playing.{Playing, start_of}
+use Rattle.mj_debug.specs.Playing.{Playing}
 use Rattle.mj_debug.specs.Replicas.{Replayed, job_of, IsReplica, IsFull}
 use Rattle.mj_debug.proofs.Staging.{same_state, row_of}
+
+-- what holds is so where there is none
+pub if_none : {A P : Type 0} (r : Option A) → P → IfNone r P
+if_none None p = p
+if_none (Some a) p = tt
 
 module _ (image : Loaded) (opening : Shared) (history : History) (replica : Replayed) (is : IsReplica image opening history replica) (place : ℕ) (at : replica.made ≡ place) where
   abbrev front : History

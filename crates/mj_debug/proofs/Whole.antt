@@ -12,11 +12,11 @@ use Rattle.mj_debug.specs.Walks.{AreWhole}
 -- so it is with one device more
 pub added_whole : (name : List ℕ) (shelves : List Shelf) → AreWhole shelves → AreWhole (added name shelves)
 added_whole name [] whole = (omega arith, refl, tt)
-added_whole name (shelf ∷ shelves) whole = by (slice_cmp nat_cmp shelf.name name) where
-  by : (o : Ordering) → AreWhole (match_ordering o (shelf ∷ added name shelves) (one_more shelf ∷ shelves) (new_shelf name ∷ shelf ∷ shelves))
-  by Less = (whole.0, whole.1, added_whole name shelves whole.2)
-  by Equal = ((let some = whole.0 in omega (arith, some)), whole.1, whole.2)
-  by Greater = (omega arith, refl, whole)
+added_whole name (shelf ∷ shelves) whole = by (added_whole name shelves whole.2) (slice_cmp nat_cmp shelf.name name) where
+  by : AreWhole (added name shelves) → (o : Ordering) → AreWhole (match_ordering o (shelf ∷ added name shelves) (one_more shelf ∷ shelves) (new_shelf name ∷ shelf ∷ shelves))
+  by rest Less = (whole.0, whole.1, rest)
+  by rest Equal = ((let some = whole.0 in omega (arith, some)), whole.1, whole.2)
+  by rest Greater = (omega arith, refl, whole)
 
 -- its counts say all of it
 pub counts_say : (shelves : List Shelf) → AreWhole shelves → map shelf_of (map count_of shelves) ≡ shelves
@@ -31,7 +31,7 @@ counts_say (shelf ∷ shelves) whole = λ i. its i ∷ counts_say shelves whole.
 -- and each name has one
 pub counts_some : (shelves : List Shelf) → AreWhole shelves → All (λ (count : List ℕ × ℕ). 1 ≤ count.1) (map count_of shelves)
 counts_some [] whole = λ k d within. absurd (omega (arith, within))
-counts_some (shelf ∷ shelves) whole = λ k d within. by k d within where
-  by : (k : ℕ) (d : List ℕ × ℕ) → k < length (map count_of (shelf ∷ shelves)) → 1 ≤ (slice_index_or (map count_of (shelf ∷ shelves)) k d).1
-  by zero d within = (let some = whole.0 in omega (arith, some))
-  by (suc k) d within = counts_some shelves whole.2 k d (omega (arith, within))
+counts_some (shelf ∷ shelves) whole = λ k d within. by (counts_some shelves whole.2) k d within where
+  by : All (λ (count : List ℕ × ℕ). 1 ≤ count.1) (map count_of shelves) → (k : ℕ) (d : List ℕ × ℕ) → k < length (map count_of (shelf ∷ shelves)) → 1 ≤ (slice_index_or (map count_of (shelf ∷ shelves)) k d).1
+  by rest zero d within = (let some = whole.0 in omega (arith, some))
+  by rest (suc k) d within = rest k d (omega (arith, within))

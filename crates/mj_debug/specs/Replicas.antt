@@ -1,5 +1,5 @@
 -- The first events of a record, played again.
-use Rattle.std.specs.Prelude.{◌≡◌, ℕ, zero, suc, ◌==◌, ◌≤◌, List, length, map, take, slice_get, All, Bool, true, false, Option, Some, None, option_map}
+use Rattle.std.specs.Prelude.{◌≡◌, ℕ, zero, suc, ◌==◌, ◌<◌, ◌≤◌, List, length, map, take, slice_get, All, Bool, true, false, Option, Some, None, option_map}
 use Rattle.mj_ask.specs.Started.{Started}
 use Rattle.mj_store.specs.Questions.{Content}
 use Rattle.mj_dev.specs.Shelves.{Shelf, AreRising, principal, left_of}
@@ -68,7 +68,7 @@ is_at place (Some replica) = replica.made == place
 abbrev pub IsLongAt : Loaded → Shared → History → ℕ → Type 0
 IsLongAt image opening history at = (e : Event) × (slice_get history at ≡ Some e) × IsLong (routines_of image) opening (take at history) e.job
 
--- why events aren't played again
-abbrev pub IsUnshown : Loaded → Shared → History → Unshown → Type 0
-IsUnshown image opening history unshown.Memory = Unit {0}
-IsUnshown image opening history unshown.Long = (at : ℕ) × IsLongAt image opening history at
+-- why the events before a place aren't played again
+abbrev pub IsUnshown : Loaded → Shared → History → ℕ → Unshown → Type 0
+IsUnshown image opening history place unshown.Memory = Unit {0}
+IsUnshown image opening history place unshown.Long = (at : ℕ) × (at < place) × IsLongAt image opening history at

@@ -30,17 +30,23 @@ pub fn is_breakpoint(image: &Image, marks: &[Mark], routine: &Text, line: u32) -
 }
 
 // Says of a line whether it is a breakpoint from now on.
-pub fn put_mark(marks: &mut Vec<Mark>, routine: Text, line: u32, on: bool) -> Result<(), AllocError>
-    ensures ok { OnOk result ((image : Loaded) → AreMarked image (record { routine = routine; line = line }) on marks.old.items marks.new.items) }
+pub fn put_mark(
+    marks: &mut Vec<Mark>,
+    routine: &Text,
+    line: u32,
+    on: bool,
+) -> Result<(), AllocError>
+    ensures ok { OnOk result ((image : Loaded) → AreMarked image (record { routine = routine.now; line = line }) on marks.old.items marks.new.items) }
     ensures err { OnErr result (marks.new.items ≡ marks.old.items) }
 {
-    match place_of(marks, &routine, line) {
+    match place_of(marks, routine, line) {
         Some(place) => {
             marks[place].on = on;
             Ok(())
         }
         None => {
             marks.reserve(1)?;
+            let routine = routine.try_clone()?;
             marks.push_reserved(Mark { routine, line, on });
             Ok(())
         }

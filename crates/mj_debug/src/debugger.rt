@@ -1,6 +1,6 @@
 // A debugger.
 
-ghost use Rattle.std.specs.Prelude.{◌≡◌, ◌≤◌, List, [], ◌∷◌, length, map, All, true, false, Ok, OnOk, OnErr, IfOk, IfErr, IfSome, IfNone};
+ghost use Rattle.std.specs.Prelude.{◌≡◌, ◌≤◌, List, [], ◌∷◌, length, map, replicate, All, true, false, Ok, OnOk, OnErr, IfOk, IfErr, IfSome, IfNone};
 ghost use Rattle.mj_dev.specs.Shelves.{principal, left_of};
 ghost use Rattle.mj_frames.specs.Frames.{frames_of, place_at};
 ghost use Rattle.mj_jobs.specs.Rows.{row_at, rows_limit};
@@ -123,6 +123,7 @@ impl<D: Device, O: Opening> Debugger<D, O> {
         requires few { length starts.items ≤ rows_limit }
         requires fits { length starts.items ≤ left_of principal pool }
         requires whole { AreWhole pool }
+        ensures core { IfOk result (λ d. d.core ≡ record { image = image; history = []; over = replicate 255 false; spent = replicate 255 0 }) }
         ensures image { IfOk result (λ d. d.core.image ≡ image) }
         ensures record { IfOk result (λ d. d.core.history ≡ []) }
         ensures place { IfOk result (λ d. d.place ≡ 0) }
@@ -205,7 +206,7 @@ impl<D: Device, O: Opening> Debugger<D, O> {
     pub fn show(&mut self) -> Result<(), Unshown>
         ensures ok { OnOk result (self.new ≡ record self.old { ready = true }) }
         ensures err { OnErr result (self.new ≡ record self.old { ready = false }) }
-        ensures why { IfErr result (λ why. IsUnshown self.old.core.image O.opening self.old.core.history why) }
+        ensures why { IfErr result (λ why. IsUnshown self.old.core.image O.opening self.old.core.history self.old.place why) }
     {
         let replica = self.replica.take();
         match bring(self.alloc, &self.core, &self.kept, replica, self.place) {
@@ -261,7 +262,7 @@ impl<D: Device, O: Opening> Debugger<D, O> {
         ensures rest { self.new ≡ record self.old { marks = self.new.marks } }
         ensures err { OnErr result (self.new.marks ≡ self.old.marks) }
     {
-        put_mark(&mut self.marks, routine.try_clone()?, line, true)
+        put_mark(&mut self.marks, routine, line, true)
     }
 
     /// A line is no breakpoint from now on, even if it holds BREAK.
@@ -270,7 +271,7 @@ impl<D: Device, O: Opening> Debugger<D, O> {
         ensures rest { self.new ≡ record self.old { marks = self.new.marks } }
         ensures err { OnErr result (self.new.marks ≡ self.old.marks) }
     {
-        put_mark(&mut self.marks, routine.try_clone()?, line, false)
+        put_mark(&mut self.marks, routine, line, false)
     }
 
     /// Makes the next step of a `go`, `first` at its first: the next job that hasn't ended is stepped by Go, unless it comes to a breakpoint. To find
@@ -278,6 +279,7 @@ impl<D: Device, O: Opening> Debugger<D, O> {
     pub fn go(&mut self, first: bool) -> Result<Gone, Unshown>
         ensures ok { IfOk result (λ gone. GoGives O.opening self.old first gone self.new) }
         ensures err { OnErr result (self.new ≡ record self.old { ready = self.new.ready }) }
+        ensures why { IfErr result (λ why. IsUnshown self.old.core.image O.opening self.old.core.history self.old.place why) }
     {
         if self.place < self.core.len() {
             return Ok(Gone::NotAtEnd);
@@ -289,7 +291,10 @@ impl<D: Device, O: Opening> Debugger<D, O> {
         if first {
             return Ok(self.pass(job));
         }
-        Ok(self.go_on(job)?)
+        match self.go_on(job) {
+            Ok(gone) => Ok(gone),
+            Err(_) => Err(Unshown::Memory),
+        }
     }
 
     // Lets the job whose turn it is go on to its next ask, and steps it, where that is none to stop at.
@@ -391,7 +396,7 @@ fn unasked(turn: Result<Turn, Refusal>) -> Option<Result<Seen, Refusal>>
 
 // Whether a place is this line.
 fn is_at(place: Option<(&Text, u32)>, routine: &Text, line: u32) -> bool
-    ensures { result ≡ is_there (record { routine = routine.now; line = line }) (place_at place) }
+    ensures { result ≡ is_there (record { routine = routine.now; line = line }) (place_at place.entry) }
 {
     match place {
         None => false,

@@ -32,12 +32,6 @@ pub enum Unshown {
     Long,
 }
 
-impl From<AllocError> for Unshown {
-    fn from(_error: AllocError) -> Unshown {
-        Unshown::Memory
-    }
-}
-
 // What a run can be begun with once more.
 #[derive(Drop)]
 pub struct Kept {
@@ -99,7 +93,7 @@ impl<O: Opening> Replica<O> {
         requires short { length core.now.history ≤ history_limit }
         ensures ok { OnOk result (IsReplica core.now.image O.opening core.now.history self.new) }
         ensures made { OnOk result (self.new.made ≡ self.old.made + 1) }
-        ensures err { IfErr result (λ why. IsUnshown core.now.image O.opening core.now.history why) }
+        ensures err { IfErr result (λ why. IsUnshown core.now.image O.opening core.now.history (self.old.made + 1) why) }
     {
         let Some((job, ask, reply)) = core.event(self.made) else {
             unreachable!();
@@ -200,7 +194,7 @@ pub fn bring<D: Device, O: Opening>(
     ensures ok { IfOk result (λ r. IsReplica core.now.image O.opening core.now.history r) }
     ensures made { IfOk result (λ r. r.made ≡ place) }
     ensures full { IfOk result (λ r. IsFull O.opening r) }
-    ensures err { IfErr result (λ why. IsUnshown core.now.image O.opening core.now.history why) }
+    ensures err { IfErr result (λ why. IsUnshown core.now.image O.opening core.now.history place why) }
 {
     let Ok(mut replica) = behind(alloc, core, kept, replica, place) else {
         return Err(Unshown::Memory);

@@ -116,7 +116,10 @@ pub fn pass<D: Device, O: Opening>(
         × TellsGone debugger.new.core.history gone passed.told.bytes.items × (passed.told.full ≡ is_full_at gone) × (passed.made ≡ is_made gone)) }
 {
     let gone = debugger.go(first)?;
-    Ok(tell_gone(alloc, debugger.core(), &gone)?)
+    match tell_gone(alloc, debugger.core(), &gone) {
+        Ok(passed) => Ok(passed),
+        Err(_) => Err(Unshown::Memory),
+    }
 }
 
 // What is told of one step of many in turn.

@@ -1,5 +1,5 @@
 use Rattle.std.specs.Prelude.{All}
-use Rattle.std.proofs.Common.{◌≡◌, ℕ, ◌≤◌, List, map, sym, ap, ◌∙◌, subst}
+use Rattle.std.proofs.Common.{ℕ, ◌≤◌, List, map, sym, ap, ◌∙◌, subst}
 use Rattle.mj_debug.specs.Replicas.{shelf_of}
 use Rattle.mj_debug.proofs.Whole.{counts_say, counts_some}
 use Rattle.mj_debug.proofs.replica.keep.Goals as goal

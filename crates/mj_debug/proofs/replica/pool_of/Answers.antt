@@ -1,8 +1,8 @@
 use Rattle.std.specs.Prelude.{slice_index_or}
-use Rattle.std.proofs.Common.{◌≡◌, ℕ, ◌-◌, List, ◌∷◌, length, sym, ap, ◌∙◌, subst}
+use Rattle.std.proofs.Common.{ℕ, ◌-◌, List, ◌∷◌, length, sym, ap, ◌∙◌, subst}
 use Rattle.mj_dev.specs.Shelves.{Shelf, IsBelow}
 use Rattle.mj_debug.specs.Replicas.{shelf_of}
-use Rattle.mj_debug.proofs.Pools.{so_far, so_far_below, so_far_on}
+use Rattle.mj_debug.proofs.Pools.{so_far_below, so_far_on}
 use Rattle.mj_debug.proofs.replica.pool_of.Goals as goal
 
 pub add-requires-clause-below : goal.add-requires-clause-below

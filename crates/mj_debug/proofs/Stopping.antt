@@ -1,0 +1,104 @@
+-- Whether a job comes to a line to stop at.
+use Rattle.std.specs.Prelude.{Option, Some, None, take, not, ◌&&◌}
+use Rattle.std.proofs.Common.{◌≡◌, ℕ, ◌+◌, List, [], ◌∷◌, ◌++◌, length, map, Bool, true, false, refl, sym, ap, ◌∙◌, subst, append-nil}
+use Rattle.std.proofs.lemmas.Option.{none-some, same_Some}
+use Rattle.mj_ask.specs.declared.ask.Ask.{Ask}
+use Rattle.mj_ask.specs.declared.ask.Reply.{Reply}
+use Rattle.mj_semantics.specs.State.{State, Frame, Place, places, place_of}
+use Rattle.mj_semantics.specs.Outcome.{Needs}
+use Rattle.mj_semantics.specs.Job.{next}
+use Rattle.mj_load.specs.Image.{routines_of}
+use Rattle.mj_jobs.specs.Rows.{Row, row_at}
+use Rattle.mj_jobvm.specs.Run.{Log, replies_of}
+use Rattle.mj_jobvm.specs.Jobs.{Running, IsRunOf}
+use Rattle.mj_sys.specs.Shared.{Shared}
+use Rattle.mj_sys.specs.History.{History, state_of, log_of}
+use Rattle.mj_core.specs.Runs.{start_in}
+use Rattle.mj_debug.specs.Breaks.{stops, is_breakpoint, is_there}
+use Rattle.mj_debug.specs.Shows.{HasStood}
+use Rattle.mj_debug.specs.Goes.{innermost, Comes, IsStop}
+use Rattle.mj_debug.specs.Walks.{Walk}
+
+-- the innermost of a state's lines is its place
+pub inner : (s : State) → innermost (places s) ≡ place_of s
+inner s = by s.frames where
+  by : (fs : List Frame) → innermost (map (λ (f : Frame). f.place) fs) ≡ elim fs [ [] ↦ None | f ∷ fs ↦ Some f.place ]
+  by [] = refl
+  by (f ∷ fs) = refl
+
+-- and the first of them
+pub first_line : (s : State) (p : Place) → place_of s ≡ Some p → (outer : List Place) × (places s ≡ p ∷ outer)
+first_line s p is = by s.frames is where
+  by : (fs : List Frame) → elim fs [ [] ↦ None | f ∷ fs ↦ Some f.place ] ≡ Some p → (outer : List Place) × (map (λ (f : Frame). f.place) fs ≡ p ∷ outer)
+  by [] e = absurd (none-some p e)
+  by (f ∷ fs) e = (map (λ (f : Frame). f.place) fs, ap (λ (x : Place). x ∷ map (λ (f : Frame). f.place) fs) (same_Some f.place p e))
+
+take_whole : {X : Type 0} (xs : List X) → take (length xs) xs ≡ xs
+take_whole [] = refl
+take_whole (x ∷ xs) = ap (λ l. x ∷ l) (take_whole xs)
+
+-- at the record's end all of it is before the place
+pub front_whole : (history : History) (place : ℕ) → place ≡ length history → take place history ≡ history
+front_whole history place end = ap (λ n. take n history) end ∙ take_whole history
+
+module _ (opening : Shared) (w : Walk) (job : ℕ) (found : Running)
+    (run : (row : Row) × (row_at (state_of opening w.core.history).rows job ≡ Some row) × IsRunOf w.core.image (start_in job row.start) found)
+    (log : found.run.log ≡ log_of job w.core.history) (a : Ask) (pending : found.run.pending ≡ Some a) where
+  -- a job that asks comes to its next ask where it stands
+  pub comes : Comes (routines_of w.core.image) opening w.core job (places found.run.at.state)
+  comes =
+      let row = run.0 in
+      let start = start_in job row.start in
+      let its = run.2.1 in
+      let asks = rw pending at its.asks in
+      let n = its.before + run.2.0 + 1 in
+      let one : next (routines_of w.core.image) start n (replies_of found.run.log ++ []) ≡ Needs a found.run.at.state.locals (places found.run.at.state) = sym (its.rest 1 []) ∙ asks.1 0 in
+      let two : next (routines_of w.core.image) start n (replies_of found.run.log) ≡ Needs a found.run.at.state.locals (places found.run.at.state) =
+      ap (λ (l : List Reply). next (routines_of w.core.image) start n l) (sym (append-nil (replies_of found.run.log))) ∙ one in
+      (row, run.1, (n, a, found.run.at.state.locals, ap (λ (l : Log). next (routines_of w.core.image) start n (replies_of l)) (sym log) ∙ two))
+
+  -- and whether that is one to stop at
+  pub stop_is : (before : Running) → HasStood (routines_of w.core.image) opening w.core.history job before.run.at.state.locals (places before.run.at.state)
+      → (b : Bool) → stops w.core.image w.marks (place_of before.run.at.state) (place_of found.run.at.state) ≡ b
+      → IsStop opening w job (places found.run.at.state) b
+  stop_is before stood b is = (
+    places before.run.at.state,
+    before.run.at.state.locals,
+    stood,
+    comes,
+    ap (λ (p : Option Place). stops w.core.image w.marks p (innermost (places found.run.at.state))) (inner before.run.at.state)
+        ∙ ap (λ (p : Option Place). stops w.core.image w.marks (place_of before.run.at.state) p) (inner found.run.at.state) ∙ is,
+  )
+
+  module _ (before : Running) (stood : HasStood (routines_of w.core.image) opening w.core.history job before.run.at.state.locals (places before.run.at.state)) where
+    abbrev Stays : Type 0
+    Stays = (lines : List Place) × IsStop opening w job lines false
+
+    -- one without a frame doesn't stop
+    pub no_line : None ≡ place_of found.run.at.state → Stays
+    no_line none = (
+      places found.run.at.state,
+      stop_is before stood false (ap (λ (p : Option Place). stops w.core.image w.marks (place_of before.run.at.state) p) (sym none)),
+    )
+
+    module _ (line : Place) (there : Some line ≡ place_of found.run.at.state) where
+      at_line : (b : Bool) → is_breakpoint w.core.image w.marks line ≡ b
+          → stops w.core.image w.marks (place_of before.run.at.state) (place_of found.run.at.state) ≡ (b && not (is_there line (place_of before.run.at.state)))
+      at_line b bp =
+          ap (λ (p : Option Place). stops w.core.image w.marks (place_of before.run.at.state) p) (sym there)
+          ∙ ap (λ (x : Bool). x && not (is_there line (place_of before.run.at.state))) bp
+
+      -- nor one at a line that is no breakpoint
+      pub no_breakpoint : is_breakpoint w.core.image w.marks line ≡ false → Stays
+      no_breakpoint bp = (places found.run.at.state, stop_is before stood false (at_line false bp))
+
+      -- nor one that came from there before
+      pub from_there : is_breakpoint w.core.image w.marks line ≡ true → is_there line (place_of before.run.at.state) ≡ true → Stays
+      from_there bp at = (places found.run.at.state, stop_is before stood false (at_line true bp ∙ ap (λ (x : Bool). true && not x) at))
+
+      -- any other does
+      pub stops_there : is_breakpoint w.core.image w.marks line ≡ true → is_there line (place_of before.run.at.state) ≡ false → (outer : List Place) × IsStop opening w job (line ∷ outer) true
+      stops_there bp at =
+          let lines = first_line found.run.at.state line (sym there) in
+          let P : List Place → Type 0 = λ l. IsStop opening w job l true in
+          (lines.0, subst P lines.1 (stop_is before stood true (at_line true bp ∙ ap (λ (x : Bool). true && not x) at)))
