@@ -1,0 +1,38 @@
+use Rattle.std.proofs.Common.{◌≡◌, true, false, Some, None, refl, sym, ap, ◌∙◌, subst, inl, inr}
+use Rattle.mj_ask.specs.declared.ask.Ask.{Ask}
+use Rattle.mj_ask.specs.Fits.{fits, is_shared}
+use Rattle.mj_core.proofs.Stepping.{same_ask}
+use Rattle.mj_blank.specs.Recorded.{IsOfDevice}
+use Rattle.mj_blank.proofs.Telling.{in_time}
+use Rattle.mj_blank.proofs.slot.hear.Goals as goal
+
+pub heard_with-requires : goal.heard_with-requires
+heard_with-requires c =
+    let ask = c.in-Some.ask.now in
+    let pending : c.args.job.now.run.pending ≡ Some ask = sym c.in-Some.ensures in
+    let A : Ask → Type 0 = λ a. is_shared a ≡ false in
+    subst A (same_ask c.args.job.now.run.pending c.requires.asks.0 ask c.requires.asks.1 pending) c.requires.asks.2
+
+pub returns-then-not-fits-clause-ok : goal.returns-then-not-fits-clause-ok
+returns-then-not-fits-clause-ok c =
+    let ask = c.in-Some.ask.now in
+    let pending : c.args.job.now.run.pending ≡ Some ask = sym c.in-Some.ensures in
+    let D : Ask → Type 0 = λ a. IsOfDevice a in
+    let device = subst D (same_ask c.args.job.now.run.pending c.requires.asks.0 ask c.requires.asks.1 pending) c.requires.asks.3 in
+    (ask, pending, (device, (λ all. inl (sym c.fits.ensures ∙ c.if-not-fits.true)), refl, refl))
+
+pub returns-then-is_early-clause-ok : goal.returns-then-is_early-clause-ok
+returns-then-is_early-clause-ok c =
+    let ask = c.in-Some.ask.now in
+    let pending : c.args.job.now.run.pending ≡ Some ask = sym c.in-Some.ensures in
+    let D : Ask → Type 0 = λ a. IsOfDevice a in
+    let device = subst D (same_ask c.args.job.now.run.pending c.requires.asks.0 ask c.requires.asks.1 pending) c.requires.asks.3 in
+    (ask, pending, (device, (λ all. inr (inl (sym c.is_early.ensures ∙ c.if-is_early.true))), refl, refl))
+
+pub returns-in-Ok-None-clause-ok : goal.returns-in-Ok-None-clause-ok
+returns-in-Ok-None-clause-ok c =
+    let ask = c.in-Some.ask.now in
+    let pending : c.args.job.now.run.pending ≡ Some ask = sym c.in-Some.ensures in
+    let D : Ask → Type 0 = λ a. IsOfDevice a in
+    let device = subst D (same_ask c.args.job.now.run.pending c.requires.asks.0 ask c.requires.asks.1 pending) c.requires.asks.3 in
+    (ask, pending, (device, (λ all. inr (inr (c.in-Ok-None.ensures c.args.job.now.run.log all))), refl, refl))
