@@ -3,6 +3,7 @@ use Rattle.std.specs.Prelude.{IsSome, Result, Ok, Err}
 use Rattle.std.specs.List.{slice_index_or}
 use Rattle.std.proofs.Common.{◌≡◌, ℕ, suc, ◌<◌, ◌≤◌, List, length, Bool, true, false, Option, Some, None, refl, sym, ap, ◌∙◌, subst, inl, inr, arith}
 use Rattle.std.proofs.lemmas.Option.{slice_get_within}
+use denote.Enum.Bare.{sameb}
 use Rattle.mj_ask.specs.declared.ask.Reply.{Reply}
 use Rattle.mj_load.specs.Image.{Loaded}
 use Rattle.mj_jobs.specs.Rows.{Row, row_at, IsLive}
@@ -16,14 +17,21 @@ use Rattle.mj_core.specs.declared.seen.Seen.TheVariants as seen
 use Rattle.mj_core.specs.declared.seen.Refusal.{Refusal}
 use Rattle.mj_core.specs.declared.seen.Refusal.TheVariants as refusals
 use Rattle.mj_core.specs.declared.seen.Step.{Step}
+use Rattle.mj_core.specs.declared.seen.Way.{Way}
+use Rattle.mj_core.specs.declared.seen.Way.TheVariants as ways
+use Rattle.mj_core.specs.contracts.seen.Way as way
 use Rattle.mj_core.specs.Shown.{Shown, was_over, with_over}
 use Rattle.mj_core.specs.Gives.{is_late}
-use Rattle.mj_core.proofs.Views.{as_many}
-use Rattle.mj_core.proofs.Answering.{row_there}
 use Rattle.mj_blank.specs.Gives.{Made, Gives}
 use Rattle.mj_blank.specs.Ties.{Placed}
 use Rattle.mj_blank.specs.Kept.{AreKept, logs_of, turns_of, shown}
 use Rattle.mj_blank.proofs.Histories.{same_state}
+use Rattle.mj_blank.proofs.Views.{as_many}
+
+-- which row is there
+row_there : (o : Option Row) → IsSome o → (row : Row) × (o ≡ Some row)
+row_there (Some row) some = (row, refl)
+row_there None some = absurd (let no : false ≡ true = some in cc)
 
 -- the same is seen where slots came that had no event and counted no turns
 pub shown_same : (image : Loaded) (slots slots' : List Placed) (order : List Happened) (over : List Bool) (n : ℕ)
@@ -110,3 +118,8 @@ made_of image opening slots slots' order over over' n self at late late' answer 
     → Made opening (shown image s order o n) (suc at) row l given answer new in
     let Q : Shown → Type 0 = λ s. (row : Row) → row_at (state_of opening s.history).rows (suc at) ≡ Some row → Made opening s (suc at) row late given answer new in
     subst Q admitted (subst (λ l. P slots over l) same_late (subst (λ o. P slots o late') same_over (subst (λ s. P s over' late') same_slots made)))
+
+-- whether a step is late, as it is tested
+pub late_is : (w : Way) → sameb way.the_type w ways.Late ≡ is_late w
+late_is ways.Go = refl
+late_is ways.Late = refl

@@ -27,8 +27,8 @@ use Rattle.mj_blank.specs.Gives.{Goes}
 use Rattle.mj_blank.specs.Ties.{Placed, IsPlaced, start_of, Steps}
 use Rattle.mj_blank.specs.Kept.{AreKept, IsAt, logs_of, turns_of, shown}
 use Rattle.mj_blank.proofs.Histories.{same_state, starts}
+use Rattle.mj_blank.proofs.Views.{as_many}
 use Rattle.mj_blank.proofs.Keeping.{shows_event, shows_still}
-use Rattle.mj_core.proofs.Views.{as_many}
 
 -- ---- turns that are counted
 

@@ -2,6 +2,7 @@
 use Rattle.std.specs.Prelude.{◌⊎◌, slice_get, slice_set, Ok, Err, if◌then◌else◌}
 use Rattle.std.proofs.Common.{◌≡◌, ℕ, suc, ◌<◌, ◌≤◌, List, [], ◌∷◌, ◌++◌, length, Bool, true, false, Option, Some, sym, ap, ◌∙◌, subst, inl, inr, arith}
 use Rattle.mj_ask.specs.declared.ask.Reply.{Reply}
+use Rattle.mj_ask.specs.Fits.{is_shared}
 use Rattle.mj_load.specs.Image.{Loaded, routines_of}
 use Rattle.mj_jobs.specs.Rows.{Row, row_at, IsLive}
 use Rattle.mj_jobvm.specs.Run.{Log}
@@ -12,20 +13,48 @@ use Rattle.mj_events.specs.declared.happened.Happened.{Happened}
 use Rattle.mj_events.specs.Happen.{shared_of}
 use Rattle.mj_events.specs.Woven.{woven}
 use Rattle.mj_core.specs.declared.seen.Refusal.{Refusal}
+use Rattle.mj_core.specs.declared.seen.Seen.{Seen}
+use Rattle.mj_core.specs.declared.seen.Seen.TheVariants as seen
 use Rattle.mj_core.specs.declared.slot.Made.{Made}
 use Rattle.mj_core.specs.declared.slot.Made.TheVariants as made
 use Rattle.mj_core.specs.Runs.{start_in}
 use Rattle.mj_core.specs.Shown.{with_over}
 use Rattle.mj_core.specs.Gives.{IsRefused}
-use Rattle.mj_core.proofs.Going.{seen_of, order_on, over_on, few_shared}
-use Rattle.mj_core.proofs.Ended.{has_halted}
-use Rattle.mj_core.proofs.Views.{as_many}
+use Rattle.mj_core.specs.Ended.{HasHalted}
 use Rattle.mj_blank.specs.Gives as gives
 use Rattle.mj_blank.specs.Ties.{Placed, IsPlaced, Steps, IsStill, start_of}
 use Rattle.mj_blank.specs.Kept.{AreKept, logs_of, shown}
 use Rattle.mj_blank.proofs.Histories.{same_state, is_run}
+use Rattle.mj_blank.proofs.Views.{as_many}
 use Rattle.mj_blank.proofs.Keeping.{keeps_event, keeps_still}
 use Rattle.mj_blank.proofs.Giving.{shown_still, gives_event, gives_busy, gives_unfit, gives_ran, gives_ended, refuses}
+
+-- what is seen of a step of one job, where so many events are written down
+abbrev pub seen_of : ℕ → Made → Seen
+seen_of n made.Event = seen.Event n
+seen_of n (made.Busy holder held) = seen.Busy holder held
+seen_of n made.NotYet = seen.NotYet
+seen_of n made.Unfit = seen.Unfit
+seen_of n made.Ran = seen.Ran
+seen_of n made.Ended = seen.Ended
+
+-- what is written down of it: an event is the next of its job's log
+abbrev pub order_on : List Happened → ℕ → Log → Made → List Happened
+order_on order k log made.Event = order ++ record { job = suc k; at = length log } ∷ []
+order_on order k log _ = order
+
+-- whose end was seen then
+abbrev pub over_on : List Bool → ℕ → Made → List Bool
+over_on over k made.Ended = with_over over (suc k)
+over_on over k _ = over
+
+-- the shared state serves no more than happens
+few_shared : (history : History) → length (shared_of history) ≤ length history
+few_shared [] = omega arith
+few_shared (e ∷ history) = by (is_shared e.ask) (few_shared history) where
+  by : (b : Bool) → length (shared_of history) ≤ length history → length (if b then e ∷ shared_of history else shared_of history) ≤ suc (length history)
+  by true few = omega (arith, few)
+  by false few = omega (arith, few)
 
 -- where all events have room, those that the shared state serves have it
 pub room_left : (image : Loaded) (opening : Shared) (system : Recorded) (slots : List Placed) (waiting : Option Claimed) (order : List Happened)
@@ -72,8 +101,8 @@ module _ (image : Loaded) (opening : Shared) (system : Recorded) (slots : List P
         gives.Made opening (shown image slots order over n) (suc k) row late given (Ok (seen_of (length order) m))
         (shown image slots' (order_on order k slot.job.run.log m) (over_on over k m) n)
 
-    pub makes_step : IsLive (state_of opening system.history).rows (suc k) → (m : Made) → Steps (routines_of image) opening late given system slot m system' slot' → Goal m
-    makes_step live m t = by m t where
+    pub makes_step : HasHalted → IsLive (state_of opening system.history).rows (suc k) → (m : Made) → Steps (routines_of image) opening late given system slot m system' slot' → Goal m
+    makes_step halted live m t = by m t where
       live_there : IsLive (state_of opening (woven (logs_of slots) order)).rows (suc k)
       live_there = subst (λ (s : Shared). IsLive s.rows (suc k)) (sym (same_state image opening system slots waiting order kept)) live
 
@@ -97,7 +126,7 @@ module _ (image : Loaded) (opening : Shared) (system : Recorded) (slots : List P
       )
       by made.Ended t =
           let over_now = gives_ended image opening system slots waiting order kept over n k few slot slot' here numbered row is late given t.2.0 t.2.2 t.2.1 system' (placed_as t.1) t in (
-            (has_halted (routines_of image) opening (woven (logs_of slots) order) (is_run image opening system slots waiting order kept) (suc k) row is over_now.0).1,
+            (halted (routines_of image) opening (woven (logs_of slots) order) (is_run image opening system slots waiting order kept) (suc k) row is over_now.0).1,
             over_now.1,
           )
 

@@ -1,4 +1,5 @@
 mod Histories
+mod Views
 mod Keeping
 mod Stepping
 mod Giving
@@ -6,3 +7,4 @@ mod Going
 mod Admitting
 mod Answering
 mod Telling
+mod Adding

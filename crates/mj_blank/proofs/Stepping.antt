@@ -32,9 +32,12 @@ use Rattle.mj_core.specs.declared.seen.Refusal.{Refusal}
 use Rattle.mj_core.specs.declared.seen.Refusal.TheVariants as refusals
 use Rattle.mj_core.specs.Gives.{fuel, Makes, IsTimely, IsTold, IsRefused}
 use Rattle.mj_core.specs.Ties.{IsMuted, GoesOnBy}
-use Rattle.mj_core.proofs.Stepping.{same_ask}
 use Rattle.mj_blank.specs.Recorded.{IsOfDevice, IsUnheard}
 use Rattle.mj_blank.specs.Ties.{Placed, IsTied, Steps, IsStill, Tells, Talks, Shares}
+
+-- what is asked is one thing
+pub same_ask : (pending : Option Ask) (a b : Ask) → pending ≡ Some a → pending ≡ Some b → a ≡ b
+same_ask pending a b p q = let same : Some a ≡ Some b = sym p ∙ q in cc
 
 -- nothing but the place in the private run changes
 pub tied_same : (image : Loaded) (opening : Shared) (old new : Recorded) (claim claim' : Claimed) (job mid job' : Running) (xs xs' : Heeds) → IsTied image opening old claim job xs
@@ -244,3 +247,7 @@ module _ (image : Loaded) (opening : Shared) (old new : Recorded) (claim claim' 
       → OnErr r ((new ≡ old) × (claim' ≡ claim) × (job' ≡ mid) × (xs' ≡ xs)) → IsTied image opening new claim' job' xs'
   stepped_tied (Ok m) tells kept = (stepped m tells).1
   stepped_tied (Err why) tells kept = tied_same image opening old new claim claim' job mid job' xs xs' tied run log kept.0 kept.1 kept.2 kept.3
+
+-- what a job that asks is asked behind its log
+pub needed : (image : Loaded) (from : Start) (run : Run) → Told (routines_of image) from turns.Asks run → (a : Ask) × (run.pending ≡ Some a) × Makes (routines_of image) from run.log a
+needed image from run t = (t.0, t.1, (t.2.0, run.at.state.locals, places run.at.state, t.2.1))

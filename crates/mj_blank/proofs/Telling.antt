@@ -68,5 +68,11 @@ in_time a late reply early is = by (is_over (timeout_of a) late) refl where
   by false e =
       let P : Reply → Type 0 = λ r. is_early a late r ≡ false in
       let at : is_early a late replies.Late ≡ false = subst P is early in
-      let over : is_early a late replies.Late ≡ true = ap (λ (x : Bool). if x then false else true) e in
+      let over : is_early a late replies.Late ≡ true = ap (λ (x : Bool). not x) e in
       absurd (let no : true ≡ false = sym over ∙ at in cc)
+
+-- what the system tells fits
+pub fits_served : (s : Shared) (job : ℕ) (ask : Ask) (late : Bool) (reply : Reply) (t : Shared) → is_shared ask ≡ true → served s job ask late ≡ Some (reply, t) → fits ask reply ≡ true
+fits_served s job ask late reply t shared is =
+    let P : Option (Reply × Shared) → Type 0 = λ o. Fit ask o in
+    subst P is (served_fits answered s job ask late shared)

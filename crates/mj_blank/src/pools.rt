@@ -65,9 +65,9 @@ fn add_all(pool: &mut Pool<Blank>, name: &Text, count: u32) -> Result<(), AllocE
     ensures { OnOk result (pool.new ≡ with_more count name.now pool.old) }
 {
     for done in 0..count {
-        if pool.add(name, Blank).is_err() {
+        let Ok(()) = pool.add(name, Blank) else {
             return Err(AllocError);
-        }
+        };
     }
     Ok(())
 }

@@ -20,7 +20,7 @@ ghost use Rattle.mj_blank.specs.Pools.{shelves_of};
 use crate::pools::{Blank, pool_of};
 use crate::slot::{Slot, step_slot};
 use mj_ask::{Ask, Reply, Start};
-use mj_core::{Made, Refusal, Seen, Step, Way};
+use mj_core::{Made, Refusal, Seen, Step, Way, ended_by_halt};
 use mj_dev::Session;
 use mj_events::Happened;
 use mj_expect::Heeds;
@@ -296,7 +296,8 @@ fn start_next<O: Opening>(
     Ok(())
 }
 
-// Makes a step of a live job that has a slot, and writes down what happened, and whose end was seen.
+// Makes a step of a live job that has a slot, and writes down what happened, and whose end was seen. That a job whose own run is over has halted is a law
+// of all runs.
 fn go<O: Opening>(
     image: &Image,
     system: &mut System<Blank, O>,
@@ -319,6 +320,7 @@ fn go<O: Opening>(
     ensures made { (row : Row) → row_at (state_of O.opening (woven (logs_of slots.old) order.old.items)).rows (suc at) ≡ Some row
         → StepGives O.opening (shown image.now slots.old order.old.items over.old 255) (suc at) row late (option_copied given.entry) result (shown image.now slots.new order.new.items over.new 255) }
 {
+    ended_by_halt();
     let slot = &mut slots[at];
     let happened = Happened {
         job: at as u32 + 1,

@@ -1,7 +1,7 @@
 use Rattle.std.proofs.Common.{◌≡◌, true, false, Some, None, refl, sym, ap, ◌∙◌, subst, inl, inr}
 use Rattle.mj_ask.specs.declared.ask.Ask.{Ask}
 use Rattle.mj_ask.specs.Fits.{fits, is_shared}
-use Rattle.mj_core.proofs.Stepping.{same_ask}
+use Rattle.mj_blank.proofs.Stepping.{same_ask}
 use Rattle.mj_blank.specs.Recorded.{IsOfDevice}
 use Rattle.mj_blank.proofs.Telling.{in_time}
 use Rattle.mj_blank.proofs.slot.hear.Goals as goal

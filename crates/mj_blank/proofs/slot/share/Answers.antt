@@ -6,8 +6,8 @@ use Rattle.mj_dev.specs.Heard.{Heard}
 use Rattle.mj_sys.specs.declared.served.Served.{Served}
 use Rattle.mj_sys.specs.Told.{Serves}
 use Rattle.mj_sys.specs.History.{state_of}
-use Rattle.mj_core.proofs.Telling.{fits_served}
-use Rattle.mj_core.proofs.Stepping.{same_ask}
+use Rattle.mj_blank.proofs.Telling.{fits_served}
+use Rattle.mj_blank.proofs.Stepping.{same_ask}
 use Rattle.mj_blank.proofs.slot.share.Goals as goal
 
 pub answer-requires : goal.answer-requires

@@ -11,7 +11,7 @@ use Rattle.mj_jobvm.specs.declared.job.Turn.{Turn}
 use Rattle.mj_sys.specs.History.{state_of}
 use Rattle.mj_core.specs.Runs.{start_in}
 use Rattle.mj_blank.specs.Ties.{Placed, IsTied, IsPlaced}
-use Rattle.mj_core.proofs.Stepping.{needed}
+use Rattle.mj_blank.proofs.Stepping.{needed}
 use Rattle.mj_blank.proofs.Stepping.{stepped_ok, stepped_err, stepped_still, stepped_tied}
 use Rattle.mj_blank.proofs.slot.step_slot.Goals as goal
 

@@ -2,7 +2,7 @@ use Rattle.std.proofs.Common.{◌≡◌, true, false, Some, None, refl, sym, ap,
 use Rattle.mj_ask.specs.declared.ask.Ask.{Ask}
 use Rattle.mj_ask.specs.declared.ask.Reply.TheVariants as replies
 use Rattle.mj_ask.specs.Fits.{is_shared}
-use Rattle.mj_core.proofs.Stepping.{same_ask}
+use Rattle.mj_blank.proofs.Stepping.{same_ask}
 use Rattle.mj_blank.proofs.Telling.{of_device, resting}
 use Rattle.mj_blank.proofs.slot.talk.Goals as goal
 

@@ -12,8 +12,7 @@ use Rattle.mj_core.specs.declared.slot.Made.TheVariants as made
 use Rattle.mj_blank.specs.Gives as gives
 use Rattle.mj_blank.specs.Ties.{Placed, Steps}
 use Rattle.mj_blank.specs.Kept.{AreKept, shown}
-use Rattle.mj_core.proofs.Going.{order_on}
-use Rattle.mj_blank.proofs.Going.{room_left, keeps_step, keeps_refused, makes_step, makes_none}
+use Rattle.mj_blank.proofs.Going.{order_on, room_left, keeps_step, keeps_refused, makes_step, makes_none}
 use Rattle.mj_blank.proofs.together.go.Goals as goal
 
 pub step_slot-requires-clause-tied : goal.step_slot-requires-clause-tied
@@ -90,7 +89,7 @@ returns-in-Event-clause-made g c = λ row is.
     (subst (λ o. P (length c.args.order.now.items) o) (sym written)
     (makes_step c.args.image.now g.O.Opening.opening c.args.system.now c.args.slots.now c.requires.kept.0 c.args.order.now.items c.requires.kept.1 c.args.at slot
     c.step_slot.new.slot here c.step_slot.ensures.claim.0 c.args.late (option_copied c.args.given) c.step_slot.new.system c.step_slot.ensures.tied c.requires.short c.args.over.now 255 c.requires.few row is
-    c.requires.live made.Event steps))
+    c.ended_by_halt.ensures c.requires.live made.Event steps))
 
 pub returns-in-Busy-clause-kept : goal.returns-in-Busy-clause-kept
 returns-in-Busy-clause-kept g c = λ waiting kept.
@@ -111,7 +110,7 @@ returns-in-Busy-clause-made g c = λ row is.
     subst S c.in-Busy.is c.in_ok-step_slot.ensures.gives) in
     makes_step c.args.image.now g.O.Opening.opening c.args.system.now c.args.slots.now c.requires.kept.0 c.args.order.now.items c.requires.kept.1 c.args.at slot
     c.step_slot.new.slot here c.step_slot.ensures.claim.0 c.args.late (option_copied c.args.given) c.step_slot.new.system c.step_slot.ensures.tied c.requires.short c.args.over.now 255 c.requires.few row is
-    c.requires.live (made.Busy c.in-Busy.holder c.in-Busy.held) steps
+    c.ended_by_halt.ensures c.requires.live (made.Busy c.in-Busy.holder c.in-Busy.held) steps
 
 pub returns-in-NotYet-clause-kept : goal.returns-in-NotYet-clause-kept
 returns-in-NotYet-clause-kept g c = λ waiting kept.
@@ -132,7 +131,7 @@ returns-in-NotYet-clause-made g c = λ row is.
     subst S c.in-NotYet.is c.in_ok-step_slot.ensures.gives) in
     makes_step c.args.image.now g.O.Opening.opening c.args.system.now c.args.slots.now c.requires.kept.0 c.args.order.now.items c.requires.kept.1 c.args.at slot
     c.step_slot.new.slot here c.step_slot.ensures.claim.0 c.args.late (option_copied c.args.given) c.step_slot.new.system c.step_slot.ensures.tied c.requires.short c.args.over.now 255 c.requires.few row is
-    c.requires.live made.NotYet steps
+    c.ended_by_halt.ensures c.requires.live made.NotYet steps
 
 pub returns-in-Unfit-clause-kept : goal.returns-in-Unfit-clause-kept
 returns-in-Unfit-clause-kept g c = λ waiting kept.
@@ -153,7 +152,7 @@ returns-in-Unfit-clause-made g c = λ row is.
     subst S c.in-Unfit.is c.in_ok-step_slot.ensures.gives) in
     makes_step c.args.image.now g.O.Opening.opening c.args.system.now c.args.slots.now c.requires.kept.0 c.args.order.now.items c.requires.kept.1 c.args.at slot
     c.step_slot.new.slot here c.step_slot.ensures.claim.0 c.args.late (option_copied c.args.given) c.step_slot.new.system c.step_slot.ensures.tied c.requires.short c.args.over.now 255 c.requires.few row is
-    c.requires.live made.Unfit steps
+    c.ended_by_halt.ensures c.requires.live made.Unfit steps
 
 pub returns-in-Ran-clause-kept : goal.returns-in-Ran-clause-kept
 returns-in-Ran-clause-kept g c = λ waiting kept.
@@ -174,7 +173,7 @@ returns-in-Ran-clause-made g c = λ row is.
     subst S c.in-Ran.is c.in_ok-step_slot.ensures.gives) in
     makes_step c.args.image.now g.O.Opening.opening c.args.system.now c.args.slots.now c.requires.kept.0 c.args.order.now.items c.requires.kept.1 c.args.at slot
     c.step_slot.new.slot here c.step_slot.ensures.claim.0 c.args.late (option_copied c.args.given) c.step_slot.new.system c.step_slot.ensures.tied c.requires.short c.args.over.now 255 c.requires.few row is
-    c.requires.live made.Ran steps
+    c.ended_by_halt.ensures c.requires.live made.Ran steps
 
 pub returns-in-Ended-clause-kept : goal.returns-in-Ended-clause-kept
 returns-in-Ended-clause-kept g c = λ waiting kept.
@@ -195,4 +194,4 @@ returns-in-Ended-clause-made g c = λ row is.
     subst S c.in-Ended.is c.in_ok-step_slot.ensures.gives) in
     makes_step c.args.image.now g.O.Opening.opening c.args.system.now c.args.slots.now c.requires.kept.0 c.args.order.now.items c.requires.kept.1 c.args.at slot
     c.step_slot.new.slot here c.step_slot.ensures.claim.0 c.args.late (option_copied c.args.given) c.step_slot.new.system c.step_slot.ensures.tied c.requires.short c.args.over.now 255 c.requires.few row is
-    c.requires.live made.Ended steps
+    c.ended_by_halt.ensures c.requires.live made.Ended steps

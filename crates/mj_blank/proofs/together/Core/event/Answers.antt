@@ -8,7 +8,7 @@ use Rattle.mj_core.specs.Shown.{Shown}
 use Rattle.mj_blank.specs.Ties.{Placed}
 use Rattle.mj_core.specs.Kept.{claim_of, shown_event}
 use Rattle.mj_blank.specs.Kept.{logs_of}
-use Rattle.mj_core.proofs.Views.{found_at, missed_at, there_at, no_event}
+use Rattle.mj_blank.proofs.Views.{found_at, missed_at, there_at, no_event}
 use Rattle.mj_blank.proofs.together.Core.event.Goals as goal
 
 pub returns-in_err-happened : goal.returns-in_err-happened

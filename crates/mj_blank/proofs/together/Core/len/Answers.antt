@@ -5,7 +5,7 @@ use Rattle.mj_core.specs.Shown.{Shown}
 use Rattle.mj_core.specs.Kept.{claim_of}
 use Rattle.mj_blank.specs.Kept.{logs_of}
 use Rattle.mj_blank.proofs.Histories.{is_run}
-use Rattle.mj_core.proofs.Views.{as_many}
+use Rattle.mj_blank.proofs.Views.{as_many}
 use Rattle.mj_blank.proofs.together.Core.len.Goals as goal
 
 pub returns-clause-value : goal.returns-clause-value

@@ -14,7 +14,7 @@ use Rattle.mj_core.specs.declared.seen.Refusal.TheVariants as refusals
 use Rattle.mj_core.specs.Shown.{Shown}
 use Rattle.mj_core.specs.Gives.{is_late}
 use Rattle.mj_blank.specs.Gives.{Gives}
-use Rattle.mj_core.proofs.Answering.{late_is}
+use Rattle.mj_blank.proofs.Answering.{late_is}
 use Rattle.mj_blank.specs.Ties.{Placed}
 use Rattle.mj_core.specs.Kept.{claim_of}
 use Rattle.mj_blank.specs.Kept.{AreKept, logs_of, shown}

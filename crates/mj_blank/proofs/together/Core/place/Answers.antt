@@ -7,7 +7,7 @@ use Rattle.mj_sys.specs.History.{state_of}
 use Rattle.mj_core.specs.Shown.{Shown}
 use Rattle.mj_core.specs.Kept.{claim_of}
 use Rattle.mj_blank.proofs.Histories.{same_state}
-use Rattle.mj_core.proofs.Views.{some_within}
+use Rattle.mj_blank.proofs.Views.{some_within}
 use Rattle.mj_blank.proofs.together.Core.place.Goals as goal
 
 pub returns-then-at-rows-clause-some : goal.returns-then-at-rows-clause-some
