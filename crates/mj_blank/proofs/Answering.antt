@@ -113,7 +113,7 @@ pub made_of : (image : Loaded) (opening : Shared) (slots slots' : List Placed) (
     → ((row : Row) → row_at (state_of opening (woven (logs_of slots') order)).rows (suc at) ≡ Some row
     → Made opening (shown image slots' order over' n) (suc at) row late' given answer new)
     → (row : Row) → row_at (state_of opening self.history).rows (suc at) ≡ Some row → Made opening self (suc at) row late given answer new
-made_of image opening slots slots' order over over' n self at late late' answer new admitted same_slots same_over same_late made =
+made_of image opening slots slots' order over over' n self at late late' given answer new admitted same_slots same_over same_late made =
     let P : List Placed → List Bool → Bool → Type 0 = λ s o l. (row : Row) → row_at (state_of opening (woven (logs_of s) order)).rows (suc at) ≡ Some row
     → Made opening (shown image s order o n) (suc at) row l given answer new in
     let Q : Shown → Type 0 = λ s. (row : Row) → row_at (state_of opening s.history).rows (suc at) ≡ Some row → Made opening s (suc at) row late given answer new in

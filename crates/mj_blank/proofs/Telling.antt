@@ -1,16 +1,19 @@
 -- What a job is told of a device, or of a rest.
-use Rattle.std.specs.Prelude.{◌⊎◌, Result, Ok, Err, IfOk, if◌then◌else◌}
-use Rattle.std.proofs.Common.{◌≡◌, ℕ, List, [], ◌∷◌, ◌++◌, Bool, true, false, Option, Some, None, refl, sym, ap, ◌∙◌, subst, inl, inr}
+use Rattle.std.specs.Prelude.{◌⊎◌, Result, Ok, Err, IfOk, IfSome, if◌then◌else◌}
+use Rattle.std.proofs.Common.{◌≡◌, ℕ, List, [], ◌∷◌, ◌++◌, Bool, true, false, not, Option, Some, None, refl, sym, ap, ◌∙◌, subst, inl, inr}
 use Rattle.mj_ask.specs.declared.ask.Ask.{Ask}
 use Rattle.mj_ask.specs.declared.ask.Ask.TheVariants as asks
 use Rattle.mj_ask.specs.declared.ask.Reply.{Reply}
 use Rattle.mj_ask.specs.declared.ask.Reply.TheVariants as replies
 use Rattle.mj_ask.specs.Fits.{fits, is_shared, timeout_of}
 use Rattle.mj_ask.specs.Late.{is_over}
+use Rattle.mj_ask.proofs.Fitting.{answered}
 use Rattle.mj_sessions.specs.Events.{Log, device_of}
+use Rattle.mj_sys.specs.Shared.{Shared, served}
+use Rattle.mj_sys.proofs.Fitting.{Fit, served_fits}
 use Rattle.mj_expect.specs.Heeds.{Heeds, AreHeeds}
 use Rattle.mj_expect.proofs.Hearing.{heard_rest}
-use Rattle.mj_blank.specs.Recorded.{IsOfDevice, is_rest, is_early}
+use Rattle.mj_blank.specs.Recorded.{IsOfDevice, IsHeard, is_rest, is_early}
 
 -- what isn't shared and is no rest is an ask to a device
 pub of_device : (a : Ask) → is_shared a ≡ false → is_rest a ≡ false → IsOfDevice a
@@ -76,3 +79,14 @@ pub fits_served : (s : Shared) (job : ℕ) (ask : Ask) (late : Bool) (reply : Re
 fits_served s job ask late reply t shared is =
     let P : Option (Reply × Shared) → Type 0 = λ o. Fit ask o in
     subst P is (served_fits answered s job ask late shared)
+
+-- what is known of the talks with a reply is known with its copy
+pub heard_told : {E : Type 0} (r : Result (Option (Heeds × Reply)) E) (heard : Heeds) (log : Log) (a : Ask) (reply : Reply) → AreHeeds (log ++ (a, reply) ∷ []) heard
+    → IfOk r (λ found. found ≡ Some (heard, reply)) → IfOk r (λ found. IsHeard log a reply found)
+heard_told (Ok found) heard log a reply all is = (let P : Option (Heeds × Reply) → Type 0 = λ f. IsHeard log a reply f in subst P (sym is) all)
+heard_told (Err e) heard log a reply all is = tt
+
+pub copy_told : {E : Type 0} (r : Result (Option (Heeds × Reply)) E) (heard : Heeds) (reply : Reply)
+    → IfOk r (λ found. found ≡ Some (heard, reply)) → IfOk r (λ found. IfSome found (λ h. h.1 ≡ reply))
+copy_told (Ok found) heard reply is = (let P : Option (Heeds × Reply) → Type 0 = λ f. IfSome f (λ h. h.1 ≡ reply) in subst P (sym is) refl)
+copy_told (Err e) heard reply is = tt

@@ -34,7 +34,7 @@ abbrev pub IsUnheard : Log → Ask → Bool → Option Reply → Type 0
 IsUnheard log a late None = Unit {0}
 IsUnheard log a late (Some reply) = (fits a reply ≡ false) ⊎ ((is_early a late reply ≡ true) ⊎ (AreTalks (log ++ (a, reply) ∷ []) → ⊥))
 
--- what is known of a job's talks behind this reply, with the reply; or no device may have answered so
+-- what is known of a job's talks behind this reply; or no device may have answered so
 abbrev pub IsHeard : Log → Ask → Reply → Option (Heeds × Reply) → Type 0
 IsHeard log a reply None = AreTalks (log ++ (a, reply) ∷ []) → ⊥
-IsHeard log a reply (Some heard) = AreHeeds (log ++ (a, reply) ∷ []) heard.0 × (heard.1 ≡ reply)
+IsHeard log a reply (Some heard) = AreHeeds (log ++ (a, reply) ∷ []) heard.0

@@ -1,6 +1,6 @@
 // One job among many.
 
-ghost use Rattle.std.specs.Prelude.{◌≡◌, ◌<◌, ◌++◌, ◌∷◌, [], ℕ, length, true, false, Some, IsSome, IfOk, IfErr, OnErr, option_copied};
+ghost use Rattle.std.specs.Prelude.{◌≡◌, ◌<◌, ◌++◌, ◌∷◌, [], ℕ, length, true, false, Some, IsSome, IfOk, IfErr, IfSome, OnErr, option_copied};
 ghost use Rattle.mj_ask.specs.Fits.{is_shared};
 ghost use Rattle.mj_ask.specs.Late.{is_over};
 ghost use Rattle.mj_ask.specs.declared.ask.Ask as asks;
@@ -164,7 +164,8 @@ fn hear(job: &mut Job, heeds: &mut Heeds, late: bool, reply: &Reply) -> Result<M
 // What is known of a job's talks behind this reply, with the reply; none where no device may have answered so.
 fn heard_with(heeds: &Heeds, ask: &Ask, reply: &Reply) -> Result<Option<(Heeds, Reply)>, AllocError>
     requires { is_shared ask.now ≡ false }
-    ensures { (log : Log) → AreHeeds log heeds.now → IfOk result (λ found. IsHeard log ask.now reply.now found) }
+    ensures heard { (log : Log) → AreHeeds log heeds.now → IfOk result (λ found. IsHeard log ask.now reply.now found) }
+    ensures told { IfOk result (λ found. IfSome found (λ h. h.1 ≡ reply.now)) }
 {
     let mut heard = heeds.try_clone()?;
     match heard.hear(ask, reply) {

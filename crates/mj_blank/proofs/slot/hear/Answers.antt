@@ -1,8 +1,10 @@
-use Rattle.std.proofs.Common.{◌≡◌, true, false, Some, None, refl, sym, ap, ◌∙◌, subst, inl, inr}
+use Rattle.std.proofs.Common.{◌≡◌, true, false, Option, Some, None, refl, sym, ap, ◌∙◌, subst, inl, inr}
 use Rattle.mj_ask.specs.declared.ask.Ask.{Ask}
 use Rattle.mj_ask.specs.Fits.{fits, is_shared}
 use Rattle.mj_blank.proofs.Stepping.{same_ask}
-use Rattle.mj_blank.specs.Recorded.{IsOfDevice}
+use Rattle.mj_ask.specs.declared.ask.Reply.{Reply}
+use Rattle.mj_expect.specs.Heeds.{Heeds}
+use Rattle.mj_blank.specs.Recorded.{IsOfDevice, IsHeard}
 use Rattle.mj_blank.proofs.Telling.{in_time}
 use Rattle.mj_blank.proofs.slot.hear.Goals as goal
 
@@ -35,4 +37,15 @@ returns-in-Ok-None-clause-ok c =
     let pending : c.args.job.now.run.pending ≡ Some ask = sym c.in-Some.ensures in
     let D : Ask → Type 0 = λ a. IsOfDevice a in
     let device = subst D (same_ask c.args.job.now.run.pending c.requires.asks.0 ask c.requires.asks.1 pending) c.requires.asks.3 in
-    (ask, pending, (device, (λ all. inr (inr (c.in-Ok-None.ensures c.args.job.now.run.log all))), refl, refl))
+    (ask, pending, (device, (λ all. inr (inr (let H : Option (Heeds × Reply) → Type 0 = λ f. IsHeard c.args.job.now.run.log ask c.args.reply.now f in
+    subst H c.in-Ok-None.field-0-is (c.in-Ok-None.ensures.heard c.args.job.now.run.log all)))), refl, refl))
+
+pub answer-requires : goal.answer-requires
+answer-requires c = ?
+
+pub returns-in-Ok-Some-clause-ok : goal.returns-in-Ok-Some-clause-ok
+returns-in-Ok-Some-clause-ok c =
+    let ask = c.in-Some.ask.now in
+    let pending : c.args.job.now.run.pending ≡ Some ask = sym c.in-Some.ensures in
+    (ask, pending, ?)
+

@@ -1,7 +1,10 @@
-use Rattle.std.proofs.Common.{◌≡◌, true, false, Some, None, refl, sym, ap, ◌∙◌, subst}
+use Rattle.std.proofs.Common.{◌≡◌, true, false, Option, Some, None, refl, sym, ap, ◌∙◌, subst}
 use Rattle.mj_ask.specs.declared.ask.Ask.{Ask}
+use Rattle.mj_ask.specs.declared.ask.Reply.{Reply}
 use Rattle.mj_ask.specs.declared.ask.Reply.TheVariants as replies
 use Rattle.mj_ask.specs.Fits.{is_shared}
+use Rattle.std.specs.Prelude.{option_copied}
+use Rattle.mj_blank.specs.Recorded.{IsUnheard}
 use Rattle.mj_blank.proofs.Stepping.{same_ask}
 use Rattle.mj_blank.proofs.Telling.{of_device, resting}
 use Rattle.mj_blank.proofs.slot.talk.Goals as goal
@@ -36,7 +39,9 @@ returns-in-None-clause-ok c =
     let A : Ask → Type 0 = λ a. is_shared a ≡ false in
     let unshared : is_shared ask ≡ false = subst A (same_ask c.args.job.now.run.pending c.requires.asks.0 ask c.requires.asks.1 pending) c.requires.asks.2 in
     let device = of_device ask unshared (sym c.is_rest.ensures ∙ c.if-is_rest.false) in
-    (ask, pending, (device, (λ all. tt), refl, refl))
+    let none : option_copied c.args.given ≡ None = ap option_copied c.in-None.is in
+    let U : Option Reply → Type 0 = λ o. IsUnheard c.args.job.now.run.log ask c.args.late o in
+    (ask, pending, (device, (λ all. subst U (sym none) tt), refl, refl))
 
 pub hear-requires : goal.hear-requires
 hear-requires c =
@@ -44,4 +49,4 @@ hear-requires c =
     let pending : c.args.job.now.run.pending ≡ Some ask = sym c.in-Some.ensures in
     let A : Ask → Type 0 = λ a. is_shared a ≡ false in
     let unshared : is_shared ask ≡ false = subst A (same_ask c.args.job.now.run.pending c.requires.asks.0 ask c.requires.asks.1 pending) c.requires.asks.2 in
-    (ask, pending, unshared, of_device ask unshared (sym c.is_rest.ensures ∙ c.if-is_rest.false))
+    record { asks = (ask, pending, unshared, of_device ask unshared (sym c.is_rest.ensures ∙ c.if-is_rest.false)) }

@@ -9,8 +9,8 @@ invariant_of-result g c =
     let image = c.args.image in
     let opening = g.O.Opening.opening in
     let system = c.in-Ok.system in (
-      subst (λ (s : Recorded). AreKept image opening s c.new-in-Ok.result.items None c.new.result.items) (sym c.in-Ok.ensures.system)
-          (subst (λ l. AreKept image opening (record { history = []; claimed = 0 }) l None c.new.result.items) (sym c.new-in-Ok.ensures.items)
-          (subst (λ l. AreKept image opening (record { history = []; claimed = 0 }) [] None l) (sym c.new.ensures.items) (keeps_new image opening))),
+      subst (λ (s : Recorded). AreKept image opening s c.new.result.items None c.new-in-Ok.result.items) (sym c.in-Ok.ensures.system)
+          (subst (λ l. AreKept image opening (record { history = []; claimed = 0 }) l None c.new-in-Ok.result.items) (sym c.new.ensures.items)
+          (subst (λ l. AreKept image opening (record { history = []; claimed = 0 }) [] None l) (sym c.new-in-Ok.ensures.items) (keeps_new image opening))),
       ap (λ l. length l) c.in-Ok.ensures.over,
     )
