@@ -1,8 +1,7 @@
 -- Each row gets a slot.
-use Rattle.std.specs.Prelude.{cond, not, IfSome, IfNone}
+use Rattle.std.specs.Prelude.{not, IfSome, IfNone}
 use Rattle.std.specs.Option.{is_some}
 use Rattle.std.proofs.Common.{◌≡◌, ℕ, ◌+◌, List, [], ◌∷◌, ◌++◌, Bool, true, false, Option, Some, None, refl, sym, ap, ◌∙◌, subst, length}
-use Rattle.mj_ask.specs.Started.{Started}
 use Rattle.mj_ask.specs.declared.entry.Entry.{Entry}
 use Rattle.mj_semantics.specs.Job.{Start}
 use Rattle.mj_load.specs.Image.{Loaded}

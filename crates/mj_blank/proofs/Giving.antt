@@ -1,8 +1,7 @@
 -- What a step of one job gives is what a step of a core gives.
-use Rattle.std.specs.Prelude.{◌⊎◌, min, slice_get, slice_set, Result}
+use Rattle.std.specs.Prelude.{min, slice_get, slice_set}
 use Rattle.std.specs.List.{slice_index_or}
-use Rattle.std.specs.Option.{is_some}
-use Rattle.std.proofs.Common.{◌≡◌, ℕ, zero, suc, ◌+◌, ◌<◌, List, [], ◌∷◌, ◌++◌, length, Bool, false, Option, Some, None, refl, sym, ap, ◌∙◌, subst, inl, inr, arith}
+use Rattle.std.proofs.Common.{◌≡◌, ℕ, zero, suc, ◌+◌, ◌<◌, List, [], ◌∷◌, ◌++◌, length, Bool, Option, Some, None, refl, sym, ap, ◌∙◌, subst, arith}
 use Rattle.mj_ask.specs.declared.ask.Ask.{Ask}
 use Rattle.mj_ask.specs.declared.ask.Reply.{Reply}
 use Rattle.mj_load.specs.Image.{Loaded, routines_of}
@@ -15,7 +14,6 @@ use Rattle.mj_sys.specs.History.{History, state_of, log_of}
 use Rattle.mj_sys.specs.System.{Recorded, Claimed, Keeps}
 use Rattle.mj_events.specs.declared.happened.Happened.{Happened}
 use Rattle.mj_events.specs.Woven.{woven}
-use Rattle.mj_core.specs.declared.seen.Seen.{Seen}
 use Rattle.mj_core.specs.declared.seen.Seen.TheVariants as seen
 use Rattle.mj_core.specs.declared.seen.Refusal.{Refusal}
 use Rattle.mj_core.specs.declared.slot.Made.TheVariants as made

@@ -1,6 +1,6 @@
 -- A step of one job among all: what it gives, and what is kept behind it.
-use Rattle.std.specs.Prelude.{◌⊎◌, slice_get, slice_set, Ok, Err, if◌then◌else◌}
-use Rattle.std.proofs.Common.{◌≡◌, ℕ, suc, ◌<◌, ◌≤◌, List, [], ◌∷◌, ◌++◌, length, Bool, true, false, Option, Some, sym, ap, ◌∙◌, subst, inl, inr, arith}
+use Rattle.std.specs.Prelude.{slice_get, slice_set, Ok, Err, if◌then◌else◌}
+use Rattle.std.proofs.Common.{◌≡◌, ℕ, suc, ◌<◌, ◌≤◌, List, [], ◌∷◌, ◌++◌, length, Bool, true, false, Option, Some, sym, ap, subst, arith}
 use Rattle.mj_ask.specs.declared.ask.Reply.{Reply}
 use Rattle.mj_ask.specs.Fits.{is_shared}
 use Rattle.mj_load.specs.Image.{Loaded, routines_of}
@@ -17,7 +17,6 @@ use Rattle.mj_core.specs.declared.seen.Seen.{Seen}
 use Rattle.mj_core.specs.declared.seen.Seen.TheVariants as seen
 use Rattle.mj_core.specs.declared.slot.Made.{Made}
 use Rattle.mj_core.specs.declared.slot.Made.TheVariants as made
-use Rattle.mj_core.specs.Runs.{start_in}
 use Rattle.mj_core.specs.Shown.{with_over}
 use Rattle.mj_core.specs.Gives.{IsRefused}
 use Rattle.mj_core.specs.Ended.{HasHalted}

@@ -1,14 +1,13 @@
 -- What a core keeps makes its history a run.
 use Rattle.std.specs.Prelude.{slice_get}
 use Rattle.std.specs.Option.{option_map}
-use Rattle.std.proofs.Common.{◌≡◌, ℕ, zero, suc, List, [], ◌∷◌, Option, Some, None, refl, sym, ap, ◌∙◌, subst}
+use Rattle.std.proofs.Common.{◌≡◌, ℕ, zero, suc, List, [], Option, Some, None, refl, sym, ap, ◌∙◌, subst}
 use Rattle.std.proofs.lemmas.Option.{slice_get-map, none-some, same_Some}
 use Rattle.mj_load.specs.Image.{Loaded, routines_of}
 use Rattle.mj_jobs.specs.Rows.{Row, row_at}
-use Rattle.mj_jobvm.specs.Run.{Log, IsTrace, begins}
-use Rattle.mj_dev.specs.Talk.{Stand, beginning, stand_of}
-use Rattle.mj_sessions.specs.Events.{talk_on}
-use Rattle.mj_sessions.specs.Follow.{Follow, AreTalks}
+use Rattle.mj_jobvm.specs.Run.{IsTrace, begins}
+use Rattle.mj_dev.specs.Talk.{beginning}
+use Rattle.mj_sessions.specs.Follow.{AreTalks}
 use Rattle.mj_sys.specs.Shared.{Shared}
 use Rattle.mj_sys.specs.History.{History, state_of, log_of}
 use Rattle.mj_sys.specs.System.{Recorded, Claimed}

@@ -1,11 +1,10 @@
 -- One job goes on.
-use Rattle.std.specs.Prelude.{◌⊎◌, ◌&&◌, is_none, if◌then◌else◌, Result, Ok, Err, IfOk, IfErr, OnErr}
-use Rattle.std.proofs.Common.{◌≡◌, ℕ, ◌+◌, ◌≤◌, List, [], ◌∷◌, ◌++◌, Bool, true, false, Option, Some, None, refl, sym, ap, ◌∙◌, subst, append-nil, eq-eqb, inl, inr, cond, arith}
+use Rattle.std.specs.Prelude.{◌⊎◌, if◌then◌else◌, Result, Ok, Err, IfOk, IfErr, OnErr}
+use Rattle.std.proofs.Common.{◌≡◌, ℕ, ◌+◌, List, [], ◌∷◌, ◌++◌, Bool, true, false, Option, Some, None, refl, sym, ap, ◌∙◌, subst, append-nil, eq-eqb, inl, inr, cond}
 use Rattle.mj_ask.specs.declared.ask.Ask.{Ask}
 use Rattle.mj_ask.specs.declared.ask.Ask.TheVariants as asks
 use Rattle.mj_ask.specs.declared.ask.Reply.{Reply}
-use Rattle.mj_ask.specs.declared.ask.Reply.TheVariants as replies
-use Rattle.mj_ask.specs.Fits.{fits, is_shared, timeout_of}
+use Rattle.mj_ask.specs.Fits.{is_shared}
 use Rattle.mj_semantics.specs.Job.{Start}
 use Rattle.mj_load.specs.Image.{Loaded, routines_of}
 use Rattle.mj_jobs.specs.Rows.{Row, row_at, IsLive}
@@ -14,13 +13,12 @@ use Rattle.mj_jobvm.specs.declared.job.Turn.TheVariants as turns
 use Rattle.mj_jobvm.specs.Told.{Told}
 use Rattle.mj_semantics.specs.State.{places}
 use Rattle.mj_jobvm.specs.Jobs.{Running, IsRunOf}
-use Rattle.mj_ask.specs.Late.{is_over}
 use Rattle.mj_sessions.specs.Events.{device_of}
 use Rattle.mj_expect.specs.Heeds.{Heeds, AreHeeds}
 use Rattle.mj_expect.proofs.Hearing.{heard_shared}
 use Rattle.mj_sys.specs.declared.event.Event.{Event}
-use Rattle.mj_sys.specs.Shared.{Shared, served}
-use Rattle.mj_sys.specs.History.{History, state_of, events_of}
+use Rattle.mj_sys.specs.Shared.{Shared}
+use Rattle.mj_sys.specs.History.{state_of, events_of}
 use Rattle.mj_sys.specs.System.{Recorded, Claimed}
 use Rattle.mj_sys.specs.Told.{recorded}
 use Rattle.mj_sys.proofs.Rows.{rows_kept, state_of_append, events_of_append}
@@ -30,9 +28,9 @@ use Rattle.mj_core.specs.declared.slot.Made.TheVariants as made
 use Rattle.mj_core.specs.Runs.{start_in}
 use Rattle.mj_core.specs.declared.seen.Refusal.{Refusal}
 use Rattle.mj_core.specs.declared.seen.Refusal.TheVariants as refusals
-use Rattle.mj_core.specs.Gives.{fuel, Makes, IsTimely, IsTold, IsRefused}
+use Rattle.mj_core.specs.Gives.{Makes, IsTimely, IsRefused}
 use Rattle.mj_core.specs.Ties.{IsMuted, GoesOnBy}
-use Rattle.mj_blank.specs.Recorded.{IsOfDevice, IsUnheard}
+use Rattle.mj_blank.specs.Recorded.{IsUnheard}
 use Rattle.mj_blank.specs.Ties.{Placed, IsTied, Steps, IsStill, Tells, Talks, Shares}
 
 -- what is asked is one thing

@@ -1,6 +1,6 @@
 -- What a job is told of a device, or of a rest.
-use Rattle.std.specs.Prelude.{◌⊎◌, Result, Ok, Err, IfOk, IfSome, if◌then◌else◌}
-use Rattle.std.proofs.Common.{◌≡◌, ℕ, List, [], ◌∷◌, ◌++◌, Bool, true, false, not, Option, Some, None, refl, sym, ap, ◌∙◌, subst, inl, inr}
+use Rattle.std.specs.Prelude.{Result, Ok, Err, IfOk, IfSome}
+use Rattle.std.proofs.Common.{◌≡◌, ℕ, List, [], ◌∷◌, ◌++◌, Bool, true, false, not, Option, Some, None, refl, sym, ap, ◌∙◌, subst}
 use Rattle.mj_ask.specs.declared.ask.Ask.{Ask}
 use Rattle.mj_ask.specs.declared.ask.Ask.TheVariants as asks
 use Rattle.mj_ask.specs.declared.ask.Reply.{Reply}
@@ -8,7 +8,7 @@ use Rattle.mj_ask.specs.declared.ask.Reply.TheVariants as replies
 use Rattle.mj_ask.specs.Fits.{fits, is_shared, timeout_of}
 use Rattle.mj_ask.specs.Late.{is_over}
 use Rattle.mj_ask.proofs.Fitting.{answered}
-use Rattle.mj_sessions.specs.Events.{Log, device_of}
+use Rattle.mj_sessions.specs.Events.{Log}
 use Rattle.mj_sys.specs.Shared.{Shared, served}
 use Rattle.mj_sys.proofs.Fitting.{Fit, served_fits}
 use Rattle.mj_expect.specs.Heeds.{Heeds, AreHeeds}

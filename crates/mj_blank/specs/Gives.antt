@@ -6,7 +6,6 @@ use Rattle.mj_ast.specs.Syntax.{Routine}
 use Rattle.mj_semantics.specs.Job.{Start}
 use Rattle.mj_load.specs.Image.{routines_of}
 use Rattle.mj_jobs.specs.Rows.{Row, row_at, IsLive}
-use Rattle.mj_sys.specs.declared.event.Event.{Event}
 use Rattle.mj_sys.specs.Shared.{Shared, served}
 use Rattle.mj_sys.specs.History.{state_of, log_of}
 use Rattle.mj_sys.specs.System.{Keeps, history_limit}

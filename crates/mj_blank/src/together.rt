@@ -83,17 +83,17 @@ impl<O: Opening> Core<O> {
         alloc: Global,
         image: Image,
         globals: Globals,
-        sessions: &[(Text, u32)],
+        sessions: Vec<(Text, u32)>,
         starts: Vec<Start>,
     ) -> Result<Core<O>, AllocError>
-        requires opening { opening_of globals (shelves_of sessions.now) starts.items ≡ O.opening }
+        requires opening { opening_of globals (shelves_of sessions.items) starts.items ≡ O.opening }
         requires global { are_global globals ≡ true }
         requires some { 1 ≤ length starts.items }
         requires few { length starts.items ≤ rows_limit }
-        requires fits { length starts.items ≤ left_of principal (shelves_of sessions.now) }
+        requires fits { length starts.items ≤ left_of principal (shelves_of sessions.items) }
         ensures ok { IfOk result (λ core. core ≡ record { image = image; history = []; over = replicate 255 false; spent = replicate 255 0 }) }
     {
-        match parts_of(alloc, globals, sessions, starts) {
+        match parts_of(alloc, globals, &sessions, starts) {
             Ok((system, over)) => Ok(Core {
                 alloc,
                 image,

@@ -1,4 +1,4 @@
-use Rattle.std.proofs.Common.{◌≡◌, true, false, Option, Some, None, refl, sym, ap, ◌∙◌, subst, inl, inr}
+use Rattle.std.proofs.Common.{◌≡◌, false, Option, Some, refl, sym, ap, ◌∙◌, subst, inl, inr}
 use Rattle.std.specs.Prelude.{IfSome}
 use Rattle.mj_ask.specs.declared.ask.Ask.{Ask}
 use Rattle.mj_ask.specs.Fits.{fits, is_shared}
@@ -38,9 +38,17 @@ returns-in-Ok-None-clause-ok c =
     let ask = c.in-Some.ask.now in
     let pending : c.args.job.now.run.pending ≡ Some ask = sym c.in-Some.ensures in
     let D : Ask → Type 0 = λ a. IsOfDevice a in
-    let device = subst D (same_ask c.args.job.now.run.pending c.requires.asks.0 ask c.requires.asks.1 pending) c.requires.asks.3 in
-    (ask, pending, (device, (λ all. inr (inr (let H : Option (Heeds × Reply) → Type 0 = λ f. IsHeard c.args.job.now.run.log ask c.args.reply.now f in
-    subst H c.in-Ok-None.field-0-is (c.in-Ok-None.ensures.heard c.args.job.now.run.log all)))), refl, refl))
+    let device = subst D (same_ask c.args.job.now.run.pending c.requires.asks.0 ask c.requires.asks.1 pending) c.requires.asks.3 in (
+      ask,
+      pending,
+      (
+        device,
+        (λ all. inr (inr (let H : Option (Heeds × Reply) → Type 0 = λ f. IsHeard c.args.job.now.run.log ask c.args.reply.now f in
+            subst H c.in-Ok-None.field-0-is (c.in-Ok-None.ensures.heard c.args.job.now.run.log all)))),
+        refl,
+        refl,
+      ),
+    )
 
 pub answer-requires : goal.answer-requires
 answer-requires c =

@@ -1,4 +1,4 @@
-use Rattle.std.proofs.Common.{Bool, true, false, sym, subst}
+use Rattle.std.proofs.Common.{Bool, sym, subst}
 use Rattle.mj_expect.specs.Heeds.{Heeds, AreHeeds, Heard}
 use Rattle.mj_blank.proofs.Telling.{heard_told, copy_told}
 use Rattle.mj_blank.proofs.slot.heard_with.Goals as goal

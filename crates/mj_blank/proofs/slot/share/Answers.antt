@@ -1,4 +1,4 @@
-use Rattle.std.proofs.Common.{◌≡◌, true, Some, refl, sym, subst}
+use Rattle.std.proofs.Common.{◌≡◌, true, Some, sym, subst}
 use Rattle.mj_ask.specs.declared.ask.Ask.{Ask}
 use Rattle.mj_ask.specs.declared.ask.Reply.TheVariants as replies
 use Rattle.mj_ask.specs.Fits.{fits, is_shared}

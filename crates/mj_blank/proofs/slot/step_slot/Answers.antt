@@ -1,6 +1,5 @@
-use Rattle.std.proofs.Common.{◌≡◌, ℕ, Some, refl, sym, ap, ◌∙◌, subst}
+use Rattle.std.proofs.Common.{◌≡◌, refl, sym, ap, subst}
 use Rattle.std.specs.Option.{is_some}
-use Rattle.mj_semantics.specs.Job.{Start}
 use Rattle.mj_load.specs.Image.{routines_of}
 use Rattle.mj_jobs.specs.Rows.{IsLive}
 use Rattle.std.specs.Prelude.{Ok, option_copied}

@@ -1,11 +1,9 @@
-use Rattle.std.proofs.Common.{◌≡◌, ℕ, suc, ◌<◌, ◌≤◌, List, Some, length, Bool, false, true, refl, sym, ap, ◌∙◌, subst, slice_set, arith}
+use Rattle.std.proofs.Common.{◌≡◌, ◌<◌, ◌≤◌, List, length, Bool, false, true, sym, ap, ◌∙◌, subst, slice_set, arith}
 use Rattle.std.proofs.lemmas.Bool.{false≢true}
 use Rattle.std.proofs.lemmas.List.{with_items_is}
 use Rattle.std.specs.Vec.{with_items}
-use Rattle.std.specs.Prelude.{Ok, Err, IsSome, option_copied}
+use Rattle.std.specs.Prelude.{Ok, Err, option_copied}
 use Rattle.std.specs.List.{slice_index_or}
-use Rattle.mj_jobs.specs.Rows.{Row, row_at, IsLive}
-use Rattle.mj_sys.specs.History.{state_of}
 use Rattle.mj_sys.specs.System.{history_limit}
 use Rattle.mj_events.specs.Woven.{woven}
 use Rattle.mj_events.specs.declared.happened.Happened.{Happened}
@@ -17,7 +15,7 @@ use Rattle.mj_blank.specs.Gives.{Gives}
 use Rattle.mj_blank.proofs.Answering.{late_is}
 use Rattle.mj_blank.specs.Ties.{Placed}
 use Rattle.mj_core.specs.Kept.{claim_of}
-use Rattle.mj_blank.specs.Kept.{AreKept, logs_of, shown}
+use Rattle.mj_blank.specs.Kept.{logs_of, shown}
 use Rattle.mj_blank.proofs.Answering.{is_full, is_made, is_done, is_short, shown_same, row_within, seen_as, room_as, full_as, done_as, made_of}
 use Rattle.mj_blank.proofs.together.Core.make.Goals as goal
 

@@ -1,5 +1,5 @@
-use Rattle.std.specs.Prelude.{IsSome, slice_get}
-use Rattle.std.proofs.Common.{◌≡◌, ◌<◌, ◌≤◌, suc, length, None, sym, ap, ◌∙◌, subst, arith}
+use Rattle.std.specs.Prelude.{IsSome}
+use Rattle.std.proofs.Common.{◌≡◌, ◌<◌, ◌≤◌, suc, length, sym, ap, ◌∙◌, subst, arith}
 use Rattle.std.proofs.lemmas.Option.{slice_get_past}
 use Rattle.mj_jobs.specs.Rows.{row_at}
 use Rattle.mj_sys.specs.Shared.{Shared}
