@@ -12,6 +12,8 @@ use Rattle.mj_sys.specs.History.{History, state_of}
 use Rattle.mj_sys.specs.System.{Recorded, Claimed, history_limit}
 use Rattle.mj_events.specs.declared.happened.Happened.{Happened}
 use Rattle.mj_events.specs.Woven.{woven}
+use Rattle.mj_jobvm.specs.declared.job.Turn.{Turn}
+use Rattle.mj_jobvm.specs.declared.job.Turn.TheVariants as turns
 use Rattle.mj_core.specs.declared.seen.Seen.{Seen}
 use Rattle.mj_core.specs.declared.seen.Seen.TheVariants as seen
 use Rattle.mj_core.specs.declared.seen.Refusal.{Refusal}
@@ -21,7 +23,7 @@ use Rattle.mj_core.specs.declared.seen.Way.{Way}
 use Rattle.mj_core.specs.declared.seen.Way.TheVariants as ways
 use Rattle.mj_core.specs.contracts.seen.Way as way
 use Rattle.mj_core.specs.Shown.{Shown, was_over, with_over}
-use Rattle.mj_core.specs.Gives.{is_late}
+use Rattle.mj_core.specs.Gives.{is_late, Readies, GivesReady}
 use Rattle.mj_blank.specs.Gives.{Made, Gives}
 use Rattle.mj_blank.specs.Ties.{Placed}
 use Rattle.mj_blank.specs.Kept.{AreKept, logs_of, turns_of, shown}
@@ -77,6 +79,41 @@ module _ (opening : Shared) (old : Shown) (step : Step) (given : Option Reply) w
 
         pub is_short : Gives opening old step given (Err refusals.Memory) old
         is_short = is_made (Err refusals.Memory) old (λ row here. (tt, refl))
+
+-- ---- and what it gives to make a job ready
+
+module _ (opening : Shared) (old : Shown) (job : ℕ) where
+  pub ready_no_job : row_at (state_of opening old.history).rows job ≡ None → GivesReady opening old job (Err refusals.NoJob) old
+  ready_no_job none = inl (none, refl, refl)
+
+  module _ (at : ℕ) (is : job ≡ suc at) (some : IsSome (row_at (state_of opening old.history).rows job)) where
+    ready_there : (row : Row) × (row_at (state_of opening old.history).rows job ≡ Some row)
+    ready_there = row_there (row_at (state_of opening old.history).rows job) some
+
+    pub ready_seen : slice_index_or old.over at false ≡ true → GivesReady opening old job (Err refusals.Ended) old
+    ready_seen over = inr (ready_there.0, ready_there.1, inl (ap (was_over old.over) is ∙ over, refl, refl))
+
+    module _ (goes : slice_index_or old.over at false ≡ false) where
+      pub ready_made : (answer : Result Turn Refusal) (new : Shown)
+          → ((row : Row) → row_at (state_of opening old.history).rows (suc at) ≡ Some row → Readies opening old (suc at) row answer new)
+          → GivesReady opening old job answer new
+      ready_made answer new made = inr (
+        ready_there.0,
+        ready_there.1,
+        inr (
+          ap (was_over old.over) is ∙ goes,
+          subst (λ j. Readies opening old j ready_there.0 answer new) (sym is)
+              (made ready_there.0 (ap (λ j. row_at (state_of opening old.history).rows j) (sym is) ∙ ready_there.1)),
+        ),
+      )
+
+      pub ready_done : (IsLive (state_of opening old.history).rows job → ⊥) → GivesReady opening old job (Ok turns.Ended) old
+      ready_done done =
+          ready_made (Ok turns.Ended) old
+          (λ row here. ((λ live. done (subst (λ j. IsLive (state_of opening old.history).rows j) (sym is) live)), refl))
+
+      pub ready_short : GivesReady opening old job (Err refusals.Memory) old
+      ready_short = ready_made (Err refusals.Memory) old (λ row here. (refl, refl))
 
 -- ---- what is known of a core by what is seen of it
 

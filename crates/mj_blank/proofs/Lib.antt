@@ -8,3 +8,5 @@ mod Admitting
 mod Answering
 mod Telling
 mod Adding
+mod Readying
+mod Readied

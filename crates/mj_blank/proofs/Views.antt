@@ -2,7 +2,7 @@
 use Rattle.std.specs.Prelude.{IsSome, slice_get, nat_lt}
 use Rattle.std.specs.List.{slice_index_or}
 use Rattle.std.specs.Option.{option_map}
-use Rattle.std.proofs.Common.{◌≡◌, ℕ, zero, suc, ◌<◌, ◌≤◌, true, false, List, [], ◌∷◌, length, Option, Some, None, refl, sym, ap, ◌∙◌, arith}
+use Rattle.std.proofs.Common.{◌≡◌, ℕ, zero, suc, ◌<◌, ◌≤◌, true, false, List, [], ◌∷◌, length, Option, Some, None, refl, sym, ap, ◌∙◌, subst, arith}
 use Rattle.std.proofs.lemmas.Option.{slice_get-map, slice_get_read, slice_get_past, none-some}
 use Rattle.mj_ask.specs.declared.ask.Ask.{Ask}
 use Rattle.mj_ask.specs.declared.ask.Reply.{Reply}
@@ -14,6 +14,11 @@ use Rattle.mj_sys.specs.History.{History}
 use Rattle.mj_sys.specs.System.{Recorded, Claimed}
 use Rattle.mj_events.specs.declared.happened.Happened.{Happened}
 use Rattle.mj_events.specs.Woven.{Logs, entry_at, woven, AreThere}
+use Rattle.mj_core.specs.Runs.{start_in}
+use Rattle.mj_jobs.specs.Rows.{Row, row_at}
+use Rattle.mj_jobvm.specs.Jobs.{IsRunOf}
+use Rattle.mj_sys.specs.History.{state_of}
+use Rattle.mj_blank.proofs.Histories.{same_state, starts}
 use Rattle.mj_blank.specs.Ties.{Placed}
 use Rattle.mj_blank.specs.Kept.{AreKept, logs_of}
 
@@ -95,3 +100,14 @@ module _ (image : Loaded) (opening : Shared) (system : Recorded) (slots : List P
       let found = event_at (logs_of slots) order kept.there i h is in
       let s = entry_slot slots h.job h.at found.0 found.1 in
       (found.0, s.0, s.1, s.2, s.3, s.4, found.2)
+
+  -- a slot's job is that of the row at its place, and runs from that row's start
+  pub shown_run : (k : ℕ) (slot : Placed) → slice_get slots k ≡ Some slot
+      → (row : Row) × (row_at (state_of opening (woven (logs_of slots) order)).rows (suc k) ≡ Some row) × IsRunOf image (start_in (suc k) row.start) slot.job
+  shown_run k slot here =
+      let at = kept.tied k slot here in
+      let row = at.placed.row in
+      let there : row_at (state_of opening (woven (logs_of slots) order)).rows (suc k) ≡ Some row.0 =
+      ap (λ (s : Shared). row_at s.rows (suc k)) (same_state image opening system slots waiting order kept)
+      ∙ ap (λ j. row_at (state_of opening system.history).rows j) (sym at.numbered) ∙ row.1 in
+      (row.0, there, subst (λ s. IsRunOf image s slot.job) (starts image opening system slots waiting order kept k slot row.0 here there) at.placed.run)

@@ -5,13 +5,15 @@ ghost use Rattle.mj_ask.specs.declared.ask.Reply as replies;
 ghost use Rattle.mj_load.specs.Image.{routines_of};
 ghost use Rattle.mj_dev.specs.Shelves.{principal, left_of};
 ghost use Rattle.mj_jobs.specs.Rows.{Row, row_at, rows_limit, IsLive};
+ghost use Rattle.mj_jobvm.specs.Jobs.{IsRunOf};
 ghost use Rattle.mj_locktab.specs.Locks.{LocksApart};
-ghost use Rattle.mj_sys.specs.History.{state_of};
+ghost use Rattle.mj_sys.specs.History.{state_of, log_of};
 ghost use Rattle.mj_sys.specs.Opening.{opening_of};
 ghost use Rattle.mj_sys.specs.Shared.{are_global};
 ghost use Rattle.mj_sys.specs.System.{Claimed, history_limit};
 ghost use Rattle.mj_events.specs.Woven.{woven};
-ghost use Rattle.mj_core.specs.Runs.{IsRun};
+ghost use Rattle.mj_core.specs.Gives.{Readies, GivesReady};
+ghost use Rattle.mj_core.specs.Runs.{IsRun, start_in, out_of};
 ghost use Rattle.mj_core.specs.Kept.{claim_of, shown_event};
 ghost use Rattle.mj_blank.specs.Gives.{Gives, Made as StepGives};
 ghost use Rattle.mj_blank.specs.Kept.{AreKept, logs_of, turns_of, shown};
@@ -20,15 +22,16 @@ ghost use Rattle.mj_blank.specs.Pools.{shelves_of};
 use crate::pools::{Blank, pool_of};
 use crate::slot::{Slot, step_slot};
 use mj_ask::{Ask, Reply, Start};
-use mj_core::{Made, Refusal, Seen, Step, Way, ended_by_halt};
+use mj_core::{FUEL, Made, Refusal, Seen, Step, Way, ended_by_halt};
 use mj_dev::Session;
 use mj_events::Happened;
 use mj_expect::Heeds;
 use mj_globs::Globals;
 use mj_jobs::ROWS_LIMIT;
-use mj_jobvm::Job;
+use mj_jobvm::{Job, Turn};
 use mj_load::Image;
 use mj_locktab::LockTable;
+use mj_sessions::output;
 use mj_sys::{Claim, HISTORY_LIMIT, Opening, System};
 use mj_text::Text;
 use std::alloc::{AllocError, Global};
@@ -168,6 +171,40 @@ impl<O: Opening> Core<O> {
         )
     }
 
+    /// Lets a job go on for at most 10,000 turns to its next ask, and serves nothing.
+    pub fn ready(&mut self, job: u32) -> Result<Turn, Refusal>
+        ensures { GivesReady O.opening self.old job result self.new }
+    {
+        let Some(at) = self.place(job) else {
+            return Err(Refusal::NoJob);
+        };
+        if self.over[at] {
+            return Err(Refusal::Ended);
+        }
+        if !self.system.is_live(job) {
+            return Ok(Turn::Ended);
+        }
+        let Ok(()) = admit(
+            self.alloc,
+            &self.image,
+            &mut self.system,
+            &mut self.slots,
+            &mut self.waiting,
+            &self.order,
+            at,
+        ) else {
+            return Err(Refusal::Memory);
+        };
+        go_ready(&self.image, &self.system, &mut self.slots, &self.order, at)
+    }
+
+    /// The routines.
+    pub fn image(&self) -> &Image
+        ensures { result.now ≡ self.now.image }
+    {
+        &self.image
+    }
+
     /// How many events there are. The history is a run, whatever steps were made.
     pub fn len(&self) -> usize
         ensures value { result ≡ length self.now.history }
@@ -199,6 +236,40 @@ impl<O: Opening> Core<O> {
         ensures apart { LocksApart result.now }
     {
         self.system.locks()
+    }
+
+    /// How many jobs there are, ended ones among them.
+    pub fn jobs(&self) -> usize
+        ensures value { result ≡ length (state_of O.opening self.now.history).rows }
+        ensures bound { result ≤ rows_limit }
+    {
+        self.system.rows()
+    }
+
+    /// A job that was stepped or made ready, or one before it. It runs the routines from its row's start, and its log is what the history has of
+    /// it: so what it shows of itself, its locals, its frames, its place and what it asks, is what stands there in its private run.
+    pub fn job(&self, job: u32) -> Option<&Job>
+        ensures none { IfNone result (log_of job self.now.history ≡ []) }
+        ensures log { IfSome result (λ found. found.now.run.log ≡ log_of job self.now.history) }
+        ensures run { IfSome result (λ found. (row : Row) × (row_at (state_of O.opening self.now.history).rows job ≡ Some row) × IsRunOf self.now.image (start_in job row.start) found.now) }
+    {
+        match (job as usize).checked_sub(1) {
+            None => None,
+            Some(at) => match self.slots.get(at) {
+                None => None,
+                Some(slot) => Some(&slot.job),
+            },
+        }
+    }
+
+    /// The bytes that a session of a job took which it had under this name: the first is 1.
+    pub fn out(&self, job: u32, name: &Text, session: u32) -> Result<Vec<u8>, AllocError>
+        ensures { IfOk result (λ bytes. bytes.items ≡ out_of self.now.history job name.now session) }
+    {
+        match self.job(job) {
+            None => Ok(Vec::new(self.alloc)),
+            Some(found) => output(self.alloc, found.log(), name, session),
+        }
     }
 
     // Where a job's slot is, or will be; none where it has no row.
@@ -340,6 +411,29 @@ fn go<O: Opening>(
             over[at] = true;
             Ok(Seen::Ended)
         }
+    }
+}
+
+// Lets a job that has a slot go on to its next ask.
+fn go_ready<O: Opening>(
+    image: &Image,
+    system: &System<Blank, O>,
+    slots: &mut [Slot],
+    order: &[Happened],
+    at: usize,
+) -> Result<Turn, Refusal>
+    requires few { at < 255 }
+    requires there { at < length slots.old }
+    requires kept { (waiting : Option Claimed) × AreKept image.now O.opening system.now slots.old waiting order.now }
+    ensures kept { (waiting : Option Claimed) → AreKept image.now O.opening system.now slots.old waiting order.now → AreKept image.now O.opening system.now slots.new waiting order.now }
+    ensures readies { (over : List Bool) → (row : Row) → row_at (state_of O.opening (woven (logs_of slots.old) order.now)).rows (suc at) ≡ Some row
+        → Readies O.opening (shown image.now slots.old order.now over 255) (suc at) row result (shown image.now slots.new order.now over 255) }
+{
+    ended_by_halt();
+    let slot = &mut slots[at];
+    match slot.job.advance(image, FUEL) {
+        Ok(turn) => Ok(turn),
+        Err(_) => Err(Refusal::Memory),
     }
 }
 
