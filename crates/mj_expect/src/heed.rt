@@ -45,6 +45,17 @@ impl Heeds {
         }
     }
 
+    /// A copy.
+    pub fn try_clone(&self) -> Result<Heeds, AllocError>
+        ensures { IfOk result (λ copy. copy ≡ self.now) }
+    {
+        let mut list = Vec::with_capacity(*self.list.allocator(), self.list.len())?;
+        for (name, heed) in &self.list {
+            list.push((name.try_clone()?, *heed))?;
+        }
+        Ok(Heeds { list })
+    }
+
     /// Takes in what a job's session was told, or a rest, and answers whether some device may have answered so.
     pub fn hear(&mut self, ask: &Ask, reply: &Reply) -> Result<bool, AllocError>
         requires { is_shared ask.now ≡ false }

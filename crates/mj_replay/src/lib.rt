@@ -4,8 +4,6 @@
 // events is the first that isn't made (`mj_debug::replay` says it of recorded events). No device is called.
 #![tactic(auto)]
 
-mod pools;
 mod replaying;
 
-pub use pools::{Blank, pool_of};
 pub use replaying::replay_trace;

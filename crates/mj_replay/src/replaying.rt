@@ -10,8 +10,8 @@ ghost use Rattle.mj_sys.specs.System.{history_limit};
 ghost use Rattle.mj_debug.specs.Replays.{history_of, Says};
 ghost use Rattle.mj_replay.specs.Traces.{opening_in, start_at};
 
-use crate::pools::{Blank, pool_of};
 use mj_ask::{Ask, Entry, Reply, Start};
+use mj_blank::{Blank, pool_of};
 use mj_debug::{Verdict, replay};
 use mj_dev::Pool;
 use mj_globs::Globals;

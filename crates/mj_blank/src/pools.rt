@@ -1,8 +1,7 @@
 // Sessions without devices.
 
 ghost use Rattle.std.specs.Prelude.{◌≡◌, IfOk, OnOk};
-ghost use Rattle.mj_dev.specs.Shelves.{added};
-ghost use Rattle.mj_replay.specs.Pools.{with_more, shelves_of};
+ghost use Rattle.mj_blank.specs.Pools.{with_more, shelves_of};
 
 use mj_dev::{Device, Did, Input, Pool};
 use mj_text::Text;
@@ -62,22 +61,13 @@ pub fn pool_of(alloc: Global, counts: &[(Text, u32)]) -> Result<Pool<Blank>, All
 }
 
 // So many sessions more of a name.
-#[tactic(auto, using(crate::proofs::Adding::one_on))]
 fn add_all(pool: &mut Pool<Blank>, name: &Text, count: u32) -> Result<(), AllocError>
     ensures { OnOk result (pool.new ≡ with_more count name.now pool.old) }
 {
-    'more: for _ in 0..count {
-        put(pool, name)?;
+    for done in 0..count {
+        let Ok(()) = pool.add(name, Blank) else {
+            return Err(AllocError);
+        };
     }
     Ok(())
-}
-
-// One session more of a name.
-fn put(pool: &mut Pool<Blank>, name: &Text) -> Result<(), AllocError>
-    ensures { OnOk result (pool.new ≡ added name.now pool.old) }
-{
-    match pool.add(name, Blank) {
-        Ok(()) => Ok(()),
-        Err(_) => Err(AllocError),
-    }
 }

@@ -5,7 +5,7 @@ use Rattle.mj_dev.specs.Shelves.{Shelf, added}
 -- with so many devices more of a name
 abbrev pub with_more : ℕ → List ℕ → List Shelf → List Shelf
 with_more zero name shelves = shelves
-with_more (suc n) name shelves = added name (with_more n name shelves)
+with_more (suc n) name shelves = with_more n name (added name shelves)
 
 -- with so many devices more of each name
 abbrev pub with_all : List (List ℕ × ℕ) → List Shelf → List Shelf

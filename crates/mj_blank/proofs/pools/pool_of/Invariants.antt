@@ -1,6 +1,6 @@
 use Rattle.std.proofs.Common.{◌≡◌, drop}
-use Rattle.mj_replay.specs.Pools.{with_all, shelves_of}
-use Rattle.mj_replay.proofs.pools.pool_of.Given as goal
+use Rattle.mj_blank.specs.Pools.{with_all, shelves_of}
+use Rattle.mj_blank.proofs.pools.pool_of.Given as goal
 
 -- with those that are left it is the pool of all
 abbrev pub invariant-loop-count : goal.invariant-loop-count

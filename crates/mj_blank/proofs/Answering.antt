@@ -1,0 +1,162 @@
+-- What a step of a core gives, by which of its tests is the first that fails.
+use Rattle.std.specs.Prelude.{IsSome, Result, Ok, Err}
+use Rattle.std.specs.List.{slice_index_or}
+use Rattle.std.proofs.Common.{◌≡◌, ℕ, suc, ◌<◌, ◌≤◌, List, length, Bool, true, false, Option, Some, None, refl, sym, ap, ◌∙◌, subst, inl, inr, arith}
+use Rattle.std.proofs.lemmas.Option.{slice_get_within}
+use denote.Enum.Bare.{sameb}
+use Rattle.mj_ask.specs.declared.ask.Reply.{Reply}
+use Rattle.mj_load.specs.Image.{Loaded}
+use Rattle.mj_jobs.specs.Rows.{Row, row_at, IsLive}
+use Rattle.mj_sys.specs.Shared.{Shared}
+use Rattle.mj_sys.specs.History.{History, state_of}
+use Rattle.mj_sys.specs.System.{Recorded, Claimed, history_limit}
+use Rattle.mj_events.specs.declared.happened.Happened.{Happened}
+use Rattle.mj_events.specs.Woven.{woven}
+use Rattle.mj_jobvm.specs.declared.job.Turn.{Turn}
+use Rattle.mj_jobvm.specs.declared.job.Turn.TheVariants as turns
+use Rattle.mj_core.specs.declared.seen.Seen.{Seen}
+use Rattle.mj_core.specs.declared.seen.Seen.TheVariants as seen
+use Rattle.mj_core.specs.declared.seen.Refusal.{Refusal}
+use Rattle.mj_core.specs.declared.seen.Refusal.TheVariants as refusals
+use Rattle.mj_core.specs.declared.seen.Step.{Step}
+use Rattle.mj_core.specs.declared.seen.Way.{Way}
+use Rattle.mj_core.specs.declared.seen.Way.TheVariants as ways
+use Rattle.mj_core.specs.contracts.seen.Way as way
+use Rattle.mj_core.specs.Shown.{Shown, was_over, with_over}
+use Rattle.mj_core.specs.Gives.{is_late, Readies, GivesReady}
+use Rattle.mj_blank.specs.Gives.{Made, Gives}
+use Rattle.mj_blank.specs.Ties.{Placed}
+use Rattle.mj_blank.specs.Kept.{AreKept, logs_of, turns_of, shown}
+use Rattle.mj_blank.proofs.Histories.{same_state}
+use Rattle.mj_blank.proofs.Views.{as_many}
+
+-- which row is there
+row_there : (o : Option Row) → IsSome o → (row : Row) × (o ≡ Some row)
+row_there (Some row) some = (row, refl)
+row_there None some = absurd (let no : false ≡ true = some in cc)
+
+-- the same is seen where slots came that had no event and counted no turns
+pub shown_same : (image : Loaded) (slots slots' : List Placed) (order : List Happened) (over : List Bool) (n : ℕ)
+    → woven (logs_of slots') order ≡ woven (logs_of slots) order → turns_of n slots' ≡ turns_of n slots → shown image slots' order over n ≡ shown image slots order over n
+shown_same image slots slots' order over n history turns =
+    ap (λ (h : History). let s : Shown = record { image = image; history = h; over = over; spent = turns_of n slots' } in s) history
+    ∙ ap (λ (t : List ℕ). let s : Shown = record { image = image; history = woven (logs_of slots) order; over = over; spent = t } in s) turns
+
+module _ (opening : Shared) (old : Shown) (step : Step) (given : Option Reply) where
+  pub no_job : row_at (state_of opening old.history).rows step.job ≡ None → Gives opening old step given (Err refusals.NoJob) old
+  no_job none = inl (none, refl, refl)
+
+  module _ (at : ℕ) (is : step.job ≡ suc at) (some : IsSome (row_at (state_of opening old.history).rows step.job)) where
+    there : (row : Row) × (row_at (state_of opening old.history).rows step.job ≡ Some row)
+    there = row_there (row_at (state_of opening old.history).rows step.job) some
+
+    pub was_seen : slice_index_or old.over at false ≡ true → Gives opening old step given (Err refusals.Ended) old
+    was_seen over = inr (there.0, there.1, inl (ap (was_over old.over) is ∙ over, refl, refl))
+
+    module _ (goes : slice_index_or old.over at false ≡ false) where
+      pub is_full : history_limit ≤ length old.history → Gives opening old step given (Err refusals.Full) old
+      is_full long = inr (there.0, there.1, inr (inl (ap (was_over old.over) is ∙ goes, long, refl, refl)))
+
+      module _ (room : length old.history < history_limit) where
+        pub is_made : (answer : Result Seen Refusal) (new : Shown)
+            → ((row : Row) → row_at (state_of opening old.history).rows (suc at) ≡ Some row → Made opening old (suc at) row (is_late step.way) given answer new)
+            → Gives opening old step given answer new
+        is_made answer new made = inr (
+          there.0,
+          there.1,
+          inr (inr (
+            ap (was_over old.over) is ∙ goes,
+            room,
+            subst (λ j. Made opening old j there.0 (is_late step.way) given answer new) (sym is)
+                (made there.0 (ap (λ j. row_at (state_of opening old.history).rows j) (sym is) ∙ there.1)),
+          )),
+        )
+
+        pub is_done : (IsLive (state_of opening old.history).rows step.job → ⊥) → Gives opening old step given (Ok seen.Ended) (record old { over = with_over old.over (suc at) })
+        is_done done =
+            is_made (Ok seen.Ended) (record old { over = with_over old.over (suc at) })
+            (λ row here. ((λ live. done (subst (λ j. IsLive (state_of opening old.history).rows j) (sym is) live)), refl))
+
+        pub is_short : Gives opening old step given (Err refusals.Memory) old
+        is_short = is_made (Err refusals.Memory) old (λ row here. (tt, refl))
+
+-- ---- and what it gives to make a job ready
+
+module _ (opening : Shared) (old : Shown) (job : ℕ) where
+  pub ready_no_job : row_at (state_of opening old.history).rows job ≡ None → GivesReady opening old job (Err refusals.NoJob) old
+  ready_no_job none = inl (none, refl, refl)
+
+  module _ (at : ℕ) (is : job ≡ suc at) (some : IsSome (row_at (state_of opening old.history).rows job)) where
+    ready_there : (row : Row) × (row_at (state_of opening old.history).rows job ≡ Some row)
+    ready_there = row_there (row_at (state_of opening old.history).rows job) some
+
+    pub ready_seen : slice_index_or old.over at false ≡ true → GivesReady opening old job (Err refusals.Ended) old
+    ready_seen over = inr (ready_there.0, ready_there.1, inl (ap (was_over old.over) is ∙ over, refl, refl))
+
+    module _ (goes : slice_index_or old.over at false ≡ false) where
+      pub ready_made : (answer : Result Turn Refusal) (new : Shown)
+          → ((row : Row) → row_at (state_of opening old.history).rows (suc at) ≡ Some row → Readies opening old (suc at) row answer new)
+          → GivesReady opening old job answer new
+      ready_made answer new made = inr (
+        ready_there.0,
+        ready_there.1,
+        inr (
+          ap (was_over old.over) is ∙ goes,
+          subst (λ j. Readies opening old j ready_there.0 answer new) (sym is)
+              (made ready_there.0 (ap (λ j. row_at (state_of opening old.history).rows j) (sym is) ∙ ready_there.1)),
+        ),
+      )
+
+      pub ready_done : (IsLive (state_of opening old.history).rows job → ⊥) → GivesReady opening old job (Ok turns.Ended) old
+      ready_done done =
+          ready_made (Ok turns.Ended) old
+          (λ row here. ((λ live. done (subst (λ j. IsLive (state_of opening old.history).rows j) (sym is) live)), refl))
+
+      pub ready_short : GivesReady opening old job (Err refusals.Memory) old
+      ready_short = ready_made (Err refusals.Memory) old (λ row here. (refl, refl))
+
+-- ---- what is known of a core by what is seen of it
+
+module _ (image : Loaded) (opening : Shared) (system : Recorded) (slots : List Placed) (waiting : Option Claimed) (order : List Happened)
+    (kept : AreKept image opening system slots waiting order) (over : List Bool) (n : ℕ) (self : Shown) (view : shown image slots order over n ≡ self) where
+  -- its history leaves what the system's leaves
+  same_shared : state_of opening system.history ≡ state_of opening self.history
+  same_shared = sym (same_state image opening system slots waiting order kept) ∙ ap (λ (s : Shown). state_of opening s.history) view
+
+  pub row_within : (job at : ℕ) → job ≡ suc at → IsSome (row_at (state_of opening self.history).rows job) → at < length (state_of opening system.history).rows
+  row_within job at is some =
+      let there = row_there (row_at (state_of opening self.history).rows job) some in
+      slice_get_within (state_of opening system.history).rows at there.0
+      (ap (λ (s : Shared). row_at s.rows (suc at)) same_shared ∙ ap (λ j. row_at (state_of opening self.history).rows j) (sym is) ∙ there.1)
+
+  pub seen_as : (at : ℕ) (b : Bool) → slice_index_or over at false ≡ b → slice_index_or self.over at false ≡ b
+  seen_as at b is = ap (λ (s : Shown). slice_index_or s.over at false) (sym view) ∙ is
+
+  many : length self.history ≡ length order
+  many = ap (λ (s : Shown). length s.history) (sym view) ∙ as_many (logs_of slots) order kept.there
+
+  pub room_as : length order < history_limit → length self.history < history_limit
+  room_as room = let e = many in omega (arith, e, room)
+
+  pub full_as : history_limit ≤ length order → history_limit ≤ length self.history
+  full_as full = let e = many in omega (arith, e, full)
+
+  pub done_as : (job : ℕ) → (IsLive (state_of opening system.history).rows job → ⊥) → IsLive (state_of opening self.history).rows job → ⊥
+  done_as job done live = done (subst (λ (s : Shared). IsLive s.rows job) (sym same_shared) live)
+
+-- what it makes of a job that has its slot now is what it makes of it
+pub made_of : (image : Loaded) (opening : Shared) (slots slots' : List Placed) (order : List Happened) (over over' : List Bool) (n : ℕ) (self : Shown) (at : ℕ) (late late' : Bool)
+    (given : Option Reply) (answer : Result Seen Refusal) (new : Shown) → shown image slots order over n ≡ self → slots' ≡ slots → over' ≡ over → late' ≡ late
+    → ((row : Row) → row_at (state_of opening (woven (logs_of slots') order)).rows (suc at) ≡ Some row
+    → Made opening (shown image slots' order over' n) (suc at) row late' given answer new)
+    → (row : Row) → row_at (state_of opening self.history).rows (suc at) ≡ Some row → Made opening self (suc at) row late given answer new
+made_of image opening slots slots' order over over' n self at late late' given answer new admitted same_slots same_over same_late made =
+    let P : List Placed → List Bool → Bool → Type 0 = λ s o l. (row : Row) → row_at (state_of opening (woven (logs_of s) order)).rows (suc at) ≡ Some row
+    → Made opening (shown image s order o n) (suc at) row l given answer new in
+    let Q : Shown → Type 0 = λ s. (row : Row) → row_at (state_of opening s.history).rows (suc at) ≡ Some row → Made opening s (suc at) row late given answer new in
+    subst Q admitted (subst (λ l. P slots over l) same_late (subst (λ o. P slots o late') same_over (subst (λ s. P s over' late') same_slots made)))
+
+-- whether a step is late, as it is tested
+pub late_is : (w : Way) → sameb way.the_type w ways.Late ≡ is_late w
+late_is ways.Go = refl
+late_is ways.Late = refl

@@ -1,0 +1,181 @@
+-- What a step of one job gives is what a step of a core gives.
+use Rattle.std.specs.Prelude.{min, slice_get, slice_set}
+use Rattle.std.specs.List.{slice_index_or}
+use Rattle.std.proofs.Common.{◌≡◌, ℕ, zero, suc, ◌+◌, ◌<◌, List, [], ◌∷◌, ◌++◌, length, Bool, Option, Some, None, refl, sym, ap, ◌∙◌, subst, arith}
+use Rattle.mj_ask.specs.declared.ask.Ask.{Ask}
+use Rattle.mj_ask.specs.declared.ask.Reply.{Reply}
+use Rattle.mj_load.specs.Image.{Loaded, routines_of}
+use Rattle.mj_jobs.specs.Rows.{Row, row_at}
+use Rattle.mj_semantics.specs.Job.{Start}
+use Rattle.mj_jobvm.specs.Run.{Log, GoesOn, HasEnded}
+use Rattle.mj_sys.specs.declared.served.Held.{Held}
+use Rattle.mj_sys.specs.Shared.{Shared, served}
+use Rattle.mj_sys.specs.History.{History, state_of, log_of}
+use Rattle.mj_sys.specs.System.{Recorded, Claimed, Keeps}
+use Rattle.mj_events.specs.declared.happened.Happened.{Happened}
+use Rattle.mj_events.specs.Woven.{woven}
+use Rattle.mj_core.specs.declared.seen.Seen.TheVariants as seen
+use Rattle.mj_core.specs.declared.seen.Refusal.{Refusal}
+use Rattle.mj_core.specs.declared.slot.Made.TheVariants as made
+use Rattle.mj_core.specs.Runs.{start_in}
+use Rattle.mj_core.specs.Shown.{Shown, with_spent, with_over}
+use Rattle.mj_core.specs.Gives.{fuel, spent_limit, Makes, IsTimely, IsTold, IsRefused}
+use Rattle.mj_blank.specs.Recorded.{IsRecorded, IsUnheard}
+use Rattle.mj_blank.specs.Gives.{Goes}
+use Rattle.mj_blank.specs.Ties.{Placed, IsPlaced, start_of, Steps}
+use Rattle.mj_blank.specs.Kept.{AreKept, IsAt, logs_of, turns_of, shown}
+use Rattle.mj_blank.proofs.Histories.{same_state, starts}
+use Rattle.mj_blank.proofs.Views.{as_many}
+use Rattle.mj_blank.proofs.Keeping.{shows_event, shows_still}
+
+-- ---- turns that are counted
+
+-- the count of a job is that of its slot
+pub counted_at : (n k : ℕ) (slots : List Placed) (slot : Placed) → k < n → slice_get slots k ≡ Some slot → slice_index_or (turns_of n slots) k 0 ≡ slot.job.run.spent
+counted_at zero k slots slot few here = absurd (let no : ⊥ = omega (arith, few) in no)
+counted_at (suc n) k [] slot few here = absurd (let no : None ≡ Some slot = here in cc)
+counted_at (suc n) zero (s ∷ slots) slot few here = (let same : Some s ≡ Some slot = here in let one : s ≡ slot = cc in ap (λ (x : Placed). x.job.run.spent) one)
+counted_at (suc n) (suc k) (s ∷ slots) slot few here = counted_at n k slots slot (omega (arith, few)) here
+
+-- another slot at its place
+pub counted_on : (n k : ℕ) (slots : List Placed) (slot slot' : Placed) → slice_get slots k ≡ Some slot
+    → turns_of n (slice_set slots k slot') ≡ slice_set (turns_of n slots) k slot'.job.run.spent
+counted_on zero k slots slot slot' here = refl
+counted_on (suc n) k [] slot slot' here = absurd (let no : None ≡ Some slot = here in cc)
+counted_on (suc n) zero (s ∷ slots) slot slot' here = refl
+counted_on (suc n) (suc k) (s ∷ slots) slot slot' here = ap (λ l. s.job.run.spent ∷ l) (counted_on n k slots slot slot' here)
+
+-- one that counted as many
+pub counted_still : (n k : ℕ) (slots : List Placed) (slot slot' : Placed) → slice_get slots k ≡ Some slot → slot'.job.run.spent ≡ slot.job.run.spent
+    → turns_of n (slice_set slots k slot') ≡ turns_of n slots
+counted_still zero k slots slot slot' here same = refl
+counted_still (suc n) k [] slot slot' here same = absurd (let no : None ≡ Some slot = here in cc)
+counted_still (suc n) zero (s ∷ slots) slot slot' here same =
+    (let is : Some s ≡ Some slot = here in let one : s ≡ slot = cc in ap (λ t. t ∷ turns_of n slots) (same ∙ ap (λ (x : Placed). x.job.run.spent) (sym one)))
+counted_still (suc n) (suc k) (s ∷ slots) slot slot' here same = ap (λ l. s.job.run.spent ∷ l) (counted_still n k slots slot slot' here same)
+
+-- a slot more, which counted none
+pub counted_more : (n : ℕ) (slots : List Placed) (slot : Placed) → slot.job.run.spent ≡ 0 → turns_of n (slots ++ slot ∷ []) ≡ turns_of n slots
+counted_more zero slots slot none = refl
+counted_more (suc n) [] slot none = ap (λ t. t ∷ turns_of n []) none
+counted_more (suc n) (s ∷ slots) slot none = ap (λ l. s.job.run.spent ∷ l) (counted_more n slots slot none)
+
+-- ---- what a step of one slot gives
+
+module _ (image : Loaded) (opening : Shared) (system : Recorded) (slots : List Placed) (waiting : Option Claimed) (order : List Happened)
+    (kept : AreKept image opening system slots waiting order) (over : List Bool) (n k : ℕ) (few : k < n) (slot slot' : Placed) (here : slice_get slots k ≡ Some slot)
+    (numbered : slot'.claim.job ≡ slot.claim.job) (row : Row) (is : row_at (state_of opening (woven (logs_of slots) order)).rows (suc k) ≡ Some row) (late : Bool) (given : Option Reply) where
+  abbrev old : Shown
+  old = shown image slots order over n
+
+  abbrev start : Start
+  start = start_in (suc k) row.start
+
+  abbrev slots' : List Placed
+  slots' = slice_set slots k slot'
+
+  at : IsAt image opening system old.history (suc k) slot
+  at = kept.tied k slot here
+
+  same : state_of opening old.history ≡ state_of opening system.history
+  same = same_state image opening system slots waiting order kept
+
+  -- what is said of the slot is said of its job
+  pub move : (F : ℕ → Start → Log → Shared → Type 0) → F slot.claim.job (start_of slot) slot.job.run.log (state_of opening system.history)
+      → F (suc k) start (log_of (suc k) old.history) (state_of opening old.history)
+  move F x =
+      subst (λ s. F (suc k) start (log_of (suc k) old.history) s) (sym same)
+      (subst (λ l. F (suc k) start l (state_of opening system.history)) (sym at.logged)
+      (subst (λ s. F (suc k) s slot.job.run.log (state_of opening system.history)) (starts image opening system slots waiting order kept k slot row here is)
+      (subst (λ j. F j (start_of slot) slot.job.run.log (state_of opening system.history)) at.numbered x)))
+
+  abbrev seen_with : History → List ℕ → Shown
+  seen_with history spent = record { image = image; history = history; over = over; spent = spent }
+
+  -- nothing was asked or told
+  module _ (log : slot'.job.run.log ≡ slot.job.run.log) (sessions : slot'.heeds ≡ slot.heeds) (placed : IsPlaced image opening system slot') where
+    history_still : woven (logs_of slots') order ≡ old.history
+    history_still = shows_still image opening system slots waiting order kept k slot slot' here numbered placed log sessions
+
+    pub shown_still : slot'.job.run.spent ≡ slot.job.run.spent → shown image slots' order over n ≡ old
+    shown_still spent = ap (λ h. seen_with h (turns_of n slots')) history_still ∙ ap (λ t. seen_with old.history t) (counted_still n k slots slot slot' here spent)
+
+    pub shown_spent : shown image slots' order over n ≡ record old { spent = with_spent old.spent (suc k) slot'.job.run.spent }
+    shown_spent = ap (λ h. seen_with h (turns_of n slots')) history_still ∙ ap (λ t. seen_with old.history t) (counted_on n k slots slot slot' here)
+
+  -- nothing is told
+  module _ (log : slot'.job.run.log ≡ slot.job.run.log) (sessions : slot'.heeds ≡ slot.heeds) (spent : slot'.job.run.spent ≡ slot.job.run.spent)
+      (system' : Recorded) (placed : IsPlaced image opening system slot') where
+    abbrev still : Shown
+    still = shown image slots' order over n
+
+    is_still : still ≡ old
+    is_still = shown_still log sessions placed spent
+
+    pub gives_busy : (holder : ℕ) (held : Held) → Steps (routines_of image) opening late given system slot (made.Busy holder held) system' slot'
+        → Goes (routines_of image) opening (suc k) start late given old (seen.Busy holder held) still
+    gives_busy holder held t =
+        let F : ℕ → Start → Log → Shared → Type 0 = λ j st l s.
+        (a : Ask) × Makes (routines_of image) st l a × IsTimely late a × (served s j a late ≡ None) × Keeps s j a holder held in
+        let there = move F (t.0, t.1, t.2, t.3, t.4) in
+        (there.0, there.1, there.2, there.3, there.4, is_still)
+
+    pub gives_unfit : Steps (routines_of image) opening late given system slot made.Unfit system' slot' → Goes (routines_of image) opening (suc k) start late given old seen.Unfit still
+    gives_unfit t =
+        let F : ℕ → Start → Log → Shared → Type 0 = λ j st l s. Makes (routines_of image) st l t.0 × IsUnheard l t.0 late given in
+        let there = move F (t.1, t.4) in
+        (t.0, there.0, t.2, t.3, there.1, is_still)
+
+    -- its run is over with its events
+    pub gives_ended : Steps (routines_of image) opening late given system slot made.Ended system' slot'
+        → HasEnded (routines_of image) start (log_of (suc k) old.history) × (shown image slots' order (with_over over (suc k)) n ≡ record old { over = with_over over (suc k) })
+    gives_ended t =
+        let F : ℕ → Start → Log → Shared → Type 0 = λ j st l s. HasEnded (routines_of image) st l in
+        (move F t.0, ap (λ (x : Shown). record x { over = with_over over (suc k) }) is_still)
+
+  -- it goes on for all turns
+  pub gives_ran : (log : slot'.job.run.log ≡ slot.job.run.log) (sessions : slot'.heeds ≡ slot.heeds) → IsPlaced image opening system slot'
+      → slot'.job.run.spent ≡ min (slot.job.run.spent + fuel) spent_limit → GoesOn (routines_of image) (start_of slot) slot.job.run.log slot'.job.run.spent
+      → Goes (routines_of image) opening (suc k) start late given old seen.Ran (shown image slots' order over n)
+  gives_ran log sessions placed counts goes =
+      let F : ℕ → Start → Log → Shared → Type 0 = λ j st l s. GoesOn (routines_of image) st l slot'.job.run.spent in (
+        slot'.job.run.spent,
+        counts ∙ ap (λ t. min (t + fuel) spent_limit) (sym (counted_at n k slots slot few here)),
+        move F goes,
+        shown_spent log sessions placed,
+      )
+
+  -- it is told a reply
+  module _ (a : Ask) (reply : Reply) (system' : Recorded) (log : slot'.job.run.log ≡ slot.job.run.log ++ (a, reply) ∷ []) (spent : slot'.job.run.spent ≡ 0)
+      (kept' : AreKept image opening system' slots' waiting (order ++ record { job = suc k; at = length slot.job.run.log } ∷ [])) where
+    abbrev order' : List Happened
+    order' = order ++ record { job = suc k; at = length slot.job.run.log } ∷ []
+
+    abbrev new : Shown
+    new = shown image slots' order' over n
+
+    pub gives_event : Makes (routines_of image) (start_of slot) slot.job.run.log a → IsTimely late a
+        → IsTold (state_of opening system.history) slot.claim.job a late reply (state_of opening system'.history) → IsRecorded given a reply
+        → Goes (routines_of image) opening (suc k) start late given old (seen.Event (length order)) new
+    gives_event makes timely told recorded =
+        let later : state_of opening new.history ≡ state_of opening system'.history = same_state image opening system' slots' waiting order' kept' in
+        let F : ℕ → Start → Log → Shared → Type 0 = λ j st l s. Makes (routines_of image) st l a × IsTold s j a late reply (state_of opening system'.history) in
+        let there = move F (makes, told) in
+        let history_on = shows_event image opening system slots waiting order kept k slot slot' here numbered system' a reply late log in (
+          a,
+          reply,
+          there.0,
+          timely,
+          subst (λ s. IsTold (state_of opening old.history) (suc k) a late reply s) (sym later) there.1,
+          recorded,
+          sym (as_many (logs_of slots) order kept.there),
+          ap (λ h. seen_with h (turns_of n slots')) history_on
+              ∙ ap (λ t. seen_with (old.history ++ record { job = suc k; ask = a; reply = reply } ∷ []) t)
+              (counted_on n k slots slot slot' here ∙ ap (λ t. slice_set (turns_of n slots) k t) spent),
+        )
+
+  -- it isn't made
+  pub refuses : (why : Refusal) → IsRefused (routines_of image) (start_of slot) slot.job.run.log late why → IsRefused (routines_of image) start (log_of (suc k) old.history) late why
+  refuses why is_refused =
+      let F : ℕ → Start → Log → Shared → Type 0 = λ j st l s. IsRefused (routines_of image) st l late why in
+      move F is_refused

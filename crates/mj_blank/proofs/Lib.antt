@@ -1,0 +1,12 @@
+mod Histories
+mod Views
+mod Keeping
+mod Stepping
+mod Giving
+mod Going
+mod Admitting
+mod Answering
+mod Telling
+mod Adding
+mod Readying
+mod Readied

@@ -1,0 +1,60 @@
+-- What it gives to make a job ready that has a row, and whose end wasn't seen.
+use Rattle.std.specs.Prelude.{IsSome, Result, Ok, Err}
+use Rattle.std.specs.List.{slice_index_or}
+use Rattle.std.proofs.Common.{◌≡◌, ℕ, suc, ◌<◌, List, length, get_or, Bool, false, Option, Some, sym, ap, ◌∙◌, subst, arith}
+use Rattle.std.proofs.lemmas.List.{get_or_default}
+use Rattle.mj_load.specs.Image.{Loaded}
+use Rattle.mj_jobs.specs.Rows.{Row, row_at, IsLive}
+use Rattle.mj_jobvm.specs.declared.job.Turn.{Turn}
+use Rattle.mj_jobvm.specs.declared.job.Turn.TheVariants as turns
+use Rattle.mj_sys.specs.Shared.{Shared}
+use Rattle.mj_sys.specs.History.{state_of}
+use Rattle.mj_sys.specs.System.{Recorded, Claimed}
+use Rattle.mj_events.specs.declared.happened.Happened.{Happened}
+use Rattle.mj_events.specs.Woven.{woven}
+use Rattle.mj_core.specs.declared.seen.Refusal.{Refusal}
+use Rattle.mj_core.specs.declared.seen.Refusal.TheVariants as refusals
+use Rattle.mj_core.specs.Shown.{Shown}
+use Rattle.mj_core.specs.Gives.{Readies, GivesReady}
+use Rattle.mj_blank.specs.Ties.{Placed}
+use Rattle.mj_blank.specs.Kept.{AreKept, logs_of, turns_of, shown}
+use Rattle.mj_blank.proofs.Answering.{shown_same, ready_made, ready_done, ready_short, seen_as, done_as}
+
+-- what stands in a list for each job, by a test of it
+pub stands_at : (over : List Bool) (at : ℕ) (b test : Bool) → length over ≡ 255 → at < 255 → b ≡ get_or over at b → b ≡ test → slice_index_or over at false ≡ test
+stands_at over at b test long few value is = get_or_default over at false b (omega (arith, long, few)) ∙ sym value ∙ is
+
+module _ (image : Loaded) (opening : Shared) (system : Recorded) (slots : List Placed) (waiting : Option Claimed) (order : List Happened)
+    (kept : AreKept image opening system slots waiting order) (over : List Bool) (self : Shown) (view : shown image slots order over 255 ≡ self)
+    (job at : ℕ) (is : job ≡ suc at) (some : IsSome (row_at (state_of opening self.history).rows job))
+    (b : Bool) (long : length over ≡ 255) (few : at < 255) (value : b ≡ get_or over at b) (goes : b ≡ false) where
+  goes_on : slice_index_or self.over at false ≡ false
+  goes_on = seen_as image opening system slots waiting order kept over 255 self view at false (stands_at over at b false long few value goes)
+
+  pub readied_done : (IsLive (state_of opening system.history).rows job → ⊥) → GivesReady opening self job (Ok turns.Ended) self
+  readied_done done = ready_done opening self job at is some goes_on (done_as image opening system slots waiting order kept over 255 self view job done)
+
+  -- slots came, in which nothing was asked yet
+  module _ (slots1 : List Placed) (order1 : List Happened) (same : order1 ≡ order) (history : woven (logs_of slots1) order1 ≡ woven (logs_of slots) order1)
+      (counts : (n : ℕ) → turns_of n slots1 ≡ turns_of n slots) where
+    seen_still : shown image slots1 order over 255 ≡ self
+    seen_still =
+        let P : List Happened → Type 0 = λ o. woven (logs_of slots1) o ≡ woven (logs_of slots) o in
+        shown_same image slots slots1 order over 255 (subst P same history) (counts 255) ∙ view
+
+    pub readied_short : GivesReady opening self job (Err refusals.Memory) (shown image slots1 order over 255)
+    readied_short =
+        let P : Shown → Type 0 = λ s. GivesReady opening self job (Err refusals.Memory) s in
+        subst P (sym seen_still) (ready_short opening self job at is some goes_on)
+
+    pub readied : (lent new : List Placed) (order2 : List Happened) → lent ≡ slots1 → order2 ≡ order → (answer : Result Turn Refusal)
+        → ((ends : List Bool) (row : Row) → row_at (state_of opening (woven (logs_of lent) order2)).rows (suc at) ≡ Some row
+        → Readies opening (shown image lent order2 ends 255) (suc at) row answer (shown image new order2 ends 255))
+        → GivesReady opening self job answer (shown image new order over 255)
+    readied lent new order2 as_lent again answer gives = ready_made opening self job at is some goes_on answer (shown image new order over 255) (λ row here.
+        let e : shown image lent order2 over 255 ≡ self =
+        ap (λ s. shown image s order2 over 255) as_lent ∙ ap (λ o. shown image slots1 o over 255) again ∙ seen_still in
+        let there = ap (λ (s : Shown). row_at (state_of opening s.history).rows (suc at)) e ∙ here in
+        let P : Shown → Type 0 = λ s. Readies opening s (suc at) row answer (shown image new order2 over 255) in
+        let Q : List Happened → Type 0 = λ o. Readies opening self (suc at) row answer (shown image new o over 255) in
+        subst Q again (subst P e (gives over row there)))

@@ -1,0 +1,83 @@
+-- A job among all that is let go on, and isn't served.
+use Rattle.std.specs.Prelude.{slice_get, slice_set, Ok, Err}
+use Rattle.std.proofs.Common.{◌≡◌, ℕ, suc, ◌<◌, List, Bool, false, Option, Some, None, refl, sym, subst}
+use Rattle.std.specs.declared.alloc.AllocError.{AllocError}
+use Rattle.mj_ask.specs.declared.ask.Ask.{Ask}
+use Rattle.mj_load.specs.Image.{Loaded, routines_of}
+use Rattle.mj_jobs.specs.Rows.{Row, row_at}
+use Rattle.mj_semantics.specs.State.{places}
+use Rattle.mj_semantics.specs.Job.{Start}
+use Rattle.mj_jobvm.specs.Run.{Log, GoesOn, HasEnded}
+use Rattle.mj_jobvm.specs.Jobs.{Running, IsRunOf}
+use Rattle.mj_jobvm.specs.Told.{Told, spent_after}
+use Rattle.mj_jobvm.specs.declared.job.Turn.{Turn}
+use Rattle.mj_jobvm.specs.declared.job.Turn.TheVariants as turns
+use Rattle.mj_expect.specs.Heeds.{AreHeeds}
+use Rattle.mj_sys.specs.Shared.{Shared}
+use Rattle.mj_sys.specs.History.{state_of}
+use Rattle.mj_sys.specs.System.{Recorded, Claimed}
+use Rattle.mj_events.specs.declared.happened.Happened.{Happened}
+use Rattle.mj_events.specs.Woven.{woven}
+use Rattle.mj_core.specs.declared.seen.Refusal.TheVariants as refusals
+use Rattle.mj_core.specs.Gives.{Makes, Readies}
+use Rattle.mj_blank.specs.Ties.{Placed, IsPlaced, start_of}
+use Rattle.mj_blank.specs.Kept.{AreKept, logs_of, shown}
+use Rattle.mj_blank.proofs.Histories.{is_run}
+use Rattle.mj_blank.proofs.Keeping.{keeps_still}
+use Rattle.mj_core.specs.Ended.{HasHalted}
+use Rattle.mj_blank.proofs.Giving.{shown_still, gives_ran, move}
+
+module _ (image : Loaded) (opening : Shared) (system : Recorded) (slots : List Placed) (waiting : Option Claimed) (order : List Happened)
+    (kept : AreKept image opening system slots waiting order) (k : ℕ) (slot : Placed) (here : slice_get slots k ≡ Some slot) (job : Running)
+    (run : (start : Start) → IsRunOf image start slot.job → IsRunOf image start job) (log : job.run.log ≡ slot.job.run.log) where
+  -- the slot with its job behind some turns
+  abbrev pub slot_on : Placed
+  slot_on = record slot { job = job }
+
+  -- it can go on
+  pub is_placed : IsPlaced image opening system slot
+  is_placed = (kept.tied k slot here).placed
+
+  placed_on : IsPlaced image opening system slot_on
+  placed_on =
+      let T : Log → Type 0 = λ l. AreHeeds l slot.heeds in
+      record {
+        numbered = is_placed.numbered;
+        claimed = is_placed.claimed;
+        row = is_placed.row;
+        counted = is_placed.counted;
+        run = run (start_of slot) is_placed.run;
+        told = subst T (sym log) is_placed.told;
+      }
+
+  pub keeps_ready : AreKept image opening system (slice_set slots k slot_on) waiting order
+  keeps_ready = keeps_still image opening system slots waiting order kept k slot slot_on here refl placed_on log refl
+
+  module _ (over : List Bool) (n : ℕ) (few : k < n) (row : Row) (is : row_at (state_of opening (woven (logs_of slots) order)).rows (suc k) ≡ Some row) where
+    still : job.run.spent ≡ slot.job.run.spent → shown image (slice_set slots k slot_on) order over n ≡ shown image slots order over n
+    still spent = shown_still image opening system slots waiting order kept over n k few slot slot_on here refl row is false None log refl placed_on spent
+
+    -- what its turns say is what is seen of it
+    pub readies : HasHalted → (turn : Turn) → Told (routines_of image) (start_of slot) turn job.run → job.run.spent ≡ spent_after {E = AllocError} (Ok turn) 10000 slot.job.run.spent
+        → Readies opening (shown image slots order over n) (suc k) row (Ok turn) (shown image (slice_set slots k slot_on) order over n)
+    readies halted turns.Asks told spent =
+        let F : ℕ → Start → Log → Shared → Type 0 = λ j st l s. (a : Ask) × Makes (routines_of image) st l a in
+        let L : Log → Type 0 = λ l. Makes (routines_of image) (start_of slot) l told.0 in
+        let makes : Makes (routines_of image) (start_of slot) job.run.log told.0 = (told.2.0, job.run.at.state.locals, places job.run.at.state, told.2.1) in (
+          move image opening system slots waiting order kept over n k few slot slot_on here refl row is false None F (told.0, subst L log makes),
+          still spent,
+        )
+    readies halted turns.Ran told spent =
+        let L : Log → Type 0 = λ l. GoesOn (routines_of image) (start_of slot) l job.run.spent in
+        gives_ran image opening system slots waiting order kept over n k few slot slot_on here refl row is false None log refl placed_on spent (subst L log told)
+    readies halted turns.Ended told spent =
+        let F : ℕ → Start → Log → Shared → Type 0 = λ j st l s. HasEnded (routines_of image) st l in
+        let L : Log → Type 0 = λ l. HasEnded (routines_of image) (start_of slot) l in
+        let over_now = move image opening system slots waiting order kept over n k few slot slot_on here refl row is false None F (subst L log told) in
+        let run = is_run image opening system slots waiting order kept in
+        ((halted (routines_of image) opening (woven (logs_of slots) order) run (suc k) row is over_now).1, still spent)
+
+    -- memory was refused
+    pub readies_none : job.run.spent ≡ slot.job.run.spent
+        → Readies opening (shown image slots order over n) (suc k) row (Err refusals.Memory) (shown image (slice_set slots k slot_on) order over n)
+    readies_none spent = (refl, still spent)

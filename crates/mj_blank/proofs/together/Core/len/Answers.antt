@@ -1,0 +1,22 @@
+use Rattle.std.proofs.Common.{length, sym, ap, ◌∙◌, subst}
+use Rattle.mj_load.specs.Image.{routines_of}
+use Rattle.mj_core.specs.Runs.{IsRun}
+use Rattle.mj_core.specs.Shown.{Shown}
+use Rattle.mj_core.specs.Kept.{claim_of}
+use Rattle.mj_blank.specs.Kept.{logs_of}
+use Rattle.mj_blank.proofs.Histories.{is_run}
+use Rattle.mj_blank.proofs.Views.{as_many}
+use Rattle.mj_blank.proofs.together.Core.len.Goals as goal
+
+pub returns-clause-value : goal.returns-clause-value
+returns-clause-value g c =
+    let i = c.self.inside in
+    let kept = c.self.invariant.0 in
+    c.len.ensures ∙ c.self.inside.order.ok.0 ∙ sym (as_many (logs_of i.slots.items) i.order.items kept.there) ∙ ap (λ (s : Shown). length s.history) c.self.view_is
+
+pub returns-clause-run : goal.returns-clause-run
+returns-clause-run g c =
+    let i = c.self.inside in
+    let opening = g.O.Opening.opening in
+    subst (λ (s : Shown). IsRun (routines_of s.image) opening s.history) c.self.view_is
+    (is_run i.image opening i.system i.slots.items (claim_of i.waiting) i.order.items c.self.invariant.0)

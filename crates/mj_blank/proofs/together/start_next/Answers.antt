@@ -1,0 +1,42 @@
+use Rattle.std.proofs.Common.{◌≡◌, ◌++◌, ◌∷◌, [], Some, sym, ap, ◌∙◌}
+use Rattle.mj_ask.specs.Started.{Started}
+use Rattle.mj_jobvm.specs.Jobs.{Running}
+use Rattle.mj_sys.specs.System.{Claimed}
+use Rattle.mj_blank.proofs.Admitting.{same_claim, slot_kept, slot_woven, slot_turns}
+use Rattle.mj_blank.proofs.together.start_next.Goals as goal
+
+pub returns-clause-kept : goal.returns-clause-kept
+returns-clause-kept g c =
+    let is : c.args.waiting.now ≡ Some (c.in-Some-take.claim, c.in-Some-take.session) = sym c.take.ensures.value ∙ c.in-Some-take.is in
+    let same : c.in-Some.claim ≡ c.in-Some-take.claim = same_claim c.args.waiting.now c.in-Some.claim c.in-Some-take.claim c.in-Some.field-0-1 c.in-Some-take.session c.in-Some.is is in
+    let start = c.in_ok-try_clone.ensures ∙ c.start.ensures ∙ ap (λ (x : Claimed). x.start) same in
+    slot_kept c.args.image.now g.O.Opening.opening c.args.system.now c.args.slots.now.items c.args.order.now c.args.waiting.now c.requires.kept
+    c.in-Some-take.claim c.in-Some-take.session is c.job.result c.into_parts-entry.result.0 c.into_parts-entry.result.1.items c.job.ensures.value
+    (c.into_parts-entry.ensures.entry ∙ ap (λ (s : Started). s.entry) start) (c.into_parts-entry.ensures.values ∙ ap (λ (s : Started). s.values) start)
+    c.start-job.result (ap (λ (j : Running). j.run.log) c.start-job.ensures.opening) (ap (λ (j : Running). j.run.spent) c.start-job.ensures.opening) c.start-job.ensures.run
+    c.new.result c.new.ensures
+    c.push_reserved.new.self.items (c.push_reserved.ensures.items ∙ ap (λ l. l ++ record { claim = c.in-Some-take.claim; job = c.start-job.result; heeds = c.new.result } ∷ []) c.in_ok-reserve.ensures.items) c.take.new.self c.take.ensures.after
+
+pub returns-clause-woven : goal.returns-clause-woven
+returns-clause-woven g c =
+    let is : c.args.waiting.now ≡ Some (c.in-Some-take.claim, c.in-Some-take.session) = sym c.take.ensures.value ∙ c.in-Some-take.is in
+    let same : c.in-Some.claim ≡ c.in-Some-take.claim = same_claim c.args.waiting.now c.in-Some.claim c.in-Some-take.claim c.in-Some.field-0-1 c.in-Some-take.session c.in-Some.is is in
+    let start = c.in_ok-try_clone.ensures ∙ c.start.ensures ∙ ap (λ (x : Claimed). x.start) same in
+    slot_woven c.args.image.now g.O.Opening.opening c.args.system.now c.args.slots.now.items c.args.order.now c.args.waiting.now c.requires.kept
+    c.in-Some-take.claim c.in-Some-take.session is c.job.result c.into_parts-entry.result.0 c.into_parts-entry.result.1.items c.job.ensures.value
+    (c.into_parts-entry.ensures.entry ∙ ap (λ (s : Started). s.entry) start) (c.into_parts-entry.ensures.values ∙ ap (λ (s : Started). s.values) start)
+    c.start-job.result (ap (λ (j : Running). j.run.log) c.start-job.ensures.opening) (ap (λ (j : Running). j.run.spent) c.start-job.ensures.opening) c.start-job.ensures.run
+    c.new.result c.new.ensures
+    c.push_reserved.new.self.items (c.push_reserved.ensures.items ∙ ap (λ l. l ++ record { claim = c.in-Some-take.claim; job = c.start-job.result; heeds = c.new.result } ∷ []) c.in_ok-reserve.ensures.items)
+
+pub returns-clause-turns : goal.returns-clause-turns
+returns-clause-turns g c =
+    let is : c.args.waiting.now ≡ Some (c.in-Some-take.claim, c.in-Some-take.session) = sym c.take.ensures.value ∙ c.in-Some-take.is in
+    let same : c.in-Some.claim ≡ c.in-Some-take.claim = same_claim c.args.waiting.now c.in-Some.claim c.in-Some-take.claim c.in-Some.field-0-1 c.in-Some-take.session c.in-Some.is is in
+    let start = c.in_ok-try_clone.ensures ∙ c.start.ensures ∙ ap (λ (x : Claimed). x.start) same in
+    slot_turns c.args.image.now g.O.Opening.opening c.args.system.now c.args.slots.now.items c.args.order.now c.args.waiting.now c.requires.kept
+    c.in-Some-take.claim c.in-Some-take.session is c.job.result c.into_parts-entry.result.0 c.into_parts-entry.result.1.items c.job.ensures.value
+    (c.into_parts-entry.ensures.entry ∙ ap (λ (s : Started). s.entry) start) (c.into_parts-entry.ensures.values ∙ ap (λ (s : Started). s.values) start)
+    c.start-job.result (ap (λ (j : Running). j.run.log) c.start-job.ensures.opening) (ap (λ (j : Running). j.run.spent) c.start-job.ensures.opening) c.start-job.ensures.run
+    c.new.result c.new.ensures
+    c.push_reserved.new.self.items (c.push_reserved.ensures.items ∙ ap (λ l. l ++ record { claim = c.in-Some-take.claim; job = c.start-job.result; heeds = c.new.result } ∷ []) c.in_ok-reserve.ensures.items)
