@@ -83,7 +83,10 @@ pub fn frames<D: Device, O: Opening>(
     ensures { IfOk result (λ bytes. Says O.opening debugger.old (commands.Frames job) bytes.items false debugger.new) }
 {
     debugger.show()?;
-    Ok(frames_at(alloc, debugger, job)?)
+    match frames_at(alloc, debugger, job) {
+        Ok(bytes) => Ok(bytes),
+        Err(_) => Err(Unshown::Memory),
+    }
 }
 
 // The locals of a job.
@@ -95,7 +98,10 @@ pub fn locals<D: Device, O: Opening>(
     ensures { IfOk result (λ bytes. Says O.opening debugger.old (commands.Locals job) bytes.items false debugger.new) }
 {
     debugger.show()?;
-    Ok(locals_at(alloc, debugger, job)?)
+    match locals_at(alloc, debugger, job) {
+        Ok(bytes) => Ok(bytes),
+        Err(_) => Err(Unshown::Memory),
+    }
 }
 
 // The names that are held.
@@ -106,7 +112,10 @@ pub fn locks<D: Device, O: Opening>(
     ensures { IfOk result (λ bytes. Says O.opening debugger.old commands.Locks bytes.items false debugger.new) }
 {
     debugger.show()?;
-    Ok(locks_at(alloc, debugger)?)
+    match locks_at(alloc, debugger) {
+        Ok(bytes) => Ok(bytes),
+        Err(_) => Err(Unshown::Memory),
+    }
 }
 
 // The committed globals.
@@ -117,5 +126,8 @@ pub fn globals<D: Device, O: Opening>(
     ensures { IfOk result (λ bytes. Says O.opening debugger.old commands.Globals bytes.items false debugger.new) }
 {
     debugger.show()?;
-    Ok(globals_at(alloc, debugger)?)
+    match globals_at(alloc, debugger) {
+        Ok(bytes) => Ok(bytes),
+        Err(_) => Err(Unshown::Memory),
+    }
 }

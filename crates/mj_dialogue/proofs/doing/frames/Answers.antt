@@ -4,7 +4,7 @@ use Rattle.mj_dialogue.specs.Says.{ShowsFrames}
 use Rattle.mj_dialogue.proofs.Giving.{kept}
 use Rattle.mj_dialogue.proofs.doing.frames.Goals as goal
 
-pub returns : goal.returns
-returns g c =
-    let P : Walk → Type 0 = λ walk. ShowsFrames g.O.Opening.opening walk c.args.job c.in_ok-frames_at.field-0.items in
-    (kept c.args.debugger.now c.show.new.self c.in_ok-show.ensures.ok, subst P c.in_ok-show.ensures.ok c.in_ok-frames_at.ensures, refl)
+pub returns-in-Ok : goal.returns-in-Ok
+returns-in-Ok g c =
+    let P : Walk → Type 0 = λ walk. ShowsFrames g.O.Opening.opening walk c.args.job c.in-Ok.bytes.items in
+    (kept c.args.debugger.now c.show.new.self c.in_ok-show.ensures.ok, subst P c.in_ok-show.ensures.ok c.in-Ok.ensures, refl)
