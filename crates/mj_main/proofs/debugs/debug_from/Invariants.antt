@@ -1,0 +1,6 @@
+use Rattle.mj_sys.specs.Opening.{opening_of}
+use Rattle.mj_main.proofs.debugs.debug_from.Given as goal
+
+-- the opening is that of what the run begins with
+abbrev pub ghosts-over : goal.ghosts-over
+ghosts-over g a = record { opening = opening_of a.globals a.pool a.starts.items }
