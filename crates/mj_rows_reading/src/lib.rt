@@ -1,8 +1,10 @@
-// Rows of single crates, as in `mj_rows_parts`: routines and traces, as they are read and refused.
+// Rows of single crates, as in `mj_rows_parts`: routines, listings and traces, as they are read and refused.
 #![tactic(auto)]
 
 #[cfg(test)]
 mod grammar;
+#[cfg(test)]
+mod listings;
 #[cfg(test)]
 mod read_back;
 #[cfg(test)]

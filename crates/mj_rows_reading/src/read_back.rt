@@ -196,11 +196,9 @@ fn a_trace_with_one_byte_replaced_is_read_or_refused(rt: HostRuntime) -> Result<
     assert_eq!(rt; said.as_slice(), b"".as_slice());
     for place in 0..bytes.len() {
         let before = bytes[place];
-        for byte in [
-            0, 10, 32, 34, 40, 41, 44, 45, 48, 49, 58, 65, 92, 94, 97, 123, 125, 255,
-        ] {
-            bytes[place] = byte;
-            assert!(rt; is_judged(rt.alloc(), &bytes)?, "{place} {byte}");
+        for code in 0..256u32 {
+            bytes[place] = code as u8;
+            assert!(rt; is_judged(rt.alloc(), &bytes)?, "{place} {code}");
         }
         bytes[place] = before;
     }
