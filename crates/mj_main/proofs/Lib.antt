@@ -1,3 +1,4 @@
 mod Counting
 mod Lines
+mod Stepping
 mod Untaken

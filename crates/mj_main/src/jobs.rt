@@ -1,8 +1,10 @@
 // Many jobs, as they are stepped and shown.
 
-ghost use Rattle.std.specs.Prelude.{◌≡◌, ℕ, length, slice_get, IfOk};
+ghost use Rattle.std.specs.Prelude.{◌≡◌, ℕ, length, slice_get, IfOk, IfSome, IfNone};
 ghost use Rattle.mj_sys.specs.History.{state_of};
 ghost use Rattle.mj_core.specs.Runs.{out_of};
+ghost use Rattle.mj_steps.specs.Driven.{ByList};
+ghost use Rattle.mj_main.specs.Stepping.{StepsAs, StandsSo, IsInTurn, AreSteps, core_step};
 ghost use Rattle.mj_many.specs.Printed.{printed, parts};
 ghost use Rattle.mj_main.specs.Statuses.{has_faulted, event_faults, is_fault};
 ghost use Rattle.mj_dev.specs.Shelves.{principal};
@@ -30,8 +32,7 @@ pub struct Jobs<D: Device, O: Opening> {
 impl<D: Device, O: Opening> Stepped for Jobs<D, O> {
     ghost count = { λ jobs. length (state_of O.opening jobs.core.history).rows };
 
-    // what a step comes to isn't said of jobs yet
-    ghost makes = { λ _ _ _ _. Unit {0} };
+    ghost makes = { λ old step answer new. StepsAs O.opening old.core step answer new.core };
 
     fn jobs(&self) -> usize {
         self.core.jobs()
@@ -50,16 +51,38 @@ impl<D: Device, O: Opening> Stepped for Jobs<D, O> {
 }
 
 impl<D: Device, O: Opening> Jobs<D, O> {
-    /// Makes these steps; or where there are none, steps the jobs in turn.
-    pub fn go(&mut self, steps: Option<&[Step]>) -> Ending {
+    /// Makes these steps; or where there are none, steps the jobs in turn. Either way a list of the core's steps was made.
+    pub fn go(&mut self, steps: Option<&[Step]>) -> Ending
+        ensures listed { IfSome steps.entry (λ list. ByList (λ old step answer new. StepsAs O.opening old.core step answer new.core) 0 list.now self.old result self.new) }
+        ensures in_turn { IfNone steps.entry (IsInTurn (λ jobs. length (state_of O.opening jobs.core.history).rows) (λ old step answer new. StepsAs O.opening old.core step answer new.core) STEPS_LIMIT self.old result self.new) }
+        ensures run { AreSteps O.opening self.old.core self.new.core }
+    {
         match steps {
-            None => step_in_turn(self, STEPS_LIMIT),
-            Some(steps) => step_by(self, steps),
+            None => self.in_turn(STEPS_LIMIT),
+            Some(steps) => self.listed(steps),
         }
     }
 
+    // Makes these steps.
+    fn listed(&mut self, steps: &[Step]) -> Ending
+        ensures listed { ByList (λ old step answer new. StepsAs O.opening old.core step answer new.core) 0 steps.now self.old result self.new }
+        ensures run { AreSteps O.opening self.old.core self.new.core }
+    {
+        step_by(self, steps)
+    }
+
+    // Steps the jobs in turn, no more often than that.
+    fn in_turn(&mut self, most: usize) -> Ending
+        ensures in_turn { IsInTurn (λ jobs. length (state_of O.opening jobs.core.history).rows) (λ old step answer new. StepsAs O.opening old.core step answer new.core) most self.old result self.new }
+        ensures run { AreSteps O.opening self.old.core self.new.core }
+    {
+        step_in_turn(self, most)
+    }
+
     // Where a job stands of whose step this was seen.
-    fn standing(&self, job: u32, seen: &Seen) -> Standing {
+    fn standing(&self, job: u32, seen: &Seen) -> Standing
+        ensures { StandsSo seen.now result }
+    {
         match seen {
             Seen::Event(_) | Seen::Ran | Seen::Unfit => Standing::Goes,
             Seen::Ended => Standing::Ended,
@@ -185,7 +208,9 @@ fn faults_at<D: Device, O: Opening>(core: &Core<D, O>, at: usize) -> bool
 }
 
 // The same step, of a core.
-fn core_step(step: Step) -> mj_core::Step {
+fn core_step(step: Step) -> mj_core::Step
+    ensures { result ≡ core_step step }
+{
     mj_core::Step {
         job: step.job,
         way: match step.way {
