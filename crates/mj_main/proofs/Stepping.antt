@@ -53,9 +53,9 @@ pub in_turn : {X : Type 0} (opening : Shared) (core : X → Shown) (count : X �
 in_turn opening core count zero made round jobs old ending new (e, same) = none opening (core old) (core new) (ap core same)
 in_turn opening core count (suc most) made round jobs old ending new h =
     comes opening core (made + 1) (λ step standing mid. InTurn count (Of opening core) most (made + 1) (after_step round step standing) (stand jobs step.job standing) mid ending new)
-      old ending new (next_step round (take (count old) jobs))
-      (λ step standing mid rest. in_turn opening core count most (made + 1) (after_step round step standing) (stand jobs step.job standing) mid ending new rest)
-      h
+    old ending new (next_step round (take (count old) jobs))
+    (λ step standing mid rest. in_turn opening core count most (made + 1) (after_step round step standing) (stand jobs step.job standing) mid ending new rest)
+    h
 
 -- what holds is so where there is none
 pub if_none : {A P : Type 0} (r : Option A) → P → IfNone r P

@@ -10,4 +10,4 @@ returns-clause-in_turn g c = record { turns = c.step_in_turn.ensures }
 pub returns-clause-run : goal.returns-clause-run
 returns-clause-run g c =
     in_turn g.O.Opening.opening (λ j. j.core) (λ j. length (state_of g.O.Opening.opening j.core.history).rows) c.args.most 0 begun fresh
-      c.args.self.now c.step_in_turn.result c.step_in_turn.new.jobs c.step_in_turn.ensures
+    c.args.self.now c.step_in_turn.result c.step_in_turn.new.jobs c.step_in_turn.ensures
