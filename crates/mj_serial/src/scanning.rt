@@ -58,8 +58,9 @@ pub fn serial_blocks(alloc: Global, history: &[Event]) -> Result<Vec<Block>, All
     }
 }
 
-/// The blocks of what the jobs of a core asked and were told, as `serial_blocks` gives them; no ask or reply is copied but for the accesses of blocks. What
-/// the jobs did is as these blocks run alone, and each commit that clashed had to, where no transaction is open at the opening.
+/// The blocks of what the jobs of a core asked and were told, as `serial_blocks` gives them. It copies accesses with their answers, and the names of
+/// unlocks, and nothing else. What the jobs did is as these blocks run alone, and each commit that clashed had to, where no transaction is open at
+/// the opening.
 pub fn blocks<D: Device, O: Opening>(
     alloc: Global,
     core: &Core<D, O>,
