@@ -1,6 +1,7 @@
 -- The devices that a job has open, and how they change.
 use Rattle.std.specs.Prelude.{◌≡◌, ℕ, ◌+◌, ◌*◌, ◌≤◌, List, [], ◌∷◌, Option, Some, None, Bool, false, map, if◌then◌else◌}
 use Rattle.std.specs.Str.{bytes_eq}
+use Rattle.mj_text.specs.declared.text.TheConstants.{TEXT_LIMIT}
 use Rattle.mj_semantics.specs.State.{State, OpenDevice, principal, column_after, row_after, device_at, wrote, broke, with_device, used, dropped}
 use Rattle.mj_semantics.specs.Job.{opening}
 use Rattle.mj_open.specs.declared.devices.Spot.{Spot}
@@ -94,6 +95,6 @@ IsBeside (Some name) = bytes_eq principal name ≡ false
 
 -- no write adds more columns or rows than a text has bytes
 pub record IsKept (p : Spot) (others : List Other) (current : Option (List ℕ)) (writes : ℕ) : Type 0 where
-  pub first : IsWithin (32767 * writes) p
-  pub rest : AreWithin (32767 * writes) others
+  pub first : IsWithin (TEXT_LIMIT * writes) p
+  pub rest : AreWithin (TEXT_LIMIT * writes) others
   pub beside : IsBeside current

@@ -2,6 +2,7 @@
 
 ghost use Rattle.std.specs.Prelude.{◌≡◌, ◌+◌, ◌*◌, ◌≤◌, ◌<◌, ◌^◌, ◌∷◌, [], false, length, position, slice_get, IfOk, IfSome, OnOk, OnErr};
 ghost use Rattle.std.specs.Str.{bytes_eq};
+ghost use Rattle.mj_text.specs.declared.text.TheConstants.{TEXT_LIMIT};
 ghost use Rattle.mj_semantics.specs.State as states;
 ghost use Rattle.mj_open.specs.Opened.{alone, after_write, after_fail, after_add, after_drop, after_leave, after_use, is_named, spot_at, went};
 
@@ -131,7 +132,7 @@ impl Devices {
     /// `$X` at the current one.
     pub fn column(&self) -> u64
         ensures value { result ≡ states.column_at self.now.current (alone self.now) }
-        ensures bound { result ≤ 32767 * self.now.writes }
+        ensures bound { result ≤ TEXT_LIMIT * self.now.writes }
     {
         self.current_spot().column
     }
@@ -139,7 +140,7 @@ impl Devices {
     /// `$Y` at the current one.
     pub fn row(&self) -> u64
         ensures value { result ≡ states.row_at self.now.current (alone self.now) }
-        ensures bound { result ≤ 32767 * self.now.writes }
+        ensures bound { result ≤ TEXT_LIMIT * self.now.writes }
     {
         self.current_spot().row
     }
@@ -147,7 +148,7 @@ impl Devices {
     // What the current one is like; as untouched where it isn't open.
     fn current_spot(&self) -> Spot
         ensures value { result ≡ spot_at self.now.current self.now.devices }
-        ensures bound { (result.column ≤ 32767 * self.now.writes) × (result.row ≤ 32767 * self.now.writes) }
+        ensures bound { (result.column ≤ TEXT_LIMIT * self.now.writes) × (result.row ≤ TEXT_LIMIT * self.now.writes) }
     {
         match &self.current {
             None => self.principal,
@@ -188,7 +189,7 @@ impl Devices {
 
     /// These bytes were written to the current one.
     pub fn write(&mut self, bytes: &[u8])
-        requires short { length bytes.now ≤ 32767 }
+        requires short { length bytes.now ≤ TEXT_LIMIT }
         requires more { self.old.writes < 1000000 }
         ensures { self.new ≡ after_write bytes.now self.old }
     {

@@ -1,3 +1,4 @@
 pub mod Traces
+pub mod Agreeing
 pub mod Serving
 pub mod Histories

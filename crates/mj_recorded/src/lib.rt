@@ -1,8 +1,10 @@
-// Runs of many jobs can be written, event by event: definitions, and laws of every run, with nothing to do.
+// Laws of what jobs are told and of what is recorded of them, with nothing to do: the answers of a job's `advance` exclude each other, and runs of
+// many jobs can be written, event by event.
 //
-// `specs/Laws.antt` has the law. That what a job asks can be written is `mj_written`'s; here are the replies, and that they go on being such.
+// `specs/Agreeing.antt` has the first law, `specs/Laws.antt` the second. That what a job asks can be written is `mj_written`'s; here are the replies, and
+// that they go on being such.
 #![tactic(auto)]
 
 mod laws;
 
-pub use laws::events_are_written;
+pub use laws::{answers_agree, events_are_written};

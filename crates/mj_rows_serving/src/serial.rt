@@ -9,6 +9,9 @@ use mj_text::{Failure, Text};
 use std::alloc::Global;
 use std::test::Fail;
 
+// The first four blocks, as far as there are as many.
+pub type First = [Option<(u32, bool, usize, usize)>; 4];
+
 // A single access, the transaction of job 1, and the second of job 2; what clashed and what was rolled back isn't there.
 #[test]
 fn blocks_come_in_the_order_of_their_commits(rt: HostRuntime) -> Result<(), Fail> {
@@ -24,18 +27,22 @@ fn blocks_come_in_the_order_of_their_commits(rt: HostRuntime) -> Result<(), Fail
     Ok(())
 }
 
-// The first four blocks: the job, whether it is SERIAL, where it begins, and how many accesses it has.
-fn blocks(alloc: Global) -> Result<[Option<(u32, bool, usize, usize)>; 4], Failure> {
+fn blocks(alloc: Global) -> Result<First, Failure> {
     let mut history = Vec::new(alloc);
     first(alloc, &mut history)?;
     second(alloc, &mut history)?;
     let blocks = serial_blocks(alloc, &history)?;
-    Ok([
-        shown(&blocks, 0),
-        shown(&blocks, 1),
-        shown(&blocks, 2),
-        shown(&blocks, 3),
-    ])
+    Ok(first_four(&blocks))
+}
+
+// The first four blocks: the job, whether it is SERIAL, where it begins, and how many accesses it has.
+pub fn first_four(blocks: &[Block]) -> First {
+    [
+        shown(blocks, 0),
+        shown(blocks, 1),
+        shown(blocks, 2),
+        shown(blocks, 3),
+    ]
 }
 
 fn shown(blocks: &[Block], at: usize) -> Option<(u32, bool, usize, usize)> {

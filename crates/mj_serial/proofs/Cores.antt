@@ -23,7 +23,7 @@ use Rattle.mj_core.specs.Runs.{IsRun, start_in}
 use Rattle.mj_serial.specs.Programs.{Log, replies_of, Program, IsSteady, AreAsked}
 use Rattle.mj_serial.specs.Rules.{Sight, Exactly, IsTold, sight_of, sight_after, sight_behind, AreTold, committed_by, clashes_at, IsRunBy}
 use Rattle.mj_serial.specs.Laws as laws
-use Rattle.mj_serial.specs.Laws.{program_in, NoneIsOpen, OpensSo}
+use Rattle.mj_serial.specs.Laws.{program_in, NoneIsOpen, OpensSo, AllMustClash}
 use Rattle.mj_serial.specs.Serial.{AsAlone, MustClash}
 use Rattle.mj_serial.proofs.Logs.{asked_more}
 use Rattle.mj_serial.proofs.Sights.{HasPlaces, Obeys, AllObeys, obeys, unshared}
@@ -159,3 +159,9 @@ clashes_must image opening h later job clash none run =
     subst (λ c. MustClash (program_in image (state_of opening whole).rows) c h job clash)
     (committed_is opening h none (happen_front opening h (clashes_at job clash ∷ later) run.happen))
     (clashes (program_in image (state_of opening whole).rows) opening.globals h later job clash (steady image (state_of opening whole).rows) (run_by image opening whole none run))
+
+-- a run's clashes, each behind the events before it
+pub all_must : (image : List Routine) (opening : Shared) (h : History) → IsRun image opening h → NoneIsOpen opening → AllMustClash image opening h
+all_must image opening h run none earlier later job clash is =
+    subst (λ x. MustClash (program_in image (state_of opening x).rows) (state_of opening earlier).globals earlier job clash) (sym is)
+    (clashes_must image opening earlier later job clash none (subst (λ x. IsRun image opening x) is run))

@@ -12,8 +12,9 @@ use Rattle.mj_sys.specs.declared.event.Event.{Event}
 use Rattle.mj_sys.specs.History.{History}
 use Rattle.mj_serial.specs.Programs.{Log}
 use Rattle.mj_serial.specs.Blocks.{Block, Stand, block_after, single, ended, done_at, stand_after, blocks_from, blocks_of, nowhere, longer, entry_of}
-use Rattle.mj_serial.specs.Shown.{Shown, shown, with_entry, shown_after, shown_single, shown_ended, shown_done, shown_from}
+use Rattle.mj_serial.specs.Shown.{Shown, shown, with_entry, shown_after, shown_single, shown_ended, shown_done, shown_from, all_from}
 use Rattle.mj_serial.proofs.Logs.{accesses_append}
+use Rattle.mj_serial.proofs.Tables.{at, at_nothing}
 
 longer_by : (b : Shown) (o : Option Entry) → record b { accesses = b.accesses ++ cons_option o [] } ≡ with_entry b o
 longer_by b None = ap (λ l. record b { accesses = l }) (append-nil b.accesses)
@@ -76,3 +77,8 @@ from_shown (e ∷ h) place w =
 -- the scan of a whole history
 pub of_shown : (h : History) → shown_from 1 (λ j. None) h ≡ map shown (blocks_of h)
 of_shown h = sym (from_shown h 1 nowhere)
+
+-- so it is where nothing is over yet, and no job has anything open
+pub of_nothing : (all done : List Shown) (table : List (Option Shown)) (h : History) → done ≡ [] → table ≡ [] → all ≡ all_from done table 1 h → all ≡ map shown (blocks_of h)
+of_nothing all done table h nothing none is =
+    is ∙ ap (λ d. d ++ shown_from 1 (at table) h) nothing ∙ ap (λ t. shown_from 1 (at t) h) none ∙ ap (λ w. shown_from 1 w h) (fun_ext at_nothing) ∙ of_shown h

@@ -1,8 +1,9 @@
 -- What each job has open, by its number, in a list.
-use Rattle.std.proofs.Common.{◌≡◌, ℕ, zero, suc, ◌<◌, Bool, true, false, List, [], ◌∷◌, ◌++◌, length, set, get_or, set-set, Option, Some, None, refl, ap, sym, ◌∙◌, append_assoc, eqb-true, eq-eqb}
+use Rattle.std.proofs.Common.{◌≡◌, ℕ, zero, suc, ◌+◌, ◌<◌, Bool, true, false, List, [], ◌∷◌, ◌++◌, length, set, get_or, drop, set-set, Option, Some, None, refl, ap, sym, ◌∙◌, append_assoc, eqb-true, eq-eqb, arith}
 use Rattle.std.proofs.Math.Path.{fun_ext}
 use Rattle.std.proofs.lemmas.List.{get_or-set_same, get_or-set_other}
-use Rattle.std.specs.Prelude.{◌==◌, if◌then◌else◌}
+use Rattle.std.specs.Prelude.{◌==◌, if◌then◌else◌, slice_get}
+use Rattle.std.proofs.lemmas.Option.{same_Some}
 use Rattle.std.specs.List.{cons_option}
 use Rattle.mj_sys.specs.declared.event.Event.{Event}
 use Rattle.mj_sys.specs.History.{History}
@@ -55,3 +56,22 @@ one_event place h e wide old new job stood after block done last same j lt s a b
     ∙ ended_first done block (shown_from (suc place) (at new) h)
     ∙ ap (λ o. done ++ cons_option o (shown_from (suc place) (at new) h)) (b ∙ ap (λ o. shown_done e.job place o e.ask e.reply) there)
     ∙ ap (λ w. done ++ cons_option (shown_done e.job place (at old e.job) e.ask e.reply) (shown_from (suc place) w h)) now
+
+drop_at : (h : History) (place : ℕ) (e : Event) → slice_get h place ≡ Some e → drop place h ≡ e ∷ drop (suc place) h
+drop_at [] place e is = cc
+drop_at (x ∷ h) zero e is = ap (λ y. y ∷ h) (same_Some x e is)
+drop_at (x ∷ h) (suc place) e is = drop_at h place e is
+
+-- an event of a history is scanned, of which the rest is left then
+pub scanned_on : (h : History) (place : ℕ) (e : Event) (table new : Table) (done last all : List Shown) → slice_get h place ≡ Some e
+    → done ++ shown_from (place + 1) (at table) (drop place h) ≡ all
+    → ((k : History) → last ++ shown_from (suc (place + 1)) (at new) k ≡ done ++ shown_from (place + 1) (at table) (e ∷ k))
+    → last ++ shown_from (place + 1 + 1) (at new) (drop (place + 1) h) ≡ all
+scanned_on h place e table new done last all there before look =
+    let more : suc place ≡ place + 1 = omega arith in
+    let further : place + 1 + 1 ≡ suc (place + 1) = omega arith in
+    let here : drop place h ≡ e ∷ drop (place + 1) h = drop_at h place e there ∙ ap (λ k. e ∷ drop k h) more in
+    ap (λ k. last ++ shown_from k (at new) (drop (place + 1) h)) further
+    ∙ look (drop (place + 1) h)
+    ∙ ap (λ l. done ++ shown_from (place + 1) (at table) l) (sym here)
+    ∙ before

@@ -28,12 +28,16 @@ NoneIsOpen s = s.transactions ≡ replicate (length s.rows) None
 abbrev pub OpensSo : Type 0
 OpensSo = (globals : Content) (shelves : List Shelf) (starts : List Started) → NoneIsOpen (opening_of globals shelves starts)
 
--- Every run is as its blocks run alone: for all routines, all openings and all histories. The programs are those of the rows that the history leaves,
--- each of which has the start that it began with
+-- A history is as its blocks run alone. The programs are those of the rows that it leaves, each of which has the start that it began with
+abbrev pub IsAsAlone : List Routine → Shared → History → Type 0
+IsAsAlone image opening history =
+    AsAlone (program_in image (state_of opening history).rows) opening.globals (state_of opening history).globals history
+
+-- Every run is as its blocks run alone: for all routines, all openings and all histories
 abbrev pub IsSerial : Type 0
 IsSerial =
     (image : List Routine) (opening : Shared) (history : History) → NoneIsOpen opening → IsRun image opening history
-    → AsAlone (program_in image (state_of opening history).rows) opening.globals (state_of opening history).globals history
+    → IsAsAlone image opening history
 
 -- In every run, a commit clashes only where it must
 abbrev pub ClashesMust : Type 0
@@ -41,3 +45,9 @@ ClashesMust =
     (image : List Routine) (opening : Shared) (history later : History) (job : ℕ) (clash : Clash) → NoneIsOpen opening
     → IsRun image opening (history ++ clashes_at job clash ∷ later)
     → MustClash (program_in image (state_of opening (history ++ clashes_at job clash ∷ later)).rows) (state_of opening history).globals history job clash
+
+-- each commit of a history that clashes, behind the events before it, has to
+abbrev pub AllMustClash : List Routine → Shared → History → Type 0
+AllMustClash image opening history =
+    (earlier later : History) (job : ℕ) (clash : Clash) → history ≡ earlier ++ clashes_at job clash ∷ later
+    → MustClash (program_in image (state_of opening history).rows) (state_of opening earlier).globals earlier job clash

@@ -6,15 +6,16 @@
 // what a SERIAL commit is told, this system's among them (`Exactly`), so that wrong ones can be refuted.
 //
 // `specs/Laws.antt` has the laws of every run of many jobs (`IsSerial`, `ClashesMust`). The functions of `laws` have nothing to do: their contracts
-// are the laws. `serial_blocks` gives the blocks of a history. `proofs/Examples.antt` has a transfer, a write skew and a phantom.
+// are the laws. `serial_blocks` gives the blocks of a history, and `blocks` those of a core's, of which its contract has both laws. `proofs/Examples.antt`
+// has a transfer, a write skew and a phantom.
 #![tactic(auto)]
 
-mod blocks;
 mod entries;
 mod laws;
+mod scanning;
 
-pub use blocks::{Block, serial_blocks};
 pub use laws::{
     after_all_writes_is_late, clashes_must, names_are_not_enough, none_is_open, of_all_programs,
     serial,
 };
+pub use scanning::{Block, blocks, serial_blocks};

@@ -1,4 +1,5 @@
 use Rattle.std.proofs.Common.{◌≡◌, ◌*◌, ◌++◌, ◌∷◌, [], List, subst, sym, ap, ◌∙◌, arith}
+use Rattle.mj_text.specs.declared.text.TheConstants.{TEXT_LIMIT}
 use Rattle.mj_open.specs.declared.devices.Other.{Other}
 use Rattle.mj_open.specs.Opened.{IsWithin, AreWithin}
 use Rattle.mj_open.proofs.Known.{within_more}
@@ -9,9 +10,9 @@ invariant_of-self-2 c =
     let s = c.self.inside in
     let o : Other = record { name = c.args.name; spot = c.new-spot.result } in
     let is : c.push_reserved.new.self.items ≡ s.others.items ++ o ∷ [] = c.push_reserved.ensures.items ∙ ap (λ (l : List Other). l ++ o ∷ []) c.reserve.ensures.items in
-    let none : IsWithin (32767 * s.writes) o.spot = subst (IsWithin (32767 * s.writes)) (sym c.new-spot.ensures) (omega arith, omega arith) in
+    let none : IsWithin (TEXT_LIMIT * s.writes) o.spot = subst (IsWithin (TEXT_LIMIT * s.writes)) (sym c.new-spot.ensures) (omega arith, omega arith) in
     record {
       first = c.self.invariant.first;
-      rest = subst (AreWithin (32767 * s.writes)) (sym is) (within_more (32767 * s.writes) s.others.items o none c.self.invariant.rest);
+      rest = subst (AreWithin (TEXT_LIMIT * s.writes)) (sym is) (within_more (TEXT_LIMIT * s.writes) s.others.items o none c.self.invariant.rest);
       beside = c.self.invariant.beside;
     }

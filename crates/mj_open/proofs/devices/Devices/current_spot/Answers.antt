@@ -1,5 +1,6 @@
 use Rattle.std.proofs.Common.{◌≡◌, ◌*◌, Some, None, sym, ap, ◌∙◌, subst}
 use Rattle.std.specs.List.{position}
+use Rattle.mj_text.specs.declared.text.TheConstants.{TEXT_LIMIT}
 use Rattle.mj_open.specs.declared.devices.Other.{Other}
 use Rattle.mj_open.specs.Opened.{Opened, is_named, IsWithin}
 use Rattle.mj_open.proofs.Places.{found_within, within_at}
@@ -28,7 +29,7 @@ returns-in-Some-place-clause-bound c =
     let name = c.in-Some.name in
     let x = c.index.result.now in
     let found : position (is_named name) s.others.items ≡ Some c.in-Some-place.at = ap (position (is_named name)) (sym c.deref.ensures.value) ∙ sym c.place.ensures ∙ c.in-Some-place.is in
-    let here : IsWithin (32767 * s.writes) x.spot =
-    subst (λ (y : Other). IsWithin (32767 * s.writes) y.spot) (sym c.index.ensures)
-    (within_at (32767 * s.writes) s.others.items c.in-Some-place.at x (found_within name s.others.items c.in-Some-place.at x found) c.self.invariant.rest) in
-    subst (λ (q : Opened). IsWithin (32767 * q.writes) x.spot) c.self.view_is here
+    let here : IsWithin (TEXT_LIMIT * s.writes) x.spot =
+    subst (λ (y : Other). IsWithin (TEXT_LIMIT * s.writes) y.spot) (sym c.index.ensures)
+    (within_at (TEXT_LIMIT * s.writes) s.others.items c.in-Some-place.at x (found_within name s.others.items c.in-Some-place.at x found) c.self.invariant.rest) in
+    subst (λ (q : Opened). IsWithin (TEXT_LIMIT * q.writes) x.spot) c.self.view_is here

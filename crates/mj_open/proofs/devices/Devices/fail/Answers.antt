@@ -1,6 +1,7 @@
 use Rattle.std.proofs.Common.{◌≡◌, ◌*◌, true, false, Some, None, sym, ap, ◌∙◌, subst}
 use Rattle.std.specs.List.{position}
 use Rattle.std.specs.Str.{bytes_eq}
+use Rattle.mj_text.specs.declared.text.TheConstants.{TEXT_LIMIT}
 use Rattle.mj_semantics.specs.State.{OpenDevice, principal}
 use Rattle.mj_open.specs.declared.devices.Other.{Other}
 use Rattle.mj_open.specs.Opened.{other_of, is_named, IsWithin}
@@ -15,12 +16,12 @@ invariant_of-self-in-Some c =
     let name = c.args.name.now in
     let x = c.index_mut-other.result.now in
     let found : position (is_named name) os ≡ Some c.in-Some.at = ap (position (is_named name)) (sym c.deref.ensures.value) ∙ sym c.place.ensures ∙ c.in-Some.is in
-    let here : IsWithin (32767 * s.writes) x.spot =
-    subst (λ (y : Other). IsWithin (32767 * s.writes) y.spot) (sym c.index_mut-other.ensures.value)
-    (within_at (32767 * s.writes) os c.in-Some.at x (found_within name os c.in-Some.at x found) c.self.invariant.rest) in
+    let here : IsWithin (TEXT_LIMIT * s.writes) x.spot =
+    subst (λ (y : Other). IsWithin (TEXT_LIMIT * s.writes) y.spot) (sym c.index_mut-other.ensures.value)
+    (within_at (TEXT_LIMIT * s.writes) os c.in-Some.at x (found_within name os c.in-Some.at x found) c.self.invariant.rest) in
     record {
       first = c.self.invariant.first;
-      rest = within_set (32767 * s.writes) os c.in-Some.at _ here c.self.invariant.rest;
+      rest = within_set (TEXT_LIMIT * s.writes) os c.in-Some.at _ here c.self.invariant.rest;
       beside = c.self.invariant.beside;
     }
 

@@ -1,5 +1,6 @@
 use Rattle.std.proofs.Common.{◌≡◌, ◌*◌, true, Some, None, sym, ap, ◌∙◌, subst}
 use Rattle.std.specs.List.{position}
+use Rattle.mj_text.specs.declared.text.TheConstants.{TEXT_LIMIT}
 use Rattle.mj_semantics.specs.State.{OpenDevice}
 use Rattle.mj_open.specs.declared.devices.Other.{Other}
 use Rattle.mj_open.specs.Opened.{other_of, is_named, IsWithin}
@@ -13,11 +14,11 @@ invariant_of-self-in-Some-place c =
     let x = c.index_mut-other.result.now in
     let found : position (is_named c.in-Some.name) os ≡ Some c.in-Some-place.at =
     ap (position (is_named c.in-Some.name)) (sym c.deref.ensures.value) ∙ sym c.place.ensures ∙ c.in-Some-place.is in
-    let here : IsWithin (32767 * s.writes) x.spot =
-    subst (λ (y : Other). IsWithin (32767 * s.writes) y.spot) (sym c.index_mut-other.ensures.value) (within_at (32767 * s.writes) os c.in-Some-place.at x (found_within c.in-Some.name os c.in-Some-place.at x found) c.self.invariant.rest) in
+    let here : IsWithin (TEXT_LIMIT * s.writes) x.spot =
+    subst (λ (y : Other). IsWithin (TEXT_LIMIT * s.writes) y.spot) (sym c.index_mut-other.ensures.value) (within_at (TEXT_LIMIT * s.writes) os c.in-Some-place.at x (found_within c.in-Some.name os c.in-Some-place.at x found) c.self.invariant.rest) in
     record {
       first = c.self.invariant.first;
-      rest = within_set (32767 * s.writes) os c.in-Some-place.at _ here c.self.invariant.rest;
+      rest = within_set (TEXT_LIMIT * s.writes) os c.in-Some-place.at _ here c.self.invariant.rest;
       beside = c.self.invariant.beside;
     }
 

@@ -2,6 +2,7 @@ use Rattle.std.proofs.Common.{◌≡◌, ◌*◌, not, rules, subst, sym, ◌∙
 use Rattle.std.specs.List.{filter}
 use Rattle.std.specs.Str.{bytes_eq}
 use Rattle.std.proofs.lemmas.Fn.{filter_same}
+use Rattle.mj_text.specs.declared.text.TheConstants.{TEXT_LIMIT}
 use Rattle.mj_open.specs.declared.devices.Other.{Other}
 use Rattle.mj_open.specs.Opened.{AreWithin}
 use Rattle.mj_open.proofs.Known.{within_less, removed}
@@ -14,7 +15,7 @@ invariant_of-self c =
     let is : c.retain.new.self.items ≡ filter test s.others.items = filter_same _ test _ (λ x r f' k. search rules) _ _ c.retain.ensures.filtered in
     record {
       first = c.self.invariant.first;
-      rest = subst (AreWithin (32767 * s.writes)) (sym is) (within_less (32767 * s.writes) test s.others.items c.self.invariant.rest);
+      rest = subst (AreWithin (TEXT_LIMIT * s.writes)) (sym is) (within_less (TEXT_LIMIT * s.writes) test s.others.items c.self.invariant.rest);
       beside = c.self.invariant.beside;
     }
 

@@ -1,5 +1,6 @@
 use Rattle.std.proofs.Common.{◌≡◌, ◌+◌, ◌*◌, ◌≤◌, Some, None, sym, ap, ◌∙◌, subst, arith}
 use Rattle.std.specs.List.{position}
+use Rattle.mj_text.specs.declared.text.TheConstants.{TEXT_LIMIT}
 use Rattle.mj_semantics.specs.State.{OpenDevice, moved}
 use Rattle.mj_open.specs.declared.devices.Other.{Other}
 use Rattle.mj_open.specs.Opened.{Opened, device_of, other_of, is_named, IsWithin}
@@ -11,10 +12,10 @@ invariant_of-self c =
     let s = c.self.inside in
     let i = c.self.invariant in
     let b = c.go.ensures.bound in
-    let le : 32767 * s.writes ≤ 32767 * (s.writes + 1) = omega arith in
+    let le : TEXT_LIMIT * s.writes ≤ TEXT_LIMIT * (s.writes + 1) = omega arith in
     record {
       first = (omega (arith, i.first.0, b.0, c.requires.short), omega (arith, i.first.1, b.1, c.requires.short));
-      rest = wider (32767 * s.writes) (32767 * (s.writes + 1)) s.others.items le i.rest;
+      rest = wider (TEXT_LIMIT * s.writes) (TEXT_LIMIT * (s.writes + 1)) s.others.items le i.rest;
       beside = i.beside;
     }
 
@@ -25,8 +26,8 @@ go-requires-in-Some-place-clause-column c =
     let x = c.index_mut-other.result.now in
     let found : position (is_named c.in-Some.name) os ≡ Some c.in-Some-place.at =
     ap (position (is_named c.in-Some.name)) (sym c.deref.ensures.value) ∙ sym c.place.ensures ∙ c.in-Some-place.is in
-    let here : IsWithin (32767 * s.writes) x.spot =
-    subst (λ (y : Other). IsWithin (32767 * s.writes) y.spot) (sym c.index_mut-other.ensures.value) (within_at (32767 * s.writes) os c.in-Some-place.at x (found_within c.in-Some.name os c.in-Some-place.at x found) c.self.invariant.rest) in
+    let here : IsWithin (TEXT_LIMIT * s.writes) x.spot =
+    subst (λ (y : Other). IsWithin (TEXT_LIMIT * s.writes) y.spot) (sym c.index_mut-other.ensures.value) (within_at (TEXT_LIMIT * s.writes) os c.in-Some-place.at x (found_within c.in-Some.name os c.in-Some-place.at x found) c.self.invariant.rest) in
     omega (arith, here.0, c.requires.short, c.requires.more, ap (λ (o : Opened). o.writes) c.self.view_is)
 
 pub go-requires-in-Some-place-clause-row : goal.go-requires-in-Some-place-clause-row
@@ -36,8 +37,8 @@ go-requires-in-Some-place-clause-row c =
     let x = c.index_mut-other.result.now in
     let found : position (is_named c.in-Some.name) os ≡ Some c.in-Some-place.at =
     ap (position (is_named c.in-Some.name)) (sym c.deref.ensures.value) ∙ sym c.place.ensures ∙ c.in-Some-place.is in
-    let here : IsWithin (32767 * s.writes) x.spot =
-    subst (λ (y : Other). IsWithin (32767 * s.writes) y.spot) (sym c.index_mut-other.ensures.value) (within_at (32767 * s.writes) os c.in-Some-place.at x (found_within c.in-Some.name os c.in-Some-place.at x found) c.self.invariant.rest) in
+    let here : IsWithin (TEXT_LIMIT * s.writes) x.spot =
+    subst (λ (y : Other). IsWithin (TEXT_LIMIT * s.writes) y.spot) (sym c.index_mut-other.ensures.value) (within_at (TEXT_LIMIT * s.writes) os c.in-Some-place.at x (found_within c.in-Some.name os c.in-Some-place.at x found) c.self.invariant.rest) in
     omega (arith, here.1, c.requires.short, c.requires.more, ap (λ (o : Opened). o.writes) c.self.view_is)
 
 pub invariant_of-self-in-Some-place : goal.invariant_of-self-in-Some-place
@@ -47,15 +48,15 @@ invariant_of-self-in-Some-place c =
     let os = s.others.items in
     let x = c.index_mut-other.result.now in
     let b = c.go-in-Some-place.ensures.bound in
-    let le : 32767 * s.writes ≤ 32767 * (s.writes + 1) = omega arith in
+    let le : TEXT_LIMIT * s.writes ≤ TEXT_LIMIT * (s.writes + 1) = omega arith in
     let found : position (is_named c.in-Some.name) os ≡ Some c.in-Some-place.at =
     ap (position (is_named c.in-Some.name)) (sym c.deref.ensures.value) ∙ sym c.place.ensures ∙ c.in-Some-place.is in
-    let here : IsWithin (32767 * s.writes) x.spot =
-    subst (λ (y : Other). IsWithin (32767 * s.writes) y.spot) (sym c.index_mut-other.ensures.value) (within_at (32767 * s.writes) os c.in-Some-place.at x (found_within c.in-Some.name os c.in-Some-place.at x found) i.rest) in
+    let here : IsWithin (TEXT_LIMIT * s.writes) x.spot =
+    subst (λ (y : Other). IsWithin (TEXT_LIMIT * s.writes) y.spot) (sym c.index_mut-other.ensures.value) (within_at (TEXT_LIMIT * s.writes) os c.in-Some-place.at x (found_within c.in-Some.name os c.in-Some-place.at x found) i.rest) in
     record {
       first = (omega (arith, i.first.0), omega (arith, i.first.1));
-      rest = within_set (32767 * (s.writes + 1)) os c.in-Some-place.at _ (omega (arith, here.0, b.0, c.requires.short), omega (arith, here.1, b.1, c.requires.short))
-          (wider (32767 * s.writes) (32767 * (s.writes + 1)) os le i.rest);
+      rest = within_set (TEXT_LIMIT * (s.writes + 1)) os c.in-Some-place.at _ (omega (arith, here.0, b.0, c.requires.short), omega (arith, here.1, b.1, c.requires.short))
+          (wider (TEXT_LIMIT * s.writes) (TEXT_LIMIT * (s.writes + 1)) os le i.rest);
       beside = i.beside;
     }
 
@@ -63,10 +64,10 @@ pub invariant_of-self-in_default : goal.invariant_of-self-in_default
 invariant_of-self-in_default c =
     let s = c.self.inside in
     let i = c.self.invariant in
-    let le : 32767 * s.writes ≤ 32767 * (s.writes + 1) = omega arith in
+    let le : TEXT_LIMIT * s.writes ≤ TEXT_LIMIT * (s.writes + 1) = omega arith in
     record {
       first = (omega (arith, i.first.0), omega (arith, i.first.1));
-      rest = wider (32767 * s.writes) (32767 * (s.writes + 1)) s.others.items le i.rest;
+      rest = wider (TEXT_LIMIT * s.writes) (TEXT_LIMIT * (s.writes + 1)) s.others.items le i.rest;
       beside = i.beside;
     }
 

@@ -1,7 +1,7 @@
 use Rattle.std.proofs.Common.{◌≡◌, ◌+◌, ◌++◌, drop}
 use Rattle.mj_serial.specs.Shown.{shown_from}
 use Rattle.mj_serial.proofs.Tables.{at}
-use Rattle.mj_serial.proofs.blocks.scan.Given as goal
+use Rattle.mj_serial.proofs.scanning.scan.Given as goal
 
 abbrev pub invariant-loop-place : goal.invariant-loop-place
 invariant-loop-place l =

@@ -1,13 +1,18 @@
 // The blocks of a history.
 
 ghost use Rattle.std.specs.Prelude.{◌≡◌, ◌<◌, ◌∷◌, ℕ, suc, map, Some, None, length, slice_index_or, slice_set, IfOk, OnOk};
+ghost use Rattle.mj_load.specs.Image.{routines_of};
 ghost use Rattle.mj_sys.specs.History.{History};
+ghost use Rattle.mj_core.specs.Runs.{IsRun};
 ghost use Rattle.mj_serial.specs.Blocks.{blocks_of, entry_of};
+ghost use Rattle.mj_serial.specs.Laws.{NoneIsOpen, IsAsAlone, AllMustClash};
 ghost use Rattle.mj_serial.specs.Shown.{Shown, shown, shown_after, shown_done, with_entry, shown_single, all_from};
 
 use crate::entries::entry_of;
 use mj_ask::{Ask, Kind, Reply};
-use mj_sys::Event;
+use mj_core::Core;
+use mj_dev::Device;
+use mj_sys::{Event, Opening};
 use mj_txlog::Entry;
 use std::alloc::{AllocError, Global};
 use std::marker::Model;
@@ -53,6 +58,30 @@ pub fn serial_blocks(alloc: Global, history: &[Event]) -> Result<Vec<Block>, All
     }
 }
 
+/// The blocks of what the jobs of a core asked and were told, as `serial_blocks` gives them. It copies accesses with their answers, and the names of
+/// unlocks, and nothing else. What the jobs did is as these blocks run alone, and each commit that clashed had to, where no transaction is open at
+/// the opening.
+pub fn blocks<D: Device, O: Opening>(
+    alloc: Global,
+    core: &Core<D, O>,
+) -> Result<Vec<Block>, AllocError>
+    ensures which { IfOk result (λ blocks. blocks.items ≡ map shown (blocks_of core.now.history)) }
+    ensures serial { NoneIsOpen O.opening → IsAsAlone (routines_of core.now.image) O.opening core.now.history }
+    ensures clashes { NoneIsOpen O.opening → AllMustClash (routines_of core.now.image) O.opening core.now.history }
+{
+    let mut table = Vec::new(alloc);
+    let mut done = Vec::new(alloc);
+    let scanned = scan_core(alloc, &mut table, &mut done, core);
+    drop(table);
+    match scanned {
+        Ok(()) => Ok(done),
+        Err(refused) => {
+            drop(done);
+            Err(refused)
+        }
+    }
+}
+
 // The scan: what each job has open, by its number, and the blocks that are over.
 fn scan(
     alloc: Global,
@@ -63,7 +92,34 @@ fn scan(
     ensures { OnOk result (done.new.items ≡ all_from done.old.items table.old.items 1 history.now) }
 {
     for (place, event) in history.iter().enumerate() {
-        look(alloc, table, done, place + 1, event)?;
+        look(
+            alloc,
+            table,
+            done,
+            place + 1,
+            event.job,
+            &event.ask,
+            &event.reply,
+        )?;
+    }
+    Ok(())
+}
+
+// The same scan of a core's history.
+fn scan_core<D: Device, O: Opening>(
+    alloc: Global,
+    table: &mut Vec<Option<Block>>,
+    done: &mut Vec<Block>,
+    core: &Core<D, O>,
+) -> Result<(), AllocError>
+    ensures which { OnOk result (done.new.items ≡ all_from done.old.items table.old.items 1 core.now.history) }
+    ensures run { IsRun (routines_of core.now.image) O.opening core.now.history }
+{
+    'events: for place in 0..core.len() {
+        let Some((job, ask, reply)) = core.event(place) else {
+            unreachable!();
+        };
+        look(alloc, table, done, place + 1, job, ask, reply)?;
     }
     Ok(())
 }
@@ -74,15 +130,18 @@ fn look(
     table: &mut Vec<Option<Block>>,
     done: &mut Vec<Block>,
     place: usize,
-    event: &Event,
+    job: u32,
+    ask: &Ask,
+    reply: &Reply,
 ) -> Result<(), AllocError>
-    ensures { OnOk result ((h : History) → all_from done.new.items table.new.items (suc place) h ≡ all_from done.old.items table.old.items place (event.now ∷ h)) }
+    ensures { OnOk result ((h : History) → all_from done.new.items table.new.items (suc place) h
+        ≡ all_from done.old.items table.old.items place (record { job = job; ask = ask.now; reply = reply.now } ∷ h)) }
 {
-    let job = event.job as usize;
-    widen(table, job)?;
-    let stood = take_out(table, job);
-    let (after, block) = step(alloc, stood, place, event)?;
-    put_back(table, job, after);
+    let row = job as usize;
+    widen(table, row)?;
+    let stood = take_out(table, row);
+    let (after, block) = step(alloc, stood, place, job, ask, reply)?;
+    put_back(table, row, after);
     match block {
         None => Ok(()),
         Some(block) => {
@@ -125,14 +184,16 @@ fn step(
     alloc: Global,
     stood: Option<Block>,
     place: usize,
-    event: &Event,
+    job: u32,
+    ask: &Ask,
+    reply: &Reply,
 ) -> Result<(Option<Block>, Option<Block>), AllocError>
-    ensures after { IfOk result (λ r. r.0 ≡ shown_after event.now.job place stood event.now.ask event.now.reply) }
-    ensures done { IfOk result (λ r. r.1 ≡ shown_done event.now.job place stood event.now.ask event.now.reply) }
+    ensures after { IfOk result (λ r. r.0 ≡ shown_after job place stood ask.now reply.now) }
+    ensures done { IfOk result (λ r. r.1 ≡ shown_done job place stood ask.now reply.now) }
 {
     match stood {
-        None => outside(alloc, place, event),
-        Some(block) => within(alloc, block, event),
+        None => outside(alloc, place, job, ask, reply),
+        Some(block) => within(alloc, block, ask, reply),
     }
 }
 
@@ -140,15 +201,17 @@ fn step(
 fn outside(
     alloc: Global,
     place: usize,
-    event: &Event,
+    job: u32,
+    ask: &Ask,
+    reply: &Reply,
 ) -> Result<(Option<Block>, Option<Block>), AllocError>
-    ensures after { IfOk result (λ r. r.0 ≡ shown_after event.now.job place None event.now.ask event.now.reply) }
-    ensures done { IfOk result (λ r. r.1 ≡ shown_done event.now.job place None event.now.ask event.now.reply) }
+    ensures after { IfOk result (λ r. r.0 ≡ shown_after job place None ask.now reply.now) }
+    ensures done { IfOk result (λ r. r.1 ≡ shown_done job place None ask.now reply.now) }
 {
-    match &event.ask {
+    match ask {
         Ask::Begin(kind) => {
             let block = Block {
-                job: event.job,
+                job,
                 serial: *kind == Kind::Serial,
                 place,
                 accesses: Vec::new(alloc),
@@ -156,8 +219,8 @@ fn outside(
             Ok((Some(block), None))
         }
         Ask::Access(_) => {
-            let entry = entry_of(alloc, &event.ask, &event.reply)?;
-            Ok((None, single(alloc, event.job, place, entry)?))
+            let entry = entry_of(alloc, ask, reply)?;
+            Ok((None, single(alloc, job, place, entry)?))
         }
         _ => Ok((None, None)),
     }
@@ -191,13 +254,14 @@ fn single(
 fn within(
     alloc: Global,
     block: Block,
-    event: &Event,
+    ask: &Ask,
+    reply: &Reply,
 ) -> Result<(Option<Block>, Option<Block>), AllocError>
-    ensures after { (place : ℕ) → IfOk result (λ r. r.0 ≡ shown_after event.now.job place (Some block) event.now.ask event.now.reply) }
-    ensures done { (place : ℕ) → IfOk result (λ r. r.1 ≡ shown_done event.now.job place (Some block) event.now.ask event.now.reply) }
+    ensures after { (job place : ℕ) → IfOk result (λ r. r.0 ≡ shown_after job place (Some block) ask.now reply.now) }
+    ensures done { (job place : ℕ) → IfOk result (λ r. r.1 ≡ shown_done job place (Some block) ask.now reply.now) }
 {
-    match &event.ask {
-        Ask::Commit => match &event.reply {
+    match ask {
+        Ask::Commit => match reply {
             Reply::Done => Ok((None, Some(block))),
             _ => {
                 drop(block);
@@ -208,7 +272,7 @@ fn within(
             drop(block);
             Ok((None, None))
         }
-        _ => longer(alloc, block, event),
+        _ => longer(alloc, block, ask, reply),
     }
 }
 
@@ -216,11 +280,12 @@ fn within(
 fn longer(
     alloc: Global,
     mut block: Block,
-    event: &Event,
+    ask: &Ask,
+    reply: &Reply,
 ) -> Result<(Option<Block>, Option<Block>), AllocError>
-    ensures { IfOk result (λ r. r ≡ (Some (with_entry block (entry_of event.now.ask event.now.reply)), None)) }
+    ensures { IfOk result (λ r. r ≡ (Some (with_entry block (entry_of ask.now reply.now)), None)) }
 {
-    match entry_of(alloc, &event.ask, &event.reply) {
+    match entry_of(alloc, ask, reply) {
         Ok(None) => Ok((Some(block), None)),
         Ok(Some(entry)) => {
             block.accesses.push(entry)?;

@@ -1,5 +1,5 @@
 use Rattle.std.proofs.Common.{◌≡◌, ℕ, ◌+◌, ◌-◌, None, vec_len, slice_index_or}
-use Rattle.mj_serial.proofs.blocks.widen.Given as goal
+use Rattle.mj_serial.proofs.scanning.widen.Given as goal
 
 abbrev pub invariant-loop-table : goal.invariant-loop-table
 invariant-loop-table l = (j : ℕ) → slice_index_or l.table.items j None ≡ slice_index_or l.fn.table.items j None

@@ -1,0 +1,53 @@
+-- That the answers of a job's `advance` exclude each other.
+use Rattle.std.specs.Prelude.{◌≡◌, ℕ, ◌+◌, ◌<◌, List, ◌∷◌, ◌++◌, Some, ⊤}
+use Rattle.mj_ask.specs.declared.ask.Ask.{Ask}
+use Rattle.mj_ask.specs.declared.ask.Reply.{Reply}
+use Rattle.mj_ast.specs.Syntax.{Routine}
+use Rattle.mj_semantics.specs.State.{places}
+use Rattle.mj_semantics.specs.Outcome.{More}
+use Rattle.mj_semantics.specs.Job.{Start, next}
+use Rattle.mj_load.specs.Image.{Loaded, routines_of}
+use Rattle.mj_jobvm.specs.declared.job.Turn.{Turn}
+use Rattle.mj_jobvm.specs.declared.job.Turn.TheVariants.{Asks, Ran, Ended}
+use Rattle.mj_jobvm.specs.Run.{Log, Run, replies_of, TurnsBefore, IsTrace}
+use Rattle.mj_jobvm.specs.Jobs.{Running, IsRunOf}
+use Rattle.mj_jobvm.specs.Told.{Told}
+
+-- the run over a log asks, or is over, only with more turns than those before its last reply and so many behind it
+abbrev pub IsLater : List Routine → Start → Log → ℕ → Type 0
+IsLater routines start log turns = (before n : ℕ) → TurnsBefore routines start log before → (next routines start n (replies_of log) ≡ More → ⊥) → before + turns < n
+
+-- What one call tells of a job leaves this to what another tells of one with the same log: where both ask, it is the same ask, with the same locals
+-- and the same places beside it; neither asks where the other has ended; and where one ran, the run asks or is over only later.
+abbrev pub Agree : List Routine → Start → Turn → Run → Turn → Run → Type 0
+Agree routines start Asks one Asks other = (one.pending ≡ other.pending) × (one.at.state.locals ≡ other.at.state.locals) × (places one.at.state ≡ places other.at.state)
+Agree routines start Asks one Ended other = ⊥
+Agree routines start Asks one Ran other = IsLater routines start other.log other.spent
+Agree routines start Ended one Asks other = ⊥
+Agree routines start Ended one Ended other = ⊤
+Agree routines start Ended one Ran other = IsLater routines start other.log other.spent
+Agree routines start Ran one _ other = IsLater routines start one.log one.spent
+
+-- what is told of two jobs with one log agrees, be they one job at two calls
+abbrev pub AnswersAgree : Type 0
+AnswersAgree =
+    (routines : List Routine) (start : Start) (first second : Turn) (one other : Run) → one.log ≡ other.log
+    → Told routines start first one → Told routines start second other → Agree routines start first one second other
+
+-- what a job shows that it asks, an answer tells: so it shows the one ask that is told with its log, and none where it has ended
+abbrev pub AsksAreTold : Type 0
+AsksAreTold =
+    (image : Loaded) (start : Start) (job : Running) (a : Ask) → IsRunOf image start job → job.run.pending ≡ Some a
+    → Told (routines_of image) start Asks job.run
+
+-- how a log goes on of whose job this was told: with its ask, or not at all
+abbrev pub Leads : Turn → Run → Ask → Type 0
+Leads Asks job a = job.pending ≡ Some a
+Leads Ended job a = ⊥
+Leads Ran job a = ⊤
+
+-- so the log of a job goes on in every trace, as a call tells of it
+abbrev pub LogsFollow : Type 0
+LogsFollow =
+    (routines : List Routine) (start : Start) (turn : Turn) (job : Run) (a : Ask) (reply : Reply) (later : Log) → Told routines start turn job
+    → IsTrace routines start (job.log ++ (a, reply) ∷ later) → Leads turn job a
