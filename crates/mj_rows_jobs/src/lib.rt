@@ -4,6 +4,8 @@
 #[cfg(test)]
 mod clashes;
 #[cfg(test)]
+mod limits;
+#[cfg(test)]
 mod many;
 #[cfg(test)]
 mod replays;

@@ -150,6 +150,43 @@ fn names_are_locked_at_once_and_given_up_at_the_commit(rt: HostRuntime) -> Resul
     Ok(())
 }
 
+// The access behind 65,536 is told that a limit is passed, whatever it is, and so is each behind it. The transaction stays open: what it holds is made by
+// its commit, and nothing else.
+#[test]
+fn a_transaction_has_65536_accesses(rt: HostRuntime) -> Result<(), Fail> {
+    let mut lines: Vec<&str> = Vec::new(rt.alloc());
+    for line in [
+        "1 begin serial done",
+        "1 unlock ^C done",
+        "1 set ^A \"1\" done",
+        "1 data ^Q 0",
+    ] {
+        lines.push(line)?;
+    }
+    for _ in 3..65_535 {
+        lines.push("1 value ^A \"1\"")?;
+    }
+    for line in [
+        "1 set ^A \"2\" done",
+        "1 value ^A limit",
+        "1 data ^A limit",
+        "1 order ^A(\"\") 1 limit",
+        "1 set ^B \"1\" limit",
+        "1 kill ^A limit",
+        "1 unlock ^C limit",
+        "1 unlock * limit",
+        "2 value ^A -",
+        "1 commit done",
+        "2 value ^A \"2\"",
+        "2 value ^B -",
+        "1 value ^A \"2\"",
+    ] {
+        lines.push(line)?;
+    }
+    assert!(rt; tells(&rt, &lines)?);
+    Ok(())
+}
+
 // Whether what two jobs ask makes these lines.
 fn tells(rt: &HostRuntime, lines: &[&str]) -> Result<bool, Failure> {
     let alloc = rt.alloc();
