@@ -84,7 +84,7 @@ module _ {K : Type 0} (Q : K → K → Ordering) (o : IsTotalOrder Q) (same : Is
   self_not x = ap is_lt (tied_itself o x)
 
   -- what isn't before one, isn't before what stands before or at that
-  not_before : (x y u : K) → is_lt (Q y x) ≡ false → is_lt (Q u y) ≡ false → is_lt (Q u x) ≡ false
+  pub not_before : (x y u : K) → is_lt (Q y x) ≡ false → is_lt (Q u y) ≡ false → is_lt (Q u x) ≡ false
   not_before x y u p q =
       elim (lt_not y x p) [
         | inl e ↦ subst (λ z. is_lt (Q u z) ≡ false) e q

@@ -9,3 +9,4 @@ pub mod Stands
 pub mod Walks
 pub mod Kept
 pub mod Nexts
+pub mod Passing

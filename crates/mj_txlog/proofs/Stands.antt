@@ -121,11 +121,11 @@ level_stands (x ∷ c) f t =
     by (Some (s ∷ l)) h =
         elim (eq_by_cmp subscript_cmp t s) as (λ b. (b || among subscript_cmp (first_subscripts (subtree_at c f)) t) ≡ not (is_empty (nodes_with (cond b (Some l) None) x.1 (subtree_at c (followed_by f (t ∷ [])))))) [ true ↦ refl | false ↦ h ]
 
-last_is : (t s : List ℕ) (q : List (List ℕ)) → last_of t (q ++ s ∷ []) ≡ s
+pub last_is : (t s : List ℕ) (q : List (List ℕ)) → last_of t (q ++ s ∷ []) ≡ s
 last_is t s [] = refl
 last_is t s (u ∷ q) = last_is u s q
 
-but_last_is : (t s : List ℕ) (q : List (List ℕ)) → but_last t (q ++ s ∷ []) ≡ t ∷ q
+pub but_last_is : (t s : List ℕ) (q : List (List ℕ)) → but_last t (q ++ s ∷ []) ≡ t ∷ q
 but_last_is t s [] = refl
 but_last_is t s (u ∷ q) = ap (λ (p : List (List ℕ)). t ∷ p) (but_last_is u s q)
 
