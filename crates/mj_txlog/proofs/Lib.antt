@@ -10,3 +10,4 @@ pub mod Walks
 pub mod Kept
 pub mod Nexts
 pub mod Passing
+pub mod Bare

@@ -27,7 +27,7 @@ last_list [] s = refl
 last_list (t ∷ q) s = last_is t s q
 
 -- what stands at it is said of its front
-run_bare : (g gone runs : Content) → AreSkips g gone runs → (f : Name) (c d : List ℕ) → value_at runs (followed_by f (c ∷ [])) ≡ Some d → AreBare g gone f c d
+pub run_bare : (g gone runs : Content) → AreSkips g gone runs → (f : Name) (c d : List ℕ) → value_at runs (followed_by f (c ∷ [])) ≡ Some d → AreBare g gone f c d
 run_bare g gone runs skips f c d there =
     let n = followed_by f (c ∷ []) in
     subst (λ (s : List ℕ). AreBare g gone f s d) (last_list f.subscripts c)

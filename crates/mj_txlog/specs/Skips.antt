@@ -4,7 +4,7 @@ use Rattle.std.specs.List.{fold}
 use Rattle.std.specs.Ordering.{is_lt}
 use Rattle.mj_subs.specs.Name.{Name}
 use Rattle.mj_subs.specs.Collation.{subscript_cmp}
-use Rattle.mj_store.specs.Nodes.{last_of}
+use Rattle.mj_store.specs.Nodes.{along, last_of}
 use Rattle.mj_store.specs.Questions.{Content, with_subscripts, value_at}
 use Rattle.mj_store.specs.Changes.{followed_by}
 use Rattle.mj_store.specs.declared.store.Direction.{Direction}
@@ -12,7 +12,7 @@ use Rattle.mj_store.specs.declared.store.Direction.TheVariants as way
 use Rattle.mj_txlog.specs.declared.entry.Entry.{Entry}
 use Rattle.mj_txlog.specs.declared.entry.Entry.TheVariants as entry
 use Rattle.mj_txlog.specs.Accesses.{Accesses, front_of}
-use Rattle.mj_txlog.specs.Laid.{went, gone_after}
+use Rattle.mj_txlog.specs.Laid.{Laid, IsLaid, went, gone_after}
 
 -- the names that went, after an entry of the list
 abbrev pub gone_more : Content → Entry → Content
@@ -32,6 +32,16 @@ IsBare globals gone front u =
 abbrev pub AreBare : Content → Content → Name → List ℕ → List ℕ → Type 0
 AreBare globals gone front c d = (u : List ℕ) → is_lt (subscript_cmp u c) ≡ false → is_lt (subscript_cmp d u) ≡ false → IsBare globals gone front u
 
+-- nor of any from the one to the other in a direction
+abbrev pub AreBareAlong : Content → Content → Name → Direction → List ℕ → List ℕ → Type 0
+AreBareAlong globals gone front way a b =
+    (u : List ℕ) → is_lt (along way subscript_cmp u a) ≡ false → is_lt (along way subscript_cmp b u) ≡ false → IsBare globals gone front u
+
+-- from the one subscript to the other, which isn't before it in that direction, nothing is left
+pub record IsJump (globals : Content) (gone : Content) (front : Name) (way : Direction) (a : List ℕ) (b : List ℕ) : Type 0 where
+  pub ahead : is_lt (along way subscript_cmp b a) ≡ false
+  pub bare : AreBareAlong globals gone front way a b
+
 -- a name without its last subscript, and that
 abbrev pub front : Name → Name
 front n = with_subscripts n (front_of n.subscripts)
@@ -43,6 +53,10 @@ last (s ∷ p) = last_of s p
 -- What was passed over, as runs: at the name with a run's first subscript stands its last one. Each of them is so.
 abbrev pub AreSkips : Content → Content → Content → Type 0
 AreSkips globals gone runs = (n : Name) (d : List ℕ) → value_at runs n ≡ Some d → AreBare globals gone (front n) (last n.subscripts) d
+
+-- they are so for what went of own writes, whatever accesses made these
+abbrev pub KeepSkips : Content → Laid → Content → Type 0
+KeepSkips globals o runs = (accesses : Accesses) → IsLaid o accesses → AreSkips globals o.gone runs
 
 -- A subscript lies in a run from the one to the other.
 pub record IsRun (runs : Content) (f : Name) (u c d : List ℕ) : Type 0 where
