@@ -33,7 +33,7 @@ pub struct TxLog {
 }
 
 impl Model for TxLog {
-    ghost use Rattle.std.specs.Prelude.{◌≤◌, length};
+    ghost use Rattle.std.specs.Prelude.{◌≡◌, ◌≤◌, length};
     ghost use Rattle.mj_txlog.specs.Accesses.{Transaction};
     ghost use Rattle.mj_txlog.specs.Laid.{IsLaid};
     ghost use Rattle.mj_txlog.specs.Skips.{gone_by};
@@ -174,7 +174,7 @@ impl TxLog {
     }
 
     // Appends an entry, and makes the write that it is, if it is one.
-    #[tactic(auto, using(crate::proofs::Laid::more_laid))]
+    #[tactic(auto, using(crate::proofs::Laid::more_laid, crate::proofs::Goes::gone_laid))]
     fn push(&mut self, entry: Entry) -> Result<(), AllocError>
         requires { is_full self.old ≡ false }
         ensures appended { OnOk result (self.new ≡ with_entry self.old entry) }
