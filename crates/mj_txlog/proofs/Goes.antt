@@ -63,3 +63,7 @@ laid_gone o (entry.Unlock u) = refl
 
 pub gone_laid : (o new : Laid) (es : Accesses) (e : Entry) → o.gone ≡ gone_by es → new ≡ laid_more o e → new.gone ≡ gone_by (es ++ e ∷ [])
 gone_laid o new es e h is = ap (λ (l : Laid). l.gone) is ∙ laid_gone o e ∙ ap (λ (gone : Content). gone_more gone e) h ∙ sym (gone_next es e)
+
+-- and so do the runs
+pub laid_skips : (g runs : Content) (o new : Laid) (e : Entry) → AreSkips g o.gone runs → new ≡ laid_more o e → AreSkips g new.gone runs
+laid_skips g runs o new e h is = subst (λ (gone : Content). AreSkips g gone runs) (sym (ap (λ (l : Laid). l.gone) is ∙ laid_gone o e)) (more_skips g o.gone runs e h)

@@ -135,14 +135,7 @@ impl TxLog {
         ensures again { IfOk result (λ x. x.0.1 ≡ answer_of read.now (seen globals.now self.now.accesses)) }
         ensures kept { IfOk result (λ x. x.1 ≡ answer_of read.now (seen globals.now self.now.accesses)) }
     {
-        let answer = answer(
-            self.alloc,
-            globals,
-            &self.entries,
-            &self.own,
-            skips,
-            read,
-        )?;
+        let answer = answer(self.alloc, globals, &self.entries, &self.own, skips, read)?;
         match twice(self.alloc, &answer) {
             Ok((again, kept)) => Ok(((answer, again), kept)),
             Err(refused) => {
