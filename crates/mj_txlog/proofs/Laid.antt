@@ -57,6 +57,14 @@ set_went gone m n (suc k) =
     ∙ ap (λ b. (hits m n k || went_before gone n k) || b) (some_either (eq_by_cmp name_cmp x m) [] (find name_cmp x gone))
     ∙ or_swap (hits m n k) (went_before gone n k) (eq_by_cmp name_cmp x m) (is_some (find name_cmp x gone))
 
+second_false : (a b : Bool) → (a || b) ≡ false → b ≡ false
+second_false true b e = absurd cc
+second_false false b e = e
+
+-- what didn't go once one name more went, didn't before
+pub went_less : (gone : Content) (m n : Name) → went (after_set gone m []) n ≡ false → went gone n ≡ false
+went_less gone m n h = second_false (hits m n (suc (length n.subscripts))) (went gone n) (sym (set_went gone m n (suc (length n.subscripts))) ∙ h)
+
 none_went : (n : Name) (k : ℕ) → went_before [] n k ≡ false
 none_went n zero = refl
 none_went n (suc k) = ap (λ b. b || false) (none_went n k)
@@ -104,10 +112,10 @@ hits_all m n =
 -- ---- one access more
 
 module _ (m : Name) where
-  find_set : (c : Content) (n : Name) (v : List ℕ) → find name_cmp m (after_set c n v) ≡ cond (eq_by_cmp name_cmp m n) (Some v) (find name_cmp m c)
+  pub find_set : (c : Content) (n : Name) (v : List ℕ) → find name_cmp m (after_set c n v) ≡ cond (eq_by_cmp name_cmp m n) (Some v) (find name_cmp m c)
   find_set c n v = find-put name_cmp name_cmp_total m n v c
 
-  find_killed : (c : Content) (n : Name) → find name_cmp m (after_kill c n) ≡ cond (is_none (rest_of n m)) (find name_cmp m c) None
+  pub find_killed : (c : Content) (n : Name) → find name_cmp m (after_kill c n) ≡ cond (is_none (rest_of n m)) (find name_cmp m c) None
   find_killed c n = find-where_key name_cmp (λ k. is_none (rest_of n k)) m (λ x e. ap (λ k. is_none (rest_of n k)) (sym (name_cmp-IsAntisymmetric m x e))) c
 
   set_laid : (c over : Content) (n : Name) (v : List ℕ) (t : Option (List ℕ)) → find name_cmp m c ≡ option_or (find name_cmp m over) t → find name_cmp m (after_set c n v) ≡ option_or (find name_cmp m (after_set over n v)) t

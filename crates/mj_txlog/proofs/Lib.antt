@@ -9,3 +9,6 @@ pub mod Stands
 pub mod Walks
 pub mod Kept
 pub mod Nexts
+pub mod Passing
+pub mod Bare
+pub mod Goes
