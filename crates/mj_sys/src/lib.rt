@@ -14,9 +14,11 @@ mod accessed;
 mod claim;
 mod event;
 mod opening;
+mod passed;
 mod served;
 mod shared;
 mod system;
+mod transacted;
 mod transactions;
 
 pub use claim::Claim;

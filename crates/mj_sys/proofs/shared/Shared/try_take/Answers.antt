@@ -18,8 +18,8 @@ returns-clause-ok g c =
     let list = c.as_slice.result.now in
     let taken = c.in_ok-taken.field-0 in
     let own = c.try_take-taken.new.own in
-    let ts = i.logs.items in
-    let s : Shared = record { globals = i.globals; locks = i.locks; devices = devices_of i.principals i.pool i.holders.items; rows = i.jobs.rows; transactions = ts } in
+    let ts = i.open.transactions in
+    let s : Shared = record { globals = i.open.globals; locks = i.locks; devices = devices_of i.principals i.pool i.holders.items; rows = i.jobs.rows; transactions = ts } in
     let new : Service = record { state = record s { locks = c.try_take-taken.new.locks; transactions = c.put_back.new.logs.items }; claimed = i.jobs.claimed } in
     let left : c.put_back.new.logs.items ≡ with_transaction ts job (after_taken (transaction_of ts job) list taken) =
     c.put_back.ensures ∙ ap (λ l. with_transaction l job own) c.take_out-own.ensures.left ∙ with_twice ts job None own
