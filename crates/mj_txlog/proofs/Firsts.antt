@@ -57,13 +57,13 @@ module _ {K : Type 0} (Q : K → K → Ordering) where
   next_like has its test None e h = λ u x. h u (e u ∙ x)
   next_like has its test (Some t) e h = (sym (e t) ∙ h.0, h.1, λ u x. h.2 u (e u ∙ x))
 
-  -- what was passed over, where one is looked for that passes p among what passes q, stands in the one place and isn't to be seen
-  pub record IsPast (p q hg hs : K → Bool) : Type 0 where
+  -- what was passed over, where one is looked for that passes p among what passes q, stands in the one place, and is seen only where it is an own one
+  pub record IsPast (p q ho hg hs : K → Bool) : Type 0 where
     pub within : (u : K) → q u ≡ true → p u ≡ true
-    pub hidden : (u : K) → hg u ≡ true → p u ≡ true → (q u ≡ true) ⊎ (hs u ≡ false)
+    pub hidden : (u : K) → hg u ≡ true → p u ≡ true → (q u ≡ true) ⊎ (hs u ≡ true → ho u ≡ true)
 
-  pub none_past : (p hg hs : K → Bool) → IsPast p p hg hs
-  none_past p hg hs = record { within = λ u e. e; hidden = λ u x y. inl y }
+  pub none_past : (p ho hg hs : K → Bool) → IsPast p p ho hg hs
+  none_past p ho hg hs = record { within = λ u e. e; hidden = λ u x y. inl y }
 
 module _ {K : Type 0} (Q : K → K → Ordering) (o : IsTotalOrder Q) (same : IsAntisymmetric Q) where
   lt_trans : (x y z : K) → is_lt (Q x y) ≡ true → is_lt (Q y z) ≡ true → is_lt (Q x z) ≡ true
@@ -84,7 +84,7 @@ module _ {K : Type 0} (Q : K → K → Ordering) (o : IsTotalOrder Q) (same : Is
   self_not x = ap is_lt (tied_itself o x)
 
   -- what isn't before one, isn't before what stands before or at that
-  not_before : (x y u : K) → is_lt (Q y x) ≡ false → is_lt (Q u y) ≡ false → is_lt (Q u x) ≡ false
+  pub not_before : (x y u : K) → is_lt (Q y x) ≡ false → is_lt (Q u y) ≡ false → is_lt (Q u x) ≡ false
   not_before x y u p q =
       elim (lt_not y x p) [
         | inl e ↦ subst (λ z. is_lt (Q u z) ≡ false) e q
@@ -164,13 +164,13 @@ module _ {K : Type 0} (Q : K → K → Ordering) (o : IsTotalOrder Q) (same : Is
     least_next xs = all_more (λ u. false) None xs (λ u e. absurd cc)
 
   -- what is seen is what stands in the own place, and some of what stands in the other
-  module _ (p q ho hg hs : K → Bool) (up : (u : K) → ho u ≡ true → hs u ≡ true) (down : (u : K) → hs u ≡ true → (ho u ≡ true) ⊎ (hg u ≡ true)) (past : IsPast Q p q hg hs) where
+  module _ (p q ho hg hs : K → Bool) (up : (u : K) → ho u ≡ true → hs u ≡ true) (down : (u : K) → hs u ≡ true → (ho u ≡ true) ⊎ (hg u ≡ true)) (past : IsPast Q p q ho hg hs) where
     pub own_alone : (r : Option K) → IsNext Q hg q None → IsNext Q ho p r → IsNext Q hs p r
     own_alone None g h = λ u x. elim (down u x) [
       | inl e ↦ h u e
       | inr e ↦ elim (p u) as (λ b. p u ≡ b → b ≡ false) [
         | false ↦ λ f. refl
-        | true ↦ λ f. elim (past.hidden u e f) [ inl y ↦ not_both (q u) y (g u e) | inr y ↦ not_both (hs u) x y ]
+        | true ↦ λ f. elim (past.hidden u e f) [ inl y ↦ not_both (q u) y (g u e) | inr y ↦ not_both (p u) f (h u (y x)) ]
       ] refl
     ]
     own_alone (Some t) g h = (
@@ -178,7 +178,7 @@ module _ {K : Type 0} (Q : K → K → Ordering) (o : IsTotalOrder Q) (same : Is
       h.1,
       λ u x z. elim (down u x) [
         | inl e ↦ h.2 u e z
-        | inr e ↦ elim (past.hidden u e z) [ inl y ↦ not_both (q u) y (g u e) | inr y ↦ not_both (hs u) x y ]
+        | inr e ↦ elim (past.hidden u e z) [ inl y ↦ not_both (q u) y (g u e) | inr y ↦ h.2 u (y x) z ]
       ],
     )
 
@@ -189,7 +189,7 @@ module _ {K : Type 0} (Q : K → K → Ordering) (o : IsTotalOrder Q) (same : Is
       h.1,
       λ u x z. elim (down u x) [
         | inl e ↦ h.2 u e z
-        | inr e ↦ elim (past.hidden u e z) [ inl y ↦ not_before t g u b (k.2 u e y) | inr y ↦ not_both (hs u) x y ]
+        | inr e ↦ elim (past.hidden u e z) [ inl y ↦ not_before t g u b (k.2 u e y) | inr y ↦ h.2 u (y x) z ]
       ],
     )
 
@@ -203,15 +203,17 @@ module _ {K : Type 0} (Q : K → K → Ordering) (o : IsTotalOrder Q) (same : Is
       past.within g k.1,
       λ u x z. elim (down u x) [
         | inl e ↦ own_later g u r b h e z
-        | inr e ↦ elim (past.hidden u e z) [ inl y ↦ k.2 u e y | inr y ↦ not_both (hs u) x y ]
+        | inr e ↦ elim (past.hidden u e z) [ inl y ↦ k.2 u e y | inr y ↦ own_later g u r b h (y x) z ]
       ],
     )
 
-    pub passed : (g : K) → IsNext Q hg q (Some g) → hs g ≡ false → ((u : K) → p g ≡ true → is_lt (Q g u) ≡ true → p u ≡ true) → IsPast Q p (λ u. is_lt (Q g u)) hg hs
-    passed g k s on = record {
-      within = λ u e. on u (past.within g k.1) e;
+    -- from the first one in the other place to one that isn't before it, all that is seen is an own one
+    pub passed : (g d : K) → IsNext Q hg q (Some g) → is_lt (Q d g) ≡ false → ((u : K) → is_lt (Q u g) ≡ false → is_lt (Q d u) ≡ false → hs u ≡ true → ho u ≡ true)
+        → ((u : K) → p g ≡ true → is_lt (Q g u) ≡ true → p u ≡ true) → IsPast Q p (λ u. is_lt (Q d u)) ho hg hs
+    passed g d k ahead run on = record {
+      within = λ u e. on u (past.within g k.1) (elim (lt_not d g ahead) [ inl same ↦ subst (λ x. is_lt (Q x u) ≡ true) same e | inr before ↦ lt_trans g d u before e ]);
       hidden = λ u x z. elim (past.hidden u x z) [
-        | inl y ↦ elim (lt_not u g (k.2 u x y)) [ inl e ↦ inr (ap hs e ∙ s) | inr e ↦ inl e ]
+        | inl y ↦ elim (is_lt (Q d u)) as (λ b. is_lt (Q d u) ≡ b → (b ≡ true) ⊎ (hs u ≡ true → ho u ≡ true)) [ true ↦ λ e. inl refl | false ↦ λ e. inr (run u (k.2 u x y) e) ] refl
         | inr y ↦ inr y
       ];
     }

@@ -104,10 +104,10 @@ hits_all m n =
 -- ---- one access more
 
 module _ (m : Name) where
-  find_set : (c : Content) (n : Name) (v : List ℕ) → find name_cmp m (after_set c n v) ≡ cond (eq_by_cmp name_cmp m n) (Some v) (find name_cmp m c)
+  pub find_set : (c : Content) (n : Name) (v : List ℕ) → find name_cmp m (after_set c n v) ≡ cond (eq_by_cmp name_cmp m n) (Some v) (find name_cmp m c)
   find_set c n v = find-put name_cmp name_cmp_total m n v c
 
-  find_killed : (c : Content) (n : Name) → find name_cmp m (after_kill c n) ≡ cond (is_none (rest_of n m)) (find name_cmp m c) None
+  pub find_killed : (c : Content) (n : Name) → find name_cmp m (after_kill c n) ≡ cond (is_none (rest_of n m)) (find name_cmp m c) None
   find_killed c n = find-where_key name_cmp (λ k. is_none (rest_of n k)) m (λ x e. ap (λ k. is_none (rest_of n k)) (sym (name_cmp-IsAntisymmetric m x e))) c
 
   set_laid : (c over : Content) (n : Name) (v : List ℕ) (t : Option (List ℕ)) → find name_cmp m c ≡ option_or (find name_cmp m over) t → find name_cmp m (after_set c n v) ≡ option_or (find name_cmp m (after_set over n v)) t

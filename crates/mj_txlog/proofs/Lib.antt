@@ -9,3 +9,5 @@ pub mod Stands
 pub mod Walks
 pub mod Kept
 pub mod Nexts
+pub mod Passing
+pub mod Bare

@@ -1,5 +1,5 @@
 -- What stands next among what is seen, by what stands next of the own texts and of the globals.
-use Rattle.std.proofs.Common.{◌≡◌, ℕ, Bool, true, false, not, nat_eq, ◌||◌, List, [], ◌∷◌, Option, Some, None, ◌⊎◌, refl, sym, ap, ◌∙◌, subst}
+use Rattle.std.proofs.Common.{◌≡◌, ℕ, Bool, true, false, not, nat_eq, ◌||◌, List, [], ◌∷◌, Option, Some, None, ◌⊎◌, inl, inr, refl, sym, ap, ◌∙◌, subst}
 use Rattle.std.specs.Prelude.{T, ◌↔◌, IsTrue}
 use Rattle.std.specs.FinMap.{is_sorted}
 use Rattle.std.specs.Ordering.{is_lt}
@@ -11,20 +11,22 @@ use Rattle.mj_store.specs.Questions.{Content, Subtree, data_at, order_at}
 use Rattle.mj_store.specs.Changes.{followed_by}
 use Rattle.mj_txlog.specs.Accesses.{Accesses, seen}
 use Rattle.mj_txlog.specs.Laid.{Laid, IsLaid, is_before}
-use Rattle.mj_txlog.proofs.Firsts.{IsNext, IsPast, none_past, only_next, own_alone, own_first, other_first, passed, past_on, not_both}
+use Rattle.mj_txlog.proofs.Firsts.{IsNext, IsPast, none_past, only_next, own_alone, own_first, other_first, passed, past_on, not_both, lt_not, second_true}
 use Rattle.mj_txlog.specs.Sight.{AreAlike}
+use Rattle.mj_txlog.specs.Skips.{IsBare, AreBareAlong, IsJump}
+use Rattle.mj_txlog.proofs.Bare.{left_own, nothing_bare}
 use Rattle.mj_txlog.proofs.Looks.{subtree_alike}
 use Rattle.mj_txlog.proofs.Sorted.{rises_seen}
 use Rattle.mj_txlog.proofs.Stands.{stands, data_stands, is_past, level, along_total, along_same, order_level, order_next, own_stands, seen_stands}
 
--- from the one subscript to the other, what stands in the globals isn't to be seen
-abbrev pub ArePassed : Content → Content → Name → Direction → List ℕ → List ℕ → Type 0
-ArePassed g sees f way s t = IsPast (along way subscript_cmp) (is_past way s) (is_past way t) (level g f) (level sees f)
+-- from the one subscript to the other, what stands in the globals is to be seen only where an own text does
+abbrev pub ArePassed : Content → Content → Content → Name → Direction → List ℕ → List ℕ → Type 0
+ArePassed over g sees f way s t = IsPast (along way subscript_cmp) (is_past way s) (is_past way t) (level over f) (level g f) (level sees f)
 
-pub none_passed : (g sees : Content) (f : Name) (way : Direction) (s : List ℕ) → ArePassed g sees f way s s
-none_passed g sees f way s = none_past (along way subscript_cmp) (is_past way s) (level g f) (level sees f)
+pub none_passed : (over g sees : Content) (f : Name) (way : Direction) (s : List ℕ) → ArePassed over g sees f way s s
+none_passed over g sees f way s = none_past (along way subscript_cmp) (is_past way s) (level over f) (level g f) (level sees f)
 
-module _ (o : Laid) (es : Accesses) (laid : IsLaid o es) (g : Content) (f : Name) (way : Direction) (s t : List ℕ) (past : ArePassed g (seen g es) f way s t) where
+module _ (o : Laid) (es : Accesses) (laid : IsLaid o es) (g : Content) (f : Name) (way : Direction) (s t : List ℕ) (past : ArePassed o.over g (seen g es) f way s t) where
   up : (u : List ℕ) → level o.over f u ≡ true → level (seen g es) f u ≡ true
   up u = own_stands o es laid g (followed_by f (u ∷ []))
 
@@ -56,11 +58,31 @@ module _ (o : Laid) (es : Accesses) (laid : IsLaid o es) (g : Content) (f : Name
       the_next (Some u)
       (other_first (along way subscript_cmp) (along_total way) (along_same way) (is_past way s) (is_past way t) (level o.over f) (level g f) (level (seen g es) f) up down past u r (other_next (Some u) k) (own_next r e) b there)
 
-  pub one_passed : (u : List ℕ) → Some u ≡ order_at g (followed_by f (t ∷ [])) way → is_empty u ≡ false → stands (seen g es) (followed_by f (u ∷ [])) ≡ false → ArePassed g (seen g es) f way s u
-  one_passed u k full none =
-      subst (λ (b : Bool). IsPast (along way subscript_cmp) (is_past way s) (λ v. b || is_lt (along way subscript_cmp u v)) (level g f) (level (seen g es) f)) (sym full)
-      (passed (along way subscript_cmp) (along_total way) (along_same way) (is_past way s) (is_past way t) (level o.over f) (level g f) (level (seen g es) f) up down past u (other_next (Some u) k) none
+  -- what is seen where nothing of the globals is left is an own text
+  bare_own : (v : List ℕ) → IsBare g o.gone f v → level (seen g es) f v ≡ true → level o.over f v ≡ true
+  bare_own v bare = left_own o es laid g f v bare
+
+  pub run_passed : (u d : List ℕ) → Some u ≡ order_at g (followed_by f (t ∷ [])) way → is_empty d ≡ false → IsJump g o.gone f way u d → ArePassed o.over g (seen g es) f way s d
+  run_passed u d k full jump =
+      subst (λ (b : Bool). IsPast (along way subscript_cmp) (is_past way s) (λ v. b || is_lt (along way subscript_cmp d v)) (level o.over f) (level g f) (level (seen g es) f)) (sym full)
+      (passed (along way subscript_cmp) (along_total way) (along_same way) (is_past way s) (is_past way t) (level o.over f) (level g f) (level (seen g es) f) up down past u d (other_next (Some u) k) jump.ahead
+      (λ v above below. bare_own v (jump.bare v above below))
       (λ v x y. past_on (along way subscript_cmp) (along_total way) (along_same way) (is_empty s) s u v x y))
+
+  -- from what was passed last to what is passed next
+  pub joins_on : (u d : List ℕ) → Some u ≡ order_at g (followed_by f (t ∷ [])) way → IsBare g o.gone f t → IsJump g o.gone f way u d → AreBareAlong g o.gone f way t d
+  joins_on u d k here jump v above below =
+      elim (is_lt (along way subscript_cmp v u)) as (λ b. is_lt (along way subscript_cmp v u) ≡ b → IsBare g o.gone f v) [
+        | false ↦ λ e. jump.bare v e below
+        | true ↦ λ e. elim (lt_not (along way subscript_cmp) (along_total way) (along_same way) v t above) [
+          | inl same ↦ subst (IsBare g o.gone f) (sym same) here
+          | inr past ↦ nothing_bare g o.gone f v
+              (elim (level g f v) as (λ b. level g f v ≡ b → b ≡ false) [
+                | false ↦ λ n. refl
+                | true ↦ λ n. not_both (is_lt (along way subscript_cmp v u)) e ((other_next (Some u) k).2 v n (second_true (is_empty t) (is_lt (along way subscript_cmp t v)) past))
+              ] refl)
+        ]
+      ] refl
 
 -- $ORDER of a store that is as what is seen, at a name and below it
 pub copied_order : (f : Name) (s : List ℕ) (way : Direction) (below g : Content) (es : Accesses) → T (is_sorted name_cmp below) → T (is_sorted name_cmp g) → AreAlike f below (seen g es) → order_at below (followed_by f (s ∷ [])) way ≡ order_at (seen g es) (followed_by f (s ∷ [])) way

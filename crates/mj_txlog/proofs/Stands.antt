@@ -121,11 +121,11 @@ level_stands (x ∷ c) f t =
     by (Some (s ∷ l)) h =
         elim (eq_by_cmp subscript_cmp t s) as (λ b. (b || among subscript_cmp (first_subscripts (subtree_at c f)) t) ≡ not (is_empty (nodes_with (cond b (Some l) None) x.1 (subtree_at c (followed_by f (t ∷ [])))))) [ true ↦ refl | false ↦ h ]
 
-last_is : (t s : List ℕ) (q : List (List ℕ)) → last_of t (q ++ s ∷ []) ≡ s
+pub last_is : (t s : List ℕ) (q : List (List ℕ)) → last_of t (q ++ s ∷ []) ≡ s
 last_is t s [] = refl
 last_is t s (u ∷ q) = last_is u s q
 
-but_last_is : (t s : List ℕ) (q : List (List ℕ)) → but_last t (q ++ s ∷ []) ≡ t ∷ q
+pub but_last_is : (t s : List ℕ) (q : List (List ℕ)) → but_last t (q ++ s ∷ []) ≡ t ∷ q
 but_last_is t s [] = refl
 but_last_is t s (u ∷ q) = ap (λ (p : List (List ℕ)). t ∷ p) (but_last_is u s q)
 
@@ -235,7 +235,7 @@ module _ (o : Laid) (es : Accesses) (laid : IsLaid o es) (g : Content) where
       stands_from n i.b o.over (gone_some (value_at o.over m) (value_at g m) (ap (λ b. is_some (option_or (value_at o.over m) (cond b None (value_at g m)))) (sym (went_below o.gone n i.b w)) ∙ sym (ap is_some (laid m g)) ∙ i.there)))
       (own_stands n)
 
-  other_text : (n : Name) (b : List (List ℕ)) → went o.gone (followed_by n b) ≡ false → is_some (value_at g (followed_by n b)) ≡ true → stands (seen g es) n ≡ true
+  pub other_text : (n : Name) (b : List (List ℕ)) → went o.gone (followed_by n b) ≡ false → is_some (value_at g (followed_by n b)) ≡ true → stands (seen g es) n ≡ true
   other_text n b w h =
       let m = followed_by n b in
       stands_from n b (seen g es) (ap is_some (laid m g) ∙ ap (λ t. is_some (option_or (value_at o.over m) (cond t None (value_at g m)))) w ∙ other_some (value_at o.over m) (value_at g m) h)

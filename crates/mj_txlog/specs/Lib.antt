@@ -1,4 +1,5 @@
 pub mod Accesses
 pub mod Sight
+pub mod Skips
 pub mod Laid
 pub mod Walks

@@ -17,6 +17,7 @@ mod next;
 mod overlay;
 mod query;
 mod sight;
+mod skips;
 
 pub use answers::{copy_of, copy_of_nodes, is_same};
 pub use entry::{Entry, Unlock, is_refused, is_write};
@@ -24,3 +25,4 @@ pub use log::{ACCESS_LIMIT, TxLog};
 pub use names::NameList;
 pub use overlay::Overlay;
 pub use sight::answer;
+pub use skips::Skips;

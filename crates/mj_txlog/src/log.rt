@@ -4,12 +4,14 @@ ghost use Rattle.std.specs.Prelude.{◌≡◌, ◌≤◌, [], false, true, lengt
 ghost use Rattle.mj_store.specs.Runs.{answer_of};
 ghost use Rattle.mj_txlog.specs.declared.entry.Entry.TheVariants.{Access as access_entry};
 ghost use Rattle.mj_txlog.specs.Accesses.{is_write, is_full, reply_in, seen, with_entry, with_reply, with_unlock, unlock_reply, with_gained};
+ghost use Rattle.mj_txlog.specs.Skips.{AreSkips, gone_by};
 
 use crate::answers::copy_of;
 use crate::entry::{Entry, Unlock, is_refused, is_write};
 use crate::names::copies_of;
 use crate::overlay::Overlay;
 use crate::sight::answer;
+use crate::skips::Skips;
 use mj_globs::Globals;
 use mj_store::{Access, Answer};
 use mj_subs::Name;
@@ -34,12 +36,13 @@ impl Model for TxLog {
     ghost use Rattle.std.specs.Prelude.{◌≤◌, length};
     ghost use Rattle.mj_txlog.specs.Accesses.{Transaction};
     ghost use Rattle.mj_txlog.specs.Laid.{IsLaid};
+    ghost use Rattle.mj_txlog.specs.Skips.{gone_by};
 
     ghost Value = { Transaction };
 
     ghost view = { λ t. record { serial = t.serial; accesses = t.entries.items; gained = t.gained.items } };
 
-    ghost invariant = { λ t. (length t.entries.items ≤ 65536) × IsLaid t.own t.entries.items };
+    ghost invariant = { λ t. (length t.entries.items ≤ 65536) × IsLaid t.own t.entries.items × (t.own.gone ≡ gone_by t.entries.items) };
 }
 
 impl TxLog {
@@ -86,12 +89,20 @@ impl TxLog {
 
     /// Makes an access in the transaction. A read is answered on the globals as they are, with the own writes made on them. A write is
     /// done. Both are appended, with their answers. An access past the limit, and a write that would give a name too many subscripts, is
-    /// answered that it passes a limit, and isn't appended. The answer is there twice, once for the job and once for who writes it down.
-    pub fn see(&mut self, globals: &Globals, access: Access) -> Result<(Answer, Answer), AllocError>
+    /// answered that it passes a limit, and isn't appended. The answer is there twice, once for the job and once for who writes it down. What its reads pass
+    /// over is kept in `skips`, which is true of the same globals for as long as they don't change.
+    pub fn see(
+        &mut self,
+        globals: &Globals,
+        skips: &mut Skips,
+        access: Access,
+    ) -> Result<(Answer, Answer), AllocError>
+        requires { AreSkips globals.now (gone_by self.old.accesses) skips.old }
         ensures answer { IfOk result (λ told. told.0 ≡ reply_in self.old globals.now access) }
         ensures again { IfOk result (λ told. told.1 ≡ reply_in self.old globals.now access) }
         ensures appended { OnOk result (self.new ≡ with_reply self.old access (reply_in self.old globals.now access)) }
         ensures unchanged { OnErr result (self.new ≡ self.old) }
+        ensures skips { AreSkips globals.now (gone_by self.new.accesses) skips.new }
     {
         if is_write(&access) {
             return self.write(access);
@@ -100,7 +111,7 @@ impl TxLog {
             drop(access);
             return Ok((Answer::Limit, Answer::Limit));
         }
-        match self.answers(globals, &access) {
+        match self.answers(globals, skips, &access) {
             Ok((told, kept)) => self.append(access, told, kept),
             Err(refused) => {
                 drop(access);
@@ -114,14 +125,24 @@ impl TxLog {
     fn answers(
         &self,
         globals: &Globals,
+        skips: &mut Skips,
         read: &Access,
     ) -> Result<((Answer, Answer), Answer), AllocError>
-        requires { is_write read.now ≡ false }
+        requires read { is_write read.now ≡ false }
+        requires skips { AreSkips globals.now (gone_by self.now.accesses) skips.old }
+        ensures skips { AreSkips globals.now (gone_by self.now.accesses) skips.new }
         ensures given { IfOk result (λ x. x.0.0 ≡ answer_of read.now (seen globals.now self.now.accesses)) }
         ensures again { IfOk result (λ x. x.0.1 ≡ answer_of read.now (seen globals.now self.now.accesses)) }
         ensures kept { IfOk result (λ x. x.1 ≡ answer_of read.now (seen globals.now self.now.accesses)) }
     {
-        let answer = answer(self.alloc, globals, &self.entries, &self.own, read)?;
+        let answer = answer(
+            self.alloc,
+            globals,
+            &self.entries,
+            &self.own,
+            skips,
+            read,
+        )?;
         match twice(self.alloc, &answer) {
             Ok((again, kept)) => Ok(((answer, again), kept)),
             Err(refused) => {

@@ -1,21 +1,25 @@
 // What stands next among what a transaction sees.
 //
 // The own texts are all seen. So of two subscripts, the next one among them and the next one in the globals below which something is left of the
-// own kills, the first is the answer. One of the globals below which nothing is left is passed over, whatever stood below it.
+// own kills, the first is the answer. One of the globals below which nothing is left is passed over, whatever stood below it, and with it all that
+// reads before it passed over on from there (`skips.rt`).
 
-ghost use Rattle.std.specs.Prelude.{◌≡◌, ◌∷◌, [], not, nat_eq, nat_lt, IfOk};
+ghost use Rattle.std.specs.Prelude.{◌≡◌, ◌∷◌, [], true, not, nat_eq, nat_lt, length, ◌<◌, IfOk, IfNone};
+ghost use Rattle.std.specs.Option.{IfSome};
 ghost use Rattle.mj_subs.specs.Collation.{subscript_cmp};
 ghost use Rattle.mj_store.specs.declared.store.Direction.TheVariants as way;
 ghost use Rattle.mj_store.specs.Nodes.{along};
-ghost use Rattle.mj_store.specs.Questions.{order_at, data_at};
+ghost use Rattle.mj_store.specs.Questions.{Content, order_at, data_at};
 ghost use Rattle.mj_store.specs.Changes.{followed_by};
 ghost use Rattle.mj_txlog.specs.Accesses.{Accesses, seen};
 ghost use Rattle.mj_txlog.specs.Laid.{IsLaid, is_before};
+ghost use Rattle.mj_txlog.specs.Skips.{AreSkips, AreBareAlong, IsJump, KeepSkips};
 
 use crate::below::seen_below;
 use crate::log::ACCESS_LIMIT;
 use crate::names::with_one;
 use crate::overlay::Overlay;
+use crate::skips::Skips;
 use mj_globs::Globals;
 use mj_store::{Direction, Store};
 use mj_subs::{Name, SUBSCRIPT_LIMIT, Sub};
@@ -28,11 +32,14 @@ use std::alloc::AllocError;
 pub(crate) fn next_below(
     globals: &Globals,
     own: &Overlay,
+    skips: &mut Skips,
     front: &Name,
     from: &Sub,
     way: Direction,
 ) -> Result<Option<Sub>, AllocError>
-    ensures { IfOk result (λ next. (es : Accesses) → IsLaid own.now es → next ≡ order_at (seen globals.now es) (followed_by front.now (from.now ∷ [])) way) }
+    requires { KeepSkips globals.now own.now skips.old }
+    ensures next { IfOk result (λ next. (es : Accesses) → IsLaid own.now es → next ≡ order_at (seen globals.now es) (followed_by front.now (from.now ∷ [])) way) }
+    ensures skips { KeepSkips globals.now own.now skips.new }
 {
     if front.subscripts().len() < SUBSCRIPT_LIMIT {
         let mine = next_in(own.over(), front, from, way)?;
@@ -40,6 +47,7 @@ pub(crate) fn next_below(
             return Ok(mine);
         }
         let mut at = from.try_clone()?;
+        let mut is_passed = false;
         for _ in 0..ACCESS_LIMIT {
             let next = match next_in(globals, front, &at, way)? {
                 None => return Ok(mine),
@@ -51,18 +59,85 @@ pub(crate) fn next_below(
             if next.is_empty() {
                 break;
             }
-            let child = with_one(globals.allocator(), front, &next)?;
-            let there = stands(globals, own, &child);
-            drop(child);
-            if there? {
-                return Ok(Some(next));
+            let far = match far_from(globals, own, skips, front, &next, way)? {
+                None => return Ok(Some(next)),
+                Some(far) => far,
+            };
+            if far.is_empty() {
+                break;
             }
-            at = next;
+            keep(skips, front, &at, is_passed, &next, &far, way)?;
+            at = far;
+            is_passed = true;
         }
     } else if is_leaf(own.over(), front) && is_leaf(globals, front) {
         return Ok(None);
     }
     next_copied(globals, own, front, from, way)
+}
+
+// How far nothing is left from a subscript on that stands in the globals: as far as was passed over before, or no further than that. None, where
+// something is seen at it or below it.
+#[cycle(ahead)]
+fn far_from(
+    globals: &Globals,
+    own: &Overlay,
+    skips: &mut Skips,
+    front: &Name,
+    next: &Sub,
+    way: Direction,
+) -> Result<Option<Sub>, AllocError>
+    requires skips { KeepSkips globals.now own.now skips.old }
+    requires room { length front.now.subscripts < SUBSCRIPT_LIMIT }
+    ensures passed { IfOk result (λ r. IfSome r (λ far. (es : Accesses) → IsLaid own.now es → IsJump globals.now own.now.gone front.now way next.now far)) }
+    ensures stands { IfOk result (λ r. IfNone r ((es : Accesses) → IsLaid own.now es → not (nat_eq (data_at (seen globals.now es) (followed_by front.now (next.now ∷ []))) 0) ≡ true)) }
+    ensures skips { KeepSkips globals.now own.now skips.new }
+{
+    if let Some(far) = skips.end_of(front, next, way)? {
+        return Ok(Some(far));
+    }
+    let child = with_one(globals.allocator(), front, next)?;
+    let there = stands(globals, own, skips, &child);
+    drop(child);
+    if there? {
+        return Ok(None);
+    }
+    Ok(Some(next.try_clone()?))
+}
+
+// What lies from a subscript to the far one, in a direction, is kept as passed over, with what lies between and the last that was passed before, if one was.
+fn keep(
+    skips: &mut Skips,
+    front: &Name,
+    at: &Sub,
+    is_passed: bool,
+    next: &Sub,
+    far: &Sub,
+    way: Direction,
+) -> Result<(), AllocError>
+    ensures { (globals gone : Content) → AreSkips globals gone skips.old → (is_passed ≡ true → AreBareAlong globals gone front.now way at.now far.now) → AreBareAlong globals gone front.now way next.now far.now → AreSkips globals gone skips.new }
+{
+    if is_passed {
+        keep_from(skips, front, at, far, way)
+    } else {
+        keep_from(skips, front, next, far, way)
+    }
+}
+
+// What lies from the one subscript to the other, in a direction, is kept as passed over.
+fn keep_from(
+    skips: &mut Skips,
+    front: &Name,
+    from: &Sub,
+    far: &Sub,
+    way: Direction,
+) -> Result<(), AllocError>
+    ensures { (globals gone : Content) → AreSkips globals gone skips.old → AreBareAlong globals gone front.now way from.now far.now → AreSkips globals gone skips.new }
+{
+    match way {
+        Direction::Forward => skips.join(front, from, far),
+        Direction::Backward => skips.join(front, far, from),
+    }
 }
 
 // Whether nothing stands below a name.
@@ -74,8 +149,15 @@ fn is_leaf(store: &Globals, name: &Name) -> bool
 
 // Whether a text stands at the name or below it.
 #[cycle(ahead)]
-pub(crate) fn stands(globals: &Globals, own: &Overlay, name: &Name) -> Result<bool, AllocError>
-    ensures { IfOk result (λ b. (es : Accesses) → IsLaid own.now es → b ≡ not (nat_eq (data_at (seen globals.now es) name.now) 0)) }
+pub(crate) fn stands(
+    globals: &Globals,
+    own: &Overlay,
+    skips: &mut Skips,
+    name: &Name,
+) -> Result<bool, AllocError>
+    requires { KeepSkips globals.now own.now skips.old }
+    ensures there { IfOk result (λ b. (es : Accesses) → IsLaid own.now es → b ≡ not (nat_eq (data_at (seen globals.now es) name.now) 0)) }
+    ensures skips { KeepSkips globals.now own.now skips.new }
 {
     if is_any(own.over(), name) {
         return Ok(true);
@@ -90,7 +172,7 @@ pub(crate) fn stands(globals: &Globals, own: &Overlay, name: &Name) -> Result<bo
         return Ok(true);
     }
     let blank = Sub::from_text(Text::new(globals.allocator()));
-    let next = next_below(globals, own, name, &blank, Direction::Forward)?;
+    let next = next_below(globals, own, skips, name, &blank, Direction::Forward)?;
     Ok(next.is_some())
 }
 
@@ -105,12 +187,15 @@ fn is_any(store: &Globals, name: &Name) -> bool
 pub(crate) fn first_sub(
     globals: &Globals,
     own: &Overlay,
+    skips: &mut Skips,
     name: &Name,
 ) -> Result<Option<Sub>, AllocError>
-    ensures { IfOk result (λ next. (es : Accesses) → IsLaid own.now es → next ≡ order_at (seen globals.now es) (followed_by name.now ([] ∷ [])) way.Forward) }
+    requires { KeepSkips globals.now own.now skips.old }
+    ensures next { IfOk result (λ next. (es : Accesses) → IsLaid own.now es → next ≡ order_at (seen globals.now es) (followed_by name.now ([] ∷ [])) way.Forward) }
+    ensures skips { KeepSkips globals.now own.now skips.new }
 {
     let blank = Sub::from_text(Text::new(globals.allocator()));
-    next_below(globals, own, name, &blank, Direction::Forward)
+    next_below(globals, own, skips, name, &blank, Direction::Forward)
 }
 
 // The same, where what stands below the name is copied.

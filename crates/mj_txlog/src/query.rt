@@ -8,11 +8,13 @@ ghost use Rattle.std.specs.Option.{IfSome};
 ghost use Rattle.mj_store.specs.Questions.{query_at};
 ghost use Rattle.mj_txlog.specs.Accesses.{Accesses, seen};
 ghost use Rattle.mj_txlog.specs.Laid.{IsLaid};
+ghost use Rattle.mj_txlog.specs.Skips.{KeepSkips};
 ghost use Rattle.mj_txlog.specs.Walks.{first_in, is_within, is_below, is_beyond};
 
 use crate::names::{cut_to, with_one};
 use crate::next::{first_sub, next_below};
 use crate::overlay::Overlay;
+use crate::skips::Skips;
 use mj_globs::Globals;
 use mj_store::Direction;
 use mj_subs::{Name, Sub};
@@ -22,37 +24,54 @@ use std::alloc::AllocError;
 pub(crate) fn query(
     globals: &Globals,
     own: &Overlay,
+    skips: &mut Skips,
     name: &Name,
 ) -> Result<Option<Option<Name>>, AllocError>
-    ensures { IfOk result (λ x. IfSome x (λ next. (es : Accesses) → IsLaid own.now es → next ≡ query_at (seen globals.now es) name.now)) }
+    requires { KeepSkips globals.now own.now skips.old }
+    ensures next { IfOk result (λ x. IfSome x (λ next. (es : Accesses) → IsLaid own.now es → next ≡ query_at (seen globals.now es) name.now)) }
+    ensures skips { KeepSkips globals.now own.now skips.new }
 {
-    match first_below(globals, own, name)? {
+    match first_below(globals, own, skips, name)? {
         Some(next) => Ok(Some(Some(next))),
-        None => first_past(globals, own, name),
+        None => first_past(globals, own, skips, name),
     }
 }
 
 // The first name with a text at the name or below it.
 #[cycle(down)]
-fn first_within(globals: &Globals, own: &Overlay, name: &Name) -> Result<Option<Name>, AllocError>
-    ensures { IfOk result (λ next. (es : Accesses) → IsLaid own.now es → next ≡ first_in (seen globals.now es) name.now (is_within name.now.subscripts)) }
+fn first_within(
+    globals: &Globals,
+    own: &Overlay,
+    skips: &mut Skips,
+    name: &Name,
+) -> Result<Option<Name>, AllocError>
+    requires { KeepSkips globals.now own.now skips.old }
+    ensures next { IfOk result (λ next. (es : Accesses) → IsLaid own.now es → next ≡ first_in (seen globals.now es) name.now (is_within name.now.subscripts)) }
+    ensures skips { KeepSkips globals.now own.now skips.new }
 {
     if own.is_text(globals, name)? {
         return Ok(Some(name.try_clone()?));
     }
-    first_below(globals, own, name)
+    first_below(globals, own, skips, name)
 }
 
 // The first one below it.
 #[cycle(down)]
-fn first_below(globals: &Globals, own: &Overlay, name: &Name) -> Result<Option<Name>, AllocError>
-    ensures { IfOk result (λ next. (es : Accesses) → IsLaid own.now es → next ≡ first_in (seen globals.now es) name.now (is_below name.now.subscripts)) }
+fn first_below(
+    globals: &Globals,
+    own: &Overlay,
+    skips: &mut Skips,
+    name: &Name,
+) -> Result<Option<Name>, AllocError>
+    requires { KeepSkips globals.now own.now skips.old }
+    ensures next { IfOk result (λ next. (es : Accesses) → IsLaid own.now es → next ≡ first_in (seen globals.now es) name.now (is_below name.now.subscripts)) }
+    ensures skips { KeepSkips globals.now own.now skips.new }
 {
-    match first_sub(globals, own, name)? {
+    match first_sub(globals, own, skips, name)? {
         None => Ok(None),
         Some(sub) => {
             let child = with_one(globals.allocator(), name, &sub)?;
-            let found = first_within(globals, own, &child);
+            let found = first_within(globals, own, skips, &child);
             drop(child);
             found
         }
@@ -64,15 +83,18 @@ fn first_below(globals: &Globals, own: &Overlay, name: &Name) -> Result<Option<N
 fn first_past(
     globals: &Globals,
     own: &Overlay,
+    skips: &mut Skips,
     name: &Name,
 ) -> Result<Option<Option<Name>>, AllocError>
-    ensures { IfOk result (λ x. IfSome x (λ next. (es : Accesses) → IsLaid own.now es → next ≡ first_in (seen globals.now es) name.now (is_beyond name.now.subscripts))) }
+    requires { KeepSkips globals.now own.now skips.old }
+    ensures next { IfOk result (λ x. IfSome x (λ next. (es : Accesses) → IsLaid own.now es → next ≡ first_in (seen globals.now es) name.now (is_beyond name.now.subscripts))) }
+    ensures skips { KeepSkips globals.now own.now skips.new }
 {
     match name.subscripts().as_slice() {
         [] => Ok(Some(None)),
         [above @ .., last] => {
             let front = cut_to(globals.allocator(), name, above)?;
-            let found = first_beside(globals, own, &front, last);
+            let found = first_beside(globals, own, skips, &front, last);
             drop(front);
             found
         }
@@ -85,19 +107,22 @@ fn first_past(
 fn first_beside(
     globals: &Globals,
     own: &Overlay,
+    skips: &mut Skips,
     front: &Name,
     last: &Sub,
 ) -> Result<Option<Option<Name>>, AllocError>
-    ensures { IfOk result (λ x. IfSome x (λ next. (es : Accesses) → IsLaid own.now es → next ≡ first_in (seen globals.now es) front.now (is_beyond (front.now.subscripts ++ last.now ∷ [])))) }
+    requires { KeepSkips globals.now own.now skips.old }
+    ensures next { IfOk result (λ x. IfSome x (λ next. (es : Accesses) → IsLaid own.now es → next ≡ first_in (seen globals.now es) front.now (is_beyond (front.now.subscripts ++ last.now ∷ [])))) }
+    ensures skips { KeepSkips globals.now own.now skips.new }
 {
-    match next_below(globals, own, front, last, Direction::Forward)? {
-        None => first_past(globals, own, front),
+    match next_below(globals, own, skips, front, last, Direction::Forward)? {
+        None => first_past(globals, own, skips, front),
         Some(sub) => {
             if sub.is_empty() {
                 return Ok(None);
             }
             let beside = with_one(globals.allocator(), front, &sub)?;
-            let found = first_within(globals, own, &beside);
+            let found = first_within(globals, own, skips, &beside);
             drop(beside);
             Ok(Some(found?))
         }

@@ -9,6 +9,7 @@ ghost use Rattle.mj_store.specs.Runs.{answer_of};
 ghost use Rattle.mj_txlog.specs.Accesses.{Accesses, is_write, seen, front_of};
 ghost use Rattle.mj_txlog.specs.Sight.{reach_of};
 ghost use Rattle.mj_txlog.specs.Laid.{IsLaid};
+ghost use Rattle.mj_txlog.specs.Skips.{AreSkips, KeepSkips};
 
 use crate::below::seen_below;
 use crate::entry::Entry;
@@ -16,6 +17,7 @@ use crate::names::cut_to;
 use crate::next::{first_sub, next_below};
 use crate::overlay::{Overlay, data_either};
 use crate::query::query;
+use crate::skips::Skips;
 use mj_globs::Globals;
 use mj_store::{Access, Answer, Direction, Store};
 use mj_subs::{Name, Sub};
@@ -28,18 +30,21 @@ pub fn answer(
     globals: &Globals,
     earlier: &[Entry],
     own: &Overlay,
+    skips: &mut Skips,
     read: &Access,
 ) -> Result<Answer, AllocError>
     requires read { is_write read.now ≡ false }
     requires own { IsLaid own.now earlier.now }
-    ensures { IfOk result (λ a. a ≡ answer_of read.now (seen globals.now earlier.now)) }
+    requires skips { AreSkips globals.now own.now.gone skips.old }
+    ensures answer { IfOk result (λ a. a ≡ answer_of read.now (seen globals.now earlier.now)) }
+    ensures skips { AreSkips globals.now own.now.gone skips.new }
 {
     match read {
         Access::Value(name) => {
             let text = own.text(globals, name)?;
             Ok(Answer::Value(text))
         }
-        _ => seen_answer(alloc, globals, own, read),
+        _ => seen_answer(alloc, globals, own, skips, read),
     }
 }
 
@@ -48,13 +53,16 @@ fn seen_answer(
     alloc: Global,
     globals: &Globals,
     own: &Overlay,
+    skips: &mut Skips,
     read: &Access,
 ) -> Result<Answer, AllocError>
     requires read { is_write read.now ≡ false }
-    ensures { IfOk result (λ a. (es : Accesses) → IsLaid own.now es → a ≡ answer_of read.now (seen globals.now es)) }
+    requires skips { KeepSkips globals.now own.now skips.old }
+    ensures skips { KeepSkips globals.now own.now skips.new }
+    ensures answer { IfOk result (λ a. (es : Accesses) → IsLaid own.now es → a ≡ answer_of read.now (seen globals.now es)) }
 {
     let reach = reach_of(alloc, read)?;
-    let answer = answer_at(globals, own, read, &reach);
+    let answer = answer_at(globals, own, skips, read, &reach);
     drop(reach);
     answer
 }
@@ -64,12 +72,15 @@ fn seen_answer(
 fn answer_at(
     globals: &Globals,
     own: &Overlay,
+    skips: &mut Skips,
     read: &Access,
     reach: &Name,
 ) -> Result<Answer, AllocError>
     requires read { is_write read.now ≡ false }
     requires reach { reach.now ≡ reach_of read.now }
-    ensures { IfOk result (λ a. (es : Accesses) → IsLaid own.now es → a ≡ answer_of read.now (seen globals.now es)) }
+    requires skips { KeepSkips globals.now own.now skips.old }
+    ensures skips { KeepSkips globals.now own.now skips.new }
+    ensures answer { IfOk result (λ a. (es : Accesses) → IsLaid own.now es → a ≡ answer_of read.now (seen globals.now es)) }
 {
     globals.rises();
     if own.went(reach)? {
@@ -83,9 +94,9 @@ fn answer_at(
             own.over().data(name),
             globals.data(name),
         ))),
-        Access::Data(name) => Ok(Answer::Data(data(globals, own, name)?)),
-        Access::Order(name, way) => Ok(Answer::Order(order(globals, own, name, *way, reach)?)),
-        Access::Query(name) => match query(globals, own, name)? {
+        Access::Data(name) => Ok(Answer::Data(data(globals, own, skips, name)?)),
+        Access::Order(name, way) => Ok(Answer::Order(order(globals, own, skips, name, *way, reach)?)),
+        Access::Query(name) => match query(globals, own, skips, name)? {
             Some(next) => Ok(Answer::Query(next)),
             None => answer_among(globals, own, read, reach),
         },
@@ -94,11 +105,18 @@ fn answer_at(
 }
 
 // Whether a text stands at the name, and whether one stands below it.
-fn data(globals: &Globals, own: &Overlay, name: &Name) -> Result<u8, AllocError>
-    ensures { IfOk result (λ d. (es : Accesses) → IsLaid own.now es → d ≡ data_at (seen globals.now es) name.now) }
+fn data(
+    globals: &Globals,
+    own: &Overlay,
+    skips: &mut Skips,
+    name: &Name,
+) -> Result<u8, AllocError>
+    requires { KeepSkips globals.now own.now skips.old }
+    ensures skips { KeepSkips globals.now own.now skips.new }
+    ensures data { IfOk result (λ d. (es : Accesses) → IsLaid own.now es → d ≡ data_at (seen globals.now es) name.now) }
 {
     let here = own.is_text(globals, name)?;
-    let below = first_sub(globals, own, name)?;
+    let below = first_sub(globals, own, skips, name)?;
     let digits = digits_of(here, below.is_some());
     Ok(digits)
 }
@@ -119,16 +137,19 @@ fn digits_of(here: bool, below: bool) -> u8
 fn order(
     globals: &Globals,
     own: &Overlay,
+    skips: &mut Skips,
     name: &Name,
     way: Direction,
     front: &Name,
 ) -> Result<Option<Sub>, AllocError>
-    requires { front.now ≡ with_subscripts name.now (front_of name.now.subscripts) }
-    ensures { IfOk result (λ next. (es : Accesses) → IsLaid own.now es → next ≡ order_at (seen globals.now es) name.now way) }
+    requires front { front.now ≡ with_subscripts name.now (front_of name.now.subscripts) }
+    requires skips { KeepSkips globals.now own.now skips.old }
+    ensures skips { KeepSkips globals.now own.now skips.new }
+    ensures next { IfOk result (λ next. (es : Accesses) → IsLaid own.now es → next ≡ order_at (seen globals.now es) name.now way) }
 {
     match name.subscripts().as_slice() {
         [] => Ok(None),
-        [.., last] => next_below(globals, own, front, last, way),
+        [.., last] => next_below(globals, own, skips, front, last, way),
     }
 }
 

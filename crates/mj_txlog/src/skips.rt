@@ -1,0 +1,261 @@
+// What the reads of a transaction have passed over.
+//
+// Where own kills took what the globals have below a name, its subscripts are passed over one by one (`next.rt`). They are so once: what was
+// passed is kept as runs of subscripts, from the first to the last, and a later read goes from one end of a run to the other. A run holds as long
+// as the globals are the same, whatever the transaction does: what went doesn't come back.
+
+ghost use Rattle.std.specs.Prelude.{◌≡◌, ◌∷◌, [], false, IfOk, OnOk, OnErr};
+ghost use Rattle.std.specs.Option.{IfSome, option_copied};
+ghost use Rattle.std.specs.Ordering.{is_lt};
+ghost use Rattle.mj_subs.specs.Collation.{subscript_cmp};
+ghost use Rattle.mj_store.specs.Questions.{value_at};
+ghost use Rattle.mj_store.specs.Changes.{followed_by, after_set, after_kill};
+ghost use Rattle.mj_txlog.specs.Skips.{IsRun, IsFar, IsNextRun, Joins, far_end, later_of};
+
+use crate::names::with_one;
+use mj_globs::Globals;
+use mj_store::{Direction, Store};
+use mj_subs::{Name, Sub};
+use std::alloc::{AllocError, Global};
+use std::marker::Model;
+
+/// Runs of subscripts below names, of which nothing in the globals shows through a transaction's own writes. A contract sees them as texts: at the
+/// name with a run's first subscript stands its last.
+#[derive(Drop)]
+pub struct Skips {
+    alloc: Global,
+    runs: Globals,
+}
+
+impl Model for Skips {
+    ghost use Rattle.mj_store.specs.Questions.{Content};
+
+    ghost Value = { Content };
+
+    ghost view = { λ s. s.runs };
+}
+
+impl Skips {
+    /// None.
+    pub fn new(alloc: Global) -> Skips
+        ensures { result ≡ [] }
+    {
+        Skips {
+            alloc,
+            runs: Globals::new(alloc),
+        }
+    }
+
+    /// None is left.
+    pub fn clear(&mut self)
+        ensures { self.new ≡ [] }
+    {
+        self.runs = Globals::new(self.alloc);
+    }
+
+    // The far end of a run in which the subscript lies, below a name, if that is found.
+    pub(crate) fn end_of(
+        &self,
+        front: &Name,
+        sub: &Sub,
+        way: Direction,
+    ) -> Result<Option<Sub>, AllocError>
+        ensures { IfOk result (λ found. IfSome found (λ far. IsFar self.now front.now sub.now way far)) }
+    {
+        let Some((first, last)) = self.run_of(front, sub)? else {
+            return Ok(None);
+        };
+        Ok(Some(far_end(way, first, last)))
+    }
+
+    // What lies from the one subscript to the other, in collating order, was passed over. It is joined with the run in which the first of them lies, and with one
+    // that begins up to the other. At want of memory a run may be lost, of which more will be passed over once more.
+    pub(crate) fn join(&mut self, front: &Name, from: &Sub, to: &Sub) -> Result<(), AllocError>
+        ensures { Joins self.old front.now from.now to.now self.new }
+    {
+        match self.run_of(front, from)? {
+            Some((first, last)) => {
+                let done = self.lengthen(front, &first, later(&last, to));
+                drop(first);
+                drop(last);
+                done
+            }
+            None => self.lengthen(front, from, to),
+        }
+    }
+
+    // A run from the one subscript to the other, with one that begins behind its first and not behind its last.
+    fn lengthen(&mut self, front: &Name, first: &Sub, to: &Sub) -> Result<(), AllocError>
+        ensures { Joins self.old front.now first.now to.now self.new }
+    {
+        let at = with_one(self.alloc, front, first)?;
+        let done = match self.behind(&at, front, to) {
+            Ok(found) => self.put_run(front, first, &at, found, to),
+            Err(refused) => Err(refused),
+        };
+        drop(at);
+        done
+    }
+
+    // The same, where the name with the first subscript is at hand, and the run that is found.
+    fn put_run(
+        &mut self,
+        front: &Name,
+        first: &Sub,
+        at: &Name,
+        found: Option<(Name, Sub)>,
+        to: &Sub,
+    ) -> Result<(), AllocError>
+        requires at { at.now ≡ followed_by front.now (first.now ∷ []) }
+        requires found { IfSome found (λ run. IsNextRun self.old front.now to.now run.0 run.1) }
+        ensures { Joins self.old front.now first.now to.now self.new }
+    {
+        match found {
+            Some((name, last)) => {
+                self.forget(&name);
+                drop(name);
+                let done = self.set(at, later(&last, to));
+                drop(last);
+                done
+            }
+            None => self.set(at, to),
+        }
+    }
+
+    // No run stands at a name, or below it.
+    fn forget(&mut self, name: &Name)
+        ensures { self.new ≡ after_kill self.old name.now }
+    {
+        self.runs.kill(name);
+    }
+
+    // A run stands at a name.
+    fn set(&mut self, at: &Name, last: &Sub) -> Result<(), AllocError>
+        ensures ok { OnOk result (self.new ≡ after_set self.old at.now last.now) }
+        ensures err { OnErr result (self.new ≡ self.old) }
+    {
+        self.runs.set(at, last.text())
+    }
+
+    // The run that begins next behind a name, if that isn't behind the subscript: the name at which it stands, and its last subscript.
+    fn behind(
+        &self,
+        at: &Name,
+        front: &Name,
+        to: &Sub,
+    ) -> Result<Option<(Name, Sub)>, AllocError>
+        ensures { IfOk result (λ found. IfSome found (λ run. IsNextRun self.now front.now to.now run.0 run.1)) }
+    {
+        let Some(begin) = self.runs.order(at, Direction::Forward) else {
+            return Ok(None);
+        };
+        if to < begin {
+            return Ok(None);
+        }
+        let name = with_one(self.alloc, front, begin)?;
+        match self.last_at(&name) {
+            Ok(Some(last)) => Ok(Some((name, last))),
+            Ok(None) => {
+                drop(name);
+                Ok(None)
+            }
+            Err(refused) => {
+                drop(name);
+                Err(refused)
+            }
+        }
+    }
+
+    // The run in which the subscript lies, if that is found: its first and its last subscript.
+    fn run_of(&self, front: &Name, sub: &Sub) -> Result<Option<(Sub, Sub)>, AllocError>
+        ensures { IfOk result (λ found. IfSome found (λ run. IsRun self.now front.now sub.now run.0 run.1)) }
+    {
+        let at = with_one(self.alloc, front, sub)?;
+        let found = self.run_at(&at, front, sub);
+        drop(at);
+        found
+    }
+
+    // The same, where the name with the subscript is at hand.
+    fn run_at(
+        &self,
+        at: &Name,
+        front: &Name,
+        sub: &Sub,
+    ) -> Result<Option<(Sub, Sub)>, AllocError>
+        requires { at.now ≡ followed_by front.now (sub.now ∷ []) }
+        ensures { IfOk result (λ found. IfSome found (λ run. IsRun self.now front.now sub.now run.0 run.1)) }
+    {
+        if self.runs.value(at).is_some() {
+            return self.run_from(front, sub, sub);
+        }
+        match self.runs.order(at, Direction::Backward) {
+            None => Ok(None),
+            Some(first) => self.run_from(front, first, sub),
+        }
+    }
+
+    // The run that begins with the one subscript, if the other lies in it.
+    fn run_from(
+        &self,
+        front: &Name,
+        first: &Sub,
+        sub: &Sub,
+    ) -> Result<Option<(Sub, Sub)>, AllocError>
+        ensures { IfOk result (λ found. IfSome found (λ run. IsRun self.now front.now sub.now run.0 run.1)) }
+    {
+        if sub < first {
+            return Ok(None);
+        }
+        let name = with_one(self.alloc, front, first)?;
+        let last = self.last_at(&name);
+        drop(name);
+        let Some(last) = last? else {
+            return Ok(None);
+        };
+        if last < *sub {
+            drop(last);
+            return Ok(None);
+        }
+        match first.try_clone() {
+            Ok(first) => Ok(Some((first, last))),
+            Err(refused) => {
+                drop(last);
+                Err(refused)
+            }
+        }
+    }
+
+    // The last subscript of the run that stands at a name, if one does.
+    fn last_at(&self, name: &Name) -> Result<Option<Sub>, AllocError>
+        ensures { IfOk result (λ last. last ≡ value_at self.now name.now) }
+    {
+        match self.runs.value(name) {
+            None => Ok(None),
+            Some(text) => Ok(Some(Sub::from_text(text.try_clone()?))),
+        }
+    }
+}
+
+// The far end of a run.
+fn far_end(way: Direction, first: Sub, last: Sub) -> Sub
+    ensures { result ≡ far_end way first last }
+{
+    match way {
+        Direction::Forward => {
+            drop(first);
+            last
+        }
+        Direction::Backward => {
+            drop(last);
+            first
+        }
+    }
+}
+
+// The later one of two subscripts.
+fn later<'a>(one: &'a Sub, other: &'a Sub) -> &'a Sub
+    ensures { result.now ≡ later_of one.now other.now }
+{
+    if other < one { one } else { other }
+}
