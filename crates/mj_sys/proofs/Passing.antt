@@ -1,9 +1,10 @@
 -- What transactions passed over stays what it is, whatever is served.
-use Rattle.std.proofs.Common.{◌≡◌, ℕ, zero, suc, ◌+◌, ◌-◌, ◌≤◌, ◌<◌, Bool, true, false, cond, List, [], ◌∷◌, ◌++◌, length, replicate, take, Option, Some, None, refl, sym, ap, ◌∙◌, subst, arith}
-use Rattle.std.specs.Prelude.{slice_get, slice_set, nat_lt}
+use Rattle.std.proofs.Common.{◌≡◌, ℕ, zero, suc, ◌+◌, ◌-◌, ◌≤◌, ◌<◌, Bool, true, false, cond, List, [], ◌∷◌, ◌++◌, length, replicate, take, get_or, Option, Some, None, refl, sym, ap, ◌∙◌, subst, arith}
+use Rattle.std.specs.Prelude.{slice_get, slice_set, nat_lt, Result, Ok, Err, IfOk, OnOk, OnErr}
 use Rattle.std.specs.List.{slice_index_or}
 use Rattle.std.proofs.lemmas.List.{length-set}
 use Rattle.std.proofs.lemmas.List.Sums.{fold-append}
+use Rattle.std.proofs.lemmas.Option.{slice_get-get_or}
 use Rattle.mj_subs.specs.Name.{Name}
 use Rattle.mj_store.specs.Questions.{Content}
 use Rattle.mj_store.specs.Runs.{name_of, after_access}
@@ -21,6 +22,7 @@ use Rattle.mj_sys.specs.Shared.{changed}
 use Rattle.mj_sys.specs.Kept.{after_taken}
 use Rattle.mj_sys.specs.Passed.{changes_limit, counted, IsCounted, killed_by, IsPassed, ArePassed}
 use Rattle.mj_sys.specs.declared.passed.Passed.{Passed}
+use Rattle.mj_sys.proofs.Places.{with_twice, with_same}
 
 -- ---- nothing, and what a transaction killed
 
@@ -234,3 +236,53 @@ all_none globals n rows = record { placed = many rows; each = each_none globals 
   many : (k : ℕ) → length (replicate {A = Passed} k (record { at = 0; skips = [] })) ≡ length (replicate {A = Option Transaction} k None)
   many zero = refl
   many (suc k) = ap suc (many k)
+
+-- a job's transaction that was taken out of its place, and another put back that killed the same
+pub back_like : (globals : Content) (n : ℕ) (ts out back : Transactions) (ps : List Passed) (job : ℕ) (own : Option Transaction) → out ≡ with_transaction ts job None
+    → back ≡ with_transaction out job own → killed_by own ≡ killed_by (transaction_of ts job) → ArePassed globals n ts ps → ArePassed globals n back ps
+back_like globals n ts out back ps job own left put same was =
+    subst (λ l. ArePassed globals n l ps) (sym (put ∙ ap (λ l. with_transaction l job own) left ∙ with_twice ts job None own)) (all_like globals n ts ps job own same was)
+
+-- a transaction after a try, whatever came of it, and after an unlock
+pub killed_try : {E : Type 0} (own own' : Option Transaction) (names : List Name) (P : Type 0) (r : Result Taken E) → IfOk r (λ taken. own' ≡ after_taken own names taken)
+    → OnErr r (P × (own' ≡ own)) → killed_by own' ≡ killed_by own
+killed_try own own' names P (Ok taken) ok err = ap killed_by ok ∙ killed_taken own names taken
+killed_try own own' names P (Err e) ok err = ap killed_by err.1
+
+pub killed_given : {A E : Type 0} (own own' : Option Transaction) (u : Unlock) (P : Type 0) (r : Result A E) → OnOk r (own' ≡ with_waiting own u)
+    → OnErr r (P × (own' ≡ own)) → killed_by own' ≡ killed_by own
+killed_given own own' u P (Ok told) ok err = ap killed_by ok ∙ killed_waiting own u
+killed_given own own' u P (Err e) ok err = ap killed_by err.1
+
+-- a job's transaction that is gone, with what it passed over
+pub forgotten : (ps : List Passed) (job k many : ℕ) (p p' : Passed) → (job ≡ suc k) × (k < many) → many ≡ length ps → p ≡ get_or ps k p → p' ≡ record p { skips = [] }
+    → (globals : Content) (n : ℕ) (ts : Transactions) → ArePassed globals n ts ps → ArePassed globals n (with_transaction ts job None) (slice_set ps k p')
+forgotten ps job k many p p' place all there cleared globals n ts was =
+    let within : k < length ps = subst (λ m. k < m) all place.1 in
+    let found : slice_get ps k ≡ Some p = slice_get-get_or ps k p within ∙ ap Some (sym there) in
+    let old : IsPassed globals n (slice_index_or ts k None) p = was.each k p found in
+    let new : IsPassed globals n None p' = subst (λ x. IsPassed globals n None x) (sym cleared) (passed_none globals n None p.at old.before) in
+    subst (λ j. ArePassed globals n (with_transaction ts j None) (slice_set ps k p')) (sym place.0)
+    (all_set globals n globals n ts ps k None p' (counted_same globals n globals n refl (omega arith)) new was)
+
+-- the last row is gone
+pub one_fewer : (globals : Content) (n : ℕ) (ts ts' : Transactions) (ps ps' : List Passed) (a b : ℕ) → a ≡ length ts → b ≡ length ps → ts' ≡ take (a - 1) ts
+    → ps' ≡ take (b - 1) ps → ArePassed globals n ts ps → ArePassed globals n ts' ps'
+one_fewer globals n ts ts' ps ps' a b many all left kept was =
+    let same : b ≡ a = all ∙ was.placed ∙ sym many in
+    subst (λ l. ArePassed globals n l ps') (sym left)
+    (subst (λ l. ArePassed globals n (take (a - 1) ts) l) (sym (kept ∙ ap (λ k. take (k - 1) ps) same)) (all_fewer globals n ts ps (a - 1) was))
+
+-- rows without a transaction, made one kind after the other
+pub none_made : (globals : Content) (ts : Transactions) (ps : List Passed) (a b : ℕ) → ts ≡ replicate a None → ps ≡ replicate b (record { at = 0; skips = [] }) → a ≡ b
+    → ArePassed globals 0 ts ps
+none_made globals ts ps a b none all same =
+    subst (λ l. ArePassed globals 0 l ps) (sym none)
+    (subst (λ l. ArePassed globals 0 (replicate a None) l) (sym (all ∙ ap (λ k. replicate k (record { at = 0; skips = [] })) (sym same))) (all_none globals 0 a))
+
+-- a row that was put behind the others, and taken away again
+pub taken_back : (ts : Transactions) (t : Option Transaction) → take (length (ts ++ t ∷ []) - 1) (ts ++ t ∷ []) ≡ ts
+taken_back ts t = ap (λ k. take k (ts ++ t ∷ [])) (let e = length_more ts t in let f : length (ts ++ t ∷ []) - 1 ≡ length ts = omega (arith, e) in f) ∙ front ts where
+  front : (l : Transactions) → take (length l) (l ++ t ∷ []) ≡ l
+  front [] = refl
+  front (x ∷ l) = ap (λ r. x ∷ r) (front l)

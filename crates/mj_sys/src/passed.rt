@@ -4,7 +4,7 @@
 // next read doesn't go there once more. It holds as long as the globals are the same: their changes are counted, and what was kept at another
 // count isn't looked at.
 
-ghost use Rattle.std.specs.Prelude.{◌≡◌, ◌<◌, ◌↔◌, [], replicate, IfOk, if◌then◌else◌};
+ghost use Rattle.std.specs.Prelude.{◌≡◌, ◌<◌, ◌↔◌, [], replicate, Option, IfOk, if◌then◌else◌};
 ghost use Rattle.mj_store.specs.Questions.{Content};
 ghost use Rattle.mj_txlog.specs.Skips.{AreSkips};
 ghost use Rattle.mj_txlog.specs.Accesses.{is_write, Transaction};

@@ -47,7 +47,7 @@ pub enum Outcome<S> {
 pub struct Shared<D: Device> {
     alloc: Global,
     // the globals, and the transactions that are open on them
-    open: Transacted,
+    transacted: Transacted,
     locks: LockTable,
     pool: Pool<D>,
     // the job that holds the name, for each name of the pool in their order
@@ -64,11 +64,11 @@ impl<D: Device> Model for Shared<D> {
 
     ghost view = { λ s. record {
       state = record {
-        globals = s.open.globals;
+        globals = s.transacted.globals;
         locks = s.locks;
         devices = devices_of s.principals s.pool s.holders.items;
         rows = s.jobs.rows;
-        transactions = s.open.transactions;
+        transactions = s.transacted.transactions;
       };
       claimed = s.jobs.claimed;
     } };
@@ -125,7 +125,7 @@ impl<D: Device> Shared<D> {
         let principals = pool.left(&principal(alloc));
         Ok(Shared {
             alloc,
-            open: Transacted::new(alloc, globals, logs, passed),
+            transacted: Transacted::new(alloc, globals, logs, passed),
             locks: LockTable::new(alloc),
             pool,
             holders,
@@ -138,7 +138,7 @@ impl<D: Device> Shared<D> {
     pub fn globals(&self) -> &Globals
         ensures { result.now ≡ self.now.state.globals }
     {
-        self.open.globals()
+        self.transacted.globals()
     }
 
     // Who holds which names.
@@ -273,7 +273,7 @@ impl<D: Device> Shared<D> {
         ensures ok { IfOk result (λ outcome. Comes self.old job (asks.Access of.now) false outcome self.new) }
         ensures err { OnErr result (self.new ≡ self.old) }
     {
-        let (reply, again) = self.open.access(job, of)?;
+        let (reply, again) = self.transacted.access(job, of)?;
         Ok(Outcome::Told(reply, again))
     }
 
@@ -288,7 +288,7 @@ impl<D: Device> Shared<D> {
         ensures ok { IfOk result (λ outcome. Comes self.old job (asks.Try names.now timeout) late outcome self.new) }
         ensures err { OnErr result (self.new ≡ self.old) }
     {
-        let taken = self.open.try_take(&mut self.locks, job, names.as_slice());
+        let taken = self.transacted.try_take(&mut self.locks, job, names.as_slice());
         Ok(match taken? {
             Taken::Got => Outcome::Told(Reply::Got, Reply::Got),
             Taken::Limit => Outcome::Told(Reply::Limit, Reply::Limit),
@@ -301,7 +301,7 @@ impl<D: Device> Shared<D> {
         ensures ok { IfOk result (λ outcome. Comes self.old job (asks.Unlock names.now) false outcome self.new) }
         ensures err { OnErr result (self.new ≡ self.old) }
     {
-        let (reply, again) = self.open.unlock(&mut self.locks, job, names.as_slice())?;
+        let (reply, again) = self.transacted.unlock(&mut self.locks, job, names.as_slice())?;
         Ok(Outcome::Told(reply, again))
     }
 
@@ -310,7 +310,7 @@ impl<D: Device> Shared<D> {
         ensures ok { IfOk result (λ outcome. Comes self.old job asks.UnlockAll false outcome self.new) }
         ensures err { OnErr result (self.new ≡ self.old) }
     {
-        let (reply, again) = self.open.unlock_all(&mut self.locks, job)?;
+        let (reply, again) = self.transacted.unlock_all(&mut self.locks, job)?;
         Ok(Outcome::Told(reply, again))
     }
 
@@ -318,7 +318,7 @@ impl<D: Device> Shared<D> {
     fn begin(&mut self, job: u32, kind: Kind)
         ensures { self.new ≡ record { state = begun_in self.old.state job kind; claimed = self.old.claimed } }
     {
-        self.open.begin(job, kind);
+        self.transacted.begin(job, kind);
     }
 
     // TCOMMIT: a transaction isn't open any more, and its changes are made where it doesn't clash.
@@ -326,7 +326,7 @@ impl<D: Device> Shared<D> {
         ensures ok { IfOk result (λ outcome. Comes self.old job asks.Commit false outcome self.new) }
         ensures err { OnErr result (self.new ≡ self.old) }
     {
-        let (reply, again) = self.open.commit(&mut self.locks, job)?;
+        let (reply, again) = self.transacted.commit(&mut self.locks, job)?;
         Ok(Outcome::Told(reply, again))
     }
 
@@ -334,7 +334,7 @@ impl<D: Device> Shared<D> {
     fn roll_back(&mut self, job: u32)
         ensures { self.new ≡ record { state = undone self.old.state job; claimed = self.old.claimed } }
     {
-        self.open.roll_back(&mut self.locks, job);
+        self.transacted.roll_back(&mut self.locks, job);
     }
 
     // OPEN of a name.
@@ -377,6 +377,7 @@ impl<D: Device> Shared<D> {
     }
 
     // JOB: one more row, where there is room for it and a principal session is left.
+    #[tactic(auto, using(crate::proofs::Passing::taken_back))]
     fn start(
         &mut self,
         job: u32,
@@ -392,11 +393,11 @@ impl<D: Device> Shared<D> {
             return Ok(Outcome::Told(Reply::Limit, Reply::Limit));
         }
         let start = start.try_clone()?;
-        self.open.add_row()?;
+        self.transacted.add_row()?;
         match self.jobs.add(start) {
             Ok(number) => Ok(Outcome::Told(Reply::Job(number), Reply::Job(number))),
             Err((error, _)) => {
-                self.open.drop_row();
+                self.transacted.drop_row();
                 Err(error)
             }
         }

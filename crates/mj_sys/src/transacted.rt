@@ -1,6 +1,6 @@
 // The globals, and the transactions that are open on them.
 
-ghost use Rattle.std.specs.Prelude.{◌≡◌, ◌++◌, ◌∷◌, [], length, take, replicate, None, IfOk, IfErr, OnOk, OnErr};
+ghost use Rattle.std.specs.Prelude.{◌≡◌, ◌++◌, ◌-◌, ◌∷◌, [], length, take, replicate, None, IfOk, IfErr, OnOk, OnErr};
 ghost use Rattle.mj_ask.specs.declared.ask.Reply.TheVariants as replies;
 ghost use Rattle.mj_locktab.specs.Tries.{outcome_of as try_of, after_try, Tells};
 ghost use Rattle.mj_txlog.specs.declared.entry.Unlock.TheVariants as unlocks;
@@ -110,6 +110,7 @@ impl Transacted {
     }
 
     // A try of names, which a transaction gains where they are got.
+    #[tactic(auto, using(crate::proofs::Places::with_twice, crate::proofs::Places::with_same))]
     pub fn try_take(
         &mut self,
         locks: &mut LockTable,
@@ -129,6 +130,7 @@ impl Transacted {
     }
 
     // An unlock of names, which waits where a transaction is open. What it is told is there twice.
+    #[tactic(auto, using(crate::proofs::Places::with_twice, crate::proofs::Places::with_same))]
     pub fn unlock(
         &mut self,
         locks: &mut LockTable,
@@ -147,6 +149,7 @@ impl Transacted {
     }
 
     // An unlock of all names.
+    #[tactic(auto, using(crate::proofs::Places::with_twice, crate::proofs::Places::with_same))]
     pub fn unlock_all(
         &mut self,
         locks: &mut LockTable,
@@ -164,6 +167,7 @@ impl Transacted {
     }
 
     // A transaction begins, unless one is open.
+    #[tactic(auto, using(crate::proofs::Places::with_twice, crate::proofs::Places::with_same))]
     pub fn begin(&mut self, job: u32, kind: Kind)
         ensures { self.new ≡ record { globals = self.old.globals; transactions = with_transaction self.old.transactions job (begun_as (transaction_of self.old.transactions job) kind) } }
     {
@@ -172,6 +176,7 @@ impl Transacted {
     }
 
     // A commit of the transaction, if one is open. What it is told is there twice.
+    #[tactic(auto, using(crate::proofs::Places::with_twice, crate::proofs::Places::with_same))]
     pub fn commit(
         &mut self,
         locks: &mut LockTable,
@@ -198,6 +203,7 @@ impl Transacted {
     }
 
     // A rollback of the transaction, if one is open.
+    #[tactic(auto, using(crate::proofs::Places::with_twice, crate::proofs::Places::with_same))]
     pub fn roll_back(&mut self, locks: &mut LockTable, job: u32)
         ensures after { self.new ≡ record { globals = self.old.globals; transactions = with_transaction self.old.transactions job None } }
         ensures locks { locks.new ≡ locks_back (transaction_of self.old.transactions job) job locks.old }
