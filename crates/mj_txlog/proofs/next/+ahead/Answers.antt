@@ -177,4 +177,3 @@ stands-returns t c = record {
       ∙ sym (data_stands sees c.args.name.now);
   skips = c.in_ok-next.ensures.skips;
 }
-
