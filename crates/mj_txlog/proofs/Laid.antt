@@ -57,6 +57,14 @@ set_went gone m n (suc k) =
     ∙ ap (λ b. (hits m n k || went_before gone n k) || b) (some_either (eq_by_cmp name_cmp x m) [] (find name_cmp x gone))
     ∙ or_swap (hits m n k) (went_before gone n k) (eq_by_cmp name_cmp x m) (is_some (find name_cmp x gone))
 
+second_false : (a b : Bool) → (a || b) ≡ false → b ≡ false
+second_false true b e = absurd cc
+second_false false b e = e
+
+-- what didn't go once one name more went, didn't before
+pub went_less : (gone : Content) (m n : Name) → went (after_set gone m []) n ≡ false → went gone n ≡ false
+went_less gone m n h = second_false (hits m n (suc (length n.subscripts))) (went gone n) (sym (set_went gone m n (suc (length n.subscripts))) ∙ h)
+
 none_went : (n : Name) (k : ℕ) → went_before [] n k ≡ false
 none_went n zero = refl
 none_went n (suc k) = ap (λ b. b || false) (none_went n k)

@@ -11,3 +11,4 @@ pub mod Kept
 pub mod Nexts
 pub mod Passing
 pub mod Bare
+pub mod Goes

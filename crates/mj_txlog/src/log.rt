@@ -33,7 +33,7 @@ pub struct TxLog {
 }
 
 impl Model for TxLog {
-    ghost use Rattle.std.specs.Prelude.{◌≤◌, length};
+    ghost use Rattle.std.specs.Prelude.{◌≡◌, ◌≤◌, length};
     ghost use Rattle.mj_txlog.specs.Accesses.{Transaction};
     ghost use Rattle.mj_txlog.specs.Laid.{IsLaid};
     ghost use Rattle.mj_txlog.specs.Skips.{gone_by};
@@ -135,14 +135,7 @@ impl TxLog {
         ensures again { IfOk result (λ x. x.0.1 ≡ answer_of read.now (seen globals.now self.now.accesses)) }
         ensures kept { IfOk result (λ x. x.1 ≡ answer_of read.now (seen globals.now self.now.accesses)) }
     {
-        let answer = answer(
-            self.alloc,
-            globals,
-            &self.entries,
-            &self.own,
-            skips,
-            read,
-        )?;
+        let answer = answer(self.alloc, globals, &self.entries, &self.own, skips, read)?;
         match twice(self.alloc, &answer) {
             Ok((again, kept)) => Ok(((answer, again), kept)),
             Err(refused) => {
@@ -174,7 +167,7 @@ impl TxLog {
     }
 
     // Appends an entry, and makes the write that it is, if it is one.
-    #[tactic(auto, using(crate::proofs::Laid::more_laid))]
+    #[tactic(auto, using(crate::proofs::Laid::more_laid, crate::proofs::Goes::gone_laid))]
     fn push(&mut self, entry: Entry) -> Result<(), AllocError>
         requires { is_full self.old ≡ false }
         ensures appended { OnOk result (self.new ≡ with_entry self.old entry) }

@@ -95,7 +95,9 @@ fn answer_at(
             globals.data(name),
         ))),
         Access::Data(name) => Ok(Answer::Data(data(globals, own, skips, name)?)),
-        Access::Order(name, way) => Ok(Answer::Order(order(globals, own, skips, name, *way, reach)?)),
+        Access::Order(name, way) => Ok(Answer::Order(order(
+            globals, own, skips, name, *way, reach,
+        )?)),
         Access::Query(name) => match query(globals, own, skips, name)? {
             Some(next) => Ok(Answer::Query(next)),
             None => answer_among(globals, own, read, reach),
@@ -105,12 +107,7 @@ fn answer_at(
 }
 
 // Whether a text stands at the name, and whether one stands below it.
-fn data(
-    globals: &Globals,
-    own: &Overlay,
-    skips: &mut Skips,
-    name: &Name,
-) -> Result<u8, AllocError>
+fn data(globals: &Globals, own: &Overlay, skips: &mut Skips, name: &Name) -> Result<u8, AllocError>
     requires { KeepSkips globals.now own.now skips.old }
     ensures skips { KeepSkips globals.now own.now skips.new }
     ensures data { IfOk result (λ d. (es : Accesses) → IsLaid own.now es → d ≡ data_at (seen globals.now es) name.now) }

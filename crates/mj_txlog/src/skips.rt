@@ -138,12 +138,7 @@ impl Skips {
     }
 
     // The run that begins next behind a name, if that isn't behind the subscript: the name at which it stands, and its last subscript.
-    fn behind(
-        &self,
-        at: &Name,
-        front: &Name,
-        to: &Sub,
-    ) -> Result<Option<(Name, Sub)>, AllocError>
+    fn behind(&self, at: &Name, front: &Name, to: &Sub) -> Result<Option<(Name, Sub)>, AllocError>
         ensures { IfOk result (λ found. IfSome found (λ run. IsNextRun self.now front.now to.now run.0 run.1)) }
     {
         let Some(begin) = self.runs.order(at, Direction::Forward) else {
@@ -177,12 +172,7 @@ impl Skips {
     }
 
     // The same, where the name with the subscript is at hand.
-    fn run_at(
-        &self,
-        at: &Name,
-        front: &Name,
-        sub: &Sub,
-    ) -> Result<Option<(Sub, Sub)>, AllocError>
+    fn run_at(&self, at: &Name, front: &Name, sub: &Sub) -> Result<Option<(Sub, Sub)>, AllocError>
         requires { at.now ≡ followed_by front.now (sub.now ∷ []) }
         ensures { IfOk result (λ found. IfSome found (λ run. IsRun self.now front.now sub.now run.0 run.1)) }
     {

@@ -4,11 +4,12 @@ ghost use Rattle.std.specs.Prelude.{◌≡◌, ◌<◌, ◌≤◌, [], false, le
 ghost use Rattle.mj_store.specs.Runs.{answer_of};
 ghost use Rattle.mj_txlog.specs.Accesses.{is_write, seen};
 ghost use Rattle.mj_txlog.specs.Laid.{IsLaid};
+ghost use Rattle.mj_txlog.specs.Skips.{AreSkips};
 ghost use Rattle.mj_txn.specs.Commits.{HoldsNow, Hold, IsOther, DiffersNow, Differs};
 
 use mj_globs::Globals;
 use mj_store::{Access, Answer};
-use mj_txlog::{ACCESS_LIMIT, Entry, Overlay, answer, copy_of, is_same, is_write};
+use mj_txlog::{ACCESS_LIMIT, Entry, Overlay, Skips, answer, copy_of, is_same, is_write};
 use std::alloc::{AllocError, Global};
 
 /// A read that has another answer now.
@@ -33,24 +34,28 @@ pub fn first_changed(
     ensures { IfOk result (λ r. MatchOption r (Hold globals.now [] entries.now) (λ c. Differs globals.now entries.now c.place c.then c.now)) }
 {
     let mut own = Overlay::new(alloc);
-    let found = first_over(alloc, globals, entries, &mut own);
+    let mut skips = Skips::new(alloc);
+    let found = first_over(alloc, globals, entries, &mut own, &mut skips);
+    drop(skips);
     drop(own);
     found
 }
 
-// The same, where no own writes lie over the globals yet.
+// The same, where no own writes lie over the globals yet. What a read passes over, the later ones don't look at again.
 fn first_over(
     alloc: Global,
     globals: &Globals,
     entries: &[Entry],
     own: &mut Overlay,
+    skips: &mut Skips,
 ) -> Result<Option<Changed>, AllocError>
     requires limit { length entries.now ≤ ACCESS_LIMIT }
     requires none { IsLaid own.old [] }
+    requires skips { AreSkips globals.now own.old.gone skips.old }
     ensures { IfOk result (λ r. MatchOption r (Hold globals.now [] entries.now) (λ c. Differs globals.now entries.now c.place c.then c.now)) }
 {
     for (i, entry) in entries.iter().enumerate() {
-        match changed_now(alloc, globals, &entries[..i], own, entry) {
+        match changed_now(alloc, globals, &entries[..i], own, skips, entry) {
             Ok(None) => own.add(entry)?,
             Ok(Some(changed)) => return Ok(Some(changed)),
             Err(refused) => return Err(refused),
@@ -65,18 +70,21 @@ fn changed_now(
     globals: &Globals,
     earlier: &[Entry],
     own: &Overlay,
+    skips: &mut Skips,
     entry: &Entry,
 ) -> Result<Option<Changed>, AllocError>
     requires room { length earlier.now < ACCESS_LIMIT }
     requires own { IsLaid own.now earlier.now }
-    ensures { IfOk result (λ r. MatchOption r (HoldsNow globals.now earlier.now entry.now) (λ c. DiffersNow globals.now earlier.now entry.now c.place c.then c.now)) }
+    requires skips { AreSkips globals.now own.now.gone skips.old }
+    ensures skips { AreSkips globals.now own.now.gone skips.new }
+    ensures changed { IfOk result (λ r. MatchOption r (HoldsNow globals.now earlier.now entry.now) (λ c. DiffersNow globals.now earlier.now entry.now c.place c.then c.now)) }
 {
     match entry {
         Entry::Access(access, then) => {
             if is_write(access) {
                 return Ok(None);
             }
-            changed_read(alloc, globals, earlier, own, access, then)
+            changed_read(alloc, globals, earlier, own, skips, access, then)
         }
         Entry::Unlock(_) => Ok(None),
     }
@@ -88,15 +96,18 @@ fn changed_read(
     globals: &Globals,
     earlier: &[Entry],
     own: &Overlay,
+    skips: &mut Skips,
     read: &Access,
     then: &Answer,
 ) -> Result<Option<Changed>, AllocError>
     requires room { length earlier.now < ACCESS_LIMIT }
     requires own { IsLaid own.now earlier.now }
+    requires skips { AreSkips globals.now own.now.gone skips.old }
     requires read { is_write read.now ≡ false }
-    ensures { IfOk result (λ r. MatchOption r (answer_of read.now (seen globals.now earlier.now) ≡ then.now) (λ c. IsOther globals.now earlier.now read.now then.now c.place c.then c.now)) }
+    ensures skips { AreSkips globals.now own.now.gone skips.new }
+    ensures changed { IfOk result (λ r. MatchOption r (answer_of read.now (seen globals.now earlier.now) ≡ then.now) (λ c. IsOther globals.now earlier.now read.now then.now c.place c.then c.now)) }
 {
-    let now = answer(alloc, globals, earlier, own, read)?;
+    let now = answer(alloc, globals, earlier, own, skips, read)?;
     if is_same(&now, then) {
         return Ok(None);
     }

@@ -5,6 +5,7 @@ ghost use Rattle.mj_locktab.specs.Tries.{outcome_of as try_of, after_try, Tells}
 ghost use Rattle.mj_txn.specs.Closing.{is_local_write, told_in, after_told, after_taken, unlocked, unlocked_by, rolled_back, committed, clash_of};
 ghost use Rattle.mj_ask.specs.declared.ask.Reply.TheVariants as replies;
 ghost use Rattle.mj_txlog.specs.Accesses.{unlock_reply, with_unlock};
+ghost use Rattle.mj_txlog.specs.Skips.{AreSkips, gone_by};
 ghost use Rattle.mj_txlog.specs.declared.entry.Unlock.TheVariants as unlocks;
 
 use crate::changed::Changed;
@@ -14,20 +15,24 @@ use mj_globs::Globals;
 use mj_locktab::{LockTable, Taken};
 use mj_store::{Access, Answer};
 use mj_subs::Name;
-use mj_txlog::{Entry, NameList, TxLog, Unlock, is_refused, is_write};
+use mj_txlog::{Entry, NameList, Skips, TxLog, Unlock, is_refused, is_write};
 use std::alloc::{AllocError, Global};
 
 /// Makes an access of the job in its transaction. A change of a local name is done without a change, and is no access of the transaction. The
-/// answer is there twice, once for the job and once for who writes it down.
+/// answer is there twice, once for the job and once for who writes it down. What its reads pass over is kept in `skips`, which is so for as long as the globals
+/// don't change.
 pub fn access(
     log: &mut TxLog,
     globals: &Globals,
+    skips: &mut Skips,
     access: &Access,
 ) -> Result<(Answer, Answer), AllocError>
+    requires { AreSkips globals.now (gone_by log.old.accesses) skips.old }
     ensures answer { IfOk result (λ told. told.0 ≡ told_in log.old globals.now access.now) }
     ensures again { IfOk result (λ told. told.1 ≡ told_in log.old globals.now access.now) }
     ensures log { OnOk result (log.new ≡ after_told log.old globals.now access.now) }
     ensures unchanged { OnErr result (log.new ≡ log.old) }
+    ensures skips { AreSkips globals.now (gone_by log.new.accesses) skips.new }
 {
     if is_local_write(access) {
         return Ok(if is_refused(access) {
@@ -36,7 +41,7 @@ pub fn access(
             (Answer::Done, Answer::Done)
         });
     }
-    log.see(globals, access.try_clone()?)
+    log.see(globals, skips, access.try_clone()?)
 }
 
 // Whether it is a change of a local name.

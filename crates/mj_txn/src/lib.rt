@@ -17,3 +17,4 @@ mod writes;
 pub use changed::{Changed, first_changed};
 pub use closing::{access, close, roll_back, try_take, unlock};
 pub use committing::{Outcome, commit};
+pub use mj_txlog::Skips;

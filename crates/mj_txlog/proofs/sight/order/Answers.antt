@@ -7,16 +7,16 @@ use Rattle.mj_txlog.specs.Accesses.{seen, front_of}
 use Rattle.mj_txlog.proofs.Fronts.{front_last}
 use Rattle.mj_txlog.proofs.sight.order.Goals as goal
 
-pub returns-in-len1-up : goal.returns-in-len1-up
-returns-in-len1-up c = IfOk-weaker c.next_below.result _ _
+pub returns-in-len1-up-clause-next : goal.returns-in-len1-up-clause-next
+returns-in-len1-up-clause-next c = IfOk-weaker c.next_below.result _ _
     (λ next h es laid.
     let list = c.as_slice.result.now in
     let last = c.last-item.result in
     let same : list ≡ c.args.name.now.subscripts = c.as_slice.ensures.value ∙ c.subscripts.ensures in
     let whole : followed_by c.args.front.now (last ∷ []) ≡ c.args.name.now =
-    ap (λ (k : Name). followed_by k (last ∷ [])) c.requires
+    ap (λ (k : Name). followed_by k (last ∷ [])) c.requires.front
     ∙ (λ i. with_subscripts c.args.name.now (front_of (sym same i) ++ last ∷ []))
     ∙ ap (with_subscripts c.args.name.now) (front_last list last c.in-len1-up.len_at_least c.last-item.is ∙ same)
     in
     h es laid ∙ ap (λ (k : Name). order_at (seen c.args.globals.now es) k c.args.way) whole)
-    c.next_below.ensures
+    c.next_below.ensures.next
