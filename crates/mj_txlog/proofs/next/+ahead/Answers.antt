@@ -177,3 +177,4 @@ stands-returns t c = record {
       ∙ sym (data_stands sees c.args.name.now);
   skips = c.in_ok-next.ensures.skips;
 }
+
