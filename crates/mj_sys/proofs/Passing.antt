@@ -22,7 +22,7 @@ use Rattle.mj_sys.specs.Shared.{changed}
 use Rattle.mj_sys.specs.Kept.{after_taken}
 use Rattle.mj_sys.specs.Passed.{changes_limit, counted, IsCounted, killed_by, IsPassed, ArePassed}
 use Rattle.mj_sys.specs.declared.passed.Passed.{Passed}
-use Rattle.mj_sys.proofs.Places.{with_twice, with_same}
+use Rattle.mj_sys.proofs.Places.{with_twice}
 
 -- ---- nothing, and what a transaction killed
 

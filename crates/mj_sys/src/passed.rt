@@ -4,11 +4,11 @@
 // next read doesn't go there once more. It holds as long as the globals are the same: their changes are counted, and what was kept at another
 // count isn't looked at.
 
-ghost use Rattle.std.specs.Prelude.{◌≡◌, ◌<◌, ◌↔◌, [], replicate, Option, IfOk, if◌then◌else◌};
+ghost use Rattle.std.specs.Prelude.{◌≡◌, [], replicate, Option, IfOk, if◌then◌else◌};
 ghost use Rattle.mj_store.specs.Questions.{Content};
 ghost use Rattle.mj_txlog.specs.Skips.{AreSkips};
 ghost use Rattle.mj_txlog.specs.Accesses.{is_write, Transaction};
-ghost use Rattle.mj_sys.specs.Passed.{changes_limit, counted, killed_by, IsPassed, Forgets};
+ghost use Rattle.mj_sys.specs.Passed.{counted, killed_by, IsPassed, Forgets};
 
 use crate::transactions::place;
 use mj_store::Access;

@@ -18,8 +18,8 @@ ghost use Rattle.mj_sys.specs.Opening.{opening_of};
 ghost use Rattle.mj_sys.specs.Kept.{Comes, without};
 
 use crate::opening::Unmade;
-use crate::served::Held;
 use crate::passed::none_passed;
+use crate::served::Held;
 use crate::transacted::Transacted;
 use crate::transactions::none_open;
 use mj_ask::{Ask, Kind, Names, Reply, Start};
@@ -288,7 +288,9 @@ impl<D: Device> Shared<D> {
         ensures ok { IfOk result (λ outcome. Comes self.old job (asks.Try names.now timeout) late outcome self.new) }
         ensures err { OnErr result (self.new ≡ self.old) }
     {
-        let taken = self.transacted.try_take(&mut self.locks, job, names.as_slice());
+        let taken = self
+            .transacted
+            .try_take(&mut self.locks, job, names.as_slice());
         Ok(match taken? {
             Taken::Got => Outcome::Told(Reply::Got, Reply::Got),
             Taken::Limit => Outcome::Told(Reply::Limit, Reply::Limit),
@@ -301,7 +303,9 @@ impl<D: Device> Shared<D> {
         ensures ok { IfOk result (λ outcome. Comes self.old job (asks.Unlock names.now) false outcome self.new) }
         ensures err { OnErr result (self.new ≡ self.old) }
     {
-        let (reply, again) = self.transacted.unlock(&mut self.locks, job, names.as_slice())?;
+        let (reply, again) = self
+            .transacted
+            .unlock(&mut self.locks, job, names.as_slice())?;
         Ok(Outcome::Told(reply, again))
     }
 

@@ -1,6 +1,6 @@
 // The globals, and the transactions that are open on them.
 
-ghost use Rattle.std.specs.Prelude.{◌≡◌, ◌++◌, ◌-◌, ◌∷◌, [], length, take, replicate, None, IfOk, IfErr, OnOk, OnErr};
+ghost use Rattle.std.specs.Prelude.{◌≡◌, ◌++◌, ◌-◌, ◌∷◌, [], length, take, None, IfOk, OnOk, OnErr};
 ghost use Rattle.mj_ask.specs.declared.ask.Reply.TheVariants as replies;
 ghost use Rattle.mj_locktab.specs.Tries.{outcome_of as try_of, after_try, Tells};
 ghost use Rattle.mj_txlog.specs.declared.entry.Unlock.TheVariants as unlocks;
@@ -23,7 +23,8 @@ use mj_txlog::TxLog;
 use std::alloc::{AllocError, Global};
 use std::marker::Model;
 
-// The globals, and for each row the transaction that its job has open. Beside that stands what its reads have passed over, which its type keeps true.
+// The globals, and for each row the transaction that its job has open. Beside that stands what its reads have passed over, as long as it, which the
+// type keeps true of the globals as they are.
 #[derive(Drop)]
 pub struct Transacted {
     alloc: Global,
@@ -177,11 +178,7 @@ impl Transacted {
 
     // A commit of the transaction, if one is open. What it is told is there twice.
     #[tactic(auto, using(crate::proofs::Places::with_twice, crate::proofs::Places::with_same))]
-    pub fn commit(
-        &mut self,
-        locks: &mut LockTable,
-        job: u32,
-    ) -> Result<(Reply, Reply), AllocError>
+    pub fn commit(&mut self, locks: &mut LockTable, job: u32) -> Result<(Reply, Reply), AllocError>
         ensures told { IfOk result (λ told. told.0 ≡ (closed_as (transaction_of self.old.transactions job) job self.old.globals locks.old).reply) }
         ensures again { IfOk result (λ told. told.1 ≡ told.0) }
         ensures after { OnOk result (self.new ≡ record { globals = (closed_as (transaction_of self.old.transactions job) job self.old.globals locks.old).globals; transactions = with_transaction self.old.transactions job None }) }

@@ -1,9 +1,9 @@
-use Rattle.std.proofs.Common.{◌≡◌, false, true, Some, None, refl, sym, ap, ◌∙◌, subst, get_or, arith, ◌<◌}
+use Rattle.std.proofs.Common.{◌≡◌, false, Some, None, refl, sym, ap, ◌∙◌, get_or}
 use Rattle.std.specs.Prelude.{nat_lt}
 use Rattle.std.specs.List.{position}
 use Rattle.std.specs.Str.{bytes_eq}
 use Rattle.mj_ask.specs.declared.ask.Ask.TheVariants as asks
-use Rattle.mj_dev.specs.Shelves.{principal, is_named, left_of}
+use Rattle.mj_dev.specs.Shelves.{principal, is_named}
 use Rattle.mj_sys.specs.Devices.{device_at}
 use Rattle.mj_sys.specs.Opening.{device_of}
 use Rattle.mj_sys.specs.Shared.{Shared, takes_session}

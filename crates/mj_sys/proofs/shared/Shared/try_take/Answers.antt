@@ -1,6 +1,5 @@
 use Rattle.std.proofs.Common.{◌≡◌, refl, sym, ap, ◌∙◌, subst}
 use Rattle.mj_ask.specs.declared.ask.Ask.TheVariants as asks
-use Rattle.mj_locktab.specs.Locks.{Locks}
 use Rattle.mj_sys.specs.Transactions.{Transacted, transaction_of, with_transaction}
 use Rattle.mj_sys.specs.Shared.{Shared}
 use Rattle.mj_sys.specs.Kept.{Service, Comes, devices_of, after_taken}
