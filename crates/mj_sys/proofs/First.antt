@@ -1,10 +1,9 @@
 -- What is kept of a system that begins.
-use Rattle.std.proofs.Common.{◌≡◌, ℕ, ◌<◌, List, [], length, true, refl, sym, ap, ◌∙◌, subst, arith}
+use Rattle.std.proofs.Common.{◌≡◌, ℕ, List, [], length, true, refl, sym, subst, arith}
 use Rattle.mj_store.specs.Questions.{Content}
-use Rattle.mj_subs.specs.Name.{Name, Overlaps}
 use Rattle.mj_ask.specs.Started.{Started}
 use Rattle.mj_dev.specs.Shelves.{Shelf}
-use Rattle.mj_locktab.specs.Locks.{LocksApart, count_of}
+use Rattle.mj_locktab.specs.Locks.{LocksApart}
 use Rattle.mj_sys.specs.Shared.{Shared, are_global}
 use Rattle.mj_sys.specs.Opening.{opening_of}
 use Rattle.mj_sys.specs.History.{History}

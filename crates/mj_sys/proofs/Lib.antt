@@ -6,6 +6,7 @@ mod Global
 mod Opens
 mod Serving
 mod Placed
+mod Passing
 mod Places
 pub mod Replays
 pub mod Rows

@@ -22,7 +22,7 @@ use Rattle.mj_locktab.specs.declared.taken.Taken.{Taken}
 use Rattle.mj_locktab.specs.declared.taken.Taken.TheVariants as takes
 use Rattle.mj_locktab.specs.Locks.{Locks}
 use Rattle.mj_locktab.specs.Tries.{outcome_of as try_of, after_try}
-use Rattle.mj_txlog.specs.Accesses.{Accesses, Transaction, is_write, is_full, writes_of, reply_in, with_reply, with_unlock}
+use Rattle.mj_txlog.specs.Accesses.{Accesses, Transaction, is_write, is_full, writes_of, reply_in, with_reply}
 use Rattle.mj_txlog.specs.declared.entry.Entry.{Entry}
 use Rattle.mj_txlog.specs.declared.entry.Entry.TheVariants as entries
 use Rattle.mj_txlog.specs.declared.entry.Unlock.{Unlock}

@@ -6,3 +6,4 @@ pub mod History
 pub mod System
 pub mod Told
 pub mod Transactions
+pub mod Passed

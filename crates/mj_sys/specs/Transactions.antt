@@ -19,6 +19,11 @@ use Rattle.mj_txn.specs.Closing.{told_in, after_told, unlocked_by, rolled_back, 
 abbrev pub Transactions : Type 0
 Transactions = List (Option Transaction)
 
+-- the globals, and the transactions that are open on them
+pub record Transacted : Type 0 where
+  pub globals : Content
+  pub transactions : Transactions
+
 -- the transaction that a job has open, if it has one
 abbrev pub transaction_of : Transactions → ℕ → Option Transaction
 transaction_of transactions zero = None

@@ -18,10 +18,10 @@ ghost use Rattle.mj_sys.specs.Opening.{opening_of};
 ghost use Rattle.mj_sys.specs.Kept.{Comes, without};
 
 use crate::opening::Unmade;
+use crate::passed::none_passed;
 use crate::served::Held;
-use crate::transactions::{
-    access, begun, commit, none_open, put_back, roll_back, take_out, try_take, unlock, unlock_all,
-};
+use crate::transacted::Transacted;
+use crate::transactions::none_open;
 use mj_ask::{Ask, Kind, Names, Reply, Start};
 use mj_dev::{Device, Pool, Session};
 use mj_globs::Globals;
@@ -30,7 +30,6 @@ use mj_locktab::{LockTable, Taken};
 use mj_num::Num;
 use mj_store::Access;
 use mj_text::Text;
-use mj_txlog::TxLog;
 use std::alloc::{AllocError, Global};
 use std::marker::Model;
 
@@ -47,7 +46,8 @@ pub enum Outcome<S> {
 #[derive(Drop)]
 pub struct Shared<D: Device> {
     alloc: Global,
-    globals: Globals,
+    // the globals, and the transactions that are open on them
+    transacted: Transacted,
     locks: LockTable,
     pool: Pool<D>,
     // the job that holds the name, for each name of the pool in their order
@@ -55,8 +55,6 @@ pub struct Shared<D: Device> {
     // how many principal sessions there are, those among them that jobs have
     principals: u32,
     jobs: Jobs,
-    // for each row the transaction that its job has open
-    logs: Vec<Option<TxLog>>,
 }
 
 impl<D: Device> Model for Shared<D> {
@@ -66,11 +64,11 @@ impl<D: Device> Model for Shared<D> {
 
     ghost view = { λ s. record {
       state = record {
-        globals = s.globals;
+        globals = s.transacted.globals;
         locks = s.locks;
         devices = devices_of s.principals s.pool s.holders.items;
         rows = s.jobs.rows;
-        transactions = s.logs.items;
+        transactions = s.transacted.transactions;
       };
       claimed = s.jobs.claimed;
     } };
@@ -107,6 +105,13 @@ impl<D: Device> Shared<D> {
                 starts,
             });
         };
+        let Ok(passed) = none_passed(alloc, starts.len()) else {
+            return Err(Unmade {
+                globals,
+                pool,
+                starts,
+            });
+        };
         let jobs = match Jobs::of(alloc, starts) {
             Ok(jobs) => jobs,
             Err(starts) => {
@@ -120,13 +125,12 @@ impl<D: Device> Shared<D> {
         let principals = pool.left(&principal(alloc));
         Ok(Shared {
             alloc,
-            globals,
+            transacted: Transacted::new(alloc, globals, logs, passed),
             locks: LockTable::new(alloc),
             pool,
             holders,
             principals,
             jobs,
-            logs,
         })
     }
 
@@ -134,7 +138,7 @@ impl<D: Device> Shared<D> {
     pub fn globals(&self) -> &Globals
         ensures { result.now ≡ self.now.state.globals }
     {
-        &self.globals
+        self.transacted.globals()
     }
 
     // Who holds which names.
@@ -265,20 +269,15 @@ impl<D: Device> Shared<D> {
     }
 
     // An access, in the job's transaction if it has one open.
-    #[tactic(auto, using(crate::proofs::Places::with_twice, crate::proofs::Places::with_same))]
     fn access(&mut self, job: u32, of: &Access) -> Result<Outcome<Session<D>>, AllocError>
         ensures ok { IfOk result (λ outcome. Comes self.old job (asks.Access of.now) false outcome self.new) }
         ensures err { OnErr result (self.new ≡ self.old) }
     {
-        let mut own = take_out(&mut self.logs, job);
-        let told = access(&mut own, &mut self.globals, of);
-        put_back(&mut self.logs, job, own);
-        let (reply, again) = told?;
+        let (reply, again) = self.transacted.access(job, of)?;
         Ok(Outcome::Told(reply, again))
     }
 
     // LOCK of names.
-    #[tactic(auto, using(crate::proofs::Places::with_twice, crate::proofs::Places::with_same))]
     fn try_take(
         &mut self,
         job: u32,
@@ -289,9 +288,9 @@ impl<D: Device> Shared<D> {
         ensures ok { IfOk result (λ outcome. Comes self.old job (asks.Try names.now timeout) late outcome self.new) }
         ensures err { OnErr result (self.new ≡ self.old) }
     {
-        let mut own = take_out(&mut self.logs, job);
-        let taken = try_take(&mut own, &mut self.locks, job, names.as_slice());
-        put_back(&mut self.logs, job, own);
+        let taken = self
+            .transacted
+            .try_take(&mut self.locks, job, names.as_slice());
         Ok(match taken? {
             Taken::Got => Outcome::Told(Reply::Got, Reply::Got),
             Taken::Limit => Outcome::Told(Reply::Limit, Reply::Limit),
@@ -300,67 +299,46 @@ impl<D: Device> Shared<D> {
     }
 
     // An unlock of names.
-    #[tactic(auto, using(crate::proofs::Places::with_twice, crate::proofs::Places::with_same))]
     fn unlock(&mut self, job: u32, names: &Names) -> Result<Outcome<Session<D>>, AllocError>
         ensures ok { IfOk result (λ outcome. Comes self.old job (asks.Unlock names.now) false outcome self.new) }
         ensures err { OnErr result (self.new ≡ self.old) }
     {
-        let mut own = take_out(&mut self.logs, job);
-        let told = unlock(&mut own, &mut self.locks, job, names.as_slice());
-        put_back(&mut self.logs, job, own);
-        let (reply, again) = told?;
+        let (reply, again) = self
+            .transacted
+            .unlock(&mut self.locks, job, names.as_slice())?;
         Ok(Outcome::Told(reply, again))
     }
 
     // An unlock of all names.
-    #[tactic(auto, using(crate::proofs::Places::with_twice, crate::proofs::Places::with_same))]
     fn unlock_all(&mut self, job: u32) -> Result<Outcome<Session<D>>, AllocError>
         ensures ok { IfOk result (λ outcome. Comes self.old job asks.UnlockAll false outcome self.new) }
         ensures err { OnErr result (self.new ≡ self.old) }
     {
-        let mut own = take_out(&mut self.logs, job);
-        let told = unlock_all(&mut own, &mut self.locks, job);
-        put_back(&mut self.logs, job, own);
-        let (reply, again) = told?;
+        let (reply, again) = self.transacted.unlock_all(&mut self.locks, job)?;
         Ok(Outcome::Told(reply, again))
     }
 
     // TSTART: a transaction begins, unless one is open.
-    #[tactic(auto, using(crate::proofs::Places::with_twice, crate::proofs::Places::with_same))]
     fn begin(&mut self, job: u32, kind: Kind)
         ensures { self.new ≡ record { state = begun_in self.old.state job kind; claimed = self.old.claimed } }
     {
-        let own = take_out(&mut self.logs, job);
-        put_back(&mut self.logs, job, begun(self.alloc, own, kind));
+        self.transacted.begin(job, kind);
     }
 
     // TCOMMIT: a transaction isn't open any more, and its changes are made where it doesn't clash.
-    #[tactic(auto, using(crate::proofs::Places::with_twice, crate::proofs::Places::with_same))]
     fn commit(&mut self, job: u32) -> Result<Outcome<Session<D>>, AllocError>
         ensures ok { IfOk result (λ outcome. Comes self.old job asks.Commit false outcome self.new) }
         ensures err { OnErr result (self.new ≡ self.old) }
     {
-        let own = take_out(&mut self.logs, job);
-        match commit(&own, &mut self.globals, &mut self.locks, job) {
-            Ok((reply, again)) => {
-                drop(own);
-                Ok(Outcome::Told(reply, again))
-            }
-            Err(refused) => {
-                put_back(&mut self.logs, job, own);
-                Err(refused)
-            }
-        }
+        let (reply, again) = self.transacted.commit(&mut self.locks, job)?;
+        Ok(Outcome::Told(reply, again))
     }
 
     // TROLLBACK: a transaction isn't open any more, and what it gained goes back.
-    #[tactic(auto, using(crate::proofs::Places::with_twice, crate::proofs::Places::with_same))]
     fn roll_back(&mut self, job: u32)
         ensures { self.new ≡ record { state = undone self.old.state job; claimed = self.old.claimed } }
     {
-        let own = take_out(&mut self.logs, job);
-        roll_back(&own, &mut self.locks, job);
-        drop(own);
+        self.transacted.roll_back(&mut self.locks, job);
     }
 
     // OPEN of a name.
@@ -403,6 +381,7 @@ impl<D: Device> Shared<D> {
     }
 
     // JOB: one more row, where there is room for it and a principal session is left.
+    #[tactic(auto, using(crate::proofs::Passing::taken_back))]
     fn start(
         &mut self,
         job: u32,
@@ -417,13 +396,14 @@ impl<D: Device> Shared<D> {
         if rows >= ROWS_LIMIT || rows >= self.principals as usize {
             return Ok(Outcome::Told(Reply::Limit, Reply::Limit));
         }
-        self.logs.reserve(1)?;
-        match self.jobs.add(start.try_clone()?) {
-            Ok(number) => {
-                self.logs.push_reserved(None);
-                Ok(Outcome::Told(Reply::Job(number), Reply::Job(number)))
+        let start = start.try_clone()?;
+        self.transacted.add_row()?;
+        match self.jobs.add(start) {
+            Ok(number) => Ok(Outcome::Told(Reply::Job(number), Reply::Job(number))),
+            Err((error, _)) => {
+                self.transacted.drop_row();
+                Err(error)
             }
-            Err((error, _)) => Err(error),
         }
     }
 

@@ -5,10 +5,13 @@ ghost use Rattle.mj_ask.specs.declared.ask.Reply.TheVariants as replies;
 ghost use Rattle.mj_locktab.specs.Tries.{outcome_of as try_of, after_try, Tells};
 ghost use Rattle.mj_txlog.specs.declared.entry.Unlock.TheVariants as unlocks;
 ghost use Rattle.mj_sys.specs.Transactions.{transaction_of, with_transaction, told_to, with_access, unlock_told, after_unlock, with_waiting, begun_as, closed_as, locks_back};
-ghost use Rattle.mj_sys.specs.Shared.{globals_after};
+ghost use Rattle.mj_sys.specs.Shared.{changed, globals_after};
+ghost use Rattle.mj_sys.specs.Passed.{IsCounted, IsPassed};
+ghost use Rattle.mj_store.specs.Runs.{answer_of};
 ghost use Rattle.mj_sys.specs.Kept.{after_taken, as_reply};
 
 use crate::accessed::answer;
+use crate::passed::{Passed, count, count_write};
 use mj_ask::{Kind, Reply};
 use mj_globs::Globals;
 use mj_locktab::{LockTable, Taken};
@@ -32,7 +35,7 @@ pub fn none_open(alloc: Global, rows: usize) -> Result<Vec<Option<TxLog>>, Alloc
 }
 
 // The place of a job among so many rows, if it has one.
-fn place(rows: usize, job: u32) -> Option<usize>
+pub fn place(rows: usize, job: u32) -> Option<usize>
     ensures none { IfNone result (1 ≤ job → rows < job) }
     ensures some { IfSome result (λ at. (job ≡ suc at) × (at < rows)) }
 {
@@ -71,24 +74,62 @@ pub fn begun(alloc: Global, own: Option<TxLog>, kind: Kind) -> Option<TxLog>
     }
 }
 
-// An access: what it is told, once for the job and once for the history.
-pub fn access(
-    own: &mut Option<TxLog>,
+// An access outside a transaction: what it is told, once for the job and once for the history. A change of the globals is counted.
+#[tactic(auto, using(crate::proofs::Passing::counted_write, crate::proofs::Passing::counted_kept))]
+pub fn outside(
     globals: &mut Globals,
+    changes: &mut u64,
     access: &Access,
 ) -> Result<(Reply, Reply), AllocError>
+    ensures told { IfOk result (λ told. told ≡ (replies.Answer (answer_of access.now globals.old), replies.Answer (answer_of access.now globals.old))) }
+    ensures globals { OnOk result (globals.new ≡ changed access.now globals.old) }
+    ensures counted { IsCounted globals.old changes.old globals.new changes.new }
+    ensures err { OnErr result (globals.new ≡ globals.old) }
+{
+    count_write(changes, access);
+    answer(globals, access)
+}
+
+// An access of a job that has a place, in its transaction if it has one open: what it is told, once for the job and once for the history.
+#[tactic(auto, using(crate::proofs::Passing::passed_on))]
+pub fn access_at(
+    own: &mut Option<TxLog>,
+    passed: &mut Passed,
+    globals: &mut Globals,
+    changes: &mut u64,
+    access: &Access,
+) -> Result<(Reply, Reply), AllocError>
+    requires { IsPassed globals.old changes.old own.old passed.old }
     ensures told { IfOk result (λ told. told ≡ (replies.Answer (told_to own.old globals.old access.now), replies.Answer (told_to own.old globals.old access.now))) }
     ensures globals { OnOk result (globals.new ≡ globals_after own.old access.now globals.old) }
     ensures own { OnOk result (own.new ≡ with_access own.old globals.old access.now) }
+    ensures counted { IsCounted globals.old changes.old globals.new changes.new }
+    ensures passed { IsPassed globals.new changes.new own.new passed.new }
     ensures err { OnErr result ((globals.new ≡ globals.old) × (own.new ≡ own.old)) }
 {
     match own {
-        None => answer(globals, access),
-        Some(log) => {
-            let (reply, again) = txn::access(log, globals, access)?;
-            Ok((Reply::Answer(reply), Reply::Answer(again)))
-        }
+        None => outside(globals, changes, access),
+        Some(log) => inside(log, passed, globals, *changes, access),
     }
+}
+
+// An access in a transaction, at a count of changes.
+fn inside(
+    log: &mut TxLog,
+    passed: &mut Passed,
+    globals: &Globals,
+    changes: u64,
+    access: &Access,
+) -> Result<(Reply, Reply), AllocError>
+    requires { IsPassed globals.now changes (Some log.old) passed.old }
+    ensures told { IfOk result (λ told. told ≡ (replies.Answer (told_to (Some log.old) globals.now access.now), replies.Answer (told_to (Some log.old) globals.now access.now))) }
+    ensures log { OnOk result (Some log.new ≡ with_access (Some log.old) globals.now access.now) }
+    ensures passed { IsPassed globals.now changes (Some log.new) passed.new }
+    ensures err { OnErr result (log.new ≡ log.old) }
+{
+    passed.renew(changes);
+    let (reply, again) = txn::access(log, globals, &mut passed.skips, access)?;
+    Ok((Reply::Answer(reply), Reply::Answer(again)))
 }
 
 // A try of names, which a transaction gains where they are got.
@@ -164,10 +205,11 @@ fn twice(answer: Answer) -> (Reply, Reply)
     }
 }
 
-// A commit of the transaction, if one is open. What it is told is there twice.
+// A commit of the transaction, if one is open, which is counted as a change of the globals. What it is told is there twice.
 pub fn commit(
     own: &Option<TxLog>,
     globals: &mut Globals,
+    changes: &mut u64,
     locks: &mut LockTable,
     job: u32,
 ) -> Result<(Reply, Reply), AllocError>
@@ -175,11 +217,15 @@ pub fn commit(
     ensures again { IfOk result (λ told. told.1 ≡ told.0) }
     ensures globals { OnOk result (globals.new ≡ (closed_as own.now job globals.old locks.old).globals) }
     ensures locks { OnOk result (locks.new ≡ (closed_as own.now job globals.old locks.old).locks) }
+    ensures counted { IsCounted globals.old changes.old globals.new changes.new }
     ensures err { OnErr result ((globals.new ≡ globals.old) × (locks.new ≡ locks.old)) }
 {
     match own {
         None => Ok((Reply::Done, Reply::Done)),
-        Some(log) => txn::close(log, globals, locks, job),
+        Some(log) => {
+            count(changes);
+            txn::close(log, globals, locks, job)
+        }
     }
 }
 

@@ -57,20 +57,22 @@ pub(crate) fn next_below(
                 return Ok(mine);
             }
             if next.is_empty() {
-                break;
+                return next_copied(globals, own, front, from, way);
             }
             let far = match far_from(globals, own, skips, front, &next, way)? {
                 None => return Ok(Some(next)),
                 Some(far) => far,
             };
             if far.is_empty() {
-                break;
+                return next_copied(globals, own, front, from, way);
             }
             keep(skips, front, &at, is_passed, &next, &far, way)?;
             at = far;
             is_passed = true;
         }
-    } else if is_leaf(own.over(), front) && is_leaf(globals, front) {
+        return next_copied(globals, own, front, from, way);
+    }
+    if is_leaf(own.over(), front) && is_leaf(globals, front) {
         return Ok(None);
     }
     next_copied(globals, own, front, from, way)

@@ -7,8 +7,8 @@ use Rattle.mj_store.specs.Questions.{Content, value_at, order_at, data_at}
 use Rattle.mj_store.specs.Changes.{followed_by}
 use Rattle.mj_txlog.specs.Accesses.{Accesses, seen}
 use Rattle.mj_txlog.specs.Laid.{IsLaid}
-use Rattle.mj_txlog.specs.Skips.{IsJump}
-use Rattle.mj_txlog.proofs.Bare.{end_bare}
+use Rattle.mj_txlog.specs.Skips.{IsJump, IsFar}
+use Rattle.mj_txlog.proofs.Bare.{end_bare, far_jump, one_jump, unseen_bare}
 use Rattle.mj_txlog.proofs.Laid.{none_gone}
 use Rattle.mj_txlog.proofs.Stands.{stands, data_stands, own_stands, gone_stands, clear_stands, text_stands, no_text, below_stands, leaf_order, gone_order}
 use Rattle.mj_txlog.proofs.Nexts.{ArePassed, none_passed, own_only, own_sooner, other_sooner, run_passed, joins_on, full_so, said, told}
@@ -85,11 +85,44 @@ next_below-loop-preserved t c =
           (jump es laid).bare;
     }
 
+pub next_below-returns-in_err-keep-clause-skips : goal.next_below-returns-in_err-keep-clause-skips
+next_below-returns-in_err-keep-clause-skips t c =
+    let g = c.args.globals.now in
+    let o = c.args.own.now in
+    let f = c.args.front.now in
+    let way = c.args.way in
+    let next = c.in-Some.next in
+    let far = c.in-Some-2.far in
+    let jump : (es : Accesses) → IsLaid o es → IsJump g o.gone f way next far =
+    subst (λ (r : Option (List ℕ)). IfSome r (λ far. (es : Accesses) → IsLaid o es → IsJump g o.gone f way next far)) c.in-Some-2.is c.in_ok-far_from.ensures.passed
+    in
+    λ es laid.
+        c.keep.ensures g o.gone (c.in_ok-far_from.ensures.skips es laid)
+        (λ e. joins_on o es laid g f way c.args.from.now c.loop.at (c.loop.invariant.passed es laid) next far (sym c.in-Some.is ∙ c.in_ok-next_in.ensures) (c.loop.invariant.bare es laid e) (jump es laid))
+        (jump es laid).bare
+
+pub far_from-returns-in-Some-clause-passed : goal.far_from-returns-in-Some-clause-passed
+far_from-returns-in-Some-clause-passed t c es laid =
+    far_jump c.args.globals.now c.args.own.now.gone c.args.skips.now c.args.front.now c.args.way c.args.next.now c.in-Some.far (c.requires.skips es laid)
+    (subst (λ (r : Option (List ℕ)). IfSome r (λ far. IsFar c.args.skips.now c.args.front.now c.args.next.now c.args.way far)) c.in-Some.is c.in_ok-far.ensures)
+
+pub far_from-returns-clause-passed : goal.far_from-returns-clause-passed
+far_from-returns-clause-passed t c es laid =
+    let g = c.args.globals.now in
+    let gone = c.args.own.now.gone in
+    let f = c.args.front.now in
+    let sees = seen g es in
+    let none : stands sees (followed_by f (c.args.next.now ∷ [])) ≡ false =
+    ap (stands sees) (sym c.in_ok-child.ensures.value) ∙ told sees c.in_ok-child.child false c.in_ok-there.field-0 (c.in_ok-there.ensures.there es laid) c.if-branch.false
+    in
+    subst (λ (x : List ℕ). IsJump g gone f c.args.way c.args.next.now x) (sym c.in_ok-try_clone.ensures)
+    (one_jump g gone f c.args.way c.args.next.now (unseen_bare c.args.own.now es laid g f c.args.next.now none))
+
 pub next_below-returns-then-is_leaf-2 : goal.next_below-returns-then-is_leaf-2
 next_below-returns-then-is_leaf-2 t c = record {
   next = λ es laid.
       leaf_order c.args.own.now es laid c.args.globals.now c.args.front.now c.args.from.now c.args.way
-      (ap (λ (x : Content). nat_lt (data_at x c.args.front.now) 10) (sym c.over-else-len-lt-SUBSCRIPT_LIMIT.ensures.which) ∙ sym c.if-is_leaf.ensures)
+      (ap (λ (x : Content). nat_lt (data_at x c.args.front.now) 10) (sym c.over-2.ensures.which) ∙ sym c.if-is_leaf.ensures)
       (sym c.if-is_leaf-2.ensures);
   skips = c.requires;
 }

@@ -20,7 +20,7 @@ returns-in-Some g c =
     let at = c.in-Some.place in
     let name = c.args.name.now in
     let job = c.args.job in
-    let of : Devices → Service = λ d. record { state = record { globals = i.globals; locks = i.locks; devices = d; rows = i.jobs.rows; transactions = i.logs.items }; claimed = i.jobs.claimed } in
+    let of : Devices → Service = λ d. record { state = record { globals = i.transacted.globals; locks = i.locks; devices = d; rows = i.jobs.rows; transactions = i.transacted.transactions }; claimed = i.jobs.claimed } in
     let closing : Service → Service = λ v. record { state = record v.state { devices = with_device v.state.devices name (closed_by job) }; claimed = v.claimed } in
     let there : position (is_named name) i.pool ≡ Some at = sym c.place.ensures ∙ c.in-Some.is in
     ap of (ap (λ h. devices_of i.principals i.pool (slice_set i.holders.items at h)) (c.release.ensures ∙ ap (without job) c.index_mut.ensures.value)
@@ -32,7 +32,7 @@ returns-in_default g c =
     let i = c.self.inside in
     let name = c.args.name.now in
     let job = c.args.job in
-    let of : Devices → Service = λ d. record { state = record { globals = i.globals; locks = i.locks; devices = d; rows = i.jobs.rows; transactions = i.logs.items }; claimed = i.jobs.claimed } in
+    let of : Devices → Service = λ d. record { state = record { globals = i.transacted.globals; locks = i.locks; devices = d; rows = i.jobs.rows; transactions = i.transacted.transactions }; claimed = i.jobs.claimed } in
     let closing : Service → Service = λ v. record { state = record v.state { devices = with_device v.state.devices name (closed_by job) }; claimed = v.claimed } in
     let none : position (is_named name) i.pool ≡ None = sym c.place.ensures ∙ c.in_default.is in
     sym c.self.view_is ∙ ap of (sym (unchanged i.principals name (closed_by job) i.pool i.holders.items none)) ∙ ap closing c.self.view_is

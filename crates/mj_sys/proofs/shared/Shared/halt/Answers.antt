@@ -35,11 +35,11 @@ returns g c =
     let job = c.args.job in
     let closing : Service → Service = λ v. record { state = halted v.state job; claimed = v.claimed } in
     let of : Locks → List (Option ℕ) → Rows → Service = λ locks holders jobs. record {
-      state = record { globals = i.globals; locks = locks; devices = devices_of i.principals i.pool holders; rows = jobs.rows; transactions = i.logs.items };
+      state = record { globals = i.transacted.globals; locks = locks; devices = devices_of i.principals i.pool holders; rows = jobs.rows; transactions = i.transacted.transactions };
       claimed = jobs.claimed;
     } in
     let of_devices : Devices → Service = λ d. record {
-      state = record { globals = i.globals; locks = after_give_all i.locks job; devices = d; rows = with_ended i.jobs.rows job; transactions = i.logs.items };
+      state = record { globals = i.transacted.globals; locks = after_give_all i.locks job; devices = d; rows = with_ended i.jobs.rows job; transactions = i.transacted.transactions };
       claimed = i.jobs.claimed;
     } in
     let ended : Rows = c.end.new.self in

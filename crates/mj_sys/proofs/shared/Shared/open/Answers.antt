@@ -51,7 +51,7 @@ returns-in-None-take-clause-ok g c =
     let there : position (is_named a.name.now) i.pool ≡ Some at = sym c.place.ensures ∙ c.in-Some.is in
     let p = placed i.principals a.name.now i.pool i.holders.items at c.index.result.now c.self.invariant.placed there e in
     let d = device_of i.principals p.shelf (get_or i.holders.items at c.index.result.now) in
-    let of : Devices → Shared = λ l. record { globals = i.globals; locks = i.locks; devices = l; rows = i.jobs.rows; transactions = i.logs.items } in
+    let of : Devices → Shared = λ l. record { globals = i.transacted.globals; locks = i.locks; devices = l; rows = i.jobs.rows; transactions = i.transacted.transactions } in
     let s = of (devices_of i.principals i.pool i.holders.items) in
     let told = ap (λ (v : Service). served v.state a.job (asks.Open a.name.now a.timeout) a.late) (sym c.self.view_is) in
     let moves = ap (λ (v : Service). takes_session v.state (asks.Open a.name.now a.timeout)) (sym c.self.view_is) in
@@ -68,7 +68,7 @@ returns-in-Some-take-clause-ok g c =
     let there : position (is_named a.name.now) i.pool ≡ Some at = sym c.place.ensures ∙ c.in-Some.is in
     let p = placed i.principals a.name.now i.pool i.holders.items at c.index.result.now c.self.invariant.placed there e in
     let d = device_of i.principals p.shelf (get_or i.holders.items at c.index.result.now) in
-    let of : Devices → Shared = λ l. record { globals = i.globals; locks = i.locks; devices = l; rows = i.jobs.rows; transactions = i.logs.items } in
+    let of : Devices → Shared = λ l. record { globals = i.transacted.globals; locks = i.locks; devices = l; rows = i.jobs.rows; transactions = i.transacted.transactions } in
     let s = of (devices_of i.principals i.pool i.holders.items) in
     let told = ap (λ (v : Service). served v.state a.job (asks.Open a.name.now a.timeout) a.late) (sym c.self.view_is) in
     let moves = ap (λ (v : Service). takes_session v.state (asks.Open a.name.now a.timeout)) (sym c.self.view_is) in
@@ -86,7 +86,7 @@ returns-in-Some-index-clause-ok g c =
     let there : position (is_named a.name.now) i.pool ≡ Some at = sym c.place.ensures ∙ c.in-Some.is in
     let p = placed i.principals a.name.now i.pool i.holders.items at c.index.result.now c.self.invariant.placed there e in
     let d = device_of i.principals p.shelf (get_or i.holders.items at c.index.result.now) in
-    let s : Shared = record { globals = i.globals; locks = i.locks; devices = devices_of i.principals i.pool i.holders.items; rows = i.jobs.rows; transactions = i.logs.items } in
+    let s : Shared = record { globals = i.transacted.globals; locks = i.locks; devices = devices_of i.principals i.pool i.holders.items; rows = i.jobs.rows; transactions = i.transacted.transactions } in
     let told = ap (λ (v : Service). served v.state a.job (asks.Open a.name.now a.timeout) a.late) (sym c.self.view_is) in
     let moves = ap (λ (v : Service). takes_session v.state (asks.Open a.name.now a.timeout)) (sym c.self.view_is) in
     let t = own s a.job a.name.now a.timeout a.late d c.in-Some-index.holder e p.device (sym c.index.ensures ∙ c.in-Some-index.is) c.if-holder-job.true in
@@ -101,7 +101,7 @@ returns-in_ok-try_clone-in-Some-2-clause-ok g c =
     let there : position (is_named a.name.now) i.pool ≡ Some at = sym c.place.ensures ∙ c.in-Some.is in
     let p = placed i.principals a.name.now i.pool i.holders.items at c.index.result.now c.self.invariant.placed there e in
     let d = device_of i.principals p.shelf (get_or i.holders.items at c.index.result.now) in
-    let v : Service = record { state = record { globals = i.globals; locks = i.locks; devices = devices_of i.principals i.pool i.holders.items; rows = i.jobs.rows; transactions = i.logs.items }; claimed = i.jobs.claimed } in
+    let v : Service = record { state = record { globals = i.transacted.globals; locks = i.locks; devices = devices_of i.principals i.pool i.holders.items; rows = i.jobs.rows; transactions = i.transacted.transactions }; claimed = i.jobs.claimed } in
     rw (← c.self.view_is, c.busy.ensures)
     (others v a.job a.name.now a.timeout a.late d c.in-Some-2.holder c.in_ok-try_clone-in-Some-2.field-0 c.in_ok-try_clone-in-Some-2.ensures e p.device
     (sym c.index.ensures ∙ c.in-Some-2.is) (λ is. c.if-holder-job.false (same_Some c.in-Some-index.holder c.in-Some-2.holder (sym c.in-Some-index.is ∙ c.in-Some-2.is) ∙ is)))

@@ -1,9 +1,9 @@
-use Rattle.std.proofs.Common.{◌≡◌, false, true, Some, None, refl, sym, ap, ◌∙◌, subst, get_or, arith, ◌<◌}
+use Rattle.std.proofs.Common.{◌≡◌, false, Some, None, refl, sym, ap, ◌∙◌, get_or}
 use Rattle.std.specs.Prelude.{nat_lt}
 use Rattle.std.specs.List.{position}
 use Rattle.std.specs.Str.{bytes_eq}
 use Rattle.mj_ask.specs.declared.ask.Ask.TheVariants as asks
-use Rattle.mj_dev.specs.Shelves.{principal, is_named, left_of}
+use Rattle.mj_dev.specs.Shelves.{principal, is_named}
 use Rattle.mj_sys.specs.Devices.{device_at}
 use Rattle.mj_sys.specs.Opening.{device_of}
 use Rattle.mj_sys.specs.Shared.{Shared, takes_session}
@@ -30,7 +30,7 @@ returns-in-None g c =
     let there : position (is_named name) i.pool ≡ Some c.in-Some.place = sym c.place.ensures ∙ c.in-Some.is in
     let p = placed i.principals name i.pool i.holders.items c.in-Some.place c.index.result.now c.self.invariant.placed there e in
     let h = get_or i.holders.items c.in-Some.place c.index.result.now in
-    let s : Shared = record { globals = i.globals; locks = i.locks; devices = devices_of i.principals i.pool i.holders.items; rows = i.jobs.rows; transactions = i.logs.items } in
+    let s : Shared = record { globals = i.transacted.globals; locks = i.locks; devices = devices_of i.principals i.pool i.holders.items; rows = i.jobs.rows; transactions = i.transacted.transactions } in
     let moves = ap (λ (v : Service). takes_session v.state (asks.Open name c.in-Open.field-1)) (sym c.self.view_is) in
     ap (nat_lt 0) (c.left.ensures ∙ p.left)
     ∙ sym (ap (takes_session c.args.self.now.state) c.in-Open.is ∙ moves
@@ -44,7 +44,7 @@ returns-in-Some-index g c =
     let there : position (is_named name) i.pool ≡ Some c.in-Some.place = sym c.place.ensures ∙ c.in-Some.is in
     let p = placed i.principals name i.pool i.holders.items c.in-Some.place c.index.result.now c.self.invariant.placed there e in
     let h = get_or i.holders.items c.in-Some.place c.index.result.now in
-    let s : Shared = record { globals = i.globals; locks = i.locks; devices = devices_of i.principals i.pool i.holders.items; rows = i.jobs.rows; transactions = i.logs.items } in
+    let s : Shared = record { globals = i.transacted.globals; locks = i.locks; devices = devices_of i.principals i.pool i.holders.items; rows = i.jobs.rows; transactions = i.transacted.transactions } in
     let moves = ap (λ (v : Service). takes_session v.state (asks.Open name c.in-Open.field-1)) (sym c.self.view_is) in
     let holder = c.in-Some-index.field-0 in
     sym (ap (takes_session c.args.self.now.state) c.in-Open.is ∙ moves
