@@ -97,9 +97,9 @@ next_below-returns-in_err-keep-clause-skips t c =
     subst (λ (r : Option (List ℕ)). IfSome r (λ far. (es : Accesses) → IsLaid o es → IsJump g o.gone f way next far)) c.in-Some-2.is c.in_ok-far_from.ensures.passed
     in
     λ es laid.
-        c.keep.ensures g o.gone (c.in_ok-far_from.ensures.skips es laid)
-        (λ e. joins_on o es laid g f way c.args.from.now c.loop.at (c.loop.invariant.passed es laid) next far (sym c.in-Some.is ∙ c.in_ok-next_in.ensures) (c.loop.invariant.bare es laid e) (jump es laid))
-        (jump es laid).bare
+    c.keep.ensures g o.gone (c.in_ok-far_from.ensures.skips es laid)
+    (λ e. joins_on o es laid g f way c.args.from.now c.loop.at (c.loop.invariant.passed es laid) next far (sym c.in-Some.is ∙ c.in_ok-next_in.ensures) (c.loop.invariant.bare es laid e) (jump es laid))
+    (jump es laid).bare
 
 pub far_from-returns-in-Some-clause-passed : goal.far_from-returns-in-Some-clause-passed
 far_from-returns-in-Some-clause-passed t c es laid =
@@ -177,4 +177,3 @@ stands-returns t c = record {
       ∙ sym (data_stands sees c.args.name.now);
   skips = c.in_ok-next.ensures.skips;
 }
-
