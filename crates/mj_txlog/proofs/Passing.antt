@@ -35,7 +35,7 @@ run_bare g gone runs skips f c d there =
 
 -- ---- no run more, and one
 
-killed : (g gone runs : Content) (m : Name) → AreSkips g gone runs → AreSkips g gone (after_kill runs m)
+pub killed : (g gone runs : Content) (m : Name) → AreSkips g gone runs → AreSkips g gone (after_kill runs m)
 killed g gone runs m skips n d there = skips n d (by (is_none (rest_of m n)) (sym (find_killed n runs m) ∙ there))
   where
     by : (b : Bool) → cond b (find name_cmp n runs) None ≡ Some d → find name_cmp n runs ≡ Some d

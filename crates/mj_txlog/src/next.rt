@@ -99,12 +99,22 @@ fn far_from(
         return Ok(Some(far));
     }
     let child = with_one(globals.allocator(), front, next)?;
-    let there = stands(globals, own, skips, &child);
-    drop(child);
-    if there? {
-        return Ok(None);
+    match stands(globals, own, skips, &child) {
+        Ok(true) => {
+            drop(child);
+            Ok(None)
+        }
+        Ok(false) => {
+            // What was passed over below it isn't looked at any more, and would stand between a run and what lies in it.
+            skips.forget(&child);
+            drop(child);
+            Ok(Some(next.try_clone()?))
+        }
+        Err(refused) => {
+            drop(child);
+            Err(refused)
+        }
     }
-    Ok(Some(next.try_clone()?))
 }
 
 // What lies from a subscript to the far one, in a direction, is kept as passed over, with what lies between and the last that was passed before, if one was.

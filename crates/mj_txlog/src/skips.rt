@@ -123,7 +123,7 @@ impl Skips {
     }
 
     // No run stands at a name, or below it.
-    fn forget(&mut self, name: &Name)
+    pub(crate) fn forget(&mut self, name: &Name)
         ensures { self.new ≡ after_kill self.old name.now }
     {
         self.runs.kill(name);

@@ -7,7 +7,8 @@ use Rattle.mj_store.specs.Questions.{Content, value_at, order_at, data_at}
 use Rattle.mj_store.specs.Changes.{followed_by}
 use Rattle.mj_txlog.specs.Accesses.{Accesses, seen}
 use Rattle.mj_txlog.specs.Laid.{IsLaid}
-use Rattle.mj_txlog.specs.Skips.{IsJump, IsFar}
+use Rattle.mj_txlog.specs.Skips.{AreSkips, IsJump, IsFar}
+use Rattle.mj_txlog.proofs.Passing.{killed}
 use Rattle.mj_txlog.proofs.Bare.{end_bare, far_jump, one_jump, unseen_bare}
 use Rattle.mj_txlog.proofs.Laid.{none_gone}
 use Rattle.mj_txlog.proofs.Stands.{stands, data_stands, own_stands, gone_stands, clear_stands, text_stands, no_text, below_stands, leaf_order, gone_order}
@@ -106,16 +107,26 @@ far_from-returns-in-Some-clause-passed t c es laid =
     far_jump c.args.globals.now c.args.own.now.gone c.args.skips.now c.args.front.now c.args.way c.args.next.now c.in-Some.far (c.requires.skips es laid)
     (subst (λ (r : Option (List ℕ)). IfSome r (λ far. IsFar c.args.skips.now c.args.front.now c.args.next.now c.args.way far)) c.in-Some.is c.in_ok-far.ensures)
 
-pub far_from-returns-clause-passed : goal.far_from-returns-clause-passed
-far_from-returns-clause-passed t c es laid =
+pub far_from-returns-in_err-try_clone-in-Ok-false-clause-skips : goal.far_from-returns-in_err-try_clone-in-Ok-false-clause-skips
+far_from-returns-in_err-try_clone-in-Ok-false-clause-skips t c es laid =
+    subst (λ (runs : Content). AreSkips c.args.globals.now c.args.own.now.gone runs) (sym c.forget.ensures)
+    (killed c.args.globals.now c.args.own.now.gone c.stands.new.skips c.in_ok-child.child (c.in-Ok-false.ensures.skips es laid))
+
+pub far_from-returns-in_ok-try_clone-in-Ok-false-clause-skips : goal.far_from-returns-in_ok-try_clone-in-Ok-false-clause-skips
+far_from-returns-in_ok-try_clone-in-Ok-false-clause-skips t c es laid =
+    subst (λ (runs : Content). AreSkips c.args.globals.now c.args.own.now.gone runs) (sym c.forget.ensures)
+    (killed c.args.globals.now c.args.own.now.gone c.stands.new.skips c.in_ok-child.child (c.in-Ok-false.ensures.skips es laid))
+
+pub far_from-returns-in_ok-try_clone-in-Ok-false-clause-passed : goal.far_from-returns-in_ok-try_clone-in-Ok-false-clause-passed
+far_from-returns-in_ok-try_clone-in-Ok-false-clause-passed t c es laid =
     let g = c.args.globals.now in
     let gone = c.args.own.now.gone in
     let f = c.args.front.now in
     let sees = seen g es in
     let none : stands sees (followed_by f (c.args.next.now ∷ [])) ≡ false =
-    ap (stands sees) (sym c.in_ok-child.ensures.value) ∙ told sees c.in_ok-child.child false c.in_ok-there.field-0 (c.in_ok-there.ensures.there es laid) c.if-branch.false
+    ap (stands sees) (sym c.in_ok-child.ensures.value) ∙ told sees c.in_ok-child.child false c.in-Ok-false.field-0 (c.in-Ok-false.ensures.there es laid) c.in-Ok-false.field-0-test
     in
-    subst (λ (x : List ℕ). IsJump g gone f c.args.way c.args.next.now x) (sym c.in_ok-try_clone.ensures)
+    subst (λ (x : List ℕ). IsJump g gone f c.args.way c.args.next.now x) (sym c.in_ok-try_clone-in-Ok-false.ensures)
     (one_jump g gone f c.args.way c.args.next.now (unseen_bare c.args.own.now es laid g f c.args.next.now none))
 
 pub next_below-returns-then-is_leaf-2 : goal.next_below-returns-then-is_leaf-2
