@@ -18,7 +18,7 @@ const PART: usize = 65_536;
 
 /// Writes the listing of a store to a writer, a part at a time, and gives the writer back. Beside a part and a line it takes no memory. After a refusal
 /// a front of the listing may have been written.
-pub fn write_to<W: Write + Drop>(alloc: Global, globals: &Globals, out: W) -> Result<W, Stop>
+pub fn write<W: Write + Drop>(alloc: Global, globals: &Globals, out: W) -> Result<W, Stop>
     ensures { IfOk result (λ given. Appends (W.contents out) (W.contents given) (listing_of globals.now)) }
 {
     let mut lines = Lines {

@@ -1,27 +1,13 @@
-// Listings are written.
+// Lines of listings, and their fields, are put to the end of bytes.
 
 ghost use Rattle.std.specs.Prelude.{◌≡◌, ◌<◌, ◌++◌, ◌∷◌, [], if◌then◌else◌, is_ok, IfOk, OnOk};
 ghost use Rattle.mj_gfile.specs.Begins.{Begins};
-ghost use Rattle.mj_gfile.specs.Spelling.{digit_byte, is_shown, quoted_byte, quoted_bytes, listed_text, listed_subscript, listed_rest, listed_subscripts, listed_name, listed_line, listed_lines, listing_of};
+ghost use Rattle.mj_gfile.specs.Spelling.{digit_byte, is_shown, quoted_byte, quoted_bytes, listed_text, listed_subscript, listed_rest, listed_subscripts, listed_name, listed_line, listed_lines};
 
-use crate::HEADER;
-use mj_globs::Globals;
 use mj_num::is_canonic_bytes;
 use mj_subs::{Name, Sub};
 use mj_text::{Digits, Text};
-use std::alloc::{AllocError, Global};
-
-/// The listing of all names of a store that have a text.
-pub fn write(alloc: Global, globals: &Globals) -> Result<Vec<u8>, AllocError>
-    ensures { IfOk result (λ bytes. bytes.items ≡ listing_of globals.now) }
-{
-    let mut bytes = Vec::new(alloc);
-    bytes.extend_from_slice(HEADER)?;
-    bytes.push(b'\n')?;
-    let nodes = globals.nodes()?;
-    add_nodes(&mut bytes, &nodes)?;
-    Ok(bytes)
-}
+use std::alloc::AllocError;
 
 /// Puts the lines of names and their texts to the end of some bytes.
 pub fn put_nodes(bytes: &mut Vec<u8>, nodes: &[(Name, Text)]) -> Result<(), AllocError>
