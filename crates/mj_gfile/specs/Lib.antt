@@ -1,4 +1,5 @@
 pub mod Spelling
+pub mod Waiting
 pub mod Begins
 pub mod Reading
 pub mod Units

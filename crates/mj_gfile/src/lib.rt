@@ -11,6 +11,7 @@ mod line;
 mod name;
 mod quoted;
 mod reading;
+mod saving;
 mod writing;
 
 pub use error::ReadError;
@@ -19,7 +20,8 @@ pub use line::split_line;
 pub use name::{read_name, read_subscript, read_subscripts};
 pub use quoted::read_text;
 pub use reading::read;
-pub use writing::{put_name, put_nodes, put_subscript, put_subscripts, put_text, write};
+pub use saving::write;
+pub use writing::{put_name, put_nodes, put_subscript, put_subscripts, put_text};
 
 // The first line, without its byte 10.
 const HEADER: &[u8] = b"mj-globals 1";

@@ -1,27 +1,13 @@
-// Listings are written.
+// Lines of listings, and their fields, are put to the end of bytes.
 
 ghost use Rattle.std.specs.Prelude.{◌≡◌, ◌<◌, ◌++◌, ◌∷◌, [], if◌then◌else◌, is_ok, IfOk, OnOk};
 ghost use Rattle.mj_gfile.specs.Begins.{Begins};
-ghost use Rattle.mj_gfile.specs.Spelling.{digit_byte, is_shown, quoted_byte, quoted_bytes, listed_text, listed_subscript, listed_rest, listed_subscripts, listed_name, listed_line, listed_lines, listing_of};
+ghost use Rattle.mj_gfile.specs.Spelling.{digit_byte, is_shown, quoted_byte, quoted_bytes, listed_text, listed_subscript, listed_rest, listed_subscripts, listed_name, listed_line, listed_lines};
 
-use crate::HEADER;
-use mj_globs::Globals;
 use mj_num::is_canonic_bytes;
 use mj_subs::{Name, Sub};
 use mj_text::{Digits, Text};
-use std::alloc::{AllocError, Global};
-
-/// The listing of all names of a store that have a text.
-pub fn write(alloc: Global, globals: &Globals) -> Result<Vec<u8>, AllocError>
-    ensures { IfOk result (λ bytes. bytes.items ≡ listing_of globals.now) }
-{
-    let mut bytes = Vec::new(alloc);
-    bytes.extend_from_slice(HEADER)?;
-    bytes.push(b'\n')?;
-    let nodes = globals.nodes()?;
-    add_nodes(&mut bytes, &nodes)?;
-    Ok(bytes)
-}
+use std::alloc::AllocError;
 
 /// Puts the lines of names and their texts to the end of some bytes.
 pub fn put_nodes(bytes: &mut Vec<u8>, nodes: &[(Name, Text)]) -> Result<(), AllocError>
@@ -54,6 +40,31 @@ fn add_node(bytes: &mut Vec<u8>, name: &Name, text: &Text) -> Result<(), AllocEr
     ensures kept { Begins bytes.old.items bytes.new.items }
 {
     add_name(bytes, name)?;
+    add_value(bytes, text)
+}
+
+// The same, where the name is given by its parts.
+#[tactic(auto, using(crate::proofs::Longer::begins_same, crate::proofs::Longer::begins_more, crate::proofs::Longer::begins_trans))]
+pub(crate) fn add_line(
+    bytes: &mut Vec<u8>,
+    global: bool,
+    word: &[u8],
+    subs: &[Sub],
+    text: &Text,
+) -> Result<(), AllocError>
+    ensures ok { OnOk result (bytes.new.items ≡ bytes.old.items ++ (listed_line (record { global = global; word = word.now; subscripts = subs.now }, text.now) ++ 10 ∷ [])) }
+    ensures kept { Begins bytes.old.items bytes.new.items }
+{
+    add_parts(bytes, global, word, subs)?;
+    add_value(bytes, text)
+}
+
+// Puts what stands behind the name in a line to the end, and byte 10.
+#[tactic(auto, using(crate::proofs::Longer::begins_same, crate::proofs::Longer::begins_more, crate::proofs::Longer::begins_trans))]
+fn add_value(bytes: &mut Vec<u8>, text: &Text) -> Result<(), AllocError>
+    ensures ok { OnOk result (bytes.new.items ≡ bytes.old.items ++ (61 ∷ (listed_text text.now ++ 10 ∷ []))) }
+    ensures kept { Begins bytes.old.items bytes.new.items }
+{
     bytes.push(b'=')?;
     add_text(bytes, text)?;
     bytes.push(b'\n')?;
@@ -78,12 +89,22 @@ fn add_name(bytes: &mut Vec<u8>, name: &Name) -> Result<(), AllocError>
     ensures ok { OnOk result (bytes.new.items ≡ bytes.old.items ++ listed_name name.now) }
     ensures kept { Begins bytes.old.items bytes.new.items }
 {
-    if name.is_global() {
+    let mut digits = Digits::new();
+    let word = name.word().bytes(&mut digits);
+    add_parts(bytes, name.is_global(), word, name.subscripts().as_slice())
+}
+
+// The same, where the name is given by its parts.
+#[tactic(auto, using(crate::proofs::Longer::begins_same, crate::proofs::Longer::begins_more, crate::proofs::Longer::begins_trans))]
+fn add_parts(bytes: &mut Vec<u8>, global: bool, word: &[u8], subs: &[Sub]) -> Result<(), AllocError>
+    ensures ok { OnOk result (bytes.new.items ≡ bytes.old.items ++ listed_name (record { global = global; word = word.now; subscripts = subs.now })) }
+    ensures kept { Begins bytes.old.items bytes.new.items }
+{
+    if global {
         bytes.push(b'^')?;
     }
-    let mut digits = Digits::new();
-    bytes.extend_from_slice(name.word().bytes(&mut digits))?;
-    add_subscripts(bytes, name.subscripts().as_slice())
+    bytes.extend_from_slice(word)?;
+    add_subscripts(bytes, subs)
 }
 
 /// Puts a list of subscripts to the end of some bytes, as a listing has it: nothing for none.

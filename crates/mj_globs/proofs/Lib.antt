@@ -6,3 +6,4 @@ pub mod Keeping
 pub mod Restores
 pub mod Parts
 pub mod Gathered
+pub mod Walked

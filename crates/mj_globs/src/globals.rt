@@ -21,7 +21,7 @@ use crate::words::{self, Words};
 use mj_store::{Direction, Nodes, Store};
 use mj_subs::{Name, SUBSCRIPT_LIMIT, Sub, Subs};
 use mj_text::{Failure, Fault, Text};
-use mj_tree::Tree;
+use mj_tree::{Sink, Stop, Tree};
 use std::alloc::{AllocError, Global};
 use std::collections::BTreeMap;
 use std::marker::Model;
@@ -86,6 +86,15 @@ impl Globals {
         words::gather(&self.globals, self.alloc, true, &mut nodes)?;
         words::gather(&self.locals, self.alloc, false, &mut nodes)?;
         Ok(nodes)
+    }
+
+    /// Has a sink take its names in their order, each with its text. What the sink keeps is all the memory that it takes, but for the subscripts of one
+    /// name.
+    pub fn walk<S: Sink>(&self, sink: &mut S) -> Result<(), Stop>
+        ensures { OnOk result (S.takes sink.old self.now sink.new) }
+    {
+        words::walk(&self.globals, true, sink)?;
+        words::walk(&self.locals, false, sink)
     }
 
     /// Makes the changes in order, all of them or none. `Limit` where one would give a name too many subscripts, and otherwise nothing

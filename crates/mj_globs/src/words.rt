@@ -17,7 +17,7 @@ ghost use Rattle.mj_text.specs.declared.fault.Fault.TheVariants as fault;
 use mj_store::Nodes;
 use mj_subs::{Name, Subs};
 use mj_text::{Digits, Failure, Text};
-use mj_tree::Tree;
+use mj_tree::{Sink, Stop, Tree};
 use std::alloc::{AllocError, Global};
 use std::collections::BTreeMap;
 
@@ -175,6 +175,16 @@ fn name_of(word: &[u8], alloc: Global, global: bool, subscripts: Subs) -> Result
     } else {
         Name::local(word, subscripts)
     })
+}
+
+/// Has a sink take the names of a kind with these words, in order, each with its text.
+pub fn walk<S: Sink>(words: &Words, global: bool, sink: &mut S) -> Result<(), Stop>
+    ensures { OnOk result (S.takes sink.old (of_kind global (spelled words.now.entries)) sink.new) }
+{
+    for (word, tree) in words {
+        tree.walk(global, word.as_slice(), sink)?;
+    }
+    Ok(())
 }
 
 /// One word more, or another tree in place of that of the word.

@@ -16,11 +16,11 @@ joined [] ys zs = refl
 joined (x ∷ xs) ys zs = ap (λ r. x ∷ r) (joined xs ys zs)
 
 module _ {K V : Type 0} where
-  behind-append : (p : List K) (xs ys : List (List K × V)) → behind p (xs ++ ys) ≡ behind p xs ++ behind p ys
+  pub behind-append : (p : List K) (xs ys : List (List K × V)) → behind p (xs ++ ys) ≡ behind p xs ++ behind p ys
   behind-append p [] ys = refl
   behind-append p (x ∷ xs) ys = ap (λ (r : List (List K × V)). (p ++ x.0, x.1) ∷ r) (behind-append p xs ys)
 
-  behind_one : (p : List K) (s : K) (nodes : List (List K × V)) → behind (p ++ s ∷ []) nodes ≡ behind p (under s nodes)
+  pub behind_one : (p : List K) (s : K) (nodes : List (List K × V)) → behind (p ++ s ∷ []) nodes ≡ behind p (under s nodes)
   behind_one p s [] = refl
   behind_one p s (e ∷ es) = (λ i. (joined p (s ∷ []) e.0 i, e.1) ∷ behind_one p s es i)
 

@@ -6,3 +6,4 @@ pub mod Laters
 pub mod Copies
 pub mod Trees
 pub mod Undo
+pub mod Walked

@@ -7,6 +7,8 @@
 #![tactic(auto)]
 
 mod node;
+mod sink;
 mod tree;
 
+pub use sink::{Sink, Stop};
 pub use tree::Tree;

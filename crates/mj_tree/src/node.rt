@@ -11,7 +11,9 @@ ghost use Rattle.mj_store.specs.declared.store.Direction.TheVariants as way;
 ghost use Rattle.mj_store.specs.Nodes.{is_empty, subtree, data_of, first_subscripts, next_past};
 ghost use Rattle.mj_tree.specs.Nest.{AreFilled, behind, below, beyond, lead, later, nodes_of, own, without};
 ghost use Rattle.mj_tree.specs.Undo.{restored};
+ghost use Rattle.mj_tree.specs.Walks.{named};
 
+use crate::sink::{Sink, Stop};
 use mj_store::{Direction, Nodes};
 use mj_subs::{Sub, Subs};
 use mj_text::Text;
@@ -205,6 +207,27 @@ impl Node {
         Ok(())
     }
 
+    /// Has a sink take what stands at the node and below it, in order: each by the name of this kind and word with the subscripts of `front` and then
+    /// its own. `front` is given back as it was.
+    pub fn walk<S: Sink>(
+        &self,
+        global: bool,
+        word: &[u8],
+        front: &mut Subs,
+        sink: &mut S,
+    ) -> Result<(), Stop>
+        ensures taken { OnOk result (S.takes sink.old (named global word.now (behind front.old self.now)) sink.new) }
+        ensures front { OnOk result (front.new ≡ front.old) }
+    {
+        walk_own(&self.text, global, word, front, sink)?;
+        for (sub, child) in &self.children {
+            append(front, sub)?;
+            child.walk(global, word, front, sink)?;
+            let _last = front.pop();
+        }
+        Ok(())
+    }
+
     /// The same node once more.
     pub fn try_clone(&self, alloc: Global) -> Result<Node, AllocError>
         ensures { IfOk result (λ n. n ≡ self.now) }
@@ -333,6 +356,22 @@ fn collect_own(text: &Option<Text>, front: &Subs, nodes: &mut Nodes) -> Result<(
     match text {
         None => Ok(()),
         Some(text) => nodes.push(front.try_clone()?, text.try_clone()?),
+    }
+}
+
+// Has a sink take the text of a node itself, where there is one.
+fn walk_own<S: Sink>(
+    text: &Option<Text>,
+    global: bool,
+    word: &[u8],
+    front: &Subs,
+    sink: &mut S,
+) -> Result<(), Stop>
+    ensures { OnOk result (S.takes sink.old (named global word.now (behind front.now (own text.now))) sink.new) }
+{
+    match text {
+        None => Ok(()),
+        Some(text) => sink.take(global, word, front, text),
     }
 }
 

@@ -7,10 +7,12 @@ ghost use Rattle.mj_subs.specs.Collation.{subscript_cmp};
 ghost use Rattle.mj_store.specs.Nodes.{subtree, data_of, next_after};
 ghost use Rattle.mj_tree.specs.Nest.{order_in, without, put_behind, is_too_long};
 ghost use Rattle.mj_tree.specs.Undo.{restored, undone};
+ghost use Rattle.mj_tree.specs.Walks.{named};
 ghost use Rattle.mj_text.specs.declared.fault.Failure.TheVariants as failure;
 ghost use Rattle.mj_text.specs.declared.fault.Fault.TheVariants as fault;
 
 use crate::node::{Node, append, extend};
+use crate::sink::{Sink, Stop};
 use mj_store::{Direction, Nodes};
 use mj_subs::{SUBSCRIPT_LIMIT, Sub, Subs};
 use mj_text::{Failure, Fault, Text};
@@ -108,6 +110,14 @@ impl Tree {
         ensures { IfOk result (λ nodes. nodes ≡ subtree subscript_cmp path.now self.now) }
     {
         self.root.subtree(self.alloc, path.as_slice())
+    }
+
+    /// Has a sink take its texts, in order, each by the name of this kind and word with its list.
+    pub fn walk<S: Sink>(&self, global: bool, word: &[u8], sink: &mut S) -> Result<(), Stop>
+        ensures { OnOk result (S.takes sink.old (named global word.now self.now) sink.new) }
+    {
+        self.root
+            .walk(global, word, &mut Subs::new(self.alloc), sink)
     }
 
     /// The list has this text from now on.

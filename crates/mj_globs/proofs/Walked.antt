@@ -1,0 +1,14 @@
+-- What a walk over all words has a sink take.
+use Rattle.std.proofs.Common.{◌≡◌, ℕ, Bool, List, [], ◌∷◌, ◌++◌, sym, ap, subst}
+use Rattle.mj_store.specs.Questions.{Content, Subtree}
+use Rattle.mj_globs.specs.Words.{Words, of_word, of_kind}
+
+module _ {A : Type 0} (takes : A → Content → A → Type 0) (more : (r s t : A) (xs ys : Content) → takes r xs s → takes s ys t → takes r (xs ++ ys) t) where
+  -- what one takes that takes these is all that the first takes
+  abbrev pub Leads : A → Content → A → Content → Type 0
+  Leads s left first all = (t : A) → takes s left t → takes first all t
+
+  -- one word more was walked
+  pub past_word : (g : Bool) (w : List ℕ) (nodes : Subtree) (ks rest : Words) (first s now : A) (all : Content) → Leads s (of_kind g ks) first all → ks ≡ (w, nodes) ∷ rest → takes s (of_word g w nodes) now → Leads now (of_kind g rest) first all
+  past_word g w nodes ks rest first s now all leads next took = λ t left.
+      leads t (subst (λ (xs : Content). takes s xs t) (ap (of_kind g) (sym next)) (more s now t _ _ took left))
