@@ -1,6 +1,6 @@
 // Listings of globals: a text of lines, one for each name that has a text, by which globals come in and go out.
 //
-// There is one listing for each set of globals: `write` writes it, `listing_of` of `specs/Spelling.antt`, and `read` reads it back. What
+// There is one listing for each set of globals: `write` gives it, and `write_to` writes it part by part, `listing_of` of `specs/Spelling.antt`, and `read` reads it back. What
 // else it is given it refuses, by the first line that is none: `reading_of` of `specs/Listing.antt`. The fields of a line, names and texts
 // in listing quotes, are read and written by calls of their own.
 #![tactic(auto)]
@@ -20,7 +20,7 @@ pub use line::split_line;
 pub use name::{read_name, read_subscript, read_subscripts};
 pub use quoted::read_text;
 pub use reading::read;
-pub use saving::write;
+pub use saving::{write, write_to};
 pub use writing::{put_name, put_nodes, put_subscript, put_subscripts, put_text};
 
 // The first line, without its byte 10.

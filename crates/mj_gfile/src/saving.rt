@@ -16,9 +16,19 @@ use std::io::{ErrorKind, Write};
 // From how many bytes on lines are written.
 const PART: usize = 65_536;
 
+/// The listing of a store, as bytes.
+pub fn write(alloc: Global, globals: &Globals) -> Result<Vec<u8>, AllocError>
+    ensures { IfOk result (λ bytes. bytes.items ≡ listing_of globals.now) }
+{
+    match write_to(alloc, globals, Vec::new(alloc)) {
+        Ok(bytes) => Ok(bytes),
+        Err(_) => Err(AllocError),
+    }
+}
+
 /// Writes the listing of a store to a writer, a part at a time, and gives the writer back. Beside a part and a line it takes no memory. After a refusal
 /// a front of the listing may have been written.
-pub fn write<W: Write + Drop>(alloc: Global, globals: &Globals, out: W) -> Result<W, Stop>
+pub fn write_to<W: Write + Drop>(alloc: Global, globals: &Globals, out: W) -> Result<W, Stop>
     ensures { IfOk result (λ given. Appends (W.contents out) (W.contents given) (listing_of globals.now)) }
 {
     let mut lines = Lines {

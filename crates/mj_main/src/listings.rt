@@ -62,7 +62,7 @@ fn put_listing<'a, W: Write + Drop>(
 ) -> Result<W, Stop<'a>>
     ensures { IfOk result (λ given. Appends (W.contents out) (W.contents given) (listing_of globals.now)) }
 {
-    match mj_gfile::write(alloc, globals, out) {
+    match mj_gfile::write_to(alloc, globals, out) {
         Ok(given) => Ok(given),
         Err(mj_tree::Stop::Memory) => Err(Stop::Memory),
         Err(mj_tree::Stop::Closed) => Err(Stop::File(name)),

@@ -18,10 +18,7 @@ const LISTING: &str = "mj-globals 1
 // Whether the bytes are read, and written as they are, or refused as no listing.
 fn is_judged(alloc: Global, bytes: &[u8]) -> Result<bool, Fail> {
     match read(alloc, bytes) {
-        Ok(globals) => match write(alloc, &globals, Vec::new(alloc)) {
-            Ok(written) => Ok(written.as_slice() == bytes),
-            Err(_) => Ok(false),
-        },
+        Ok(globals) => Ok(write(alloc, &globals)?.as_slice() == bytes),
         Err(ReadError::Memory) => Ok(false),
         Err(_) => Ok(true),
     }
