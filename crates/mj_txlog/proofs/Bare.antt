@@ -1,5 +1,7 @@
 -- Subscripts below which nothing of the globals is left.
-use Rattle.std.proofs.Common.{◌≡◌, ℕ, Bool, true, false, cond, List, [], ◌∷◌, ◌++◌, Option, Some, None, ◌⊎◌, inl, inr, refl, sym, ap, ◌∙◌, subst, append_assoc}
+use Rattle.std.proofs.Common.{◌≡◌, ℕ, Bool, true, false, cond, List, [], ◌∷◌, ◌++◌, length, take, drop, ◌+◌, ◌<◌, Option, Some, None, ◌⊎◌, inl, inr, refl, sym, ap, ◌∙◌, subst, append_assoc}
+use Rattle.std.proofs.lemmas.List.{take_more, take-append-drop}
+use Rattle.std.specs.Prelude.{get_or}
 use Rattle.std.specs.Ordering.{is_lt}
 use Rattle.std.specs.Option.{is_some, option_or}
 use Rattle.std.specs.Cmp.{tied_itself}
@@ -8,14 +10,14 @@ use Rattle.mj_subs.specs.Collation.{subscript_cmp}
 use Rattle.mj_store.specs.declared.store.Direction.{Direction}
 use Rattle.mj_store.specs.declared.store.Direction.TheVariants.{Forward, Backward}
 use Rattle.mj_store.specs.Nodes.{along}
-use Rattle.mj_store.specs.Questions.{Content, with_subscripts, value_at}
+use Rattle.mj_store.specs.Questions.{Content, with_subscripts, value_at, order_at}
 use Rattle.mj_store.specs.Changes.{followed_by}
 use Rattle.mj_txlog.specs.Accesses.{Accesses, seen}
 use Rattle.mj_txlog.specs.Laid.{Laid, IsLaid, went}
-use Rattle.mj_txlog.specs.Skips.{IsBare, AreBare, AreBareAlong, IsJump, IsFar, AreSkips, Joins}
-use Rattle.mj_txlog.proofs.Firsts.{lt_not, not_before, not_both}
+use Rattle.mj_txlog.specs.Skips.{IsBare, AreAllBare, AreBare, AreBareAlong, IsJump, IsFar, AreSkips, Joins}
+use Rattle.mj_txlog.proofs.Firsts.{lt_not, not_before, not_both, only_next, next_like}
 use Rattle.mj_txlog.proofs.Passing.{run_bare}
-use Rattle.mj_txlog.proofs.Stands.{stands, level, stands_from, stands_to, own_stands, other_text, along_total, along_same}
+use Rattle.mj_txlog.proofs.Stands.{stands, level, stands_from, stands_to, own_stands, other_text, along_total, along_same, is_past, is_as, order_next}
 
 -- one subscript, and more
 one_more : (f : Name) (u : List ℕ) (b : List (List ℕ)) → followed_by (followed_by f (u ∷ [])) b ≡ followed_by f (u ∷ b)
@@ -84,3 +86,37 @@ far_jump g gone runs f Backward u far skips (c, d, run, e) =
 -- nothing is left of where a jump leads
 pub end_bare : (g gone : Content) (f : Name) (way : Direction) (a b : List ℕ) → IsJump g gone f way a b → IsBare g gone f b
 end_bare g gone f way a b jump = jump.bare b jump.ahead (self_ahead way b)
+
+-- ---- below a name that lies in a run
+
+split_at : (p : List (List ℕ)) (k : ℕ) (x : List ℕ) → k < length p → x ≡ get_or p k x → take k p ++ x ∷ drop (k + 1) p ≡ p
+split_at p k x few is =
+    sym (append_assoc (take k p) (x ∷ []) (drop (k + 1) p))
+    ∙ ap (λ (l : List (List ℕ)). l ++ drop (k + 1) p) (ap (λ (y : List ℕ). take k p ++ y ∷ []) is ∙ sym (take_more p k x few))
+    ∙ take-append-drop (k + 1) p
+
+-- what is below a front of which nothing is left has nothing left
+pub covered : (g gone : Content) (n : Name) (k : ℕ) (x : List ℕ) → k < length n.subscripts → x ≡ get_or n.subscripts k x
+    → IsBare g gone (with_subscripts n (take k n.subscripts)) x → AreAllBare g gone n
+covered g gone n k x few is bare u below =
+    let p = n.subscripts in
+    let rest = drop (k + 1) p ++ u ∷ below in
+    let same : take k p ++ x ∷ rest ≡ p ++ u ∷ below =
+    sym (append_assoc (take k p) (x ∷ drop (k + 1) p) (u ∷ below)) ∙ ap (λ (l : List (List ℕ)). l ++ u ∷ below) (split_at p k x few is)
+    in
+    subst (λ (l : List (List ℕ)). went gone (with_subscripts n l) ≡ false → value_at g (with_subscripts n l) ≡ None) same (bare rest)
+
+-- the first of a run
+pub begin_bare : (g gone : Content) (f : Name) (way : Direction) (a b : List ℕ) → IsJump g gone f way a b → IsBare g gone f a
+begin_bare g gone f way a b jump = jump.bare a (self_ahead way a) jump.ahead
+
+-- there $ORDER is that of the own texts
+pub bare_order : (o : Laid) (es : Accesses) → IsLaid o es → (g : Content) (f : Name) (s : List ℕ) (way : Direction) → AreAllBare g o.gone f
+    → order_at o.over (followed_by f (s ∷ [])) way ≡ order_at (seen g es) (followed_by f (s ∷ [])) way
+bare_order o es laid g f s way bare =
+    let r = order_at o.over (followed_by f (s ∷ [])) way in
+    only_next (along way subscript_cmp) (along_total way) (along_same way) (level (seen g es) f) (is_past way s) r (order_at (seen g es) (followed_by f (s ∷ [])) way)
+    (next_like (along way subscript_cmp) (level o.over f) (level (seen g es) f) (is_past way s) r
+    (λ t. is_as (level o.over f t) (level (seen g es) f t) (own_stands o es laid g (followed_by f (t ∷ []))) (left_own o es laid g f t (bare t)))
+    (order_next o.over f s way))
+    (order_next (seen g es) f s way)

@@ -28,6 +28,10 @@ abbrev pub IsBare : Content → Content → Name → List ℕ → Type 0
 IsBare globals gone front u =
     (below : List (List ℕ)) → went gone (followed_by front (u ∷ below)) ≡ false → value_at globals (followed_by front (u ∷ below)) ≡ None
 
+-- nor with any subscript more
+abbrev pub AreAllBare : Content → Content → Name → Type 0
+AreAllBare globals gone front = (u : List ℕ) → IsBare globals gone front u
+
 -- nor of any subscript from the one to the other
 abbrev pub AreBare : Content → Content → Name → List ℕ → List ℕ → Type 0
 AreBare globals gone front c d = (u : List ℕ) → is_lt (subscript_cmp u c) ≡ false → is_lt (subscript_cmp d u) ≡ false → IsBare globals gone front u

@@ -13,18 +13,18 @@ ghost use Rattle.mj_store.specs.Questions.{Content, order_at, data_at};
 ghost use Rattle.mj_store.specs.Changes.{followed_by};
 ghost use Rattle.mj_txlog.specs.Accesses.{Accesses, seen};
 ghost use Rattle.mj_txlog.specs.Laid.{IsLaid, is_before};
-ghost use Rattle.mj_txlog.specs.Skips.{AreSkips, AreBareAlong, IsJump, KeepSkips};
+ghost use Rattle.mj_txlog.specs.Skips.{AreAllBare, AreSkips, AreBareAlong, IsJump, KeepSkips};
 
 use crate::below::seen_below;
 use crate::log::ACCESS_LIMIT;
-use crate::names::with_one;
+use crate::names::{cut_to, with_one};
 use crate::overlay::Overlay;
 use crate::skips::Skips;
 use mj_globs::Globals;
 use mj_store::{Direction, Store};
 use mj_subs::{Name, SUBSCRIPT_LIMIT, Sub};
 use mj_text::Text;
-use std::alloc::AllocError;
+use std::alloc::{AllocError, Global};
 
 // The next subscript below a name, in a direction; the first one, from the empty subscript. Each that is passed over was killed, or what stood below it was, by
 // kills of its own, of which there are no more than accesses: what stands behind the loop is for none that the language can make.
@@ -44,6 +44,9 @@ pub(crate) fn next_below(
     if front.subscripts().len() < SUBSCRIPT_LIMIT {
         let mine = next_in(own.over(), front, from, way)?;
         if own.went(front)? {
+            return Ok(mine);
+        }
+        if is_covered(globals.allocator(), skips, front)? {
             return Ok(mine);
         }
         let mut at = from.try_clone()?;
@@ -76,6 +79,24 @@ pub(crate) fn next_below(
         return Ok(None);
     }
     next_copied(globals, own, front, from, way)
+}
+
+// Whether the name, or one above it, lies in a run that was passed over, so that below it only own texts are seen. Then none is passed over there
+// once more: a run below a name would stand between a run and what lies in it.
+fn is_covered(alloc: Global, skips: &Skips, name: &Name) -> Result<bool, AllocError>
+    ensures { IfOk result (λ b. b ≡ true → (globals gone : Content) → AreSkips globals gone skips.now → AreAllBare globals gone name.now) }
+{
+    let list = name.subscripts().as_slice();
+    for count in 0..list.len() {
+        let above = cut_to(alloc, name, &list[..count])?;
+        let found = skips.end_of(&above, &list[count], Direction::Forward);
+        drop(above);
+        if let Some(far) = found? {
+            drop(far);
+            return Ok(true);
+        }
+    }
+    Ok(false)
 }
 
 // How far nothing is left from a subscript on that stands in the globals: as far as was passed over before, or no further than that. None, where

@@ -9,7 +9,7 @@ use Rattle.mj_txlog.specs.Accesses.{Accesses, seen}
 use Rattle.mj_txlog.specs.Laid.{IsLaid}
 use Rattle.mj_txlog.specs.Skips.{AreSkips, IsJump, IsFar}
 use Rattle.mj_txlog.proofs.Passing.{killed}
-use Rattle.mj_txlog.proofs.Bare.{end_bare, far_jump, one_jump, unseen_bare}
+use Rattle.mj_txlog.proofs.Bare.{end_bare, far_jump, one_jump, unseen_bare, bare_order}
 use Rattle.mj_txlog.proofs.Laid.{none_gone}
 use Rattle.mj_txlog.proofs.Stands.{stands, data_stands, own_stands, gone_stands, clear_stands, text_stands, no_text, below_stands, leaf_order, gone_order}
 use Rattle.mj_txlog.proofs.Nexts.{ArePassed, none_passed, own_only, own_sooner, other_sooner, run_passed, joins_on, full_so, said, told}
@@ -21,6 +21,16 @@ next_below-returns-then-branch t c = record {
       c.in_ok-mine.ensures
       ∙ ap (λ (x : Content). order_at x (followed_by c.args.front.now (c.args.from.now ∷ [])) c.args.way) c.over.ensures.which
       ∙ gone_order c.args.own.now es laid c.args.globals.now c.args.front.now c.args.from.now c.args.way (sym c.in_ok-went.ensures ∙ c.if-branch.true);
+  skips = c.requires;
+}
+
+pub next_below-returns-then-branch-2 : goal.next_below-returns-then-branch-2
+next_below-returns-then-branch-2 t c = record {
+  next = λ es laid.
+      c.in_ok-mine.ensures
+      ∙ ap (λ (x : Content). order_at x (followed_by c.args.front.now (c.args.from.now ∷ [])) c.args.way) c.over.ensures.which
+      ∙ bare_order c.args.own.now es laid c.args.globals.now c.args.front.now c.args.from.now c.args.way
+      (c.in_ok-is_covered.ensures c.if-branch-2.true c.args.globals.now c.args.own.now.gone (c.requires es laid));
   skips = c.requires;
 }
 
