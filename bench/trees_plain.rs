@@ -1,4 +1,4 @@
-// The works of crates/mj_bench_trees on an ordered map of the standard library, whose keys keep the order of names as bytes: the word, a
+// The works of crates/mj_bench on an ordered map of the standard library, whose keys keep the order of names as bytes: the word, a
 // zero, and for each subscript a one and its number in eight bytes.
 use std::collections::BTreeMap;
 use std::ops::Bound::{Excluded, Unbounded};

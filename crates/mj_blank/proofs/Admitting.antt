@@ -7,8 +7,8 @@ use Rattle.mj_semantics.specs.Job.{Start}
 use Rattle.mj_load.specs.Image.{Loaded}
 use Rattle.mj_dev.specs.Heard.{Heard}
 use Rattle.mj_jobs.specs.Rows.{Row, row_at}
-use Rattle.mj_jobvm.specs.Run.{Log}
-use Rattle.mj_jobvm.specs.Jobs.{Running, IsRunOf, IsRunOfAfter}
+use Rattle.mj_core.specs.Run.{Log}
+use Rattle.mj_core.specs.Jobs.{Running, IsRunOf, IsRunOfAfter}
 use Rattle.mj_expect.specs.Heeds.{Heeds, AreHeeds}
 use Rattle.mj_sys.specs.Shared.{Shared}
 use Rattle.mj_sys.specs.History.{state_of, log_of}

@@ -12,8 +12,8 @@ use Rattle.mj_sys.specs.History.{History, state_of}
 use Rattle.mj_sys.specs.System.{Recorded, Claimed, history_limit}
 use Rattle.mj_events.specs.declared.happened.Happened.{Happened}
 use Rattle.mj_events.specs.Woven.{woven}
-use Rattle.mj_jobvm.specs.declared.job.Turn.{Turn}
-use Rattle.mj_jobvm.specs.declared.job.Turn.TheVariants as turns
+use Rattle.mj_core.specs.Turn.{Turn}
+use Rattle.mj_core.specs.Turn.TheVariants as turns
 use Rattle.mj_core.specs.declared.seen.Seen.{Seen}
 use Rattle.mj_core.specs.declared.seen.Seen.TheVariants as seen
 use Rattle.mj_core.specs.declared.seen.Refusal.{Refusal}

@@ -7,7 +7,7 @@ use Rattle.mj_ask.specs.declared.ask.Reply.{Reply}
 use Rattle.mj_load.specs.Image.{Loaded, routines_of}
 use Rattle.mj_jobs.specs.Rows.{Row, row_at}
 use Rattle.mj_semantics.specs.Job.{Start}
-use Rattle.mj_jobvm.specs.Run.{Log, GoesOn, HasEnded}
+use Rattle.mj_core.specs.Run.{Log, GoesOn, HasEnded}
 use Rattle.mj_sys.specs.declared.served.Held.{Held}
 use Rattle.mj_sys.specs.Shared.{Shared, served}
 use Rattle.mj_sys.specs.History.{History, state_of, log_of}

@@ -5,7 +5,7 @@ use Rattle.std.proofs.Common.{◌≡◌, ℕ, zero, suc, List, [], Option, Some,
 use Rattle.std.proofs.lemmas.Option.{slice_get-map, none-some, same_Some}
 use Rattle.mj_load.specs.Image.{Loaded, routines_of}
 use Rattle.mj_jobs.specs.Rows.{Row, row_at}
-use Rattle.mj_jobvm.specs.Run.{IsTrace, begins}
+use Rattle.mj_core.specs.Run.{IsTrace, begins}
 use Rattle.mj_dev.specs.Talk.{beginning}
 use Rattle.mj_sessions.specs.Follow.{AreTalks}
 use Rattle.mj_sys.specs.Shared.{Shared}

@@ -9,8 +9,8 @@ use Rattle.mj_ask.specs.declared.ask.Ask.{Ask}
 use Rattle.mj_ask.specs.declared.ask.Reply.{Reply}
 use Rattle.mj_load.specs.Image.{Loaded}
 use Rattle.mj_jobs.specs.Rows.{Row, row_at, IsLive}
-use Rattle.mj_jobvm.specs.Run.{Log}
-use Rattle.mj_jobvm.specs.Jobs.{Running, IsRunOf}
+use Rattle.mj_core.specs.Run.{Log}
+use Rattle.mj_core.specs.Jobs.{Running, IsRunOf}
 use Rattle.mj_expect.specs.Heeds.{Heeds, AreHeeds}
 use Rattle.mj_sys.specs.declared.event.Event.{Event}
 use Rattle.mj_sys.specs.Shared.{Shared}

@@ -5,8 +5,8 @@ use Rattle.std.proofs.Common.{◌≡◌, ℕ, suc, ◌<◌, List, length, get_or
 use Rattle.std.proofs.lemmas.List.{get_or_default}
 use Rattle.mj_load.specs.Image.{Loaded}
 use Rattle.mj_jobs.specs.Rows.{Row, row_at, IsLive}
-use Rattle.mj_jobvm.specs.declared.job.Turn.{Turn}
-use Rattle.mj_jobvm.specs.declared.job.Turn.TheVariants as turns
+use Rattle.mj_core.specs.Turn.{Turn}
+use Rattle.mj_core.specs.Turn.TheVariants as turns
 use Rattle.mj_sys.specs.Shared.{Shared}
 use Rattle.mj_sys.specs.History.{state_of}
 use Rattle.mj_sys.specs.System.{Recorded, Claimed}

@@ -7,11 +7,11 @@ use Rattle.mj_load.specs.Image.{Loaded, routines_of}
 use Rattle.mj_jobs.specs.Rows.{Row, row_at}
 use Rattle.mj_semantics.specs.State.{places}
 use Rattle.mj_semantics.specs.Job.{Start}
-use Rattle.mj_jobvm.specs.Run.{Log, GoesOn, HasEnded}
-use Rattle.mj_jobvm.specs.Jobs.{Running, IsRunOf}
-use Rattle.mj_jobvm.specs.Told.{Told, spent_after}
-use Rattle.mj_jobvm.specs.declared.job.Turn.{Turn}
-use Rattle.mj_jobvm.specs.declared.job.Turn.TheVariants as turns
+use Rattle.mj_core.specs.Run.{Log, GoesOn, HasEnded}
+use Rattle.mj_core.specs.Jobs.{Running, IsRunOf}
+use Rattle.mj_core.specs.Told.{Told, spent_after}
+use Rattle.mj_core.specs.Turn.{Turn}
+use Rattle.mj_core.specs.Turn.TheVariants as turns
 use Rattle.mj_expect.specs.Heeds.{AreHeeds}
 use Rattle.mj_sys.specs.Shared.{Shared}
 use Rattle.mj_sys.specs.History.{state_of}

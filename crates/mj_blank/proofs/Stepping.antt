@@ -8,11 +8,11 @@ use Rattle.mj_ask.specs.Fits.{is_shared}
 use Rattle.mj_semantics.specs.Job.{Start}
 use Rattle.mj_load.specs.Image.{Loaded, routines_of}
 use Rattle.mj_jobs.specs.Rows.{Row, row_at, IsLive}
-use Rattle.mj_jobvm.specs.Run.{Log, Run}
-use Rattle.mj_jobvm.specs.declared.job.Turn.TheVariants as turns
-use Rattle.mj_jobvm.specs.Told.{Told}
+use Rattle.mj_core.specs.Run.{Log, Run}
+use Rattle.mj_core.specs.Turn.TheVariants as turns
+use Rattle.mj_core.specs.Told.{Told}
 use Rattle.mj_semantics.specs.State.{places}
-use Rattle.mj_jobvm.specs.Jobs.{Running, IsRunOf}
+use Rattle.mj_core.specs.Jobs.{Running, IsRunOf}
 use Rattle.mj_sessions.specs.Events.{device_of}
 use Rattle.mj_expect.specs.Heeds.{Heeds, AreHeeds}
 use Rattle.mj_expect.proofs.Hearing.{heard_shared}

@@ -9,8 +9,8 @@ use Rattle.mj_ast.specs.Syntax.{Routine}
 use Rattle.mj_semantics.specs.Job.{Start}
 use Rattle.mj_load.specs.Image.{Loaded}
 use Rattle.mj_jobs.specs.Rows.{Row, row_at, IsLive}
-use Rattle.mj_jobvm.specs.Run.{GoesOn, HasEnded}
-use Rattle.mj_jobvm.specs.Jobs.{Running, IsRunOf}
+use Rattle.mj_core.specs.Run.{GoesOn, HasEnded}
+use Rattle.mj_core.specs.Jobs.{Running, IsRunOf}
 use Rattle.mj_sys.specs.Shared.{Shared, served}
 use Rattle.mj_sys.specs.History.{state_of, events_of}
 use Rattle.mj_sys.specs.System.{Recorded, Claimed, Keeps}

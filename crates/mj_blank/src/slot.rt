@@ -17,10 +17,10 @@ ghost use Rattle.mj_blank.specs.Recorded.{IsOfDevice, IsHeard, is_early, is_rest
 ghost use Rattle.mj_blank.specs.Ties.{IsPlaced, start_of, Steps, IsStill, Tells, Talks, Shares};
 
 use mj_ask::{Ask, Reply};
+use mj_core::jobvm::{Job, Turn};
 use mj_core::{FUEL, Made, Refusal};
 use mj_dev::Device;
 use mj_expect::Heeds;
-use mj_jobvm::{Job, Turn};
 use mj_load::Image;
 use mj_num::Num;
 use mj_sys::{Claim, Opening, Refused, Served, System};

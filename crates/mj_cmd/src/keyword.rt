@@ -1,7 +1,7 @@
 // The words that commands begin with.
 
-ghost use Rattle.std.specs.Prelude.{◌≡◌, IsTrue, bytes_eq, map};
-ghost use Rattle.mj_ast.specs.Commands.{capital, is_serial_word, verb_of};
+ghost use Rattle.std.specs.Prelude.{◌≡◌, IsTrue, bytes_eq, drop, map};
+ghost use Rattle.mj_ast.specs.Commands.{capital, command_words, is_serial_word, looked_up, verb_of};
 ghost use Rattle.mj_cmd.specs.Words.{are_capitals};
 
 use mj_ast::{Keyword, Verb};
@@ -46,6 +46,13 @@ pub fn verb_of(word: &[u8]) -> Option<Verb>
     if is_spelled(word, b"LOCK") || is_spelled(word, b"L") {
         return Some(Verb::Of(Keyword::Lock));
     }
+    verb_from_kill(word)
+}
+
+// The same of the words of the table from KILL on.
+fn verb_from_kill(word: &[u8]) -> Option<Verb>
+    ensures { result ≡ looked_up (map capital word.now) (drop 11 command_words) }
+{
     if is_spelled(word, b"KILL") || is_spelled(word, b"K") {
         return Some(Verb::Of(Keyword::Kill));
     }
@@ -61,6 +68,13 @@ pub fn verb_of(word: &[u8]) -> Option<Verb>
     if is_spelled(word, b"FOR") || is_spelled(word, b"F") {
         return Some(Verb::Of(Keyword::For));
     }
+    verb_from_do(word)
+}
+
+// The same of those from DO on.
+fn verb_from_do(word: &[u8]) -> Option<Verb>
+    ensures { result ≡ looked_up (map capital word.now) (drop 21 command_words) }
+{
     if is_spelled(word, b"DO") || is_spelled(word, b"D") {
         return Some(Verb::Of(Keyword::Do));
     }
@@ -79,6 +93,13 @@ pub fn verb_of(word: &[u8]) -> Option<Verb>
     if is_spelled(word, b"USE") || is_spelled(word, b"U") {
         return Some(Verb::Of(Keyword::Use));
     }
+    verb_from_close(word)
+}
+
+// The same of those from CLOSE on.
+fn verb_from_close(word: &[u8]) -> Option<Verb>
+    ensures { result ≡ looked_up (map capital word.now) (drop 33 command_words) }
+{
     if is_spelled(word, b"CLOSE") || is_spelled(word, b"C") {
         return Some(Verb::Of(Keyword::Close));
     }

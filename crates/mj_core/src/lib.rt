@@ -13,6 +13,8 @@ mod slot;
 mod together;
 
 pub use laws::ended_by_halt;
+/// One job, for the crates above.
+pub use mj_jobvm as jobvm;
 pub use seen::{Refusal, Seen, Step, Way};
 pub use slot::{FUEL, Made, Slot, step_slot};
 pub use together::Core;

@@ -11,10 +11,10 @@ use Rattle.mj_semantics.specs.Outcome.{Needs, Ended, More}
 use Rattle.mj_semantics.specs.Job.{Start, next}
 use Rattle.mj_semantics.proofs.Depth.{one_answer}
 use Rattle.mj_load.specs.Image.{Loaded, routines_of}
-use Rattle.mj_jobvm.specs.declared.job.Turn.TheVariants as turns
-use Rattle.mj_jobvm.specs.Run.{Log, replies_of, IsTrace, begins, goes_on, GoesOn, HasEnded}
-use Rattle.mj_jobvm.specs.Jobs.{Running}
-use Rattle.mj_jobvm.specs.Told.{Told}
+use Rattle.mj_core.specs.Turn.TheVariants as turns
+use Rattle.mj_core.specs.Run.{Log, replies_of, IsTrace, begins, goes_on, GoesOn, HasEnded}
+use Rattle.mj_core.specs.Jobs.{Running}
+use Rattle.mj_core.specs.Told.{Told}
 use Rattle.mj_debug.specs.Replays.{turns_limit}
 use Rattle.mj_debug.specs.Playing.{AsksIt}
 

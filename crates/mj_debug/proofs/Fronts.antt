@@ -4,7 +4,7 @@ use Rattle.std.proofs.Common.{◌≡◌, List, [], ◌∷◌, ◌++◌, Some, re
 use Rattle.mj_ast.specs.Syntax.{Routine}
 use Rattle.mj_semantics.specs.Job.{Start}
 use Rattle.mj_jobs.specs.Rows.{row_at}
-use Rattle.mj_jobvm.specs.Run.{Log, IsTrace, begins, goes_on}
+use Rattle.mj_core.specs.Run.{Log, IsTrace, begins, goes_on}
 use Rattle.mj_dev.specs.Talk.{Exchange, Stand, beginning}
 use Rattle.mj_sessions.specs.Events.{talk_on}
 use Rattle.mj_sessions.specs.Follow.{behind, Follow}

@@ -11,8 +11,8 @@ use Rattle.mj_semantics.specs.State.{places}
 use Rattle.mj_semantics.specs.Job.{Start}
 use Rattle.mj_load.specs.Image.{Loaded, routines_of}
 use Rattle.mj_jobs.specs.Rows.{Row, row_at, IsLive}
-use Rattle.mj_jobvm.specs.Run.{Log, IsTrace, begins, GoesOn}
-use Rattle.mj_jobvm.specs.Jobs.{Running, IsRunOf}
+use Rattle.mj_core.specs.Run.{Log, IsTrace, begins, GoesOn}
+use Rattle.mj_core.specs.Jobs.{Running, IsRunOf}
 use Rattle.mj_sessions.specs.Follow.{AreTalks}
 use Rattle.mj_sys.specs.declared.event.Event.{Event}
 use Rattle.mj_sys.specs.Shared.{Shared}

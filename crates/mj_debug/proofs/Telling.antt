@@ -8,7 +8,7 @@ use Rattle.mj_semantics.specs.State.{State, places}
 use Rattle.mj_semantics.specs.Outcome.{Needs}
 use Rattle.mj_load.specs.Image.{Loaded, routines_of}
 use Rattle.mj_jobs.specs.Rows.{IsLive}
-use Rattle.mj_jobvm.specs.Jobs.{Running, IsRunOf}
+use Rattle.mj_core.specs.Jobs.{Running, IsRunOf}
 use Rattle.mj_sys.specs.Shared.{Shared}
 use Rattle.mj_sys.specs.History.{state_of}
 use Rattle.mj_sys.specs.System.{Recorded, Claimed}

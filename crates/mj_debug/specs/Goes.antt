@@ -7,9 +7,9 @@ use Rattle.mj_semantics.specs.Outcome as outcomes
 use Rattle.mj_semantics.specs.Job.{next}
 use Rattle.mj_load.specs.Image.{routines_of}
 use Rattle.mj_jobs.specs.Rows.{Row, row_at, IsLive}
-use Rattle.mj_jobvm.specs.declared.job.Turn.{Turn}
-use Rattle.mj_jobvm.specs.declared.job.Turn.TheVariants as turns
-use Rattle.mj_jobvm.specs.Run.{replies_of}
+use Rattle.mj_core.specs.Turn.{Turn}
+use Rattle.mj_core.specs.Turn.TheVariants as turns
+use Rattle.mj_core.specs.Run.{replies_of}
 use Rattle.mj_sys.specs.Shared.{Shared}
 use Rattle.mj_sys.specs.History.{state_of, log_of}
 use Rattle.mj_core.specs.declared.seen.Seen.{Seen}

@@ -8,8 +8,8 @@ use Rattle.mj_semantics.specs.Outcome as outcomes
 use Rattle.mj_semantics.specs.Job.{Start, next}
 use Rattle.mj_load.specs.Image.{Loaded, routines_of}
 use Rattle.mj_jobs.specs.Rows.{Row, row_at}
-use Rattle.mj_jobvm.specs.Run.{replies_of, GoesOn, IsTrace}
-use Rattle.mj_jobvm.specs.Jobs.{Running, IsRunOf}
+use Rattle.mj_core.specs.Run.{replies_of, GoesOn, IsTrace}
+use Rattle.mj_core.specs.Jobs.{Running, IsRunOf}
 use Rattle.mj_sessions.specs.Follow.{AreTalks}
 use Rattle.mj_sys.specs.declared.event.Event.{Event}
 use Rattle.mj_sys.specs.Shared.{Shared, served}

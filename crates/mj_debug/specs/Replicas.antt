@@ -5,7 +5,7 @@ use Rattle.mj_store.specs.Questions.{Content}
 use Rattle.mj_dev.specs.Shelves.{Shelf, AreRising, principal, left_of}
 use Rattle.mj_jobs.specs.Rows.{rows_limit}
 use Rattle.mj_load.specs.Image.{Loaded, routines_of}
-use Rattle.mj_jobvm.specs.Jobs.{Running}
+use Rattle.mj_core.specs.Jobs.{Running}
 use Rattle.mj_sys.specs.declared.event.Event.{Event}
 use Rattle.mj_sys.specs.Opening.{opening_of}
 use Rattle.mj_sys.specs.Shared.{Shared, are_global}

@@ -4,7 +4,7 @@ ghost use Rattle.std.specs.Prelude.{◌≡◌, ◌≤◌, List, [], ◌∷◌, l
 ghost use Rattle.mj_dev.specs.Shelves.{principal, left_of};
 ghost use Rattle.mj_frames.specs.Frames.{frames_of, place_at};
 ghost use Rattle.mj_jobs.specs.Rows.{row_at, rows_limit};
-ghost use Rattle.mj_jobvm.specs.declared.job.Turn.TheVariants as turns;
+ghost use Rattle.mj_core.specs.Turn.TheVariants as turns;
 ghost use Rattle.mj_load.specs.Image.{routines_of};
 ghost use Rattle.mj_semantics.specs.State as states;
 ghost use Rattle.mj_sys.specs.History.{state_of};
@@ -20,11 +20,11 @@ ghost use Rattle.mj_debug.specs.Walks.{front, AreWhole, StepGives, IsOn, GoesBac
 use crate::breaks::{Mark, is_breakpoint, put_mark};
 use crate::replica::{Kept, Replica, Unshown, bring, keep};
 use mj_ask::Start;
+use mj_core::jobvm::Turn;
 use mj_core::{Core, Refusal, Seen, Step, Way};
 use mj_dev::{Device, Pool};
 use mj_frames::Frame;
 use mj_globs::Globals;
-use mj_jobvm::Turn;
 use mj_load::Image;
 use mj_locals::Locals;
 use mj_locktab::LockTable;

@@ -17,5 +17,7 @@ mod replica;
 
 pub use debugger::{Debugger, Gone, Refused};
 pub use laws::fronts_are_runs;
+/// Many jobs on one thread, for the crates above.
+pub use mj_core as cores;
 pub use replaying::{Verdict, replay};
 pub use replica::Unshown;

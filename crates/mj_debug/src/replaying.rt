@@ -15,10 +15,10 @@ ghost use Rattle.mj_debug.specs.Playing.{AreStaged, Stages};
 
 use crate::playing::{Played, play};
 use mj_ask::{Ask, Reply, Start};
+use mj_core::jobvm::Job;
 use mj_dev::{Device, Pool};
 use mj_expect::Heeds;
 use mj_globs::Globals;
-use mj_jobvm::Job;
 use mj_load::Image;
 use mj_sys::{Opening, System};
 use std::alloc::{AllocError, Global};

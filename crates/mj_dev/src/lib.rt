@@ -15,8 +15,6 @@ mod rest;
 mod row;
 mod session;
 mod talk;
-#[cfg(test)]
-mod tests;
 
 pub use counted::Counted;
 pub use device::{Device, Did, Input};

@@ -1,13 +1,13 @@
 -- What a command leaves, and what is written of it.
-use Rattle.std.proofs.Common.{◌≡◌, ℕ, Bool, true, List, Option, Result, IfOk, sym, ap, ◌∙◌, subst}
+use Rattle.std.proofs.Common.{◌≡◌, ℕ, Bool, List, Option, Result, IfOk, sym, ap, ◌∙◌, subst}
 use Rattle.std.proofs.lemmas.Result.{IfOk-weaker}
 use Rattle.std.specs.Io.KnownBytes.{Appends}
 use Rattle.mj_debug.specs.Walks.{Walk}
 use Rattle.mj_dialogue.specs.Says.{IsKept}
 
--- to get ready what is shown changes nothing else
-pub kept : (old new : Walk) → new ≡ record old { ready = true } → IsKept old new
-kept old new e = e ∙ ap (λ (ready : Bool). record old { ready = ready }) (sym (ap (λ (w : Walk). w.ready) e))
+-- whether what is shown is at hand afterwards or not, nothing else changes
+pub kept : (old new : Walk) (ready : Bool) → new ≡ record old { ready = ready } → IsKept old new
+kept old new ready e = e ∙ ap (λ (r : Bool). record old { ready = r }) (sym (ap (λ (w : Walk). w.ready) e))
 
 -- what holds of an answer holds of what is written
 pub gives : {E : Type 0} (r : Result Bool E) (P : List ℕ → Bool → Type 0) (old new : Option (List ℕ)) (bytes : List ℕ) (full : Bool)

@@ -1,3 +1,4 @@
+pub mod Failing
 pub mod Giving
 pub mod Going
 pub mod Showing

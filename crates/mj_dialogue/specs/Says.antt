@@ -1,5 +1,5 @@
 -- What the debugger answers to a command.
-use Rattle.std.specs.Prelude.{◌≡◌, ℕ, zero, suc, List, [], ◌++◌, Bool, true, false, Option, None, Some, Result, Ok, Err, codes, ◌⊎◌}
+use Rattle.std.specs.Prelude.{◌≡◌, ◌==◌, ℕ, zero, suc, ◌<◌, List, [], ◌++◌, Bool, true, false, Option, None, Some, Result, Ok, Err, codes, ◌⊎◌}
 use Rattle.mj_semantics.specs.State.{Locals, Place}
 use Rattle.mj_gfile.specs.Spelling.{listed_lines}
 use Rattle.mj_load.specs.Image.{routines_of}
@@ -9,12 +9,12 @@ use Rattle.mj_sys.specs.History.{History, state_of}
 use Rattle.mj_steps.specs.declared.step.Step.{Step}
 use Rattle.mj_steps.specs.declared.step.Way.{Way}
 use Rattle.mj_steps.specs.declared.step.Way.TheVariants as ways
-use Rattle.mj_core.specs.declared.seen.Seen.{Seen}
-use Rattle.mj_core.specs.declared.seen.Refusal.{Refusal}
-use Rattle.mj_core.specs.declared.seen.Refusal.TheVariants as refusals
-use Rattle.mj_core.specs.declared.seen.Step.{Step as CoreStep}
-use Rattle.mj_core.specs.declared.seen.Way.{Way as CoreWay}
-use Rattle.mj_core.specs.declared.seen.Way.TheVariants as core_ways
+use Rattle.mj_debug.specs.Seen.{Seen}
+use Rattle.mj_debug.specs.Refusal.{Refusal}
+use Rattle.mj_debug.specs.Refusal.TheVariants as refusals
+use Rattle.mj_debug.specs.Step.{Step as CoreStep}
+use Rattle.mj_debug.specs.Way.{Way as CoreWay}
+use Rattle.mj_debug.specs.Way.TheVariants as core_ways
 use Rattle.mj_debug.specs.declared.debugger.Refused.{Refused}
 use Rattle.mj_debug.specs.declared.debugger.Refused.TheVariants as refused
 use Rattle.mj_debug.specs.declared.debugger.Gone.{Gone}
@@ -58,24 +58,30 @@ abbrev pub is_full_at : Gone → Bool
 is_full_at (gones.Step job answer) = is_full (told answer)
 is_full_at _ = false
 
--- whether others follow it: where it was made
+-- whether it was made, so that others follow it
 abbrev pub is_made : Gone → Bool
 is_made (gones.Step job (Ok seen)) = true
 is_made _ = false
 
--- what is left to be told behind a step: what the further ones say, where it was made; else nothing, since it is the last
-abbrev pub IsLeft : Bool → Bool → Walk → List ℕ → Bool → Walk → Type 0 → Type 0
-IsLeft true last mid rest full new Further = Further
-IsLeft false last mid rest full new Further = (rest ≡ []) × (full ≡ last) × (new ≡ mid)
+-- what comes of the next of many steps in turn, and what is told of it
+abbrev pub GoTells : Shared → Walk → Bool → Gone → List ℕ → Walk → Type 0
+GoTells opening old first gone line new = GoGives opening old first gone new × TellsGone new.core.history gone line
 
--- Up to so many steps in turn, each told behind the one before it, up to the first that isn't made.
-abbrev pub Goes : Shared → ℕ → Bool → Walk → List ℕ → Bool → Walk → Type 0
-Goes opening zero first old bytes full new = (bytes ≡ []) × (full ≡ false) × (new ≡ old)
-Goes opening (suc count) first old bytes full new =
-    (gone : Gone) × (mid : Walk) × GoGives opening old first gone mid
-    × ((told : List ℕ) × TellsGone mid.core.history gone told
-    × ((rest : List ℕ) × (bytes ≡ told ++ rest)
-    × IsLeft (is_made gone) (is_full_at gone) mid rest full new (Goes opening count false mid rest full new)))
+-- So many steps in turn were made, each told behind the one before it.
+abbrev pub AreMade : Shared → ℕ → Walk → List ℕ → Walk → Type 0
+AreMade opening zero old bytes new = (bytes ≡ []) × (new ≡ old)
+AreMade opening (suc made) old bytes new =
+    (mid : Walk) × (told : List ℕ) × AreMade opening made old told mid
+    × ((gone : Gone) × (line : List ℕ) × GoTells opening mid (made == 0) gone line new × (is_made gone ≡ true) × (bytes ≡ told ++ line))
+
+-- Up to so many steps in turn: all were made; or fewer were, and the next one isn't made, which is told behind them.
+abbrev pub Goes : Shared → ℕ → Walk → List ℕ → Bool → Walk → Type 0
+Goes opening count old bytes full new =
+    (AreMade opening count old bytes new × (full ≡ false))
+    ⊎ ((made : ℕ) × (made < count)
+    × ((mid : Walk) × (told : List ℕ) × AreMade opening made old told mid
+    × ((gone : Gone) × (line : List ℕ) × GoTells opening mid (made == 0) gone line new × (is_made gone ≡ false)
+    × (bytes ≡ told ++ line) × (full ≡ is_full_at gone))))
 
 -- the event that was gone over, or that there is none
 abbrev pub walked_line : History → Option ℕ → List ℕ
@@ -106,7 +112,7 @@ IsKept old new = new ≡ record old { ready = new.ready }
 abbrev pub Says : Shared → Walk → Command → List ℕ → Bool → Walk → Type 0
 Says opening old (commands.Step step) bytes full new =
     (answer : Result Seen Refused) × StepGives opening old (step_of step) answer new × Tells new.core.history answer bytes × (full ≡ is_full answer)
-Says opening old (commands.Go count) bytes full new = Goes opening count true old bytes full new
+Says opening old (commands.Go count) bytes full new = Goes opening count old bytes full new
 Says opening old (commands.Set routine line) bytes full new =
     AreMarked old.core.image (record { routine = routine; line = line }) true old.marks new.marks
     × (new ≡ record old { marks = new.marks }) × (bytes ≡ lined (codes "ok")) × (full ≡ false)

@@ -1,7 +1,10 @@
 // The answer to a command.
 
-ghost use Rattle.std.specs.Prelude.{◌≡◌, Bool, List, ℕ, IfOk, OnOk, OnErr, true, false};
+ghost use Rattle.std.specs.Prelude.{◌≡◌, Bool, List, ℕ, IfOk, IfErr, OnOk, true, false};
 ghost use Rattle.std.specs.Io.KnownBytes.{Appends};
+ghost use Rattle.mj_commands.specs.declared.command.Command.TheVariants as commands;
+ghost use Rattle.mj_dialogue.specs.declared.answering.Trouble.TheVariants as troubles;
+ghost use Rattle.mj_dialogue.specs.Fails.{Fails, IsWritten};
 ghost use Rattle.mj_dialogue.specs.Says.{Says, Goes};
 
 use crate::doing::{back, clear, forward, frames, globals, locals, locks, set};
@@ -25,12 +28,22 @@ pub enum Trouble {
 }
 
 impl From<AllocError> for Trouble {
+    ghost use Rattle.std.specs.Prelude.{◌≡◌};
+    ghost use Rattle.mj_dialogue.specs.declared.answering.Trouble.TheVariants as troubles;
+
+    ghost from_gives = { λ _ trouble. trouble ≡ troubles.Memory };
+
     fn from(_error: AllocError) -> Trouble {
         Trouble::Memory
     }
 }
 
 impl From<Unshown> for Trouble {
+    ghost use Rattle.std.specs.Prelude.{◌≡◌};
+    ghost use Rattle.mj_dialogue.specs.Fails.{trouble_of};
+
+    ghost from_gives = { λ why trouble. trouble ≡ trouble_of why };
+
     fn from(why: Unshown) -> Trouble {
         match why {
             Unshown::Memory => Trouble::Memory,
@@ -47,8 +60,10 @@ pub fn answer<D: Device, O: Opening, W: Write>(
     command: &Command,
     out: &mut W,
 ) -> Result<bool, Trouble>
-    ensures { IfOk result (λ full. (bytes : List ℕ) × Says O.opening debugger.old command.now bytes full debugger.new
+    ensures ok { IfOk result (λ full. (bytes : List ℕ) × Says O.opening debugger.old command.now bytes full debugger.new
         × Appends (W.contents out.old) (W.contents out.new) bytes) }
+    ensures err { IfErr result (λ why. (bytes : List ℕ) × Fails O.opening debugger.old command.now bytes why debugger.new
+        × IsWritten why (W.contents out.old) (W.contents out.new) bytes) }
 {
     match command {
         Command::Go(count) => go(alloc, debugger, *count, out),
@@ -72,7 +87,8 @@ pub fn answer<D: Device, O: Opening, W: Write>(
 
 // Writes an answer, which says or doesn't say that the record is full.
 fn give<W: Write>(out: &mut W, bytes: &[u8], full: bool) -> Result<bool, Trouble>
-    ensures { IfOk result (λ told. (told ≡ full) × Appends (W.contents out.old) (W.contents out.new) bytes.now) }
+    ensures ok { IfOk result (λ told. (told ≡ full) × Appends (W.contents out.old) (W.contents out.new) bytes.now) }
+    ensures err { IfErr result (λ why. why ≡ troubles.Unwritten) }
 {
     put(out, bytes)?;
     Ok(full)
@@ -85,8 +101,10 @@ fn go<D: Device, O: Opening, W: Write>(
     count: u32,
     out: &mut W,
 ) -> Result<bool, Trouble>
-    ensures { IfOk result (λ full. (bytes : List ℕ) × Goes O.opening count true debugger.old bytes full debugger.new
+    ensures ok { IfOk result (λ full. (bytes : List ℕ) × Goes O.opening count debugger.old bytes full debugger.new
         × Appends (W.contents out.old) (W.contents out.new) bytes) }
+    ensures err { IfErr result (λ why. (bytes : List ℕ) × Fails O.opening debugger.old (commands.Go count) bytes why debugger.new
+        × IsWritten why (W.contents out.old) (W.contents out.new) bytes) }
 {
     for made in 0..count {
         let passed = pass(alloc, debugger, made == 0)?;
@@ -100,7 +118,8 @@ fn go<D: Device, O: Opening, W: Write>(
 
 // Writes some bytes.
 fn put<W: Write>(out: &mut W, bytes: &[u8]) -> Result<(), Trouble>
-    ensures { OnOk result (Appends (W.contents out.old) (W.contents out.new) bytes.now) }
+    ensures ok { OnOk result (Appends (W.contents out.old) (W.contents out.new) bytes.now) }
+    ensures err { IfErr result (λ why. why ≡ troubles.Unwritten) }
 {
     match out.write_all(bytes) {
         Ok(()) => Ok(()),

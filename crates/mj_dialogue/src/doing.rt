@@ -1,7 +1,8 @@
 // What each command does that makes no step, and its lines.
 
-ghost use Rattle.std.specs.Prelude.{◌≡◌, IfOk, false};
+ghost use Rattle.std.specs.Prelude.{◌≡◌, IfOk, IfErr, OnErr, false};
 ghost use Rattle.mj_commands.specs.declared.command.Command.TheVariants as commands;
+ghost use Rattle.mj_dialogue.specs.Fails.{IsDone, IsHidden};
 ghost use Rattle.mj_dialogue.specs.Says.{Says, walked_line};
 
 use crate::shows::{frames_at, globals_at, locals_at, locks_at};
@@ -19,7 +20,8 @@ pub fn set<D: Device, O: Opening>(
     routine: &Text,
     number: u32,
 ) -> Result<Vec<u8>, AllocError>
-    ensures { IfOk result (λ bytes. Says O.opening debugger.old (commands.Set routine.now number) bytes.items false debugger.new) }
+    ensures ok { IfOk result (λ bytes. Says O.opening debugger.old (commands.Set routine.now number) bytes.items false debugger.new) }
+    ensures err { OnErr result (IsDone O.opening debugger.old (commands.Set routine.now number) debugger.new) }
 {
     debugger.set(routine, number)?;
     line(alloc, b"ok")
@@ -32,7 +34,8 @@ pub fn clear<D: Device, O: Opening>(
     routine: &Text,
     number: u32,
 ) -> Result<Vec<u8>, AllocError>
-    ensures { IfOk result (λ bytes. Says O.opening debugger.old (commands.Clear routine.now number) bytes.items false debugger.new) }
+    ensures ok { IfOk result (λ bytes. Says O.opening debugger.old (commands.Clear routine.now number) bytes.items false debugger.new) }
+    ensures err { OnErr result (IsDone O.opening debugger.old (commands.Clear routine.now number) debugger.new) }
 {
     debugger.clear(routine, number)?;
     line(alloc, b"ok")
@@ -43,7 +46,8 @@ pub fn back<D: Device, O: Opening>(
     alloc: Global,
     debugger: &mut Debugger<D, O>,
 ) -> Result<Vec<u8>, AllocError>
-    ensures { IfOk result (λ bytes. Says O.opening debugger.old commands.Back bytes.items false debugger.new) }
+    ensures ok { IfOk result (λ bytes. Says O.opening debugger.old commands.Back bytes.items false debugger.new) }
+    ensures err { OnErr result (IsDone O.opening debugger.old commands.Back debugger.new) }
 {
     let at = debugger.back();
     walked(alloc, debugger, at)
@@ -54,7 +58,8 @@ pub fn forward<D: Device, O: Opening>(
     alloc: Global,
     debugger: &mut Debugger<D, O>,
 ) -> Result<Vec<u8>, AllocError>
-    ensures { IfOk result (λ bytes. Says O.opening debugger.old commands.Forward bytes.items false debugger.new) }
+    ensures ok { IfOk result (λ bytes. Says O.opening debugger.old commands.Forward bytes.items false debugger.new) }
+    ensures err { OnErr result (IsDone O.opening debugger.old commands.Forward debugger.new) }
 {
     let at = debugger.forward();
     walked(alloc, debugger, at)
@@ -80,7 +85,8 @@ pub fn frames<D: Device, O: Opening>(
     debugger: &mut Debugger<D, O>,
     job: u32,
 ) -> Result<Vec<u8>, Unshown>
-    ensures { IfOk result (λ bytes. Says O.opening debugger.old (commands.Frames job) bytes.items false debugger.new) }
+    ensures ok { IfOk result (λ bytes. Says O.opening debugger.old (commands.Frames job) bytes.items false debugger.new) }
+    ensures err { IfErr result (λ why. IsHidden O.opening debugger.old why debugger.new) }
 {
     debugger.show()?;
     match frames_at(alloc, debugger, job) {
@@ -95,7 +101,8 @@ pub fn locals<D: Device, O: Opening>(
     debugger: &mut Debugger<D, O>,
     job: u32,
 ) -> Result<Vec<u8>, Unshown>
-    ensures { IfOk result (λ bytes. Says O.opening debugger.old (commands.Locals job) bytes.items false debugger.new) }
+    ensures ok { IfOk result (λ bytes. Says O.opening debugger.old (commands.Locals job) bytes.items false debugger.new) }
+    ensures err { IfErr result (λ why. IsHidden O.opening debugger.old why debugger.new) }
 {
     debugger.show()?;
     match locals_at(alloc, debugger, job) {
@@ -109,7 +116,8 @@ pub fn locks<D: Device, O: Opening>(
     alloc: Global,
     debugger: &mut Debugger<D, O>,
 ) -> Result<Vec<u8>, Unshown>
-    ensures { IfOk result (λ bytes. Says O.opening debugger.old commands.Locks bytes.items false debugger.new) }
+    ensures ok { IfOk result (λ bytes. Says O.opening debugger.old commands.Locks bytes.items false debugger.new) }
+    ensures err { IfErr result (λ why. IsHidden O.opening debugger.old why debugger.new) }
 {
     debugger.show()?;
     match locks_at(alloc, debugger) {
@@ -123,7 +131,8 @@ pub fn globals<D: Device, O: Opening>(
     alloc: Global,
     debugger: &mut Debugger<D, O>,
 ) -> Result<Vec<u8>, Unshown>
-    ensures { IfOk result (λ bytes. Says O.opening debugger.old commands.Globals bytes.items false debugger.new) }
+    ensures ok { IfOk result (λ bytes. Says O.opening debugger.old commands.Globals bytes.items false debugger.new) }
+    ensures err { IfErr result (λ why. IsHidden O.opening debugger.old why debugger.new) }
 {
     debugger.show()?;
     match globals_at(alloc, debugger) {

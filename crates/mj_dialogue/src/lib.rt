@@ -2,6 +2,7 @@
 //
 // `answer` does what a command asks for and writes its lines (`specs/Says.antt`): of a step what came of it, of a walk along the record the line of the event that it
 // went over, and of a show what stands at the place. Each line of a `go` is written as soon as its step is made.
+// Why a command isn't answered to its end, what was told of it by then, and what is left, says `specs/Fails.antt`.
 #![tactic(auto)]
 
 mod answering;
@@ -11,3 +12,5 @@ mod steps;
 mod tell;
 
 pub use answering::{Trouble, answer};
+/// The debugger, with the core that it steps, for the crates above.
+pub use mj_debug as debugging;

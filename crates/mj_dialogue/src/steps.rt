@@ -1,17 +1,18 @@
 // Steps, and what is answered of them.
 
-ghost use Rattle.std.specs.Prelude.{◌≡◌, Result, Ok, Err, IfOk, false};
-ghost use Rattle.mj_core.specs.declared.seen.Seen.{Seen as SeenOf};
+ghost use Rattle.std.specs.Prelude.{◌≡◌, Result, Ok, Err, IfOk, IfErr, OnErr, false};
+ghost use Rattle.mj_debug.specs.Seen.{Seen as SeenOf};
 ghost use Rattle.mj_debug.specs.declared.debugger.Refused.{Refused as RefusedOf};
 ghost use Rattle.mj_debug.specs.declared.debugger.Refused.TheVariants as refused;
 ghost use Rattle.mj_debug.specs.declared.debugger.Gone.{Gone as GoneOf};
-ghost use Rattle.mj_debug.specs.Goes.{GoGives};
 ghost use Rattle.mj_debug.specs.Walks.{StepGives, told as as_told};
+ghost use Rattle.mj_commands.specs.declared.command.Command.TheVariants as commands;
+ghost use Rattle.mj_dialogue.specs.Fails.{trouble_of, IsDone, IsCut};
 ghost use Rattle.mj_dialogue.specs.Lines.{seen_line, TellsRefusal};
-ghost use Rattle.mj_dialogue.specs.Says.{step_of, is_full, is_full_at, is_made, Tells, TellsGone};
+ghost use Rattle.mj_dialogue.specs.Says.{step_of, is_full, is_full_at, is_made, Tells, TellsGone, GoTells};
 
 use crate::tell::{busy, event, line, refusal, stop};
-use mj_core::{Core, Refusal, Seen};
+use mj_debug::cores::{Core, Refusal, Seen};
 use mj_debug::{Debugger, Gone, Refused, Unshown};
 use mj_dev::Device;
 use mj_steps::{Step, Way};
@@ -31,22 +32,23 @@ pub fn step<D: Device, O: Opening>(
     debugger: &mut Debugger<D, O>,
     step: Step,
 ) -> Result<Told, AllocError>
-    ensures { IfOk result (λ told. (answer : Result SeenOf RefusedOf) × StepGives O.opening debugger.old (step_of step) answer debugger.new
+    ensures ok { IfOk result (λ told. (answer : Result SeenOf RefusedOf) × StepGives O.opening debugger.old (step_of step) answer debugger.new
         × Tells debugger.new.core.history answer told.bytes.items × (told.full ≡ is_full answer)) }
+    ensures err { OnErr result (IsDone O.opening debugger.old (commands.Step step) debugger.new) }
 {
     let answer = debugger.step(core_step(step));
     tell(alloc, debugger.core(), &answer)
 }
 
 // The same step, of a core.
-fn core_step(step: Step) -> mj_core::Step
+fn core_step(step: Step) -> mj_debug::cores::Step
     ensures { result ≡ step_of step }
 {
-    mj_core::Step {
+    mj_debug::cores::Step {
         job: step.job,
         way: match step.way {
-            Way::Go => mj_core::Way::Go,
-            Way::Late => mj_core::Way::Late,
+            Way::Go => mj_debug::cores::Way::Go,
+            Way::Late => mj_debug::cores::Way::Late,
         },
     }
 }
@@ -112,8 +114,9 @@ pub fn pass<D: Device, O: Opening>(
     debugger: &mut Debugger<D, O>,
     first: bool,
 ) -> Result<Passed, Unshown>
-    ensures { IfOk result (λ passed. (gone : GoneOf) × GoGives O.opening debugger.old first gone debugger.new
-        × TellsGone debugger.new.core.history gone passed.told.bytes.items × (passed.told.full ≡ is_full_at gone) × (passed.made ≡ is_made gone)) }
+    ensures ok { IfOk result (λ passed. (gone : GoneOf) × GoTells O.opening debugger.old first gone passed.told.bytes.items debugger.new
+        × (passed.told.full ≡ is_full_at gone) × (passed.made ≡ is_made gone)) }
+    ensures err { IfErr result (λ why. IsCut O.opening debugger.old first (trouble_of why) debugger.new) }
 {
     let gone = debugger.go(first)?;
     match tell_gone(alloc, debugger.core(), &gone) {

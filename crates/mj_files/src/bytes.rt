@@ -18,12 +18,24 @@ pub enum Trouble {
 }
 
 impl From<AllocError> for Trouble {
+    ghost use Rattle.mj_files.specs.declared.bytes.Trouble.TheVariants as troubles;
+    ghost use Rattle.std.specs.Prelude.{◌≡◌};
+
+    ghost from_gives = { λ e r. r ≡ troubles.Memory };
+
     fn from(_: AllocError) -> Trouble {
         Trouble::Memory
     }
 }
 
 impl From<Error> for Trouble {
+    ghost use Rattle.mj_files.specs.declared.bytes.Trouble.TheVariants as troubles;
+    ghost use Rattle.std.specs.IoError.{error_kind};
+    ghost use Rattle.std.specs.declared.io.ErrorKind.TheVariants as kinds;
+    ghost use Rattle.std.specs.Prelude.{◌≡◌, ◌↔◌};
+
+    ghost from_gives = { λ e r. (r ≡ troubles.Memory) ↔ (error_kind e ≡ kinds.OutOfMemory) };
+
     fn from(error: Error) -> Trouble {
         if error.kind() == ErrorKind::OutOfMemory {
             Trouble::Memory

@@ -12,8 +12,6 @@ mod bytes;
 mod devices;
 mod lines;
 mod port;
-#[cfg(test)]
-mod tests;
 
 pub use bytes::{Trouble, whole};
 pub use devices::{Named, Side, pool_of, read_device};

@@ -1,13 +1,14 @@
 // The token at the front of the bytes of a line.
 
-ghost use Rattle.std.specs.Prelude.{◌∷◌, ◌≡◌, ◌<◌, ◌≤◌, ◌+◌, List, [], length, take_while, IfSome, IfOk, MatchOption, drop};
-ghost use Rattle.mj_ast.specs.Tokens.{Lexeme as Spelled, front_of, lexemes, IsTokenisation, quotation, quoted_token, class_of, is_digit, continues_word, bracket_front, truth_front, apostrophe_sign, longest_sign, begins_word, dollar_word, dollar_front};
+ghost use Rattle.std.specs.Prelude.{◌∷◌, ◌≡◌, ◌<◌, ◌≤◌, ◌+◌, List, [], length, take_while, IfSome, OnOk, OnErr, MatchOption, drop};
+ghost use Rattle.mj_ast.specs.Tokens.{Lexeme as Spelled, front_of, lexemes as the_lexemes, IsTokenisation, quotation, quoted_token, class_of};
+ghost use Rattle.mj_ast.specs.Tokens.{is_digit, continues_word, bracket_front, truth_front, apostrophe_sign, longest_sign, begins_word, dollar_word, dollar_front};
 ghost use Rattle.mj_lex.specs.Seen.{BeginsWith, placed, places_seen, class_seen, token_seen};
 
 use crate::token::{Lexeme, Token};
 use mj_ast::Sign;
 use mj_oper::TruthOp;
-use std::alloc::{AllocError, Global};
+use std::alloc::AllocError;
 
 /// What a byte begins.
 #[derive(Clone, Copy)]
@@ -251,22 +252,23 @@ fn front(bytes: &[u8]) -> Option<(Token<'_>, &[u8])>
     }
 }
 
-/// The tokens of a line, from the left: their slices are the line, and each is the longest that spells a token. There is one such
-/// list.
-pub fn tokens<'a>(alloc: Global, line: &'a [u8]) -> Result<Vec<Lexeme<'a>>, AllocError>
-    ensures placed { IfOk result (λ v. places_seen v.items ≡ placed 0 (lexemes line.now)) }
-    ensures longest { IsTokenisation line.now (lexemes line.now) }
-    ensures only { (others : List Spelled) → IsTokenisation line.now others → others ≡ lexemes line.now }
+/// Puts the tokens of a line, from the left, in the place of what the list holds, and keeps the room that it has: their slices are the line, and each is the
+/// longest that spells a token. There is one such list. With want of memory the list is empty.
+pub fn tokens_into<'a>(lexemes: &mut Vec<Lexeme<'a>>, line: &'a [u8]) -> Result<(), AllocError>
+    ensures placed { OnOk result (places_seen lexemes.new.items ≡ placed 0 (the_lexemes line.now)) }
+    ensures none { OnErr result (lexemes.new.items ≡ []) }
+    ensures longest { IsTokenisation line.now (the_lexemes line.now) }
+    ensures only { (others : List Spelled) → IsTokenisation line.now others → others ≡ the_lexemes line.now }
 {
-    // No line has more tokens than bytes.
-    let mut lexemes = Vec::with_capacity(alloc, line.len())?;
+    lexemes.clear();
     let mut rest = line;
     'tokens: while let Some((token, behind)) = front(rest) {
-        lexemes.push(Lexeme {
-            token,
-            at: line.len() - rest.len(),
-        })?;
+        let at = line.len() - rest.len();
+        let Ok(()) = lexemes.push(Lexeme { token, at }) else {
+            lexemes.clear();
+            return Err(AllocError);
+        };
         rest = behind;
     }
-    Ok(lexemes)
+    Ok(())
 }

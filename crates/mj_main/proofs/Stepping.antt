@@ -2,8 +2,8 @@
 use Rattle.std.proofs.Common.{◌≡◌, ℕ, zero, suc, ◌+◌, List, [], ◌∷◌, take, Result, Ok, Err, ◌⊎◌, Option, Some, None, inl, inr, ap, refl}
 use Rattle.std.specs.Prelude.{IfNone}
 use Rattle.mj_sys.specs.Shared.{Shared}
-use Rattle.mj_core.specs.Shown.{Shown}
-use Rattle.mj_core.specs.Gives.{Gives, RunGives}
+use Rattle.mj_dialogue.specs.Shown.{Shown}
+use Rattle.mj_dialogue.specs.Gives.{Gives, RunGives}
 use Rattle.mj_steps.specs.declared.step.Step.{Step}
 use Rattle.mj_steps.specs.declared.round.Round.{Round}
 use Rattle.mj_steps.specs.declared.round.Standing.{Standing}

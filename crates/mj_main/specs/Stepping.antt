@@ -1,15 +1,15 @@
 -- What a step of the program comes to, by what the core gives for it.
 use Rattle.std.specs.Prelude.{◌≡◌, ℕ, List, Result, Ok, Err, ◌⊎◌}
 use Rattle.mj_sys.specs.Shared.{Shared}
-use Rattle.mj_core.specs.Shown.{Shown}
-use Rattle.mj_core.specs.Gives.{Gives, RunGives}
-use Rattle.mj_core.specs.declared.seen.Seen.{Seen}
-use Rattle.mj_core.specs.declared.seen.Seen.TheVariants as seen
-use Rattle.mj_core.specs.declared.seen.Refusal.{Refusal}
-use Rattle.mj_core.specs.declared.seen.Refusal.TheVariants as refusals
-use Rattle.mj_core.specs.declared.seen.Step.{Step as CoreStep}
-use Rattle.mj_core.specs.declared.seen.Way.{Way as CoreWay}
-use Rattle.mj_core.specs.declared.seen.Way.TheVariants as core_ways
+use Rattle.mj_dialogue.specs.Shown.{Shown}
+use Rattle.mj_dialogue.specs.Gives.{Gives, RunGives}
+use Rattle.mj_dialogue.specs.Seen.{Seen}
+use Rattle.mj_dialogue.specs.Seen.TheVariants as seen
+use Rattle.mj_dialogue.specs.Refusal.{Refusal}
+use Rattle.mj_dialogue.specs.Refusal.TheVariants as refusals
+use Rattle.mj_dialogue.specs.Step.{Step as CoreStep}
+use Rattle.mj_dialogue.specs.Way.{Way as CoreWay}
+use Rattle.mj_dialogue.specs.Way.TheVariants as core_ways
 use Rattle.mj_steps.specs.declared.step.Step.{Step}
 use Rattle.mj_steps.specs.declared.step.Way.{Way}
 use Rattle.mj_steps.specs.declared.step.Way.TheVariants as ways

@@ -4,7 +4,7 @@ ghost use Rattle.std.specs.Prelude.{◌≡◌, true, IfOk};
 ghost use Rattle.mj_files.specs.Named.{names_of, with_principals, with_devices};
 ghost use Rattle.mj_jobs.specs.Rows.{rows_limit};
 ghost use Rattle.mj_sys.specs.Shared.{are_global};
-ghost use Rattle.mj_debug.specs.Walks.{AreWhole};
+ghost use Rattle.mj_dialogue.specs.Walks.{AreWhole};
 
 use crate::files::{file_bytes, whole};
 use crate::listings::listed;

@@ -5,7 +5,7 @@ ghost use Rattle.mj_dev.specs.Shelves.{principal, left_of};
 ghost use Rattle.mj_jobs.specs.Rows.{rows_limit};
 ghost use Rattle.mj_sys.specs.Opening.{opening_of};
 ghost use Rattle.mj_sys.specs.Shared.{are_global};
-ghost use Rattle.mj_debug.specs.Walks.{AreWhole};
+ghost use Rattle.mj_dialogue.specs.Walks.{AreWhole};
 
 use crate::begin::{Beginning, begin, trace_from};
 use crate::jobs::has_faulted;
@@ -16,8 +16,8 @@ use crate::stop::{FAILED, FAULTED, Stop};
 use crate::traces::{Trace, write_trace};
 use mj_ask::Start;
 use mj_commands::Command;
-use mj_debug::Debugger;
 use mj_dev::{Device, Pool};
+use mj_dialogue::debugging::Debugger;
 use mj_dialogue::{Trouble, answer};
 use mj_files::Port;
 use mj_globs::Globals;

@@ -2,7 +2,7 @@
 
 ghost use Rattle.std.specs.Prelude.{◌≡◌, ℕ, length, slice_get, IfOk, IfSome, IfNone};
 ghost use Rattle.mj_sys.specs.History.{state_of};
-ghost use Rattle.mj_core.specs.Runs.{out_of};
+ghost use Rattle.mj_dialogue.specs.Runs.{out_of};
 ghost use Rattle.mj_steps.specs.Driven.{ByList};
 ghost use Rattle.mj_main.specs.Stepping.{StepsAs, StandsSo, IsInTurn, AreSteps, core_step};
 ghost use Rattle.mj_many.specs.Printed.{printed, parts};
@@ -10,8 +10,8 @@ ghost use Rattle.mj_main.specs.Statuses.{has_faulted, event_faults, is_fault};
 ghost use Rattle.mj_dev.specs.Shelves.{principal};
 
 use mj_ask::Ask;
-use mj_core::{Core, Refusal, Seen};
 use mj_dev::Device;
+use mj_dialogue::debugging::cores::{Core, Refusal, Seen};
 use mj_gfile::{put_name, put_text};
 use mj_globs::Globals;
 use mj_many::{put_idle, put_part, put_wait};
@@ -153,9 +153,9 @@ impl<D: Device, O: Opening> Jobs<D, O> {
 
     // The line of one job, if it waits.
     fn put_wait(&mut self, bytes: &mut Vec<u8>, job: u32) -> Result<(), AllocError> {
-        let step = mj_core::Step {
+        let step = mj_dialogue::debugging::cores::Step {
             job,
-            way: mj_core::Way::Go,
+            way: mj_dialogue::debugging::cores::Way::Go,
         };
         match self.core.step(step) {
             Ok(Seen::Busy { holder, held }) => self.put_busy(bytes, job, holder, &held),
@@ -208,14 +208,14 @@ fn faults_at<D: Device, O: Opening>(core: &Core<D, O>, at: usize) -> bool
 }
 
 // The same step, of a core.
-fn core_step(step: Step) -> mj_core::Step
+fn core_step(step: Step) -> mj_dialogue::debugging::cores::Step
     ensures { result ≡ core_step step }
 {
-    mj_core::Step {
+    mj_dialogue::debugging::cores::Step {
         job: step.job,
         way: match step.way {
-            Way::Go => mj_core::Way::Go,
-            Way::Late => mj_core::Way::Late,
+            Way::Go => mj_dialogue::debugging::cores::Way::Go,
+            Way::Late => mj_dialogue::debugging::cores::Way::Late,
         },
     }
 }

@@ -2,8 +2,8 @@
 
 use crate::files::{file_bytes, routine_name};
 use crate::stop::Stop;
-use mj_debug::Debugger;
 use mj_dev::Device;
+use mj_dialogue::debugging::Debugger;
 use mj_sys::Opening;
 use mj_text::{Digits, Text};
 use mj_words::Debug;

@@ -7,7 +7,7 @@ use crate::files::file_bytes;
 use crate::listings::listed;
 use crate::routines::loaded;
 use crate::stop::{DIFFERS, Stop};
-use mj_debug::Verdict;
+use mj_dialogue::debugging::Verdict;
 use mj_globs::Globals;
 use mj_load::Image;
 use mj_replay::replay_trace;

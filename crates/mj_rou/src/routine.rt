@@ -17,7 +17,7 @@ use crate::file::first_line;
 use mj_ast::{Line, Routine};
 use mj_expr::Stop;
 use mj_left::left_out;
-use mj_lex::{Lexeme, Token, next, tokens};
+use mj_lex::{Lexeme, Token, next, tokens_into};
 use mj_text::Text;
 use std::alloc::{AllocError, Global};
 use std::collections::BTreeSet;
@@ -198,11 +198,13 @@ fn ranked(refusal: Refusal, twice: bool) -> Refusal
     }
 }
 
-/// The tree of a line, and its label. `labels` are those of the lines before.
+/// The tree of a line, and its label. `labels` are those of the lines before. The line's tokens take the place of those that the
+/// list holds.
 fn line_tree<'a>(
     alloc: Global,
     line: &'a [u8],
     labels: &BTreeSet<&'a [u8]>,
+    lexemes: &mut Vec<Lexeme<'a>>,
 ) -> Result<(Line, Option<&'a [u8]>), Refusal>
     ensures read { IfOk result (λ x. IsLineRead line.now (line_of x.0)) }
     ensures label { IfOk result (λ x. label_seen x.1 ≡ label_of (the_tokens line.now)) }
@@ -212,13 +214,13 @@ fn line_tree<'a>(
     if line.len() > LINE_LIMIT {
         return Err(Refusal::Long);
     }
-    let lexemes = match tokens(alloc, line) {
-        Ok(lexemes) => lexemes,
-        Err(_) => return Err(Refusal::Memory),
+    let Ok(()) = tokens_into(lexemes, line) else {
+        return Err(Refusal::Memory);
     };
-    let label = label(&lexemes);
+    let lexemes = lexemes.as_slice();
+    let label = label(lexemes);
     let twice = is_kept(labels, label);
-    match tree_of(alloc, line, &lexemes) {
+    match tree_of(alloc, line, lexemes) {
         Err(refusal) => Err(ranked(refusal, twice)),
         Ok(tree) => {
             if twice {
@@ -245,13 +247,14 @@ pub fn read(alloc: Global, name: &[u8], bytes: &[u8]) -> Result<Routine, LoadErr
     };
     let mut lines = Vec::new(alloc);
     let mut labels = BTreeSet::new(alloc);
+    let mut lexemes = Vec::new(alloc);
     let mut rest = bytes;
     'lines: while let Some((line, behind)) = first_line(rest) {
         let number = lines.len() + 1;
         if number > ROUTINE_LIMIT {
             return Err(at_line(Refusal::Long, routine, number));
         }
-        match line_tree(alloc, line, &labels) {
+        match line_tree(alloc, line, &labels, &mut lexemes) {
             Err(refusal) => return Err(at_line(refusal, routine, number)),
             Ok((tree, label)) => {
                 if lines.push(tree).is_err() || keep(&mut labels, label).is_err() {

@@ -27,7 +27,7 @@ fn ran_in(
     let mut input = input;
     let mut out = Vec::new(alloc);
     let mut err = Vec::new(alloc);
-    let status = mj_main::run(rt, &list, &mut input, &mut out, &mut err);
+    let status = mj_rows_runs::run(rt, &list, &mut input, &mut out, &mut err);
     Ok(Ran { out, err, status })
 }
 
@@ -250,7 +250,7 @@ impl Read for Broken {
 fn run_broken(rt: &HostRuntime, words: &[&str]) -> Ran {
     let mut out = Vec::new(rt.alloc());
     let mut err = Vec::new(rt.alloc());
-    let status = mj_main::run(rt, words, &mut Broken, &mut out, &mut err);
+    let status = mj_rows_runs::run(rt, words, &mut Broken, &mut out, &mut err);
     Ran { out, err, status }
 }
 

@@ -25,7 +25,7 @@ fn help_has_examples_and_statuses(rt: HostRuntime) -> Result<(), Fail> {
 #[test]
 fn the_version_names_the_kit(rt: HostRuntime) -> Result<(), Fail> {
     let ran = run_words(&rt, &["mj", "--version"]);
-    let version = "mj 0.1.0, proved by rattle-kit-13f logic dac8208d650f15bf\n";
+    let version = "mj 0.1.0, proved by rattle-kit-13b logic dac8208d650f15bf\n";
     assert_eq!(rt; str::from_utf8(&ran.out)?, version);
     assert!(rt; ran.err.is_empty());
     assert_eq!(rt; ran.status, 0);

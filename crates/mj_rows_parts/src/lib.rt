@@ -4,6 +4,10 @@
 #![tactic(auto)]
 
 #[cfg(test)]
+mod devices;
+#[cfg(test)]
+mod files;
+#[cfg(test)]
 mod locals;
 #[cfg(test)]
 mod steps;

@@ -1,6 +1,8 @@
-// NEW, formals and what undoing them gives, on the values that the words of the language lead one to expect.
+// NEW, formals and what undoing them gives, on the values that the words of the language lead one to expect. One function has a job's locals; the rows
+// borrow them, since all that a function has is dropped anew at each of its ends, and each drop is proved.
 
 ghost use Rattle.std.specs.Prelude.{◌≡◌, false, IfOk};
+ghost use Rattle.mj_store.specs.Runs.{name_of};
 
 use mj_locals::{Locals, perform};
 use mj_store::{Access, Direction, Nodes};
@@ -9,163 +11,271 @@ use mj_text::{Failure, Text};
 use std::alloc::Global;
 use std::test::Fail;
 
+// What is done with X=1 and Y=2, to see numbers of variables behind it.
+#[derive(Clone, Copy)]
+enum Row {
+    // X before, behind NEW X, after a new value, after that is undone; and Y
+    Hidden,
+    // X and Y behind NEW (Y); X after that is undone, Y as it was changed since, and Z, which was new since
+    Spared,
+    // X, Y and Z as formals with the actuals 7 and none; X and Y after that
+    Passed,
+}
+
+// What is asked where X(1) and X(5) stand beside them, and `Yes` is 1.
+#[derive(Clone, Copy)]
+enum Question {
+    // `$DATA` of X
+    Data,
+    // whether the last of these subscripts is next to the first one below X
+    Next(&'static str, Direction, &'static str),
+    // how many nodes X has
+    Nodes,
+    // whether X(1) is the next name of X
+    Behind,
+    // whether X(5) has a text when X is killed
+    Without5,
+    // `$DATA` of X when all goes but Y
+    WithoutX,
+}
+
 #[test]
 fn new_hides_and_undoing_shows_again(rt: HostRuntime) -> Result<(), Fail> {
-    assert_eq!(rt;
-        hidden_and_shown(rt.alloc())?,
-        [Some(1), None, Some(3), Some(1), Some(2)]
-    );
+    let numbers = seen(rt.alloc(), Row::Hidden)?;
+    assert_eq!(rt; numbers, [Some(1), None, Some(3), Some(1), Some(2)]);
     Ok(())
 }
 
 #[test]
 fn new_of_all_but_some_keeps_those(rt: HostRuntime) -> Result<(), Fail> {
-    assert_eq!(rt;
-        spared_and_shown(rt.alloc())?,
-        [None, Some(2), Some(1), Some(4), None]
-    );
+    let numbers = seen(rt.alloc(), Row::Spared)?;
+    assert_eq!(rt; numbers, [None, Some(2), Some(1), Some(4), None]);
     Ok(())
 }
 
 #[test]
 fn formals_have_their_values(rt: HostRuntime) -> Result<(), Fail> {
-    assert_eq!(rt;
-        passed(rt.alloc())?,
-        [Some(7), None, None, Some(1), Some(2)]
-    );
+    let numbers = seen(rt.alloc(), Row::Passed)?;
+    assert_eq!(rt; numbers, [Some(7), None, None, Some(1), Some(2)]);
     Ok(())
 }
 
 #[test]
 fn each_question_is_answered(rt: HostRuntime) -> Result<(), Fail> {
-    assert_eq!(rt; data_of_x(rt.alloc())?, 11);
-    assert_eq!(rt;
-        is_next_of_x(rt.alloc(), "1", Direction::Forward, "5")?,
-        true
-    );
-    assert_eq!(rt;
-        is_next_of_x(rt.alloc(), "", Direction::Backward, "5")?,
-        true
-    );
-    assert_eq!(rt; nodes_of_x(rt.alloc())?, 3);
-    assert_eq!(rt; is_behind_x(rt.alloc())?, true);
+    for (question, answer) in [
+        (Question::Data, 11),
+        (Question::Next("1", Direction::Forward, "5"), 1),
+        (Question::Next("", Direction::Backward, "5"), 1),
+        (Question::Nodes, 3),
+        (Question::Behind, 1),
+    ] {
+        assert_eq!(rt; asked(rt.alloc(), question)?, answer);
+    }
     Ok(())
 }
 
 #[test]
 fn what_goes_is_gone(rt: HostRuntime) -> Result<(), Fail> {
-    assert_eq!(rt; without_5(rt.alloc())?, false);
-    assert_eq!(rt; without_x(rt.alloc())?, 0);
+    for question in [Question::Without5, Question::WithoutX] {
+        assert_eq!(rt; asked(rt.alloc(), question)?, 0);
+    }
     Ok(())
 }
 
-// X before, behind NEW X, after a new value, after that is undone; and Y.
-fn hidden_and_shown(alloc: Global) -> Result<[Option<i64>; 5], Failure> {
-    let mut locals = two(alloc)?;
-    let before = number(alloc, &locals, "X")?;
-    locals.new_words(words(alloc, &["X", "X"])?.as_slice())?;
-    let hidden = number(alloc, &locals, "X")?;
-    give(alloc, &mut locals, "X", 3)?;
-    let renewed = number(alloc, &locals, "X")?;
+fn seen(alloc: Global, row: Row) -> Result<[Option<i64>; 5], Failure> {
+    let mut locals = Locals::new(alloc);
+    let numbers = run(alloc, &mut locals, row);
+    drop(locals);
+    numbers
+}
+
+fn asked(alloc: Global, question: Question) -> Result<usize, Failure> {
+    let mut locals = Locals::new(alloc);
+    let answer = answer(alloc, &mut locals, question);
+    drop(locals);
+    answer
+}
+
+fn run(alloc: Global, locals: &mut Locals, row: Row) -> Result<[Option<i64>; 5], Failure> {
+    give_both(alloc, locals)?;
+    match row {
+        Row::Hidden => hidden_and_shown(alloc, locals),
+        Row::Spared => spared_and_shown(alloc, locals),
+        Row::Passed => passed(alloc, locals),
+    }
+}
+
+fn hidden_and_shown(alloc: Global, locals: &mut Locals) -> Result<[Option<i64>; 5], Failure> {
+    let before = number(alloc, locals, "X")?;
+    hide(alloc, locals, &["X", "X"])?;
+    let hidden = number(alloc, locals, "X")?;
+    give(alloc, locals, "X", 3)?;
+    let renewed = number(alloc, locals, "X")?;
     locals.unwind(0);
-    let [x, y] = both(alloc, &locals)?;
+    let [x, y] = both(alloc, locals)?;
     Ok([before, hidden, renewed, x, y])
 }
 
-// X and Y behind NEW (Y); X after that is undone, Y as it was changed since, and Z, which was new since.
-fn spared_and_shown(alloc: Global) -> Result<[Option<i64>; 5], Failure> {
-    let mut locals = two(alloc)?;
+fn spared_and_shown(alloc: Global, locals: &mut Locals) -> Result<[Option<i64>; 5], Failure> {
     let height = locals.height();
-    locals.new_except(words(alloc, &["Y"])?.as_slice())?;
-    let [hidden, spared] = both(alloc, &locals)?;
-    give(alloc, &mut locals, "Y", 4)?;
-    give(alloc, &mut locals, "Z", 5)?;
+    spare(alloc, locals, &["Y"])?;
+    let [hidden, spared] = both(alloc, locals)?;
+    give(alloc, locals, "Y", 4)?;
+    give(alloc, locals, "Z", 5)?;
     locals.unwind(height);
-    let [x, y] = both(alloc, &locals)?;
-    Ok([hidden, spared, x, y, number(alloc, &locals, "Z")?])
+    let [x, y] = both(alloc, locals)?;
+    Ok([hidden, spared, x, y, number(alloc, locals, "Z")?])
 }
 
-// X, Y and Z as formals with the actuals 7 and none; X and Y after that.
-fn passed(alloc: Global) -> Result<[Option<i64>; 5], Failure> {
-    let mut locals = two(alloc)?;
-    let mut values = Vec::new(alloc);
-    values.push(Some(Text::from_number(alloc, 7)))?;
-    values.push(None)?;
-    locals.pass(words(alloc, &["X", "Y", "Z"])?.as_slice(), values)?;
-    let [x, y] = both(alloc, &locals)?;
-    let z = number(alloc, &locals, "Z")?;
+fn passed(alloc: Global, locals: &mut Locals) -> Result<[Option<i64>; 5], Failure> {
+    pass(alloc, locals, &["X", "Y", "Z"], 7)?;
+    let [x, y] = both(alloc, locals)?;
+    let z = number(alloc, locals, "Z")?;
     locals.unwind(0);
-    let [old_x, old_y] = both(alloc, &locals)?;
+    let [old_x, old_y] = both(alloc, locals)?;
     Ok([x, y, z, old_x, old_y])
 }
 
-fn data_of_x(alloc: Global) -> Result<u8, Failure> {
-    let locals = filled(alloc)?;
-    Ok(locals.data(&name(alloc, "X")?))
+fn answer(alloc: Global, locals: &mut Locals, question: Question) -> Result<usize, Failure> {
+    give_both(alloc, locals)?;
+    put(alloc, locals)?;
+    match question {
+        Question::Data => data_of_x(alloc, locals),
+        Question::Next(first, way, last) => next_of_x(alloc, locals, first, way, last),
+        Question::Nodes => nodes_of_x(alloc, locals),
+        Question::Behind => behind_x(alloc, locals),
+        Question::Without5 => without_5(alloc, locals),
+        Question::WithoutX => without_x(alloc, locals),
+    }
 }
 
-// Whether a subscript is next to one of X.
-fn is_next_of_x(
+fn data_of_x(alloc: Global, locals: &Locals) -> Result<usize, Failure> {
+    let name = name(alloc, "X")?;
+    Ok(usize::from(locals.data(&name)))
+}
+
+fn next_of_x(
     alloc: Global,
-    subscript: &str,
+    locals: &Locals,
+    first: &str,
     way: Direction,
-    next: &str,
-) -> Result<bool, Failure> {
-    let locals = filled(alloc)?;
-    let name = below(alloc, "X", subscript)?;
-    let expected = Sub::from_text(Text::from(alloc, next.as_bytes())?);
-    Ok(locals.order(&name, way) == Some(&expected))
+    last: &str,
+) -> Result<usize, Failure> {
+    let name = below(alloc, "X", first)?;
+    match locals.order(&name, way) {
+        None => Ok(0),
+        Some(next) => is_text(alloc, next, last),
+    }
 }
 
-// How many nodes X has.
-fn nodes_of_x(alloc: Global) -> Result<usize, Failure> {
-    let locals = filled(alloc)?;
-    Ok(locals.subtree(&name(alloc, "X")?)?.as_slice().len())
+fn is_text(alloc: Global, sub: &Sub, text: &str) -> Result<usize, Failure> {
+    let expected = Sub::from_text(Text::from(alloc, text.as_bytes())?);
+    Ok(usize::from(*sub == expected))
 }
 
-// Whether X(1) is the next name of X.
-fn is_behind_x(alloc: Global) -> Result<bool, Failure> {
-    let locals = filled(alloc)?;
-    let next = locals.query(&name(alloc, "X")?)?;
-    Ok(next == Some(below(alloc, "X", "1")?))
+fn nodes_of_x(alloc: Global, locals: &Locals) -> Result<usize, Failure> {
+    let name = name(alloc, "X")?;
+    let nodes = locals.subtree(&name)?;
+    Ok(nodes.as_slice().len())
 }
 
-// Whether X(5) has a text when X is killed.
-fn without_5(alloc: Global) -> Result<bool, Failure> {
-    let mut locals = filled(alloc)?;
-    locals.kill(&name(alloc, "X")?);
-    Ok(locals.value(&below(alloc, "X", "5")?).is_some())
+fn behind_x(alloc: Global, locals: &Locals) -> Result<usize, Failure> {
+    let name = name(alloc, "X")?;
+    let next = locals.query(&name)?;
+    drop(name);
+    match &next {
+        None => Ok(0),
+        Some(next) => is_x_1(alloc, next),
+    }
 }
 
-// `$DATA` of X when all goes but Y.
-fn without_x(alloc: Global) -> Result<u8, Failure> {
-    let mut locals = filled(alloc)?;
-    locals.keep_words(words(alloc, &["Y"])?.as_slice());
-    Ok(locals.data(&name(alloc, "X")?))
+fn is_x_1(alloc: Global, name: &Name) -> Result<usize, Failure> {
+    let expected = below(alloc, "X", "1")?;
+    Ok(usize::from(*name == expected))
+}
+
+fn without_5(alloc: Global, locals: &mut Locals) -> Result<usize, Failure> {
+    kill(alloc, locals)?;
+    let name = below(alloc, "X", "5")?;
+    Ok(usize::from(locals.value(&name).is_some()))
+}
+
+fn without_x(alloc: Global, locals: &mut Locals) -> Result<usize, Failure> {
+    let words = words(alloc, &["Y"])?;
+    locals.keep_words(words.as_slice());
+    drop(words);
+    data_of_x(alloc, locals)
 }
 
 // X=1 and Y=2.
-fn two(alloc: Global) -> Result<Locals, Failure> {
-    let mut locals = Locals::new(alloc);
-    give(alloc, &mut locals, "X", 1)?;
-    give(alloc, &mut locals, "Y", 2)?;
-    Ok(locals)
+fn give_both(alloc: Global, locals: &mut Locals) -> Result<(), Failure> {
+    give(alloc, locals, "X", 1)?;
+    give(alloc, locals, "Y", 2)
 }
 
-// X(1) and X(5) beside them.
-fn filled(alloc: Global) -> Result<Locals, Failure> {
-    let mut locals = two(alloc)?;
+// X(1) and X(5).
+fn put(alloc: Global, locals: &mut Locals) -> Result<(), Failure> {
     let mut nodes = Nodes::new(alloc);
-    nodes.push(list(alloc, "1")?, Text::from_number(alloc, 8))?;
-    nodes.push(list(alloc, "5")?, Text::from_number(alloc, 9))?;
-    locals.put(&name(alloc, "X")?, &nodes)?;
-    Ok(locals)
+    let done = put_nodes(alloc, locals, &mut nodes);
+    drop(nodes);
+    done
+}
+
+fn put_nodes(alloc: Global, locals: &mut Locals, nodes: &mut Nodes) -> Result<(), Failure> {
+    push(alloc, nodes, "1", 8)?;
+    push(alloc, nodes, "5", 9)?;
+    let name = name(alloc, "X")?;
+    locals.put(&name, nodes)
+}
+
+fn push(alloc: Global, nodes: &mut Nodes, subscript: &str, value: u8) -> Result<(), Failure> {
+    let list = list(alloc, subscript)?;
+    nodes.push(list, Text::from_number(alloc, i64::from(value)))?;
+    Ok(())
+}
+
+fn kill(alloc: Global, locals: &mut Locals) -> Result<(), Failure> {
+    let name = name(alloc, "X")?;
+    locals.kill(&name);
+    Ok(())
+}
+
+fn hide(alloc: Global, locals: &mut Locals, list: &[&str]) -> Result<(), Failure> {
+    let words = words(alloc, list)?;
+    locals.new_words(words.as_slice())?;
+    Ok(())
+}
+
+fn spare(alloc: Global, locals: &mut Locals, list: &[&str]) -> Result<(), Failure> {
+    let words = words(alloc, list)?;
+    locals.new_except(words.as_slice())?;
+    Ok(())
+}
+
+// Formals of these words, with a number and an actual that was omitted.
+fn pass(alloc: Global, locals: &mut Locals, list: &[&str], first: u8) -> Result<(), Failure> {
+    let mut values = Vec::new(alloc);
+    values.push(Some(Text::from_number(alloc, i64::from(first))))?;
+    values.push(None)?;
+    let words = words(alloc, list)?;
+    locals.pass(words.as_slice(), values)?;
+    Ok(())
 }
 
 fn give(alloc: Global, locals: &mut Locals, word: &str, value: u8) -> Result<(), Failure> {
-    let text = Text::from_number(alloc, i64::from(value));
-    let access = Access::Set(name(alloc, word)?, text);
-    let _done = perform(locals, &access)?;
+    let name = name(alloc, word)?;
+    set(
+        locals,
+        Access::Set(name, Text::from_number(alloc, i64::from(value))),
+    )
+}
+
+fn set(locals: &mut Locals, access: Access) -> Result<(), Failure>
+    requires { (name_of access).global ≡ false }
+{
+    let done = perform(locals, &access);
+    drop(access);
+    drop(done?);
     Ok(())
 }
 
@@ -205,6 +315,7 @@ fn name(alloc: Global, word: &str) -> Result<Name, Failure>
 fn below(alloc: Global, word: &str, subscript: &str) -> Result<Name, Failure>
     ensures { IfOk result (λ n. n.global ≡ false) }
 {
+    let list = list(alloc, subscript)?;
     let word = Text::from(alloc, word.as_bytes())?;
-    Ok(Name::local(word, list(alloc, subscript)?))
+    Ok(Name::local(word, list))
 }

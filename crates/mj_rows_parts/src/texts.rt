@@ -17,20 +17,26 @@ fn faults_print_their_names(rt: HostRuntime) -> Result<(), Fail> {
 
 #[test]
 fn texts_are_made(rt: HostRuntime) -> Result<(), Fail> {
-    let alloc = rt.alloc();
     let mut digits = Digits::new();
-    let few = Text::from(alloc, b"few\0\xff\"")?;
+    let few = Text::from(rt.alloc(), b"few\0\xff\"")?;
     assert_eq!(rt; few.bytes(&mut digits), b"few\0\xff\"".as_slice());
-    let many = Text::from(alloc, [7; TEXT_LIMIT].as_slice())?;
+    let many = Text::from(rt.alloc(), [7; TEXT_LIMIT].as_slice())?;
     assert_eq!(rt; many.len(), TEXT_LIMIT);
     assert!(rt; many.try_clone()? == many);
-    let number = Text::from_number(alloc, -120);
-    let joined = number.join(&Text::from(alloc, b" is less than twenty-four bytes")?)?;
+    Ok(())
+}
+
+#[test]
+fn texts_are_joined(rt: HostRuntime) -> Result<(), Fail> {
+    let mut digits = Digits::new();
+    let number = Text::from_number(rt.alloc(), -120);
+    let joined = number.join(&Text::from(rt.alloc(), b" is less than twenty-four bytes")?)?;
     assert_eq!(rt;
         joined.bytes(&mut digits),
         b"-120 is less than twenty-four bytes".as_slice()
     );
     assert!(rt; joined.cut(0, 4)? == number);
+    let few = Text::from(rt.alloc(), b"few\0\xff\"")?;
     assert_eq!(rt; joined.find(&few.cut(0, 1)?, 0), Some(25));
     Ok(())
 }

@@ -49,34 +49,104 @@ fn changes_are_made_whole(rt: HostRuntime) -> Result<(), Fail> {
     Ok(())
 }
 
-// The first step at which the answers differ.
+// The first step at which the answers differ. One function has the stores, and those that may fail borrow them: all that a function has is dropped anew at each of its
+// ends, and each drop is proved.
 fn first_difference(alloc: Global) -> Result<Option<u64>, Failure> {
     let mut trees = Globals::new(alloc);
     let mut list = Flat::new(alloc);
+    let step = difference(alloc, &mut trees, &mut list);
+    drop(trees);
+    drop(list);
+    step
+}
+
+fn difference(alloc: Global, trees: &mut Globals, list: &mut Flat) -> Result<Option<u64>, Failure> {
     let mut chance = Chance { state: 1 };
     for step in 0..STEPS {
-        let access = access(alloc, &mut chance)?;
-        let answer = perform(&mut trees, &access)?;
-        let plain = perform(&mut list, &access)?;
-        if !is_same(&answer, &plain) {
+        if !is_alike(alloc, trees, list, &mut chance)? {
             return Ok(Some(step));
         }
     }
     Ok(None)
 }
 
+// Whether both stores answer one access alike.
+fn is_alike(
+    alloc: Global,
+    trees: &mut Globals,
+    list: &mut Flat,
+    chance: &mut Chance,
+) -> Result<bool, Failure> {
+    let access = access(alloc, chance)?;
+    let answer = perform(trees, &access)?;
+    let alike = is_answer(list, &access, &answer);
+    drop(answer);
+    drop(access);
+    alike
+}
+
+fn is_answer(list: &mut Flat, access: &Access, answer: &Answer) -> Result<bool, Failure> {
+    let plain = perform(list, access)?;
+    let alike = is_same(answer, &plain);
+    drop(plain);
+    Ok(alike)
+}
+
 // What `$DATA` of a name with a text is after two changes: it goes, and lists of so many subscripts follow one below it.
 fn data_after(alloc: Global, count: u64) -> Result<(Option<Failure>, u8), Failure> {
-    let mut chance = Chance { state: 2 };
-    let above = Name::global(Text::from(alloc, b"A")?, Subs::new(alloc));
-    let below = Name::global(Text::from(alloc, b"A")?, subscripts(alloc, &mut chance, 1)?);
-    let mut nodes = Nodes::new(alloc);
-    let list = subscripts(alloc, &mut chance, count)?;
-    nodes.push(list, Text::from_number(alloc, 7))?;
     let mut store = Globals::new(alloc);
-    store.set(&above, &Text::from_number(alloc, 7))?;
-    let changes = [Change::Kill(above.try_clone()?), Change::Put(below, nodes)];
-    Ok((store.apply(&changes).err(), store.data(&above)))
+    let found = data_in(alloc, &mut store, count);
+    drop(store);
+    found
+}
+
+fn data_in(
+    alloc: Global,
+    store: &mut Globals,
+    count: u64,
+) -> Result<(Option<Failure>, u8), Failure> {
+    let above = Name::global(Text::from(alloc, b"A")?, Subs::new(alloc));
+    set_7(alloc, store, &above)?;
+    let failed = apply_both(alloc, store, &above, count)?;
+    let data = store.data(&above);
+    Ok((failed, data))
+}
+
+fn set_7(alloc: Global, store: &mut Globals, name: &Name) -> Result<(), Failure> {
+    let text = Text::from_number(alloc, 7);
+    store.set(name, &text)?;
+    Ok(())
+}
+
+fn apply_both(
+    alloc: Global,
+    store: &mut Globals,
+    above: &Name,
+    count: u64,
+) -> Result<Option<Failure>, Failure> {
+    let changes = changes(alloc, above, count)?;
+    let failed = store.apply(&changes).err();
+    drop(changes);
+    Ok(failed)
+}
+
+fn changes(alloc: Global, above: &Name, count: u64) -> Result<[Change; 2], Failure> {
+    let above = above.try_clone()?;
+    Ok([Change::Kill(above), put(alloc, count)?])
+}
+
+fn put(alloc: Global, count: u64) -> Result<Change, Failure> {
+    let mut chance = Chance { state: 2 };
+    let first = subscripts(alloc, &mut chance, 1)?;
+    let below = Name::global(Text::from(alloc, b"A")?, first);
+    Ok(Change::Put(below, one_node(alloc, &mut chance, count)?))
+}
+
+fn one_node(alloc: Global, chance: &mut Chance, count: u64) -> Result<Nodes, Failure> {
+    let list = subscripts(alloc, chance, count)?;
+    let mut nodes = Nodes::new(alloc);
+    nodes.push(list, Text::from_number(alloc, 7))?;
+    Ok(nodes)
 }
 
 fn access(alloc: Global, chance: &mut Chance) -> Result<Access, Failure> {

@@ -1,7 +1,7 @@
 // The grammar of docs/FORMATS.md, by rows: a line or two for each production, one for each refusal that a line may have, and one for each
 // construct that is left out by a name.
 
-use crate::reading::wrong_rows;
+use crate::tables::{Reading, judge};
 use std::test::Fail;
 
 #[test]
@@ -81,9 +81,7 @@ A;c => L2 R:1:2
  M => L2 R:1:3
  M X => L2 R:1:5
 ";
-    let wrong = wrong_rows(rt.alloc(), rows)?;
-    assert_eq!(rt; wrong.as_str(), "");
-    Ok(())
+    judge(&rt, Reading::File, rows)
 }
 
 #[test]
@@ -128,9 +126,7 @@ fn control_and_expressions_are_as_the_grammar_says(rt: HostRuntime) -> Result<()
  W 999999999999999999 => ok
  W 1000000000000000000 => L2 R:1:4
 ";
-    let wrong = wrong_rows(rt.alloc(), rows)?;
-    assert_eq!(rt; wrong.as_str(), "");
-    Ok(())
+    judge(&rt, Reading::File, rows)
 }
 
 #[test]
@@ -179,9 +175,7 @@ fn transactions_are_as_the_grammar_says(rt: HostRuntime) -> Result<(), Fail> {
  BREAK \"x\" => L2 R:1:8
  W $TL,$tlevel,$TR,$TRESTART => ok
 ";
-    let wrong = wrong_rows(rt.alloc(), rows)?;
-    assert_eq!(rt; wrong.as_str(), "");
-    Ok(())
+    judge(&rt, Reading::File, rows)
 }
 
 #[test]
@@ -252,7 +246,5 @@ fn each_refusal_is_given(rt: HostRuntime) -> Result<(), Fail> {
  TREST => L7 R:1:2 command
  BR => L7 R:1:2 command
 ";
-    let wrong = wrong_rows(rt.alloc(), rows)?;
-    assert_eq!(rt; wrong.as_str(), "");
-    Ok(())
+    judge(&rt, Reading::File, rows)
 }

@@ -2,6 +2,8 @@
 #![tactic(auto)]
 
 #[cfg(test)]
+mod fronts;
+#[cfg(test)]
 mod grammar;
 #[cfg(test)]
 mod listings;
@@ -9,3 +11,7 @@ mod listings;
 mod read_back;
 #[cfg(test)]
 mod reading;
+#[cfg(test)]
+mod tables;
+#[cfg(test)]
+mod traces;

@@ -1,56 +1,9 @@
 // What each refusal is printed as, by rows.
 
+use crate::tables::{Reading, judge};
 use mj_rou::read;
 use std::alloc::{AllocError, Global};
 use std::test::Fail;
-
-/// What reading gives: `ok`, or the refusal's text.
-pub fn outcome(alloc: Global, bytes: &[u8]) -> Result<String, AllocError> {
-    let given = read(alloc, b"R", bytes);
-    if let Err(refusal) = &given {
-        return format!(in alloc; "{refusal}");
-    }
-    format!(in alloc; "ok")
-}
-
-/// The rows of a table whose text isn't read as they want, each with what it gives. A row is a line: a file's text, in which `~` stands for
-/// the end of a line, ` => `, and what is wanted. A table is one text, since a list of as many pairs takes the prover far longer.
-pub fn wrong_rows(alloc: Global, rows: &str) -> Result<String, AllocError> {
-    let mut wrong = String::new(alloc);
-    for row in rows.lines() {
-        let (text, wanted) = row.split_once(" => ").unwrap_or((row, "no row"));
-        let given = outcome(alloc, &with_ends(alloc, text)?)?;
-        if given.as_str() != wanted {
-            wrong = format!(in alloc; "{wrong}{row} ({given}) ")?;
-        }
-    }
-    Ok(wrong)
-}
-
-/// The bytes of a text, with a line's end for each `~`.
-fn with_ends(alloc: Global, text: &str) -> Result<Vec<u8>, AllocError> {
-    let mut bytes = Vec::new(alloc);
-    for byte in text.bytes() {
-        bytes.push(if byte == b'~' { b'\n' } else { byte })?;
-    }
-    Ok(bytes)
-}
-
-/// `front`, then `middle` so many times, then `back`.
-fn around(
-    alloc: Global,
-    front: &[u8],
-    middle: &[u8],
-    times: usize,
-    back: &[u8],
-) -> Result<Vec<u8>, AllocError> {
-    let mut bytes = Vec::from_slice(alloc, front)?;
-    for _ in 0..times {
-        bytes.extend_from_slice(middle)?;
-    }
-    bytes.extend_from_slice(back)?;
-    Ok(bytes)
-}
 
 #[test]
 fn control_is_read_or_refused(rt: HostRuntime) -> Result<(), Fail> {
@@ -79,9 +32,7 @@ fn control_is_read_or_refused(rt: HostRuntime) -> Result<(), Fail> {
  Q:$test'=1  W $T => ok
  Q X => L7 R:1:4 extrinsic
 ";
-    let wrong = wrong_rows(rt.alloc(), rows)?;
-    assert_eq!(rt; wrong.as_str(), "");
-    Ok(())
+    judge(&rt, Reading::File, rows)
 }
 
 #[test]
@@ -143,9 +94,7 @@ fn values_that_are_left_out_are_named(rt: HostRuntime) -> Result<(), Fail> {
  W ^$J(1) => L7 R:1:5 structured
  W ^$5 => L7 R:1:5 structured
 ";
-    let wrong = wrong_rows(rt.alloc(), rows)?;
-    assert_eq!(rt; wrong.as_str(), "");
-    Ok(())
+    judge(&rt, Reading::File, rows)
 }
 
 #[test]
@@ -199,9 +148,7 @@ fn calls_that_are_left_out_are_named(rt: HostRuntime) -> Result<(), Fail> {
  tstart () => ok
  W 1J 2 => L2 R:1:5
 ";
-    let wrong = wrong_rows(rt.alloc(), rows)?;
-    assert_eq!(rt; wrong.as_str(), "");
-    Ok(())
+    judge(&rt, Reading::File, rows)
 }
 
 #[test]
@@ -233,9 +180,7 @@ A W 1~A W @X => L3 R:2
  W $ABCDEFGHIJKLMNOPQRSTUVWXYZABCDEF => L5 R:1
  W 1EABCDEFGHIJKLMNOPQRSTUVWXYZABCDE => L5 R:1
 ";
-    let wrong = wrong_rows(rt.alloc(), rows)?;
-    assert_eq!(rt; wrong.as_str(), "");
-    Ok(())
+    judge(&rt, Reading::File, rows)
 }
 
 #[test]
@@ -257,9 +202,7 @@ fn loops_are_read_or_refused(rt: HostRuntime) -> Result<(), Fail> {
  F I=1:1: => L2 R:1:10
  F I=1:1:3:4 => L2 R:1:11
 ";
-    let wrong = wrong_rows(rt.alloc(), rows)?;
-    assert_eq!(rt; wrong.as_str(), "");
-    Ok(())
+    judge(&rt, Reading::File, rows)
 }
 
 #[test]
@@ -306,39 +249,26 @@ A(X). => L2 R:1:5
  .( => L2 R:1:3
  ;. => ok
 ";
-    let wrong = wrong_rows(rt.alloc(), rows)?;
-    assert_eq!(rt; wrong.as_str(), "");
-    Ok(())
+    judge(&rt, Reading::File, rows)
 }
 
-/// The level of a line, and how many formals it has.
-fn head(alloc: Global, bytes: &[u8]) -> Option<(usize, usize)> {
-    let routine = read(alloc, b"R", bytes).ok()?;
-    let line = routine.lines.first()?;
-    Some((line.level, line.formals.len()))
-}
-
+// The level of the first line, and how many formals it has.
 #[test]
-fn levels_and_formals_are_kept(rt: HostRuntime) {
-    let rows: [(&[u8], usize, usize); 12] = [
-        (b" W 1", 1, 0),
-        (b"A", 1, 0),
-        (b"A()", 1, 0),
-        (b"A(X)", 1, 1),
-        (b"A(X,Y,Z)  W 1", 1, 3),
-        (b" .W 1", 2, 0),
-        (b" . . .W 1", 4, 0),
-        (b" .. ;c", 3, 0),
-        (b"A(X) .", 2, 1),
-        (b" ;c", 1, 0),
-        (b" ;.", 1, 0),
-        (b"  ", 1, 0),
-    ];
-    for (bytes, level, formals) in rows {
-        let given = head(rt.alloc(), bytes).expect(&rt, "a line");
-        assert_eq!(rt; given.0, level);
-        assert_eq!(rt; given.1, formals);
-    }
+fn levels_and_formals_are_kept(rt: HostRuntime) -> Result<(), Fail> {
+    let rows = " W 1 => 1 0
+A => 1 0
+A() => 1 0
+A(X) => 1 1
+A(X,Y,Z)  W 1 => 1 3
+ .W 1 => 2 0
+ . . .W 1 => 4 0
+ .. ;c => 3 0
+A(X) . => 2 1
+ ;c => 1 0
+ ;. => 1 0
+   => 1 0
+";
+    judge(&rt, Reading::Head, rows)
 }
 
 #[test]
@@ -382,65 +312,53 @@ W W 1~ W 2~ W )~ W ) => L2 R:3:4
  S X=ABCDEFGHIJKLMNOPQRSTUVWXYZABCDEF => L5 R:1
 A W 1~A S X=1ABCDEFGHIJKLMNOPQRSTUVWXYZABCDEF => L5 R:2
 ";
-    let wrong = wrong_rows(rt.alloc(), rows)?;
-    assert_eq!(rt; wrong.as_str(), "");
+    judge(&rt, Reading::File, rows)
+}
+
+#[test]
+fn limits_are_kept(rt: HostRuntime) -> Result<(), Fail> {
+    let rows = ";<c*8191>\r~ => ok
+;<c*8192>\r~ => L5 R:1
+<~*10000> => ok
+<~*10001> => L5 R:10001
+ WRITE <(*64>1 => L2 R:1:73
+ WRITE <(*65>1 => L6 R:1:72
+ WRITE <-*64>1 => ok
+ WRITE <-*65>1 => L6 R:1:72
+ W X(1<,1*30>) => ok
+ W X(1<,1*31>) => L5 R:1
+ W X(1<,1*30>,, => L5 R:1
+ W X(1<,1*29>,, => L5 R:1
+ W X(1<,1*28>,, => L2 R:1:64
+ WRITE <(*65>ABCDEFGHIJKLMNOPQRSTUVWXYZABCDEF => L5 R:1
+ WRITE <(*65>1,ABCDEFGHIJKLMNOPQRSTUVWXYZABCDEF => L6 R:1:72
+ WRITE <-*65>1 S X(1)=ABCDEFGHIJKLMNOPQRSTUVWXYZABCDEF => L5 R:1
+ W 1,<-*65>X(1)*2  S ^( => L6 R:1:70
+";
+    judge(&rt, Reading::Repeated, rows)
+}
+
+#[test]
+fn names_are_words(rt: HostRuntime) -> Result<(), Fail> {
+    assert!(rt; refusal_of(rt.alloc(), b"%A1", b"")?.is_none());
+    for name in [&b"1A"[..], b"", b"A%", b"ABCDEFGHIJKLMNOPQRSTUVWXYZABCDEF"] {
+        let given = refusal_of(rt.alloc(), name, b" W (")?;
+        assert_eq!(rt; given.as_deref(), Some("L1"));
+    }
     Ok(())
 }
 
-#[test]
-fn limits_are_kept(rt: HostRuntime) {
-    let rows: [(&[u8], &[u8], usize, &[u8], &str); 17] = [
-        (b";", b"c", 8_191, b"\r\n", "ok"),
-        (b";", b"c", 8_192, b"\r\n", "L5 R:1"),
-        (b"", b"\n", 10_000, b"", "ok"),
-        (b"", b"\n", 10_001, b"", "L5 R:10001"),
-        (b" WRITE ", b"(", 64, b"1", "L2 R:1:73"),
-        (b" WRITE ", b"(", 65, b"1", "L6 R:1:72"),
-        (b" WRITE ", b"-", 64, b"1", "ok"),
-        (b" WRITE ", b"-", 65, b"1", "L6 R:1:72"),
-        (b" W X(1", b",1", 30, b")", "ok"),
-        (b" W X(1", b",1", 31, b")", "L5 R:1"),
-        (b" W X(1", b",1", 30, b",,", "L5 R:1"),
-        (b" W X(1", b",1", 29, b",,", "L5 R:1"),
-        (b" W X(1", b",1", 28, b",,", "L2 R:1:64"),
-        (
-            b" WRITE ",
-            b"(",
-            65,
-            b"ABCDEFGHIJKLMNOPQRSTUVWXYZABCDEF",
-            "L5 R:1",
-        ),
-        (
-            b" WRITE ",
-            b"(",
-            65,
-            b"1,ABCDEFGHIJKLMNOPQRSTUVWXYZABCDEF",
-            "L6 R:1:72",
-        ),
-        (
-            b" WRITE ",
-            b"-",
-            65,
-            b"1 S X(1)=ABCDEFGHIJKLMNOPQRSTUVWXYZABCDEF",
-            "L5 R:1",
-        ),
-        (b" W 1,", b"-", 65, b"X(1)*2  S ^(", "L6 R:1:70"),
-    ];
-    for (front, middle, times, back, wanted) in rows {
-        let bytes = around(rt.alloc(), front, middle, times, back).expect(&rt, "memory");
-        let given = outcome(rt.alloc(), &bytes).expect(&rt, "memory");
-        assert_eq!(rt; given.as_str(), wanted, "{wanted}");
-    }
-}
-
-#[test]
-fn names_are_words(rt: HostRuntime) {
-    assert!(rt; read(rt.alloc(), b"%A1", b"").is_ok());
-    for name in [&b"1A"[..], b"", b"A%", b"ABCDEFGHIJKLMNOPQRSTUVWXYZABCDEF"] {
-        let refusal = read(rt.alloc(), name, b" W (")
-            .err()
-            .expect(&rt, "a refusal");
-        let given = format!(in rt.alloc(); "{refusal}").expect(&rt, "memory");
-        assert_eq!(rt; given.as_str(), "L1");
+// How a file of this name and these bytes is refused, if it is.
+fn refusal_of(alloc: Global, name: &[u8], bytes: &[u8]) -> Result<Option<String>, AllocError> {
+    match read(alloc, name, bytes) {
+        Ok(routine) => {
+            drop(routine);
+            Ok(None)
+        }
+        Err(refusal) => {
+            let text = format!(in alloc; "{refusal}");
+            drop(refusal);
+            Ok(Some(text?))
+        }
     }
 }

@@ -5,6 +5,9 @@
 use std::test::Fail;
 use std::{env, fs, io, process, str};
 
+/// The program, for rows with an input or an output of their own.
+pub use mj_main::run;
+
 /// A new folder for the files of a test, which is made anew where an earlier one was left.
 pub fn folder(rt: &HostRuntime, test: &str) -> Result<String, Fail> {
     let id = process::id(rt.process());

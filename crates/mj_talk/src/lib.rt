@@ -6,6 +6,9 @@
 // kept by `mj_open`. With want of memory the machine stands where it stood.
 #![tactic(auto)]
 
+/// What the instructions of HANG, JOB and LOCK do, for the crates above.
+pub use mj_sharing as sharing;
+
 pub mod closing;
 pub mod formats;
 pub mod opening;

@@ -176,12 +176,21 @@ fn find_start<'a>(alloc: Global, bytes: &'a [u8]) -> Result<Found<'a, Ask>, Allo
     let Some(entry) = Entry::read(alloc, entry)? else {
         return Ok(None);
     };
-    let Some((values, more)) = find_values(alloc, skip(behind))? else {
-        return Ok(None);
-    };
-    let (timeout, rest) = read_timeout(more);
-    let start = Start::new(entry, values.into_list());
-    Ok(Some((Ask::Start(start, timeout), rest)))
+    match find_values(alloc, skip(behind)) {
+        Ok(Some((values, more))) => {
+            let (timeout, rest) = read_timeout(more);
+            let start = Start::new(entry, values.into_list());
+            Ok(Some((Ask::Start(start, timeout), rest)))
+        }
+        Ok(None) => {
+            drop(entry);
+            Ok(None)
+        }
+        Err(refused) => {
+            drop(entry);
+            Err(refused)
+        }
+    }
 }
 
 // Seconds to wait.

@@ -13,30 +13,28 @@ pub(crate) trait List: Sized + Drop {
     // the list with what stands at the front of some bytes, and what follows that
     ghost one: { Self → List ℕ → Option (Self × List ℕ) };
 
-    /// The list with what stands at the front of some bytes behind it, and what follows that.
-    fn more<'a>(self, alloc: Global, bytes: &'a [u8]) -> Result<Found<'a, Self>, AllocError>
-        ensures { IfOk result (λ r. option_map (λ p. (p.0, p.1.now)) r ≡ one self bytes.now) };
+    /// Puts what stands at the front of some bytes behind the list, and gives what follows that. Where none stands there the list is of no more use.
+    fn more<'a>(&mut self, alloc: Global, bytes: &'a [u8]) -> Result<Option<&'a [u8]>, AllocError>
+        ensures { IfOk result (λ r. option_map (λ rest. (self.new, rest.now)) r ≡ one self.old bytes.now) };
 }
 
-/// The list with all that stand at the front behind it.
+/// Puts all that stand at the front behind the list, and gives what follows them.
 pub(crate) fn read_all<'a, L: List>(
     alloc: Global,
-    list: L,
+    list: &mut L,
     bytes: &'a [u8],
-) -> Result<Found<'a, L>, AllocError>
-    ensures { IfOk result (λ r. option_map (λ p. (p.0, p.1.now)) r ≡ all_more L.one (length bytes.now + 1) list bytes.now) }
+) -> Result<Option<&'a [u8]>, AllocError>
+    ensures { IfOk result (λ r. option_map (λ rest. (list.new, rest.now)) r ≡ all_more L.one (length bytes.now + 1) list.old bytes.now) }
 {
-    let mut list = list;
     let mut rest = bytes;
     // Behind each but the first a comma stands.
     for _place in 0..bytes.len() + 1 {
-        let Some((longer, behind)) = list.more(alloc, rest)? else {
+        let Some(behind) = list.more(alloc, rest)? else {
             return Ok(None);
         };
         if !begins_with(b',', behind) {
-            return Ok(Some((longer, behind)));
+            return Ok(Some(behind));
         }
-        list = longer;
         rest = skip(behind);
     }
     Ok(None)
@@ -54,8 +52,16 @@ pub(crate) fn read_closed<'a, L: List>(
     if begins_with(close, bytes) {
         return Ok(Some((none, skip(bytes))));
     }
-    match read_all(alloc, none, bytes)? {
-        Some((list, rest)) => Ok(Some((list, skip(rest)))),
-        None => Ok(None),
+    let mut list = none;
+    match read_all(alloc, &mut list, bytes) {
+        Ok(Some(rest)) => Ok(Some((list, skip(rest)))),
+        Ok(None) => {
+            drop(list);
+            Ok(None)
+        }
+        Err(refused) => {
+            drop(list);
+            Err(refused)
+        }
     }
 }

@@ -18,16 +18,16 @@ use std::marker::Model;
 impl List for Subs {
     ghost one = { subscript_more };
 
-    fn more<'a>(self, alloc: Global, bytes: &'a [u8]) -> Result<Found<'a, Subs>, AllocError> {
-        let mut list = self;
+    fn more<'a>(&mut self, alloc: Global, bytes: &'a [u8]) -> Result<Option<&'a [u8]>, AllocError> {
         let Some((sub, rest)) = find_subscript(alloc, bytes)? else {
             return Ok(None);
         };
-        if list.len() >= SUBSCRIPT_LIMIT {
+        if self.len() >= SUBSCRIPT_LIMIT {
+            drop(sub);
             return Ok(None);
         }
-        match list.push(sub) {
-            Ok(()) => Ok(Some((list, rest))),
+        match self.push(sub) {
+            Ok(()) => Ok(Some(rest)),
             Err(_) => Err(AllocError),
         }
     }
@@ -97,13 +97,12 @@ fn name_of(alloc: Global, global: bool, word: &[u8], subs: Subs) -> Result<Name,
 impl List for Names {
     ghost one = { name_more };
 
-    fn more<'a>(self, alloc: Global, bytes: &'a [u8]) -> Result<Found<'a, Names>, AllocError> {
-        let mut list = self;
+    fn more<'a>(&mut self, alloc: Global, bytes: &'a [u8]) -> Result<Option<&'a [u8]>, AllocError> {
         let Some((name, rest)) = find_name(alloc, bytes)? else {
             return Ok(None);
         };
-        list.push(name)?;
-        Ok(Some((list, rest)))
+        self.push(name)?;
+        Ok(Some(rest))
     }
 }
 
@@ -114,11 +113,20 @@ pub(crate) fn find_names<'a>(alloc: Global, bytes: &'a [u8]) -> Result<Found<'a,
     let Some((name, behind)) = find_name(alloc, bytes)? else {
         return Ok(None);
     };
-    let names = Names::one(alloc, name)?;
-    if begins_with(b',', behind) {
-        read_all(alloc, names, skip(behind))
-    } else {
-        Ok(Some((names, behind)))
+    let mut names = Names::one(alloc, name)?;
+    if !begins_with(b',', behind) {
+        return Ok(Some((names, behind)));
+    }
+    match read_all(alloc, &mut names, skip(behind)) {
+        Ok(Some(rest)) => Ok(Some((names, rest))),
+        Ok(None) => {
+            drop(names);
+            Ok(None)
+        }
+        Err(refused) => {
+            drop(names);
+            Err(refused)
+        }
     }
 }
 
@@ -129,23 +137,29 @@ fn find_node<'a>(alloc: Global, bytes: &'a [u8]) -> Result<Found<'a, (Subs, Text
     let Some((place, behind)) = find_subscripts(alloc, skip(bytes))? else {
         return Ok(None);
     };
-    match find_text(alloc, skip(behind))? {
-        Some((text, rest)) => Ok(Some(((place, text), rest))),
-        None => Ok(None),
+    match find_text(alloc, skip(behind)) {
+        Ok(Some((text, rest))) => Ok(Some(((place, text), rest))),
+        Ok(None) => {
+            drop(place);
+            Ok(None)
+        }
+        Err(refused) => {
+            drop(place);
+            Err(refused)
+        }
     }
 }
 
 impl List for Nodes {
     ghost one = { node_more };
 
-    fn more<'a>(self, alloc: Global, bytes: &'a [u8]) -> Result<Found<'a, Nodes>, AllocError> {
-        let mut list = self;
+    fn more<'a>(&mut self, alloc: Global, bytes: &'a [u8]) -> Result<Option<&'a [u8]>, AllocError> {
         let Some((node, rest)) = find_node(alloc, bytes)? else {
             return Ok(None);
         };
         let (place, text) = node;
-        list.push(place, text)?;
-        Ok(Some((list, rest)))
+        self.push(place, text)?;
+        Ok(Some(rest))
     }
 }
 
@@ -189,13 +203,12 @@ impl Model for Values {
 impl List for Values {
     ghost one = { value_more };
 
-    fn more<'a>(self, alloc: Global, bytes: &'a [u8]) -> Result<Found<'a, Values>, AllocError> {
-        let mut list = self;
+    fn more<'a>(&mut self, alloc: Global, bytes: &'a [u8]) -> Result<Option<&'a [u8]>, AllocError> {
         let Some((value, rest)) = find_value(alloc, bytes)? else {
             return Ok(None);
         };
-        list.list.push(value)?;
-        Ok(Some((list, rest)))
+        self.list.push(value)?;
+        Ok(Some(rest))
     }
 }
 

@@ -39,26 +39,42 @@ fn read(alloc: Global, bytes: &[u8]) -> Result<Trace, TraceError>
     read_lines(alloc, rest)
 }
 
-// The trace that the lines behind the header are.
+// The trace that the lines behind the header are. What owns it does nothing else that can fail, since each way out of such a function drops it.
 fn read_lines(alloc: Global, bytes: &[u8]) -> Result<Trace, TraceError>
     requires { length bytes.now + 2 < 2 ^ 64 }
     ensures ok { IfOk result (λ trace. lines_from no_lines 2 (lines_of bytes.now) ≡ Ok trace) }
     ensures err { IfErr result (λ e. (e ≡ error.Memory) ⊎ (lines_from no_lines 2 (lines_of bytes.now) ≡ Err e)) }
 {
     let mut trace = Trace::empty(alloc);
+    match add_lines(alloc, &mut trace, bytes) {
+        Ok(()) => Ok(trace),
+        Err(error) => {
+            drop(trace);
+            Err(error)
+        }
+    }
+}
+
+// These lines are put into a trace without a line.
+fn add_lines(alloc: Global, trace: &mut Trace, bytes: &[u8]) -> Result<(), TraceError>
+    requires none { trace.old ≡ no_lines }
+    requires few { length bytes.now + 2 < 2 ^ 64 }
+    ensures ok { OnOk result (lines_from no_lines 2 (lines_of bytes.now) ≡ Ok trace.new) }
+    ensures err { IfErr result (λ e. (e ≡ error.Memory) ⊎ (lines_from no_lines 2 (lines_of bytes.now) ≡ Err e)) }
+{
     let mut number = 2;
     let mut rest = bytes;
     while let Some((line, behind)) = split_line(rest) {
-        add_line(alloc, &mut trace, number, line)?;
+        add_line(alloc, trace, number, line)?;
         number += 1;
         rest = behind;
     }
     if !rest.is_empty() {
-        Err(unfinished(&trace, number))
+        Err(unfinished(trace, number))
     } else if trace.starts().is_empty() {
         Err(TraceError::Line(number))
     } else {
-        Ok(trace)
+        Ok(())
     }
 }
 

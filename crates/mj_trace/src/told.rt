@@ -152,11 +152,20 @@ fn find_clash(alloc: Global, bytes: &[u8]) -> Result<Option<Reply>, AllocError>
     let Some((then, rest)) = find_kept(alloc, skip(rest))? else {
         return Ok(None);
     };
-    let Some((now, _)) = find_kept(alloc, skip(rest))? else {
-        return Ok(None);
-    };
-    let clash = BoxedClash::new(alloc, Clash { place, then, now })?;
-    Ok(Some(Reply::Clash(clash)))
+    match find_kept(alloc, skip(rest)) {
+        Ok(Some((now, _))) => {
+            let clash = BoxedClash::new(alloc, Clash { place, then, now })?;
+            Ok(Some(Reply::Clash(clash)))
+        }
+        Ok(None) => {
+            drop(then);
+            Ok(None)
+        }
+        Err(refused) => {
+            drop(then);
+            Err(refused)
+        }
+    }
 }
 
 // What a clash keeps.

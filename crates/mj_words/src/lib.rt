@@ -6,6 +6,7 @@
 mod order;
 mod read;
 mod texts;
+mod words;
 
 pub use order::{Debug, Order, Refusal, Replay, Run};
 pub use read::read_words;

@@ -1,7 +1,7 @@
 // The longer texts of help.
 
 /// The version, and the kit that it is proved by.
-pub const VERSION: &str = "0.1.0, proved by rattle-kit-13f logic dac8208d650f15bf";
+pub const VERSION: &str = "0.1.0, proved by rattle-kit-13b logic dac8208d650f15bf";
 
 /// What stands below the help of the program.
 pub const EXAMPLES: &str = "\

@@ -4,9 +4,9 @@ use Rattle.mj_load.specs.Image.{routines_of}
 use Rattle.mj_jobs.specs.Rows.{IsLive}
 use Rattle.std.specs.Prelude.{Ok, option_copied}
 use Rattle.std.specs.declared.alloc.AllocError.{AllocError}
-use Rattle.mj_jobvm.specs.Run.{Log, GoesOn, HasEnded}
-use Rattle.mj_jobvm.specs.Told.{Told, spent_after}
-use Rattle.mj_jobvm.specs.declared.job.Turn.{Turn}
+use Rattle.mj_core.specs.Run.{Log, GoesOn, HasEnded}
+use Rattle.mj_core.specs.Told.{Told, spent_after}
+use Rattle.mj_core.specs.Turn.{Turn}
 use Rattle.mj_sys.specs.History.{state_of}
 use Rattle.mj_core.specs.Runs.{start_in}
 use Rattle.mj_blank.specs.Ties.{Placed, IsTied, IsPlaced}

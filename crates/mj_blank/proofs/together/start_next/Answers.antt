@@ -1,6 +1,6 @@
 use Rattle.std.proofs.Common.{◌≡◌, ◌++◌, ◌∷◌, [], Some, sym, ap, ◌∙◌}
 use Rattle.mj_ask.specs.Started.{Started}
-use Rattle.mj_jobvm.specs.Jobs.{Running}
+use Rattle.mj_core.specs.Jobs.{Running}
 use Rattle.mj_sys.specs.System.{Claimed}
 use Rattle.mj_blank.proofs.Admitting.{same_claim, slot_kept, slot_woven, slot_turns}
 use Rattle.mj_blank.proofs.together.start_next.Goals as goal

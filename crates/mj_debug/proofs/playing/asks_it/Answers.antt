@@ -3,8 +3,8 @@ use Rattle.std.specs.declared.alloc.AllocError.{AllocError}
 use Rattle.std.proofs.Common.{◌≡◌, Bool, true, false, Some, refl, sym, ◌∙◌, subst}
 use Rattle.mj_ask.specs.Fits.{fits}
 use Rattle.mj_load.specs.Image.{routines_of}
-use Rattle.mj_jobvm.specs.declared.job.Turn.{Turn}
-use Rattle.mj_jobvm.specs.Told.{Told, spent_after}
+use Rattle.mj_core.specs.Turn.{Turn}
+use Rattle.mj_core.specs.Told.{Told, spent_after}
 use Rattle.mj_debug.specs.Playing.{AsksIt}
 use Rattle.mj_debug.proofs.Asking.{ran_long, ended_asks, asks_so}
 use Rattle.mj_debug.proofs.playing.asks_it.Goals as goal

@@ -2,7 +2,7 @@ use Rattle.std.specs.Prelude.{slice_get}
 use Rattle.std.proofs.Common.{◌≡◌, ◌<◌, ◌≤◌, suc, length, None, Some, refl, sym, ap, ◌∙◌, subst, arith}
 use Rattle.std.proofs.lemmas.Option.{slice_get_read, slice_get_past}
 use Rattle.mj_jobs.specs.Rows.{Row, row_at}
-use Rattle.mj_jobvm.specs.Jobs.{IsRunOf}
+use Rattle.mj_core.specs.Jobs.{IsRunOf}
 use Rattle.mj_sys.specs.History.{state_of, log_of}
 use Rattle.mj_events.specs.Woven.{woven}
 use Rattle.mj_events.proofs.Logs.{silent_zero}

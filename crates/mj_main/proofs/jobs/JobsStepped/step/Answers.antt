@@ -1,5 +1,5 @@
 use Rattle.std.proofs.Common.{Ok, subst}
-use Rattle.mj_core.specs.Gives.{Gives}
+use Rattle.mj_dialogue.specs.Gives.{Gives}
 use Rattle.mj_main.proofs.jobs.JobsStepped.step.Goals as goal
 
 pub returns-in-Ok : goal.returns-in-Ok

@@ -1,0 +1,83 @@
+-- Why a command isn't answered, or not to its end, and what is left then.
+use Rattle.std.specs.Prelude.{◌≡◌, ◌==◌, ℕ, ◌<◌, List, [], Bool, true, false, Option, Result, ◌⊎◌}
+use Rattle.std.specs.Io.KnownBytes.{Appends}
+use Rattle.mj_semantics.specs.State.{Place}
+use Rattle.mj_sys.specs.Shared.{Shared}
+use Rattle.mj_debug.specs.Seen.{Seen}
+use Rattle.mj_debug.specs.declared.debugger.Refused.{Refused}
+use Rattle.mj_debug.specs.declared.debugger.Gone.{Gone}
+use Rattle.mj_debug.specs.declared.replica.Unshown.{Unshown}
+use Rattle.mj_debug.specs.declared.replica.Unshown.TheVariants as unshown
+use Rattle.mj_debug.specs.Breaks.{AreMarked}
+use Rattle.mj_debug.specs.Goes.{GoGives}
+use Rattle.mj_debug.specs.Replicas.{IsUnshown}
+use Rattle.mj_debug.specs.Walks.{Walk, StepGives, GoesBack, GoesForth}
+use Rattle.mj_commands.specs.declared.command.Command.{Command}
+use Rattle.mj_commands.specs.declared.command.Command.TheVariants as commands
+use Rattle.mj_dialogue.specs.declared.answering.Trouble.{Trouble}
+use Rattle.mj_dialogue.specs.declared.answering.Trouble.TheVariants as troubles
+use Rattle.mj_dialogue.specs.Says.{Says, IsKept, GoTells, AreMade, step_of}
+
+-- the same reason, as a trouble
+abbrev pub trouble_of : Unshown → Trouble
+trouble_of unshown.Memory = troubles.Memory
+trouble_of unshown.Long = troubles.Long
+
+-- What stands at the place isn't shown: memory was wanting, or a job went on for too long before one of the events there. Nothing changes but what
+-- is at hand.
+abbrev pub IsHidden : Shared → Walk → Unshown → Walk → Type 0
+IsHidden opening old why new = IsKept old new × IsUnshown old.core.image opening old.core.history old.place why
+
+-- The next of many steps in turn isn't told, or not written: memory was wanting, before the step or behind it; what stands at the place isn't shown,
+-- and no step is made; or what is told of it isn't written.
+abbrev pub IsCut : Shared → Walk → Bool → Trouble → Walk → Type 0
+IsCut opening old first troubles.Memory new = IsKept old new ⊎ ((gone : Gone) × GoGives opening old first gone new)
+IsCut opening old first troubles.Long new = IsHidden opening old unshown.Long new
+IsCut opening old first troubles.Unwritten new = (gone : Gone) × (line : List ℕ) × GoTells opening old first gone line new
+
+-- the line is marked so, or no line is marked anew; nothing else changes
+abbrev pub MayMark : Walk → Place → Bool → Walk → Type 0
+MayMark old line on new =
+    (new ≡ record old { marks = new.marks }) × ((new.marks ≡ old.marks) ⊎ AreMarked old.core.image line on old.marks new.marks)
+
+-- What is left where memory was wanting for the answer to a command other than `go`: what it does was done, but for marks, which may be those that
+-- were. `q` always has an answer.
+abbrev pub IsDone : Shared → Walk → Command → Walk → Type 0
+IsDone opening old (commands.Step step) new = (answer : Result Seen Refused) × StepGives opening old (step_of step) answer new
+IsDone opening old (commands.Go count) new = ⊥
+IsDone opening old (commands.Set routine line) new = MayMark old (record { routine = routine; line = line }) true new
+IsDone opening old (commands.Clear routine line) new = MayMark old (record { routine = routine; line = line }) false new
+IsDone opening old commands.Back new = (at : Option ℕ) × GoesBack old at new
+IsDone opening old commands.Forward new = (at : Option ℕ) × GoesForth old at new
+IsDone opening old (commands.Frames job) new = IsKept old new
+IsDone opening old (commands.Locals job) new = IsKept old new
+IsDone opening old commands.Locks new = IsKept old new
+IsDone opening old commands.Globals new = IsKept old new
+IsDone opening old commands.Quit new = ⊥
+
+-- whether a command shows what stands at the place
+abbrev pub is_show : Command → Bool
+is_show (commands.Frames job) = true
+is_show (commands.Locals job) = true
+is_show commands.Locks = true
+is_show commands.Globals = true
+is_show _ = false
+
+-- A command other than `go` isn't answered: memory was wanting; what it should show isn't shown; or its answer isn't written.
+abbrev pub IsUnanswered : Shared → Walk → Command → Trouble → Walk → Type 0
+IsUnanswered opening old command troubles.Memory new = IsDone opening old command new
+IsUnanswered opening old command troubles.Long new = (is_show command ≡ true) × IsHidden opening old unshown.Long new
+IsUnanswered opening old command troubles.Unwritten new = (bytes : List ℕ) × (full : Bool) × Says opening old command bytes full new
+
+-- Why a command isn't answered to its end, what was told of it before, and what is left. Of a `go` some steps were made and told, fewer than it should
+-- make, and the next is cut off; of another command nothing was told; and `q` is always answered.
+abbrev pub Fails : Shared → Walk → Command → List ℕ → Trouble → Walk → Type 0
+Fails opening old (commands.Go count) bytes why new =
+    (made : ℕ) × (made < count) × ((mid : Walk) × AreMade opening made old bytes mid × IsCut opening mid (made == 0) why new)
+Fails opening old commands.Quit bytes why new = ⊥
+Fails opening old command bytes why new = (bytes ≡ []) × IsUnanswered opening old command why new
+
+-- What was told before was written, and nothing else; but where the output fails, how much it took isn't known.
+abbrev pub IsWritten : Trouble → Option (List ℕ) → Option (List ℕ) → List ℕ → Type 0
+IsWritten troubles.Unwritten old new bytes = Unit {0}
+IsWritten why old new bytes = Appends old new bytes

@@ -1,0 +1,85 @@
+// Fronts of a text, and texts with one byte replaced: each is read, and written as it is, or refused by its name.
+
+use crate::traces::is_written;
+use mj_gfile::{ReadError, read, write};
+use mj_trace::{TraceError, read_trace};
+use std::alloc::{AllocError, Global};
+
+/// What the bytes are read as.
+#[derive(Clone, Copy)]
+pub enum Form {
+    Listing,
+    Trace,
+}
+
+/// The length of the first front that is neither read nor refused by a name.
+pub fn wrong_front(alloc: Global, form: Form, bytes: &[u8]) -> Result<Option<usize>, AllocError> {
+    for length in 0..bytes.len() {
+        if !is_judged(alloc, form, &bytes[..length])? {
+            return Ok(Some(length));
+        }
+    }
+    Ok(None)
+}
+
+/// The first place, and the first code there, with which the text is neither.
+pub fn wrong_code(
+    alloc: Global,
+    form: Form,
+    text: &str,
+) -> Result<Option<(usize, u32)>, AllocError> {
+    let mut bytes = Vec::from_slice(alloc, text.as_bytes())?;
+    let found = replaced(alloc, form, &mut bytes);
+    drop(bytes);
+    found
+}
+
+fn replaced(
+    alloc: Global,
+    form: Form,
+    bytes: &mut Vec<u8>,
+) -> Result<Option<(usize, u32)>, AllocError> {
+    for place in 0..bytes.len() {
+        let before = bytes[place];
+        for code in 0..256u32 {
+            bytes[place] = code as u8;
+            if !is_judged(alloc, form, bytes)? {
+                return Ok(Some((place, code)));
+            }
+        }
+        bytes[place] = before;
+    }
+    Ok(None)
+}
+
+// Whether the bytes are read, and written as they are, or refused as no such text.
+fn is_judged(alloc: Global, form: Form, bytes: &[u8]) -> Result<bool, AllocError> {
+    match form {
+        Form::Listing => is_judged_listing(alloc, bytes),
+        Form::Trace => is_judged_trace(alloc, bytes),
+    }
+}
+
+fn is_judged_listing(alloc: Global, bytes: &[u8]) -> Result<bool, AllocError> {
+    match read(alloc, bytes) {
+        Ok(globals) => {
+            let written = write(alloc, &globals);
+            drop(globals);
+            Ok(written?.as_slice() == bytes)
+        }
+        Err(ReadError::Memory) => Ok(false),
+        Err(_) => Ok(true),
+    }
+}
+
+fn is_judged_trace(alloc: Global, bytes: &[u8]) -> Result<bool, AllocError> {
+    match read_trace(alloc, bytes) {
+        Ok(trace) => {
+            let same = is_written(alloc, &trace, bytes);
+            drop(trace);
+            same
+        }
+        Err(TraceError::Header | TraceError::Line(_)) => Ok(true),
+        Err(_) => Ok(false),
+    }
+}

@@ -1,0 +1,196 @@
+// The commands, and what can be given to each: rows, of which the command line is built.
+
+use crate::texts::{
+    CHECK_EXAMPLE, DEBUG_EXAMPLE, EXAMPLES, REPLAY_EXAMPLE, RUN_EXAMPLE, STEP_EXAMPLE, VERSION,
+};
+use clap::{Arg, ArgAction, Command};
+use std::alloc::{AllocError, Global};
+
+// A command. Beside its options each has the files of the routines.
+struct Row {
+    name: &'static str,
+    about: &'static str,
+    example: &'static str,
+    options: &'static [Choice],
+}
+
+// What can be given by `--NAME`.
+struct Choice {
+    name: &'static str,
+    // what the help has in place of a value; a flag has no value
+    value: Option<&'static str>,
+    help: &'static str,
+    action: ArgAction,
+    required: bool,
+}
+
+const COMMANDS: [Row; 5] = [
+    Row {
+        name: "run",
+        about: "Runs jobs, and prints what they write",
+        example: RUN_EXAMPLE,
+        options: &[START, GLOBALS, SAVE, TRACE, STDIN, DEVICE],
+    },
+    Row {
+        name: "step",
+        about: "Runs jobs by single steps, in turn or as a file says, and prints what they write",
+        example: STEP_EXAMPLE,
+        options: &[STEPS, WHY, START, GLOBALS, SAVE, TRACE, STDIN, DEVICE],
+    },
+    Row {
+        name: "debug",
+        about: "Steps jobs by the commands that standard input has, and prints what is answered to them",
+        example: DEBUG_EXAMPLE,
+        options: &[PROMPT, START, GLOBALS, SAVE, TRACE, DEVICE],
+    },
+    Row {
+        name: "check",
+        about: "Loads routines without running them, and prints how many there are",
+        example: CHECK_EXAMPLE,
+        options: &[],
+    },
+    Row {
+        name: "replay",
+        about: "Says whether a trace is that of a run of these routines, or which line isn't",
+        example: REPLAY_EXAMPLE,
+        options: &[RECORDED, GLOBALS],
+    },
+];
+
+const START: Choice = Choice {
+    name: "start",
+    value: Some("ENTRY"),
+    help: "Where a job starts: label^ROUTINE or ^ROUTINE; once for each of 1 to 255 jobs",
+    action: ArgAction::Append,
+    required: true,
+};
+
+const STEPS: Choice = Choice {
+    name: "steps",
+    value: Some("FILE"),
+    help: "The steps, one a line: the number of a job, and `late` behind it where its timeout is over",
+    action: ArgAction::Set,
+    required: false,
+};
+
+const WHY: Choice = Choice {
+    name: "why",
+    value: None,
+    help: "Says, where all jobs wait, what each waits for",
+    action: ArgAction::SetTrue,
+    required: false,
+};
+
+const PROMPT: Choice = Choice {
+    name: "prompt",
+    value: None,
+    help: "Shows, on standard error, where a job stands and a prompt before each command; at a terminal it is shown anyway",
+    action: ArgAction::SetTrue,
+    required: false,
+};
+
+const GLOBALS: Choice = Choice {
+    name: "globals",
+    value: Some("FILE"),
+    help: "The listing of the globals that are there at first",
+    action: ArgAction::Set,
+    required: false,
+};
+
+const SAVE: Choice = Choice {
+    name: "save",
+    value: Some("FILE"),
+    help: "Where the listing of the globals that are left is written",
+    action: ArgAction::Set,
+    required: false,
+};
+
+const TRACE: Choice = Choice {
+    name: "trace",
+    value: Some("FILE"),
+    help: "Where the trace of the run is written: each event, a line",
+    action: ArgAction::Set,
+    required: false,
+};
+
+const RECORDED: Choice = Choice {
+    name: "trace",
+    value: Some("FILE"),
+    help: "The trace, as `mj run --trace` or `mj step --trace` writes it",
+    action: ArgAction::Set,
+    required: true,
+};
+
+const STDIN: Choice = Choice {
+    name: "stdin",
+    value: None,
+    help: "Lets the first job read standard input, which is read whole before it starts",
+    action: ArgAction::SetTrue,
+    required: false,
+};
+
+const DEVICE: Choice = Choice {
+    name: "device",
+    value: Some("NAME=in:FILE|NAME=out:FILE"),
+    help: "One more session of the device NAME, which reads the lines of FILE or writes it; once for each",
+    action: ArgAction::Append,
+    required: false,
+};
+
+/// The command line. Its parts are built by functions that hand them on finished, since each way out of a function drops the commands that it has.
+pub fn command<'a>(alloc: Global) -> Result<Command<'a>, AllocError> {
+    let subcommands = subcommands(alloc)?;
+    Command::new(alloc, "mj")
+        .version(VERSION)
+        .about("An M (MUMPS) system, proved")
+        .after_help(EXAMPLES)
+        .subcommand_required(true)
+        .subcommands(subcommands)
+}
+
+fn subcommands<'a>(alloc: Global) -> Result<Vec<Command<'a>>, AllocError> {
+    let mut commands = Vec::new(alloc);
+    for row in &COMMANDS {
+        commands.push(subcommand(alloc, row)?)?;
+    }
+    Ok(commands)
+}
+
+fn subcommand<'a>(alloc: Global, row: &Row) -> Result<Command<'a>, AllocError> {
+    let arguments = arguments(alloc, row.options)?;
+    Command::new(alloc, row.name)
+        .about(row.about)
+        .after_help(row.example)
+        .args(arguments)
+}
+
+// These options, and behind them the files of the routines.
+fn arguments<'a>(alloc: Global, options: &[Choice]) -> Result<Vec<Arg<'a>>, AllocError> {
+    let mut arguments = Vec::new(alloc);
+    for one in options {
+        arguments.push(option(alloc, one))?;
+    }
+    arguments.push(routines(alloc))?;
+    Ok(arguments)
+}
+
+fn option<'a>(alloc: Global, row: &Choice) -> Arg<'a> {
+    let option = Arg::new(alloc, row.name)
+        .long(row.name)
+        .help(row.help)
+        .action(row.action)
+        .required(row.required);
+    match row.value {
+        Some(value) => option.value_name(value),
+        None => option,
+    }
+}
+
+fn routines<'a>(alloc: Global) -> Arg<'a> {
+    Arg::new(alloc, "routines")
+        .value_name("ROUTINE")
+        .help("The files of the routines")
+        .action(ArgAction::Append)
+        .num_args(1..)
+        .required(true)
+}
