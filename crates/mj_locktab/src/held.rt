@@ -153,6 +153,24 @@ pub fn list(alloc: Global, held: &[(Hold, u32)]) -> Result<Vec<(u32, Name, u32)>
     Ok(list)
 }
 
+/// The same holds once more.
+pub fn copy(alloc: Global, held: &[(Hold, u32)]) -> Result<Vec<(Hold, u32)>, AllocError>
+    ensures { IfOk result (λ copies. copies.items ≡ held.now) }
+{
+    let mut copies = Vec::with_capacity(alloc, held.len())?;
+    for (hold, count) in held {
+        let name = hold.name.try_clone()?;
+        copies.push((
+            Hold {
+                job: hold.job,
+                name,
+            },
+            *count,
+        ))?;
+    }
+    Ok(copies)
+}
+
 // Where the job's hold of the name stands, or else where it would go.
 fn place(held: &[(Hold, u32)], job: u32, name: &Name) -> Result<usize, usize>
     requires { IsInOrder held.now }

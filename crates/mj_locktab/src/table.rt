@@ -95,6 +95,14 @@ impl LockTable {
         held::list(alloc, &self.held)
     }
 
+    /// The same table once more.
+    pub fn try_clone(&self) -> Result<LockTable, AllocError>
+        ensures { IfOk result (λ copy. copy ≡ self.now) }
+    {
+        let held = held::copy(*self.held.allocator(), &self.held)?;
+        Ok(LockTable { held })
+    }
+
     /// That this table keeps what each does. Nothing is done.
     pub fn keeps(&self)
         ensures { IsKept self.now }
