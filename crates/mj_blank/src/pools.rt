@@ -20,6 +20,8 @@ impl Device for Blank {
 
     ghost given = { λ b. [] };
 
+    ghost IsTold = { λ _ _. Unit {0} };
+
     fn begin(&mut self) -> Did {
         Did::Memory
     }

@@ -2,6 +2,7 @@ pub mod Did
 pub mod Input
 pub mod Cursor
 pub mod Heard
+pub mod Told
 pub mod Rest
 pub mod Talk
 pub mod Supply

@@ -33,6 +33,7 @@ pub trait Device: Drop {
     ghost use Rattle.std.specs.Prelude.{◌≡◌, ◌+◌, ◌<◌, ◌-◌, ◌^◌, ◌++◌, ℕ, List};
     ghost use Rattle.mj_dev.specs.Did.{failures_of, bytes_of, IsAnswered};
     ghost use Rattle.mj_dev.specs.Input.{failures_of_reading, lines_of};
+    ghost use Rattle.mj_dev.specs.Told.{Told};
 
     /// how many calls failed
     ghost failures: { Self → ℕ };
@@ -43,26 +44,32 @@ pub trait Device: Drop {
     /// the lines that were read
     ghost given: { Self → List (List ℕ) };
 
+    /// this was its last call, and so it was answered. Whoever has any device, and knows nothing else of it, knows this by having made the call.
+    ghost IsTold: { Self → Told → Type 0 };
+
     /// The first call to a device.
     fn begin(&mut self) -> Did
         requires { failures self.old < 2 ^ 64 - 1 }
         ensures failures { failures self.new ≡ failures self.old + failures_of result }
         ensures taken { taken self.new ≡ taken self.old }
-        ensures given { given self.new ≡ given self.old };
+        ensures given { given self.new ≡ given self.old }
+        ensures told { IsTold self.new (Told.Begun result) };
 
     /// Writes some bytes, all or none.
     fn write(&mut self, bytes: &[u8]) -> Did
         requires { failures self.old < 2 ^ 64 - 1 }
         ensures failures { failures self.new ≡ failures self.old + failures_of result }
         ensures taken { taken self.new ≡ taken self.old ++ bytes_of result bytes.now }
-        ensures given { given self.new ≡ given self.old };
+        ensures given { given self.new ≡ given self.old }
+        ensures told { IsTold self.new (Told.Wrote bytes.now result) };
 
     /// Reads the next line. It is without what ends it.
     fn read(&mut self) -> Input
         requires { failures self.old < 2 ^ 64 - 1 }
         ensures failures { failures self.new ≡ failures self.old + failures_of_reading result }
         ensures taken { taken self.new ≡ taken self.old }
-        ensures given { given self.new ≡ given self.old ++ lines_of result };
+        ensures given { given self.new ≡ given self.old ++ lines_of result }
+        ensures told { IsTold self.new (Told.Gave result) };
 
     /// The last call to a device. It takes no memory.
     fn end(&mut self) -> Did
@@ -70,7 +77,8 @@ pub trait Device: Drop {
         ensures failures { failures self.new ≡ failures self.old + failures_of result }
         ensures taken { taken self.new ≡ taken self.old }
         ensures given { given self.new ≡ given self.old }
-        ensures answered { IsAnswered result };
+        ensures answered { IsAnswered result }
+        ensures told { IsTold self.new (Told.Over result) };
 
     /// How many calls failed.
     fn failures(&self) -> u64
@@ -92,6 +100,8 @@ impl Device for Box<dyn Device + Send> {
     ghost taken = { λ b. (Device-box b).taken b.value };
 
     ghost given = { λ b. (Device-box b).given b.value };
+
+    ghost IsTold = { λ b. (Device-box b).IsTold b.value };
 
     fn begin(&mut self) -> Did {
         (**self).begin()

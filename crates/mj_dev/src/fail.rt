@@ -78,6 +78,8 @@ impl Device for Fail {
 
     ghost given = { λ _. [] };
 
+    ghost IsTold = { λ _ _. Unit {0} };
+
     fn begin(&mut self) -> Did
         requires { self.old.failures < 2 ^ 64 - 1 }
         ensures failures { self.new.failures ≡ self.old.failures + failures_of result }

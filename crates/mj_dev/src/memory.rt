@@ -67,6 +67,8 @@ impl Device for Memory {
 
     ghost given = { λ m. m.given };
 
+    ghost IsTold = { λ _ _. Unit {0} };
+
     fn begin(&mut self) -> Did {
         Did::Done
     }

@@ -1,8 +1,9 @@
 // A session with a device.
 
-ghost use Rattle.std.specs.Prelude.{◌≡◌, ◌++◌, ◌∷◌, [], List};
+ghost use Rattle.std.specs.Prelude.{◌≡◌, ◌++◌, ◌∷◌, [], List, None};
 ghost use Rattle.mj_dev.specs.Did.{IsAnswered};
 ghost use Rattle.mj_dev.specs.Heard.{Heard, IsNew, IsFresh, Begins, Writes, Lines, Bytes, Ends};
+ghost use Rattle.mj_dev.specs.Told.{Told, AreOf, IsCodeOf};
 ghost use Rattle.mj_dev.specs.Talk.{Exchange, Ended, Talks, Goes, BeginsOnce, IsTalk, output_of, stand_of};
 
 use crate::device::{Device, Did, Input};
@@ -85,7 +86,8 @@ impl<D: Device> Session<D> {
     /// Begins.
     pub fn begin(&mut self) -> Did
         requires { self.old.state ≡ State.Open }
-        ensures { Begins self.old result self.new }
+        ensures heard { Begins self.old result self.new }
+        ensures told { (device : D) × AreOf self.new (D.failures device) (D.taken device) (D.given device) × D.IsTold device (Told.Begun result) }
     {
         let did = self.device.begin();
         if did == Did::Failed {
@@ -97,7 +99,8 @@ impl<D: Device> Session<D> {
     /// Writes some bytes, all or none.
     pub fn write(&mut self, bytes: &[u8]) -> Did
         requires { self.old.state ≡ State.Open }
-        ensures { Writes self.old bytes.now result self.new }
+        ensures heard { Writes self.old bytes.now result self.new }
+        ensures told { (device : D) × AreOf self.new (D.failures device) (D.taken device) (D.given device) × D.IsTold device (Told.Wrote bytes.now result) }
     {
         match self.device.write(bytes) {
             Did::Done => {
@@ -117,7 +120,8 @@ impl<D: Device> Session<D> {
     /// Reads a line: the rest of one that was begun, else the device's next. Want of memory loses nothing of a rest.
     pub fn line(&mut self) -> Input
         requires { self.old.state ≡ State.Open }
-        ensures { Lines self.old self.old.rest result self.new }
+        ensures heard { Lines self.old self.old.rest result self.new }
+        ensures told { self.old.rest ≡ None → (device : D) × AreOf self.new (D.failures device) (D.taken device) (D.given device) × D.IsTold device (Told.Gave result) }
     {
         if self.rest.is_begun() {
             return self.rest.take_line();
@@ -132,7 +136,8 @@ impl<D: Device> Session<D> {
     /// Reads a byte's code: of a line that was begun, else of the device's next. At a line's end it is 10.
     pub fn byte(&mut self) -> Code
         requires { self.old.state ≡ State.Open }
-        ensures { Bytes self.old self.old.rest result self.new }
+        ensures heard { Bytes self.old self.old.rest result self.new }
+        ensures told { self.old.rest ≡ None → (device : D) × AreOf self.new (D.failures device) (D.taken device) (D.given device) × ((input : Input) × IsCodeOf input result × D.IsTold device (Told.Gave input)) }
     {
         if !self.rest.is_begun() {
             match self.device.read() {
@@ -155,7 +160,7 @@ impl<D: Device> Session<D> {
     pub fn end(self) -> Did
         ensures answered { IsAnswered result }
         ensures protocol { (old : Heard) → (talk : List Exchange) → Talks old talk self → Goes (stand_of old) (talk ++ Ended result ∷ []) (record { rest = self.rest; state = State.Ended }) }
-        ensures device { (last : D) × Ends self result (D.failures last) (D.taken last) (D.given last) }
+        ensures device { (last : D) × Ends self result (D.failures last) (D.taken last) (D.given last) × D.IsTold last (Told.Over result) }
     {
         let Session { mut device, .. } = self;
         device.end()

@@ -162,6 +162,8 @@ impl<R: Files + Drop> Device for Port<R> {
 
     ghost given = { λ p. p.given };
 
+    ghost IsTold = { λ _ _. Unit {0} };
+
     fn begin(&mut self) -> Did
         requires { self.old.failures < 2 ^ 64 - 1 }
         ensures failures { self.new.failures ≡ self.old.failures + failures_of result }

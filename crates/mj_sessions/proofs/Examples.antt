@@ -1,15 +1,13 @@
 -- The talks of one job with its devices, by its log.
-use Rattle.std.proofs.Common.{◌≡◌, ℕ, Bool, true, false, List, [], ◌∷◌, Option, Some, None, refl}
-use Rattle.std.specs.Prelude.{ℤ, pos, codes}
-use Rattle.mj_ask.specs.declared.ask.Ask.{Ask}
+use Rattle.std.proofs.Common.{◌≡◌, ℕ, true, false, List, [], ◌∷◌, Some, None, refl}
+use Rattle.std.specs.Prelude.{pos, codes}
 use Rattle.mj_ask.specs.declared.ask.Ask.TheVariants as asks
-use Rattle.mj_ask.specs.declared.ask.Reply.{Reply}
 use Rattle.mj_ask.specs.declared.ask.Reply.TheVariants as replies
 use Rattle.mj_dev.specs.declared.device.Did.TheVariants as did
 use Rattle.mj_dev.specs.declared.device.Input.TheVariants as input
 use Rattle.mj_dev.specs.declared.talk.Code.TheVariants as codes_are
 use Rattle.mj_dev.specs.declared.talk.State.TheVariants as states
-use Rattle.mj_dev.specs.Talk.{Exchange, Begun, Written, LineRead, ByteRead, Ended, beginning}
+use Rattle.mj_dev.specs.Talk.{Begun, Written, LineRead, ByteRead, Ended, beginning}
 use Rattle.mj_sessions.specs.Events.{Log, talk_on}
 use Rattle.mj_sessions.specs.Follow.{Follow, taken_by, output_of_log}
 use Rattle.mj_ask.specs.Late.{is_over}

@@ -1,9 +1,7 @@
 -- What a session answers to each call.
-use Rattle.std.proofs.Common.{ℕ, Bool, true, false, List, [], ◌∷◌, Option, Some, None, ◌≡◌, ◌||◌, ◌++◌, subst, refl, sym, inl, inr}
-use Rattle.std.specs.Prelude.{ℤ, int_le, pos, ◌⊎◌}
+use Rattle.std.proofs.Common.{ℕ, Bool, true, false, List, [], ◌∷◌, Option, Some, None, ◌≡◌, ◌++◌, subst, refl, sym, inl, inr}
+use Rattle.std.specs.Prelude.{ℤ, ◌⊎◌}
 use Rattle.mj_ask.specs.declared.ask.Ask.TheVariants as asks
-use Rattle.mj_ask.specs.declared.ask.Reply.{Reply}
-use Rattle.mj_ask.specs.declared.ask.Reply.TheVariants as replies
 use Rattle.mj_dev.specs.declared.device.Did.{Did}
 use Rattle.mj_dev.specs.declared.device.Did.TheVariants as did
 use Rattle.mj_dev.specs.declared.device.Input.{Input}
@@ -11,7 +9,7 @@ use Rattle.mj_dev.specs.declared.device.Input.TheVariants as input
 use Rattle.mj_dev.specs.declared.talk.Code.{Code}
 use Rattle.mj_dev.specs.declared.talk.Code.TheVariants as codes
 use Rattle.mj_dev.specs.declared.talk.State.TheVariants as states
-use Rattle.mj_dev.specs.Heard.{Heard, Begins, Writes, Lines, Bytes, Firsts}
+use Rattle.mj_dev.specs.Heard.{Heard, Begins, Writes, Lines, Bytes}
 use Rattle.mj_dev.specs.Did.{IsAnswered}
 use Rattle.mj_dev.specs.declared.talk.State.{State}
 use Rattle.mj_dev.specs.Talk.{Exchange, Begun, Written, LineRead, ByteRead, Ended, Talks, Goes, Allows, stand_of}

@@ -11,7 +11,7 @@ use Rattle.mj_dev.specs.declared.device.Did.{Did}
 use Rattle.mj_dev.specs.declared.device.Did.TheVariants as did
 use Rattle.mj_dev.specs.Did.{bytes_of}
 use Rattle.mj_dev.specs.Talk.{Exchange, Begun, Written, LineRead, ByteRead, Ended, written_by}
-use Rattle.mj_sessions.specs.Events.{Log, exchange_on, talk_on, did_of, input_of, code_of}
+use Rattle.mj_sessions.specs.Events.{Log, talk_on, did_of, input_of, code_of}
 use Rattle.mj_sessions.specs.Follow.{is_end, output_on, output_of_log, ends_on, written_on}
 
 none_left : (talk : List Exchange) → output_on 0 talk ≡ []

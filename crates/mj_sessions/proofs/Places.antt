@@ -1,5 +1,5 @@
 -- The sessions of a job, by the place where a search for a name ends.
-use Rattle.std.proofs.Common.{ℕ, zero, suc, ◌<◌, ◌≤◌, ◌+◌, Bool, true, false, not, cond, List, [], ◌∷◌, ◌++◌, Option, Some, None, ◌≡◌, length, get_or, nat_lt, refl, sym, ap, ◌∙◌, subst, arith, inl, inr}
+use Rattle.std.proofs.Common.{ℕ, zero, suc, ◌<◌, ◌≤◌, ◌+◌, Bool, true, false, not, cond, List, [], ◌∷◌, ◌++◌, Option, Some, None, ◌≡◌, length, get_or, nat_lt, refl, sym, ap, ◌∙◌, arith, inr}
 use Rattle.std.specs.Prelude.{slice_set, is_some}
 use Rattle.mj_dev.specs.declared.talk.State.TheVariants as states
 use Rattle.std.specs.List.{find, position, position_or_len, remove}
@@ -9,7 +9,6 @@ use Rattle.std.proofs.lemmas.List.Sums.{prefix_len-le-length}
 use Rattle.std.proofs.lemmas.Slice.Eq.{bytes_eq-Decides}
 use Rattle.mj_ask.specs.declared.ask.Ask.{Ask}
 use Rattle.mj_dev.specs.Heard.{Heard}
-use Rattle.mj_dev.specs.Shelves.{with_first}
 use Rattle.mj_sessions.specs.declared.answer.Answer.{Answer}
 use Rattle.mj_sessions.specs.Answers.{Hears, Asked, Ends, IsEnding}
 use borrow.Author.Tests.{ltb-false}

@@ -15,10 +15,10 @@ use Rattle.mj_dev.specs.Talk.{Exchange, Begun, Written, LineRead, ByteRead, Ende
 use Rattle.mj_dev.proofs.Talks.{Exchanges-taken, Exchanges-allowed}
 use Rattle.mj_sessions.specs.declared.answer.Answer.{Answer}
 use Rattle.mj_sessions.specs.declared.answer.Answer.TheVariants as answers
-use Rattle.mj_sessions.specs.Events.{Log, device_of, exchange_of, exchange_on, talk_on, did_of}
+use Rattle.mj_sessions.specs.Events.{Log, exchange_of, exchange_on, talk_on, did_of}
 use Rattle.mj_sessions.specs.Follow.{is_end, behind, Follow, taken_behind, taken_by}
 use Rattle.mj_sessions.specs.Named.{Named, is_named, session_of, with_session, without, AreApart, Tells, AreTold}
-use Rattle.mj_sessions.specs.Answers.{Answers, Asked, Ends, Hears, IsAbsent, IsEnding}
+use Rattle.mj_sessions.specs.Answers.{Answers, Asked, Ends, Hears}
 use Rattle.mj_sessions.proofs.Places.{session_more, session_with, session_other, session_gone, session_stays}
 
 pub follow_on : (old mid between : Stand) (talk : List Exchange) (x : Exchange) → Follow old talk mid → Allows mid mid.state x between → Follow old (talk ++ x ∷ []) (behind x between)

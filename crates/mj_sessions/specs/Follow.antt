@@ -5,7 +5,7 @@ use Rattle.mj_ask.specs.declared.ask.Ask.{Ask}
 use Rattle.mj_ask.specs.declared.ask.Ask.TheVariants as asks
 use Rattle.mj_ask.specs.declared.ask.Reply.{Reply}
 use Rattle.mj_ask.specs.declared.ask.Reply.TheVariants as replies
-use Rattle.mj_dev.specs.Talk.{Exchange, Begun, Written, LineRead, ByteRead, Ended, written_by, Stand, Allows, beginning}
+use Rattle.mj_dev.specs.Talk.{Exchange, Ended, written_by, Stand, Allows, beginning}
 use Rattle.mj_sessions.specs.Events.{Log, talk_on}
 
 -- the call that a session ends by

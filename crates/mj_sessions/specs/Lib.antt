@@ -2,3 +2,4 @@ pub mod Events
 pub mod Follow
 pub mod Named
 pub mod Answers
+pub mod Asked

@@ -1,10 +1,12 @@
 // The sessions that a job has.
 
-ghost use Rattle.std.specs.Prelude.{◌≡◌, ◌<◌, ◌+◌, ◌≤◌, ◌++◌, ◌∷◌, [], ℕ, List, Some, None, false, true, position, is_some, if◌then◌else◌, IfOk, IfSome, IfNone, OnErr};
+ghost use Rattle.std.specs.Prelude.{◌≡◌, ◌<◌, ◌+◌, ◌≤◌, ◌++◌, ◌∷◌, [], ℕ, Bool, List, Some, None, false, true, position, is_some, if◌then◌else◌, IfOk, IfSome, IfNone, OnErr};
 ghost use Rattle.mj_ask.specs.Fits.{is_shared};
 ghost use Rattle.mj_dev.specs.Heard.{IsNew};
 ghost use Rattle.mj_sessions.specs.Answers.{Answers, Asked, Ends, IsCall};
+ghost use Rattle.mj_sessions.specs.Asked.{AreAsked, IsAskedOf};
 ghost use Rattle.mj_ask.specs.declared.ask.Ask as asks;
+ghost use Rattle.mj_ask.specs.declared.ask.Ask.TheVariants as all_asks;
 ghost use Rattle.mj_ask.specs.declared.ask.Reply as replies;
 ghost use Rattle.mj_sessions.specs.Events.{Log};
 ghost use Rattle.mj_sessions.specs.Follow.{ends_on};
@@ -89,6 +91,7 @@ impl<D: Device> Sessions<D> {
     pub fn serve(&mut self, ask: &Ask, late: bool) -> Answer
         requires { is_shared ask.now ≡ false }
         ensures answers { Answers self.old.sessions ask.now late result self.new.sessions }
+        ensures asked { AreAsked (λ told. (device : D) × D.IsTold device told) self.old.sessions ask.now late result }
         ensures told { (log : Log) (reply : replies.Reply) → result ≡ Answer.Told reply → AreTold log self.old.sessions → AreTold (log ++ (ask.now, reply) ∷ []) self.new.sessions }
         ensures there { (name : List ℕ) (reply : replies.Reply) → result ≡ Answer.Told reply
             → is_some (session_of name self.new.sessions) ≡ (if ends_on name ask.now then false else is_some (session_of name self.old.sessions)) }
@@ -100,7 +103,8 @@ impl<D: Device> Sessions<D> {
     // Serves such an ask.
     fn asked(&mut self, ask: &Ask, late: bool) -> Answer
         requires { is_shared ask.now ≡ false }
-        ensures { Answers self.old.sessions ask.now late result self.new.sessions }
+        ensures answers { Answers self.old.sessions ask.now late result self.new.sessions }
+        ensures asked { AreAsked (λ told. (device : D) × D.IsTold device told) self.old.sessions ask.now late result }
     {
         match ask {
             Ask::Rest(_) => Answer::Told(Reply::Done),
@@ -116,7 +120,8 @@ impl<D: Device> Sessions<D> {
     // Calls the session with the device of this name.
     fn call(&mut self, name: &Text, ask: &Ask, late: bool) -> Answer
         requires { IsCall ask.now }
-        ensures { Asked name.now self.old.sessions ask.now late result self.new.sessions }
+        ensures answers { Asked name.now self.old.sessions ask.now late result self.new.sessions }
+        ensures asked { IsAskedOf (λ told. (device : D) × D.IsTold device told) name.now self.old.sessions ask.now late result }
     {
         match self.place(name) {
             None => Answer::Unfit,
@@ -129,7 +134,8 @@ impl<D: Device> Sessions<D> {
 
     // Ends the session with the device of this name.
     fn end(&mut self, name: &Text) -> Answer
-        ensures { Ends name.now self.old.sessions result self.new.sessions }
+        ensures ends { Ends name.now self.old.sessions result self.new.sessions }
+        ensures asked { (device : List ℕ) (late : Bool) → IsAskedOf (λ told. (device : D) × D.IsTold device told) name.now self.old.sessions (all_asks.DeviceEnd device) late result }
     {
         match self.place(name) {
             None => Answer::Unfit,

@@ -1,6 +1,4 @@
-use Rattle.std.proofs.Common.{◌≡◌, ◌<◌, ◌++◌, ◌-◌, ◌+◌, List, ℕ, length, drop, sym, ◌∙◌, ap, subst, true, false}
-use Rattle.mj_sessions.specs.Events.{talk_on}
-use Rattle.mj_sessions.specs.Follow.{output_on, output_of_log, ends_on, written_on}
+use Rattle.std.proofs.Common.{◌<◌, ◌++◌, length, sym, ◌∙◌, ap}
 use Rattle.mj_sessions.proofs.Outputs.{goes_end, goes_by, goes_write}
 use Rattle.mj_sessions.proofs.written.output.Goals.{then-ends, else-ends+then-left-eq1+in_ok-extend_from_slice, else-ends+else-left-eq1}
 use Rattle.mj_sessions.proofs.written.output.Goals as goal
