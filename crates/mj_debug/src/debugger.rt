@@ -356,7 +356,9 @@ impl<D: Device, O: Opening> Debugger<D, O> {
         let Some(then) = self.shown().job(job) else {
             unreachable!();
         };
-        let (routine, line) = line?;
+        let Some((routine, line)) = line else {
+            return None;
+        };
         if !is_breakpoint(self.core.image(), &self.marks, &routine, line) {
             return None;
         }
