@@ -1,6 +1,6 @@
 -- A job among all that is let go on, and isn't served.
-use Rattle.std.specs.Prelude.{slice_get, slice_set, Result, Ok, Err, IfOk}
-use Rattle.std.proofs.Common.{◌≡◌, ℕ, suc, ◌<◌, List, Bool, false, Option, Some, refl, sym, ap, ◌∙◌, subst}
+use Rattle.std.specs.Prelude.{slice_get, slice_set, Ok, Err}
+use Rattle.std.proofs.Common.{◌≡◌, ℕ, suc, ◌<◌, List, Bool, false, Option, Some, refl, sym, ◌∙◌, subst}
 use Rattle.std.specs.declared.alloc.AllocError.{AllocError}
 use Rattle.mj_ask.specs.declared.ask.Ask.{Ask}
 use Rattle.mj_load.specs.Image.{Loaded, routines_of}
@@ -19,7 +19,6 @@ use Rattle.mj_sys.specs.History.{state_of, log_of}
 use Rattle.mj_sys.specs.System.{Recorded, Claimed}
 use Rattle.mj_events.specs.declared.happened.Happened.{Happened}
 use Rattle.mj_events.specs.Woven.{woven}
-use Rattle.mj_core.specs.declared.seen.Refusal.{Refusal}
 use Rattle.mj_core.specs.declared.seen.Refusal.TheVariants as refusals
 use Rattle.mj_core.specs.Runs.{start_in}
 use Rattle.mj_core.specs.Gives.{Makes, Readies}

@@ -197,7 +197,7 @@ impl<D: Device, O: Opening> Core<D, O> {
         }
     }
 
-    /// The same, and where the job asks it is looked at, as it stands at that ask.
+    /// Lets a job go on as `ready` does, and where it asks, gives what `look` sees of it as it stands at that ask.
     pub fn ready_job<R, F: FnOnce(&Job) -> R + Drop>(
         &mut self,
         job: u32,
