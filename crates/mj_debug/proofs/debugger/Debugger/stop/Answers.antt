@@ -1,5 +1,5 @@
 use Rattle.std.specs.Prelude.{option_copied}
-use Rattle.std.proofs.Common.{◌≡◌, ◌∷◌, List, Option, Some, None, true, false, sym, ap, ◌∙◌, subst}
+use Rattle.std.proofs.Common.{◌≡◌, List, Option, Some, None, sym, ap, ◌∙◌, subst}
 use Rattle.std.proofs.lemmas.Option.{none-some}
 use Rattle.mj_semantics.specs.State.{Place, places, place_of}
 use Rattle.mj_load.specs.Image.{Loaded, routines_of}
@@ -8,7 +8,7 @@ use Rattle.mj_sys.specs.History.{History, state_of}
 use Rattle.mj_debug.specs.declared.breaks.Mark.{Mark}
 use Rattle.mj_debug.specs.Breaks.{is_breakpoint, is_there}
 use Rattle.mj_debug.specs.Shows.{HasStood}
-use Rattle.mj_debug.specs.Goes.{IsStop, line_in}
+use Rattle.mj_debug.specs.Goes.{line_in}
 use Rattle.mj_debug.specs.Walks.{Walk}
 use Rattle.mj_debug.proofs.Standing.{no_row, stands}
 use Rattle.mj_debug.proofs.Stopping.{front_whole, no_line, no_breakpoint, from_there, stops_there}
