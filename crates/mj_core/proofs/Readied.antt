@@ -1,10 +1,11 @@
 -- What it gives to make a job ready that has a row, and whose end wasn't seen.
 use Rattle.std.specs.Prelude.{IsSome, Result, Ok, Err}
 use Rattle.std.specs.List.{slice_index_or}
-use Rattle.std.proofs.Common.{◌≡◌, ℕ, suc, ◌<◌, List, length, get_or, Bool, true, false, Option, Some, sym, ap, ◌∙◌, subst, arith}
+use Rattle.std.proofs.Common.{◌≡◌, ℕ, suc, ◌<◌, List, length, get_or, Bool, false, Option, Some, sym, ap, ◌∙◌, subst, arith}
 use Rattle.std.proofs.lemmas.List.{get_or_default}
 use Rattle.mj_load.specs.Image.{Loaded}
 use Rattle.mj_jobs.specs.Rows.{Row, row_at, IsLive}
+use Rattle.mj_jobvm.specs.Jobs.{Running}
 use Rattle.mj_jobvm.specs.declared.job.Turn.{Turn}
 use Rattle.mj_jobvm.specs.declared.job.Turn.TheVariants as turns
 use Rattle.mj_sys.specs.Shared.{Shared}
@@ -15,7 +16,10 @@ use Rattle.mj_events.specs.Woven.{woven}
 use Rattle.mj_core.specs.declared.seen.Refusal.{Refusal}
 use Rattle.mj_core.specs.declared.seen.Refusal.TheVariants as refusals
 use Rattle.mj_core.specs.Shown.{Shown}
+use Rattle.mj_core.specs.declared.seen.Ready.{Ready}
+use Rattle.mj_core.specs.declared.seen.Ready.TheVariants as readies
 use Rattle.mj_core.specs.Gives.{Readies, GivesReady}
+use Rattle.mj_core.specs.Asking.{IfAsks, IsAtAsk}
 use Rattle.mj_core.specs.Ties.{Placed}
 use Rattle.mj_core.specs.Kept.{AreKept, logs_of, turns_of, shown}
 use Rattle.mj_core.proofs.Answering.{shown_same, ready_made, ready_done, ready_short, seen_as, done_as}
@@ -58,3 +62,20 @@ module _ (image : Loaded) (opening : Shared) (system : Recorded) (slots : List P
         let P : Shown → Type 0 = λ s. Readies opening s (suc at) row answer (shown image new order2 over 255) in
         let Q : List Happened → Type 0 = λ o. Readies opening self (suc at) row answer (shown image new o over 255) in
         subst Q again (subst P e (gives over row there)))
+
+    -- where it asks then, it stands at its ask
+    pub readied_at : (lent : List Placed) (order2 : List Happened) → lent ≡ slots1 → order2 ≡ order → (found : Running)
+        → IsAtAsk image opening (woven (logs_of lent) order2) (suc at) found → IsAtAsk self.image opening self.history job found
+    readied_at lent order2 as_lent again found asks =
+        let e : shown image lent order2 over 255 ≡ self =
+        ap (λ s. shown image s order2 over 255) as_lent ∙ ap (λ o. shown image slots1 o over 255) again ∙ seen_still in
+        let P : Shown → Type 0 = λ s. IsAtAsk s.image opening s.history (suc at) found in
+        let Q : ℕ → Type 0 = λ j. IsAtAsk self.image opening self.history j found in
+        subst Q (sym is) (subst P e asks)
+
+-- what holds of all that is seen where a job asks
+pub asks_as : {R : Type 0} (A B : R → Type 0) (ready : Result (Ready R) Refusal) → ((seen : R) → A seen → B seen) → IfAsks ready A → IfAsks ready B
+asks_as A B (Ok (readies.Asks seen)) each a = each seen a
+asks_as A B (Ok readies.Ran) each a = a
+asks_as A B (Ok readies.Ended) each a = a
+asks_as A B (Err why) each a = a

@@ -1,32 +1,35 @@
 -- A job among all that is let go on, and isn't served.
-use Rattle.std.specs.Prelude.{slice_get, slice_set, Result, Ok, Err, IfOk}
-use Rattle.std.proofs.Common.{◌≡◌, ℕ, suc, ◌<◌, List, Bool, false, Option, Some, refl, sym, ap, ◌∙◌, subst}
+use Rattle.std.specs.Prelude.{slice_get, slice_set, Ok, Err}
+use Rattle.std.proofs.Common.{◌≡◌, ℕ, suc, ◌<◌, List, Bool, false, Option, Some, refl, sym, ◌∙◌, subst}
 use Rattle.std.specs.declared.alloc.AllocError.{AllocError}
 use Rattle.mj_ask.specs.declared.ask.Ask.{Ask}
 use Rattle.mj_load.specs.Image.{Loaded, routines_of}
 use Rattle.mj_jobs.specs.Rows.{Row, row_at}
 use Rattle.mj_semantics.specs.State.{places}
-use Rattle.mj_semantics.specs.Job.{Start}
-use Rattle.mj_jobvm.specs.Run.{Log, GoesOn, HasEnded}
+use Rattle.mj_semantics.specs.Outcome.{Needs}
+use Rattle.mj_semantics.specs.Job.{Start, next}
+use Rattle.mj_jobvm.specs.Run.{Log, replies_of, GoesOn, HasEnded}
 use Rattle.mj_jobvm.specs.Jobs.{Running, IsRunOf}
 use Rattle.mj_jobvm.specs.Told.{Told, spent_after}
 use Rattle.mj_jobvm.specs.declared.job.Turn.{Turn}
 use Rattle.mj_jobvm.specs.declared.job.Turn.TheVariants as turns
 use Rattle.mj_sessions.specs.Named.{AreTold}
 use Rattle.mj_sys.specs.Shared.{Shared}
-use Rattle.mj_sys.specs.History.{state_of}
+use Rattle.mj_sys.specs.History.{state_of, log_of}
 use Rattle.mj_sys.specs.System.{Recorded, Claimed}
 use Rattle.mj_events.specs.declared.happened.Happened.{Happened}
 use Rattle.mj_events.specs.Woven.{woven}
-use Rattle.mj_core.specs.declared.seen.Refusal.{Refusal}
 use Rattle.mj_core.specs.declared.seen.Refusal.TheVariants as refusals
+use Rattle.mj_core.specs.Runs.{start_in}
 use Rattle.mj_core.specs.Gives.{Makes, Readies}
+use Rattle.mj_core.specs.Asking.{IsAtAsk}
 use Rattle.mj_core.specs.Ties.{Placed, IsPlaced, start_of}
 use Rattle.mj_core.specs.Kept.{AreKept, logs_of, shown}
 use Rattle.mj_core.proofs.Histories.{is_run}
 use Rattle.mj_core.proofs.Keeping.{keeps_still}
 use Rattle.mj_core.proofs.Ended.{has_halted}
 use Rattle.mj_core.proofs.Giving.{shown_still, gives_ran, move}
+use Rattle.mj_core.proofs.Views.{shown_run}
 
 module _ (image : Loaded) (opening : Shared) (system : Recorded) (slots : List Placed) (waiting : Option Claimed) (order : List Happened)
     (kept : AreKept image opening system slots waiting order) (k : ℕ) (slot : Placed) (here : slice_get slots k ≡ Some slot) (job : Running)
@@ -59,26 +62,46 @@ module _ (image : Loaded) (opening : Shared) (system : Recorded) (slots : List P
     still spent = shown_still image opening system slots waiting order kept over n k few slot slot_on here refl row is false log refl placed_on spent
 
     -- what its turns say is what is seen of it
-    pub readies : (turn : Turn) → Told (routines_of image) (start_of slot) turn job.run → job.run.spent ≡ spent_after {E = AllocError} (Ok turn) 10000 slot.job.run.spent
+    readies_by : (turn : Turn) → Told (routines_of image) (start_of slot) turn job.run → job.run.spent ≡ spent_after {E = AllocError} (Ok turn) 10000 slot.job.run.spent
         → Readies opening (shown image slots order over n) (suc k) row (Ok turn) (shown image (slice_set slots k slot_on) order over n)
-    readies turns.Asks told spent =
+    readies_by turns.Asks told spent =
         let F : ℕ → Start → Log → Shared → Type 0 = λ j st l s. (a : Ask) × Makes (routines_of image) st l a in
         let L : Log → Type 0 = λ l. Makes (routines_of image) (start_of slot) l told.0 in
         let makes : Makes (routines_of image) (start_of slot) job.run.log told.0 = (told.2.0, job.run.at.state.locals, places job.run.at.state, told.2.1) in (
           move image opening system slots waiting order kept over n k few slot slot_on here refl row is false F (told.0, subst L log makes),
           still spent,
         )
-    readies turns.Ran told spent =
+    readies_by turns.Ran told spent =
         let L : Log → Type 0 = λ l. GoesOn (routines_of image) (start_of slot) l job.run.spent in
         gives_ran image opening system slots waiting order kept over n k few slot slot_on here refl row is false log refl placed_on spent (subst L log told)
-    readies turns.Ended told spent =
+    readies_by turns.Ended told spent =
         let F : ℕ → Start → Log → Shared → Type 0 = λ j st l s. HasEnded (routines_of image) st l in
         let L : Log → Type 0 = λ l. HasEnded (routines_of image) (start_of slot) l in
         let over_now = move image opening system slots waiting order kept over n k few slot slot_on here refl row is false F (subst L log told) in
         let run = is_run image opening system slots waiting order kept in
         ((has_halted (routines_of image) opening (woven (logs_of slots) order) run (suc k) row is over_now).1, still spent)
 
+    pub readies : (turn went : Turn) → turn ≡ went → Told (routines_of image) (start_of slot) turn job.run
+        → job.run.spent ≡ spent_after {E = AllocError} (Ok turn) 10000 slot.job.run.spent
+        → Readies opening (shown image slots order over n) (suc k) row (Ok went) (shown image (slice_set slots k slot_on) order over n)
+    readies turn went same told spent =
+        let T : Turn → Type 0 = λ t. Told (routines_of image) (start_of slot) t job.run in
+        let S : Turn → Type 0 = λ t. job.run.spent ≡ spent_after {E = AllocError} (Ok t) 10000 slot.job.run.spent in
+        readies_by went (subst T same told) (subst S same spent)
+
     -- memory was refused
     pub readies_none : job.run.spent ≡ slot.job.run.spent
         → Readies opening (shown image slots order over n) (suc k) row (Err refusals.Memory) (shown image (slice_set slots k slot_on) order over n)
     readies_none spent = (refl, still spent)
+
+  -- where it asks, it stands at its ask
+  pub at_ask : (turn : Turn) → turn ≡ turns.Asks → ((start : Start) → IsRunOf image start slot.job → Told (routines_of image) start turn job.run)
+      → IsAtAsk image opening (woven (logs_of slots) order) (suc k) job
+  at_ask turn same told =
+      let its = shown_run image opening system slots waiting order kept k slot here in
+      let start = start_in (suc k) its.0.start in
+      let logged : job.run.log ≡ log_of (suc k) (woven (logs_of slots) order) = log ∙ sym (kept.tied k slot here).logged in
+      let T : Turn → Type 0 = λ t. Told (routines_of image) start t job.run in
+      let asks = subst T same (told start its.2) in
+      let N : Log → Type 0 = λ l. (n : ℕ) × (next (routines_of image) start n (replies_of l) ≡ Needs asks.0 job.run.at.state.locals (places job.run.at.state)) in
+      record { row = its.0; there = its.1; run = run start its.2; log = logged; ask = asks.0; waits = asks.1; needs = subst N logged asks.2 }

@@ -2,6 +2,7 @@ pub mod Runs
 pub mod Shown
 pub mod Having
 pub mod Gives
+pub mod Asking
 pub mod Ties
 pub mod Kept
 pub mod Ended

@@ -15,6 +15,6 @@ mod together;
 pub use laws::ended_by_halt;
 /// One job, for the crates above.
 pub use mj_jobvm as jobvm;
-pub use seen::{Refusal, Seen, Step, Way};
+pub use seen::{Ready, Refusal, Seen, Step, Way};
 pub use slot::{FUEL, Made, Slot, step_slot};
 pub use together::Core;

@@ -40,6 +40,17 @@ pub enum Seen {
     Ended,
 }
 
+/// What a job comes to that is let go on, and isn't served.
+#[derive(Drop)]
+pub enum Ready<R> {
+    /// it asks: what was seen of it there
+    Asks(R),
+    /// it asked nothing within 10,000 turns
+    Ran,
+    /// it has halted
+    Ended,
+}
+
 /// Why a step isn't made.
 #[derive(Clone, Copy, PartialEq, Eq, Debug)]
 pub enum Refusal {

@@ -14,9 +14,11 @@ ghost use Rattle.mj_sys.specs.System.{Claimed, history_limit};
 ghost use Rattle.mj_events.specs.Woven.{woven};
 ghost use Rattle.mj_core.specs.Runs.{IsRun, start_in, out_of};
 ghost use Rattle.mj_core.specs.Gives.{Gives, Made as StepGives, Readies, RunGives, GivesReady};
+ghost use Rattle.mj_core.specs.Asking.{turn_of, IfAsks, IsAtAsk};
 ghost use Rattle.mj_core.specs.Kept.{AreKept, logs_of, turns_of, claim_of, shown, shown_event};
+ghost use Rattle.std.specs.Fn.{FnOnceReturnsAt};
 
-use crate::seen::{Refusal, Seen, Step, Way};
+use crate::seen::{Ready, Refusal, Seen, Step, Way};
 use crate::slot::{FUEL, Made, Slot, step_slot};
 use mj_ask::{Ask, Reply, Start};
 use mj_dev::{Device, Pool, Session};
@@ -187,6 +189,24 @@ impl<D: Device, O: Opening> Core<D, O> {
     pub fn ready(&mut self, job: u32) -> Result<Turn, Refusal>
         ensures { GivesReady O.opening self.old job result self.new }
     {
+        match self.ready_job(job, |_| ()) {
+            Ok(Ready::Asks(())) => Ok(Turn::Asks),
+            Ok(Ready::Ran) => Ok(Turn::Ran),
+            Ok(Ready::Ended) => Ok(Turn::Ended),
+            Err(why) => Err(why),
+        }
+    }
+
+    /// Lets a job go on as `ready` does, and where it asks, gives what `look` sees of it as it stands at that ask.
+    pub fn ready_job<R, F: FnOnce(&Job) -> R + Drop>(
+        &mut self,
+        job: u32,
+        look: F,
+    ) -> Result<Ready<R>, Refusal>
+        requires { F.IsAlwaysCallable look }
+        ensures gives { GivesReady O.opening self.old job (turn_of result) self.new }
+        ensures looked { IfAsks result (λ seen. (found : _) × IsAtAsk self.old.image O.opening self.old.history job found × FnOnceReturnsAt F.FnOnce look found seen) }
+    {
         let Some(at) = self.place(job) else {
             return Err(Refusal::NoJob);
         };
@@ -194,7 +214,7 @@ impl<D: Device, O: Opening> Core<D, O> {
             return Err(Refusal::Ended);
         }
         if !self.system.is_live(job) {
-            return Ok(Turn::Ended);
+            return Ok(Ready::Ended);
         }
         let Ok(()) = admit(
             self.alloc,
@@ -207,7 +227,14 @@ impl<D: Device, O: Opening> Core<D, O> {
         ) else {
             return Err(Refusal::Memory);
         };
-        go_ready(&self.image, &self.system, &mut self.slots, &self.order, at)
+        go_ready(
+            &self.image,
+            &self.system,
+            &mut self.slots,
+            &self.order,
+            at,
+            look,
+        )
     }
 
     /// The routines.
@@ -431,24 +458,30 @@ fn go<D: Device, O: Opening>(
     }
 }
 
-// Lets a job that has a slot go on to its next ask.
-fn go_ready<D: Device, O: Opening>(
+// Lets a job that has a slot go on to its next ask, and looks at it there.
+fn go_ready<D: Device, O: Opening, R, F: FnOnce(&Job) -> R + Drop>(
     image: &Image,
     system: &System<D, O>,
     slots: &mut [Slot<D>],
     order: &[Happened],
     at: usize,
-) -> Result<Turn, Refusal>
+    look: F,
+) -> Result<Ready<R>, Refusal>
     requires few { at < 255 }
     requires there { at < length slots.old }
     requires kept { (waiting : Option Claimed) × AreKept image.now O.opening system.now slots.old waiting order.now }
+    requires callable { F.IsAlwaysCallable look }
     ensures kept { (waiting : Option Claimed) → AreKept image.now O.opening system.now slots.old waiting order.now → AreKept image.now O.opening system.now slots.new waiting order.now }
     ensures readies { (over : List Bool) → (row : Row) → row_at (state_of O.opening (woven (logs_of slots.old) order.now)).rows (suc at) ≡ Some row
-        → Readies O.opening (shown image.now slots.old order.now over 255) (suc at) row result (shown image.now slots.new order.now over 255) }
+        → Readies O.opening (shown image.now slots.old order.now over 255) (suc at) row (turn_of result) (shown image.now slots.new order.now over 255) }
+    ensures looked { IfAsks result (λ seen. (found : _) × IsAtAsk image.now O.opening (woven (logs_of slots.old) order.now) (suc at) found
+        × FnOnceReturnsAt F.FnOnce look found seen) }
 {
     let slot = &mut slots[at];
     match slot.job.advance(image, FUEL) {
-        Ok(turn) => Ok(turn),
+        Ok(Turn::Asks) => Ok(Ready::Asks(look(&slot.job))),
+        Ok(Turn::Ran) => Ok(Ready::Ran),
+        Ok(Turn::Ended) => Ok(Ready::Ended),
         Err(_) => Err(Refusal::Memory),
     }
 }

@@ -1,19 +1,13 @@
 -- Whether a job comes to a line to stop at.
 use Rattle.std.specs.Prelude.{Option, Some, None, take, not, ◌&&◌}
-use Rattle.std.proofs.Common.{◌≡◌, ℕ, ◌+◌, List, [], ◌∷◌, ◌++◌, length, map, Bool, true, false, refl, sym, ap, ◌∙◌, subst, append-nil}
+use Rattle.std.proofs.Common.{◌≡◌, ℕ, List, [], ◌∷◌, length, map, Bool, true, false, refl, sym, ap, ◌∙◌, subst}
 use Rattle.std.proofs.lemmas.Option.{none-some, same_Some}
-use Rattle.mj_ask.specs.declared.ask.Ask.{Ask}
-use Rattle.mj_ask.specs.declared.ask.Reply.{Reply}
 use Rattle.mj_semantics.specs.State.{State, Frame, Place, places, place_of}
-use Rattle.mj_semantics.specs.Outcome.{Needs}
-use Rattle.mj_semantics.specs.Job.{next}
 use Rattle.mj_load.specs.Image.{routines_of}
-use Rattle.mj_jobs.specs.Rows.{Row, row_at}
-use Rattle.mj_core.specs.Run.{Log, replies_of}
-use Rattle.mj_core.specs.Jobs.{Running, IsRunOf}
+use Rattle.mj_core.specs.Jobs.{Running}
 use Rattle.mj_sys.specs.Shared.{Shared}
-use Rattle.mj_sys.specs.History.{History, state_of, log_of}
-use Rattle.mj_core.specs.Runs.{start_in}
+use Rattle.mj_sys.specs.History.{History}
+use Rattle.mj_core.specs.Asking.{IsAtAsk}
 use Rattle.mj_debug.specs.Breaks.{stops, is_breakpoint, is_there}
 use Rattle.mj_debug.specs.Shows.{HasStood}
 use Rattle.mj_debug.specs.Goes.{innermost, Comes, IsStop}
@@ -41,21 +35,10 @@ take_whole (x ∷ xs) = ap (λ l. x ∷ l) (take_whole xs)
 pub front_whole : (history : History) (place : ℕ) → place ≡ length history → take place history ≡ history
 front_whole history place end = ap (λ n. take n history) end ∙ take_whole history
 
-module _ (opening : Shared) (w : Walk) (job : ℕ) (found : Running)
-    (run : (row : Row) × (row_at (state_of opening w.core.history).rows job ≡ Some row) × IsRunOf w.core.image (start_in job row.start) found)
-    (log : found.run.log ≡ log_of job w.core.history) (a : Ask) (pending : found.run.pending ≡ Some a) where
-  -- a job that asks comes to its next ask where it stands
+module _ (opening : Shared) (w : Walk) (job : ℕ) (found : Running) (asks : IsAtAsk w.core.image opening w.core.history job found) where
+  -- a job that stands at its ask comes to its next ask there
   pub comes : Comes (routines_of w.core.image) opening w.core job (places found.run.at.state)
-  comes =
-      let row = run.0 in
-      let start = start_in job row.start in
-      let its = run.2.1 in
-      let asks = rw pending at its.asks in
-      let n = its.before + run.2.0 + 1 in
-      let one : next (routines_of w.core.image) start n (replies_of found.run.log ++ []) ≡ Needs a found.run.at.state.locals (places found.run.at.state) = sym (its.rest 1 []) ∙ asks.1 0 in
-      let two : next (routines_of w.core.image) start n (replies_of found.run.log) ≡ Needs a found.run.at.state.locals (places found.run.at.state) =
-      ap (λ (l : List Reply). next (routines_of w.core.image) start n l) (sym (append-nil (replies_of found.run.log))) ∙ one in
-      (row, run.1, (n, a, found.run.at.state.locals, ap (λ (l : Log). next (routines_of w.core.image) start n (replies_of l)) (sym log) ∙ two))
+  comes = (asks.row, asks.there, (asks.needs.0, asks.ask, found.run.at.state.locals, asks.needs.1))
 
   -- and whether that is one to stop at
   pub stop_is : (before : Running) → HasStood (routines_of w.core.image) opening w.core.history job before.run.at.state.locals (places before.run.at.state)

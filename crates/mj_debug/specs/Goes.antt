@@ -1,5 +1,5 @@
 -- Jobs that go on in turn, up to a breakpoint.
-use Rattle.std.specs.Prelude.{◌≡◌, ℕ, suc, ◌<◌, ◌≤◌, List, [], ◌∷◌, length, Bool, true, false, Option, Some, None, Result, Ok, Err, ◌⊎◌}
+use Rattle.std.specs.Prelude.{◌≡◌, ℕ, suc, ◌<◌, ◌≤◌, List, [], ◌∷◌, length, Bool, true, false, Option, Some, None, option_map, Result, Ok, Err, ◌⊎◌}
 use Rattle.mj_ask.specs.declared.ask.Ask.{Ask}
 use Rattle.mj_ast.specs.Syntax.{Routine}
 use Rattle.mj_semantics.specs.State.{Locals, Place}
@@ -42,6 +42,10 @@ abbrev pub Comes : List Routine → Shared → Shown → ℕ → List Place → 
 Comes image opening old job places =
     (row : Row) × (row_at (state_of opening old.history).rows job ≡ Some row)
     × ((n : ℕ) × (a : Ask) × (locals : Locals) × (next image (start_in job row.start) n (replies_of (log_of job old.history)) ≡ outcomes.Needs a locals places))
+
+-- a routine's name and the number of a line, if there is one
+abbrev pub line_in : Option (List ℕ × ℕ) → Option Place
+line_in line = option_map (λ l. record { routine = l.0; line = l.1 }) line
 
 -- the line of the innermost of these frames, if there is one
 abbrev pub innermost : List Place → Option Place

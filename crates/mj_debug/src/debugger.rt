@@ -4,15 +4,18 @@ ghost use Rattle.std.specs.Prelude.{◌≡◌, ◌≤◌, List, [], ◌∷◌, l
 ghost use Rattle.mj_dev.specs.Shelves.{principal, left_of};
 ghost use Rattle.mj_frames.specs.Frames.{frames_of, place_at};
 ghost use Rattle.mj_jobs.specs.Rows.{row_at, rows_limit};
-ghost use Rattle.mj_core.specs.Turn.TheVariants as turns;
+ghost use Rattle.mj_core.specs.Asking.{IsAtAsk, turn_of};
+ghost use Rattle.mj_core.specs.Jobs.{Running};
+ghost use Rattle.mj_core.specs.declared.seen.Ready.TheVariants as readies;
 ghost use Rattle.mj_load.specs.Image.{routines_of};
 ghost use Rattle.mj_semantics.specs.State as states;
+ghost use Rattle.mj_semantics.specs.State.{place_of};
 ghost use Rattle.mj_sys.specs.History.{state_of};
 ghost use Rattle.mj_sys.specs.Opening.{opening_of};
 ghost use Rattle.mj_sys.specs.Shared.{are_global};
 ghost use Rattle.mj_core.specs.Gives.{Gives};
 ghost use Rattle.mj_debug.specs.Breaks.{AreMarked, is_there};
-ghost use Rattle.mj_debug.specs.Goes.{GoGives, IsTurnOf, IsStop, IsUnasked, IsPassed};
+ghost use Rattle.mj_debug.specs.Goes.{GoGives, IsTurnOf, IsStop, IsUnasked, IsPassed, line_in};
 ghost use Rattle.mj_debug.specs.Replicas.{IsReplica, IsFull, IsUnshown};
 ghost use Rattle.mj_debug.specs.Shows.{HasStood};
 ghost use Rattle.mj_debug.specs.Walks.{front, AreWhole, StepGives, IsOn, GoesBack, GoesForth};
@@ -20,8 +23,8 @@ ghost use Rattle.mj_debug.specs.Walks.{front, AreWhole, StepGives, IsOn, GoesBac
 use crate::breaks::{Mark, is_breakpoint, put_mark};
 use crate::replica::{Kept, Replica, Unshown, bring, keep};
 use mj_ask::Start;
-use mj_core::jobvm::Turn;
-use mj_core::{Core, Refusal, Seen, Step, Way};
+use mj_core::jobvm::Job;
+use mj_core::{Core, Ready, Refusal, Seen, Step, Way};
 use mj_dev::{Device, Pool};
 use mj_frames::Frame;
 use mj_globs::Globals;
@@ -306,11 +309,14 @@ impl<D: Device, O: Opening> Debugger<D, O> {
         ensures ok { IfOk result (λ gone. GoGives O.opening self.old false gone self.new) }
         ensures err { OnErr result (self.new ≡ self.old) }
     {
-        if let Some(answer) = unasked(self.core.ready(job)) {
-            self.turn = job + 1;
-            return Ok(Gone::Step { job, answer });
-        }
-        if let Some((routine, line)) = self.stop(job)? {
+        let line = match asked(self.core.ready_job(job, line_of)) {
+            Ok(line) => line?,
+            Err(answer) => {
+                self.turn = job + 1;
+                return Ok(Gone::Step { job, answer });
+            }
+        };
+        if let Some((routine, line)) = self.stop(job, line) {
             self.turn = job;
             return Ok(Gone::At { job, routine, line });
         }
@@ -339,32 +345,27 @@ impl<D: Device, O: Opening> Debugger<D, O> {
         answer
     }
 
-    // The line from which the next ask of a job comes that asks, if that is one to stop at.
-    fn stop(&self, job: u32) -> Result<Option<(Text, u32)>, AllocError>
+    // The line from which a job comes to its next ask, if that is one to stop at.
+    fn stop(&self, job: u32, line: Option<(Text, u32)>) -> Option<(Text, u32)>
         requires end { self.now.place ≡ length self.now.core.history }
         requires ready { self.now.ready ≡ true }
-        ensures some { IfOk result (λ r. IfSome r (λ line. (outer : List states.Place) × IsStop O.opening self.now job (record { routine = line.0; line = line.1 } ∷ outer) true)) }
-        ensures none { IfOk result (λ r. IfNone r ((places : List states.Place) × IsStop O.opening self.now job places false)) }
+        requires asks { (found : Running) × IsAtAsk self.now.core.image O.opening self.now.core.history job found × (line_in line ≡ place_of found.run.at.state) }
+        ensures some { IfSome result (λ line. (outer : List states.Place) × IsStop O.opening self.now job (record { routine = line.0; line = line.1 } ∷ outer) true) }
+        ensures none { IfNone result ((places : List states.Place) × IsStop O.opening self.now job places false) }
     {
-        let Some(now) = self.core.job(job) else {
-            return Err(AllocError);
-        };
-        let Some(_) = now.ask() else {
-            return Err(AllocError);
-        };
         let Some(then) = self.shown().job(job) else {
             unreachable!();
         };
-        let Some((routine, line)) = now.place() else {
-            return Ok(None);
+        let Some((routine, line)) = line else {
+            return None;
         };
-        if !is_breakpoint(self.core.image(), &self.marks, routine, line) {
-            return Ok(None);
+        if !is_breakpoint(self.core.image(), &self.marks, &routine, line) {
+            return None;
         }
-        if is_at(then.place(), routine, line) {
-            return Ok(None);
+        if is_at(then.place(), &routine, line) {
+            return None;
         }
-        Ok(Some((routine.try_clone()?, line)))
+        Some((routine, line))
     }
 
     // The run played again up to the place.
@@ -381,16 +382,26 @@ impl<D: Device, O: Opening> Debugger<D, O> {
     }
 }
 
-// What a step comes to of a job that was let go on and doesn't come to an ask.
-fn unasked(turn: Result<Turn, Refusal>) -> Option<Result<Seen, Refusal>>
-    ensures some { IfSome result (λ answer. IsUnasked turn answer) }
-    ensures none { IfNone result (turn ≡ Ok turns.Asks) }
+// What was seen of a job that was let go on and asks, or what the step comes to of one that doesn't.
+fn asked<R>(ready: Result<Ready<R>, Refusal>) -> Result<R, Result<Seen, Refusal>>
+    ensures asks { IfOk result (λ seen. ready ≡ Ok (readies.Asks seen)) }
+    ensures answer { IfErr result (λ answer. IsUnasked (turn_of ready) answer) }
 {
-    match turn {
-        Ok(Turn::Asks) => None,
-        Ok(Turn::Ran) => Some(Ok(Seen::Ran)),
-        Ok(Turn::Ended) => Some(Ok(Seen::Ended)),
-        Err(why) => Some(Err(why)),
+    match ready {
+        Ok(Ready::Asks(seen)) => Ok(seen),
+        Ok(Ready::Ran) => Err(Ok(Seen::Ran)),
+        Ok(Ready::Ended) => Err(Ok(Seen::Ended)),
+        Err(why) => Err(Err(why)),
+    }
+}
+
+// A copy of the line where a job stands, if it has a frame.
+fn line_of(job: &Job) -> Result<Option<(Text, u32)>, AllocError>
+    ensures { IfOk result (λ line. line_in line ≡ place_of job.now.run.at.state) }
+{
+    match job.place() {
+        None => Ok(None),
+        Some((routine, line)) => Ok(Some((routine.try_clone()?, line))),
     }
 }
 
