@@ -9,11 +9,11 @@ use Rattle.mj_lex.specs.Seen.{token_seen}
 use Rattle.mj_ast.specs.Syntax.{Expr, Operand, Variable, Exprs, Tails, No, About, Select, Choices, Before, Var}
 use Rattle.mj_ast.specs.Trees.{operand_of, expr_of, variable_of, choice_of, tails_of, exprs_of}
 use Rattle.mj_expr.specs.Lists.{behind_list}
-use Rattle.mj_expr.specs.Machine.{State, Sought, Marked, Named, Right, Subscripts, Arguments, InList, InCondition, InChoice, Held, Wanted, Calling, Behind, AsNamed, held, placed, filled, and_pair, before_choices, run, refused_in, most_of, least_of}
+use Rattle.mj_expr.specs.Machine.{State, Sought, Marked, Named, Right, Subscripts, Arguments, InList, InChoice, Held, Wanted, Calling, Behind, AsNamed, held, placed, filled, and_pair, before_choices, run, refused_in, most_of, least_of}
 use Rattle.mj_expr.specs.declared.token.Head.{Head}
 use Rattle.mj_expr.specs.Reads.{limits, symbols_seen, least_in, most_in, limited_in, IsHead, BeginsNone}
 use Rattle.mj_expr.proofs.Made.{expr_made, variable_made, call_made, others_made, variable_count, tails_push, exprs_push, count_exprs}
-use Rattle.mj_expr.proofs.Steps.{named_ends, comma_goes, comma_over, close_goes, list_refuses, few_refuses, kind_least, kind_most, kind_limited, behind_pushed, reads_from, reads_err, refuses_from, binary_goes, open_goes, call_goes, choice_goes, choice_refuses, before_pair, value_read, kind_full, about_bare, about_closes, about_goes}
+use Rattle.mj_expr.proofs.Steps.{named_ends, comma_goes, comma_over, close_goes, list_refuses, few_refuses, kind_least, kind_most, kind_limited, behind_pushed, reads_from, reads_err, refuses_from, binary_goes, open_goes, call_goes, choice_goes, before_pair, kind_full, about_bare, about_closes, about_goes}
 use Rattle.mj_expr.proofs.Facts.{none_refuses}
 use Rattle.mj_expr.proofs.Zipper.{levels_some}
 use Rattle.mj_expr.proofs.read.+parse.Goals as goal
