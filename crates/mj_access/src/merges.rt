@@ -1,13 +1,15 @@
 // What MERGE takes from a variable, and puts to another.
 
-ghost use Rattle.std.specs.Prelude.{◌≡◌, ◌+◌, ◌<◌, ◌^◌, [], true, false, IfOk, OnErr, ◌≤◌, length};
+ghost use Rattle.std.specs.Prelude.{◌≡◌, ◌+◌, ◌<◌, ◌^◌, [], true, false, IfOk, OnErr, ◌≤◌, length, drop};
 ghost use Rattle.mj_store.specs.declared.access.Access.TheVariants as accesses;
 ghost use Rattle.mj_semantics.specs.Outcome as told;
+ghost use Rattle.mj_semantics.specs.Evaluation.{name_of};
 ghost use Rattle.mj_semantics.specs.Accesses.{access, answer_told, nodes_told};
 ghost use Rattle.mj_semantics.specs.State.{hold};
 ghost use Rattle.mj_access.specs.Answers as answers;
 ghost use Rattle.mj_pcode.specs.declared.instr.Instr.TheVariants as instrs;
-ghost use Rattle.mj_machine.specs.Kept.{DidAlone, Does, DoesAlone, Obeys, Stays, without, replied};
+ghost use Rattle.mj_pcode.specs.Machine.{operands};
+ghost use Rattle.mj_machine.specs.Kept.{stack_of, DidAlone, Does, DoesAlone, Obeys, Stays, without, replied};
 
 use crate::changes::reply_done;
 use crate::globals::{ask, at_hand};
@@ -40,17 +42,63 @@ pub fn take(
         Ok(name) => name,
         Err(fault) => return Ok(fail(fault, machine)),
     };
-    let target = match name_below(alloc, into, machine, from.count, 0)? {
+    match refusal(alloc, into, machine, from.count, &source) {
+        Ok(None) => take_named(alloc, pc, from.count, source, machine, given),
+        Ok(Some(fault)) => {
+            drop(source);
+            Ok(fail(fault, machine))
+        }
+        Err(refused) => {
+            drop(source);
+            Err(refused)
+        }
+    }
+}
+
+// Why nodes can't go from a variable to the one whose subscripts lie below so many operands, if they can't.
+fn refusal(
+    alloc: Global,
+    into: &Reference,
+    machine: &Machine,
+    above: usize,
+    source: &Name,
+) -> Result<Option<Fault>, AllocError>
+    requires { above + into.now.count ≤ length machine.now.stack.items }
+    ensures { IfOk result (λ r. r ≡ answers.refusal (name_of into.now.scope into.now.word (operands into.now.count (drop above (stack_of machine.now)))) source.now) }
+{
+    let target = match name_below(alloc, into, machine, above, 0)? {
         Ok(name) => name,
-        Err(fault) => return Ok(fail(fault, machine)),
+        Err(fault) => return Ok(Some(fault)),
     };
-    if target.overlap(&source) {
-        return Ok(fail(Fault::Overlap, machine));
+    let fault = if target.overlap(source) {
+        Some(Fault::Overlap)
+    } else {
+        None
+    };
+    drop(target);
+    Ok(fault)
+}
+
+// What stands at a name and below it is taken in hand.
+fn take_named(
+    alloc: Global,
+    pc: usize,
+    count: usize,
+    name: Name,
+    machine: &mut Machine,
+    given: Option<&Reply>,
+) -> Result<Step, AllocError>
+    requires next { pc + 1 < 2 ^ 64 }
+    requires enough { count ≤ length machine.old.stack.items }
+    ensures ok { IfOk result (λ step. Does (λ next. access (accesses.Subtree name) (λ a. told.change (hold (nodes_told a)) (without machine.old pc count next))) machine.old (replied given.entry) step machine.new) }
+    ensures err { OnErr result (Stays machine.old machine.new) }
+{
+    if name.is_global() {
+        return take_global(alloc, pc, count, name, machine, given);
     }
-    if source.is_global() {
-        return take_global(alloc, pc, from.count, source, machine, given);
-    }
-    take_local(pc, from.count, &source, machine)
+    let step = take_local(pc, count, &name, machine);
+    drop(name);
+    step
 }
 
 fn take_local(

@@ -50,24 +50,42 @@ pub fn renew(
     };
     let arguments = stack::below_both(&machine.stack, depth.above, 0, count);
     match range_of(alloc, arguments) {
-        Err(failure) => match failure {
-            Failure::Fault(fault) => {
-                machine.control = Control::Faulted(fault);
-                Ok(Step::Next)
+        Err(failure) => {
+            drop(name);
+            match failure {
+                Failure::Fault(fault) => {
+                    machine.control = Control::Faulted(fault);
+                    Ok(Step::Next)
+                }
+                Failure::Memory => Err(AllocError),
             }
-            Failure::Memory => Err(AllocError),
-        },
+        }
         Ok(None) => {
+            drop(name);
             stack::take_off(&mut machine.stack, depth.taken);
             machine.control = Control::At(pc + 2);
             Ok(Step::Next)
         }
-        Ok(Some(range)) => {
-            let none = Text::new(alloc);
-            let separator = needed(arguments, 0, &none).try_clone()?;
-            renew_range(alloc, pc, name, &separator, range, machine, given)
-        }
+        Ok(Some(range)) => match separator_of(alloc, arguments) {
+            Ok(separator) => {
+                let step = renew_range(alloc, pc, name, &separator, range, machine, given);
+                drop(separator);
+                step
+            }
+            Err(refused) => {
+                drop(name);
+                Err(refused)
+            }
+        },
     }
+}
+
+// What lies between the pieces, by the arguments.
+fn separator_of(alloc: Global, arguments: &[Text]) -> Result<Text, AllocError>
+    ensures { IfOk result (λ separator. separator ≡ needed_of 0 arguments.now) }
+{
+    let none = Text::new(alloc);
+    needed(arguments, 0, &none).try_clone()
 }
 
 // Which pieces the arguments mean, if any.

@@ -3,9 +3,10 @@
 ghost use Rattle.std.specs.Prelude.{◌≡◌, ◌<◌, ◌≤◌, ◌+◌, ℕ, List, false, length, IfOk};
 ghost use Rattle.mj_ast.specs.declared.expr.Scope.{Scope};
 ghost use Rattle.mj_ast.specs.declared.function.NameFunction.{NameFunction as NameFunctionOf};
-ghost use Rattle.mj_ast.specs.Syntax.{No, More, Group, About, Select, Variable as VariableOf};
+ghost use Rattle.mj_ast.specs.Syntax.{No, More, Group, About, Select, Variable as VariableOf, Expr as ExprOf};
 ghost use Rattle.mj_ast.specs.Trees.{operand_of, expr_of, variable_of, exprs_of, choice_of};
-ghost use Rattle.mj_expr.specs.Machine.{Outer, Owner, Within, Place, Pairs, AsNamed, Front, InGroup, InList, InOther, InCondition, Wanted, Sought, Marked, Named, Calling, before_choices, filled, placed, closed, held, outer_depth, owner_depth, depth_of, place_depth, outer_of, is_full, is_full_in};
+ghost use Rattle.mj_expr.specs.Machine.{Outer, Owner, Within, Place, Pairs, AsNamed, Front, InGroup, InList, InOther, InCondition, InChoice, Wanted, Sought, Marked, Named, Calling, before_choices, filled, placed, closed, held, outer_depth, owner_depth, depth_of, place_depth, outer_of, is_full, is_full_in};
+ghost use Rattle.mj_expr.specs.Lists.{choices_of};
 ghost use Rattle.mj_expr.specs.Reads.{symbols_seen, limits, Reads, HasNoBinary, kind_of};
 
 use crate::list::added;
@@ -155,32 +156,64 @@ fn choices<'a, 't>(
     ensures reads { (before : Pairs) → (c : Within) → (d : ℕ) → depth_of c + 1 + room ≡ d → Reads (λ x. choice_of x.0) (λ x. x.1.now) result d tokens.now (Wanted (Front (InCondition before c))) (λ x. filled (Select (before_choices before x)) c) }
 {
     let (condition, rest) = expr(alloc, tokens, room, false)?;
-    let Some(rest) = behind_colon(rest) else {
-        return Err(refusal(rest, false));
-    };
-    let (value, rest) = expr(alloc, rest, room, false)?;
-    if let Some(behind) = behind_comma(rest) {
-        let (others, rest) = choices(alloc, behind, room)?;
-        let others = Some(Box::new(alloc, others)?);
-        return Ok((
+    match chosen(alloc, rest, room) {
+        Ok((value, others, rest)) => Ok((
             Choice {
                 condition,
                 value,
                 others,
             },
             rest,
-        ));
-    }
-    match behind_close(rest) {
-        Some(rest) => Ok((
-            Choice {
-                condition,
-                value,
-                others: None,
-            },
-            rest,
         )),
-        None => Err(refusal(rest, false)),
+        Err(stop) => {
+            drop(condition);
+            Err(stop)
+        }
+    }
+}
+
+/// The value behind a condition and the choices behind that, and the tokens behind the closing parenthesis.
+#[cycle(parse)]
+fn chosen<'a, 't>(
+    alloc: Global,
+    tokens: &'t [Lexeme<'a>],
+    room: usize,
+) -> Result<(Expr, Option<Box<Choice>>, &'t [Lexeme<'a>]), Stop>
+    requires { HasNoBinary (symbols_seen tokens.now) }
+    ensures shorter { IfOk result (λ x. length x.2.now < length tokens.now) }
+    ensures reads { (before : Pairs) → (a : ExprOf) → (c : Within) → (d : ℕ) → depth_of c + 1 + room ≡ d → Reads (λ x. choices_of a (expr_of x.0) x.1) (λ x. x.2.now) result d tokens.now (held a (InCondition before c)) (λ x. filled (Select (before_choices before x)) c) }
+{
+    let Some(rest) = behind_colon(tokens) else {
+        return Err(refusal(tokens, false));
+    };
+    let (value, rest) = expr(alloc, rest, room, false)?;
+    match others(alloc, rest, room) {
+        Ok((others, rest)) => Ok((value, others, rest)),
+        Err(stop) => {
+            drop(value);
+            Err(stop)
+        }
+    }
+}
+
+/// The choices behind a condition and its value, if there are any, and the tokens behind the closing parenthesis.
+#[cycle(parse)]
+fn others<'a, 't>(
+    alloc: Global,
+    tokens: &'t [Lexeme<'a>],
+    room: usize,
+) -> Result<(Option<Box<Choice>>, &'t [Lexeme<'a>]), Stop>
+    requires { HasNoBinary (symbols_seen tokens.now) }
+    ensures shorter { IfOk result (λ x. length x.1.now < length tokens.now) }
+    ensures reads { (before : Pairs) → (a v : ExprOf) → (c : Within) → (d : ℕ) → depth_of c + 1 + room ≡ d → Reads (λ x. choices_of a v x.0) (λ x. x.1.now) result d tokens.now (held v (InChoice before a c)) (λ x. filled (Select (before_choices before x)) c) }
+{
+    if let Some(behind) = behind_comma(tokens) {
+        let (others, rest) = choices(alloc, behind, room)?;
+        return Ok((Some(Box::new(alloc, others)?), rest));
+    }
+    match behind_close(tokens) {
+        Some(rest) => Ok((None, rest)),
+        None => Err(refusal(tokens, false)),
     }
 }
 

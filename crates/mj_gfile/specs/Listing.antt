@@ -3,7 +3,7 @@ use Rattle.std.specs.Prelude.{T, ◌≡◌, ◌↔◌, ℕ, suc, Bool, true, fal
 use Rattle.std.specs.Option.{option_map}
 use Rattle.std.specs.List.{list_all}
 use Rattle.std.specs.Str.{bytes_eq}
-use Rattle.std.specs.FinMap.{is_sorted}
+use Rattle.std.specs.FinMap.{is_sorted, put}
 use Rattle.std.specs.Ordering.{is_lt}
 use Rattle.mj_text.specs.declared.text.TheConstants.{TEXT_LIMIT}
 use Rattle.mj_subs.specs.Name.{Name, is_word}
@@ -149,3 +149,8 @@ pub record AreGlobals (content : Content) : Type 0 where
 -- r is what the bytes list: it is some globals exactly where the bytes are the listing of these
 pub record IsReading (bs : List ℕ) (r : Result Content ReadError) : Type 0 where
   pub lists : (content : Content) → (r ≡ Ok content) ↔ ((bs ≡ listing_of content) × AreGlobals content)
+
+-- line k, behind one with this name, says a name with its text, which are put to the globals, and the name is the last one then
+abbrev pub IsPut : Option Name → ℕ → List ℕ → Content → Option Name → Content → Type 0
+IsPut last k line c new d =
+    (n : Name) × (t : List ℕ) × (judged last k (line_of line) ≡ Ok (n, t)) × (new ≡ Some n) × (d ≡ put name_cmp n t c)

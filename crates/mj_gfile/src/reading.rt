@@ -1,17 +1,19 @@
 // Listings are read.
 
-ghost use Rattle.std.specs.Prelude.{◌≡◌, ◌+◌, ◌<◌, ◌^◌, ◌⊎◌, true, None, length, IfOk, IfErr, Ok, Err};
+ghost use Rattle.std.specs.Prelude.{◌≡◌, ◌+◌, ◌<◌, ◌^◌, ◌⊎◌, [], true, None, length, IfOk, IfErr, Ok, Err};
 ghost use Rattle.std.specs.List.{list_all};
 ghost use Rattle.mj_gfile.specs.declared.error.ReadError.TheVariants as error;
 ghost use Rattle.mj_store.specs.Questions.{Content};
 ghost use Rattle.mj_gfile.specs.Spelling.{listing_of};
-ghost use Rattle.mj_gfile.specs.Listing.{AreGlobals, lines_of, nodes_of, reading_of};
+ghost use Rattle.mj_gfile.specs.Reading.{line_of};
+ghost use Rattle.mj_gfile.specs.Listing.{AreGlobals, IsPut, judged, lines_of, nodes_of, reading_of};
 
 use crate::HEADER;
 use crate::error::ReadError;
 use crate::line::{read_node, split_line};
 use mj_globs::Globals;
 use mj_store::Store;
+use mj_subs::Name;
 use std::alloc::Global;
 
 /// The globals that some bytes list. A listing of globals is refused for want of memory alone, and anything else by the first line that is
@@ -48,18 +50,66 @@ fn read_nodes(alloc: Global, bytes: &[u8]) -> Result<Globals, ReadError>
 {
     let mut globals = Globals::new(alloc);
     let mut last = None;
+    let read = put_nodes(alloc, bytes, &mut globals, &mut last);
+    drop(last);
+    match read {
+        Ok(()) => Ok(globals),
+        Err(error) => {
+            drop(globals);
+            Err(error)
+        }
+    }
+}
+
+// What these lines list is put to the globals, where there is nothing yet; `last` is the name in the last line that was read.
+fn put_nodes(
+    alloc: Global,
+    bytes: &[u8],
+    globals: &mut Globals,
+    last: &mut Option<Name>,
+) -> Result<(), ReadError>
+    requires long { length bytes.now + 2 < 2 ^ 64 }
+    requires globals { globals.old ≡ [] }
+    requires last { last.old ≡ None }
+    ensures ok { IfOk result (λ u. nodes_of None 2 (lines_of bytes.now) ≡ Ok globals.new) }
+    ensures err { IfErr result (λ e. (e ≡ error.Memory) ⊎ (nodes_of None 2 (lines_of bytes.now) ≡ Err e)) }
+{
     let mut number = 2;
     let mut rest = bytes;
     while let Some((line, behind)) = split_line(rest) {
-        let (name, text) = read_node(alloc, line, number, last.as_ref())?;
-        globals.set(&name, &text)?;
-        last = Some(name);
+        put_node(alloc, line, number, globals, last)?;
         number += 1;
         rest = behind;
     }
     if rest.is_empty() {
-        Ok(globals)
+        Ok(())
     } else {
         Err(ReadError::Line(number))
+    }
+}
+
+// What one line more lists is put to the globals, and its name is the last one.
+fn put_node(
+    alloc: Global,
+    line: &[u8],
+    number: usize,
+    globals: &mut Globals,
+    last: &mut Option<Name>,
+) -> Result<(), ReadError>
+    ensures ok { IfOk result (λ u. IsPut last.old number line.now globals.old last.new globals.new) }
+    ensures err { IfErr result (λ e. (e ≡ error.Memory) ⊎ (judged last.old number (line_of line.now) ≡ Err e)) }
+{
+    let (name, text) = read_node(alloc, line, number, last.as_ref())?;
+    let put = globals.set(&name, &text);
+    drop(text);
+    match put {
+        Ok(()) => {
+            drop(last.replace(name));
+            Ok(())
+        }
+        Err(_) => {
+            drop(name);
+            Err(ReadError::Memory)
+        }
     }
 }

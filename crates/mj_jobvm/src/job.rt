@@ -141,7 +141,7 @@ impl Job {
             match went {
                 Went::On => {}
                 Went::Asks(ask) => {
-                    self.pending = Some(Box::into_inner(ask));
+                    wait(&mut self.pending, ask);
                     return Ok(Turn::Asks);
                 }
                 Went::Over => return Ok(Turn::Ended),
@@ -239,6 +239,13 @@ fn opening(alloc: Global, job: u32) -> Machine
         replied: 0,
         held: Nodes::new(alloc),
     }
+}
+
+// An ask waits for its reply. What waited before, which is nothing, goes to `drop`: an assignment would drop an ask with all its parts here.
+fn wait(pending: &mut Option<Ask>, ask: Box<Ask>)
+    ensures { pending.new ≡ Some ask.value }
+{
+    drop(pending.replace(Box::into_inner(ask)));
 }
 
 // A turn, with the last reply of the log, if it is still to be taken.

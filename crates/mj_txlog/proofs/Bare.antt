@@ -1,5 +1,5 @@
 -- Subscripts below which nothing of the globals is left.
-use Rattle.std.proofs.Common.{◌≡◌, ℕ, Bool, true, false, cond, List, [], ◌∷◌, ◌++◌, length, take, drop, ◌+◌, ◌<◌, Option, Some, None, ◌⊎◌, inl, inr, refl, sym, ap, ◌∙◌, subst, append_assoc}
+use Rattle.std.proofs.Common.{◌≡◌, ℕ, Bool, true, false, cond, List, [], ◌∷◌, ◌++◌, length, take, drop, ◌+◌, ◌<◌, Option, Some, None, inl, inr, refl, sym, ap, ◌∙◌, subst, append_assoc}
 use Rattle.std.proofs.lemmas.List.{take_more, take-append-drop}
 use Rattle.std.specs.Prelude.{get_or}
 use Rattle.std.specs.Ordering.{is_lt}
@@ -14,10 +14,10 @@ use Rattle.mj_store.specs.Questions.{Content, with_subscripts, value_at, order_a
 use Rattle.mj_store.specs.Changes.{followed_by}
 use Rattle.mj_txlog.specs.Accesses.{Accesses, seen}
 use Rattle.mj_txlog.specs.Laid.{Laid, IsLaid, went}
-use Rattle.mj_txlog.specs.Skips.{IsBare, AreAllBare, AreBare, AreBareAlong, IsJump, IsFar, AreSkips, Joins}
+use Rattle.mj_txlog.specs.Skips.{IsBare, AreAllBare, AreBare, IsJump, IsFar, AreSkips}
 use Rattle.mj_txlog.proofs.Firsts.{lt_not, not_before, not_both, only_next, next_like}
 use Rattle.mj_txlog.proofs.Passing.{run_bare}
-use Rattle.mj_txlog.proofs.Stands.{stands, level, stands_from, stands_to, own_stands, other_text, along_total, along_same, is_past, is_as, order_next}
+use Rattle.mj_txlog.proofs.Stands.{level, stands_from, stands_to, own_stands, other_text, along_total, along_same, is_past, is_as, order_next}
 
 -- one subscript, and more
 one_more : (f : Name) (u : List ℕ) (b : List (List ℕ)) → followed_by (followed_by f (u ∷ [])) b ≡ followed_by f (u ∷ b)

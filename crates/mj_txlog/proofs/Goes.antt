@@ -1,5 +1,5 @@
 -- Runs that were passed over stay so as own writes are made: what went doesn't come back.
-use Rattle.std.proofs.Common.{◌≡◌, ℕ, List, [], ◌∷◌, ◌++◌, Result, Ok, Err, refl, sym, ap, ◌∙◌, subst}
+use Rattle.std.proofs.Common.{◌≡◌, [], ◌∷◌, ◌++◌, Result, Ok, Err, refl, sym, ap, ◌∙◌, subst}
 use Rattle.std.specs.Prelude.{OnOk, OnErr}
 use Rattle.std.specs.List.{fold}
 use Rattle.mj_store.specs.Questions.{Content}
@@ -9,7 +9,7 @@ use Rattle.mj_store.specs.declared.access.Answer.{Answer}
 use Rattle.mj_store.specs.declared.access.Answer.TheVariants as answer
 use Rattle.mj_txlog.specs.declared.entry.Entry.{Entry}
 use Rattle.mj_txlog.specs.declared.entry.Entry.TheVariants as entry
-use Rattle.mj_txlog.specs.Accesses.{Accesses, Transaction, with_entry, with_reply}
+use Rattle.mj_txlog.specs.Accesses.{Accesses, Transaction, with_reply}
 use Rattle.mj_txlog.specs.Laid.{Laid, laid_more}
 use Rattle.mj_store.specs.Changes.{followed_by}
 use Rattle.mj_txlog.specs.Skips.{gone_more, gone_by, AreSkips, front}

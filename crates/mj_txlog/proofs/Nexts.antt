@@ -14,6 +14,9 @@ use Rattle.mj_txlog.specs.Laid.{Laid, IsLaid, is_before}
 use Rattle.mj_txlog.proofs.Firsts.{IsNext, IsPast, none_past, only_next, own_alone, own_first, other_first, passed, past_on, not_both, lt_not, second_true}
 use Rattle.mj_txlog.specs.Sight.{AreAlike}
 use Rattle.mj_txlog.specs.Skips.{IsBare, AreBareAlong, IsJump}
+use Rattle.mj_txlog.specs.declared.next.Step.{Step}
+use Rattle.mj_txlog.specs.declared.next.Step.TheVariants as step
+use Rattle.mj_txlog.specs.Steps.{IsStep, IsFound}
 use Rattle.mj_txlog.proofs.Bare.{left_own, nothing_bare}
 use Rattle.mj_txlog.proofs.Looks.{subtree_alike}
 use Rattle.mj_txlog.proofs.Sorted.{rises_seen}
@@ -43,17 +46,25 @@ module _ (o : Laid) (es : Accesses) (laid : IsLaid o es) (g : Content) (f : Name
   other_next : (r : Option (List ℕ)) → r ≡ order_at g (followed_by f (t ∷ [])) way → IsNext (along way subscript_cmp) (level g f) (is_past way t) r
   other_next r e = subst (λ (x : Option (List ℕ)). IsNext (along way subscript_cmp) (level g f) (is_past way t) x) (sym e) (order_next g f t way)
 
-  pub own_only : (r : Option (List ℕ)) → r ≡ order_at o.over (followed_by f (s ∷ [])) way → None ≡ order_at g (followed_by f (t ∷ [])) way → r ≡ order_at (seen g es) (followed_by f (s ∷ [])) way
+  own_only : (r : Option (List ℕ)) → r ≡ order_at o.over (followed_by f (s ∷ [])) way → None ≡ order_at g (followed_by f (t ∷ [])) way → r ≡ order_at (seen g es) (followed_by f (s ∷ [])) way
   own_only r e none =
       the_next r
       (own_alone (along way subscript_cmp) (along_total way) (along_same way) (is_past way s) (is_past way t) (level o.over f) (level g f) (level (seen g es) f) up down past r (other_next None none) (own_next r e))
 
-  pub own_sooner : (r : Option (List ℕ)) (u : List ℕ) → r ≡ order_at o.over (followed_by f (s ∷ [])) way → Some u ≡ order_at g (followed_by f (t ∷ [])) way → is_before (along way subscript_cmp) u r ≡ false → r ≡ order_at (seen g es) (followed_by f (s ∷ [])) way
+  own_sooner : (r : Option (List ℕ)) (u : List ℕ) → r ≡ order_at o.over (followed_by f (s ∷ [])) way → Some u ≡ order_at g (followed_by f (t ∷ [])) way → is_before (along way subscript_cmp) u r ≡ false → r ≡ order_at (seen g es) (followed_by f (s ∷ [])) way
   own_sooner r u e k b =
       the_next r
       (own_first (along way subscript_cmp) (along_total way) (along_same way) (is_past way s) (is_past way t) (level o.over f) (level g f) (level (seen g es) f) up down past u r (other_next (Some u) k) (own_next r e) b)
 
-  pub other_sooner : (r : Option (List ℕ)) (u : List ℕ) → r ≡ order_at o.over (followed_by f (s ∷ [])) way → Some u ≡ order_at g (followed_by f (t ∷ [])) way → is_before (along way subscript_cmp) u r ≡ true → stands (seen g es) (followed_by f (u ∷ [])) ≡ true → Some u ≡ order_at (seen g es) (followed_by f (s ∷ [])) way
+  -- the own one is, where none of the globals comes before it
+  own_here : (r : Option (List ℕ)) → r ≡ order_at o.over (followed_by f (s ∷ [])) way → ((u : List ℕ) → order_at g (followed_by f (t ∷ [])) way ≡ Some u → is_before (along way subscript_cmp) u r ≡ false) → r ≡ order_at (seen g es) (followed_by f (s ∷ [])) way
+  own_here r e h =
+      elim (order_at g (followed_by f (t ∷ [])) way) as (λ x. order_at g (followed_by f (t ∷ [])) way ≡ x → r ≡ order_at (seen g es) (followed_by f (s ∷ [])) way) [
+        | None ↦ λ k. own_only r e (sym k)
+        | Some u ↦ λ k. own_sooner r u e (sym k) (h u k)
+      ] refl
+
+  other_sooner : (r : Option (List ℕ)) (u : List ℕ) → r ≡ order_at o.over (followed_by f (s ∷ [])) way → Some u ≡ order_at g (followed_by f (t ∷ [])) way → is_before (along way subscript_cmp) u r ≡ true → stands (seen g es) (followed_by f (u ∷ [])) ≡ true → Some u ≡ order_at (seen g es) (followed_by f (s ∷ [])) way
   other_sooner r u e k b there =
       the_next (Some u)
       (other_first (along way subscript_cmp) (along_total way) (along_same way) (is_past way s) (is_past way t) (level o.over f) (level g f) (level (seen g es) f) up down past u r (other_next (Some u) k) (own_next r e) b there)
@@ -69,20 +80,21 @@ module _ (o : Laid) (es : Accesses) (laid : IsLaid o es) (g : Content) (f : Name
       (λ v above below. bare_own v (jump.bare v above below))
       (λ v x y. past_on (along way subscript_cmp) (along_total way) (along_same way) (is_empty s) s u v x y))
 
-  -- from what was passed last to what is passed next
-  pub joins_on : (u d : List ℕ) → Some u ≡ order_at g (followed_by f (t ∷ [])) way → IsBare g o.gone f t → IsJump g o.gone f way u d → AreBareAlong g o.gone f way t d
-  joins_on u d k here jump v above below =
-      elim (is_lt (along way subscript_cmp v u)) as (λ b. is_lt (along way subscript_cmp v u) ≡ b → IsBare g o.gone f v) [
-        | false ↦ λ e. jump.bare v e below
-        | true ↦ λ e. elim (lt_not (along way subscript_cmp) (along_total way) (along_same way) v t above) [
-          | inl same ↦ subst (IsBare g o.gone f) (sym same) here
-          | inr past ↦ nothing_bare g o.gone f v
-              (elim (level g f v) as (λ b. level g f v ≡ b → b ≡ false) [
-                | false ↦ λ n. refl
-                | true ↦ λ n. not_both (is_lt (along way subscript_cmp v u)) e ((other_next (Some u) k).2 v n (second_true (is_empty t) (is_lt (along way subscript_cmp t v)) past))
-              ] refl)
-        ]
-      ] refl
+-- from what was passed last to what is passed next
+pub joins_on : (o : Laid) (es : Accesses) (laid : IsLaid o es) (g : Content) (f : Name) (way : Direction) (t u d : List ℕ) → Some u ≡ order_at g (followed_by f (t ∷ [])) way → IsBare g o.gone f t → IsJump g o.gone f way u d → AreBareAlong g o.gone f way t d
+joins_on o es laid g f way t u d k here jump v above below =
+    let next = other_next o es laid g f way t t (none_passed o.over g (seen g es) f way t) (Some u) k in
+    elim (is_lt (along way subscript_cmp v u)) as (λ b. is_lt (along way subscript_cmp v u) ≡ b → IsBare g o.gone f v) [
+      | false ↦ λ e. jump.bare v e below
+      | true ↦ λ e. elim (lt_not (along way subscript_cmp) (along_total way) (along_same way) v t above) [
+        | inl same ↦ subst (IsBare g o.gone f) (sym same) here
+        | inr past ↦ nothing_bare g o.gone f v
+            (elim (level g f v) as (λ b. level g f v ≡ b → b ≡ false) [
+              | false ↦ λ n. refl
+              | true ↦ λ n. not_both (is_lt (along way subscript_cmp v u)) e (next.2 v n (second_true (is_empty t) (is_lt (along way subscript_cmp t v)) past))
+            ] refl)
+      ]
+    ] refl
 
 -- $ORDER of a store that is as what is seen, at a name and below it
 pub copied_order : (f : Name) (s : List ℕ) (way : Direction) (below g : Content) (es : Accesses) → T (is_sorted name_cmp below) → T (is_sorted name_cmp g) → AreAlike f below (seen g es) → order_at below (followed_by f (s ∷ [])) way ≡ order_at (seen g es) (followed_by f (s ∷ [])) way
@@ -102,3 +114,11 @@ said c n b e = sym (data_stands c n ∙ e)
 
 pub told : (c : Content) (n : Name) (b r : Bool) → r ≡ not (nat_eq (data_at c n) 0) → r ≡ b → stands c n ≡ b
 told c n b r e k = sym (data_stands c n) ∙ sym e ∙ k
+
+-- what a step came to, from where all that was passed over is to be seen only where an own text is
+pub found_next : (o : Laid) (g : Content) (f : Name) (way : Direction) (s t : List ℕ) → ((es : Accesses) → IsLaid o es → ArePassed o.over g (seen g es) f way s t) → (mine : Option (List ℕ)) → mine ≡ order_at o.over (followed_by f (s ∷ [])) way → (step : Step) (d : List ℕ) → IsStep g o f way mine t step d → IsFound g o f s way mine step
+found_next o g f way s t past mine e step.Own d h = λ es laid. own_here o es laid g f way s t (past es laid) mine e h
+found_next o g f way s t past mine e (step.Other u) d h = λ es laid.
+    other_sooner o es laid g f way s t (past es laid) mine u e (sym h.0) h.1 (told (seen g es) (followed_by f (u ∷ [])) true true (sym (h.2 es laid)) refl)
+found_next o g f way s t past mine e step.Passed d h = tt
+found_next o g f way s t past mine e step.Unclear d h = tt

@@ -3,3 +3,4 @@ pub mod Sight
 pub mod Skips
 pub mod Laid
 pub mod Walks
+pub mod Steps

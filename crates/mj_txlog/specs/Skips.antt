@@ -1,5 +1,5 @@
 -- What the reads of a transaction have passed over: runs of subscripts below names, of which nothing in the globals is to be seen.
-use Rattle.std.specs.Prelude.{◌≡◌, ℕ, false, cond, List, [], ◌∷◌, Option, Some, None}
+use Rattle.std.specs.Prelude.{◌≡◌, ℕ, false, cond, List, [], ◌∷◌, Some, None}
 use Rattle.std.specs.List.{fold}
 use Rattle.std.specs.Ordering.{is_lt}
 use Rattle.mj_subs.specs.Name.{Name}

@@ -4,7 +4,7 @@
 // own kills, the first is the answer. One of the globals below which nothing is left is passed over, whatever stood below it, and with it all that
 // reads before it passed over on from there (`skips.rt`).
 
-ghost use Rattle.std.specs.Prelude.{◌≡◌, ◌∷◌, [], true, not, nat_eq, nat_lt, length, ◌<◌, IfOk, IfNone};
+ghost use Rattle.std.specs.Prelude.{◌≡◌, ℕ, List, Some, ◌∷◌, [], true, false, not, nat_eq, nat_lt, length, ◌<◌, IfOk, IfNone};
 ghost use Rattle.std.specs.Option.{IfSome};
 ghost use Rattle.mj_subs.specs.Collation.{subscript_cmp};
 ghost use Rattle.mj_store.specs.declared.store.Direction.TheVariants as way;
@@ -13,7 +13,8 @@ ghost use Rattle.mj_store.specs.Questions.{Content, order_at, data_at};
 ghost use Rattle.mj_store.specs.Changes.{followed_by};
 ghost use Rattle.mj_txlog.specs.Accesses.{Accesses, seen};
 ghost use Rattle.mj_txlog.specs.Laid.{IsLaid, is_before};
-ghost use Rattle.mj_txlog.specs.Skips.{AreAllBare, AreSkips, AreBareAlong, IsJump, KeepSkips};
+ghost use Rattle.mj_txlog.specs.Skips.{IsBare, AreAllBare, AreSkips, AreBareAlong, IsJump, KeepSkips};
+ghost use Rattle.mj_txlog.specs.Steps.{IsStep, IsFound, IsMove};
 
 use crate::below::seen_below;
 use crate::log::ACCESS_LIMIT;
@@ -26,8 +27,21 @@ use mj_subs::{Name, SUBSCRIPT_LIMIT, Sub};
 use mj_text::Text;
 use std::alloc::{AllocError, Global};
 
+// What a step over the globals comes to.
+#[derive(Drop)]
+enum Step {
+    // the own text at hand stands next
+    Own,
+    // this subscript of the globals does
+    Other(Sub),
+    // all that the step went over is passed over
+    Passed,
+    // it can't go on: the subscript that it would go to is blank, which stands for the first one
+    Unclear,
+}
+
 // The next subscript below a name, in a direction; the first one, from the empty subscript. Each that is passed over was killed, or what stood below it was, by
-// kills of its own, of which there are no more than accesses: what stands behind the loop is for none that the language can make.
+// kills of its own, of which there are no more than accesses: what is copied, where steps find nothing, is for none that the language can make.
 #[cycle(ahead)]
 pub(crate) fn next_below(
     globals: &Globals,
@@ -43,42 +57,115 @@ pub(crate) fn next_below(
 {
     if front.subscripts().len() < SUBSCRIPT_LIMIT {
         let mine = next_in(own.over(), front, from, way)?;
-        if own.went(front)? {
-            return Ok(mine);
-        }
-        if is_covered(globals.allocator(), skips, front)? {
-            return Ok(mine);
-        }
-        let mut at = from.try_clone()?;
-        let mut is_passed = false;
-        for _ in 0..ACCESS_LIMIT {
-            let next = match next_in(globals, front, &at, way)? {
-                None => return Ok(mine),
-                Some(next) => next,
-            };
-            if !is_before(&next, &mine, way) {
-                return Ok(mine);
+        return match next_of_both(globals, own, skips, front, from, &mine, way) {
+            Ok(Step::Own) => Ok(mine),
+            Ok(Step::Other(next)) => {
+                drop(mine);
+                Ok(Some(next))
             }
-            if next.is_empty() {
-                return next_copied(globals, own, front, from, way);
+            Ok(Step::Passed | Step::Unclear) => {
+                drop(mine);
+                next_copied(globals, own, front, from, way)
             }
-            let far = match far_from(globals, own, skips, front, &next, way)? {
-                None => return Ok(Some(next)),
-                Some(far) => far,
-            };
-            if far.is_empty() {
-                return next_copied(globals, own, front, from, way);
+            Err(refused) => {
+                drop(mine);
+                Err(refused)
             }
-            keep(skips, front, &at, is_passed, &next, &far, way)?;
-            at = far;
-            is_passed = true;
-        }
-        return next_copied(globals, own, front, from, way);
+        };
     }
     if is_leaf(own.over(), front) && is_leaf(globals, front) {
         return Ok(None);
     }
     next_copied(globals, own, front, from, way)
+}
+
+// Which of two stands next: the own text at hand, or one of the globals.
+#[cycle(ahead)]
+fn next_of_both(
+    globals: &Globals,
+    own: &Overlay,
+    skips: &mut Skips,
+    front: &Name,
+    from: &Sub,
+    mine: &Option<Sub>,
+    way: Direction,
+) -> Result<Step, AllocError>
+    requires skips { KeepSkips globals.now own.now skips.old }
+    requires room { length front.now.subscripts < SUBSCRIPT_LIMIT }
+    requires mine { mine.now ≡ order_at own.now.over (followed_by front.now (from.now ∷ [])) way }
+    ensures found { IfOk result (λ found. IsFound globals.now own.now front.now from.now way mine.now found) }
+    ensures skips { KeepSkips globals.now own.now skips.new }
+{
+    if own.went(front)? || is_covered(globals.allocator(), skips, front)? {
+        return Ok(Step::Own);
+    }
+    let mut at = from.try_clone()?;
+    let found = pass_over(globals, own, skips, front, &mut at, mine, way);
+    drop(at);
+    found
+}
+
+// The same, from where nothing was passed over yet.
+#[cycle(ahead)]
+fn pass_over(
+    globals: &Globals,
+    own: &Overlay,
+    skips: &mut Skips,
+    front: &Name,
+    at: &mut Sub,
+    mine: &Option<Sub>,
+    way: Direction,
+) -> Result<Step, AllocError>
+    requires skips { KeepSkips globals.now own.now skips.old }
+    requires room { length front.now.subscripts < SUBSCRIPT_LIMIT }
+    requires mine { mine.now ≡ order_at own.now.over (followed_by front.now (at.old ∷ [])) way }
+    ensures found { IfOk result (λ found. IsFound globals.now own.now front.now at.old way mine.now found) }
+    ensures skips { KeepSkips globals.now own.now skips.new }
+{
+    let mut is_passed = false;
+    for _ in 0..ACCESS_LIMIT {
+        match take_step(globals, own, skips, front, at, is_passed, mine, way)? {
+            Step::Passed => is_passed = true,
+            found => return Ok(found),
+        }
+    }
+    Ok(Step::Passed)
+}
+
+// One step from a subscript, up to which all was passed over: what comes next is seen, or it and what follows it is passed over too.
+#[cycle(ahead)]
+fn take_step(
+    globals: &Globals,
+    own: &Overlay,
+    skips: &mut Skips,
+    front: &Name,
+    at: &mut Sub,
+    is_passed: bool,
+    mine: &Option<Sub>,
+    way: Direction,
+) -> Result<Step, AllocError>
+    requires skips { KeepSkips globals.now own.now skips.old }
+    requires room { length front.now.subscripts < SUBSCRIPT_LIMIT }
+    requires bare { (es : Accesses) → IsLaid own.now es → is_passed ≡ true → IsBare globals.now own.now.gone front.now at.old }
+    ensures step { IfOk result (λ step. IsStep globals.now own.now front.now way mine.now at.old step at.new) }
+    ensures skips { KeepSkips globals.now own.now skips.new }
+{
+    let next = match next_before(globals, front, at, mine, way)? {
+        None => return Ok(Step::Own),
+        Some(next) => next,
+    };
+    match far_from(globals, own, skips, front, &next, way) {
+        Ok(None) => Ok(Step::Other(next)),
+        Ok(Some(far)) => {
+            let step = pass_on(skips, front, at, is_passed, &next, far, way);
+            drop(next);
+            step
+        }
+        Err(refused) => {
+            drop(next);
+            Err(refused)
+        }
+    }
 }
 
 // Whether the name, or one above it, lies in a run that was passed over, so that below it only own texts are seen. Then none is passed over there
@@ -133,6 +220,35 @@ fn far_from(
         }
         Err(refused) => {
             drop(child);
+            Err(refused)
+        }
+    }
+}
+
+// The step goes on to the far one, if that isn't blank, and what lies up to it is kept as passed over.
+fn pass_on(
+    skips: &mut Skips,
+    front: &Name,
+    at: &mut Sub,
+    is_passed: bool,
+    next: &Sub,
+    far: Sub,
+    way: Direction,
+) -> Result<Step, AllocError>
+    ensures step { IfOk result (λ step. IsMove step far at.new) }
+    ensures skips { (globals gone : Content) → AreSkips globals gone skips.old → (is_passed ≡ true → AreBareAlong globals gone front.now way at.old far) → AreBareAlong globals gone front.now way next.now far → AreSkips globals gone skips.new }
+{
+    if far.is_empty() {
+        drop(far);
+        return Ok(Step::Unclear);
+    }
+    match keep(skips, front, at, is_passed, next, &far, way) {
+        Ok(()) => {
+            *at = far;
+            Ok(Step::Passed)
+        }
+        Err(refused) => {
+            drop(far);
             Err(refused)
         }
     }
@@ -262,6 +378,26 @@ fn next_in(
     let next = match store.order(&at, way) {
         None => Ok(None),
         Some(next) => kept(next),
+    };
+    drop(at);
+    next
+}
+
+// The next subscript in one store, if it stands before another in the direction, where that is there.
+fn next_before(
+    store: &Globals,
+    front: &Name,
+    from: &Sub,
+    other: &Option<Sub>,
+    way: Direction,
+) -> Result<Option<Sub>, AllocError>
+    ensures before { IfOk result (λ next. IfSome next (λ u. (order_at store.now (followed_by front.now (from.now ∷ [])) way ≡ Some u) × (is_before (along way subscript_cmp) u other.now ≡ true))) }
+    ensures none { IfOk result (λ next. IfNone next ((u : List ℕ) → order_at store.now (followed_by front.now (from.now ∷ [])) way ≡ Some u → is_before (along way subscript_cmp) u other.now ≡ false)) }
+{
+    let at = with_one(store.allocator(), front, from)?;
+    let next = match store.order(&at, way) {
+        Some(next) if is_before(next, other, way) => kept(next),
+        _ => Ok(None),
     };
     drop(at);
     next

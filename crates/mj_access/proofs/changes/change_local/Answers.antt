@@ -1,4 +1,4 @@
-use Rattle.std.proofs.Common.{None, sym, ap, ◌∙◌}
+use Rattle.std.proofs.Common.{sym, ap, ◌∙◌}
 use Rattle.mj_locals.specs.Held.{Held}
 use Rattle.mj_semantics.specs.State.{State}
 use Rattle.mj_semantics.specs.Outcome.{Timed, given}

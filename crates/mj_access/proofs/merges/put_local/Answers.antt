@@ -1,4 +1,4 @@
-use Rattle.std.proofs.Common.{◌≡◌, [], ◌+◌, drop, sym, ap, ◌∙◌, subst, None}
+use Rattle.std.proofs.Common.{◌≡◌, [], ◌+◌, drop, sym, ap, ◌∙◌, subst}
 use Rattle.std.specs.Prelude.{Result, OnErr}
 use Rattle.mj_text.specs.declared.fault.Failure.{Failure}
 use Rattle.mj_store.specs.Changes.{is_too_deep}

@@ -9,11 +9,11 @@ use Rattle.mj_lex.specs.Seen.{token_seen}
 use Rattle.mj_ast.specs.Syntax.{Expr, Operand, Variable, Exprs, Tails, No, About, Select, Choices, Before, Var}
 use Rattle.mj_ast.specs.Trees.{operand_of, expr_of, variable_of, choice_of, tails_of, exprs_of}
 use Rattle.mj_expr.specs.Lists.{behind_list}
-use Rattle.mj_expr.specs.Machine.{State, Sought, Marked, Named, Right, Subscripts, Arguments, InList, InCondition, InChoice, Held, Wanted, Calling, Behind, AsNamed, held, placed, filled, and_pair, before_choices, run, refused_in, most_of, least_of}
+use Rattle.mj_expr.specs.Machine.{State, Sought, Marked, Named, Right, Subscripts, Arguments, InList, InChoice, Held, Wanted, Calling, Behind, AsNamed, held, placed, filled, and_pair, before_choices, run, refused_in, most_of, least_of}
 use Rattle.mj_expr.specs.declared.token.Head.{Head}
 use Rattle.mj_expr.specs.Reads.{limits, symbols_seen, least_in, most_in, limited_in, IsHead, BeginsNone}
-use Rattle.mj_expr.proofs.Made.{expr_made, variable_made, call_made, others_made, variable_count, choice_made, tails_push, exprs_push, count_exprs}
-use Rattle.mj_expr.proofs.Steps.{named_ends, comma_goes, comma_over, close_goes, list_refuses, few_refuses, kind_least, kind_most, kind_limited, behind_pushed, reads_from, reads_err, refuses_from, binary_goes, open_goes, call_goes, choice_goes, choice_refuses, before_pair, value_read, kind_full, about_bare, about_closes, about_goes}
+use Rattle.mj_expr.proofs.Made.{expr_made, variable_made, call_made, others_made, variable_count, tails_push, exprs_push, count_exprs}
+use Rattle.mj_expr.proofs.Steps.{named_ends, comma_goes, comma_over, close_goes, list_refuses, few_refuses, kind_least, kind_most, kind_limited, behind_pushed, reads_from, reads_err, refuses_from, binary_goes, open_goes, call_goes, choice_goes, before_pair, kind_full, about_bare, about_closes, about_goes}
 use Rattle.mj_expr.proofs.Facts.{none_refuses}
 use Rattle.mj_expr.proofs.Zipper.{levels_some}
 use Rattle.mj_expr.proofs.read.+parse.Goals as goal
@@ -25,40 +25,14 @@ call-returns-in_ok-arguments-in-Texts-clause-reads t c = λ c' d e.
     ∙ c.in_ok-arguments-in-Texts.ensures.reads (Arguments c.in-Texts.function c') d e refl
     ∙ ap (λ (x : Operand). run (limits d) (symbols_seen c.in_ok-arguments-in-Texts.rest.now) (filled x c')) (sym (call_made c.in-Texts.function c.in_ok-arguments-in-Texts.arguments))
 
-pub choices-returns-in_err-others-clause-reads : goal.choices-returns-in_err-others-clause-reads
-choices-returns-in_err-others-clause-reads t c = λ before c' d e.
-    let a = expr_of c.in_ok-condition.condition in
-    let v = expr_of c.in_ok-value.value in
-    let went = value_read (limits d) (symbols_seen c.args.tokens.now) (symbols_seen c.in_ok-condition.rest.now) (symbols_seen c.in-Some.rest.now) (symbols_seen c.in_ok-value.rest.now) before a v c'
-    (c.in_ok-condition.ensures.reads (InCondition before c') d e refl) c.in-Some.ensures.0 (c.in_ok-value.ensures.reads (InChoice before a c') d e refl)
-    ∙ ap (λ (ks : List Symbol). run (limits d) ks (held v (InChoice before a c'))) c.in-Some-behind_comma.ensures.0
-    ∙ choice_goes (limits d) (symbols_seen c.in-Some-behind_comma.behind.now) before a v c' in
-    reads_from _ _ c.from_residual-in_err-others.result d c.args.tokens.now c.in-Some-behind_comma.behind.now _ _ _ went
-    (reads_err _ _ c.from_residual-in_err-others.result c.in_err-others.field-0.0 d c.in-Some-behind_comma.behind.now _ _ c.from_residual-in_err-others.ensures.1
-    (c.in_err-others.ensures.reads (and_pair before a v) c' d e))
-
-pub choices-returns-in-Some-behind_comma-clause-reads : goal.choices-returns-in-Some-behind_comma-clause-reads
-choices-returns-in-Some-behind_comma-clause-reads t c = λ before c' d e.
-    let a = expr_of c.in_ok-condition.condition in
-    let v = expr_of c.in_ok-value.value in
+pub others-returns-in-Some-clause-reads : goal.others-returns-in-Some-clause-reads
+others-returns-in-Some-clause-reads t c = λ before a v c' d e.
     let others = choice_of c.in_ok-others.others in
-    value_read (limits d) (symbols_seen c.args.tokens.now) (symbols_seen c.in_ok-condition.rest.now) (symbols_seen c.in-Some.rest.now) (symbols_seen c.in_ok-value.rest.now) before a v c'
-    (c.in_ok-condition.ensures.reads (InCondition before c') d e refl) c.in-Some.ensures.0 (c.in_ok-value.ensures.reads (InChoice before a c') d e refl)
-    ∙ ap (λ (ks : List Symbol). run (limits d) ks (held v (InChoice before a c'))) c.in-Some-behind_comma.ensures.0
-    ∙ choice_goes (limits d) (symbols_seen c.in-Some-behind_comma.behind.now) before a v c'
+    ap (λ (ks : List Symbol). run (limits d) ks (held v (InChoice before a c'))) c.in-Some.ensures.0
+    ∙ choice_goes (limits d) (symbols_seen c.in-Some.behind.now) before a v c'
     ∙ c.in_ok-others.ensures.reads (and_pair before a v) c' d e
     ∙ ap (λ (x : Choices). run (limits d) (symbols_seen c.in_ok-others.rest.now) (filled (Select x) c')) (before_pair before a v others)
-    ∙ ap (λ (x : Choices). run (limits d) (symbols_seen c.in_ok-others.rest.now) (filled (Select (before_choices before x)) c')) (ap (λ (x : choice.Choice). Before a v (choice_of x)) (sym c.in_ok-new.ensures.ok) ∙ sym (choice_made c.in_ok-condition.condition c.in_ok-value.value c.in_ok-new.field-0))
-
-pub choices-returns-in-None-clause-reads : goal.choices-returns-in-None-clause-reads
-choices-returns-in-None-clause-reads t c = λ before c' d e.
-    let a = expr_of c.in_ok-condition.condition in
-    let v = expr_of c.in_ok-value.value in
-    refuses_from c.refusal-in-None.result _ _
-    (value_read (limits d) (symbols_seen c.args.tokens.now) (symbols_seen c.in_ok-condition.rest.now) (symbols_seen c.in-Some.rest.now) (symbols_seen c.in_ok-value.rest.now) before a v c'
-    (c.in_ok-condition.ensures.reads (InCondition before c') d e refl) c.in-Some.ensures.0 (c.in_ok-value.ensures.reads (InChoice before a c') d e refl)
-    ∙ choice_refuses (limits d) (symbols_seen c.in_ok-value.rest.now) before a v c' c.in_ok-value.ensures.stops c.in_default-behind_comma.ensures c.in-None.ensures)
-    c.refusal-in-None.ensures
+    ∙ ap (λ (x : choice.Choice). run (limits d) (symbols_seen c.in_ok-others.rest.now) (filled (Select (before_choices before (Before a v (choice_of x)))) c')) (sym c.in_ok-new.ensures.ok)
 
 pub expr-joins-preserved : goal.expr-joins-preserved
 expr-joins-preserved t c = record {

@@ -15,6 +15,12 @@ decreases-call l = 4 * length l.tokens.now + 3
 abbrev pub decreases-choices : goal.decreases-choices
 decreases-choices l = 4 * length l.tokens.now + 2
 
+abbrev pub decreases-chosen : goal.decreases-chosen
+decreases-chosen l = 4 * length l.tokens.now + 2
+
+abbrev pub decreases-others : goal.decreases-others
+decreases-others l = 4 * length l.tokens.now + 2
+
 abbrev pub decreases-group : goal.decreases-group
 decreases-group l = 4 * length l.tokens.now + 2
 

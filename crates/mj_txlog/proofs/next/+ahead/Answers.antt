@@ -1,116 +1,74 @@
-use Rattle.std.proofs.Common.{rules, ◌≡◌, ℕ, true, false, nat_lt, Option, not, nat_eq, List, [], ◌∷◌, refl, sym, ap, ◌∙◌, subst}
-use Rattle.std.specs.Prelude.{IfNone}
+use Rattle.std.proofs.Common.{rules, ◌≡◌, ℕ, true, false, nat_lt, Option, Some, List, [], ◌∷◌, sym, ap, ◌∙◌, subst}
 use Rattle.std.specs.Option.{is_some, IfSome}
+use Rattle.mj_subs.specs.Collation.{subscript_cmp}
 use Rattle.mj_store.specs.declared.store.Direction.TheVariants as way
-use Rattle.mj_store.specs.Nodes.{is_empty}
+use Rattle.mj_store.specs.Nodes.{along}
 use Rattle.mj_store.specs.Questions.{Content, value_at, order_at, data_at}
 use Rattle.mj_store.specs.Changes.{followed_by}
 use Rattle.mj_txlog.specs.Accesses.{Accesses, seen}
-use Rattle.mj_txlog.specs.Laid.{IsLaid}
+use Rattle.mj_txlog.specs.Laid.{IsLaid, is_before}
+use Rattle.mj_txlog.specs.Steps.{IsStep}
+use Rattle.mj_txlog.specs.declared.next.Step.{Step}
 use Rattle.mj_txlog.specs.Skips.{AreSkips, IsJump, IsFar}
 use Rattle.mj_txlog.proofs.Passing.{killed}
 use Rattle.mj_txlog.proofs.Bare.{end_bare, far_jump, one_jump, unseen_bare, bare_order}
 use Rattle.mj_txlog.proofs.Laid.{none_gone}
 use Rattle.mj_txlog.proofs.Stands.{stands, data_stands, own_stands, gone_stands, clear_stands, text_stands, no_text, below_stands, leaf_order, gone_order}
-use Rattle.mj_txlog.proofs.Nexts.{ArePassed, none_passed, own_only, own_sooner, other_sooner, run_passed, joins_on, full_so, said, told}
+use Rattle.mj_txlog.proofs.Nexts.{none_passed, found_next, run_passed, joins_on, said, told}
 use Rattle.mj_txlog.proofs.next.+ahead.Goals as goal
+use Rattle.mj_txlog.proofs.next.+ahead.Goals.{next_of_both-then-branch-via-then-branch, next_of_both-then-branch-via-else-branch+in_ok-is_covered+then-branch-2}
 
-pub next_below-returns-then-branch : goal.next_below-returns-then-branch
-next_below-returns-then-branch t c = record {
-  next = λ es laid.
-      c.in_ok-mine.ensures
-      ∙ ap (λ (x : Content). order_at x (followed_by c.args.front.now (c.args.from.now ∷ [])) c.args.way) c.over.ensures.which
-      ∙ gone_order c.args.own.now es laid c.args.globals.now c.args.front.now c.args.from.now c.args.way (sym c.in_ok-went.ensures ∙ c.if-branch.true);
-  skips = c.requires;
-}
+pub next_of_both-returns-then-branch-clause-found : goal.next_of_both-returns-then-branch-clause-found
+next_of_both-returns-then-branch-clause-found t c es laid =
+    c.requires.mine
+    ∙ elim c.then-branch.branch [
+      | next_of_both-then-branch-via-then-branch w ↦ gone_order c.args.own.now es laid c.args.globals.now c.args.front.now c.args.from.now c.args.way (sym c.in_ok-went.ensures ∙ w.if-branch.true)
+      | next_of_both-then-branch-via-else-branch+in_ok-is_covered+then-branch-2 w ↦ bare_order c.args.own.now es laid c.args.globals.now c.args.front.now c.args.from.now c.args.way
+          (w.in_ok-is_covered.ensures w.if-branch-2.true c.args.globals.now c.args.own.now.gone (c.requires.skips es laid))
+    ]
 
-pub next_below-returns-then-branch-2 : goal.next_below-returns-then-branch-2
-next_below-returns-then-branch-2 t c = record {
-  next = λ es laid.
-      c.in_ok-mine.ensures
-      ∙ ap (λ (x : Content). order_at x (followed_by c.args.front.now (c.args.from.now ∷ [])) c.args.way) c.over.ensures.which
-      ∙ bare_order c.args.own.now es laid c.args.globals.now c.args.front.now c.args.from.now c.args.way
-      (c.in_ok-is_covered.ensures c.if-branch-2.true c.args.globals.now c.args.own.now.gone (c.requires es laid));
-  skips = c.requires;
-}
-
-pub next_below-loop-init : goal.next_below-loop-init
-next_below-loop-init t c = record {
-  mine = c.in_ok-mine.ensures ∙ ap (λ (x : Content). order_at x (followed_by c.args.front.now (c.args.from.now ∷ [])) c.args.way) c.over.ensures.which;
-  passed = λ es laid.
-      subst (λ (x : List ℕ). ArePassed c.args.own.now.over c.args.globals.now (seen c.args.globals.now es) c.args.front.now c.args.way c.args.from.now x) (sym c.in_ok-at.ensures)
-      (none_passed c.args.own.now.over c.args.globals.now (seen c.args.globals.now es) c.args.front.now c.args.way c.args.from.now);
+pub pass_over-loop-init : goal.pass_over-loop-init
+pass_over-loop-init t c = record {
+  passed = λ es laid. none_passed c.args.own.now.over c.args.globals.now (seen c.args.globals.now es) c.args.front.now c.args.way c.args.at.now;
   bare = λ es laid e. absurd cc;
-  skips = c.requires;
+  skips = c.requires.skips;
 }
 
-pub next_below-returns-in-None : goal.next_below-returns-in-None
-next_below-returns-in-None t c = record {
-  next = λ es laid.
-      own_only c.args.own.now es laid c.args.globals.now c.args.front.now c.args.way c.args.from.now c.loop.at (c.loop.invariant.passed es laid) _ c.loop.invariant.mine (sym c.in-None.is ∙ c.in_ok-next_in.ensures);
-  skips = c.loop.invariant.skips;
+pub pass_over-returns-in_default : goal.pass_over-returns-in_default
+pass_over-returns-in_default t c = record {
+  found = found_next c.args.own.now c.args.globals.now c.args.front.now c.args.way c.args.at.now c.loop.at c.loop.invariant.passed c.args.mine.now c.requires.mine c.in_ok-found.found c.take_step.new.at c.in_ok-found.ensures.step;
+  skips = c.in_ok-found.ensures.skips;
 }
 
-pub next_below-returns-then-not-is_before : goal.next_below-returns-then-not-is_before
-next_below-returns-then-not-is_before t c = record {
-  next = λ es laid.
-      own_sooner c.args.own.now es laid c.args.globals.now c.args.front.now c.args.way c.args.from.now c.loop.at (c.loop.invariant.passed es laid) _ c.in-Some.next c.loop.invariant.mine (sym c.in-Some.is ∙ c.in_ok-next_in.ensures)
-      (sym c.if-not-is_before.ensures);
-  skips = c.loop.invariant.skips;
-}
-
-pub next_below-returns-in-None-2 : goal.next_below-returns-in-None-2
-next_below-returns-in-None-2 t c = record {
-  next = λ es laid.
-      let sees = seen c.args.globals.now es in
-      let n = followed_by c.args.front.now (c.in-Some.next ∷ []) in
-      let there : stands sees n ≡ true =
-      told sees n true true
-      (sym (subst (λ (r : Option (List ℕ)). IfNone r ((es : Accesses) → IsLaid c.args.own.now es → not (nat_eq (data_at (seen c.args.globals.now es) n) 0) ≡ true)) c.in-None-2.is c.in_ok-far_from.ensures.stands es laid)) refl
-      in
-      other_sooner c.args.own.now es laid c.args.globals.now c.args.front.now c.args.way c.args.from.now c.loop.at (c.loop.invariant.passed es laid) _ c.in-Some.next c.loop.invariant.mine (sym c.in-Some.is ∙ c.in_ok-next_in.ensures)
-      (sym c.if-not-is_before.ensures) there;
-  skips = c.in_ok-far_from.ensures.skips;
-}
-
-pub next_below-loop-preserved : goal.next_below-loop-preserved
-next_below-loop-preserved t c =
+pub pass_over-loop-preserved : goal.pass_over-loop-preserved
+pass_over-loop-preserved t c =
     let g = c.args.globals.now in
     let o = c.args.own.now in
     let f = c.args.front.now in
     let way = c.args.way in
-    let next = c.in-Some.next in
-    let far = c.in-Some-2.far in
-    let jump : (es : Accesses) → IsLaid o es → IsJump g o.gone f way next far =
-    subst (λ (r : Option (List ℕ)). IfSome r (λ far. (es : Accesses) → IsLaid o es → IsJump g o.gone f way next far)) c.in-Some-2.is c.in_ok-far_from.ensures.passed
-    in
+    let far = c.take_step.new.at in
+    let passed = subst (λ (x : Step). IsStep g o f way c.args.mine.now c.loop.at x far) c.in-Passed.is c.in_ok-found.ensures.step in
     record {
-      mine = c.loop.invariant.mine;
-      passed = λ es laid.
-          run_passed o es laid g f way c.args.from.now c.loop.at (c.loop.invariant.passed es laid) next far (sym c.in-Some.is ∙ c.in_ok-next_in.ensures)
-          (full_so c.is_empty-in-loop.result far c.is_empty-in-loop.ensures c.if-is_empty-2.false) (jump es laid);
-      bare = λ es laid e. end_bare g o.gone f way next far (jump es laid);
-      skips = λ es laid.
-          c.keep.ensures g o.gone (c.in_ok-far_from.ensures.skips es laid)
-          (λ e. joins_on o es laid g f way c.args.from.now c.loop.at (c.loop.invariant.passed es laid) next far (sym c.in-Some.is ∙ c.in_ok-next_in.ensures) (c.loop.invariant.bare es laid e) (jump es laid))
-          (jump es laid).bare;
+      passed = λ es laid. run_passed o es laid g f way c.args.at.now c.loop.at (c.loop.invariant.passed es laid) passed.0 far (sym passed.1) passed.2 (passed.3 es laid);
+      bare = λ es laid e. end_bare g o.gone f way passed.0 far (passed.3 es laid);
+      skips = c.in_ok-found.ensures.skips;
     }
 
-pub next_below-returns-in_err-keep-clause-skips : goal.next_below-returns-in_err-keep-clause-skips
-next_below-returns-in_err-keep-clause-skips t c =
+pub take_step-returns-in-Ok-Some-clause-skips : goal.take_step-returns-in-Ok-Some-clause-skips
+take_step-returns-in-Ok-Some-clause-skips t c es laid =
     let g = c.args.globals.now in
     let o = c.args.own.now in
     let f = c.args.front.now in
     let way = c.args.way in
     let next = c.in-Some.next in
-    let far = c.in-Some-2.far in
-    let jump : (es : Accesses) → IsLaid o es → IsJump g o.gone f way next far =
-    subst (λ (r : Option (List ℕ)). IfSome r (λ far. (es : Accesses) → IsLaid o es → IsJump g o.gone f way next far)) c.in-Some-2.is c.in_ok-far_from.ensures.passed
+    let far = c.in-Ok-Some.far in
+    let jump : IsJump g o.gone f way next far =
+    subst (λ (r : Option (List ℕ)). IfSome r (λ far. (es : Accesses) → IsLaid o es → IsJump g o.gone f way next far)) c.in-Ok-Some.field-0-is c.in-Ok-Some.ensures.passed es laid
     in
-    λ es laid.
-    c.keep.ensures g o.gone (c.in_ok-far_from.ensures.skips es laid)
-    (λ e. joins_on o es laid g f way c.args.from.now c.loop.at (c.loop.invariant.passed es laid) next far (sym c.in-Some.is ∙ c.in_ok-next_in.ensures) (c.loop.invariant.bare es laid e) (jump es laid))
-    (jump es laid).bare
+    let before = subst (λ (r : Option (List ℕ)). IfSome r (λ u. (order_at g (followed_by f (c.args.at.now ∷ [])) way ≡ Some u) × (is_before (along way subscript_cmp) u c.args.mine.now ≡ true))) c.in-Some.is c.in_ok-next_before.ensures.before in
+    c.pass_on-step.ensures.skips g o.gone (c.in-Ok-Some.ensures.skips es laid)
+    (λ e. joins_on o es laid g f way c.args.at.now next far (sym before.0) (c.requires.bare es laid e) jump)
+    jump.bare
 
 pub far_from-returns-in-Some-clause-passed : goal.far_from-returns-in-Some-clause-passed
 far_from-returns-in-Some-clause-passed t c es laid =

@@ -1,9 +1,12 @@
-use Rattle.std.proofs.Common.{◌≡◌, ◌+◌, ℕ, Some, None, sym, ap, ◌∙◌, subst, arith}
+use Rattle.std.proofs.Common.{◌≡◌, ◌+◌, ℕ, Option, Some, None, sym, ap, ◌∙◌, subst, arith}
+use Rattle.mj_ask.specs.declared.ask.Ask.{Ask}
 use Rattle.mj_load.specs.Image.{routines_of}
 use Rattle.mj_machine.specs.Standing.{Standing}
 use Rattle.mj_machine.specs.Kept.{standing}
 use Rattle.mj_turn.specs.Starts.{start_of}
 use Rattle.mj_jobvm.specs.Run.{Log, IsRunAfter}
+use Rattle.mj_jobvm.specs.declared.job.Turn.TheVariants as reports
+use Rattle.mj_jobvm.specs.Told.{Told}
 use Rattle.mj_jobvm.specs.Jobs.{Running, IsRunOfAfter, running, given_of, code_in}
 use Rattle.mj_jobvm.proofs.Advance.{counted_as, went_on, went_asks, went_over, told_over}
 use Rattle.mj_jobvm.proofs.Jobs.{run, told_again, told_asks, told_ran}
@@ -81,7 +84,7 @@ returns-in-Asks-clause-forward c = λ start turns is.
     let s = c.turns.self-inside in (
       turns + c.turns.done,
       omega arith,
-      counted_as (routines_of c.args.image.now) start (code_in c.args.image.now (start_of s.start)) (turns + c.turns.done) s.log.items (Some c.in-Asks.ask.value) (Some c.into_inner.result) (c.args.self.now.run.spent + c.turns.done) s.spent (standing c.go_on.new.machine (given_of c.go_on.new.given s.log.items)) (ap Some c.into_inner.ensures)
+      counted_as (routines_of c.args.image.now) start (code_in c.args.image.now (start_of s.start)) (turns + c.turns.done) s.log.items (Some c.in-Asks.ask.value) c.wait.new.pending (c.args.self.now.run.spent + c.turns.done) s.spent (standing c.go_on.new.machine (given_of c.go_on.new.given s.log.items)) c.wait.ensures
           (let e = i.spent in omega (arith, e))
           (went_asks c.args.image.now start (start_of s.start) (turns + c.turns.done) c.units-units.result.now s.log.items c.deref.result.now i.code c.deref.ensures.value
           (c.args.self.now.run.spent + c.turns.done) s.machine c.go_on.new.machine s.given c.go_on.new.given c.in-Ok.went c.in-Ok.ensures.ok c.go_on.ensures.sound (i.run start turns is) c.in-Asks.ask c.in-Asks.is),
@@ -92,7 +95,7 @@ returns-in-Asks-clause-run c = λ start (turns, is).
     let i = c.turns.invariant in
     let s = c.turns.self-inside in (
       turns + c.turns.done,
-      counted_as (routines_of c.args.image.now) start (code_in c.args.image.now (start_of s.start)) (turns + c.turns.done) s.log.items (Some c.in-Asks.ask.value) (Some c.into_inner.result) (c.args.self.now.run.spent + c.turns.done) s.spent (standing c.go_on.new.machine (given_of c.go_on.new.given s.log.items)) (ap Some c.into_inner.ensures)
+      counted_as (routines_of c.args.image.now) start (code_in c.args.image.now (start_of s.start)) (turns + c.turns.done) s.log.items (Some c.in-Asks.ask.value) c.wait.new.pending (c.args.self.now.run.spent + c.turns.done) s.spent (standing c.go_on.new.machine (given_of c.go_on.new.given s.log.items)) c.wait.ensures
           (let e = i.spent in omega (arith, e))
           (went_asks c.args.image.now start (start_of s.start) (turns + c.turns.done) c.units-units.result.now s.log.items c.deref.result.now i.code c.deref.ensures.value
           (c.args.self.now.run.spent + c.turns.done) s.machine c.go_on.new.machine s.given c.go_on.new.given c.in-Ok.went c.in-Ok.ensures.ok c.go_on.ensures.sound (i.run start turns is) c.in-Asks.ask c.in-Asks.is),
@@ -148,12 +151,13 @@ returns-in-Asks-clause-told c = λ start (turns, is).
     let s = c.turns.self-inside in
     let spent = c.args.self.now.run.spent + c.turns.done in
     let at : Standing = standing c.go_on.new.machine (given_of c.go_on.new.given s.log.items) in
-    told_asks (routines_of c.args.image.now) start (code_in c.args.image.now (start_of s.start)) s.log.items spent c.into_inner.result at (
+    let P : Option Ask → Type 0 = λ p. Told (routines_of c.args.image.now) start reports.Asks (run s.log.items p spent at) in
+    subst P (sym c.wait.ensures)
+    (told_asks (routines_of c.args.image.now) start (code_in c.args.image.now (start_of s.start)) s.log.items spent c.in-Asks.ask.value at (
       turns + c.turns.done,
-      counted_as (routines_of c.args.image.now) start (code_in c.args.image.now (start_of s.start)) (turns + c.turns.done) s.log.items (Some c.in-Asks.ask.value) (Some c.into_inner.result) spent spent at (ap Some c.into_inner.ensures) (omega arith)
-          (went_asks c.args.image.now start (start_of s.start) (turns + c.turns.done) c.units-units.result.now s.log.items c.deref.result.now i.code c.deref.ensures.value
-          (c.args.self.now.run.spent + c.turns.done) s.machine c.go_on.new.machine s.given c.go_on.new.given c.in-Ok.went c.in-Ok.ensures.ok c.go_on.ensures.sound (i.run start turns is) c.in-Asks.ask c.in-Asks.is),
-    )
+      went_asks c.args.image.now start (start_of s.start) (turns + c.turns.done) c.units-units.result.now s.log.items c.deref.result.now i.code c.deref.ensures.value
+          (c.args.self.now.run.spent + c.turns.done) s.machine c.go_on.new.machine s.given c.go_on.new.given c.in-Ok.went c.in-Ok.ensures.ok c.go_on.ensures.sound (i.run start turns is) c.in-Asks.ask c.in-Asks.is,
+    ))
 
 pub returns-in-Over-clause-told : goal.returns-in-Over-clause-told
 returns-in-Over-clause-told c = λ start (turns, is).

@@ -1,9 +1,9 @@
-use Rattle.std.proofs.Common.{List, ℕ, Option, ◌∷◌, [], sym, ap, ◌∙◌, subst}
+use Rattle.std.proofs.Common.{List, ℕ, Option, ◌∷◌, [], sym, subst}
 use Rattle.std.specs.Option.{IfSome}
 use Rattle.mj_subs.specs.Name.{Name}
 use Rattle.mj_store.specs.Questions.{Content}
 use Rattle.mj_store.specs.Changes.{after_set, after_kill, followed_by}
-use Rattle.mj_txlog.specs.Skips.{IsNextRun, Joins, later_of}
+use Rattle.mj_txlog.specs.Skips.{IsNextRun, Joins}
 use Rattle.mj_txlog.proofs.Passing.{lengthened, joined, only_killed, same_joins, either}
 use Rattle.mj_txlog.proofs.skips.Skips.put_run.Goals as goal
 

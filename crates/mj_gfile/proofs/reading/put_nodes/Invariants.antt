@@ -1,7 +1,7 @@
 use Rattle.std.proofs.Common.{◌≡◌, ◌≤◌, ◌+◌, None, length}
 use Rattle.mj_gfile.specs.Listing.{nodes_of, lines_of}
 use Rattle.mj_gfile.proofs.InOrder.{joined_nodes, AreBefore}
-use Rattle.mj_gfile.proofs.reading.read_nodes.Given as goal
+use Rattle.mj_gfile.proofs.reading.put_nodes.Given as goal
 
 -- the names so far and those to come are all, and those so far stand before those to come
 abbrev pub invariant-loop-line : goal.invariant-loop-line
