@@ -2,8 +2,8 @@ pub mod Did
 pub mod Input
 pub mod Cursor
 pub mod Heard
-pub mod Told
 pub mod Rest
+pub mod Told
 pub mod Talk
 pub mod Supply
 pub mod Failing

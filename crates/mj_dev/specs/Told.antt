@@ -1,6 +1,7 @@
 -- What a device was asked last, and what it answered.
-use Rattle.std.specs.Prelude.{ℕ, List, ◌≡◌}
+use Rattle.std.specs.Prelude.{ℕ, List, Option, ◌≡◌}
 use Rattle.mj_dev.specs.Heard.{Heard}
+use Rattle.mj_dev.specs.Rest.{TakesOne}
 use Rattle.mj_dev.specs.declared.device.Did.{Did}
 use Rattle.mj_dev.specs.declared.device.Input.{Input}
 use Rattle.mj_dev.specs.declared.device.Input.TheVariants as input
@@ -14,9 +15,9 @@ pub data Told : Type 0 where
   Gave : Input → Told
   Over : Did → Told
 
--- the code that is read where a device was asked for a line
+-- the code that is read where a device was asked for a line: the first byte's, or 10 where it is empty, and else why there is no line
 abbrev pub IsCodeOf : Input → Code → Type 0
-IsCodeOf (input.Line line) code = Unit {0}
+IsCodeOf (input.Line line) code = (rest : Option (List ℕ)) × TakesOne line code rest
 IsCodeOf input.End code = code ≡ codes.End
 IsCodeOf input.NotYet code = code ≡ codes.NotYet
 IsCodeOf input.Failed code = code ≡ codes.Failed
@@ -27,3 +28,7 @@ pub record AreOf (session : Heard) (failures : ℕ) (taken : List ℕ) (given : 
   pub of_failures : failures ≡ session.failures
   pub of_taken : taken ≡ session.taken
   pub of_given : given ≡ session.given
+
+-- some device with a session's counts, whose members these are, was told so
+abbrev pub IsToldBy : {D : Type 0} → (D → ℕ) → (D → List ℕ) → (D → List (List ℕ)) → (D → Told → Type 0) → Heard → Told → Type 0
+IsToldBy {D} failures taken given is_told heard told = (device : D) × AreOf heard (failures device) (taken device) (given device) × is_told device told

@@ -44,7 +44,7 @@ pub trait Device: Drop {
     /// the lines that were read
     ghost given: { Self → List (List ℕ) };
 
-    /// this was its last call, and so it was answered. Whoever has any device, and knows nothing else of it, knows this by having made the call.
+    /// this was its last call, and so it was answered. Of any device, of which nothing else is known, it is known by such a call alone.
     ghost IsTold: { Self → Told → Type 0 };
 
     /// The first call to a device.

@@ -3,10 +3,10 @@
 ghost use Rattle.std.specs.Prelude.{◌≡◌, ◌⊎◌, ℤ, Option, Bool, List, ℕ};
 ghost use Rattle.mj_ask.specs.declared.ask.Ask.TheVariants as asks;
 ghost use Rattle.mj_sessions.specs.Answers.{Hears, IsCall, IsEnding};
-ghost use Rattle.mj_sessions.specs.Asked.{Calls, IsAsked};
+ghost use Rattle.mj_sessions.specs.Asked.{Calls, IsAsked, IsOver};
 ghost use Rattle.mj_sessions.specs.Named.{is_named};
 ghost use Rattle.mj_sessions.specs.declared.answer.Answer.TheVariants as answers;
-ghost use Rattle.mj_dev.specs.Told.{Told};
+ghost use Rattle.mj_dev.specs.Told.{Told, IsToldBy};
 
 use crate::answer::{Answer, is_over, to_byte, to_call, to_line};
 use mj_ask::Ask;
@@ -55,7 +55,7 @@ impl<D: Device> Held<D> {
     pub fn serve(&mut self, ask: &Ask, late: bool) -> Answer
         requires { IsCall ask.now }
         ensures heard { Hears self.old.session ask.now late result self.new.session }
-        ensures asked { (result ≡ answers.Unfit) ⊎ IsAsked (λ told. (device : D) × D.IsTold device told) self.old.session ask.now late result }
+        ensures asked { (result ≡ answers.Unfit) ⊎ IsAsked (IsToldBy D.failures D.taken D.given D.IsTold) self.old.session ask.now late result self.new.session }
         ensures name { self.new.name ≡ self.old.name }
     {
         match ask {
@@ -70,7 +70,7 @@ impl<D: Device> Held<D> {
     // The device begins.
     fn begin(&mut self) -> Answer
         ensures heard { (device : List ℕ) (late : Bool) → Hears self.old.session (asks.DeviceBegin device) late result self.new.session }
-        ensures asked { (result ≡ answers.Unfit) ⊎ Calls (λ told. (device : D) × D.IsTold device told) Told.Begun result }
+        ensures asked { (result ≡ answers.Unfit) ⊎ Calls (IsToldBy D.failures D.taken D.given D.IsTold) Told.Begun result self.new.session }
         ensures name { self.new.name ≡ self.old.name }
     {
         match self.session.state() {
@@ -82,7 +82,7 @@ impl<D: Device> Held<D> {
     // The bytes go to the device.
     fn write(&mut self, bytes: &Text) -> Answer
         ensures heard { (device : List ℕ) (late : Bool) → Hears self.old.session (asks.DeviceWrite device bytes.now) late result self.new.session }
-        ensures asked { (result ≡ answers.Unfit) ⊎ Calls (λ told. (device : D) × D.IsTold device told) (Told.Wrote bytes.now) result }
+        ensures asked { (result ≡ answers.Unfit) ⊎ Calls (IsToldBy D.failures D.taken D.given D.IsTold) (Told.Wrote bytes.now) result self.new.session }
         ensures name { self.new.name ≡ self.old.name }
     {
         let mut digits = Digits::new();
@@ -95,7 +95,7 @@ impl<D: Device> Held<D> {
     // The device gives a line.
     fn line(&mut self, timeout: Option<Num>, late: bool) -> Answer
         ensures heard { (device : List ℕ) → Hears self.old.session (asks.DeviceLine device timeout) late result self.new.session }
-        ensures asked { (device : List ℕ) → (result ≡ answers.Unfit) ⊎ IsAsked (λ told. (device : D) × D.IsTold device told) self.old.session (asks.DeviceLine device timeout) late result }
+        ensures asked { (device : List ℕ) → (result ≡ answers.Unfit) ⊎ IsAsked (IsToldBy D.failures D.taken D.given D.IsTold) self.old.session (asks.DeviceLine device timeout) late result self.new.session }
         ensures name { self.new.name ≡ self.old.name }
     {
         match self.session.state() {
@@ -107,7 +107,7 @@ impl<D: Device> Held<D> {
     // The device gives a byte.
     fn byte(&mut self, timeout: Option<Num>, late: bool) -> Answer
         ensures heard { (device : List ℕ) → Hears self.old.session (asks.DeviceByte device timeout) late result self.new.session }
-        ensures asked { (device : List ℕ) → (result ≡ answers.Unfit) ⊎ IsAsked (λ told. (device : D) × D.IsTold device told) self.old.session (asks.DeviceByte device timeout) late result }
+        ensures asked { (device : List ℕ) → (result ≡ answers.Unfit) ⊎ IsAsked (IsToldBy D.failures D.taken D.given D.IsTold) self.old.session (asks.DeviceByte device timeout) late result self.new.session }
         ensures name { self.new.name ≡ self.old.name }
     {
         match self.session.state() {
@@ -119,7 +119,7 @@ impl<D: Device> Held<D> {
     // The device ends, and is dropped.
     pub fn end(self) -> Answer
         ensures ending { IsEnding self.session result }
-        ensures asked { Calls (λ told. (device : D) × D.IsTold device told) Told.Over result }
+        ensures asked { IsOver (IsToldBy D.failures D.taken D.given D.IsTold) self.session result }
     {
         let Held { session, .. } = self;
         to_call(session.end())

@@ -1,12 +1,12 @@
 // The sessions that a job has.
 
-ghost use Rattle.std.specs.Prelude.{◌≡◌, ◌<◌, ◌+◌, ◌≤◌, ◌++◌, ◌∷◌, [], ℕ, Bool, List, Some, None, false, true, position, is_some, if◌then◌else◌, IfOk, IfSome, IfNone, OnErr};
+ghost use Rattle.std.specs.Prelude.{◌≡◌, ◌<◌, ◌+◌, ◌≤◌, ◌++◌, ◌∷◌, [], ℕ, List, Some, None, false, true, position, is_some, if◌then◌else◌, IfOk, IfSome, IfNone, OnErr};
 ghost use Rattle.mj_ask.specs.Fits.{is_shared};
 ghost use Rattle.mj_dev.specs.Heard.{IsNew};
+ghost use Rattle.mj_dev.specs.Told.{IsToldBy};
 ghost use Rattle.mj_sessions.specs.Answers.{Answers, Asked, Ends, IsCall};
-ghost use Rattle.mj_sessions.specs.Asked.{AreAsked, IsAskedOf};
+ghost use Rattle.mj_sessions.specs.Asked.{AreAsked, IsAskedOf, IsOverOf};
 ghost use Rattle.mj_ask.specs.declared.ask.Ask as asks;
-ghost use Rattle.mj_ask.specs.declared.ask.Ask.TheVariants as all_asks;
 ghost use Rattle.mj_ask.specs.declared.ask.Reply as replies;
 ghost use Rattle.mj_sessions.specs.Events.{Log};
 ghost use Rattle.mj_sessions.specs.Follow.{ends_on};
@@ -91,7 +91,7 @@ impl<D: Device> Sessions<D> {
     pub fn serve(&mut self, ask: &Ask, late: bool) -> Answer
         requires { is_shared ask.now ≡ false }
         ensures answers { Answers self.old.sessions ask.now late result self.new.sessions }
-        ensures asked { AreAsked (λ told. (device : D) × D.IsTold device told) self.old.sessions ask.now late result }
+        ensures asked { AreAsked (IsToldBy D.failures D.taken D.given D.IsTold) self.old.sessions ask.now late result self.new.sessions }
         ensures told { (log : Log) (reply : replies.Reply) → result ≡ Answer.Told reply → AreTold log self.old.sessions → AreTold (log ++ (ask.now, reply) ∷ []) self.new.sessions }
         ensures there { (name : List ℕ) (reply : replies.Reply) → result ≡ Answer.Told reply
             → is_some (session_of name self.new.sessions) ≡ (if ends_on name ask.now then false else is_some (session_of name self.old.sessions)) }
@@ -104,7 +104,7 @@ impl<D: Device> Sessions<D> {
     fn asked(&mut self, ask: &Ask, late: bool) -> Answer
         requires { is_shared ask.now ≡ false }
         ensures answers { Answers self.old.sessions ask.now late result self.new.sessions }
-        ensures asked { AreAsked (λ told. (device : D) × D.IsTold device told) self.old.sessions ask.now late result }
+        ensures asked { AreAsked (IsToldBy D.failures D.taken D.given D.IsTold) self.old.sessions ask.now late result self.new.sessions }
     {
         match ask {
             Ask::Rest(_) => Answer::Told(Reply::Done),
@@ -121,7 +121,7 @@ impl<D: Device> Sessions<D> {
     fn call(&mut self, name: &Text, ask: &Ask, late: bool) -> Answer
         requires { IsCall ask.now }
         ensures answers { Asked name.now self.old.sessions ask.now late result self.new.sessions }
-        ensures asked { IsAskedOf (λ told. (device : D) × D.IsTold device told) name.now self.old.sessions ask.now late result }
+        ensures asked { IsAskedOf (IsToldBy D.failures D.taken D.given D.IsTold) name.now self.old.sessions ask.now late result self.new.sessions }
     {
         match self.place(name) {
             None => Answer::Unfit,
@@ -135,7 +135,7 @@ impl<D: Device> Sessions<D> {
     // Ends the session with the device of this name.
     fn end(&mut self, name: &Text) -> Answer
         ensures ends { Ends name.now self.old.sessions result self.new.sessions }
-        ensures asked { (device : List ℕ) (late : Bool) → IsAskedOf (λ told. (device : D) × D.IsTold device told) name.now self.old.sessions (all_asks.DeviceEnd device) late result }
+        ensures asked { IsOverOf (IsToldBy D.failures D.taken D.given D.IsTold) name.now self.old.sessions result }
     {
         match self.place(name) {
             None => Answer::Unfit,

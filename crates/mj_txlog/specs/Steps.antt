@@ -13,7 +13,7 @@ use Rattle.mj_txlog.specs.Laid.{Laid, IsLaid, is_before}
 use Rattle.mj_txlog.specs.Skips.{IsJump}
 
 -- A step from t, beside an own text: none of the globals comes before that; or one does, at which or below which something is seen; or from the one that does nothing
--- is left up to d.
+-- is left up to d. Of a step that can't go on nothing is said.
 abbrev pub IsStep : Content → Laid → Name → Direction → Option (List ℕ) → List ℕ → Step → List ℕ → Type 0
 IsStep g o f way mine t step.Own d =
     (u : List ℕ) → order_at g (followed_by f (t ∷ [])) way ≡ Some u → is_before (along way subscript_cmp) u mine ≡ false
@@ -24,14 +24,14 @@ IsStep g o f way mine t step.Passed d =
     (u : List ℕ) × (order_at g (followed_by f (t ∷ [])) way ≡ Some u) × (is_empty d ≡ false) × ((es : Accesses) → IsLaid o es → IsJump g o.gone f way u d)
 IsStep g o f way mine t step.Unclear d = ⊤
 
--- what is found past s: it comes next of what is seen
+-- what is found past s: it comes next of what is seen. Where nothing is found, nothing is said.
 abbrev pub IsFound : Content → Laid → Name → List ℕ → Direction → Option (List ℕ) → Step → Type 0
 IsFound g o f s way mine step.Own = (es : Accesses) → IsLaid o es → mine ≡ order_at (seen g es) (followed_by f (s ∷ [])) way
 IsFound g o f s way mine (step.Other u) = (es : Accesses) → IsLaid o es → Some u ≡ order_at (seen g es) (followed_by f (s ∷ [])) way
 IsFound g o f s way mine step.Passed = ⊤
 IsFound g o f s way mine step.Unclear = ⊤
 
--- a step that was to go to one subscript went there, to the other
+-- a step went to the far subscript, which isn't blank; or it couldn't
 abbrev pub IsMove : Step → List ℕ → List ℕ → Type 0
 IsMove step.Own far d = ⊥
 IsMove (step.Other u) far d = ⊥

@@ -1,7 +1,7 @@
 use Rattle.std.proofs.Common.{◌≡◌, sym, ◌∙◌, ap, Some, inl, inr, refl}
 use Rattle.std.specs.List.{position}
-use Rattle.mj_sessions.specs.Named.{Roomy, is_named, session_of}
-use Rattle.mj_sessions.proofs.Places.{absent, found_asked, found_apart, found_session}
+use Rattle.mj_sessions.specs.Named.{Roomy, is_named}
+use Rattle.mj_sessions.proofs.Places.{absent, found_asked, found_apart, found_session, found_set}
 use Rattle.mj_sessions.proofs.sessions.Sessions.call.Goals as goal
 
 pub returns-in-None-clause-answers : goal.returns-in-None-clause-answers
@@ -26,10 +26,13 @@ returns-in-Some-clause-asked g c =
     ap (λ (r : Roomy). position (is_named c.args.name.now) r.sessions) c.self.view_is ∙ sym c.place.ensures ∙ c.in-Some.is in
     elim c.serve.ensures.asked [
       | inl unfit ↦ inl unfit
-      | inr asked ↦ inr (
+      | inr asked ↦ rw (← c.self.view_is) (inr (
         c.index_mut-held.result.now,
-        sym (ap (λ (r : Roomy). session_of c.args.name.now r.sessions) c.self.view_is)
-            ∙ found_session c.args.name.now c.self.inside.held.items c.in-Some.place c.index_mut-held.result.now found c.index_mut-held.ensures.value,
-        asked,
-      )
+        found_session c.args.name.now c.self.inside.held.items c.in-Some.place c.index_mut-held.result.now found c.index_mut-held.ensures.value,
+        (
+          c.serve.new.self.session,
+          asked,
+          found_set c.args.name.now c.self.inside.held.items c.in-Some.place c.index_mut-held.result.now found c.index_mut-held.ensures.value c.serve.new.self c.serve.ensures.name,
+        ),
+      ))
     ]

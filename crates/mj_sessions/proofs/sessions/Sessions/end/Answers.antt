@@ -22,7 +22,7 @@ returns-in-Some-clause-ends g c =
     (found_ends c.args.name.now c.self.inside.held.items c.in-Some.place c.remove-held.result found c.remove-held.ensures.value c.end.result c.end.ensures.ending)
 
 pub returns-in-Some-clause-asked : goal.returns-in-Some-clause-asked
-returns-in-Some-clause-asked g c = λ device late.
+returns-in-Some-clause-asked g c =
     let found : position (is_named c.args.name.now) c.self.inside.held.items ≡ Some c.in-Some.place =
     ap (λ (r : Roomy). position (is_named c.args.name.now) r.sessions) c.self.view_is ∙ sym c.place.ensures ∙ c.in-Some.is in
     inr (
