@@ -10,7 +10,7 @@ use Rattle.mj_debug.specs.Breaks.{is_breakpoint, is_there}
 use Rattle.mj_debug.specs.Shows.{HasStood}
 use Rattle.mj_debug.specs.Goes.{IsStop}
 use Rattle.mj_debug.specs.Walks.{Walk}
-use Rattle.mj_debug.specs.Replicas.{is_at}
+use Rattle.mj_debug.specs.Views.{is_ready}
 use Rattle.mj_debug.proofs.Standing.{no_row, stands}
 use Rattle.mj_debug.proofs.Stopping.{front_whole, no_line, no_breakpoint, from_there, stops_there}
 use Rattle.mj_debug.proofs.debugger.Debugger.stop.Goals as goal
@@ -19,7 +19,7 @@ pub unreachable-requires : goal.unreachable-requires
 unreachable-requires g c =
     let opening = g.O.Opening.opening in
     let now = c.args.self.now in
-    let missing = no_row now.core.image opening now.core.history c.shown.result.now c.shown.ensures.replica now.place c.shown.ensures.made c.shown.ensures.full c.args.job
+    let missing = no_row now.core.image opening now.core.history c.played.result.now c.played.ensures.replica now.place c.played.ensures.made c.played.ensures.full c.args.job
     (sym c.job-2.ensures ∙ ap option_copied c.in_default-job.is) in
     let N : History → Type 0 = λ h. row_at (state_of opening h).rows c.args.job ≡ None in
     let none = subst N (front_whole now.core.history now.place c.requires.end) missing in
@@ -31,12 +31,12 @@ pub returns-in_default-place-clause-none : goal.returns-in_default-place-clause-
 returns-in_default-place-clause-none g c =
     let opening = g.O.Opening.opening in
     let now = c.args.self.now in
-    let W : Walk = record { core = c.self.inside.core; place = c.self.inside.place; ready = is_at c.self.inside.place c.self.inside.replica; marks = c.self.inside.marks.items; turn = c.self.inside.turn } in
+    let W : Walk = record { core = c.self.inside.core; place = c.self.inside.place; ready = is_ready c.self.inside.place c.self.inside.views c.self.inside.replica; marks = c.self.inside.marks.items; turn = c.self.inside.turn } in
     let before = c.in-Some-job.then.now in
     let S : History → Type 0 = λ h. HasStood (routines_of now.core.image) opening h c.args.job before.run.at.state.locals (places before.run.at.state) in
     let T : Walk → Type 0 = λ w. HasStood (routines_of w.core.image) opening w.core.history c.args.job before.run.at.state.locals (places before.run.at.state) in
     let stood = subst T (sym c.self.view_is) (subst S (front_whole now.core.history now.place c.requires.end)
-    (stands now.core.image opening now.core.history c.shown.result.now c.shown.ensures.replica now.place c.shown.ensures.made c.args.job before (sym c.job-2.ensures ∙ ap option_copied c.in-Some-job.is))) in
+    (stands now.core.image opening now.core.history c.played.result.now c.played.ensures.replica now.place c.played.ensures.made c.args.job before (sym c.job-2.ensures ∙ ap option_copied c.in-Some-job.is))) in
     let U : Walk → Type 0 = λ w. (lines : List Place) × IsStop opening w c.args.job lines false in
     subst U c.self.view_is (no_line opening W c.args.job c.in-Some.now.now c.in-Some.ensures.run c.in-Some.ensures.log c.in-Some-ask.field-0.now (sym c.ask.ensures ∙ ap option_copied c.in-Some-ask.is) before stood c.in_default-place.ensures)
 
@@ -44,12 +44,12 @@ pub returns-then-not-is_breakpoint-clause-none : goal.returns-then-not-is_breakp
 returns-then-not-is_breakpoint-clause-none g c =
     let opening = g.O.Opening.opening in
     let now = c.args.self.now in
-    let W : Walk = record { core = c.self.inside.core; place = c.self.inside.place; ready = is_at c.self.inside.place c.self.inside.replica; marks = c.self.inside.marks.items; turn = c.self.inside.turn } in
+    let W : Walk = record { core = c.self.inside.core; place = c.self.inside.place; ready = is_ready c.self.inside.place c.self.inside.views c.self.inside.replica; marks = c.self.inside.marks.items; turn = c.self.inside.turn } in
     let before = c.in-Some-job.then.now in
     let S : History → Type 0 = λ h. HasStood (routines_of now.core.image) opening h c.args.job before.run.at.state.locals (places before.run.at.state) in
     let T : Walk → Type 0 = λ w. HasStood (routines_of w.core.image) opening w.core.history c.args.job before.run.at.state.locals (places before.run.at.state) in
     let stood = subst T (sym c.self.view_is) (subst S (front_whole now.core.history now.place c.requires.end)
-    (stands now.core.image opening now.core.history c.shown.result.now c.shown.ensures.replica now.place c.shown.ensures.made c.args.job before (sym c.job-2.ensures ∙ ap option_copied c.in-Some-job.is))) in
+    (stands now.core.image opening now.core.history c.played.result.now c.played.ensures.replica now.place c.played.ensures.made c.args.job before (sym c.job-2.ensures ∙ ap option_copied c.in-Some-job.is))) in
     let U : Walk → Type 0 = λ w. (lines : List Place) × IsStop opening w c.args.job lines false in
     let line : Place = record { routine = c.in-Some-place.routine.now; line = c.in-Some-place.line } in
     let bp : is_breakpoint c.self.inside.core.image c.self.inside.marks.items line ≡ c.is_breakpoint.result =
@@ -61,12 +61,12 @@ pub returns-then-is_at-clause-none : goal.returns-then-is_at-clause-none
 returns-then-is_at-clause-none g c =
     let opening = g.O.Opening.opening in
     let now = c.args.self.now in
-    let W : Walk = record { core = c.self.inside.core; place = c.self.inside.place; ready = is_at c.self.inside.place c.self.inside.replica; marks = c.self.inside.marks.items; turn = c.self.inside.turn } in
+    let W : Walk = record { core = c.self.inside.core; place = c.self.inside.place; ready = is_ready c.self.inside.place c.self.inside.views c.self.inside.replica; marks = c.self.inside.marks.items; turn = c.self.inside.turn } in
     let before = c.in-Some-job.then.now in
     let S : History → Type 0 = λ h. HasStood (routines_of now.core.image) opening h c.args.job before.run.at.state.locals (places before.run.at.state) in
     let T : Walk → Type 0 = λ w. HasStood (routines_of w.core.image) opening w.core.history c.args.job before.run.at.state.locals (places before.run.at.state) in
     let stood = subst T (sym c.self.view_is) (subst S (front_whole now.core.history now.place c.requires.end)
-    (stands now.core.image opening now.core.history c.shown.result.now c.shown.ensures.replica now.place c.shown.ensures.made c.args.job before (sym c.job-2.ensures ∙ ap option_copied c.in-Some-job.is))) in
+    (stands now.core.image opening now.core.history c.played.result.now c.played.ensures.replica now.place c.played.ensures.made c.args.job before (sym c.job-2.ensures ∙ ap option_copied c.in-Some-job.is))) in
     let U : Walk → Type 0 = λ w. (lines : List Place) × IsStop opening w c.args.job lines false in
     let line : Place = record { routine = c.in-Some-place.routine.now; line = c.in-Some-place.line } in
     let bp : is_breakpoint c.self.inside.core.image c.self.inside.marks.items line ≡ c.is_breakpoint.result =
@@ -79,12 +79,12 @@ pub returns-clause-some : goal.returns-clause-some
 returns-clause-some g c =
     let opening = g.O.Opening.opening in
     let now = c.args.self.now in
-    let W : Walk = record { core = c.self.inside.core; place = c.self.inside.place; ready = is_at c.self.inside.place c.self.inside.replica; marks = c.self.inside.marks.items; turn = c.self.inside.turn } in
+    let W : Walk = record { core = c.self.inside.core; place = c.self.inside.place; ready = is_ready c.self.inside.place c.self.inside.views c.self.inside.replica; marks = c.self.inside.marks.items; turn = c.self.inside.turn } in
     let before = c.in-Some-job.then.now in
     let S : History → Type 0 = λ h. HasStood (routines_of now.core.image) opening h c.args.job before.run.at.state.locals (places before.run.at.state) in
     let T : Walk → Type 0 = λ w. HasStood (routines_of w.core.image) opening w.core.history c.args.job before.run.at.state.locals (places before.run.at.state) in
     let stood = subst T (sym c.self.view_is) (subst S (front_whole now.core.history now.place c.requires.end)
-    (stands now.core.image opening now.core.history c.shown.result.now c.shown.ensures.replica now.place c.shown.ensures.made c.args.job before (sym c.job-2.ensures ∙ ap option_copied c.in-Some-job.is))) in
+    (stands now.core.image opening now.core.history c.played.result.now c.played.ensures.replica now.place c.played.ensures.made c.args.job before (sym c.job-2.ensures ∙ ap option_copied c.in-Some-job.is))) in
     let line : Place = record { routine = c.in-Some-place.routine.now; line = c.in-Some-place.line } in
     let bp : is_breakpoint c.self.inside.core.image c.self.inside.marks.items line ≡ c.is_breakpoint.result =
     ap (λ (i : Loaded). is_breakpoint i c.self.inside.marks.items line) (sym c.image.ensures)
