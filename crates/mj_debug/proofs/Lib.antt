@@ -7,6 +7,7 @@ pub mod Rounds
 pub mod Telling
 pub mod Growing
 pub mod Standing
+pub mod Viewing
 pub mod Whole
 pub mod Pools
 pub mod Marking

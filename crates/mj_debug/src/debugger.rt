@@ -1,10 +1,10 @@
 // A debugger.
 
-ghost use Rattle.std.specs.Prelude.{◌≡◌, ◌≤◌, List, [], ◌∷◌, length, map, replicate, All, true, false, Ok, OnOk, OnErr, IfOk, IfErr, IfSome, IfNone};
+ghost use Rattle.std.specs.Prelude.{◌≡◌, ◌≤◌, List, [], ◌∷◌, length, map, replicate, All, true, false, Ok, OnOk, OnErr, IfOk, IfErr, IfSome, IfNone, Some, None};
 ghost use Rattle.mj_dev.specs.Shelves.{principal, left_of};
 ghost use Rattle.mj_frames.specs.Frames.{frames_of, place_at};
 ghost use Rattle.mj_jobs.specs.Rows.{row_at, rows_limit};
-ghost use Rattle.mj_core.specs.Asking.{IsAtAsk, turn_of};
+ghost use Rattle.mj_core.specs.Asking.{IsAtAsk, IfAsks, turn_of};
 ghost use Rattle.mj_core.specs.Jobs.{Running};
 ghost use Rattle.mj_core.specs.declared.seen.Ready.TheVariants as readies;
 ghost use Rattle.mj_load.specs.Image.{routines_of};
@@ -13,12 +13,15 @@ ghost use Rattle.mj_semantics.specs.State.{place_of};
 ghost use Rattle.mj_sys.specs.History.{state_of};
 ghost use Rattle.mj_sys.specs.Opening.{opening_of};
 ghost use Rattle.mj_sys.specs.Shared.{are_global};
-ghost use Rattle.mj_core.specs.Gives.{Gives};
+ghost use Rattle.mj_sys.specs.System.{history_limit};
+ghost use Rattle.mj_core.specs.Gives.{Gives, GivesReady};
 ghost use Rattle.mj_debug.specs.Breaks.{AreMarked, is_there};
 ghost use Rattle.mj_debug.specs.Goes.{GoGives, IsTurnOf, IsStop, IsUnasked, IsPassed, line_in};
-ghost use Rattle.mj_debug.specs.Replicas.{IsReplica, IsFull, IsUnshown};
+ghost use Rattle.mj_debug.specs.Replicas.{Replayed, IsReplica, IsFull, IsUnshown};
 ghost use Rattle.mj_debug.specs.Shows.{HasStood};
+ghost use Rattle.mj_debug.specs.Views.{view_of, IsView, AreViews};
 ghost use Rattle.mj_debug.specs.Walks.{front, AreWhole, StepGives, IsOn, GoesBack, GoesForth};
+ghost use Rattle.mj_views.specs.Views.{Window};
 
 use crate::breaks::{Mark, is_breakpoint, put_mark};
 use crate::replica::{Kept, Replica, Unshown, bring, keep};
@@ -33,6 +36,7 @@ use mj_locals::Locals;
 use mj_locktab::LockTable;
 use mj_sys::{Opening, Unmade};
 use mj_text::Text;
+use mj_views::{View, Views};
 use std::alloc::{AllocError, Global};
 use std::marker::Model;
 
@@ -69,7 +73,8 @@ pub enum Gone {
 /// Jobs that are stepped, with a place in the record of what happened, which is walked back and forth. A step is made at the record's end alone,
 /// and moves the place there with it; walking changes neither the jobs nor the record. What stands at the place is shown by playing the events
 /// before it again, for which no device is called. That takes as long as the run itself took for those events that weren't played yet, and begins anew
-/// where the place is before what was played last: so the first show behind a step back costs a replay from the opening.
+/// where the place is before what was played last. Such a replay makes views of the last places before the place, up to 1,000, as far as they take about
+/// as much memory as the replay: so many steps back, each with a show, cost one replay from the opening.
 #[derive(Drop)]
 pub struct Debugger<D: Device, O: Opening> {
     alloc: Global,
@@ -78,6 +83,8 @@ pub struct Debugger<D: Device, O: Opening> {
     kept: Kept,
     // the run played again up to a place that was shown
     replica: Option<Replica<O>>,
+    // of places before one that was shown behind a step back
+    views: Views,
     marks: Vec<Mark>,
     turn: u32,
 }
@@ -88,7 +95,8 @@ impl<D: Device, O: Opening> Model for Debugger<D, O> {
     ghost use Rattle.mj_ast.specs.contracts.routine.Routine as routine;
     ghost use Rattle.mj_pcode.specs.contracts.instr.Unit as unit;
     ghost use Rattle.mj_sys.specs.System.{history_limit};
-    ghost use Rattle.mj_debug.specs.Replicas.{Begins, IsReplica, IsFull, is_at};
+    ghost use Rattle.mj_debug.specs.Replicas.{Begins, IsReplica, IsFull};
+    ghost use Rattle.mj_debug.specs.Views.{AreViews, is_ready};
     ghost use Rattle.mj_debug.specs.Walks.{Walk};
 
     ghost Value = { Walk };
@@ -98,7 +106,7 @@ impl<D: Device, O: Opening> Model for Debugger<D, O> {
     ghost view = { λ d. record {
       core = d.core;
       place = d.place;
-      ready = is_at d.place d.replica;
+      ready = is_ready d.place d.views d.replica;
       marks = d.marks.items;
       turn = d.turn;
     } };
@@ -107,7 +115,8 @@ impl<D: Device, O: Opening> Model for Debugger<D, O> {
         Begins O.opening d.kept
         × (d.place ≤ length d.core.history)
         × (length d.core.history ≤ history_limit)
-        × IfSome d.replica (λ r. IsReplica d.core.image O.opening d.core.history r × IsFull O.opening r) };
+        × IfSome d.replica (λ r. IsReplica d.core.image O.opening d.core.history r × IsFull O.opening r)
+        × AreViews d.core.image O.opening d.core.history d.views };
 }
 
 impl<D: Device, O: Opening> Debugger<D, O> {
@@ -150,6 +159,7 @@ impl<D: Device, O: Opening> Debugger<D, O> {
             place: 0,
             kept,
             replica: None,
+            views: Views::none(alloc),
             marks: Vec::new(alloc),
             turn: 1,
         })
@@ -204,15 +214,26 @@ impl<D: Device, O: Opening> Debugger<D, O> {
         Some(at)
     }
 
-    /// Gets what stands at the place ready to be shown. It changes nothing. It plays the events again that it didn't play before, or all of those
-    /// before the place, where that lies before what was ready last.
+    /// Gets what stands at the place ready to be shown. It changes nothing. Where there is a view of the place it does nothing; else it plays the
+    /// events again that it didn't play before, or all of those before the place, where that lies before what was ready last, and then makes views of
+    /// the last places before it on the way, unless the place is the record's end.
     pub fn show(&mut self) -> Result<(), Unshown>
         ensures ok { OnOk result (self.new ≡ record self.old { ready = true }) }
         ensures err { OnErr result (self.new ≡ record self.old { ready = false }) }
         ensures why { IfErr result (λ why. IsUnshown self.old.core.image O.opening self.old.core.history self.old.place why) }
     {
+        if self.views.at(self.place).is_some() {
+            return Ok(());
+        }
         let replica = self.replica.take();
-        match bring(self.alloc, &self.core, &self.kept, replica, self.place) {
+        match bring(
+            self.alloc,
+            &self.core,
+            &self.kept,
+            &mut self.views,
+            replica,
+            self.place,
+        ) {
             Ok(replica) => {
                 self.replica = Some(replica);
                 Ok(())
@@ -226,7 +247,10 @@ impl<D: Device, O: Opening> Debugger<D, O> {
         requires { self.now.ready ≡ true }
         ensures { result.now ≡ (state_of O.opening (front self.now)).globals }
     {
-        self.shown().globals()
+        match self.shown() {
+            Ok(view) => view.globals(),
+            Err(replica) => replica.globals(),
+        }
     }
 
     /// Who holds which names at the place.
@@ -234,7 +258,10 @@ impl<D: Device, O: Opening> Debugger<D, O> {
         requires { self.now.ready ≡ true }
         ensures { result.now ≡ (state_of O.opening (front self.now)).locks }
     {
-        self.shown().locks()
+        match self.shown() {
+            Ok(view) => view.locks(),
+            Err(replica) => replica.locks(),
+        }
     }
 
     /// The frames of a job, the outermost first, as it stood at the ask of its last event before the place. None where it has no row there.
@@ -244,8 +271,10 @@ impl<D: Device, O: Opening> Debugger<D, O> {
         ensures some { IfSome result (λ frames. (locals : states.Locals)
             × HasStood (routines_of self.now.core.image) O.opening (front self.now) job locals (map (λ f. f.place) (frames_of frames.now))) }
     {
-        let found = self.shown().job(job)?;
-        Some(found.frames())
+        match self.shown() {
+            Ok(view) => view.frames(job),
+            Err(replica) => replica.job_frames(job),
+        }
     }
 
     /// The locals of a job, as it stood at the ask of its last event before the place. None where it has no row there.
@@ -255,8 +284,10 @@ impl<D: Device, O: Opening> Debugger<D, O> {
         ensures some { IfSome result (λ locals. (places : List states.Place)
             × HasStood (routines_of self.now.core.image) O.opening (front self.now) job locals.now.now places) }
     {
-        let found = self.shown().job(job)?;
-        Some(found.locals())
+        match self.shown() {
+            Ok(view) => view.locals(job),
+            Err(replica) => replica.job_locals(job),
+        }
     }
 
     /// A line is a breakpoint from now on. Whether there is such a line isn't asked.
@@ -288,7 +319,7 @@ impl<D: Device, O: Opening> Debugger<D, O> {
             return Ok(Gone::NotAtEnd);
         }
         self.show()?;
-        let Some(job) = self.shown().turn(self.turn) else {
+        let Some(job) = self.played().turn(self.turn) else {
             return Ok(Gone::Over);
         };
         if first {
@@ -309,7 +340,7 @@ impl<D: Device, O: Opening> Debugger<D, O> {
         ensures ok { IfOk result (λ gone. GoGives O.opening self.old false gone self.new) }
         ensures err { OnErr result (self.new ≡ self.old) }
     {
-        let line = match asked(self.core.ready_job(job, line_of)) {
+        let line = match asked(ready_on(&mut self.core, job)) {
             Ok(line) => line?,
             Err(answer) => {
                 self.turn = job + 1;
@@ -340,8 +371,9 @@ impl<D: Device, O: Opening> Debugger<D, O> {
         ensures gives { Gives O.opening self.old.core step result self.new.core }
         ensures rest { IsOn self.old self.new }
     {
-        let answer = self.core.step(step);
-        self.place = self.core.len();
+        let answer = step_on(&mut self.core, step);
+        let end = self.core.len();
+        self.place = end;
         answer
     }
 
@@ -353,7 +385,7 @@ impl<D: Device, O: Opening> Debugger<D, O> {
         ensures some { IfSome result (λ line. (outer : List states.Place) × IsStop O.opening self.now job (record { routine = line.0; line = line.1 } ∷ outer) true) }
         ensures none { IfNone result ((places : List states.Place) × IsStop O.opening self.now job places false) }
     {
-        let Some(then) = self.shown().job(job) else {
+        let Some(then) = self.played().job(job) else {
             unreachable!();
         };
         let Some((routine, line)) = line else {
@@ -368,9 +400,22 @@ impl<D: Device, O: Opening> Debugger<D, O> {
         Some((routine, line))
     }
 
-    // The run played again up to the place.
-    fn shown(&self) -> &Replica<O>
+    // What shows the place: a view of it, or else the run played again up to it.
+    fn shown(&self) -> Result<&View, &Replica<O>>
         requires { self.now.ready ≡ true }
+        ensures view { IfOk result (λ view. IsView self.now.core.image O.opening (front self.now) view.now) }
+        ensures replica { IfErr result (λ replica. IsView self.now.core.image O.opening (front self.now) (view_of O.opening replica.now)) }
+    {
+        if let Some(view) = self.views.at(self.place) {
+            return Ok(view);
+        }
+        Err(at_hand(&self.replica))
+    }
+
+    // The run played again up to the record's end.
+    fn played(&self) -> &Replica<O>
+        requires end { self.now.place ≡ length self.now.core.history }
+        requires ready { self.now.ready ≡ true }
         ensures replica { IsReplica self.now.core.image O.opening self.now.core.history result.now }
         ensures full { IsFull O.opening result.now }
         ensures made { result.now.made ≡ self.now.place }
@@ -380,6 +425,45 @@ impl<D: Device, O: Opening> Debugger<D, O> {
         };
         replica
     }
+}
+
+// The run that is at hand.
+fn at_hand<O: Opening>(replica: &Option<Replica<O>>) -> &Replica<O>
+    requires { replica.now ≡ None → ⊥ }
+    ensures { replica.now ≡ Some result.now }
+{
+    let Some(replica) = replica else {
+        unreachable!();
+    };
+    replica
+}
+
+// Makes a step. What was played of the record stays played, and views of it are views of it still.
+fn step_on<D: Device, O: Opening>(core: &mut Core<D, O>, step: Step) -> Result<Seen, Refusal>
+    requires { length core.old.history ≤ history_limit }
+    ensures gives { Gives O.opening core.old step result core.new }
+    ensures short { length core.new.history ≤ history_limit }
+    ensures replica { (replica : Replayed) → IsReplica core.old.image O.opening core.old.history replica → IsReplica core.new.image O.opening core.new.history replica }
+    ensures views { (views : Window) → AreViews core.old.image O.opening core.old.history views → AreViews core.new.image O.opening core.new.history views }
+{
+    core.step(step)
+}
+
+// Lets a job go on to its next ask, and copies the line at which it stands there. The record stays as it is, and so does what was played of it and what
+// views show.
+fn ready_on<D: Device, O: Opening>(
+    core: &mut Core<D, O>,
+    job: u32,
+) -> Result<Ready<Result<Option<(Text, u32)>, AllocError>>, Refusal>
+    ensures gives { GivesReady O.opening core.old job (turn_of result) core.new }
+    ensures line { IfAsks result (λ seen. IfOk seen (λ line. (found : Running)
+        × IsAtAsk core.old.image O.opening core.old.history job found × (line_in line ≡ place_of found.run.at.state))) }
+    ensures image { core.new.image ≡ core.old.image }
+    ensures history { core.new.history ≡ core.old.history }
+    ensures replica { (replica : Replayed) → IsReplica core.old.image O.opening core.old.history replica → IsReplica core.new.image O.opening core.new.history replica }
+    ensures views { (views : Window) → AreViews core.old.image O.opening core.old.history views → AreViews core.new.image O.opening core.new.history views }
+{
+    core.ready_job(job, line_of)
 }
 
 // What was seen of a job that was let go on and asks, or what the step comes to of one that doesn't.

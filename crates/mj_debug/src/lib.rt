@@ -5,11 +5,12 @@
 // device is recorded to have answered must be what the device protocol allows, which no device is called for.
 //
 // `Debugger` steps jobs and keeps a place in the record of what happened (`specs/Walks.antt`). What stands there is what the events before it leave
-// (`specs/Shows.antt`), shown by a replay of them. It stops at breakpoints (`specs/Breaks.antt`, `specs/Goes.antt`).
+// (`specs/Shows.antt`), shown by a replay of them, or by a view that was made on the way of one (`specs/Views.antt`). It stops at breakpoints (`specs/Breaks.antt`, `specs/Goes.antt`).
 #![tactic(auto)]
 
 mod breaks;
 mod debugger;
+mod filming;
 mod laws;
 mod playing;
 mod replaying;

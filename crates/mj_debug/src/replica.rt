@@ -1,25 +1,32 @@
 // A run that is played again, over devices that nothing is asked of.
 
-ghost use Rattle.std.specs.Prelude.{◌≡◌, ◌<◌, ◌≤◌, ◌+◌, ◌∷◌, [], length, map, All, option_copied, IfOk, IfErr, OnOk, IfSome, IfNone};
+ghost use Rattle.std.specs.Prelude.{◌≡◌, ◌<◌, ◌≤◌, ◌+◌, ◌∷◌, [], length, map, All, Some, None, option_copied, option_map, IfOk, IfErr, OnOk, IfSome, IfNone};
 ghost use Rattle.mj_dev.specs.Shelves.{AreRising, IsBelow};
+ghost use Rattle.mj_frames.specs.Frames.{frames_of};
 ghost use Rattle.mj_jobs.specs.Rows.{rows_limit};
 ghost use Rattle.mj_sys.specs.History.{History, state_of};
 ghost use Rattle.mj_sys.specs.System.{history_limit};
 ghost use Rattle.mj_debug.specs.Goes.{IsTurnOf, IsLowest, AreOver};
 ghost use Rattle.mj_debug.specs.Replicas.{Begins, shelf_of, shelves_of, job_of, IsReplica, IsFull, IsUnshown};
+ghost use Rattle.mj_debug.specs.Views.{view_of, AreViews};
 ghost use Rattle.mj_debug.specs.Walks.{AreWhole};
+ghost use Rattle.mj_views.specs.Views.{frames_seen, locals_seen, job_in, view_at};
 
+use crate::filming::film;
 use crate::playing::Played;
 use crate::replaying::{admit, make_event};
 use mj_ask::Start;
 use mj_core::Core;
 use mj_core::jobvm::Job;
 use mj_dev::{Device, Memory, Pool};
+use mj_frames::Frame;
 use mj_globs::Globals;
 use mj_load::Image;
+use mj_locals::Locals;
 use mj_locktab::LockTable;
 use mj_sys::{Opening, System};
 use mj_text::Text;
+use mj_views::{View, Views};
 use std::alloc::{AllocError, Global};
 use std::marker::Model;
 
@@ -87,7 +94,7 @@ impl<O: Opening> Replica<O> {
     }
 
     // Plays the next event of a record.
-    fn play<D: Device>(&mut self, alloc: Global, core: &Core<D, O>) -> Result<(), Unshown>
+    pub fn play<D: Device>(&mut self, alloc: Global, core: &Core<D, O>) -> Result<(), Unshown>
         requires replica { IsReplica core.now.image O.opening core.now.history self.old }
         requires more { self.old.made < length core.now.history }
         requires short { length core.now.history ≤ history_limit }
@@ -118,8 +125,36 @@ impl<O: Opening> Replica<O> {
         Ok(())
     }
 
+    // Plays the next events of a record, up to a place.
+    pub fn play_to<D: Device>(
+        &mut self,
+        alloc: Global,
+        core: &Core<D, O>,
+        place: usize,
+    ) -> Result<(), Unshown>
+        requires replica { IsReplica core.now.image O.opening core.now.history self.old }
+        requires ahead { self.old.made ≤ place }
+        requires within { place ≤ length core.now.history }
+        requires short { length core.now.history ≤ history_limit }
+        ensures ok { OnOk result (IsReplica core.now.image O.opening core.now.history self.new) }
+        ensures made { OnOk result (self.new.made ≡ place) }
+        ensures err { IfErr result (λ why. IsUnshown core.now.image O.opening core.now.history place why) }
+    {
+        for _ in self.made()..place {
+            self.play(alloc, core)?;
+        }
+        Ok(())
+    }
+
+    // How many events were played.
+    pub fn made(&self) -> usize
+        ensures { result ≡ self.now.made }
+    {
+        self.made
+    }
+
     // Starts each job that has a row.
-    fn fill(&mut self, alloc: Global, image: &Image) -> Result<(), AllocError>
+    pub fn fill(&mut self, alloc: Global, image: &Image) -> Result<(), AllocError>
         requires { (history : History) × IsReplica image.now O.opening history self.old }
         ensures ok { OnOk result ((history : History) → IsReplica image.now O.opening history self.old → IsReplica image.now O.opening history self.new) }
         ensures made { self.new.made ≡ self.old.made }
@@ -141,6 +176,40 @@ impl<O: Opening> Replica<O> {
         ensures { result.now ≡ (state_of O.opening self.now.system.history).locks }
     {
         self.system.locks()
+    }
+
+    // The frames of a job that was started, the outermost first.
+    pub fn job_frames(&self, job: u32) -> Option<&[Frame]>
+        ensures { option_map (λ frames. frames_of frames.now) result ≡ frames_seen (job_in (view_of O.opening self.now) job) }
+    {
+        let found = self.job(job)?;
+        Some(found.frames())
+    }
+
+    // The locals of a job that was started.
+    pub fn job_locals(&self, job: u32) -> Option<&Locals>
+        ensures { option_map (λ locals. locals.now.now) result ≡ locals_seen (job_in (view_of O.opening self.now) job) }
+    {
+        let found = self.job(job)?;
+        Some(found.locals())
+    }
+
+    // A view of all that.
+    pub fn view(&self) -> Result<View, AllocError>
+        ensures { IfOk result (λ view. view ≡ view_of O.opening self.now) }
+    {
+        let mut view = View::of(self.system.globals(), self.system.locks())?;
+        for played in &self.jobs {
+            view.add_job(played.job.frames(), played.job.locals())?;
+        }
+        Ok(view)
+    }
+
+    // The jobs that were started.
+    pub fn jobs(&self) -> &[Played]
+        ensures { result.now ≡ self.now.jobs }
+    {
+        &self.jobs
     }
 
     // A job that was started.
@@ -179,15 +248,19 @@ impl<O: Opening> Replica<O> {
     }
 }
 
-// The run with as many events of a record played as there are before a place, where each job that has a row there was started.
+// The run with as many events of a record played as there are before a place, where each job that has a row there was started. The views go where a
+// run is begun anew, and where the place isn't the record's end views are made on the way then.
 pub fn bring<D: Device, O: Opening>(
     alloc: Global,
     core: &Core<D, O>,
     kept: &Kept,
+    views: &mut Views,
     replica: Option<Replica<O>>,
     place: usize,
 ) -> Result<Replica<O>, Unshown>
     requires kept { Begins O.opening kept.now }
+    requires views { AreViews core.now.image O.opening core.now.history views.old }
+    requires unseen { view_at views.old place ≡ None }
     requires replica { IfSome replica (λ r. IsReplica core.now.image O.opening core.now.history r) }
     requires within { place ≤ length core.now.history }
     requires short { length core.now.history ≤ history_limit }
@@ -195,38 +268,77 @@ pub fn bring<D: Device, O: Opening>(
     ensures made { IfOk result (λ r. r.made ≡ place) }
     ensures full { IfOk result (λ r. IsFull O.opening r) }
     ensures err { IfErr result (λ why. IsUnshown core.now.image O.opening core.now.history place why) }
+    ensures views { AreViews core.now.image O.opening core.now.history views.new }
+    ensures unseen { view_at views.new place ≡ None }
 {
-    let Ok(mut replica) = behind(alloc, core, kept, replica, place) else {
-        return Err(Unshown::Memory);
-    };
-    for _ in replica.made..place {
-        replica.play(alloc, core)?;
+    if let Some(replica) = behind(replica, place) {
+        return finish(alloc, core, replica, place);
     }
+    let replica = again(alloc, core, kept, views, place)?;
+    finish(alloc, core, replica, place)
+}
+
+// A run that isn't beyond a place, played on up to it, where each job that has a row there was started.
+fn finish<D: Device, O: Opening>(
+    alloc: Global,
+    core: &Core<D, O>,
+    mut replica: Replica<O>,
+    place: usize,
+) -> Result<Replica<O>, Unshown>
+    requires replica { IsReplica core.now.image O.opening core.now.history replica }
+    requires ahead { replica.made ≤ place }
+    requires within { place ≤ length core.now.history }
+    requires short { length core.now.history ≤ history_limit }
+    ensures ok { IfOk result (λ r. IsReplica core.now.image O.opening core.now.history r) }
+    ensures made { IfOk result (λ r. r.made ≡ place) }
+    ensures full { IfOk result (λ r. IsFull O.opening r) }
+    ensures err { IfErr result (λ why. IsUnshown core.now.image O.opening core.now.history place why) }
+{
+    replica.play_to(alloc, core, place)?;
     match replica.fill(alloc, core.image()) {
         Ok(()) => Ok(replica),
         Err(_) => Err(Unshown::Memory),
     }
 }
 
-// The run that is at hand, if it isn't beyond a place, or else a new one.
-fn behind<D: Device, O: Opening>(
+// The run that is at hand, if it isn't beyond a place.
+fn behind<O: Opening>(replica: Option<Replica<O>>, place: usize) -> Option<Replica<O>>
+    ensures same { IfSome result (λ r. replica ≡ Some r) }
+    ensures made { IfSome result (λ r. r.made ≤ place) }
+{
+    let replica = replica?;
+    if replica.made > place {
+        return None;
+    }
+    Some(replica)
+}
+
+// A new run, with views of the last places before a place that isn't the record's end.
+fn again<D: Device, O: Opening>(
     alloc: Global,
     core: &Core<D, O>,
     kept: &Kept,
-    replica: Option<Replica<O>>,
+    views: &mut Views,
     place: usize,
-) -> Result<Replica<O>, AllocError>
+) -> Result<Replica<O>, Unshown>
     requires kept { Begins O.opening kept.now }
-    requires replica { IfSome replica (λ r. IsReplica core.now.image O.opening core.now.history r) }
+    requires within { place ≤ length core.now.history }
+    requires short { length core.now.history ≤ history_limit }
     ensures ok { IfOk result (λ r. IsReplica core.now.image O.opening core.now.history r) }
     ensures made { IfOk result (λ r. r.made ≤ place) }
+    ensures err { IfErr result (λ why. IsUnshown core.now.image O.opening core.now.history place why) }
+    ensures views { AreViews core.now.image O.opening core.now.history views.new }
+    ensures unseen { view_at views.new place ≡ None }
 {
-    if let Some(replica) = replica {
-        if replica.made <= place {
-            return Ok(replica);
-        }
+    views.begin(0);
+    let Ok(mut replica) = Replica::begin(alloc, kept) else {
+        return Err(Unshown::Memory);
+    };
+    if place >= core.len() {
+        return Ok(replica);
     }
-    Replica::begin(alloc, kept)
+    film(alloc, core, views, &mut replica, place)?;
+    Ok(replica)
 }
 
 // What a run is to be begun with once more.

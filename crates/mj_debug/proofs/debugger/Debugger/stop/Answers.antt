@@ -18,7 +18,7 @@ pub unreachable-requires : goal.unreachable-requires
 unreachable-requires g c =
     let opening = g.O.Opening.opening in
     let now = c.args.self.now in
-    let missing = no_row now.core.image opening now.core.history c.shown.result.now c.shown.ensures.replica now.place c.shown.ensures.made c.shown.ensures.full c.args.job
+    let missing = no_row now.core.image opening now.core.history c.played.result.now c.played.ensures.replica now.place c.played.ensures.made c.played.ensures.full c.args.job
     (sym c.job.ensures ∙ ap option_copied c.in_default.is) in
     let N : History → Type 0 = λ h. row_at (state_of opening h).rows c.args.job ≡ None in
     let none = subst N (front_whole now.core.history now.place c.requires.end) missing in
@@ -32,7 +32,7 @@ returns-in_default-line-clause-none g c =
     let before = c.in-Some.then.now in
     let S : History → Type 0 = λ h. HasStood (routines_of now.core.image) opening h c.args.job before.run.at.state.locals (places before.run.at.state) in
     let stood = subst S (front_whole now.core.history now.place c.requires.end)
-    (stands now.core.image opening now.core.history c.shown.result.now c.shown.ensures.replica now.place c.shown.ensures.made c.args.job before (sym c.job.ensures ∙ ap option_copied c.in-Some.is)) in
+    (stands now.core.image opening now.core.history c.played.result.now c.played.ensures.replica now.place c.played.ensures.made c.args.job before (sym c.job.ensures ∙ ap option_copied c.in-Some.is)) in
     let none : None ≡ place_of found.run.at.state = ap line_in (sym c.in_default-line.is) ∙ c.requires.asks.2 in
     no_line opening now c.args.job found c.requires.asks.1 before stood none
 
@@ -44,7 +44,7 @@ returns-then-not-is_breakpoint-clause-none g c =
     let before = c.in-Some.then.now in
     let S : History → Type 0 = λ h. HasStood (routines_of now.core.image) opening h c.args.job before.run.at.state.locals (places before.run.at.state) in
     let stood = subst S (front_whole now.core.history now.place c.requires.end)
-    (stands now.core.image opening now.core.history c.shown.result.now c.shown.ensures.replica now.place c.shown.ensures.made c.args.job before (sym c.job.ensures ∙ ap option_copied c.in-Some.is)) in
+    (stands now.core.image opening now.core.history c.played.result.now c.played.ensures.replica now.place c.played.ensures.made c.args.job before (sym c.job.ensures ∙ ap option_copied c.in-Some.is)) in
     let line : Place = record { routine = c.in-Some-line.routine; line = c.in-Some-line.line } in
     let there : Some line ≡ place_of found.run.at.state = ap line_in (sym c.in-Some-line.is) ∙ c.requires.asks.2 in
     let bp : is_breakpoint now.core.image now.marks line ≡ c.is_breakpoint.result =
@@ -61,7 +61,7 @@ returns-then-is_at-clause-none g c =
     let before = c.in-Some.then.now in
     let S : History → Type 0 = λ h. HasStood (routines_of now.core.image) opening h c.args.job before.run.at.state.locals (places before.run.at.state) in
     let stood = subst S (front_whole now.core.history now.place c.requires.end)
-    (stands now.core.image opening now.core.history c.shown.result.now c.shown.ensures.replica now.place c.shown.ensures.made c.args.job before (sym c.job.ensures ∙ ap option_copied c.in-Some.is)) in
+    (stands now.core.image opening now.core.history c.played.result.now c.played.ensures.replica now.place c.played.ensures.made c.args.job before (sym c.job.ensures ∙ ap option_copied c.in-Some.is)) in
     let line : Place = record { routine = c.in-Some-line.routine; line = c.in-Some-line.line } in
     let there : Some line ≡ place_of found.run.at.state = ap line_in (sym c.in-Some-line.is) ∙ c.requires.asks.2 in
     let bp : is_breakpoint now.core.image now.marks line ≡ c.is_breakpoint.result =
@@ -79,7 +79,7 @@ returns-clause-some g c =
     let before = c.in-Some.then.now in
     let S : History → Type 0 = λ h. HasStood (routines_of now.core.image) opening h c.args.job before.run.at.state.locals (places before.run.at.state) in
     let stood = subst S (front_whole now.core.history now.place c.requires.end)
-    (stands now.core.image opening now.core.history c.shown.result.now c.shown.ensures.replica now.place c.shown.ensures.made c.args.job before (sym c.job.ensures ∙ ap option_copied c.in-Some.is)) in
+    (stands now.core.image opening now.core.history c.played.result.now c.played.ensures.replica now.place c.played.ensures.made c.args.job before (sym c.job.ensures ∙ ap option_copied c.in-Some.is)) in
     let line : Place = record { routine = c.in-Some-line.routine; line = c.in-Some-line.line } in
     let there : Some line ≡ place_of found.run.at.state = ap line_in (sym c.in-Some-line.is) ∙ c.requires.asks.2 in
     let bp : is_breakpoint now.core.image now.marks line ≡ c.is_breakpoint.result =

@@ -1,0 +1,48 @@
+-- Views of places of a history.
+use Rattle.std.specs.Prelude.{◌≡◌, ℕ, ◌+◌, ◌<◌, ◌≤◌, List, ◌∷◌, [], ◌++◌, length, map, take, Bool, true, false, ◌||◌, Option, Some, None, is_some}
+use Rattle.mj_load.specs.Image.{Loaded, routines_of}
+use Rattle.mj_jobs.specs.Rows.{row_at}
+use Rattle.mj_sys.specs.Shared.{Shared}
+use Rattle.mj_sys.specs.History.{History, state_of}
+use Rattle.mj_views.specs.Views.{Stand, Viewed, Window, job_in, view_at}
+use Rattle.mj_debug.specs.Playing.{Playing}
+use Rattle.mj_debug.specs.Replicas.{Replayed, is_at}
+use Rattle.mj_debug.specs.Shows.{HasStood}
+
+-- a job as it stands in a run that is played again
+abbrev pub stand_of : Playing → Stand
+stand_of played = record { frames = played.job.run.at.state.frames; locals = played.job.run.at.state.locals }
+
+-- what a run that is played again has to show
+abbrev pub view_of : Shared → Replayed → Viewed
+view_of opening replica = record {
+  globals = (state_of opening replica.system.history).globals;
+  locks = (state_of opening replica.system.history).locks;
+  jobs = map stand_of replica.jobs;
+}
+
+-- a view shows what these events leave: the globals and the locks; no job that it hasn't has a row there; and each that it has stood so at its last
+-- ask there
+pub record IsView (image : Loaded) (opening : Shared) (front : History) (view : Viewed) : Type 0 where
+  pub globals : view.globals ≡ (state_of opening front).globals
+  pub locks : view.locks ≡ (state_of opening front).locks
+  pub none : (job : ℕ) → job_in view job ≡ None → row_at (state_of opening front).rows job ≡ None
+  pub some : (job : ℕ) (stand : Stand) → job_in view job ≡ Some stand → HasStood (routines_of image) opening front job stand.locals (map (λ f. f.place) stand.frames)
+
+-- each view is of a place before the history's end, and shows what the events before its place leave
+abbrev pub AreViews : Loaded → Shared → History → Window → Type 0
+AreViews image opening history views =
+    (place : ℕ) (view : Viewed) → view_at views place ≡ Some view → (place < length history) × IsView image opening (take place history) view
+
+-- each is of a place before this one
+abbrev pub AreBefore : ℕ → Window → Type 0
+AreBefore place views = views.first + length views.views ≤ place
+
+-- the next view was put to them, or all went
+abbrev pub IsKept : Viewed → Window → Bool → Window → Type 0
+IsKept view old true new = new ≡ record old { views = old.views ++ view ∷ [] }
+IsKept view old false new = new ≡ record old { views = [] }
+
+-- what stands at a place is at hand: there is a view of it, or a run was played again up to it
+abbrev pub is_ready : ℕ → Window → Option Replayed → Bool
+is_ready place views replica = is_some (view_at views place) || is_at place replica
