@@ -56,10 +56,34 @@ fn fill(
     principal: u64,
     drops: &Drops,
 ) -> Result<(), Failure> {
+    put_named(alloc, pool, named, drops)?;
     let zero = Text::from_number(alloc, 0);
-    put(alloc, pool, &Text::from(alloc, b"F")?, named, &drops.named)?;
-    put(alloc, pool, &zero, principal, &drops.principal)?;
-    put(alloc, pool, &zero, 0, &drops.principal)
+    let put = put_principal(alloc, pool, &zero, principal, drops);
+    drop(zero);
+    put
+}
+
+fn put_named(
+    alloc: Global,
+    pool: &mut Pool<Counting>,
+    at: u64,
+    drops: &Drops,
+) -> Result<(), Failure> {
+    let name = Text::from(alloc, b"F")?;
+    let put = put(alloc, pool, &name, at, &drops.named);
+    drop(name);
+    put
+}
+
+fn put_principal(
+    alloc: Global,
+    pool: &mut Pool<Counting>,
+    zero: &Text,
+    at: u64,
+    drops: &Drops,
+) -> Result<(), Failure> {
+    put(alloc, pool, zero, at, &drops.principal)?;
+    put(alloc, pool, zero, 0, &drops.principal)
 }
 
 // Adds a device of this name that fails in this call.

@@ -8,12 +8,6 @@ use std::test::Fail;
 // device, and both sessions are ended.
 #[test]
 fn the_third_call_of_a_device_fails(rt: HostRuntime) -> Result<(), Fail> {
-    let lines = stepped(
-        rt.alloc(),
-        " OPEN \"F\" USE \"F\" WRITE \"x\" WRITE \"y\"\n",
-        3,
-        0,
-    )?;
     let wanted = "1 dev \"0\" begin done
 1 open \"F\" got
 1 dev \"F\" begin done
@@ -28,20 +22,23 @@ F is dropped
 ---
 0 is dropped
 ";
-    assert_eq!(rt; str::from_utf8(&lines)?, wanted);
-    Ok(())
+    let bytes = " OPEN \"F\" USE \"F\" WRITE \"x\" WRITE \"y\"\n";
+    let lines = stepped(rt.alloc(), bytes, 3, 0)?;
+    let told = hold(lines.as_slice() == wanted.as_bytes(), bytes, &lines);
+    drop(lines);
+    told
 }
 
 // Which call of F fails, and which of the principal device.
 #[test]
 fn a_call_fails(rt: HostRuntime) -> Result<(), Fail> {
-    for (bytes, named, principal, tail) in [
-        // its begin
-        (
-            " OPEN \"F\" WRITE \"x\"\n",
-            1,
-            0,
-            "1 dev \"F\" begin failed
+    // its begin
+    tells(
+        &rt,
+        " OPEN \"F\" WRITE \"x\"\n",
+        1,
+        0,
+        "1 dev \"F\" begin failed
 1 dev \"0\" write \"F16 DEVICE R:1\\0a\" done
 1 dev \"F\" end done
 F is dropped
@@ -51,13 +48,14 @@ F is dropped
 ---
 0 is dropped
 ",
-        ),
-        // what is read from it
-        (
-            " OPEN \"F\" USE \"F\" READ X\n",
-            2,
-            0,
-            "1 dev \"F\" line failed
+    )?;
+    // what is read from it
+    tells(
+        &rt,
+        " OPEN \"F\" USE \"F\" READ X\n",
+        2,
+        0,
+        "1 dev \"F\" line failed
 1 dev \"0\" write \"F16 DEVICE R:1\\0a\" done
 1 dev \"F\" end done
 F is dropped
@@ -67,13 +65,14 @@ F is dropped
 ---
 0 is dropped
 ",
-        ),
-        // its end, by CLOSE and by the job's end
-        (
-            " OPEN \"F\" CLOSE \"F\"\n",
-            2,
-            0,
-            "1 dev \"F\" end failed
+    )?;
+    // its end, by CLOSE and by the job's end
+    tells(
+        &rt,
+        " OPEN \"F\" CLOSE \"F\"\n",
+        2,
+        0,
+        "1 dev \"F\" end failed
 F is dropped
 1 close \"F\" done
 1 dev \"0\" write \"F16 DEVICE R:1\\0a\" done
@@ -83,12 +82,13 @@ F is dropped
 ---
 0 is dropped
 ",
-        ),
-        (
-            " OPEN \"F\" HALT\n",
-            2,
-            0,
-            "1 dev \"F\" end failed
+    )?;
+    tells(
+        &rt,
+        " OPEN \"F\" HALT\n",
+        2,
+        0,
+        "1 dev \"F\" end failed
 F is dropped
 1 dev \"0\" end done
 0 is dropped
@@ -96,13 +96,14 @@ F is dropped
 ---
 0 is dropped
 ",
-        ),
-        // the principal one: what is written to it, its end, and its begin
-        (
-            " OPEN \"F\" WRITE \"x\"\n",
-            0,
-            2,
-            "1 dev \"0\" write \"x\" failed
+    )?;
+    // the principal one: what is written to it, its end, and its begin
+    tells(
+        &rt,
+        " OPEN \"F\" WRITE \"x\"\n",
+        0,
+        2,
+        "1 dev \"0\" write \"x\" failed
 1 dev \"F\" end done
 F is dropped
 1 dev \"0\" end done
@@ -111,12 +112,13 @@ F is dropped
 ---
 0 is dropped
 ",
-        ),
-        (
-            " OPEN \"F\"\n",
-            0,
-            2,
-            "1 dev \"F\" end done
+    )?;
+    tells(
+        &rt,
+        " OPEN \"F\"\n",
+        0,
+        2,
+        "1 dev \"F\" end done
 F is dropped
 1 dev \"0\" end failed
 0 is dropped
@@ -124,12 +126,13 @@ F is dropped
 ---
 0 is dropped
 ",
-        ),
-        (
-            " OPEN \"F\"\n",
-            0,
-            1,
-            "1 dev \"0\" begin failed
+    )?;
+    tells(
+        &rt,
+        " OPEN \"F\"\n",
+        0,
+        1,
+        "1 dev \"0\" begin failed
 1 dev \"0\" end done
 0 is dropped
 1 halt F16 done
@@ -137,31 +140,32 @@ F is dropped
 F is dropped
 0 is dropped
 ",
-        ),
-    ] {
-        let lines = stepped(rt.alloc(), bytes, named, principal)?;
-        assert!(rt; lines.ends_with(tail.as_bytes()), "{bytes}");
-    }
-    Ok(())
+    )
 }
 
 // A session is dropped with its end, before its job's next event; the principal one comes last.
 #[test]
 fn a_job_that_ends_drops_its_sessions(rt: HostRuntime) -> Result<(), Fail> {
-    for bytes in [
-        // the end of the routine
-        " OPEN \"F\" USE \"F\" WRITE \"x\"\n",
-        // HALT
-        " OPEN \"F\" USE \"F\" READ X HALT\n",
-        // HALT two frames below
-        " DO A\nA FOR  DO\n . OPEN \"F\" HALT\n",
-        // HALT in a transaction, with a lock
+    // the end of the routine
+    ends(&rt, " OPEN \"F\" USE \"F\" WRITE \"x\"\n")?;
+    // HALT
+    ends(&rt, " OPEN \"F\" USE \"F\" READ X HALT\n")?;
+    // HALT two frames below
+    ends(&rt, " DO A\nA FOR  DO\n . OPEN \"F\" HALT\n")?;
+    // HALT in a transaction, with a lock
+    ends(
+        &rt,
         " OPEN \"F\" USE \"F\" WRITE \"x\" LOCK +^L TSTART  SET ^A=2 HALT\n",
-        // a transaction that was begun again
+    )?;
+    // a transaction that was begun again
+    ends(
+        &rt,
         " TSTART () IF $TRESTART=0 OPEN \"F\" TRESTART\n TCOMMIT\n",
-    ] {
-        let lines = stepped(rt.alloc(), bytes, 0, 0)?;
-        let tail = "1 dev \"F\" end done
+    )
+}
+
+fn ends(rt: &HostRuntime, bytes: &str) -> Result<(), Fail> {
+    let tail = "1 dev \"F\" end done
 F is dropped
 1 dev \"0\" end done
 0 is dropped
@@ -169,18 +173,18 @@ F is dropped
 ---
 0 is dropped
 ";
-        assert!(rt; lines.ends_with(tail.as_bytes()), "{bytes}");
-    }
-    Ok(())
+    tells(rt, bytes, 0, 0, tail)
 }
 
 // So does a job that faults, and one that another started, which has ended before.
 #[test]
 fn a_job_that_faults_drops_its_sessions(rt: HostRuntime) -> Result<(), Fail> {
-    for (bytes, tail) in [
-        (
-            " OPEN \"F\" WRITE 1\\0\n",
-            "1 dev \"0\" write \"F2 DIVIDE R:1\\0a\" done
+    tells(
+        &rt,
+        " OPEN \"F\" WRITE 1\\0\n",
+        0,
+        0,
+        "1 dev \"0\" write \"F2 DIVIDE R:1\\0a\" done
 1 dev \"F\" end done
 F is dropped
 1 dev \"0\" end done
@@ -189,11 +193,14 @@ F is dropped
 ---
 0 is dropped
 ",
-        ),
-        // two frames below, with the device current
-        (
-            " DO A\nA OPEN \"F\" USE \"F\" DO\n . WRITE \"x\",X\n",
-            "1 dev \"F\" write \"x\" done
+    )?;
+    // two frames below, with the device current
+    tells(
+        &rt,
+        " DO A\nA OPEN \"F\" USE \"F\" DO\n . WRITE \"x\",X\n",
+        0,
+        0,
+        "1 dev \"F\" write \"x\" done
 1 dev \"0\" write \"F1 UNDEF R:3\\0a\" done
 1 dev \"F\" end done
 F is dropped
@@ -203,10 +210,13 @@ F is dropped
 ---
 0 is dropped
 ",
-        ),
-        (
-            " JOB A HALT\nA OPEN \"F\" USE \"F\" WRITE \"x\"\n",
-            "1 start A^R () job 2
+    )?;
+    tells(
+        &rt,
+        " JOB A HALT\nA OPEN \"F\" USE \"F\" WRITE \"x\"\n",
+        0,
+        0,
+        "1 start A^R () job 2
 1 dev \"0\" end done
 0 is dropped
 2 dev \"0\" begin done
@@ -221,20 +231,17 @@ F is dropped
 2 halt done
 ---
 ",
-        ),
-    ] {
-        let lines = stepped(rt.alloc(), bytes, 0, 0)?;
-        assert!(rt; lines.ends_with(tail.as_bytes()), "{bytes}");
-    }
-    Ok(())
+    )
 }
 
 #[test]
 fn a_session_that_is_closed_is_dropped(rt: HostRuntime) -> Result<(), Fail> {
-    for (bytes, tail) in [
-        (
-            " OPEN \"F\" USE \"F\" WRITE \"x\" CLOSE \"F\" WRITE \"y\"\n",
-            "1 dev \"F\" end done
+    tells(
+        &rt,
+        " OPEN \"F\" USE \"F\" WRITE \"x\" CLOSE \"F\" WRITE \"y\"\n",
+        0,
+        0,
+        "1 dev \"F\" end done
 F is dropped
 1 close \"F\" done
 1 dev \"0\" write \"y\" done
@@ -244,11 +251,14 @@ F is dropped
 ---
 0 is dropped
 ",
-        ),
-        // there is no other session
-        (
-            " OPEN \"F\" CLOSE \"F\" OPEN \"F\"\n",
-            "1 dev \"F\" end done
+    )?;
+    // there is no other session
+    tells(
+        &rt,
+        " OPEN \"F\" CLOSE \"F\" OPEN \"F\"\n",
+        0,
+        0,
+        "1 dev \"F\" end done
 F is dropped
 1 close \"F\" done
 1 open \"F\" none
@@ -259,42 +269,45 @@ F is dropped
 ---
 0 is dropped
 ",
-        ),
-    ] {
-        let lines = stepped(rt.alloc(), bytes, 0, 0)?;
-        assert!(rt; lines.ends_with(tail.as_bytes()), "{bytes}");
-    }
-    Ok(())
+    )
 }
 
 #[test]
 fn what_no_job_ends_is_dropped_with_the_core(rt: HostRuntime) -> Result<(), Fail> {
-    for (bytes, tail) in [
-        // nobody opens F
-        (
-            " WRITE 1\n",
-            "1 dev \"0\" end done
+    // nobody opens F
+    tells(
+        &rt,
+        " WRITE 1\n",
+        0,
+        0,
+        "1 dev \"0\" end done
 0 is dropped
 1 halt done
 ---
 F is dropped
 0 is dropped
 ",
-        ),
-        // the job goes on
-        (
-            " OPEN \"F\" FOR  HANG 1\n",
-            "1 rest 1 done
+    )?;
+    // the job goes on
+    tells(
+        &rt,
+        " OPEN \"F\" FOR  HANG 1\n",
+        0,
+        0,
+        "1 rest 1 done
 ---
 F is dropped
 0 is dropped
 0 is dropped
 ",
-        ),
-        // both wait for what the other has, and one has closed a device before
-        (
-            " LOCK +^L JOB A HANG 1,1 LOCK +^M\nA LOCK +^M OPEN \"F\" CLOSE \"F\" LOCK +^L\n",
-            "1 rest 1 done
+    )?;
+    // both wait for what the other has, and one has closed a device before
+    tells(
+        &rt,
+        " LOCK +^L JOB A HANG 1,1 LOCK +^M\nA LOCK +^M OPEN \"F\" CLOSE \"F\" LOCK +^L\n",
+        0,
+        0,
+        "1 rest 1 done
 2 dev \"0\" begin done
 1 rest 1 done
 2 try ^M got
@@ -307,10 +320,28 @@ F is dropped
 0 is dropped
 0 is dropped
 ",
-        ),
-    ] {
-        let lines = stepped(rt.alloc(), bytes, 0, 0)?;
-        assert!(rt; lines.ends_with(tail.as_bytes()), "{bytes}");
+    )
+}
+
+// Fails where the lines of a routine, over devices of which these calls fail, don't end so.
+fn tells(
+    rt: &HostRuntime,
+    bytes: &str,
+    named: u64,
+    principal: u64,
+    tail: &str,
+) -> Result<(), Fail> {
+    let lines = stepped(rt.alloc(), bytes, named, principal)?;
+    let told = hold(lines.ends_with(tail.as_bytes()), bytes, &lines);
+    drop(lines);
+    told
+}
+
+// Fails with the lines of a routine where it isn't so.
+fn hold(is: bool, bytes: &str, lines: &[u8]) -> Result<(), Fail> {
+    if is {
+        return Ok(());
     }
-    Ok(())
+    let lines = str::from_utf8(lines).unwrap_or("?");
+    Err(Fail::new(format_args!("{bytes} ({lines})")))
 }

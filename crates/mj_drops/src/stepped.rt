@@ -72,9 +72,10 @@ fn begun<D: Device>(
 
 // A start at the first line of R.
 fn starts(alloc: Global) -> Result<Vec<Start>, Failure> {
+    let routine = Text::from(alloc, b"R")?;
     let entry = Entry {
         label: None,
-        routine: Text::from(alloc, b"R")?,
+        routine,
     };
     let mut starts = Vec::new(alloc);
     starts.push(Start::new(entry, Vec::new(alloc)))?;
@@ -85,7 +86,9 @@ fn starts(alloc: Global) -> Result<Vec<Start>, Failure> {
 fn image(alloc: Global, bytes: &str) -> Result<Image, Failure> {
     let routine = routine(alloc, bytes)?;
     let mut routines = Vec::new(alloc);
-    if routines.push(routine).is_err() {
+    if let Err(failed) = routines.push(routine) {
+        drop(failed);
+        drop(routines);
         return Err(Failure::Memory);
     }
     match load(alloc, routines) {

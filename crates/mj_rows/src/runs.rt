@@ -1,99 +1,74 @@
 // The program on routines, and on what it refuses.
 
-use mj_rows_runs::{folder, row, run_words};
+use mj_rows_runs::{Wanted, comes_to, folder, hold, judge, remove, run_text, write};
+use std::fs;
 use std::test::Fail;
-use std::{fs, str};
 
 #[test]
 fn routines_run(rt: HostRuntime) -> Result<(), Fail> {
-    for (bytes, out, status) in [
-        (" SET ^A=2+3*4 WRITE ^A,! HALT\n", "20\n", 0),
-        (" WRITE 2+3*4,!\n", "20\n", 0),
-        (" SET X=1,X(2)=X+1 WRITE X(2)_X,Y", "21\nF1 UNDEF R:1\n", 1),
-        ("", "F8 NOLINE -\n", 1),
-        (" WRITE 999999999999999999+1", "F4 RANGE R:1\n", 1),
-        ("; a comment\n SET A(\"\")=1", "F6 SUBSCRIPT R:2\n", 1),
-        (
-            " SET:0 X=1 W:1 \"a\"_-\"3x\" W 1=1,01=1\n h ; gone\n w 5\n",
-            "a-311",
-            0,
-        ),
-    ] {
-        let ran = row(&rt, "runs", bytes)?;
-        assert_eq!(rt; str::from_utf8(&ran.out)?, out);
-        assert_eq!(rt; str::from_utf8(&ran.err)?, "");
-        assert_eq!(rt; ran.status, status);
-    }
-    Ok(())
+    let rows = " SET ^A=2+3*4 WRITE ^A,! HALT~ => 20~ => 0
+ WRITE 2+3*4,!~ => 20~ => 0
+ SET X=1,X(2)=X+1 WRITE X(2)_X,Y => 21~F1 UNDEF R:1~ => 1
+ => F8 NOLINE -~ => 1
+ WRITE 999999999999999999+1 => F4 RANGE R:1~ => 1
+; a comment~ SET A(\"\")=1 => F6 SUBSCRIPT R:2~ => 1
+ SET:0 X=1 W:1 \"a\"_-\"3x\" W 1=1,01=1~ h ; gone~ w 5~ => a-311 => 0
+";
+    judge(&rt, "runs", Wanted::Printed, rows)
 }
 
 #[test]
 fn routines_are_refused(rt: HostRuntime) -> Result<(), Fail> {
-    for (bytes, err) in [
-        (" WRITE \"abc", "L2 R:1:8\n"),
-        (" SET  X=1", "L2 R:1:6\n"),
-        (" SET @X=1", "L7 R:1:6 indirection\n"),
-        (" WRITE 1\n DO A(.X)", "L7 R:2:7 by reference\n"),
-        (" WRITE X'?1N", "L7 R:1:9 pattern\n"),
-        (" WRITE '?1N", "L2 R:1:8\n"),
-        (" WRITE 1\n WRITE 1000000000000000000", "L2 R:2:8\n"),
-        ("A WRITE 1\nB\nA WRITE )", "L3 R:3\n"),
-        (" SET A234567890123456789012345678901X=)", "L5 R:1\n"),
-        (
-            "1\n2\n W (((((((((((((((((((((((((((((((((((((((((((((((((((((((((((((((((1",
-            "L6 R:3:68\n",
-        ),
-    ] {
-        let ran = row(&rt, "refused", bytes)?;
-        assert_eq!(rt; str::from_utf8(&ran.out)?, "");
-        assert_eq!(rt; str::from_utf8(&ran.err)?, err);
-        assert_eq!(rt; ran.status, 2);
-    }
-    Ok(())
+    let rows = " WRITE \"abc => L2 R:1:8~
+ SET  X=1 => L2 R:1:6~
+ SET @X=1 => L7 R:1:6 indirection~
+ WRITE 1~ DO A(.X) => L7 R:2:7 by reference~
+ WRITE X'?1N => L7 R:1:9 pattern~
+ WRITE '?1N => L2 R:1:8~
+ WRITE 1~ WRITE 1000000000000000000 => L2 R:2:8~
+A WRITE 1~B~A WRITE ) => L3 R:3~
+ SET A234567890123456789012345678901X=) => L5 R:1~
+1~2~ W (((((((((((((((((((((((((((((((((((((((((((((((((((((((((((((((((1 => L6 R:3:68~
+";
+    judge(&rt, "refused", Wanted::Refused, rows)
 }
 
 #[test]
 fn words_are_refused(rt: HostRuntime) -> Result<(), Fail> {
-    let ran = run_words(&rt, &["mj", "run", "--start", "R", "R.m"]);
-    assert_eq!(rt; str::from_utf8(&ran.err)?, "bad R\n");
-    assert_eq!(rt; ran.status, 3);
-    let ran = run_words(&rt, &["mj", "run", "--start", "^R", "--unknown", "R.m"]);
-    assert!(rt; ran.out.is_empty());
-    assert_eq!(rt; ran.status, 3);
-    let ran = run_words(&rt, &["mj", "run", "--start", "^R", "no_folder/R.m"]);
-    assert_eq!(rt; str::from_utf8(&ran.err)?, "file no_folder/R.m\n");
-    assert_eq!(rt; ran.status, 4);
-    Ok(())
+    comes_to(&rt, "", "run|--start|R|R.m", b"", "", "bad R\n", 3)?;
+    let unknown = "run|--start|^R|--unknown|R.m";
+    let ran = run_text(&rt, "", unknown, b"")?;
+    let told = hold(ran.out.is_empty() && ran.status == 3, unknown, &ran);
+    drop(ran);
+    told?;
+    let missing = "run|--start|^R|no_folder/R.m";
+    comes_to(&rt, "", missing, b"", "", "file no_folder/R.m\n", 4)
 }
 
 #[test]
 fn files_are_refused(rt: HostRuntime) -> Result<(), Fail> {
     let folder = folder(&rt, "files")?;
-    let unnamed = format!(in rt.alloc(); "{folder}/1R.m")?;
-    fs::write(&rt, unnamed.as_str(), " WRITE (")?;
-    let ran = run_words(&rt, &["mj", "run", "--start", "^R", unnamed.as_str()]);
-    let err = format!(in rt.alloc(); "L1 {unnamed}\n")?;
-    assert_eq!(rt; str::from_utf8(&ran.err)?, err.as_str());
-    assert_eq!(rt; ran.status, 2);
+    let refused = are_refused(&rt, folder.as_str());
+    drop(folder);
+    refused
+}
 
-    let first = format!(in rt.alloc(); "{folder}/R.m")?;
-    fs::write(&rt, first.as_str(), " WRITE 1")?;
-    let below = format!(in rt.alloc(); "{folder}/other")?;
-    fs::create_dir_all(&rt, below.as_str())?;
-    let second = format!(in rt.alloc(); "{folder}/other/R.m")?;
-    fs::write(&rt, second.as_str(), " WRITE 2")?;
-    let words = [
-        "mj",
-        "run",
-        "--start",
-        "^R",
-        first.as_str(),
-        second.as_str(),
-    ];
-    let ran = run_words(&rt, &words);
-    assert!(rt; ran.out.is_empty());
-    assert_eq!(rt; str::from_utf8(&ran.err)?, "L4 R\n");
-    assert_eq!(rt; ran.status, 2);
-    fs::remove_dir_all(&rt, folder.as_str())?;
-    Ok(())
+// A file of a name that is no routine's, and two files of one name.
+fn are_refused(rt: &HostRuntime, folder: &str) -> Result<(), Fail> {
+    write(rt, folder, "1R.m", b" WRITE (")?;
+    let unnamed = "run|--start|^R|DIR/1R.m";
+    comes_to(rt, folder, unnamed, b"", "", "L1 DIR/1R.m\n", 2)?;
+    write(rt, folder, "R.m", b" WRITE 1")?;
+    make_other(rt, folder)?;
+    write(rt, folder, "other/R.m", b" WRITE 2")?;
+    let twice = "run|--start|^R|DIR/R.m|DIR/other/R.m";
+    comes_to(rt, folder, twice, b"", "", "L4 R\n", 2)?;
+    remove(rt, folder)
+}
+
+fn make_other(rt: &HostRuntime, folder: &str) -> Result<(), Fail> {
+    let path = format!(in rt.alloc(); "{folder}/other")?;
+    let made = fs::create_dir_all(rt, path.as_str());
+    drop(path);
+    Ok(made?)
 }

@@ -1,9 +1,6 @@
 // Recorded replies, told one by one.
 
 use crate::stepped::stepped;
-use mj_ask::Reply;
-use mj_core::Way;
-use mj_text::Text;
 use std::str;
 use std::test::Fail;
 
@@ -11,35 +8,24 @@ use std::test::Fail;
 // is shared needs none. Behind a failure only the end of that session may follow.
 #[test]
 fn what_is_recorded_is_told(rt: HostRuntime) -> Result<(), Fail> {
-    let alloc = rt.alloc();
-    let mut steps = Vec::new(alloc);
-    let line = Text::from(alloc, b"abc")?;
-    for step in [
-        (Way::Go, None),
-        (Way::Late, Some(Reply::Done)),
-        (Way::Go, Some(Reply::Done)),
-        (Way::Go, None),
-        (Way::Go, Some(Reply::Line(line))),
-        (Way::Go, Some(Reply::Done)),
-        (Way::Go, Some(Reply::Late)),
-        (Way::Late, Some(Reply::Late)),
-        (Way::Go, Some(Reply::Done)),
-        (Way::Go, Some(Reply::Failed)),
-        (Way::Go, Some(Reply::Done)),
-        (Way::Go, Some(Reply::End)),
-        (Way::Go, Some(Reply::Done)),
-        (Way::Go, Some(Reply::Done)),
-        (Way::Go, Some(Reply::Done)),
-        (Way::Go, None),
-        (Way::Go, None),
-    ] {
-        steps.push(step)?;
-    }
-    let lines = stepped(
-        alloc,
-        " OPEN \"F\" USE \"F\" READ X:5 WRITE \"ab\",\"c\"\n",
-        &steps,
-    )?;
+    let steps = "go
+late done
+go done
+go
+go line abc
+go done
+go late
+late late
+go done
+go failed
+go done
+go end
+go done
+go done
+go done
+go
+go
+";
     let wanted = "unfit
 C2
 1 dev \"0\" begin done
@@ -59,28 +45,25 @@ ended
 C3
 F took ab
 ";
-    assert_eq!(rt; str::from_utf8(&lines)?, wanted);
-    Ok(())
+    tells(
+        &rt,
+        " OPEN \"F\" USE \"F\" READ X:5 WRITE \"ab\",\"c\"\n",
+        steps,
+        wanted,
+    )
 }
 
 // A line of which a byte was read goes on where it stands: nothing is late or at its end before it is over.
 #[test]
 fn a_line_goes_on(rt: HostRuntime) -> Result<(), Fail> {
-    let alloc = rt.alloc();
-    let mut steps = Vec::new(alloc);
-    let line = Text::from(alloc, b"bc")?;
-    for step in [
-        (Way::Go, Some(Reply::Done)),
-        (Way::Go, Some(Reply::Byte(97))),
-        (Way::Late, Some(Reply::Late)),
-        (Way::Go, Some(Reply::End)),
-        (Way::Go, Some(Reply::Line(line))),
-        (Way::Go, Some(Reply::Done)),
-        (Way::Go, None),
-    ] {
-        steps.push(step)?;
-    }
-    let lines = stepped(alloc, " READ *X,Y:5 WRITE Y\n", &steps)?;
+    let steps = "go done
+go byte 97
+late late
+go end
+go line bc
+go done
+go
+";
     let wanted = "1 dev \"0\" begin done
 1 dev \"0\" byte 97
 unfit
@@ -90,6 +73,22 @@ unfit
 unfit
 F took 
 ";
-    assert_eq!(rt; str::from_utf8(&lines)?, wanted);
-    Ok(())
+    tells(&rt, " READ *X,Y:5 WRITE Y\n", steps, wanted)
+}
+
+// Fails where the lines of a routine that is stepped so aren't these.
+fn tells(rt: &HostRuntime, bytes: &str, steps: &str, wanted: &str) -> Result<(), Fail> {
+    let lines = stepped(rt.alloc(), bytes, steps)?;
+    let told = hold(lines.as_slice() == wanted.as_bytes(), bytes, &lines);
+    drop(lines);
+    told
+}
+
+// Fails with the lines of a routine where it isn't so.
+fn hold(is: bool, bytes: &str, lines: &[u8]) -> Result<(), Fail> {
+    if is {
+        return Ok(());
+    }
+    let lines = str::from_utf8(lines).unwrap_or("?");
+    Err(Fail::new(format_args!("{bytes} ({lines})")))
 }

@@ -19,13 +19,10 @@ use mj_trace::event_line;
 use std::alloc::{AllocError, Global};
 use std::marker::Brand;
 
-/// Steps the routine `R`, which begins at its first line, without devices: as many times as there are replies, each with its reply where it has one, late
-/// where it is said. There is a device `F` and two principal ones. It gives a line for each step, and behind them what job 1 wrote to its first session with `F`.
-pub fn stepped(
-    alloc: Global,
-    bytes: &str,
-    steps: &[(Way, Option<Reply>)],
-) -> Result<Vec<u8>, Failure> {
+/// Steps the routine `R`, which begins at its first line, without devices: once for each line, `go` or `late`, with the reply that follows where there is one (as
+/// it is spelled in a trace, but that a line's text has no quotes). There is a device `F` and two principal ones. It gives a line for each step, and behind them
+/// what job 1 wrote to its first session with `F`.
+pub fn stepped(alloc: Global, bytes: &str, steps: &str) -> Result<Vec<u8>, Failure> {
     let image = image(alloc, bytes)?;
     match opened(alloc) {
         Ok((sessions, starts)) => begun(alloc, image, sessions, starts, steps),
@@ -41,9 +38,10 @@ fn opened(alloc: Global) -> Result<(Vec<(Text, u32)>, Vec<Start>), Failure> {
     let mut sessions = Vec::new(alloc);
     sessions.push((Text::from_number(alloc, 0), 2))?;
     sessions.push((Text::from(alloc, b"F")?, 1))?;
+    let routine = Text::from(alloc, b"R")?;
     let entry = Entry {
         label: None,
-        routine: Text::from(alloc, b"R")?,
+        routine,
     };
     let mut starts = Vec::new(alloc);
     starts.push(Start::new(entry, Vec::new(alloc)))?;
@@ -54,7 +52,9 @@ fn opened(alloc: Global) -> Result<(Vec<(Text, u32)>, Vec<Start>), Failure> {
 fn image(alloc: Global, bytes: &str) -> Result<Image, Failure> {
     let routine = routine(alloc, bytes)?;
     let mut routines = Vec::new(alloc);
-    if routines.push(routine).is_err() {
+    if let Err(failed) = routines.push(routine) {
+        drop(failed);
+        drop(routines);
         return Err(Failure::Memory);
     }
     match load(alloc, routines) {
@@ -84,7 +84,7 @@ fn begun(
     image: Image,
     sessions: Vec<(Text, u32)>,
     starts: Vec<Start>,
-    steps: &[(Way, Option<Reply>)],
+    steps: &str,
 ) -> Result<Vec<u8>, Failure> {
     let fits = match pool_of(alloc, &sessions) {
         Ok(pool) => {
@@ -109,7 +109,7 @@ fn run<O: Opening>(
     image: Image,
     sessions: Vec<(Text, u32)>,
     starts: Vec<Start>,
-    steps: &[(Way, Option<Reply>)],
+    steps: &str,
 ) -> Result<Vec<u8>, Failure>
     requires opening { opening_of [] (shelves_of sessions.items) starts.items ≡ O.opening }
     requires some { 1 ≤ length starts.items }
@@ -119,56 +119,126 @@ fn run<O: Opening>(
     let mut core = Core::<O>::blank(alloc, image, Globals::new(alloc), sessions, starts)?;
     let lines = make_steps(alloc, &mut core, steps);
     drop(core);
-    Ok(lines?)
+    lines
 }
 
 fn make_steps<O: Opening>(
     alloc: Global,
     core: &mut Core<O>,
-    steps: &[(Way, Option<Reply>)],
-) -> Result<Vec<u8>, AllocError> {
+    steps: &str,
+) -> Result<Vec<u8>, Failure> {
     let mut lines = Vec::new(alloc);
-    for (way, reply) in steps {
-        let step = Step { job: 1, way: *way };
-        let seen = match reply {
-            None => core.step(step),
-            Some(reply) => core.step_with(step, reply),
-        };
-        put_seen(alloc, core, seen, &mut lines)?;
+    for step in steps.lines() {
+        make_step(alloc, core, step, &mut lines)?;
     }
-    let name = Text::from(alloc, b"F").map_err(|_| AllocError)?;
-    lines.extend_from_slice(b"F took ")?;
-    lines.extend_from_slice(&core.out(1, &name, 1)?)?;
-    lines.push(b'\n')?;
+    put_taken(alloc, core, &mut lines)?;
     Ok(lines)
+}
+
+fn make_step<O: Opening>(
+    alloc: Global,
+    core: &mut Core<O>,
+    step: &str,
+    lines: &mut Vec<u8>,
+) -> Result<(), Failure> {
+    let (way, reply) = step.split_once(" ").unwrap_or((step, ""));
+    let way = if way == "late" { Way::Late } else { Way::Go };
+    let reply = reply_of(alloc, reply)?;
+    let seen = seen_of(core, Step { job: 1, way }, &reply);
+    drop(reply);
+    put_seen(alloc, core, seen, lines)?;
+    Ok(())
+}
+
+// What a step leads to: the place of its event, or a word.
+fn seen_of<O: Opening>(
+    core: &mut Core<O>,
+    step: Step,
+    reply: &Option<Reply>,
+) -> Result<usize, &'static str> {
+    let seen = match reply {
+        None => core.step(step),
+        Some(reply) => core.step_with(step, reply),
+    };
+    match seen {
+        Ok(Seen::Event(at)) => Ok(at),
+        Ok(Seen::Busy { holder: _, held }) => {
+            drop(held);
+            Err("busy")
+        }
+        Ok(Seen::NotYet) => Err("not yet"),
+        Ok(Seen::Unfit) => Err("unfit"),
+        Ok(Seen::Ran) => Err("ran"),
+        Ok(Seen::Ended) => Err("ended"),
+        Err(Refusal::NotTimed) => Err("C2"),
+        Err(Refusal::Ended) => Err("C3"),
+        Err(_) => Err("refused"),
+    }
 }
 
 // Puts what was seen of a step to the end.
 fn put_seen<O: Opening>(
     alloc: Global,
     core: &Core<O>,
-    seen: Result<Seen, Refusal>,
+    seen: Result<usize, &'static str>,
     lines: &mut Vec<u8>,
 ) -> Result<(), AllocError> {
     match seen {
-        Ok(Seen::Event(at)) => {
-            if let Some((job, ask, reply)) = core.event(at) {
-                let line = event_line(alloc, job, ask, reply)?;
-                lines.extend_from_slice(&line)?;
-            }
-        }
-        Ok(Seen::Busy { holder, held }) => {
-            drop(held);
-            lines.extend_from_slice(b"busy")?;
-        }
-        Ok(Seen::NotYet) => lines.extend_from_slice(b"not yet")?,
-        Ok(Seen::Unfit) => lines.extend_from_slice(b"unfit")?,
-        Ok(Seen::Ran) => lines.extend_from_slice(b"ran")?,
-        Ok(Seen::Ended) => lines.extend_from_slice(b"ended")?,
-        Err(Refusal::NotTimed) => lines.extend_from_slice(b"C2")?,
-        Err(Refusal::Ended) => lines.extend_from_slice(b"C3")?,
-        Err(_) => lines.extend_from_slice(b"refused")?,
+        Ok(at) => put_event(alloc, core, at, lines)?,
+        Err(word) => lines.extend_from_slice(word.as_bytes())?,
     }
     lines.push(b'\n')?;
     Ok(())
+}
+
+fn put_event<O: Opening>(
+    alloc: Global,
+    core: &Core<O>,
+    at: usize,
+    lines: &mut Vec<u8>,
+) -> Result<(), AllocError> {
+    match core.event(at) {
+        None => Ok(()),
+        Some((job, ask, reply)) => {
+            let line = event_line(alloc, job, ask, reply)?;
+            let put = lines.extend_from_slice(&line);
+            drop(line);
+            put
+        }
+    }
+}
+
+// Puts what job 1 wrote to its first session with F to the end.
+fn put_taken<O: Opening>(
+    alloc: Global,
+    core: &Core<O>,
+    lines: &mut Vec<u8>,
+) -> Result<(), Failure> {
+    let name = Text::from(alloc, b"F")?;
+    let taken = core.out(1, &name, 1);
+    drop(name);
+    put_bytes(&taken?, lines)?;
+    Ok(())
+}
+
+fn put_bytes(bytes: &[u8], lines: &mut Vec<u8>) -> Result<(), AllocError> {
+    lines.extend_from_slice(b"F took ")?;
+    lines.extend_from_slice(bytes)?;
+    lines.push(b'\n')?;
+    Ok(())
+}
+
+// The reply of a step.
+fn reply_of(alloc: Global, text: &str) -> Result<Option<Reply>, Failure> {
+    if let Some(line) = text.strip_prefix("line ") {
+        return Ok(Some(Reply::Line(Text::from(alloc, line.as_bytes())?)));
+    }
+    Ok(match text {
+        "done" => Some(Reply::Done),
+        "late" => Some(Reply::Late),
+        "failed" => Some(Reply::Failed),
+        "end" => Some(Reply::End),
+        "byte 97" => Some(Reply::Byte(97)),
+        _ => None,
+    })
 }

@@ -1,47 +1,73 @@
 // The examples under examples/: the same files, and what they print and leave.
 
-use mj_rows_runs::{folder, run_words};
+use mj_rows_runs::{comes_to, folder, judge_file, remove, write};
 use std::test::Fail;
-use std::{fs, str};
 
-// Runs a routine of this name and these bytes from these starts, with a blank between two, over the globals of a listing. Gives what was printed, and
-// the listing that is left.
-fn left(
+// Fails where a routine of this name and these bytes, over the globals of a listing, doesn't print this, or leaves another listing than one that
+// is given. Its starts come with the words before them.
+fn prints(
     rt: &HostRuntime,
     name: &str,
     bytes: &str,
     starts: &str,
     listing: &str,
-) -> Result<(String, String), Fail> {
-    let alloc = rt.alloc();
+    out: &str,
+    saved: Option<&str>,
+) -> Result<(), Fail> {
     let folder = folder(rt, name)?;
-    let file = format!(in alloc; "{folder}/{name}.m")?;
-    let before = format!(in alloc; "{folder}/before")?;
-    let after = format!(in alloc; "{folder}/after")?;
-    fs::write(rt, file.as_str(), bytes)?;
-    fs::write(rt, before.as_str(), listing)?;
-    let mut words: Vec<&str> = Vec::new(alloc);
-    words.push("mj")?;
-    words.push("run")?;
-    for start in starts.split(' ') {
-        words.push("--start")?;
-        words.push(start)?;
+    let told = prints_in(
+        rt,
+        folder.as_str(),
+        name,
+        bytes,
+        starts,
+        listing,
+        out,
+        saved,
+    );
+    drop(folder);
+    told
+}
+
+fn prints_in(
+    rt: &HostRuntime,
+    folder: &str,
+    name: &str,
+    bytes: &str,
+    starts: &str,
+    listing: &str,
+    out: &str,
+    saved: Option<&str>,
+) -> Result<(), Fail> {
+    write(rt, folder, "before", listing.as_bytes())?;
+    write_routine(rt, folder, name, bytes)?;
+    runs(rt, folder, name, starts, out)?;
+    if saved.is_some() {
+        judge_file(rt, folder, "after", saved)?;
     }
-    words.push("--globals")?;
-    words.push(before.as_str())?;
-    words.push("--save")?;
-    words.push(after.as_str())?;
-    words.push(file.as_str())?;
-    let ran = run_words(rt, &words);
-    let saved = fs::read_to_string(rt, after.as_str())?;
-    fs::remove_dir_all(rt, folder.as_str())?;
-    Ok((String::from_utf8(ran.out)?, saved))
+    remove(rt, folder)
+}
+
+fn write_routine(rt: &HostRuntime, folder: &str, name: &str, bytes: &str) -> Result<(), Fail> {
+    let file = format!(in rt.alloc(); "{name}.m")?;
+    let written = write(rt, folder, file.as_str(), bytes.as_bytes());
+    drop(file);
+    written
+}
+
+fn runs(rt: &HostRuntime, folder: &str, name: &str, starts: &str, out: &str) -> Result<(), Fail> {
+    let words = format!(in rt.alloc();
+        "run|{starts}|--globals|DIR/before|--save|DIR/after|DIR/{name}.m"
+    )?;
+    let told = comes_to(rt, folder, words.as_str(), b"", out, "", 0);
+    drop(words);
+    told
 }
 
 // The example examples/transfer: the sum of two accounts never changes.
 #[test]
 fn money_is_moved(rt: HostRuntime) -> Result<(), Fail> {
-    let (out, saved) = left(
+    prints(
         &rt,
         "TRANSFER",
         "TRANSFER ; three jobs move money between two accounts while a fourth looks: their sum never changes
@@ -65,24 +91,17 @@ LOOK ; the sum, of one moment
  WRITE SUM,!
  QUIT
 ",
-        "^TRANSFER",
+        "--start|^TRANSFER",
         "mj-globals 1\n",
-    )?;
-    assert_eq!(rt;
-        out.as_str(),
-        "--- job 1\n1500\n1500\n1500\n1500\n1500\n--- job 2\n--- job 3\n--- job 4\n"
-    );
-    assert_eq!(rt;
-        saved.as_str(),
-        "mj-globals 1\n^BALANCE(\"Ann\")=\"950\"\n^BALANCE(\"Bob\")=\"550\"\n"
-    );
-    Ok(())
+        "--- job 1\n1500\n1500\n1500\n1500\n1500\n--- job 2\n--- job 3\n--- job 4\n",
+        Some("mj-globals 1\n^BALANCE(\"Ann\")=\"950\"\n^BALANCE(\"Bob\")=\"550\"\n"),
+    )
 }
 
 // The example examples/registry: the index is never wrong.
 #[test]
 fn people_are_registered(rt: HostRuntime) -> Result<(), Fail> {
-    let (out, _) = left(
+    prints(
         &rt,
         "REGISTRY",
         "REGISTRY ; two jobs add people, each with a number of its own and in an index by name
@@ -111,14 +130,11 @@ LIST ; by name, each with what the index leads to
  FOR  SET NAME=$ORDER(^INDEX(NAME)) QUIT:NAME=\"\"  WRITE NAME,\" is \",^PERSON(^INDEX(NAME)),!
  QUIT
 ",
-        "^REGISTRY",
+        "--start|^REGISTRY",
         "mj-globals 1\n",
-    )?;
-    assert_eq!(rt;
-        out.as_str(),
-        "--- job 1\nAnn is Ann\nBob is Bob\nCid is Cid\nDan is Dan\nFlo is Flo\n--- job 2\n--- job 3\n"
-    );
-    Ok(())
+        "--- job 1\nAnn is Ann\nBob is Bob\nCid is Cid\nDan is Dan\nFlo is Flo\n--- job 2\n--- job 3\n",
+        None,
+    )
 }
 
 // The example examples/on_call: one doctor stays, where each would leave if it weren't for SERIAL.
@@ -137,24 +153,26 @@ LEAVE(WHO) ; counts who is on call, and leaves if there are others
  QUIT
 ";
     let doctors = "mj-globals 1\n^ONCALL(\"Ann\")=\"\"\n^ONCALL(\"Bob\")=\"\"\n";
-    let (out, saved) = left(&rt, "ONCALL", bytes, "ANN^ONCALL BOB^ONCALL", doctors)?;
-    assert_eq!(rt;
-        out.as_str(),
-        "--- job 1\nAnn leaves\n--- job 2\nBob stays\n"
-    );
-    assert_eq!(rt; saved.as_str(), "mj-globals 1\n^ONCALL(\"Bob\")=\"\"\n");
+    let starts = "--start|ANN^ONCALL|--start|BOB^ONCALL";
+    prints(
+        &rt,
+        "ONCALL",
+        bytes,
+        starts,
+        doctors,
+        "--- job 1\nAnn leaves\n--- job 2\nBob stays\n",
+        Some("mj-globals 1\n^ONCALL(\"Bob\")=\"\"\n"),
+    )?;
     let plain = bytes.replace(rt.alloc(), ":SERIAL", "")?;
-    let (out, saved) = left(
+    let done = prints(
         &rt,
         "ONCALL",
         plain.as_str(),
-        "ANN^ONCALL BOB^ONCALL",
+        starts,
         doctors,
-    )?;
-    assert_eq!(rt;
-        out.as_str(),
-        "--- job 1\nAnn leaves\n--- job 2\nBob leaves\n"
+        "--- job 1\nAnn leaves\n--- job 2\nBob leaves\n",
+        Some("mj-globals 1\n"),
     );
-    assert_eq!(rt; saved.as_str(), "mj-globals 1\n");
-    Ok(())
+    drop(plain);
+    done
 }

@@ -1,65 +1,39 @@
 // The words of the command line: help, the version, words that are wrong, and the command `check`.
 
-use mj_rows_runs::{folder, run_words};
+use mj_rows_runs::{Ran, comes_to, folder, hold, remove, run_text, run_words, write};
+use std::str;
 use std::test::Fail;
-use std::{fs, str};
 
 #[test]
 fn help_has_examples_and_statuses(rt: HostRuntime) -> Result<(), Fail> {
-    for (words, shown) in [
-        (["mj", "--help"].as_slice(), "  mj run --start ^R R.m\n"),
-        (&["mj", "--help"], "  mj check R.m _TOOL.m\n"),
-        (&["mj", "--help"], "Exit statuses:\n  0  all is done\n"),
-        (&["mj", "help", "run"], "mj run --start LATER^R R.m _TOOL.m"),
-        (&["mj", "check", "--help"], "mj check R.m _TOOL.m"),
-    ] {
-        let ran = run_words(&rt, words);
-        let out = str::from_utf8(&ran.out)?;
-        assert!(rt; out.contains(shown), "{out}");
-        assert!(rt; ran.err.is_empty());
-        assert_eq!(rt; ran.status, 0);
-    }
-    Ok(())
+    shows(&rt, "--help", "  mj run --start ^R R.m\n")?;
+    shows(&rt, "--help", "  mj check R.m _TOOL.m\n")?;
+    shows(&rt, "--help", "Exit statuses:\n  0  all is done\n")?;
+    shows(&rt, "help|run", "mj run --start LATER^R R.m _TOOL.m")?;
+    shows(&rt, "check|--help", "mj check R.m _TOOL.m")
 }
 
 #[test]
 fn the_version_names_the_kit(rt: HostRuntime) -> Result<(), Fail> {
-    let ran = run_words(&rt, &["mj", "--version"]);
     let version = "mj 0.1.0, proved by rattle-kit-13b logic dac8208d650f15bf\n";
-    assert_eq!(rt; str::from_utf8(&ran.out)?, version);
-    assert!(rt; ran.err.is_empty());
-    assert_eq!(rt; ran.status, 0);
-    Ok(())
+    comes_to(&rt, "", "--version", b"", version, "", 0)
 }
 
 #[test]
 fn a_wrong_word_names_the_right_one(rt: HostRuntime) -> Result<(), Fail> {
-    for (words, named) in [
-        (["mj", "runn", "--start", "^R", "R.m"].as_slice(), "'run'"),
-        (&["mj", "chek", "R.m"], "'check'"),
-        (&["mj", "run", "--strat", "^R", "R.m"], "'--start'"),
-    ] {
-        let ran = run_words(&rt, words);
-        let err = str::from_utf8(&ran.err)?;
-        assert!(rt; err.contains(named), "{err}");
-        assert!(rt; ran.out.is_empty());
-        assert_eq!(rt; ran.status, 3);
-    }
-    Ok(())
+    names(&rt, "runn|--start|^R|R.m", "'run'")?;
+    names(&rt, "chek|R.m", "'check'")?;
+    names(&rt, "run|--strat|^R|R.m", "'--start'")
 }
 
 #[test]
 fn words_that_are_missing_are_told(rt: HostRuntime) -> Result<(), Fail> {
-    for words in [
-        ["mj"].as_slice(),
-        &["mj", "run", "R.m"],
-        &["mj", "run", "--start", "^R"],
-        &["mj", "check"],
-    ] {
-        let ran = run_words(&rt, words);
-        assert!(rt; ran.out.is_empty());
-        assert!(rt; !ran.err.is_empty());
-        assert_eq!(rt; ran.status, 3);
+    let ran = run_words(&rt, &["mj"]);
+    let told = is_told("mj", &ran);
+    drop(ran);
+    told?;
+    for words in ["run|R.m", "run|--start|^R", "check"] {
+        are_missing(&rt, words)?;
     }
     Ok(())
 }
@@ -67,24 +41,58 @@ fn words_that_are_missing_are_told(rt: HostRuntime) -> Result<(), Fail> {
 #[test]
 fn check_counts_routines(rt: HostRuntime) -> Result<(), Fail> {
     let folder = folder(&rt, "check")?;
-    let first = format!(in rt.alloc(); "{folder}/R.m")?;
-    fs::write(&rt, first.as_str(), " WRITE 1\n")?;
-    let second = format!(in rt.alloc(); "{folder}/_TOOL.m")?;
-    fs::write(&rt, second.as_str(), "")?;
-    let wrong = format!(in rt.alloc(); "{folder}/S.m")?;
-    fs::write(&rt, wrong.as_str(), " WRITE \"abc")?;
-    let ran = run_words(&rt, &["mj", "check", first.as_str()]);
-    assert_eq!(rt; str::from_utf8(&ran.out)?, "ok 1\n");
-    assert_eq!(rt; ran.status, 0);
-    let ran = run_words(&rt, &["mj", "check", first.as_str(), second.as_str()]);
-    assert_eq!(rt; str::from_utf8(&ran.out)?, "ok 2\n");
-    assert_eq!(rt; ran.status, 0);
-    let ran = run_words(&rt, &["mj", "check", first.as_str(), wrong.as_str()]);
-    assert_eq!(rt; str::from_utf8(&ran.err)?, "L2 S:1:8\n");
-    assert_eq!(rt; ran.status, 2);
-    let ran = run_words(&rt, &["mj", "check", first.as_str(), first.as_str()]);
-    assert_eq!(rt; str::from_utf8(&ran.err)?, "L4 R\n");
-    assert_eq!(rt; ran.status, 2);
-    fs::remove_dir_all(&rt, folder.as_str())?;
-    Ok(())
+    let told = counts(&rt, folder.as_str());
+    drop(folder);
+    told
+}
+
+fn counts(rt: &HostRuntime, folder: &str) -> Result<(), Fail> {
+    write(rt, folder, "R.m", b" WRITE 1\n")?;
+    write(rt, folder, "_TOOL.m", b"")?;
+    write(rt, folder, "S.m", b" WRITE \"abc")?;
+    comes_to(rt, folder, "check|DIR/R.m", b"", "ok 1\n", "", 0)?;
+    let two = "check|DIR/R.m|DIR/_TOOL.m";
+    comes_to(rt, folder, two, b"", "ok 2\n", "", 0)?;
+    let wrong = "check|DIR/R.m|DIR/S.m";
+    comes_to(rt, folder, wrong, b"", "", "L2 S:1:8\n", 2)?;
+    comes_to(rt, folder, "check|DIR/R.m|DIR/R.m", b"", "", "L4 R\n", 2)?;
+    remove(rt, folder)
+}
+
+// Fails where these words don't show that.
+fn shows(rt: &HostRuntime, words: &str, shown: &str) -> Result<(), Fail> {
+    let ran = run_text(rt, "", words, b"")?;
+    let is = ran.err.is_empty() && ran.status == 0 && has(&ran.out, shown);
+    let told = hold(is, words, &ran);
+    drop(ran);
+    told
+}
+
+// Fails where these words aren't refused by a text that names that one.
+fn names(rt: &HostRuntime, words: &str, named: &str) -> Result<(), Fail> {
+    let ran = run_text(rt, "", words, b"")?;
+    let is = ran.out.is_empty() && ran.status == 3 && has(&ran.err, named);
+    let told = hold(is, words, &ran);
+    drop(ran);
+    told
+}
+
+fn has(bytes: &[u8], part: &str) -> bool {
+    match str::from_utf8(bytes) {
+        Ok(text) => text.contains(part),
+        Err(_) => false,
+    }
+}
+
+fn are_missing(rt: &HostRuntime, words: &str) -> Result<(), Fail> {
+    let ran = run_text(rt, "", words, b"")?;
+    let told = is_told(words, &ran);
+    drop(ran);
+    told
+}
+
+// Fails where not a text is given, on the other output alone.
+fn is_told(words: &str, ran: &Ran) -> Result<(), Fail> {
+    let is = ran.out.is_empty() && !ran.err.is_empty() && ran.status == 3;
+    hold(is, words, ran)
 }

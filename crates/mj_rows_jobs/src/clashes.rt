@@ -1,7 +1,7 @@
 // SERIAL transactions of two jobs, step by step: what they ask and are told, and the blocks of that.
 
 use mj_ask::{Ask, Reply};
-use mj_rows_runs::{folder, run_words};
+use mj_rows_runs::{folder, left, remove, run_text, write};
 use mj_serial::{Block, serial_blocks};
 use mj_store::{Access, Answer};
 use mj_sys::Event;
@@ -9,64 +9,93 @@ use mj_text::Failure;
 use mj_trace::{Trace, event_line, read_trace};
 use mj_txlog::Entry;
 use std::alloc::{AllocError, Global};
+use std::str;
 use std::test::Fail;
-use std::{fs, str};
 
-// The trace of two jobs of the routine R, of which these are the starts, from these globals and by these steps; where the exit status isn't 0, what
-// was said.
+// The trace of two jobs of the routine R, of which these are the starts with the words before them, from these globals and by these steps; where the exit
+// status isn't 0, what was said.
 fn traced(
     rt: &HostRuntime,
-    starts: [&str; 2],
+    starts: &str,
     routine: &str,
     globals: &str,
     steps: &str,
 ) -> Result<String, Fail> {
-    let alloc = rt.alloc();
     let folder = folder(rt, "clashes")?;
-    let file = format!(in alloc; "{folder}/R.m")?;
-    let before = format!(in alloc; "{folder}/globals")?;
-    let list = format!(in alloc; "{folder}/steps")?;
-    let trace = format!(in alloc; "{folder}/trace")?;
-    fs::write(rt, file.as_str(), routine)?;
-    fs::write(rt, before.as_str(), globals)?;
-    fs::write(rt, list.as_str(), steps)?;
-    let [first, second] = starts;
-    let words = [
-        "mj",
-        "step",
-        "--start",
-        first,
-        "--start",
-        second,
-        "--globals",
-        before.as_str(),
-        "--steps",
-        list.as_str(),
-        "--trace",
-        trace.as_str(),
-        file.as_str(),
-    ];
-    let ran = run_words(rt, &words);
-    let left = fs::read_to_string(rt, trace.as_str())?;
-    fs::remove_dir_all(rt, folder.as_str())?;
-    if ran.status == 0 {
-        Ok(left)
-    } else {
-        Ok(String::from_utf8(ran.err)?)
+    let trace = traced_in(rt, folder.as_str(), starts, routine, globals, steps);
+    drop(folder);
+    trace
+}
+
+fn traced_in(
+    rt: &HostRuntime,
+    folder: &str,
+    starts: &str,
+    routine: &str,
+    globals: &str,
+    steps: &str,
+) -> Result<String, Fail> {
+    write(rt, folder, "R.m", routine.as_bytes())?;
+    write(rt, folder, "globals", globals.as_bytes())?;
+    write(rt, folder, "steps", steps.as_bytes())?;
+    match said(rt, folder, starts)? {
+        Some(said) => Ok(said),
+        None => trace_in(rt, folder),
     }
+}
+
+fn trace_in(rt: &HostRuntime, folder: &str) -> Result<String, Fail> {
+    let trace = left(rt, folder, "trace")?.ok_or("no trace")?;
+    remove(rt, folder)?;
+    Ok(trace)
+}
+
+// What was said, where the exit status isn't 0.
+fn said(rt: &HostRuntime, folder: &str, starts: &str) -> Result<Option<String>, Fail> {
+    let text = format!(in rt.alloc();
+        "step|{starts}|--globals|DIR/globals|--steps|DIR/steps|--trace|DIR/trace|DIR/R.m"
+    )?;
+    let ran = run_text(rt, folder, text.as_str(), b"");
+    drop(text);
+    let ran = ran?;
+    if ran.status == 0 {
+        drop(ran);
+        Ok(None)
+    } else {
+        Ok(Some(String::from_utf8(ran.err)?))
+    }
+}
+
+// Fails where the trace isn't this one.
+fn traces(
+    rt: &HostRuntime,
+    starts: &str,
+    routine: &str,
+    globals: &str,
+    steps: &str,
+    lines: &str,
+) -> Result<(), Fail> {
+    let trace = traced(rt, starts, routine, globals, steps)?;
+    let told = judge(trace.as_str() == lines, trace.as_str());
+    drop(trace);
+    told
+}
+
+// Fails with what was traced where it isn't so.
+fn judge(is: bool, trace: &str) -> Result<(), Fail> {
+    if is { Ok(()) } else { Err(Fail::new(trace)) }
 }
 
 // Two that add to one number, both of which read it before the first commits.
 #[test]
 fn the_second_to_commit_is_restarted(rt: HostRuntime) -> Result<(), Fail> {
-    let trace = traced(
+    traces(
         &rt,
-        ["^R", "^R"],
+        "--start|^R|--start|^R",
         " TSTART ():SERIAL\n SET X=^A\n SET ^A=X+1\n TCOMMIT\n",
         "mj-globals 1\n^A=\"5\"\n",
         "1\n1\n1\n2\n2\n2\n1\n1\n2\n2\n2\n2\n2\n2\n",
-    )?;
-    let lines = "mj-trace 1
+        "mj-trace 1
 pool \"0\" 255
 start ^R
 start ^R
@@ -84,22 +113,20 @@ start ^R
 2 value ^A \"6\"
 2 set ^A \"7\" done
 2 commit done
-";
-    assert_eq!(rt; trace.as_str(), lines);
-    Ok(())
+",
+    )
 }
 
 // Each reads what the other one writes.
 #[test]
 fn write_skew_is_refused(rt: HostRuntime) -> Result<(), Fail> {
-    let trace = traced(
+    traces(
         &rt,
-        ["A^R", "B^R"],
+        "--start|A^R|--start|B^R",
         "A TSTART ():SERIAL SET X=^B,^A=X+1 TCOMMIT\n QUIT\nB TSTART ():SERIAL SET X=^A,^B=X+1 TCOMMIT\n",
         "mj-globals 1\n^A=\"0\"\n^B=\"0\"\n",
         "1\n1\n1\n2\n2\n2\n1\n1\n2\n2\n2\n2\n2\n2\n",
-    )?;
-    let lines = "mj-trace 1
+        "mj-trace 1
 pool \"0\" 255
 start A^R
 start B^R
@@ -117,22 +144,20 @@ start B^R
 2 value ^A \"1\"
 2 set ^B \"2\" done
 2 commit done
-";
-    assert_eq!(rt; trace.as_str(), lines);
-    Ok(())
+",
+    )
 }
 
 // Something comes where nothing was seen: that is a clash.
 #[test]
 fn a_phantom_clashes(rt: HostRuntime) -> Result<(), Fail> {
-    let trace = traced(
+    traces(
         &rt,
-        ["A^R", "B^R"],
+        "--start|A^R|--start|B^R",
         "A TSTART ():SERIAL SET X=$ORDER(^Q(\"\")) TCOMMIT\n QUIT\nB SET ^Q(1)=1\n",
         "mj-globals 1\n",
         "1\n1\n1\n2\n2\n1\n1\n1\n1\n",
-    )?;
-    let lines = "mj-trace 1
+        "mj-trace 1
 pool \"0\" 255
 start A^R
 start B^R
@@ -145,9 +170,8 @@ start B^R
 1 begin serial done
 1 order ^Q(\"\") 1 1
 1 commit done
-";
-    assert_eq!(rt; trace.as_str(), lines);
-    Ok(())
+",
+    )
 }
 
 // A global that has come back to what was read of it is none.
@@ -155,17 +179,16 @@ start B^R
 fn what_came_back_is_no_clash(rt: HostRuntime) -> Result<(), Fail> {
     let trace = traced(
         &rt,
-        ["A^R", "B^R"],
+        "--start|A^R|--start|B^R",
         "A TSTART ():SERIAL SET X=^A,^B=X TCOMMIT\n QUIT\nB SET ^A=6,^A=5\n",
         "mj-globals 1\n^A=\"5\"\n",
         "1\n1\n1\n2\n2\n2\n1\n1\n",
     )?;
-    assert!(rt;
-        trace.as_str().ends_with(
-            "\n1 value ^A \"5\"\n2 dev \"0\" begin done\n2 set ^A \"6\" done\n2 set ^A \"5\" done\n1 set ^B \"5\" done\n1 commit done\n"
-        )
-    );
-    Ok(())
+    let end =
+        "\n1 value ^A \"5\"\n2 dev \"0\" begin done\n2 set ^A \"6\" done\n2 set ^A \"5\" done\n1 set ^B \"5\" done\n1 commit done\n";
+    let told = judge(trace.as_str().ends_with(end), trace.as_str());
+    drop(trace);
+    told
 }
 
 // A single change, two SERIAL transactions of which the second clashed once, one that isn't SERIAL, and a single read: in the order of their
@@ -174,7 +197,7 @@ fn what_came_back_is_no_clash(rt: HostRuntime) -> Result<(), Fail> {
 fn blocks_of_a_run(rt: HostRuntime) -> Result<(), Fail> {
     let trace = traced(
         &rt,
-        ["A^R", "B^R"],
+        "--start|A^R|--start|B^R",
         "A SET ^N=0
  TSTART ():SERIAL SET X=^A,^A=X+1 TCOMMIT
  TSTART  SET ^A=9 TROLLBACK
@@ -186,14 +209,24 @@ B TSTART ():SERIAL SET X=^A,^A=X+1 TCOMMIT
         "mj-globals 1\n^A=\"5\"\n",
         "1\n1\n1\n1\n2\n2\n2\n1\n1\n2\n2\n2\n2\n2\n2\n1\n1\n1\n1\n1\n2\n2\n2\n2\n2\n2\n2\n2\n",
     )?;
-    assert!(rt;
-        trace
-            .as_str()
-            .ends_with("\n2 data ^N 1\n2 dev \"0\" end done\n2 halt done\n")
+    let told = has_blocks(rt.alloc(), trace.as_str());
+    drop(trace);
+    told
+}
+
+fn has_blocks(alloc: Global, trace: &str) -> Result<(), Fail> {
+    let end = "\n2 data ^N 1\n2 dev \"0\" end done\n2 halt done\n";
+    judge(trace.ends_with(end), trace)?;
+    let lines = lines(alloc, trace.as_bytes())?;
+    let told = judge(
+        lines.as_slice() == BLOCKS.as_bytes(),
+        str::from_utf8(&lines).unwrap_or("?"),
     );
-    let trace = read_trace(rt.alloc(), trace.as_bytes())?;
-    let blocks = blocks(rt.alloc(), &trace)?;
-    let lines = "plain from 2
+    drop(lines);
+    told
+}
+
+const BLOCKS: &str = "plain from 2
 1 set ^N \"0\" done
 serial from 3
 1 value ^A \"5\"
@@ -208,18 +241,35 @@ plain from 21
 plain from 26
 2 data ^N 1
 ";
-    assert_eq!(rt; str::from_utf8(&blocks)?, lines);
-    Ok(())
+
+// The blocks of a trace of these bytes.
+fn lines(alloc: Global, bytes: &[u8]) -> Result<Vec<u8>, Failure> {
+    match read_trace(alloc, bytes) {
+        Ok(trace) => {
+            let lines = blocks(alloc, &trace);
+            drop(trace);
+            lines
+        }
+        Err(_) => Ok(Vec::new(alloc)),
+    }
 }
 
-// The blocks of a trace: of each a line that says whether it is SERIAL and where it begins, and its accesses as a trace has them.
+// Of each block a line that says whether it is SERIAL and where it begins, and its accesses as a trace has them.
 fn blocks(alloc: Global, trace: &Trace) -> Result<Vec<u8>, Failure> {
     let mut history = Vec::new(alloc);
+    let lines = blocks_of(alloc, trace, &mut history);
+    drop(history);
+    lines
+}
+
+fn blocks_of(alloc: Global, trace: &Trace, history: &mut Vec<Event>) -> Result<Vec<u8>, Failure> {
     for (job, ask, reply) in trace.events() {
-        add(&mut history, *job, ask, reply)?;
+        add(history, *job, ask, reply)?;
     }
-    let blocks = serial_blocks(alloc, &history)?;
-    lines_of(alloc, &blocks)
+    let blocks = serial_blocks(alloc, history)?;
+    let lines = lines_of(alloc, &blocks);
+    drop(blocks);
+    lines
 }
 
 fn add(history: &mut Vec<Event>, job: u32, ask: &Ask, reply: &Reply) -> Result<(), Failure> {

@@ -1,103 +1,203 @@
 // Traces of runs.
 
-use mj_rows_runs::{Ran, folder, run_words};
+use mj_rows_runs::{
+    Ran, comes_to, folder, hold, judge_file, judge_run, left, remove, run_text, write,
+};
 use std::test::Fail;
-use std::{fs, str};
 
-// Runs the routine R of these bytes, with these words before its file and a blank between two, and gives its trace.
-fn traced(rt: &HostRuntime, words: &str, bytes: &str) -> Result<(Ran, Option<String>), Fail> {
-    let alloc = rt.alloc();
+// Runs the routine R of these bytes in its folder, by these words, with `|` between them, before its file. Its trace is left there.
+fn ran_in(rt: &HostRuntime, folder: &str, words: &str, bytes: &str) -> Result<Ran, Fail> {
+    write(rt, folder, "R.m", bytes.as_bytes())?;
+    let text = format!(in rt.alloc(); "{words}|--trace|DIR/trace|DIR/R.m")?;
+    let ran = run_text(rt, folder, text.as_str(), b"");
+    drop(text);
+    ran
+}
+
+// Fails where such a run gives another status, or leaves another trace than this one, or one where there is to be none.
+fn leaves(
+    rt: &HostRuntime,
+    words: &str,
+    bytes: &str,
+    status: u8,
+    trace: Option<&str>,
+) -> Result<(), Fail> {
     let folder = folder(rt, "traces")?;
-    let file = format!(in alloc; "{folder}/R.m")?;
-    let trace = format!(in alloc; "{folder}/trace")?;
-    fs::write(rt, file.as_str(), bytes)?;
-    let mut list: Vec<&str> = Vec::new(alloc);
-    list.push("mj")?;
-    for word in words.split(' ') {
-        list.push(word)?;
-    }
-    list.push("--trace")?;
-    list.push(trace.as_str())?;
-    list.push(file.as_str())?;
-    let ran = run_words(rt, &list);
-    let left = if fs::exists(rt, trace.as_str())? {
-        Some(fs::read_to_string(rt, trace.as_str())?)
-    } else {
-        None
-    };
-    fs::remove_dir_all(rt, folder.as_str())?;
-    Ok((ran, left))
+    let told = leaves_in(rt, folder.as_str(), words, bytes, status, trace);
+    drop(folder);
+    told
+}
+
+fn leaves_in(
+    rt: &HostRuntime,
+    folder: &str,
+    words: &str,
+    bytes: &str,
+    status: u8,
+    trace: Option<&str>,
+) -> Result<(), Fail> {
+    let ran = ran_in(rt, folder, words, bytes)?;
+    let told = hold(ran.status == status, bytes, &ran);
+    drop(ran);
+    told?;
+    judge_file(rt, folder, "trace", trace)?;
+    remove(rt, folder)
 }
 
 #[test]
 fn a_run_is_traced(rt: HostRuntime) -> Result<(), Fail> {
-    let (ran, trace) = traced(&rt, "run --start ^R", " SET ^A=2+3*4 WRITE ^A,! HALT\n")?;
-    assert_eq!(rt; str::from_utf8(&ran.out)?, "20\n");
-    assert_eq!(rt; ran.status, 0);
-    let lines =
-        "mj-trace 1\npool \"0\" 255\nstart ^R\n1 dev \"0\" begin done\n1 set ^A \"20\" done\n1 value ^A \"20\"\n1 dev \"0\" write \"20\" done\n1 dev \"0\" write \"\\0a\" done\n1 dev \"0\" end done\n1 halt done\n";
-    assert_eq!(rt; trace.as_deref(), Some(lines));
-    Ok(())
+    let lines = "mj-trace 1
+pool \"0\" 255
+start ^R
+1 dev \"0\" begin done
+1 set ^A \"20\" done
+1 value ^A \"20\"
+1 dev \"0\" write \"20\" done
+1 dev \"0\" write \"\\0a\" done
+1 dev \"0\" end done
+1 halt done
+";
+    leaves(
+        &rt,
+        "run|--start|^R",
+        " SET ^A=2+3*4 WRITE ^A,! HALT\n",
+        0,
+        Some(lines),
+    )
+}
+
+// What it prints is the same as without a trace.
+#[test]
+fn a_run_that_is_traced_prints(rt: HostRuntime) -> Result<(), Fail> {
+    let bytes = " SET ^A=2+3*4 WRITE ^A,! HALT\n";
+    prints(
+        &rt,
+        "run|--start|^R",
+        bytes,
+        "20\n",
+        "",
+        0,
+        "\n1 halt done\n",
+    )
 }
 
 // Devices come by their names, and a trace is written where jobs fault or are stuck, too.
 #[test]
 fn ends_are_traced(rt: HostRuntime) -> Result<(), Fail> {
-    let (ran, trace) = traced(
+    let trace = "mj-trace 1
+pool \"0\" 255
+pool \"F\" 2
+pool \"G\" 1
+start A^R
+start ^R
+1 dev \"0\" begin done
+2 dev \"0\" begin done
+1 data ^A 0
+2 data ^A 0
+1 open \"G\" got
+1 dev \"G\" begin failed
+1 dev \"0\" write \"F16 DEVICE R:1\\0a\" done
+1 dev \"G\" end done
+1 dev \"0\" end done
+1 halt F16 done
+2 open \"G\" none
+2 dev \"0\" write \"F15 NODEVICE R:1\\0a\" done
+2 dev \"0\" end done
+2 halt F15 done
+";
+    leaves(
         &rt,
-        "run --device G=in:none --device F=in:none --device F=in:none --start A^R --start ^R",
+        "run|--device|G=in:none|--device|F=in:none|--device|F=in:none|--start|A^R|--start|^R",
         "A SET X=$DATA(^A) OPEN \"G\"\n",
-    )?;
-    assert_eq!(rt; ran.status, 1);
-    let head = "mj-trace 1\npool \"0\" 255\npool \"F\" 2\npool \"G\" 1\nstart A^R\nstart ^R\n";
-    let first =
-        "1 dev \"0\" begin done\n2 dev \"0\" begin done\n1 data ^A 0\n2 data ^A 0\n1 open \"G\" got\n1 dev \"G\" begin failed\n";
-    let second =
-        "1 dev \"0\" write \"F16 DEVICE R:1\\0a\" done\n1 dev \"G\" end done\n1 dev \"0\" end done\n1 halt F16 done\n";
-    let third =
-        "2 open \"G\" none\n2 dev \"0\" write \"F15 NODEVICE R:1\\0a\" done\n2 dev \"0\" end done\n2 halt F15 done\n";
-    let lines = format!(in rt.alloc(); "{head}{first}{second}{third}")?;
-    assert_eq!(rt; trace.as_deref(), Some(lines.as_str()));
-    let (ran, trace) = traced(
-        &rt,
-        "run --start A^R --start B^R",
-        "A LOCK +^A LOCK +^B HALT\nB LOCK +^B LOCK +^A HALT\n",
-    )?;
-    assert_eq!(rt; ran.status, 4);
-    assert_eq!(rt; str::from_utf8(&ran.err)?, "stuck\n");
-    let trace = trace.ok_or("no trace")?;
-    assert!(rt; trace.as_str().ends_with("\n1 try ^A got\n2 try ^B got\n"));
-    Ok(())
+        1,
+        Some(trace),
+    )
 }
 
-// A routine that is refused leaves none. One that can't be written comes after the output, and behind the listing.
 #[test]
-fn traces_are_refused(rt: HostRuntime) -> Result<(), Fail> {
-    let (ran, trace) = traced(&rt, "run --start ^R", " WRITE \"abc")?;
-    assert_eq!(rt; ran.status, 2);
-    assert!(rt; trace.is_none());
-    let alloc = rt.alloc();
+fn what_is_stuck_is_traced(rt: HostRuntime) -> Result<(), Fail> {
+    let bytes = "A LOCK +^A LOCK +^B HALT\nB LOCK +^B LOCK +^A HALT\n";
+    let out = "--- job 1\n--- job 2\n";
+    let tail = "\n1 try ^A got\n2 try ^B got\n";
+    prints(
+        &rt,
+        "run|--start|A^R|--start|B^R",
+        bytes,
+        out,
+        "stuck\n",
+        4,
+        tail,
+    )
+}
+
+// Fails where such a run doesn't print this, or leaves a trace that doesn't end so.
+fn prints(
+    rt: &HostRuntime,
+    words: &str,
+    bytes: &str,
+    out: &str,
+    err: &str,
+    status: u8,
+    tail: &str,
+) -> Result<(), Fail> {
+    let folder = folder(rt, "traces")?;
+    let told = prints_in(rt, folder.as_str(), words, bytes, out, err, status, tail);
+    drop(folder);
+    told
+}
+
+fn prints_in(
+    rt: &HostRuntime,
+    folder: &str,
+    words: &str,
+    bytes: &str,
+    out: &str,
+    err: &str,
+    status: u8,
+    tail: &str,
+) -> Result<(), Fail> {
+    let ran = ran_in(rt, folder, words, bytes)?;
+    let told = judge_run(bytes, &ran, out, err, status);
+    drop(ran);
+    told?;
+    ends_so(rt, folder, tail)?;
+    remove(rt, folder)
+}
+
+fn ends_so(rt: &HostRuntime, folder: &str, tail: &str) -> Result<(), Fail> {
+    let trace = left(rt, folder, "trace")?;
+    let told = judge_tail(trace.as_deref().unwrap_or(""), tail);
+    drop(trace);
+    told
+}
+
+fn judge_tail(trace: &str, tail: &str) -> Result<(), Fail> {
+    if trace.ends_with(tail) {
+        Ok(())
+    } else {
+        Err(Fail::new(trace))
+    }
+}
+
+// A routine that is refused leaves none.
+#[test]
+fn what_is_refused_has_no_trace(rt: HostRuntime) -> Result<(), Fail> {
+    leaves(&rt, "run|--start|^R", " WRITE \"abc", 2, None)
+}
+
+// One that can't be written comes after the output, and behind the listing.
+#[test]
+fn a_trace_cannot_be_written(rt: HostRuntime) -> Result<(), Fail> {
     let folder = folder(&rt, "no_trace")?;
-    let file = format!(in alloc; "{folder}/R.m")?;
-    fs::write(&rt, file.as_str(), " WRITE 1\n")?;
-    let missing = format!(in alloc; "{folder}/missing/trace")?;
-    let below = format!(in alloc; "{folder}/missing/saved")?;
-    let words = [
-        "mj",
-        "run",
-        "--start",
-        "^R",
-        "--trace",
-        missing.as_str(),
-        "--save",
-        below.as_str(),
-        file.as_str(),
-    ];
-    let ran = run_words(&rt, &words);
-    assert_eq!(rt; str::from_utf8(&ran.out)?, "1");
-    let err = format!(in alloc; "file {below}\nfile {missing}\n")?;
-    assert_eq!(rt; str::from_utf8(&ran.err)?, err.as_str());
-    assert_eq!(rt; ran.status, 4);
-    fs::remove_dir_all(&rt, folder.as_str())?;
-    Ok(())
+    let told = cannot_be_written(&rt, folder.as_str());
+    drop(folder);
+    told
+}
+
+fn cannot_be_written(rt: &HostRuntime, folder: &str) -> Result<(), Fail> {
+    write(rt, folder, "R.m", b" WRITE 1\n")?;
+    let words = "run|--start|^R|--trace|DIR/missing/trace|--save|DIR/missing/saved|DIR/R.m";
+    let err = "file DIR/missing/saved\nfile DIR/missing/trace\n";
+    comes_to(rt, folder, words, b"", "1", err, 4)?;
+    remove(rt, folder)
 }

@@ -56,26 +56,48 @@ fn stepped(alloc: Global, bytes: &str, steps: &[u32]) -> Result<First, Failure> 
 }
 
 // A principal device and a start for each of the two.
-fn opened(alloc: Global, pool: &mut Pool<Memory>) -> Result<Vec<Start>, Failure> {
+pub fn opened(alloc: Global, pool: &mut Pool<Memory>) -> Result<Vec<Start>, Failure> {
     let name = Text::from_number(alloc, 0);
+    let added = add_two(alloc, pool, &name);
+    drop(name);
+    added?;
     let mut starts = Vec::new(alloc);
-    for _ in 0..2 {
-        if pool
-            .add(&name, Memory::new(alloc, Vec::new(alloc)))
-            .is_err()
-        {
-            return Err(Failure::Memory);
+    match put_two(alloc, &mut starts) {
+        Ok(()) => Ok(starts),
+        Err(failure) => {
+            drop(starts);
+            Err(failure)
         }
-        starts.push(start(alloc)?)?;
     }
-    Ok(starts)
+}
+
+fn add_two(alloc: Global, pool: &mut Pool<Memory>, name: &Text) -> Result<(), Failure> {
+    add(alloc, pool, name)?;
+    add(alloc, pool, name)
+}
+
+fn add(alloc: Global, pool: &mut Pool<Memory>, name: &Text) -> Result<(), Failure> {
+    match pool.add(name, Memory::new(alloc, Vec::new(alloc))) {
+        Ok(()) => Ok(()),
+        Err(device) => {
+            drop(device);
+            Err(Failure::Memory)
+        }
+    }
+}
+
+fn put_two(alloc: Global, starts: &mut Vec<Start>) -> Result<(), Failure> {
+    starts.push(start(alloc)?)?;
+    starts.push(start(alloc)?)?;
+    Ok(())
 }
 
 // A start at the first line of R.
 fn start(alloc: Global) -> Result<Start, Failure> {
+    let routine = Text::from(alloc, b"R")?;
     let entry = Entry {
         label: None,
-        routine: Text::from(alloc, b"R")?,
+        routine,
     };
     Ok(Start::new(entry, Vec::new(alloc)))
 }
@@ -84,7 +106,9 @@ fn start(alloc: Global) -> Result<Start, Failure> {
 fn image(alloc: Global, bytes: &str) -> Result<Image, Failure> {
     let routine = routine(alloc, bytes)?;
     let mut routines = Vec::new(alloc);
-    if routines.push(routine).is_err() {
+    if let Err(failed) = routines.push(routine) {
+        drop(failed);
+        drop(routines);
         return Err(Failure::Memory);
     }
     match load(alloc, routines) {

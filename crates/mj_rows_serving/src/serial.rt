@@ -29,10 +29,18 @@ fn blocks_come_in_the_order_of_their_commits(rt: HostRuntime) -> Result<(), Fail
 
 fn blocks(alloc: Global) -> Result<First, Failure> {
     let mut history = Vec::new(alloc);
-    first(alloc, &mut history)?;
-    second(alloc, &mut history)?;
-    let blocks = serial_blocks(alloc, &history)?;
-    Ok(first_four(&blocks))
+    let blocks = blocks_in(alloc, &mut history);
+    drop(history);
+    blocks
+}
+
+fn blocks_in(alloc: Global, history: &mut Vec<Event>) -> Result<First, Failure> {
+    first(alloc, history)?;
+    second(alloc, history)?;
+    let blocks = serial_blocks(alloc, history)?;
+    let first = first_four(&blocks);
+    drop(blocks);
+    Ok(first)
 }
 
 // The first four blocks: the job, whether it is SERIAL, where it begins, and how many accesses it has.
@@ -63,7 +71,8 @@ fn first(alloc: Global, history: &mut Vec<Event>) -> Result<(), Failure> {
 // Job 2 clashes, and begins again; job 1 rolls back.
 fn second(alloc: Global, history: &mut Vec<Event>) -> Result<(), Failure> {
     read(alloc, history, 2)?;
-    add(history, 2, Ask::Commit, Reply::Clash(clash(alloc)?))?;
+    let clash = clash(alloc)?;
+    add(history, 2, Ask::Commit, Reply::Clash(clash))?;
     add(history, 2, Ask::Begin(Kind::Plain), Reply::Done)?;
     set(alloc, history, 2, "A")?;
     add(history, 2, Ask::UnlockAll, Reply::Done)?;
@@ -74,26 +83,45 @@ fn second(alloc: Global, history: &mut Vec<Event>) -> Result<(), Failure> {
 }
 
 fn clash(alloc: Global) -> Result<BoxedClash, Failure> {
+    let now = Text::from(alloc, b"1")?;
     let clash = Clash {
         place: 1,
         then: Kept::Nothing,
-        now: Kept::Text(Text::from(alloc, b"1")?),
+        now: Kept::Text(now),
     };
     Ok(BoxedClash::new(alloc, clash)?)
 }
 
 fn read(alloc: Global, history: &mut Vec<Event>, job: u32) -> Result<(), Failure> {
-    let ask = Ask::Access(Access::Value(name(alloc, "A")?));
+    let name = name(alloc, "A")?;
+    let ask = Ask::Access(Access::Value(name));
     add(history, job, ask, Reply::Answer(Answer::Value(None)))
 }
 
 fn set(alloc: Global, history: &mut Vec<Event>, job: u32, word: &str) -> Result<(), Failure> {
-    let ask = Ask::Access(Access::Set(name(alloc, word)?, Text::from(alloc, b"1")?));
-    add(history, job, ask, Reply::Answer(Answer::Done))
+    let access = set_to_1(alloc, word)?;
+    add(
+        history,
+        job,
+        Ask::Access(access),
+        Reply::Answer(Answer::Done),
+    )
+}
+
+fn set_to_1(alloc: Global, word: &str) -> Result<Access, Failure> {
+    let name = name(alloc, word)?;
+    match Text::from(alloc, b"1") {
+        Ok(text) => Ok(Access::Set(name, text)),
+        Err(failure) => {
+            drop(name);
+            Err(failure)
+        }
+    }
 }
 
 fn name(alloc: Global, word: &str) -> Result<Name, Failure> {
-    Ok(Name::global(Text::from(alloc, word.as_bytes())?, Subs::new(alloc)))
+    let word = Text::from(alloc, word.as_bytes())?;
+    Ok(Name::global(word, Subs::new(alloc)))
 }
 
 fn add(history: &mut Vec<Event>, job: u32, ask: Ask, reply: Reply) -> Result<(), Failure> {
