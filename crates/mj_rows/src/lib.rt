@@ -1,7 +1,8 @@
-// Rows: runs of the whole program, from the words of the command line to what it prints and its exit status. These are of routines in one job:
-// expressions, commands, faults and refusals. Those of several jobs and of traces are in `mj_rows_jobs`, those of files and of the words themselves in
-// `mj_rows_files`. Their expected values were written down before the program ran. A crate with tests is proved twice, so they stand here; and
-// in three crates, so that they can be proved at once. Rows of single crates are in `mj_rows_parts`, `mj_rows_reading` and `mj_rows_serving`.
+// Rows: runs of the whole program, from the words of the command line to what it prints and its exit status. These are of routines in one job
+// (expressions, commands, faults and refusals), of the words of the command line, listings, standard input and devices over files, of the examples of
+// this repository, and of the debugger. Those of several jobs and of traces are in `mj_rows_jobs`. Their expected values were written down before the
+// program ran. A crate with tests is proved twice, so they stand here; and in few crates, since what it costs to begin a proof over the whole program is more than what
+// most rows cost. Rows of single crates are in `mj_rows_parts`, `mj_rows_reading` and `mj_rows_serving`.
 #![tactic(auto)]
 
 #[cfg(test)]
@@ -11,7 +12,13 @@ mod control;
 #[cfg(test)]
 mod devices;
 #[cfg(test)]
+mod examples;
+#[cfg(test)]
 mod functions;
+#[cfg(test)]
+mod input;
+#[cfg(test)]
+mod listings;
 #[cfg(test)]
 mod names;
 #[cfg(test)]
@@ -19,6 +26,10 @@ mod operators;
 #[cfg(test)]
 mod runs;
 #[cfg(test)]
+mod sessions;
+#[cfg(test)]
 mod sharing;
 #[cfg(test)]
 mod transactions;
+#[cfg(test)]
+mod words;

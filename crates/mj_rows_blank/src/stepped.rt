@@ -21,7 +21,7 @@ use std::marker::Brand;
 
 /// Steps the routine `R`, which begins at its first line, without devices: once for each line, `go` or `late`, with the reply that follows where there is one (as
 /// it is spelled in a trace, but that a line's text has no quotes). There is a device `F` and two principal ones. It gives a line for each step, and behind them
-/// what job 1 wrote to its first session with `F`.
+/// what job 1 wrote to its first session with `F`. A line that is no step is a failure.
 pub fn stepped(alloc: Global, bytes: &str, steps: &str) -> Result<Vec<u8>, Failure> {
     let image = image(alloc, bytes)?;
     match opened(alloc) {
@@ -142,7 +142,11 @@ fn make_step<O: Opening>(
     lines: &mut Vec<u8>,
 ) -> Result<(), Failure> {
     let (way, reply) = step.split_once(" ").unwrap_or((step, ""));
-    let way = if way == "late" { Way::Late } else { Way::Go };
+    let way = match way {
+        "go" => Way::Go,
+        "late" => Way::Late,
+        _ => return Err(Failure::Memory),
+    };
     let reply = reply_of(alloc, reply)?;
     let seen = seen_of(core, Step { job: 1, way }, &reply);
     drop(reply);
@@ -228,7 +232,7 @@ fn put_bytes(bytes: &[u8], lines: &mut Vec<u8>) -> Result<(), AllocError> {
     Ok(())
 }
 
-// The reply of a step.
+// The reply of a step, if it has one. Other words are none.
 fn reply_of(alloc: Global, text: &str) -> Result<Option<Reply>, Failure> {
     if let Some(line) = text.strip_prefix("line ") {
         return Ok(Some(Reply::Line(Text::from(alloc, line.as_bytes())?)));
@@ -239,6 +243,7 @@ fn reply_of(alloc: Global, text: &str) -> Result<Option<Reply>, Failure> {
         "failed" => Some(Reply::Failed),
         "end" => Some(Reply::End),
         "byte 97" => Some(Reply::Byte(97)),
-        _ => None,
+        "" => None,
+        _ => return Err(Failure::Memory),
     })
 }

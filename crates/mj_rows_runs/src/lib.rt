@@ -1,4 +1,4 @@
-// Runs of the program for rows: what the rows of `mj_rows`, `mj_rows_jobs`, `mj_rows_files` and `mj_rows_debugger` share. It has no clauses, since
+// Runs of the program for rows: what the rows of `mj_rows` and `mj_rows_jobs` share. It has no clauses, since
 // what a run comes to is for the rows to say. One function has a folder's name or a list of words, and those that may fail borrow it: all
 // that a function has is dropped anew at each of its ends, and each drop is proved.
 #![tactic(auto)]

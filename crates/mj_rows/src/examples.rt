@@ -1,9 +1,9 @@
 // The examples under examples/: the same files, and what they print and leave.
 
-use mj_rows_runs::{comes_to, folder, judge_file, remove, write};
+use mj_rows_runs::{comes_to, folder, judge_file, left, remove, write};
 use std::test::Fail;
 
-// Fails where a routine of this name and these bytes, over the globals of a listing, doesn't print this, or leaves another listing than one that
+// Fails where a routine of this name and these bytes, over the globals of a listing, doesn't print this, or leaves no listing, or another than one that
 // is given. Its starts come with the words before them.
 fn prints(
     rt: &HostRuntime,
@@ -44,8 +44,21 @@ fn prints_in(
     runs(rt, folder, name, starts, out)?;
     if saved.is_some() {
         judge_file(rt, folder, "after", saved)?;
+    } else {
+        is_left(rt, folder, "after")?;
     }
     remove(rt, folder)
+}
+
+// Fails where a file isn't there. What an example leaves whose jobs take numbers in turn isn't judged.
+fn is_left(rt: &HostRuntime, folder: &str, name: &str) -> Result<(), Fail> {
+    match left(rt, folder, name)? {
+        Some(text) => {
+            drop(text);
+            Ok(())
+        }
+        None => Err(Fail::new(format_args!("no {name}"))),
+    }
 }
 
 fn write_routine(rt: &HostRuntime, folder: &str, name: &str, bytes: &str) -> Result<(), Fail> {

@@ -130,45 +130,42 @@ fn what_stands_at_the_place_is_shown(rt: HostRuntime) -> Result<(), Fail> {
 // place, however one came there.
 #[test]
 fn each_place_is_shown_back_and_forth(rt: HostRuntime) -> Result<(), Fail> {
-    assert!(rt;
-        answers(
-            &rt,
-            "--start|^R",
-            " SET X=1,^A=X LOCK +^B DO A(5) HALT\nA(N) SET ^A=N,Y=\"q\" LOCK +^B SET ^A(N)=Y QUIT\n",
-            concat!(
-                "s 1\ns 1\ns 1\ns 1\ns 1\ns 1\ng\nk\nv 1\nf 1\n",
-                "back\ng\nk\nv 1\nf 1\n",
-                "back\ng\nk\nv 1\nf 1\n",
-                "back\ng\nk\nv 1\nf 1\n",
-                "back\ng\nk\nv 1\nf 1\n",
-                "back\ng\nk\nv 1\nf 1\n",
-                "back\ng\nk\nv 1\nf 1\nv 2\n",
-                "fwd\ng\nk\nv 1\nf 1\n",
-                "fwd\ng\nk\nv 1\nf 1\n",
-                "fwd\ng\nk\nv 1\nf 1\n",
-                "fwd\nfwd\nfwd\ng\ns 1\nback\nback\nback\ng\nk\nv 1\nf 1\n",
-            ),
-            concat!(
-                "1 dev \"0\" begin done\n1 set ^A \"1\" done\n1 try ^B got\n1 set ^A \"5\" done\n1 try ^B got\n1 set ^A(5) \"q\" done\n",
-                "^A=\"5\"\n^A(5)=\"q\"\n1 ^B 2\nN=\"5\"\nX=\"1\"\nY=\"q\"\nR:2\nR:1\n",
-                "1 set ^A(5) \"q\" done\n^A=\"5\"\n1 ^B 2\nN=\"5\"\nX=\"1\"\nY=\"q\"\nR:2\nR:1\n",
-                "1 try ^B got\n^A=\"5\"\n1 ^B 1\nN=\"5\"\nX=\"1\"\nR:2\nR:1\n",
-                "1 set ^A \"5\" done\n^A=\"1\"\n1 ^B 1\nX=\"1\"\nR:1\n",
-                "1 try ^B got\n^A=\"1\"\nX=\"1\"\nR:1\n",
-                "1 set ^A \"1\" done\n",
-                "1 dev \"0\" begin done\nC1\n",
-                "1 dev \"0\" begin done\n",
-                "1 set ^A \"1\" done\n^A=\"1\"\nX=\"1\"\nR:1\n",
-                "1 try ^B got\n^A=\"1\"\n1 ^B 1\nX=\"1\"\nR:1\n",
-                "1 set ^A \"5\" done\n1 try ^B got\n1 set ^A(5) \"q\" done\n^A=\"5\"\n^A(5)=\"q\"\n",
-                "1 dev \"0\" end done\n1 dev \"0\" end done\n1 set ^A(5) \"q\" done\n1 try ^B got\n",
-                "^A=\"5\"\n1 ^B 1\nN=\"5\"\nX=\"1\"\nR:2\nR:1\n",
-            ),
-            "",
-            0,
-        )?
-    );
-    Ok(())
+    answers(
+        &rt,
+        "--start|^R",
+        " SET X=1,^A=X LOCK +^B DO A(5) HALT\nA(N) SET ^A=N,Y=\"q\" LOCK +^B SET ^A(N)=Y QUIT\n",
+        concat!(
+            "s 1\ns 1\ns 1\ns 1\ns 1\ns 1\ng\nk\nv 1\nf 1\n",
+            "back\ng\nk\nv 1\nf 1\n",
+            "back\ng\nk\nv 1\nf 1\n",
+            "back\ng\nk\nv 1\nf 1\n",
+            "back\ng\nk\nv 1\nf 1\n",
+            "back\ng\nk\nv 1\nf 1\n",
+            "back\ng\nk\nv 1\nf 1\nv 2\n",
+            "fwd\ng\nk\nv 1\nf 1\n",
+            "fwd\ng\nk\nv 1\nf 1\n",
+            "fwd\ng\nk\nv 1\nf 1\n",
+            "fwd\nfwd\nfwd\ng\ns 1\nback\nback\nback\ng\nk\nv 1\nf 1\n",
+        ),
+        concat!(
+            "1 dev \"0\" begin done\n1 set ^A \"1\" done\n1 try ^B got\n1 set ^A \"5\" done\n1 try ^B got\n1 set ^A(5) \"q\" done\n",
+            "^A=\"5\"\n^A(5)=\"q\"\n1 ^B 2\nN=\"5\"\nX=\"1\"\nY=\"q\"\nR:2\nR:1\n",
+            "1 set ^A(5) \"q\" done\n^A=\"5\"\n1 ^B 2\nN=\"5\"\nX=\"1\"\nY=\"q\"\nR:2\nR:1\n",
+            "1 try ^B got\n^A=\"5\"\n1 ^B 1\nN=\"5\"\nX=\"1\"\nR:2\nR:1\n",
+            "1 set ^A \"5\" done\n^A=\"1\"\n1 ^B 1\nX=\"1\"\nR:1\n",
+            "1 try ^B got\n^A=\"1\"\nX=\"1\"\nR:1\n",
+            "1 set ^A \"1\" done\n",
+            "1 dev \"0\" begin done\nC1\n",
+            "1 dev \"0\" begin done\n",
+            "1 set ^A \"1\" done\n^A=\"1\"\nX=\"1\"\nR:1\n",
+            "1 try ^B got\n^A=\"1\"\n1 ^B 1\nX=\"1\"\nR:1\n",
+            "1 set ^A \"5\" done\n1 try ^B got\n1 set ^A(5) \"q\" done\n^A=\"5\"\n^A(5)=\"q\"\n",
+            "1 dev \"0\" end done\n1 dev \"0\" end done\n1 set ^A(5) \"q\" done\n1 try ^B got\n",
+            "^A=\"5\"\n1 ^B 1\nN=\"5\"\nX=\"1\"\nR:2\nR:1\n",
+        ),
+        "",
+        0,
+    )
 }
 
 // A try that is busy tells who has what, and its name is shown with its count: of each job, globals first.
