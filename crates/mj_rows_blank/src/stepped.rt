@@ -18,6 +18,7 @@ use mj_text::{Failure, Text};
 use mj_trace::event_line;
 use std::alloc::{AllocError, Global};
 use std::marker::Brand;
+use std::str;
 
 /// Steps the routine `R`, which begins at its first line, without devices: once for each line, `go` or `late`, with the reply that follows where there is one (as
 /// it is spelled in a trace, but that a line's text has no quotes). There is a device `F` and two principal ones. It gives a line for each step, and behind them
@@ -25,7 +26,7 @@ use std::marker::Brand;
 pub fn stepped(alloc: Global, bytes: &str, steps: &str) -> Result<Vec<u8>, Failure> {
     let image = image(alloc, bytes)?;
     match opened(alloc) {
-        Ok((sessions, starts)) => begun(alloc, image, sessions, starts, steps),
+        Ok((sessions, starts)) => begun(alloc, image, sessions, starts, steps.as_bytes()),
         Err(failure) => {
             drop(image);
             Err(failure)
@@ -84,7 +85,7 @@ fn begun(
     image: Image,
     sessions: Vec<(Text, u32)>,
     starts: Vec<Start>,
-    steps: &str,
+    steps: &[u8],
 ) -> Result<Vec<u8>, Failure> {
     let fits = match pool_of(alloc, &sessions) {
         Ok(pool) => {
@@ -109,7 +110,7 @@ fn run<O: Opening>(
     image: Image,
     sessions: Vec<(Text, u32)>,
     starts: Vec<Start>,
-    steps: &str,
+    steps: &[u8],
 ) -> Result<Vec<u8>, Failure>
     requires opening { opening_of [] (shelves_of sessions.items) starts.items ≡ O.opening }
     requires some { 1 ≤ length starts.items }
@@ -125,9 +126,13 @@ fn run<O: Opening>(
 fn make_steps<O: Opening>(
     alloc: Global,
     core: &mut Core<O>,
-    steps: &str,
+    steps: &[u8],
 ) -> Result<Vec<u8>, Failure> {
     let mut lines = Vec::new(alloc);
+    let Ok(steps) = str::from_utf8(steps) else {
+        drop(lines);
+        return Err(Failure::Memory);
+    };
     for step in steps.lines() {
         make_step(alloc, core, step, &mut lines)?;
     }
