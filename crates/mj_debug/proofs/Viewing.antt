@@ -18,7 +18,7 @@ use Rattle.mj_debug.specs.Playing.{Playing}
 use Rattle.mj_sys.specs.System.{history_limit}
 use Rattle.mj_debug.specs.Replicas.{Keeping, Begins, Replayed, job_of, IsReplica, IsFull}
 use Rattle.mj_debug.specs.Shows.{HasStood}
-use Rattle.mj_debug.specs.Views.{stand_of, view_of, IsView, AreViews, AreBefore, IsKept, is_ready}
+use Rattle.mj_debug.specs.Views.{stand_of_played, view_of, IsView, AreViews, AreBefore, IsPutOrGone, is_ready}
 use Rattle.mj_debug.proofs.Growing.{Grows}
 use Rattle.mj_debug.proofs.Standing.{shared_there, no_row, stands}
 
@@ -30,8 +30,8 @@ standing job = record { frames = job.run.at.state.frames; locals = job.run.at.st
 
 pub job_there : (opening : Shared) (replica : Replayed) (job : ℕ) → job_in (view_of opening replica) job ≡ option_map standing (job_of replica job)
 job_there opening replica zero = refl
-job_there opening replica (suc k) = slice_get-map stand_of replica.jobs k ∙ by (slice_get replica.jobs k) where
-  by : (played : Option Playing) → option_map stand_of played ≡ option_map standing (option_map (λ (p : Playing). p.job) played)
+job_there opening replica (suc k) = slice_get-map stand_of_played replica.jobs k ∙ by (slice_get replica.jobs k) where
+  by : (played : Option Playing) → option_map stand_of_played played ≡ option_map standing (option_map (λ (p : Playing). p.job) played)
   by None = refl
   by (Some played) = refl
 
@@ -233,14 +233,14 @@ no_run place views replica none ready missing =
 pub kept_view : (image image' : Loaded) (opening : Shared) (history : History) (old new : Replayed) (before after : Window) (place : ℕ) (kept : Bool)
     → image' ≡ image → IsReplica image opening history old → old.made ≡ place → ((h : History) → IsReplica image' opening h old → IsReplica image' opening h new)
     → new.made ≡ old.made → IsFull opening new → AreViews image opening history before → before.first + length before.views ≡ place → place < length history
-    → IsKept (view_of opening new) before kept after → kept ≡ true
+    → IsPutOrGone (view_of opening new) before kept after → kept ≡ true
     → AreViews image opening history after × (after.first + length after.views ≡ place + 1)
 kept_view image image' opening history old new before after place kept same is at fill made full are next within keeps on =
     let R : Loaded → Type 0 = λ i. IsReplica i opening history old in
     let S : Loaded → Type 0 = λ i. IsReplica i opening history new in
     let filled : IsReplica image opening history new = subst S same (fill history (subst R (sym same) is)) in
     let shows : IsView image opening (take place history) (view_of opening new) = is_view image opening history new filled full place (made ∙ at) in
-    let K : Bool → Type 0 = λ b. IsKept (view_of opening new) before b after in
+    let K : Bool → Type 0 = λ b. IsPutOrGone (view_of opening new) before b after in
     let more : Window = record { first = before.first; views = before.views ++ view_of opening new ∷ [] } in
     let now : after ≡ more = subst K on keeps in
     let P : Window → Type 0 = λ w. AreViews image opening history w × (w.first + length w.views ≡ place + 1) in

@@ -10,15 +10,15 @@ use Rattle.mj_debug.specs.Replicas.{Replayed, is_at}
 use Rattle.mj_debug.specs.Shows.{HasStood}
 
 -- a job as it stands in a run that is played again
-abbrev pub stand_of : Playing → Stand
-stand_of played = record { frames = played.job.run.at.state.frames; locals = played.job.run.at.state.locals }
+abbrev pub stand_of_played : Playing → Stand
+stand_of_played played = record { frames = played.job.run.at.state.frames; locals = played.job.run.at.state.locals }
 
 -- what a run that is played again has to show
 abbrev pub view_of : Shared → Replayed → Viewed
 view_of opening replica = record {
   globals = (state_of opening replica.system.history).globals;
   locks = (state_of opening replica.system.history).locks;
-  jobs = map stand_of replica.jobs;
+  jobs = map stand_of_played replica.jobs;
 }
 
 -- a view shows what these events leave: the globals and the locks; no job that it hasn't has a row there; and each that it has stood so at its last
@@ -39,9 +39,9 @@ abbrev pub AreBefore : ℕ → Window → Type 0
 AreBefore place views = views.first + length views.views ≤ place
 
 -- the next view was put to them, or all went
-abbrev pub IsKept : Viewed → Window → Bool → Window → Type 0
-IsKept view old true new = new ≡ record old { views = old.views ++ view ∷ [] }
-IsKept view old false new = new ≡ record old { views = [] }
+abbrev pub IsPutOrGone : Viewed → Window → Bool → Window → Type 0
+IsPutOrGone view old true new = new ≡ record old { views = old.views ++ view ∷ [] }
+IsPutOrGone view old false new = new ≡ record old { views = [] }
 
 -- what stands at a place is at hand: there is a view of it, or a run was played again up to it
 abbrev pub is_ready : ℕ → Window → Option Replayed → Bool

@@ -73,8 +73,8 @@ pub enum Gone {
 /// Jobs that are stepped, with a place in the record of what happened, which is walked back and forth. A step is made at the record's end alone,
 /// and moves the place there with it; walking changes neither the jobs nor the record. What stands at the place is shown by playing the events
 /// before it again, for which no device is called. That takes as long as the run itself took for those events that weren't played yet, and begins anew
-/// where the place is before what was played last. Such a replay makes views of the last places before the place, up to 1,000, as far as they take about
-/// as much memory as the replay: so many steps back, each with a show, cost one replay from the opening.
+/// where the place is before what was played last. Such a replay makes views of the last places before the place, up to 1,000, as far as there is room for
+/// them (`docs/DEBUGGER.md`): so many steps back, each with a show, cost one replay from the opening.
 #[derive(Drop)]
 pub struct Debugger<D: Device, O: Opening> {
     alloc: Global,

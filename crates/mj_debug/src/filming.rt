@@ -3,7 +3,7 @@
 ghost use Rattle.std.specs.Prelude.{◌≡◌, ◌≤◌, length, IfErr, OnOk};
 ghost use Rattle.mj_sys.specs.System.{history_limit};
 ghost use Rattle.mj_debug.specs.Replicas.{IsReplica, IsUnshown};
-ghost use Rattle.mj_debug.specs.Views.{view_of, AreViews, AreBefore, IsKept};
+ghost use Rattle.mj_debug.specs.Views.{view_of, AreViews, AreBefore, IsPutOrGone};
 
 use crate::replica::{Replica, Unshown};
 use mj_core::Core;
@@ -16,20 +16,24 @@ use mj_views::Views;
 use std::alloc::Global;
 
 // The most places of which views are kept: so many steps back are shown at the cost of one replay.
-const WINDOW: usize = 1_000;
+const MOST: usize = 1_000;
 
 // How many nodes all views may have together beyond one for each event before the place: so those of a short run aren't few, and those of a long one take
 // about the memory and time that its replay does.
-const SPARE: usize = 1_000;
+const SPARE: usize = 100_000;
 
-// Plays the events before a place, and makes views of the last places before it, as many as may be kept. Where memory is wanting for one, they all go,
-// and some events may be left to be played.
+// As how many nodes a job counts beside its locals and frames: so much does its table of locals take, however few there are.
+const JOB: usize = 4;
+
+// Plays the events before a place, and makes views of the last places before it: of at most so many, and as long as there is room for them. Where there
+// isn't, or memory is wanting for one, they all go, and some events may be left to be played.
 pub fn film<D: Device, O: Opening>(
     alloc: Global,
     core: &Core<D, O>,
     views: &mut Views,
     replica: &mut Replica<O>,
     place: usize,
+    most: usize,
 ) -> Result<(), Unshown>
     requires replica { IsReplica core.now.image O.opening core.now.history replica.old }
     requires none { replica.old.made ≡ 0 }
@@ -43,16 +47,15 @@ pub fn film<D: Device, O: Opening>(
     ensures views { AreViews core.now.image O.opening core.now.history views.new }
     ensures before { AreBefore place views.new }
 {
-    let window = place.min(WINDOW);
-    replica.play_to(alloc, core, place - window)?;
-    let first = place - count_kept(alloc, replica, place).min(window);
+    let first = place - most.min(place);
     replica.play_to(alloc, core, first)?;
     views.begin(first);
+    let mut room = room_before(place);
     for _ in first..place {
         let Ok(()) = replica.fill(alloc, core.image()) else {
             return Err(Unshown::Memory);
         };
-        if !keep_view(replica, views) {
+        if !keep_view(alloc, replica, views, &mut room) {
             return Ok(());
         }
         replica.play(alloc, core)?;
@@ -60,30 +63,51 @@ pub fn film<D: Device, O: Opening>(
     Ok(())
 }
 
-// Keeps a view of what stands where a run has come to, and says whether it does. At want of memory all views go.
-fn keep_view<O: Opening>(replica: &Replica<O>, views: &mut Views) -> bool
-    ensures { IsKept (view_of O.opening replica.now) views.old result views.new }
+// Keeps a view of what stands where a run has come to, and says whether it does. Where it takes more than the room that is left, or memory is wanting, all
+// views go.
+fn keep_view<O: Opening>(
+    alloc: Global,
+    replica: &Replica<O>,
+    views: &mut Views,
+    room: &mut usize,
+) -> bool
+    ensures { IsPutOrGone (view_of O.opening replica.now) views.old result views.new }
 {
-    if let Ok(view) = replica.view() {
-        if views.push(view).is_ok() {
-            return true;
+    if let Some(left) = left_beside(alloc, replica, *room) {
+        if let Ok(view) = replica.view() {
+            if views.push(view).is_ok() {
+                *room = left;
+                return true;
+            }
         }
     }
     views.clear();
     false
 }
 
-// How many views as large as one of here may be kept of the places before a place.
-fn count_kept<O: Opening>(alloc: Global, replica: &Replica<O>, place: usize) -> usize {
-    let room = place.saturating_add(SPARE);
+// How many nodes views of places before this one may have together.
+fn room_before(place: usize) -> usize {
+    place.saturating_add(SPARE)
+}
+
+// Of how many places before this one views may be kept, if they are as large as one of where a run beyond it has come to. Without such a run the room
+// alone says how many are kept.
+pub fn count_kept<O: Opening>(alloc: Global, replica: &Option<Replica<O>>, place: usize) -> usize {
+    let Some(replica) = replica else {
+        return MOST;
+    };
+    if replica.made() <= place {
+        return MOST;
+    }
+    let room = room_before(place);
     match left_beside(alloc, replica, room) {
-        Some(left) => room / room.saturating_sub(left).max(1),
+        Some(left) => (room / room.saturating_sub(left).max(1)).min(MOST),
         None => 0,
     }
 }
 
-// How much is left of the room for so many nodes beside a view of here, where each job and each lock takes as much room as a node. None where there is
-// too little, or where memory is wanting.
+// How much is left of the room for so many nodes beside a view of here, where a lock and a frame take as much as a node. None where there is too little,
+// or where memory is wanting.
 fn left_beside<O: Opening>(alloc: Global, replica: &Replica<O>, room: usize) -> Option<usize> {
     let mut left = Left { nodes: room };
     let Ok(()) = replica.globals().walk(&mut left) else {
@@ -97,7 +121,10 @@ fn left_beside<O: Opening>(alloc: Global, replica: &Replica<O>, room: usize) -> 
         let Ok(nodes) = played.job.locals().nodes() else {
             return None;
         };
-        left = left.checked_sub(nodes.len())?.checked_sub(1)?;
+        left = left.checked_sub(nodes.len())?;
+        left = left
+            .checked_sub(played.job.frames().len())?
+            .checked_sub(JOB)?;
     }
     Some(left)
 }

@@ -12,7 +12,7 @@ ghost use Rattle.mj_debug.specs.Views.{view_of, AreViews};
 ghost use Rattle.mj_debug.specs.Walks.{AreWhole};
 ghost use Rattle.mj_views.specs.Views.{frames_seen, locals_seen, job_in, view_at};
 
-use crate::filming::film;
+use crate::filming::{count_kept, film};
 use crate::playing::Played;
 use crate::replaying::{admit, make_event};
 use mj_ask::Start;
@@ -271,10 +271,11 @@ pub fn bring<D: Device, O: Opening>(
     ensures views { AreViews core.now.image O.opening core.now.history views.new }
     ensures unseen { view_at views.new place ≡ None }
 {
+    let most = count_kept(alloc, &replica, place);
     if let Some(replica) = behind(replica, place) {
         return finish(alloc, core, replica, place);
     }
-    let replica = again(alloc, core, kept, views, place)?;
+    let replica = again(alloc, core, kept, views, place, most)?;
     finish(alloc, core, replica, place)
 }
 
@@ -313,13 +314,15 @@ fn behind<O: Opening>(replica: Option<Replica<O>>, place: usize) -> Option<Repli
     Some(replica)
 }
 
-// A new run, with views of the last places before a place that isn't the record's end.
+// A new run, with views of at most so many of the last places before a place that isn't the record's end. Where memory is wanting with them, it is a new
+// run without.
 fn again<D: Device, O: Opening>(
     alloc: Global,
     core: &Core<D, O>,
     kept: &Kept,
     views: &mut Views,
     place: usize,
+    most: usize,
 ) -> Result<Replica<O>, Unshown>
     requires kept { Begins O.opening kept.now }
     requires within { place ≤ length core.now.history }
@@ -337,8 +340,21 @@ fn again<D: Device, O: Opening>(
     if place >= core.len() {
         return Ok(replica);
     }
-    film(alloc, core, views, &mut replica, place)?;
-    Ok(replica)
+    match film(alloc, core, views, &mut replica, place, most) {
+        Ok(()) => Ok(replica),
+        Err(Unshown::Memory) => {
+            drop(replica);
+            views.begin(0);
+            match Replica::begin(alloc, kept) {
+                Ok(replica) => Ok(replica),
+                Err(_) => Err(Unshown::Memory),
+            }
+        }
+        Err(why) => {
+            drop(replica);
+            Err(why)
+        }
+    }
 }
 
 // What a run is to be begun with once more.
