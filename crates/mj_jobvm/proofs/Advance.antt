@@ -1,6 +1,7 @@
 -- A job that goes on by a turn of its machine.
 use Rattle.std.proofs.Common.{◌≡◌, ℕ, ◌+◌, ◌≤◌, List, Option, Some, None, Bool, Box, Global, sym, subst}
 use Rattle.mj_ask.specs.declared.ask.Ask.{Ask}
+use Rattle.mj_ask.specs.declared.ask.Reply.{Reply}
 use Rattle.mj_semantics.specs.Job.{Start}
 use Rattle.mj_ast.specs.Syntax.{Routine}
 use Rattle.mj_pcode.specs.declared.instr.Unit.{Unit}
@@ -15,7 +16,8 @@ use Rattle.mj_machine.specs.Kept.{standing}
 use Rattle.mj_jobvm.specs.Run.{Log, IsRunAfter}
 use Rattle.mj_jobvm.specs.Jobs.{running, given_of, code_in, IsRunOfAfter}
 use Rattle.mj_jobvm.specs.Told.{Told, told_of}
-use Rattle.mj_jobvm.proofs.Jobs.{run, turned, asking, fewer, told_ended}
+use Rattle.mj_segment.specs.Segments.{StepsBy, Runs}
+use Rattle.mj_jobvm.proofs.Jobs.{run, turned, turned_by, asking, fewer, told_ended}
 
 -- the same of a pending ask by another name, and of fewer turns
 pub counted_as : (routines : List Routine) (start : Start) (code : Code) (turns : ℕ) (log : Log) (pending named : Option Ask) (spent counted : ℕ) (at : Standing)
@@ -24,6 +26,16 @@ pub counted_as : (routines : List Routine) (start : Start) (code : Code) (turns 
 counted_as routines start code turns log pending named spent counted at e le r =
     let P : Option Ask → Type 0 = λ p. IsRunAfter routines start code turns (run log p counted at) in
     subst P (sym e) (fewer routines start code log pending counted spent turns at le r)
+
+-- several turns of its machine
+pub went_ahead : (image : Loaded) (start from : Start) (turns : ℕ) (units : List Unit) (log : Log) → units ≡ image.units → (spent k : ℕ) (old new : Machine) (given : Bool)
+    → Runs units k old new → IsSound units (standing new None)
+    → IsRunOfAfter image start turns (running from old log given None spent) → IsRunOfAfter image start (turns + k) (running from new log given None (spent + k))
+went_ahead image start from turns units log e spent k old new given runs sound r =
+    let g : Option Reply = given_of given log in
+    let P : List Unit → Type 0 = λ us. StepsBy (record { units = us; start = from }) k (standing old g) (standing new g) in
+    let h : IsSound image.units (standing new None) = subst (λ us. IsSound us (standing new None)) e sound in
+    turned_by (routines_of image) start (code_in image from) log spent turns k (standing old g) (standing new g) (subst P e (runs from g)) h r
 
 module _ (image : Loaded) (start from : Start) (turns : ℕ) (units : List Unit) (log seen : Log) (eu : units ≡ image.units) (el : seen ≡ log)
     (spent : ℕ) (old new : Machine) (given left : Bool) (went : Went)

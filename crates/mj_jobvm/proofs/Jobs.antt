@@ -1,5 +1,5 @@
 -- A job stays at a point of its routines' run.
-use Rattle.std.proofs.Common.{◌≡◌, ℕ, suc, ◌+◌, ◌≤◌, List, [], ◌∷◌, ◌++◌, drop, Option, Some, None, Bool, true, false, inl, inr, refl, sym, ap, ◌∙◌, subst, arith, append-nil}
+use Rattle.std.proofs.Common.{◌≡◌, ℕ, suc, ◌+◌, ◌-◌, ◌≤◌, ◌⊎◌, List, [], ◌∷◌, ◌++◌, drop, Option, Some, None, Bool, true, false, inl, inr, refl, sym, ap, ◌∙◌, subst, arith, append-nil}
 use Rattle.std.specs.Prelude.{IsTrue, nat_lt}
 use Rattle.std.proofs.lemmas.Bool.{ltb-true, ltb-false}
 use Rattle.mj_text.specs.declared.fault.Fault.{Fault}
@@ -11,6 +11,8 @@ use Rattle.mj_semantics.specs.State.{State, Locals, Place, places, ending_order}
 use Rattle.mj_semantics.specs.Outcome.{Outcome, Needs, More, Handler, ends}
 use Rattle.mj_semantics.specs.Outcome as outcomes
 use Rattle.mj_semantics.specs.Job.{Start, next}
+use Rattle.mj_semantics.proofs.Depth.{steady}
+use Rattle.mj_segment.specs.Segments.{StepsBy}
 use Rattle.mj_pcode.specs.Context.{Context}
 use Rattle.mj_pcode.specs.Machine.{Stack, handler}
 use Rattle.mj_machine.specs.declared.control.Control.{Control}
@@ -96,6 +98,11 @@ module _ (routines : List Routine) (start : Start) where
       let ge : m ≤ k = no_later (replies_of earlier) m k a locals at (subst P (sym same) going') needs in
       omega (arith, le, ge)
 
+-- a run that is still going after some turns was going after fewer
+more_before : (now later : Outcome) → (now ≡ More) ⊎ (later ≡ now) → later ≡ More → now ≡ More
+more_before now later (inl e) more = e
+more_before now later (inr e) more = sym e ∙ more
+
 module _ (routines : List Routine) (start : Start) (code : Code) where
   -- what the routines do with the log
   now : (log : Log) (pending : Option Ask) (spent turns n : ℕ) (at : Standing) (r : IsRunAfter routines start code turns (run log pending spent at))
@@ -140,6 +147,29 @@ module _ (routines : List Routine) (start : Start) (code : Code) where
     going = λ n le. one_further (λ k. (replies : List Reply) → next routines start k (replies_of log ++ replies) ≡ More) (r.before + turns) r.going
         (λ replies. sym (r.rest 1 replies) ∙ h 0 replies ∙ idle code new replies) n (let l : n ≤ r.before + turns + 1 = omega (arith, le) in l);
     rest = λ n replies. sym (h n replies) ∙ r.rest (suc n) replies ∙ ap (λ k. next routines start k (replies_of log ++ replies)) (let e : r.before + turns + suc n ≡ r.before + (turns + 1) + n = omega arith in e);
+    sound = sound;
+    asks = tt;
+  }
+
+  -- several turns
+  pub turned_by : (log : Log) (spent turns k : ℕ) (old new : Standing) → StepsBy code k old new → IsSound code.units new
+      → IsRunAfter routines start code turns (run log None spent old) → IsRunAfter routines start code (turns + k) (run log None (spent + k) new)
+  turned_by log spent turns k old new h sound r = record {
+    before = r.before;
+    counted = r.counted;
+    trace = r.trace;
+    within = let w = r.within in omega (arith, w);
+    going = λ n le replies.
+        let rs : List Reply = replies_of log ++ replies in
+        let last : next routines start (r.before + (turns + k)) rs ≡ More =
+        ap (λ m. next routines start m rs) (let e : r.before + (turns + k) ≡ r.before + turns + k = omega arith in e)
+        ∙ sym (r.rest k replies) ∙ ap (λ m. onward code m old replies) (let e : k ≡ k + 0 = omega arith in e) ∙ h 0 replies ∙ idle code new replies in
+        let e : n + (r.before + (turns + k) - n) ≡ r.before + (turns + k) = omega (arith, le) in
+        more_before (next routines start n rs) (next routines start (n + (r.before + (turns + k) - n)) rs)
+        (steady routines start n (r.before + (turns + k) - n) rs) (ap (λ m. next routines start m rs) e ∙ last);
+    rest = λ n replies.
+        sym (h n replies) ∙ r.rest (k + n) replies
+        ∙ ap (λ m. next routines start m (replies_of log ++ replies)) (let e : r.before + turns + (k + n) ≡ r.before + (turns + k) + n = omega arith in e);
     sound = sound;
     asks = tt;
   }

@@ -24,6 +24,7 @@ use mj_locals::Locals;
 use mj_machine::{Control, Machine, Step};
 use mj_open::Devices;
 use mj_pcode::Unit;
+use mj_segment::run_segment;
 use mj_store::Nodes;
 use mj_text::Text;
 use mj_turn::{Start, make_turn};
@@ -126,7 +127,12 @@ impl Job {
         }
         self.log.reserve(1)?;
         let units = image.units();
-        'turns: for done in 0..fuel {
+        let mut done = 0;
+        'turns: while done < fuel {
+            done += run_segment(self.alloc, units, fuel - done, &mut self.machine);
+            if done == fuel {
+                continue 'turns;
+            }
             let went = match go_on(
                 self.alloc,
                 units,
@@ -139,7 +145,7 @@ impl Job {
                 Err(error) => return Err(error),
             };
             match went {
-                Went::On => {}
+                Went::On => done += 1,
                 Went::Asks(ask) => {
                     wait(&mut self.pending, ask);
                     return Ok(Turn::Asks);

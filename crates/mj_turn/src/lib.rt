@@ -11,12 +11,12 @@
 
 mod calling;
 mod ending;
-mod entering;
+pub mod entering;
 mod fault;
 mod flow;
 mod leaving;
 mod news;
-mod repeat;
+pub mod repeat;
 mod start;
 mod turn;
 

@@ -8,7 +8,7 @@ use Rattle.mj_jobvm.specs.Run.{Log, IsRunAfter}
 use Rattle.mj_jobvm.specs.declared.job.Turn.TheVariants as reports
 use Rattle.mj_jobvm.specs.Told.{Told}
 use Rattle.mj_jobvm.specs.Jobs.{Running, IsRunOfAfter, running, given_of, code_in}
-use Rattle.mj_jobvm.proofs.Advance.{counted_as, went_on, went_asks, went_over, told_over}
+use Rattle.mj_jobvm.proofs.Advance.{counted_as, went_ahead, went_on, went_asks, went_over, told_over}
 use Rattle.mj_jobvm.proofs.Jobs.{run, told_again, told_asks, told_ran}
 use Rattle.mj_jobvm.proofs.job.Job.advance.Goals as goal
 
@@ -32,14 +32,17 @@ pub turns-preserved : goal.turns-preserved
 turns-preserved c =
     let i = c.turns.invariant in
     let s = c.turns.self-inside in
+    let more = c.run_segment.result in
+    let ahead = λ start turns is. went_ahead c.args.image.now start (start_of s.start) (turns + c.turns.done) c.units-units.result.now s.log.items i.code
+    (c.args.self.now.run.spent + c.turns.done) more s.machine c.run_segment.new.machine s.given c.run_segment.ensures.turns c.run_segment.ensures.sound (i.run start turns is) in
     record {
       run = λ start turns is.
           let P : ℕ → ℕ → Type 0 = λ t n. IsRunOfAfter c.args.image.now start t (running (start_of s.start) c.go_on.new.machine s.log.items c.go_on.new.given None n) in
-          let e : c.args.self.now.run.spent + c.turns.done + 1 ≡ c.args.self.now.run.spent + (c.turns.done + 1) = omega arith in
-          let k : turns + c.turns.done + 1 ≡ turns + (c.turns.done + 1) = omega arith in
-          subst (λ t. P t (c.args.self.now.run.spent + (c.turns.done + 1))) k (subst (P (turns + c.turns.done + 1)) e
-          (went_on c.args.image.now start (start_of s.start) (turns + c.turns.done) c.units-units.result.now s.log.items c.deref.result.now i.code c.deref.ensures.value
-          (c.args.self.now.run.spent + c.turns.done) s.machine c.go_on.new.machine s.given c.go_on.new.given c.in-Ok.went c.in-Ok.ensures.ok c.go_on.ensures.sound (i.run start turns is) c.in-On.is));
+          let e : c.args.self.now.run.spent + c.turns.done + more + 1 ≡ c.args.self.now.run.spent + (c.turns.done + 1) = omega arith in
+          let k : turns + c.turns.done + more + 1 ≡ turns + (c.turns.done + 1) = omega arith in
+          subst (λ t. P t (c.args.self.now.run.spent + (c.turns.done + 1))) k (subst (P (turns + c.turns.done + more + 1)) e
+          (went_on c.args.image.now start (start_of s.start) (turns + c.turns.done + more) c.units-units.result.now s.log.items c.deref.result.now i.code c.deref.ensures.value
+          (c.args.self.now.run.spent + c.turns.done + more) c.run_segment.new.machine c.go_on.new.machine s.given c.go_on.new.given c.in-Ok.went c.in-Ok.ensures.ok c.go_on.ensures.sound (ahead start turns is) c.in-On.is));
       code = i.code;
       small = i.small;
       checked = i.checked;
@@ -54,74 +57,92 @@ turns-preserved c =
 pub returns-in-Err-clause-forward : goal.returns-in-Err-clause-forward
 returns-in-Err-clause-forward c = λ start turns is.
     let i = c.turns.invariant in
-    let s = c.turns.self-inside in (
-      turns + c.turns.done,
+    let s = c.turns.self-inside in
+    let more = c.run_segment.result in
+    let ahead = λ start turns is. went_ahead c.args.image.now start (start_of s.start) (turns + c.turns.done) c.units-units.result.now s.log.items i.code
+    (c.args.self.now.run.spent + c.turns.done) more s.machine c.run_segment.new.machine s.given c.run_segment.ensures.turns c.run_segment.ensures.sound (i.run start turns is) in (
+      turns + c.turns.done + more,
       omega arith,
-      let same : standing c.go_on.new.machine (given_of c.go_on.new.given s.log.items) ≡ standing s.machine (given_of s.given s.log.items) =
-          subst (λ l. standing c.go_on.new.machine (given_of c.go_on.new.given l) ≡ standing s.machine (given_of s.given l)) c.deref.ensures.value c.in-Err.ensures.err in
-          let P : Standing → Type 0 = λ x. IsRunAfter (routines_of c.args.image.now) start (code_in c.args.image.now (start_of s.start)) (turns + c.turns.done) (run s.log.items s.pending s.spent x) in
+      let same : standing c.go_on.new.machine (given_of c.go_on.new.given s.log.items) ≡ standing c.run_segment.new.machine (given_of s.given s.log.items) =
+          subst (λ l. standing c.go_on.new.machine (given_of c.go_on.new.given l) ≡ standing c.run_segment.new.machine (given_of s.given l)) c.deref.ensures.value c.in-Err.ensures.err in
+          let P : Standing → Type 0 = λ x. IsRunAfter (routines_of c.args.image.now) start (code_in c.args.image.now (start_of s.start)) (turns + c.turns.done + more) (run s.log.items s.pending s.spent x) in
           subst P (sym same)
-          (counted_as (routines_of c.args.image.now) start (code_in c.args.image.now (start_of s.start)) (turns + c.turns.done) s.log.items None s.pending (c.args.self.now.run.spent + c.turns.done) s.spent (standing s.machine (given_of s.given s.log.items)) i.pending
-          (let e = i.spent in omega (arith, e)) (i.run start turns is)),
+          (counted_as (routines_of c.args.image.now) start (code_in c.args.image.now (start_of s.start)) (turns + c.turns.done + more) s.log.items None s.pending (c.args.self.now.run.spent + c.turns.done + more) s.spent (standing c.run_segment.new.machine (given_of s.given s.log.items)) i.pending
+          (let e = i.spent in omega (arith, e)) (ahead start turns is)),
     )
 
 pub returns-in-Err-clause-run : goal.returns-in-Err-clause-run
 returns-in-Err-clause-run c = λ start (turns, is).
     let i = c.turns.invariant in
-    let s = c.turns.self-inside in (
-      turns + c.turns.done,
-      let same : standing c.go_on.new.machine (given_of c.go_on.new.given s.log.items) ≡ standing s.machine (given_of s.given s.log.items) =
-          subst (λ l. standing c.go_on.new.machine (given_of c.go_on.new.given l) ≡ standing s.machine (given_of s.given l)) c.deref.ensures.value c.in-Err.ensures.err in
-          let P : Standing → Type 0 = λ x. IsRunAfter (routines_of c.args.image.now) start (code_in c.args.image.now (start_of s.start)) (turns + c.turns.done) (run s.log.items s.pending s.spent x) in
+    let s = c.turns.self-inside in
+    let more = c.run_segment.result in
+    let ahead = λ start turns is. went_ahead c.args.image.now start (start_of s.start) (turns + c.turns.done) c.units-units.result.now s.log.items i.code
+    (c.args.self.now.run.spent + c.turns.done) more s.machine c.run_segment.new.machine s.given c.run_segment.ensures.turns c.run_segment.ensures.sound (i.run start turns is) in (
+      turns + c.turns.done + more,
+      let same : standing c.go_on.new.machine (given_of c.go_on.new.given s.log.items) ≡ standing c.run_segment.new.machine (given_of s.given s.log.items) =
+          subst (λ l. standing c.go_on.new.machine (given_of c.go_on.new.given l) ≡ standing c.run_segment.new.machine (given_of s.given l)) c.deref.ensures.value c.in-Err.ensures.err in
+          let P : Standing → Type 0 = λ x. IsRunAfter (routines_of c.args.image.now) start (code_in c.args.image.now (start_of s.start)) (turns + c.turns.done + more) (run s.log.items s.pending s.spent x) in
           subst P (sym same)
-          (counted_as (routines_of c.args.image.now) start (code_in c.args.image.now (start_of s.start)) (turns + c.turns.done) s.log.items None s.pending (c.args.self.now.run.spent + c.turns.done) s.spent (standing s.machine (given_of s.given s.log.items)) i.pending
-          (let e = i.spent in omega (arith, e)) (i.run start turns is)),
+          (counted_as (routines_of c.args.image.now) start (code_in c.args.image.now (start_of s.start)) (turns + c.turns.done + more) s.log.items None s.pending (c.args.self.now.run.spent + c.turns.done + more) s.spent (standing c.run_segment.new.machine (given_of s.given s.log.items)) i.pending
+          (let e = i.spent in omega (arith, e)) (ahead start turns is)),
     )
 
 pub returns-in-Asks-clause-forward : goal.returns-in-Asks-clause-forward
 returns-in-Asks-clause-forward c = λ start turns is.
     let i = c.turns.invariant in
-    let s = c.turns.self-inside in (
-      turns + c.turns.done,
+    let s = c.turns.self-inside in
+    let more = c.run_segment.result in
+    let ahead = λ start turns is. went_ahead c.args.image.now start (start_of s.start) (turns + c.turns.done) c.units-units.result.now s.log.items i.code
+    (c.args.self.now.run.spent + c.turns.done) more s.machine c.run_segment.new.machine s.given c.run_segment.ensures.turns c.run_segment.ensures.sound (i.run start turns is) in (
+      turns + c.turns.done + more,
       omega arith,
-      counted_as (routines_of c.args.image.now) start (code_in c.args.image.now (start_of s.start)) (turns + c.turns.done) s.log.items (Some c.in-Asks.ask.value) c.wait.new.pending (c.args.self.now.run.spent + c.turns.done) s.spent (standing c.go_on.new.machine (given_of c.go_on.new.given s.log.items)) c.wait.ensures
+      counted_as (routines_of c.args.image.now) start (code_in c.args.image.now (start_of s.start)) (turns + c.turns.done + more) s.log.items (Some c.in-Asks.ask.value) c.wait.new.pending (c.args.self.now.run.spent + c.turns.done + more) s.spent (standing c.go_on.new.machine (given_of c.go_on.new.given s.log.items)) c.wait.ensures
           (let e = i.spent in omega (arith, e))
-          (went_asks c.args.image.now start (start_of s.start) (turns + c.turns.done) c.units-units.result.now s.log.items c.deref.result.now i.code c.deref.ensures.value
-          (c.args.self.now.run.spent + c.turns.done) s.machine c.go_on.new.machine s.given c.go_on.new.given c.in-Ok.went c.in-Ok.ensures.ok c.go_on.ensures.sound (i.run start turns is) c.in-Asks.ask c.in-Asks.is),
+          (went_asks c.args.image.now start (start_of s.start) (turns + c.turns.done + more) c.units-units.result.now s.log.items c.deref.result.now i.code c.deref.ensures.value
+          (c.args.self.now.run.spent + c.turns.done + more) c.run_segment.new.machine c.go_on.new.machine s.given c.go_on.new.given c.in-Ok.went c.in-Ok.ensures.ok c.go_on.ensures.sound (ahead start turns is) c.in-Asks.ask c.in-Asks.is),
     )
 
 pub returns-in-Asks-clause-run : goal.returns-in-Asks-clause-run
 returns-in-Asks-clause-run c = λ start (turns, is).
     let i = c.turns.invariant in
-    let s = c.turns.self-inside in (
-      turns + c.turns.done,
-      counted_as (routines_of c.args.image.now) start (code_in c.args.image.now (start_of s.start)) (turns + c.turns.done) s.log.items (Some c.in-Asks.ask.value) c.wait.new.pending (c.args.self.now.run.spent + c.turns.done) s.spent (standing c.go_on.new.machine (given_of c.go_on.new.given s.log.items)) c.wait.ensures
+    let s = c.turns.self-inside in
+    let more = c.run_segment.result in
+    let ahead = λ start turns is. went_ahead c.args.image.now start (start_of s.start) (turns + c.turns.done) c.units-units.result.now s.log.items i.code
+    (c.args.self.now.run.spent + c.turns.done) more s.machine c.run_segment.new.machine s.given c.run_segment.ensures.turns c.run_segment.ensures.sound (i.run start turns is) in (
+      turns + c.turns.done + more,
+      counted_as (routines_of c.args.image.now) start (code_in c.args.image.now (start_of s.start)) (turns + c.turns.done + more) s.log.items (Some c.in-Asks.ask.value) c.wait.new.pending (c.args.self.now.run.spent + c.turns.done + more) s.spent (standing c.go_on.new.machine (given_of c.go_on.new.given s.log.items)) c.wait.ensures
           (let e = i.spent in omega (arith, e))
-          (went_asks c.args.image.now start (start_of s.start) (turns + c.turns.done) c.units-units.result.now s.log.items c.deref.result.now i.code c.deref.ensures.value
-          (c.args.self.now.run.spent + c.turns.done) s.machine c.go_on.new.machine s.given c.go_on.new.given c.in-Ok.went c.in-Ok.ensures.ok c.go_on.ensures.sound (i.run start turns is) c.in-Asks.ask c.in-Asks.is),
+          (went_asks c.args.image.now start (start_of s.start) (turns + c.turns.done + more) c.units-units.result.now s.log.items c.deref.result.now i.code c.deref.ensures.value
+          (c.args.self.now.run.spent + c.turns.done + more) c.run_segment.new.machine c.go_on.new.machine s.given c.go_on.new.given c.in-Ok.went c.in-Ok.ensures.ok c.go_on.ensures.sound (ahead start turns is) c.in-Asks.ask c.in-Asks.is),
     )
 
 pub returns-in-Over-clause-forward : goal.returns-in-Over-clause-forward
 returns-in-Over-clause-forward c = λ start turns is.
     let i = c.turns.invariant in
-    let s = c.turns.self-inside in (
-      turns + c.turns.done,
+    let s = c.turns.self-inside in
+    let more = c.run_segment.result in
+    let ahead = λ start turns is. went_ahead c.args.image.now start (start_of s.start) (turns + c.turns.done) c.units-units.result.now s.log.items i.code
+    (c.args.self.now.run.spent + c.turns.done) more s.machine c.run_segment.new.machine s.given c.run_segment.ensures.turns c.run_segment.ensures.sound (i.run start turns is) in (
+      turns + c.turns.done + more,
       omega arith,
-      counted_as (routines_of c.args.image.now) start (code_in c.args.image.now (start_of s.start)) (turns + c.turns.done) s.log.items None s.pending (c.args.self.now.run.spent + c.turns.done) s.spent
+      counted_as (routines_of c.args.image.now) start (code_in c.args.image.now (start_of s.start)) (turns + c.turns.done + more) s.log.items None s.pending (c.args.self.now.run.spent + c.turns.done + more) s.spent
           (standing c.go_on.new.machine (given_of c.go_on.new.given s.log.items)) i.pending (let e = i.spent in omega (arith, e))
-          (went_over c.args.image.now start (start_of s.start) (turns + c.turns.done) c.units-units.result.now s.log.items c.deref.result.now i.code c.deref.ensures.value
-          (c.args.self.now.run.spent + c.turns.done) s.machine c.go_on.new.machine s.given c.go_on.new.given c.in-Ok.went c.in-Ok.ensures.ok c.go_on.ensures.sound (i.run start turns is) c.in-Over.is),
+          (went_over c.args.image.now start (start_of s.start) (turns + c.turns.done + more) c.units-units.result.now s.log.items c.deref.result.now i.code c.deref.ensures.value
+          (c.args.self.now.run.spent + c.turns.done + more) c.run_segment.new.machine c.go_on.new.machine s.given c.go_on.new.given c.in-Ok.went c.in-Ok.ensures.ok c.go_on.ensures.sound (ahead start turns is) c.in-Over.is),
     )
 
 pub returns-in-Over-clause-run : goal.returns-in-Over-clause-run
 returns-in-Over-clause-run c = λ start (turns, is).
     let i = c.turns.invariant in
-    let s = c.turns.self-inside in (
-      turns + c.turns.done,
-      counted_as (routines_of c.args.image.now) start (code_in c.args.image.now (start_of s.start)) (turns + c.turns.done) s.log.items None s.pending (c.args.self.now.run.spent + c.turns.done) s.spent
+    let s = c.turns.self-inside in
+    let more = c.run_segment.result in
+    let ahead = λ start turns is. went_ahead c.args.image.now start (start_of s.start) (turns + c.turns.done) c.units-units.result.now s.log.items i.code
+    (c.args.self.now.run.spent + c.turns.done) more s.machine c.run_segment.new.machine s.given c.run_segment.ensures.turns c.run_segment.ensures.sound (i.run start turns is) in (
+      turns + c.turns.done + more,
+      counted_as (routines_of c.args.image.now) start (code_in c.args.image.now (start_of s.start)) (turns + c.turns.done + more) s.log.items None s.pending (c.args.self.now.run.spent + c.turns.done + more) s.spent
           (standing c.go_on.new.machine (given_of c.go_on.new.given s.log.items)) i.pending (let e = i.spent in omega (arith, e))
-          (went_over c.args.image.now start (start_of s.start) (turns + c.turns.done) c.units-units.result.now s.log.items c.deref.result.now i.code c.deref.ensures.value
-          (c.args.self.now.run.spent + c.turns.done) s.machine c.go_on.new.machine s.given c.go_on.new.given c.in-Ok.went c.in-Ok.ensures.ok c.go_on.ensures.sound (i.run start turns is) c.in-Over.is),
+          (went_over c.args.image.now start (start_of s.start) (turns + c.turns.done + more) c.units-units.result.now s.log.items c.deref.result.now i.code c.deref.ensures.value
+          (c.args.self.now.run.spent + c.turns.done + more) c.run_segment.new.machine c.go_on.new.machine s.given c.go_on.new.given c.in-Ok.went c.in-Ok.ensures.ok c.go_on.ensures.sound (ahead start turns is) c.in-Over.is),
     )
 
 pub returns-clause-forward : goal.returns-clause-forward
@@ -149,22 +170,28 @@ pub returns-in-Asks-clause-told : goal.returns-in-Asks-clause-told
 returns-in-Asks-clause-told c = λ start (turns, is).
     let i = c.turns.invariant in
     let s = c.turns.self-inside in
-    let spent = c.args.self.now.run.spent + c.turns.done in
+    let more = c.run_segment.result in
+    let ahead = λ start turns is. went_ahead c.args.image.now start (start_of s.start) (turns + c.turns.done) c.units-units.result.now s.log.items i.code
+    (c.args.self.now.run.spent + c.turns.done) more s.machine c.run_segment.new.machine s.given c.run_segment.ensures.turns c.run_segment.ensures.sound (i.run start turns is) in
+    let spent = c.args.self.now.run.spent + c.turns.done + more in
     let at : Standing = standing c.go_on.new.machine (given_of c.go_on.new.given s.log.items) in
     let P : Option Ask → Type 0 = λ p. Told (routines_of c.args.image.now) start reports.Asks (run s.log.items p spent at) in
     subst P (sym c.wait.ensures)
     (told_asks (routines_of c.args.image.now) start (code_in c.args.image.now (start_of s.start)) s.log.items spent c.in-Asks.ask.value at (
-      turns + c.turns.done,
-      went_asks c.args.image.now start (start_of s.start) (turns + c.turns.done) c.units-units.result.now s.log.items c.deref.result.now i.code c.deref.ensures.value
-          (c.args.self.now.run.spent + c.turns.done) s.machine c.go_on.new.machine s.given c.go_on.new.given c.in-Ok.went c.in-Ok.ensures.ok c.go_on.ensures.sound (i.run start turns is) c.in-Asks.ask c.in-Asks.is,
+      turns + c.turns.done + more,
+      went_asks c.args.image.now start (start_of s.start) (turns + c.turns.done + more) c.units-units.result.now s.log.items c.deref.result.now i.code c.deref.ensures.value
+          (c.args.self.now.run.spent + c.turns.done + more) c.run_segment.new.machine c.go_on.new.machine s.given c.go_on.new.given c.in-Ok.went c.in-Ok.ensures.ok c.go_on.ensures.sound (ahead start turns is) c.in-Asks.ask c.in-Asks.is,
     ))
 
 pub returns-in-Over-clause-told : goal.returns-in-Over-clause-told
 returns-in-Over-clause-told c = λ start (turns, is).
     let i = c.turns.invariant in
     let s = c.turns.self-inside in
-    told_over c.args.image.now start (start_of s.start) (turns + c.turns.done) c.units-units.result.now s.log.items c.deref.result.now i.code c.deref.ensures.value
-    (c.args.self.now.run.spent + c.turns.done) s.machine c.go_on.new.machine s.given c.go_on.new.given c.in-Ok.went c.in-Ok.ensures.ok c.go_on.ensures.sound (i.run start turns is) c.in-Over.is s.pending s.spent
+    let more = c.run_segment.result in
+    let ahead = λ start turns is. went_ahead c.args.image.now start (start_of s.start) (turns + c.turns.done) c.units-units.result.now s.log.items i.code
+    (c.args.self.now.run.spent + c.turns.done) more s.machine c.run_segment.new.machine s.given c.run_segment.ensures.turns c.run_segment.ensures.sound (i.run start turns is) in
+    told_over c.args.image.now start (start_of s.start) (turns + c.turns.done + more) c.units-units.result.now s.log.items c.deref.result.now i.code c.deref.ensures.value
+    (c.args.self.now.run.spent + c.turns.done + more) c.run_segment.new.machine c.go_on.new.machine s.given c.go_on.new.given c.in-Ok.went c.in-Ok.ensures.ok c.go_on.ensures.sound (ahead start turns is) c.in-Over.is s.pending s.spent
 
 pub returns-clause-told : goal.returns-clause-told
 returns-clause-told c = λ start (turns, is).
