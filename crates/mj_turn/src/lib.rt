@@ -11,12 +11,12 @@
 
 mod calling;
 mod ending;
-pub mod entering;
+mod entering;
 mod fault;
 mod flow;
 mod leaving;
 mod news;
-pub mod repeat;
+mod repeat;
 mod start;
 mod turn;
 
