@@ -1,4 +1,4 @@
-use Rattle.std.proofs.Common.{◌≡◌, ℕ, ◌+◌, ◌<◌, None}
+use Rattle.std.proofs.Common.{◌≡◌, ℕ, ◌+◌, ◌-◌, ◌<◌, ◌≤◌, None}
 use Rattle.mj_semantics.specs.Job.{Start}
 use Rattle.mj_turn.specs.Starts.{start_of}
 use Rattle.mj_jobvm.specs.Jobs.{IsRunOfAfter, running}
@@ -10,6 +10,7 @@ use Rattle.mj_jobvm.proofs.job.Job.advance.Given as goal
 
 abbrev pub invariant-turns : goal.invariant-turns
 invariant-turns l = record {
+  most : l.done ≤ l.fuel;
   run : (start : Start) (turns : ℕ) → IsRunOfAfter l.image start turns l.fn.self
       → IsRunOfAfter l.image start (turns + l.done) (running (start_of l.self-inside.start) l.self-inside.machine l.self-inside.log.items l.self-inside.given None (l.fn.self.run.spent + l.done));
   code : l.units ≡ l.image.units;
@@ -22,3 +23,6 @@ invariant-turns l = record {
   was : l.fn.self.run.pending ≡ None;
   spent : l.self-inside.spent ≡ l.fn.self.run.spent;
 }
+
+abbrev pub decreases-turns : goal.decreases-turns
+decreases-turns l = l.fuel - l.done
