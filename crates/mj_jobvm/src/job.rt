@@ -129,7 +129,8 @@ impl Job {
         let units = image.units();
         let mut done = 0;
         'turns: while done < fuel {
-            done += run_segment(self.alloc, units, fuel - done, &mut self.machine);
+            let made = run_segment(self.alloc, units, fuel - done, &mut self.machine);
+            done += made;
             if done == fuel {
                 continue 'turns;
             }

@@ -1,5 +1,6 @@
 use Rattle.std.proofs.Common.{◌≡◌, ◌+◌, ℕ, Option, Some, None, sym, ap, ◌∙◌, subst, arith}
 use Rattle.mj_ask.specs.declared.ask.Ask.{Ask}
+use Rattle.mj_semantics.specs.Job.{Start}
 use Rattle.mj_load.specs.Image.{routines_of}
 use Rattle.mj_machine.specs.Standing.{Standing}
 use Rattle.mj_machine.specs.Kept.{standing}
@@ -32,17 +33,20 @@ pub turns-preserved : goal.turns-preserved
 turns-preserved c =
     let i = c.turns.invariant in
     let s = c.turns.self-inside in
-    let more = c.run_segment.result in
-    let ahead = λ start turns is. went_ahead c.args.image.now start (start_of s.start) (turns + c.turns.done) c.units-units.result.now s.log.items i.code
-    (c.args.self.now.run.spent + c.turns.done) more s.machine c.run_segment.new.machine s.given c.run_segment.ensures.turns c.run_segment.ensures.sound (i.run start turns is) in
+    let more = c.run_segment-made.result in
+    let ahead : (start : Start) (turns : ℕ) → IsRunOfAfter c.args.image.now start turns c.args.self.now
+    → IsRunOfAfter c.args.image.now start (turns + c.turns.done + more) (running (start_of s.start) c.run_segment-made.new.machine s.log.items s.given None (c.args.self.now.run.spent + c.turns.done + more)) =
+    λ start turns is. went_ahead c.args.image.now start (start_of s.start) (turns + c.turns.done) c.units-units.result.now s.log.items i.code
+    (c.args.self.now.run.spent + c.turns.done) more s.machine c.run_segment-made.new.machine s.given c.run_segment-made.ensures.turns c.run_segment-made.ensures.sound (i.run start turns is) in
     record {
+      most = let a = c.run_segment-made.ensures.most in let b = c.if-done-fuel.false in let d = i.most in omega (arith, a, b, d);
       run = λ start turns is.
           let P : ℕ → ℕ → Type 0 = λ t n. IsRunOfAfter c.args.image.now start t (running (start_of s.start) c.go_on.new.machine s.log.items c.go_on.new.given None n) in
-          let e : c.args.self.now.run.spent + c.turns.done + more + 1 ≡ c.args.self.now.run.spent + (c.turns.done + 1) = omega arith in
-          let k : turns + c.turns.done + more + 1 ≡ turns + (c.turns.done + 1) = omega arith in
-          subst (λ t. P t (c.args.self.now.run.spent + (c.turns.done + 1))) k (subst (P (turns + c.turns.done + more + 1)) e
+          let e : c.args.self.now.run.spent + c.turns.done + more + 1 ≡ c.args.self.now.run.spent + (c.turns.done + more + 1) = omega arith in
+          let k : turns + c.turns.done + more + 1 ≡ turns + (c.turns.done + more + 1) = omega arith in
+          subst (λ t. P t (c.args.self.now.run.spent + (c.turns.done + more + 1))) k (subst (P (turns + c.turns.done + more + 1)) e
           (went_on c.args.image.now start (start_of s.start) (turns + c.turns.done + more) c.units-units.result.now s.log.items c.deref.result.now i.code c.deref.ensures.value
-          (c.args.self.now.run.spent + c.turns.done + more) c.run_segment.new.machine c.go_on.new.machine s.given c.go_on.new.given c.in-Ok.went c.in-Ok.ensures.ok c.go_on.ensures.sound (ahead start turns is) c.in-On.is));
+          (c.args.self.now.run.spent + c.turns.done + more) c.run_segment-made.new.machine c.go_on.new.machine s.given c.go_on.new.given c.in-Ok.went c.in-Ok.ensures.ok c.go_on.ensures.sound (ahead start turns is) c.in-On.is));
       code = i.code;
       small = i.small;
       checked = i.checked;
@@ -54,20 +58,47 @@ turns-preserved c =
       spent = i.spent;
     }
 
+pub turns-preserved-then-done-fuel : goal.turns-preserved-then-done-fuel
+turns-preserved-then-done-fuel c =
+    let i = c.turns.invariant in
+    let s = c.turns.self-inside in
+    let more = c.run_segment-made.result in
+    record {
+      most = let a = c.run_segment-made.ensures.most in let d = i.most in omega (arith, a, d);
+      run = λ start turns is.
+          let P : ℕ → ℕ → Type 0 = λ t n. IsRunOfAfter c.args.image.now start t (running (start_of s.start) c.run_segment-made.new.machine s.log.items s.given None n) in
+          let e : c.args.self.now.run.spent + c.turns.done + more ≡ c.args.self.now.run.spent + (c.turns.done + more) = omega arith in
+          let k : turns + c.turns.done + more ≡ turns + (c.turns.done + more) = omega arith in
+          subst (λ t. P t (c.args.self.now.run.spent + (c.turns.done + more))) k (subst (P (turns + c.turns.done + more)) e
+          (went_ahead c.args.image.now start (start_of s.start) (turns + c.turns.done) c.units-units.result.now s.log.items i.code
+          (c.args.self.now.run.spent + c.turns.done) more s.machine c.run_segment-made.new.machine s.given c.run_segment-made.ensures.turns c.run_segment-made.ensures.sound (i.run start turns is)));
+      code = i.code;
+      small = i.small;
+      checked = i.checked;
+      sound = c.run_segment-made.ensures.sound;
+      log = i.log;
+      room = i.room;
+      pending = i.pending;
+      was = i.was;
+      spent = i.spent;
+    }
+
 pub returns-in-Err-clause-forward : goal.returns-in-Err-clause-forward
 returns-in-Err-clause-forward c = λ start turns is.
     let i = c.turns.invariant in
     let s = c.turns.self-inside in
-    let more = c.run_segment.result in
-    let ahead = λ start turns is. went_ahead c.args.image.now start (start_of s.start) (turns + c.turns.done) c.units-units.result.now s.log.items i.code
-    (c.args.self.now.run.spent + c.turns.done) more s.machine c.run_segment.new.machine s.given c.run_segment.ensures.turns c.run_segment.ensures.sound (i.run start turns is) in (
+    let more = c.run_segment-made.result in
+    let ahead : (start : Start) (turns : ℕ) → IsRunOfAfter c.args.image.now start turns c.args.self.now
+    → IsRunOfAfter c.args.image.now start (turns + c.turns.done + more) (running (start_of s.start) c.run_segment-made.new.machine s.log.items s.given None (c.args.self.now.run.spent + c.turns.done + more)) =
+    λ start turns is. went_ahead c.args.image.now start (start_of s.start) (turns + c.turns.done) c.units-units.result.now s.log.items i.code
+    (c.args.self.now.run.spent + c.turns.done) more s.machine c.run_segment-made.new.machine s.given c.run_segment-made.ensures.turns c.run_segment-made.ensures.sound (i.run start turns is) in (
       turns + c.turns.done + more,
       omega arith,
-      let same : standing c.go_on.new.machine (given_of c.go_on.new.given s.log.items) ≡ standing c.run_segment.new.machine (given_of s.given s.log.items) =
-          subst (λ l. standing c.go_on.new.machine (given_of c.go_on.new.given l) ≡ standing c.run_segment.new.machine (given_of s.given l)) c.deref.ensures.value c.in-Err.ensures.err in
+      let same : standing c.go_on.new.machine (given_of c.go_on.new.given s.log.items) ≡ standing c.run_segment-made.new.machine (given_of s.given s.log.items) =
+          subst (λ l. standing c.go_on.new.machine (given_of c.go_on.new.given l) ≡ standing c.run_segment-made.new.machine (given_of s.given l)) c.deref.ensures.value c.in-Err.ensures.err in
           let P : Standing → Type 0 = λ x. IsRunAfter (routines_of c.args.image.now) start (code_in c.args.image.now (start_of s.start)) (turns + c.turns.done + more) (run s.log.items s.pending s.spent x) in
           subst P (sym same)
-          (counted_as (routines_of c.args.image.now) start (code_in c.args.image.now (start_of s.start)) (turns + c.turns.done + more) s.log.items None s.pending (c.args.self.now.run.spent + c.turns.done + more) s.spent (standing c.run_segment.new.machine (given_of s.given s.log.items)) i.pending
+          (counted_as (routines_of c.args.image.now) start (code_in c.args.image.now (start_of s.start)) (turns + c.turns.done + more) s.log.items None s.pending (c.args.self.now.run.spent + c.turns.done + more) s.spent (standing c.run_segment-made.new.machine (given_of s.given s.log.items)) i.pending
           (let e = i.spent in omega (arith, e)) (ahead start turns is)),
     )
 
@@ -75,15 +106,17 @@ pub returns-in-Err-clause-run : goal.returns-in-Err-clause-run
 returns-in-Err-clause-run c = λ start (turns, is).
     let i = c.turns.invariant in
     let s = c.turns.self-inside in
-    let more = c.run_segment.result in
-    let ahead = λ start turns is. went_ahead c.args.image.now start (start_of s.start) (turns + c.turns.done) c.units-units.result.now s.log.items i.code
-    (c.args.self.now.run.spent + c.turns.done) more s.machine c.run_segment.new.machine s.given c.run_segment.ensures.turns c.run_segment.ensures.sound (i.run start turns is) in (
+    let more = c.run_segment-made.result in
+    let ahead : (start : Start) (turns : ℕ) → IsRunOfAfter c.args.image.now start turns c.args.self.now
+    → IsRunOfAfter c.args.image.now start (turns + c.turns.done + more) (running (start_of s.start) c.run_segment-made.new.machine s.log.items s.given None (c.args.self.now.run.spent + c.turns.done + more)) =
+    λ start turns is. went_ahead c.args.image.now start (start_of s.start) (turns + c.turns.done) c.units-units.result.now s.log.items i.code
+    (c.args.self.now.run.spent + c.turns.done) more s.machine c.run_segment-made.new.machine s.given c.run_segment-made.ensures.turns c.run_segment-made.ensures.sound (i.run start turns is) in (
       turns + c.turns.done + more,
-      let same : standing c.go_on.new.machine (given_of c.go_on.new.given s.log.items) ≡ standing c.run_segment.new.machine (given_of s.given s.log.items) =
-          subst (λ l. standing c.go_on.new.machine (given_of c.go_on.new.given l) ≡ standing c.run_segment.new.machine (given_of s.given l)) c.deref.ensures.value c.in-Err.ensures.err in
+      let same : standing c.go_on.new.machine (given_of c.go_on.new.given s.log.items) ≡ standing c.run_segment-made.new.machine (given_of s.given s.log.items) =
+          subst (λ l. standing c.go_on.new.machine (given_of c.go_on.new.given l) ≡ standing c.run_segment-made.new.machine (given_of s.given l)) c.deref.ensures.value c.in-Err.ensures.err in
           let P : Standing → Type 0 = λ x. IsRunAfter (routines_of c.args.image.now) start (code_in c.args.image.now (start_of s.start)) (turns + c.turns.done + more) (run s.log.items s.pending s.spent x) in
           subst P (sym same)
-          (counted_as (routines_of c.args.image.now) start (code_in c.args.image.now (start_of s.start)) (turns + c.turns.done + more) s.log.items None s.pending (c.args.self.now.run.spent + c.turns.done + more) s.spent (standing c.run_segment.new.machine (given_of s.given s.log.items)) i.pending
+          (counted_as (routines_of c.args.image.now) start (code_in c.args.image.now (start_of s.start)) (turns + c.turns.done + more) s.log.items None s.pending (c.args.self.now.run.spent + c.turns.done + more) s.spent (standing c.run_segment-made.new.machine (given_of s.given s.log.items)) i.pending
           (let e = i.spent in omega (arith, e)) (ahead start turns is)),
     )
 
@@ -91,58 +124,66 @@ pub returns-in-Asks-clause-forward : goal.returns-in-Asks-clause-forward
 returns-in-Asks-clause-forward c = λ start turns is.
     let i = c.turns.invariant in
     let s = c.turns.self-inside in
-    let more = c.run_segment.result in
-    let ahead = λ start turns is. went_ahead c.args.image.now start (start_of s.start) (turns + c.turns.done) c.units-units.result.now s.log.items i.code
-    (c.args.self.now.run.spent + c.turns.done) more s.machine c.run_segment.new.machine s.given c.run_segment.ensures.turns c.run_segment.ensures.sound (i.run start turns is) in (
+    let more = c.run_segment-made.result in
+    let ahead : (start : Start) (turns : ℕ) → IsRunOfAfter c.args.image.now start turns c.args.self.now
+    → IsRunOfAfter c.args.image.now start (turns + c.turns.done + more) (running (start_of s.start) c.run_segment-made.new.machine s.log.items s.given None (c.args.self.now.run.spent + c.turns.done + more)) =
+    λ start turns is. went_ahead c.args.image.now start (start_of s.start) (turns + c.turns.done) c.units-units.result.now s.log.items i.code
+    (c.args.self.now.run.spent + c.turns.done) more s.machine c.run_segment-made.new.machine s.given c.run_segment-made.ensures.turns c.run_segment-made.ensures.sound (i.run start turns is) in (
       turns + c.turns.done + more,
       omega arith,
       counted_as (routines_of c.args.image.now) start (code_in c.args.image.now (start_of s.start)) (turns + c.turns.done + more) s.log.items (Some c.in-Asks.ask.value) c.wait.new.pending (c.args.self.now.run.spent + c.turns.done + more) s.spent (standing c.go_on.new.machine (given_of c.go_on.new.given s.log.items)) c.wait.ensures
           (let e = i.spent in omega (arith, e))
           (went_asks c.args.image.now start (start_of s.start) (turns + c.turns.done + more) c.units-units.result.now s.log.items c.deref.result.now i.code c.deref.ensures.value
-          (c.args.self.now.run.spent + c.turns.done + more) c.run_segment.new.machine c.go_on.new.machine s.given c.go_on.new.given c.in-Ok.went c.in-Ok.ensures.ok c.go_on.ensures.sound (ahead start turns is) c.in-Asks.ask c.in-Asks.is),
+          (c.args.self.now.run.spent + c.turns.done + more) c.run_segment-made.new.machine c.go_on.new.machine s.given c.go_on.new.given c.in-Ok.went c.in-Ok.ensures.ok c.go_on.ensures.sound (ahead start turns is) c.in-Asks.ask c.in-Asks.is),
     )
 
 pub returns-in-Asks-clause-run : goal.returns-in-Asks-clause-run
 returns-in-Asks-clause-run c = λ start (turns, is).
     let i = c.turns.invariant in
     let s = c.turns.self-inside in
-    let more = c.run_segment.result in
-    let ahead = λ start turns is. went_ahead c.args.image.now start (start_of s.start) (turns + c.turns.done) c.units-units.result.now s.log.items i.code
-    (c.args.self.now.run.spent + c.turns.done) more s.machine c.run_segment.new.machine s.given c.run_segment.ensures.turns c.run_segment.ensures.sound (i.run start turns is) in (
+    let more = c.run_segment-made.result in
+    let ahead : (start : Start) (turns : ℕ) → IsRunOfAfter c.args.image.now start turns c.args.self.now
+    → IsRunOfAfter c.args.image.now start (turns + c.turns.done + more) (running (start_of s.start) c.run_segment-made.new.machine s.log.items s.given None (c.args.self.now.run.spent + c.turns.done + more)) =
+    λ start turns is. went_ahead c.args.image.now start (start_of s.start) (turns + c.turns.done) c.units-units.result.now s.log.items i.code
+    (c.args.self.now.run.spent + c.turns.done) more s.machine c.run_segment-made.new.machine s.given c.run_segment-made.ensures.turns c.run_segment-made.ensures.sound (i.run start turns is) in (
       turns + c.turns.done + more,
       counted_as (routines_of c.args.image.now) start (code_in c.args.image.now (start_of s.start)) (turns + c.turns.done + more) s.log.items (Some c.in-Asks.ask.value) c.wait.new.pending (c.args.self.now.run.spent + c.turns.done + more) s.spent (standing c.go_on.new.machine (given_of c.go_on.new.given s.log.items)) c.wait.ensures
           (let e = i.spent in omega (arith, e))
           (went_asks c.args.image.now start (start_of s.start) (turns + c.turns.done + more) c.units-units.result.now s.log.items c.deref.result.now i.code c.deref.ensures.value
-          (c.args.self.now.run.spent + c.turns.done + more) c.run_segment.new.machine c.go_on.new.machine s.given c.go_on.new.given c.in-Ok.went c.in-Ok.ensures.ok c.go_on.ensures.sound (ahead start turns is) c.in-Asks.ask c.in-Asks.is),
+          (c.args.self.now.run.spent + c.turns.done + more) c.run_segment-made.new.machine c.go_on.new.machine s.given c.go_on.new.given c.in-Ok.went c.in-Ok.ensures.ok c.go_on.ensures.sound (ahead start turns is) c.in-Asks.ask c.in-Asks.is),
     )
 
 pub returns-in-Over-clause-forward : goal.returns-in-Over-clause-forward
 returns-in-Over-clause-forward c = λ start turns is.
     let i = c.turns.invariant in
     let s = c.turns.self-inside in
-    let more = c.run_segment.result in
-    let ahead = λ start turns is. went_ahead c.args.image.now start (start_of s.start) (turns + c.turns.done) c.units-units.result.now s.log.items i.code
-    (c.args.self.now.run.spent + c.turns.done) more s.machine c.run_segment.new.machine s.given c.run_segment.ensures.turns c.run_segment.ensures.sound (i.run start turns is) in (
+    let more = c.run_segment-made.result in
+    let ahead : (start : Start) (turns : ℕ) → IsRunOfAfter c.args.image.now start turns c.args.self.now
+    → IsRunOfAfter c.args.image.now start (turns + c.turns.done + more) (running (start_of s.start) c.run_segment-made.new.machine s.log.items s.given None (c.args.self.now.run.spent + c.turns.done + more)) =
+    λ start turns is. went_ahead c.args.image.now start (start_of s.start) (turns + c.turns.done) c.units-units.result.now s.log.items i.code
+    (c.args.self.now.run.spent + c.turns.done) more s.machine c.run_segment-made.new.machine s.given c.run_segment-made.ensures.turns c.run_segment-made.ensures.sound (i.run start turns is) in (
       turns + c.turns.done + more,
       omega arith,
       counted_as (routines_of c.args.image.now) start (code_in c.args.image.now (start_of s.start)) (turns + c.turns.done + more) s.log.items None s.pending (c.args.self.now.run.spent + c.turns.done + more) s.spent
           (standing c.go_on.new.machine (given_of c.go_on.new.given s.log.items)) i.pending (let e = i.spent in omega (arith, e))
           (went_over c.args.image.now start (start_of s.start) (turns + c.turns.done + more) c.units-units.result.now s.log.items c.deref.result.now i.code c.deref.ensures.value
-          (c.args.self.now.run.spent + c.turns.done + more) c.run_segment.new.machine c.go_on.new.machine s.given c.go_on.new.given c.in-Ok.went c.in-Ok.ensures.ok c.go_on.ensures.sound (ahead start turns is) c.in-Over.is),
+          (c.args.self.now.run.spent + c.turns.done + more) c.run_segment-made.new.machine c.go_on.new.machine s.given c.go_on.new.given c.in-Ok.went c.in-Ok.ensures.ok c.go_on.ensures.sound (ahead start turns is) c.in-Over.is),
     )
 
 pub returns-in-Over-clause-run : goal.returns-in-Over-clause-run
 returns-in-Over-clause-run c = λ start (turns, is).
     let i = c.turns.invariant in
     let s = c.turns.self-inside in
-    let more = c.run_segment.result in
-    let ahead = λ start turns is. went_ahead c.args.image.now start (start_of s.start) (turns + c.turns.done) c.units-units.result.now s.log.items i.code
-    (c.args.self.now.run.spent + c.turns.done) more s.machine c.run_segment.new.machine s.given c.run_segment.ensures.turns c.run_segment.ensures.sound (i.run start turns is) in (
+    let more = c.run_segment-made.result in
+    let ahead : (start : Start) (turns : ℕ) → IsRunOfAfter c.args.image.now start turns c.args.self.now
+    → IsRunOfAfter c.args.image.now start (turns + c.turns.done + more) (running (start_of s.start) c.run_segment-made.new.machine s.log.items s.given None (c.args.self.now.run.spent + c.turns.done + more)) =
+    λ start turns is. went_ahead c.args.image.now start (start_of s.start) (turns + c.turns.done) c.units-units.result.now s.log.items i.code
+    (c.args.self.now.run.spent + c.turns.done) more s.machine c.run_segment-made.new.machine s.given c.run_segment-made.ensures.turns c.run_segment-made.ensures.sound (i.run start turns is) in (
       turns + c.turns.done + more,
       counted_as (routines_of c.args.image.now) start (code_in c.args.image.now (start_of s.start)) (turns + c.turns.done + more) s.log.items None s.pending (c.args.self.now.run.spent + c.turns.done + more) s.spent
           (standing c.go_on.new.machine (given_of c.go_on.new.given s.log.items)) i.pending (let e = i.spent in omega (arith, e))
           (went_over c.args.image.now start (start_of s.start) (turns + c.turns.done + more) c.units-units.result.now s.log.items c.deref.result.now i.code c.deref.ensures.value
-          (c.args.self.now.run.spent + c.turns.done + more) c.run_segment.new.machine c.go_on.new.machine s.given c.go_on.new.given c.in-Ok.went c.in-Ok.ensures.ok c.go_on.ensures.sound (ahead start turns is) c.in-Over.is),
+          (c.args.self.now.run.spent + c.turns.done + more) c.run_segment-made.new.machine c.go_on.new.machine s.given c.go_on.new.given c.in-Ok.went c.in-Ok.ensures.ok c.go_on.ensures.sound (ahead start turns is) c.in-Over.is),
     )
 
 pub returns-clause-forward : goal.returns-clause-forward
@@ -170,9 +211,11 @@ pub returns-in-Asks-clause-told : goal.returns-in-Asks-clause-told
 returns-in-Asks-clause-told c = λ start (turns, is).
     let i = c.turns.invariant in
     let s = c.turns.self-inside in
-    let more = c.run_segment.result in
-    let ahead = λ start turns is. went_ahead c.args.image.now start (start_of s.start) (turns + c.turns.done) c.units-units.result.now s.log.items i.code
-    (c.args.self.now.run.spent + c.turns.done) more s.machine c.run_segment.new.machine s.given c.run_segment.ensures.turns c.run_segment.ensures.sound (i.run start turns is) in
+    let more = c.run_segment-made.result in
+    let ahead : (start : Start) (turns : ℕ) → IsRunOfAfter c.args.image.now start turns c.args.self.now
+    → IsRunOfAfter c.args.image.now start (turns + c.turns.done + more) (running (start_of s.start) c.run_segment-made.new.machine s.log.items s.given None (c.args.self.now.run.spent + c.turns.done + more)) =
+    λ start turns is. went_ahead c.args.image.now start (start_of s.start) (turns + c.turns.done) c.units-units.result.now s.log.items i.code
+    (c.args.self.now.run.spent + c.turns.done) more s.machine c.run_segment-made.new.machine s.given c.run_segment-made.ensures.turns c.run_segment-made.ensures.sound (i.run start turns is) in
     let spent = c.args.self.now.run.spent + c.turns.done + more in
     let at : Standing = standing c.go_on.new.machine (given_of c.go_on.new.given s.log.items) in
     let P : Option Ask → Type 0 = λ p. Told (routines_of c.args.image.now) start reports.Asks (run s.log.items p spent at) in
@@ -180,18 +223,20 @@ returns-in-Asks-clause-told c = λ start (turns, is).
     (told_asks (routines_of c.args.image.now) start (code_in c.args.image.now (start_of s.start)) s.log.items spent c.in-Asks.ask.value at (
       turns + c.turns.done + more,
       went_asks c.args.image.now start (start_of s.start) (turns + c.turns.done + more) c.units-units.result.now s.log.items c.deref.result.now i.code c.deref.ensures.value
-          (c.args.self.now.run.spent + c.turns.done + more) c.run_segment.new.machine c.go_on.new.machine s.given c.go_on.new.given c.in-Ok.went c.in-Ok.ensures.ok c.go_on.ensures.sound (ahead start turns is) c.in-Asks.ask c.in-Asks.is,
+          (c.args.self.now.run.spent + c.turns.done + more) c.run_segment-made.new.machine c.go_on.new.machine s.given c.go_on.new.given c.in-Ok.went c.in-Ok.ensures.ok c.go_on.ensures.sound (ahead start turns is) c.in-Asks.ask c.in-Asks.is,
     ))
 
 pub returns-in-Over-clause-told : goal.returns-in-Over-clause-told
 returns-in-Over-clause-told c = λ start (turns, is).
     let i = c.turns.invariant in
     let s = c.turns.self-inside in
-    let more = c.run_segment.result in
-    let ahead = λ start turns is. went_ahead c.args.image.now start (start_of s.start) (turns + c.turns.done) c.units-units.result.now s.log.items i.code
-    (c.args.self.now.run.spent + c.turns.done) more s.machine c.run_segment.new.machine s.given c.run_segment.ensures.turns c.run_segment.ensures.sound (i.run start turns is) in
+    let more = c.run_segment-made.result in
+    let ahead : (start : Start) (turns : ℕ) → IsRunOfAfter c.args.image.now start turns c.args.self.now
+    → IsRunOfAfter c.args.image.now start (turns + c.turns.done + more) (running (start_of s.start) c.run_segment-made.new.machine s.log.items s.given None (c.args.self.now.run.spent + c.turns.done + more)) =
+    λ start turns is. went_ahead c.args.image.now start (start_of s.start) (turns + c.turns.done) c.units-units.result.now s.log.items i.code
+    (c.args.self.now.run.spent + c.turns.done) more s.machine c.run_segment-made.new.machine s.given c.run_segment-made.ensures.turns c.run_segment-made.ensures.sound (i.run start turns is) in
     told_over c.args.image.now start (start_of s.start) (turns + c.turns.done + more) c.units-units.result.now s.log.items c.deref.result.now i.code c.deref.ensures.value
-    (c.args.self.now.run.spent + c.turns.done + more) c.run_segment.new.machine c.go_on.new.machine s.given c.go_on.new.given c.in-Ok.went c.in-Ok.ensures.ok c.go_on.ensures.sound (ahead start turns is) c.in-Over.is s.pending s.spent
+    (c.args.self.now.run.spent + c.turns.done + more) c.run_segment-made.new.machine c.go_on.new.machine s.given c.go_on.new.given c.in-Ok.went c.in-Ok.ensures.ok c.go_on.ensures.sound (ahead start turns is) c.in-Over.is s.pending s.spent
 
 pub returns-clause-told : goal.returns-clause-told
 returns-clause-told c = λ start (turns, is).
