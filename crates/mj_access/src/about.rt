@@ -1,34 +1,32 @@
 // Functions of variables.
 
 ghost use Rattle.std.specs.Prelude.{◌≡◌, ◌+◌, ◌<◌, ◌^◌, true, false, option_copied, IfOk, OnErr, ◌≤◌, length};
-ghost use Rattle.mj_strfn.specs.Functions.{AnswersOrMemory};
 ghost use Rattle.mj_store.specs.Runs as runs;
-ghost use Rattle.mj_store.specs.Questions.{Content};
 ghost use Rattle.mj_semantics.specs.Functions.{optional};
+ghost use Rattle.mj_semantics.specs.Names.{asks as asks_of};
 ghost use Rattle.mj_semantics.specs.Evaluation as evaluation;
 ghost use Rattle.mj_pcode.specs.declared.instr.Instr.TheVariants as instrs;
 ghost use Rattle.mj_access.specs.Asked as asked;
 ghost use Rattle.mj_machine.specs.Kept.{Does, DoesAlone, Obeys, ObeysAlone, Stays, with_value, replied};
 
 use crate::globals::{ask, at_hand};
-use crate::names::name_for;
-use crate::tellings::{asks, question, spelled, told_by, told_of};
+use crate::names::{name_for, refusal_for};
+use crate::tellings::{asks, question, spelled, told_by, told_here};
 use mj_ask::Reply;
 use mj_ast::NameFunction;
-use mj_locals::perform;
 use mj_machine::quiet::fail;
 use mj_machine::values::{put_told, put_value};
 use mj_machine::{Control, Machine, Step, stack};
 use mj_pcode::Reference;
-use mj_store::{Access, Answer};
+use mj_store::Access;
 use mj_subs::Name;
-use mj_text::{Failure, Text};
+use mj_text::Text;
 use std::alloc::{AllocError, Global};
 
 /// The subscripts on the stack make a name that the function may be about, or fail.
 #[inline(never)]
 pub fn named(
-    alloc: Global,
+    _alloc: Global,
     pc: usize,
     function: NameFunction,
     reference: &Reference,
@@ -39,12 +37,7 @@ pub fn named(
     ensures ok { IfOk result (λ step. ObeysAlone (instrs.Named function reference.now) pc machine.old step machine.new) }
     ensures err { OnErr result (Stays machine.old machine.new) }
 {
-    if let Err(fault) = name_for(
-        alloc,
-        function,
-        reference,
-        stack::topmost(&machine.stack, reference.count),
-    )? {
+    if let Some(fault) = refusal_for(function, stack::topmost(&machine.stack, reference.count)) {
         return Ok(fail(fault, machine));
     }
     machine.control = Control::At(pc + 1);
@@ -118,63 +111,35 @@ fn inquire(
         put_value(pc, count, text, machine)?;
         return Ok(Step::Next);
     }
-    let access = match question(function, name, other) {
-        Ok(access) => access,
-        Err(fault) => return Ok(fail(fault, machine)),
-    };
-    if access.name().is_global() {
-        return ask_global(alloc, pc, function, count, access, other, machine, given);
+    if !name.is_global() {
+        let step = inquire_local(alloc, pc, function, count, &name, other, machine);
+        drop(name);
+        return step;
     }
-    let step = ask_local(alloc, pc, function, count, &access, other, machine);
-    drop(access);
-    step
+    match question(function, name, other) {
+        Ok(access) => ask_global(alloc, pc, function, count, access, other, machine, given),
+        Err(fault) => Ok(fail(fault, machine)),
+    }
 }
 
-/// What the job's own variables answer to a question, which changes nothing.
-fn look_up(access: &Access, machine: &mut Machine) -> Result<Answer, AllocError>
-    requires local { (runs.name_of access.now).global ≡ false }
-    requires question { (content : Content) → runs.after_access access.now content ≡ content }
-    ensures answer { IfOk result (λ answer. answer ≡ runs.answer_of access.now machine.old.locals.now) }
-    ensures same { Stays machine.old machine.new }
-{
-    perform(&mut machine.locals, access)
-}
-
-/// What the function gives by the job's own variables.
-fn told_here(
-    alloc: Global,
-    function: NameFunction,
-    access: &Access,
-    other: Option<&Text>,
-    machine: &mut Machine,
-) -> Result<Text, Failure>
-    requires local { (runs.name_of access.now).global ≡ false }
-    requires question { (content : Content) → runs.after_access access.now content ≡ content }
-    ensures value { AnswersOrMemory (asked.made_of function (option_copied other.entry) (runs.answer_of access.now machine.old.locals.now)) result }
-    ensures same { Stays machine.old machine.new }
-{
-    let answer = look_up(access, machine)?;
-    told_of(alloc, function, other, &answer)
-}
-
-/// A question to the job's own variables.
-fn ask_local(
+/// What a function that asks gives of a local, which is looked at where it stands.
+fn inquire_local(
     alloc: Global,
     pc: usize,
     function: NameFunction,
     count: usize,
-    access: &Access,
+    name: &Name,
     other: Option<&Text>,
     machine: &mut Machine,
 ) -> Result<Step, AllocError>
     requires next { pc + 1 < 2 ^ 64 }
-    requires local { (runs.name_of access.now).global ≡ false }
-    requires question { (content : Content) → runs.after_access access.now content ≡ content }
+    requires local { name.now.global ≡ false }
+    requires asks { asks_of function ≡ true }
     requires enough { count ≤ length machine.old.stack.items }
-    ensures ok { IfOk result (λ step. DoesAlone (λ next. asked.asked function (option_copied other.entry) access.now (with_value machine.old pc count next)) machine.old step machine.new) }
+    ensures ok { IfOk result (λ step. DoesAlone (λ next. evaluation.about function name.now (option_copied other.entry) (with_value machine.old pc count next)) machine.old step machine.new) }
     ensures err { OnErr result (Stays machine.old machine.new) }
 {
-    let value = told_here(alloc, function, access, other, machine);
+    let value = told_here(alloc, function, name, other, &machine.locals);
     put_value(pc, count, value, machine)?;
     Ok(Step::Next)
 }

@@ -16,11 +16,11 @@ use crate::globals::{ask, at_hand};
 use crate::names::name_below;
 use crate::variables::is_plain_local;
 use mj_ask::Reply;
-use mj_locals::perform;
 use mj_machine::quiet::fail;
 use mj_machine::{Control, Machine, Step, stack};
 use mj_pcode::{Depth, Reference};
 use mj_store::{Access, Answer};
+use mj_subs::Name;
 use mj_text::{Fault, Text};
 use std::alloc::{AllocError, Global};
 
@@ -87,8 +87,13 @@ fn store_named(
         Ok(name) => name,
         Err(fault) => return Ok(fail(fault, machine)),
     };
+    if !name.is_global() {
+        let step = store_local(pc, depth.taken, &name, machine);
+        drop(name);
+        return step;
+    }
     let value = stack::top(&machine.stack).try_clone()?;
-    change(
+    change_global(
         alloc,
         pc,
         depth.taken,
@@ -96,6 +101,26 @@ fn store_named(
         machine,
         given,
     )
+}
+
+// The topmost operand is assigned to a local, and then `taken` operands are taken off.
+fn store_local(
+    pc: usize,
+    taken: usize,
+    name: &Name,
+    machine: &mut Machine,
+) -> Result<Step, AllocError>
+    requires next { pc + 1 < 2 ^ 64 }
+    requires local { name.now.global ≡ false }
+    requires value { 1 ≤ length machine.old.stack.items }
+    requires enough { taken ≤ length machine.old.stack.items }
+    ensures ok { IfOk result (λ step. DoesAlone (λ next. commands.store name.now (top (stack_of machine.old)) (without machine.old pc taken next)) machine.old step machine.new) }
+    ensures err { OnErr result (Stays machine.old machine.new) }
+{
+    machine.locals.set(name, stack::top(&machine.stack))?;
+    stack::take_off(&mut machine.stack, taken);
+    machine.control = Control::At(pc + 1);
+    Ok(Step::Next)
 }
 
 /// The variable whose subscripts lie on top goes, with all that is below it.
@@ -116,7 +141,12 @@ pub fn kill(
         Ok(name) => name,
         Err(fault) => return Ok(fail(fault, machine)),
     };
-    change(
+    if !name.is_global() {
+        let step = kill_local(pc, reference.count, &name, machine);
+        drop(name);
+        return Ok(step);
+    }
+    change_global(
         alloc,
         pc,
         reference.count,
@@ -126,30 +156,21 @@ pub fn kill(
     )
 }
 
-/// A variable is changed, and then `taken` operands are taken off.
-pub(crate) fn change(
-    alloc: Global,
-    pc: usize,
-    taken: usize,
-    access: Access,
-    machine: &mut Machine,
-    given: Option<&Reply>,
-) -> Result<Step, AllocError>
+// A local goes, with all that is below it, and then `taken` operands are taken off.
+fn kill_local(pc: usize, taken: usize, name: &Name, machine: &mut Machine) -> Step
     requires next { pc + 1 < 2 ^ 64 }
+    requires local { name.now.global ≡ false }
     requires enough { taken ≤ length machine.old.stack.items }
-    ensures ok { IfOk result (λ step. Does (λ next. accesses.access access (λ a. without machine.old pc taken next)) machine.old (replied given.entry) step machine.new) }
-    ensures err { OnErr result (Stays machine.old machine.new) }
+    ensures { DoesAlone (λ next. commands.remove name.now (without machine.old pc taken next)) machine.old result machine.new }
 {
-    if access.name().is_global() {
-        return change_global(alloc, pc, taken, access, machine, given);
-    }
-    let step = change_local(pc, taken, &access, machine);
-    drop(access);
-    step
+    machine.locals.kill(name);
+    stack::take_off(&mut machine.stack, taken);
+    machine.control = Control::At(pc + 1);
+    Step::Next
 }
 
 // Goes on with `taken` operands less behind a change that is done, or fails.
-pub(crate) fn settle(pc: usize, taken: usize, done: Result<(), Fault>, machine: &mut Machine)
+fn settle(pc: usize, taken: usize, done: Result<(), Fault>, machine: &mut Machine)
     requires next { pc + 1 < 2 ^ 64 }
     requires enough { taken ≤ length machine.old.stack.items }
     ensures { DidAlone (λ next. told.given done (λ u. without machine.old pc taken next)) machine.old machine.new }
@@ -161,23 +182,6 @@ pub(crate) fn settle(pc: usize, taken: usize, done: Result<(), Fault>, machine: 
         }
         Err(fault) => machine.control = Control::Faulted(fault),
     }
-}
-
-fn change_local(
-    pc: usize,
-    taken: usize,
-    access: &Access,
-    machine: &mut Machine,
-) -> Result<Step, AllocError>
-    requires next { pc + 1 < 2 ^ 64 }
-    requires local { (name_in access.now).global ≡ false }
-    requires enough { taken ≤ length machine.old.stack.items }
-    ensures ok { IfOk result (λ step. DoesAlone (λ next. accesses.access access.now (λ a. without machine.old pc taken next)) machine.old step machine.new) }
-    ensures err { OnErr result (Stays machine.old machine.new) }
-{
-    let answer = perform(&mut machine.locals, access)?;
-    settle(pc, taken, change_done(&answer), machine);
-    Ok(Step::Next)
 }
 
 #[inline(never)]

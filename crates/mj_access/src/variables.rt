@@ -11,7 +11,7 @@ ghost use Rattle.mj_pcode.specs.declared.instr.Instr.TheVariants as instrs;
 ghost use Rattle.mj_machine.specs.Kept.{Does, DoesAlone, Obeys, ObeysAlone, Stays, with_value, replied};
 
 use crate::globals::{ask, at_hand};
-use crate::names::name_of;
+use crate::names::{name_of, refusal};
 use mj_ask::Reply;
 use mj_ast::Scope;
 use mj_machine::quiet::fail;
@@ -157,7 +157,7 @@ fn value_read(reply: &Reply) -> Result<Text, Failure>
 /// The subscripts on the stack make the variable's name, or fail.
 #[inline(never)]
 pub fn check(
-    alloc: Global,
+    _alloc: Global,
     pc: usize,
     reference: &Reference,
     machine: &mut Machine,
@@ -171,11 +171,7 @@ pub fn check(
         machine.control = Control::At(pc + 1);
         return Ok(Step::Next);
     }
-    if let Err(fault) = name_of(
-        alloc,
-        reference,
-        stack::topmost(&machine.stack, reference.count),
-    )? {
+    if let Some(fault) = refusal(stack::topmost(&machine.stack, reference.count)) {
         return Ok(fail(fault, machine));
     }
     machine.control = Control::At(pc + 1);

@@ -2,6 +2,9 @@
 
 ghost use Rattle.std.specs.Prelude.{◌≡◌, ℕ, ◌+◌, ◌<◌, ◌^◌, List, Result, IfOk, OnErr, ◌≤◌, length};
 ghost use Rattle.mj_text.specs.declared.fault.Fault as faults;
+ghost use Rattle.mj_text.specs.Failing.{Answers};
+ghost use Rattle.mj_oper.specs.Operators.{binary_value};
+ghost use Rattle.mj_oper.specs.declared.op.Op.TheVariants as ops;
 ghost use Rattle.mj_strfn.specs.Functions.{AnswersOrMemory};
 ghost use Rattle.mj_semantics.specs.Outcome as told;
 ghost use Rattle.mj_pcode.specs.declared.instr.Instr.TheVariants as instrs;
@@ -103,6 +106,9 @@ pub fn apply_binary(
     ensures ok { IfOk result (λ step. ObeysAlone (instrs.Binary op) pc machine.old step machine.new) }
     ensures err { OnErr result (Stays machine.old machine.new) }
 {
+    if let Op::Join = op {
+        return apply_join(pc, machine);
+    }
     let number = of_numbers(
         op,
         stack::second(&machine.stack),
@@ -116,6 +122,26 @@ pub fn apply_binary(
         }
         None => apply_texts(alloc, pc, op, machine),
     }
+}
+
+// `_`, which lies apart as that does.
+#[inline(never)]
+fn apply_join(pc: usize, machine: &mut Machine) -> Result<Step, AllocError>
+    requires next { pc + 1 < 2 ^ 64 }
+    requires enough { 2 ≤ length machine.old.stack.items }
+    ensures ok { IfOk result (λ step. ObeysAlone (instrs.Binary ops.Join) pc machine.old step machine.new) }
+    ensures err { OnErr result (Stays machine.old machine.new) }
+{
+    let text = joined(stack::second(&machine.stack), stack::top(&machine.stack));
+    put_value(pc, 2, text, machine)?;
+    Ok(Step::Next)
+}
+
+// Two texts, one behind the other.
+fn joined(left: &Text, right: &Text) -> Result<Text, Failure>
+    ensures { Answers (binary_value ops.Join left.now right.now) result }
+{
+    left.join(right)
 }
 
 // An operator between operands that may be any texts. It lies apart, so that numbers don't clear its room.

@@ -27,8 +27,19 @@ returns-clause-ok c =
     let r = c.args.reference.now in
     let rest : Next → Name → Timed = λ next x. remove x (next (context_of old) (c.args.pc + 1) (drop r.count (stack_of old))) in
     let is : name_of r.scope r.word (operands r.count (stack_of old)) ≡ Ok c.in-Ok.name = sym c.in_ok-name.ensures ∙ c.in-Ok.is in
-    IfOk-weaker c.change.result _ _
+    IfOk-weaker c.change_global.result _ _
     (λ step d all u. does_as (λ next. given (name_of r.scope r.word (operands r.count (stack_of old))) (rest next)) (λ next. rest next c.in-Ok.name)
     old (replied c.args.given) step _
     (λ next n back replies. given_is (name_of r.scope r.word (operands r.count (stack_of old))) (Ok c.in-Ok.name) (rest next) n back (state_of old) replies is) d)
-    c.change.ensures.ok
+    c.change_global.ensures.ok
+
+pub returns-then-not-is_global-clause-ok : goal.returns-then-not-is_global-clause-ok
+returns-then-not-is_global-clause-ok c = λ all u.
+    let old = c.args.machine.now in
+    let r = c.args.reference.now in
+    let rest : Next → Name → Timed = λ next x. remove x (next (context_of old) (c.args.pc + 1) (drop r.count (stack_of old))) in
+    let is : name_of r.scope r.word (operands r.count (stack_of old)) ≡ Ok c.in-Ok.name = sym c.in_ok-name.ensures ∙ c.in-Ok.is in
+    does_as (λ next. given (name_of r.scope r.word (operands r.count (stack_of old))) (rest next)) (λ next. rest next c.in-Ok.name)
+    old (replied c.args.given) c.kill_local-step.result c.kill_local-step.new.machine
+    (λ next n back replies. given_is (name_of r.scope r.word (operands r.count (stack_of old))) (Ok c.in-Ok.name) (rest next) n back (state_of old) replies is)
+    (c.kill_local-step.ensures (replied c.args.given))

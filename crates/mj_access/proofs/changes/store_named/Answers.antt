@@ -30,10 +30,24 @@ returns-clause-ok c =
     let value : c.in_ok-value.value ≡ top (stack_of old) = c.in_ok-value.ensures ∙ c.top.ensures ∙ ap (λ l. top (reverse l)) c.deref.ensures.value in
     let rest : Next → Name → Timed = λ next x. store x (top (stack_of old)) (next (context_of old) (c.args.pc + 1) (drop depth.taken (stack_of old))) in
     let is : name_of r.scope r.word (operands r.count (drop depth.above (stack_of old))) ≡ Ok c.in-Ok.name = sym c.in_ok-name.ensures ∙ c.in-Ok.is in
-    IfOk-weaker c.change.result _ _
+    IfOk-weaker c.change_global.result _ _
     (λ step d all u. does_as (λ next. given (name_of r.scope r.word (operands r.count (drop depth.above (stack_of old)))) (rest next))
     (λ next. store c.in-Ok.name c.in_ok-value.value (next (context_of old) (c.args.pc + 1) (drop depth.taken (stack_of old))))
     old (replied c.args.given) step _
     (λ next n back replies. given_is (name_of r.scope r.word (operands r.count (drop depth.above (stack_of old)))) (Ok c.in-Ok.name) (rest next) n back (state_of old) replies is
     ∙ ap (λ v. store c.in-Ok.name v (next (context_of old) (c.args.pc + 1) (drop depth.taken (stack_of old))) n back (state_of old) replies) (sym value)) d)
-    c.change.ensures.ok
+    c.change_global.ensures.ok
+
+pub returns-then-not-is_global-clause-ok : goal.returns-then-not-is_global-clause-ok
+returns-then-not-is_global-clause-ok c =
+    let old = c.args.machine.now in
+    let r = c.args.reference.now in
+    let depth = c.args.depth in
+    let rest : Next → Name → Timed = λ next x. store x (top (stack_of old)) (next (context_of old) (c.args.pc + 1) (drop depth.taken (stack_of old))) in
+    let is : name_of r.scope r.word (operands r.count (drop depth.above (stack_of old))) ≡ Ok c.in-Ok.name = sym c.in_ok-name.ensures ∙ c.in-Ok.is in
+    IfOk-weaker c.store_local-step.result _ _
+    (λ step d all u. does_as (λ next. given (name_of r.scope r.word (operands r.count (drop depth.above (stack_of old)))) (rest next)) (λ next. rest next c.in-Ok.name)
+    old (replied c.args.given) step _
+    (λ next n back replies. given_is (name_of r.scope r.word (operands r.count (drop depth.above (stack_of old)))) (Ok c.in-Ok.name) (rest next) n back (state_of old) replies is)
+    (d (replied c.args.given)))
+    c.store_local-step.ensures.ok
