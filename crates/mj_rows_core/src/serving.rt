@@ -7,6 +7,7 @@ ghost use Rattle.mj_jobs.specs.Rows.{rows_limit};
 ghost use Rattle.mj_sys.specs.Opening.{opening_of};
 
 use crate::cores::opened;
+use crate::judged::hold;
 use mj_ask::{Ask, Kind, Names, Reply, Start};
 use mj_dev::{Memory, Pool};
 use mj_globs::Globals;
@@ -18,7 +19,6 @@ use mj_text::{Failure, Text};
 use mj_trace::event_line;
 use std::alloc::{AllocError, Global};
 use std::marker::Brand;
-use std::str;
 use std::test::Fail;
 
 #[test]
@@ -321,17 +321,9 @@ fn serve<O: Opening>(
 
 fn judge(alloc: Global, job: u32, ask: &Ask, reply: &Reply, line: &str) -> Result<(), Fail> {
     let spelled = event_line(alloc, job, ask, reply)?;
-    let told = judge_line(&spelled, line);
+    let told = hold(spelled.as_slice() == line.as_bytes(), line, &spelled);
     drop(spelled);
     told
-}
-
-fn judge_line(spelled: &[u8], line: &str) -> Result<(), Fail> {
-    if spelled == line.as_bytes() {
-        return Ok(());
-    }
-    let spelled = str::from_utf8(spelled).unwrap_or("?");
-    Err(Fail::new(format_args!("{line} ({spelled})")))
 }
 
 // What the job of a line asks.

@@ -1,20 +1,19 @@
-// A routine, stepped over such devices: its history, and where they were dropped.
+// A routine, stepped over devices that fail and count their drops: its history, and where they were dropped.
 
-ghost use Rattle.std.specs.Prelude.{◌≡◌, ◌≤◌, [], length, IfOk};
+ghost use Rattle.std.specs.Prelude.{◌≡◌, ◌≤◌, [], length};
 ghost use Rattle.mj_dev.specs.Shelves.{principal, left_of};
 ghost use Rattle.mj_jobs.specs.Rows.{rows_limit};
-ghost use Rattle.mj_load.specs.Image.{IsWithinLimits};
 ghost use Rattle.mj_sys.specs.Opening.{opening_of};
 
+use crate::begins::{image, starts};
 use crate::boxes::{Drops, pool};
-use mj_ask::{Entry, Start};
-use mj_ast::Routine;
+use mj_ask::Start;
 use mj_core::{Core, Seen, Step, Way};
 use mj_dev::{Device, Pool};
 use mj_globs::Globals;
-use mj_load::{Image, load};
+use mj_load::Image;
 use mj_sys::Opening;
-use mj_text::{Failure, Text};
+use mj_text::Failure;
 use mj_trace::event_line;
 use std::alloc::{AllocError, Global};
 use std::marker::Brand;
@@ -56,7 +55,7 @@ fn begun<D: Device>(
     pool: Pool<D>,
     drops: &Drops,
 ) -> Result<Vec<u8>, Failure> {
-    let Ok(starts) = starts(alloc) else {
+    let Ok(starts) = starts(alloc, 1) else {
         drop(image);
         drop(pool);
         return Err(Failure::Memory);
@@ -68,49 +67,6 @@ fn begun<D: Device>(
         return Err(Failure::Memory);
     }
     run::<D, Brand>(alloc, image, pool, starts, drops)
-}
-
-// A start at the first line of R.
-fn starts(alloc: Global) -> Result<Vec<Start>, Failure> {
-    let routine = Text::from(alloc, b"R")?;
-    let entry = Entry {
-        label: None,
-        routine,
-    };
-    let mut starts = Vec::new(alloc);
-    starts.push(Start::new(entry, Vec::new(alloc)))?;
-    Ok(starts)
-}
-
-// The image of the routine R alone.
-fn image(alloc: Global, bytes: &str) -> Result<Image, Failure> {
-    let routine = routine(alloc, bytes)?;
-    let mut routines = Vec::new(alloc);
-    if let Err(failed) = routines.push(routine) {
-        drop(failed);
-        drop(routines);
-        return Err(Failure::Memory);
-    }
-    match load(alloc, routines) {
-        Ok(image) => Ok(image),
-        Err(refused) => {
-            drop(refused);
-            Err(Failure::Memory)
-        }
-    }
-}
-
-// The routine R.
-fn routine(alloc: Global, bytes: &str) -> Result<Routine, Failure>
-    ensures { IfOk result IsWithinLimits }
-{
-    match mj_rou::read(alloc, b"R", bytes.as_bytes()) {
-        Ok(routine) => Ok(routine),
-        Err(refused) => {
-            drop(refused);
-            Err(Failure::Memory)
-        }
-    }
 }
 
 // Steps the jobs of a core that begins so, and drops it.

@@ -1,18 +1,17 @@
 // A routine, stepped without devices.
 
-ghost use Rattle.std.specs.Prelude.{◌≡◌, ◌≤◌, [], length, IfOk};
+ghost use Rattle.std.specs.Prelude.{◌≡◌, ◌≤◌, [], length};
 ghost use Rattle.mj_blank.specs.Pools.{shelves_of};
 ghost use Rattle.mj_dev.specs.Shelves.{principal, left_of};
 ghost use Rattle.mj_jobs.specs.Rows.{rows_limit};
-ghost use Rattle.mj_load.specs.Image.{IsWithinLimits};
 ghost use Rattle.mj_sys.specs.Opening.{opening_of};
 
-use mj_ask::{Entry, Reply, Start};
-use mj_ast::Routine;
+use crate::begins::{image, starts};
+use mj_ask::{Reply, Start};
 use mj_blank::{Core, pool_of};
 use mj_core::{Refusal, Seen, Step, Way};
 use mj_globs::Globals;
-use mj_load::{Image, load};
+use mj_load::Image;
 use mj_sys::Opening;
 use mj_text::{Failure, Text};
 use mj_trace::event_line;
@@ -39,45 +38,8 @@ fn opened(alloc: Global) -> Result<(Vec<(Text, u32)>, Vec<Start>), Failure> {
     let mut sessions = Vec::new(alloc);
     sessions.push((Text::from_number(alloc, 0), 2))?;
     sessions.push((Text::from(alloc, b"F")?, 1))?;
-    let routine = Text::from(alloc, b"R")?;
-    let entry = Entry {
-        label: None,
-        routine,
-    };
-    let mut starts = Vec::new(alloc);
-    starts.push(Start::new(entry, Vec::new(alloc)))?;
+    let starts = starts(alloc, 1)?;
     Ok((sessions, starts))
-}
-
-// The image of the routine R alone.
-fn image(alloc: Global, bytes: &str) -> Result<Image, Failure> {
-    let routine = routine(alloc, bytes)?;
-    let mut routines = Vec::new(alloc);
-    if let Err(failed) = routines.push(routine) {
-        drop(failed);
-        drop(routines);
-        return Err(Failure::Memory);
-    }
-    match load(alloc, routines) {
-        Ok(image) => Ok(image),
-        Err(refused) => {
-            drop(refused);
-            Err(Failure::Memory)
-        }
-    }
-}
-
-// The routine R.
-fn routine(alloc: Global, bytes: &str) -> Result<Routine, Failure>
-    ensures { IfOk result IsWithinLimits }
-{
-    match mj_rou::read(alloc, b"R", bytes.as_bytes()) {
-        Ok(routine) => Ok(routine),
-        Err(refused) => {
-            drop(refused);
-            Err(Failure::Memory)
-        }
-    }
 }
 
 fn begun(

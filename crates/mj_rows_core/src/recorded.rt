@@ -1,7 +1,7 @@
-// Recorded replies, told one by one.
+// What is recorded of devices, told one by one to a core without any.
 
-use crate::stepped::stepped;
-use std::str;
+use crate::blank::stepped;
+use crate::judged::hold;
 use std::test::Fail;
 
 // Without a reply a device's ask is unfit, with one it is told it. A reply that isn't one to the ask, or that comes late before its time, changes nothing; what
@@ -82,13 +82,4 @@ fn tells(rt: &HostRuntime, bytes: &str, steps: &str, wanted: &str) -> Result<(),
     let told = hold(lines.as_slice() == wanted.as_bytes(), bytes, &lines);
     drop(lines);
     told
-}
-
-// Fails with the lines of a routine where it isn't so.
-fn hold(is: bool, bytes: &str, lines: &[u8]) -> Result<(), Fail> {
-    if is {
-        return Ok(());
-    }
-    let lines = str::from_utf8(lines).unwrap_or("?");
-    Err(Fail::new(format_args!("{bytes} ({lines})")))
 }

@@ -1,7 +1,7 @@
 // What is asked of devices that fail, and where devices are dropped, by the lines of a history.
 
-use crate::stepped::stepped;
-use std::str;
+use crate::counted::stepped;
+use crate::judged::hold;
 use std::test::Fail;
 
 // The nine events of a device that fails at its third call: its beginning and a text were done. The job's fault is written to its principal
@@ -335,13 +335,4 @@ fn tells(
     let told = hold(lines.ends_with(tail.as_bytes()), bytes, &lines);
     drop(lines);
     told
-}
-
-// Fails with the lines of a routine where it isn't so.
-fn hold(is: bool, bytes: &str, lines: &[u8]) -> Result<(), Fail> {
-    if is {
-        return Ok(());
-    }
-    let lines = str::from_utf8(lines).unwrap_or("?");
-    Err(Fail::new(format_args!("{bytes} ({lines})")))
 }

@@ -1,18 +1,17 @@
 // The blocks of what two jobs of a core did.
 
-ghost use Rattle.std.specs.Prelude.{◌≡◌, ◌≤◌, [], length, IfOk};
+ghost use Rattle.std.specs.Prelude.{◌≡◌, ◌≤◌, [], length};
 ghost use Rattle.mj_dev.specs.Shelves.{principal, left_of};
 ghost use Rattle.mj_jobs.specs.Rows.{rows_limit};
-ghost use Rattle.mj_load.specs.Image.{IsWithinLimits};
 ghost use Rattle.mj_sys.specs.Opening.{opening_of};
 
+use crate::begins::{image, starts};
 use crate::serial::{First, first_four};
-use mj_ask::{Entry, Start};
-use mj_ast::Routine;
+use mj_ask::Start;
 use mj_core::{Core, Step, Way};
 use mj_dev::{Device, Memory, Pool};
 use mj_globs::Globals;
-use mj_load::{Image, load};
+use mj_load::Image;
 use mj_serial::blocks;
 use mj_sys::Opening;
 use mj_text::{Failure, Text};
@@ -61,14 +60,7 @@ pub fn opened(alloc: Global, pool: &mut Pool<Memory>) -> Result<Vec<Start>, Fail
     let added = add_two(alloc, pool, &name);
     drop(name);
     added?;
-    let mut starts = Vec::new(alloc);
-    match put_two(alloc, &mut starts) {
-        Ok(()) => Ok(starts),
-        Err(failure) => {
-            drop(starts);
-            Err(failure)
-        }
-    }
+    starts(alloc, 2)
 }
 
 fn add_two(alloc: Global, pool: &mut Pool<Memory>, name: &Text) -> Result<(), Failure> {
@@ -81,53 +73,6 @@ fn add(alloc: Global, pool: &mut Pool<Memory>, name: &Text) -> Result<(), Failur
         Ok(()) => Ok(()),
         Err(device) => {
             drop(device);
-            Err(Failure::Memory)
-        }
-    }
-}
-
-fn put_two(alloc: Global, starts: &mut Vec<Start>) -> Result<(), Failure> {
-    starts.push(start(alloc)?)?;
-    starts.push(start(alloc)?)?;
-    Ok(())
-}
-
-// A start at the first line of R.
-fn start(alloc: Global) -> Result<Start, Failure> {
-    let routine = Text::from(alloc, b"R")?;
-    let entry = Entry {
-        label: None,
-        routine,
-    };
-    Ok(Start::new(entry, Vec::new(alloc)))
-}
-
-// The image of the routine R alone.
-fn image(alloc: Global, bytes: &str) -> Result<Image, Failure> {
-    let routine = routine(alloc, bytes)?;
-    let mut routines = Vec::new(alloc);
-    if let Err(failed) = routines.push(routine) {
-        drop(failed);
-        drop(routines);
-        return Err(Failure::Memory);
-    }
-    match load(alloc, routines) {
-        Ok(image) => Ok(image),
-        Err(refused) => {
-            drop(refused);
-            Err(Failure::Memory)
-        }
-    }
-}
-
-// The routine R.
-fn routine(alloc: Global, bytes: &str) -> Result<Routine, Failure>
-    ensures { IfOk result IsWithinLimits }
-{
-    match mj_rou::read(alloc, b"R", bytes.as_bytes()) {
-        Ok(routine) => Ok(routine),
-        Err(refused) => {
-            drop(refused);
             Err(Failure::Memory)
         }
     }

@@ -1,7 +1,7 @@
 use Rattle.std.proofs.Common.{[]}
 use Rattle.mj_sys.specs.Opening.{opening_of}
 use Rattle.mj_blank.specs.Pools.{shelves_of}
-use Rattle.mj_rows_blank.proofs.stepped.begun.Given as goal
+use Rattle.mj_rows_core.proofs.blank.begun.Given as goal
 
 -- the opening is that of what the core begins with
 abbrev pub ghosts-run : goal.ghosts-run

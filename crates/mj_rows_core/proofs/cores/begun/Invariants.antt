@@ -1,6 +1,6 @@
 use Rattle.std.proofs.Common.{[]}
 use Rattle.mj_sys.specs.Opening.{opening_of}
-use Rattle.mj_rows_serving.proofs.cores.begun.Given as goal
+use Rattle.mj_rows_core.proofs.cores.begun.Given as goal
 
 -- the opening is that of what the core begins with
 abbrev pub ghosts-run : goal.ghosts-run
