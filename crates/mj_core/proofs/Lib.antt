@@ -12,5 +12,3 @@ mod Answering
 mod Answered
 mod Readied
 mod Ended
--- What is known of a job, for the crates above.
-pub use Rattle.mj_jobvm.proofs.Jobs

@@ -9,12 +9,12 @@ use Rattle.mj_semantics.specs.Outcome.{Outcome, Needs, Ended, More}
 use Rattle.mj_semantics.specs.Job.{Start, next}
 use Rattle.mj_semantics.proofs.Depth.{one_answer}
 use Rattle.mj_load.specs.Image.{routines_of}
-use Rattle.mj_core.specs.Turn.{Turn}
-use Rattle.mj_core.specs.Turn.TheVariants as turns
-use Rattle.mj_core.specs.Run.{Log, Run, replies_of, GoesOn, HasEnded}
-use Rattle.mj_core.specs.Jobs.{code_in}
-use Rattle.mj_core.specs.Told.{Told}
-use Rattle.mj_core.proofs.Jobs.{told_again}
+use Rattle.mj_jobvm.specs.declared.job.Turn.{Turn}
+use Rattle.mj_jobvm.specs.declared.job.Turn.TheVariants as turns
+use Rattle.mj_jobvm.specs.Run.{Log, Run, replies_of, GoesOn, HasEnded}
+use Rattle.mj_jobvm.specs.Jobs.{code_in}
+use Rattle.mj_jobvm.specs.Told.{Told}
+use Rattle.mj_jobvm.proofs.Jobs.{told_again}
 use Rattle.mj_recorded.specs.Agreeing.{IsLater, Agree, AnswersAgree, AsksAreTold, LogsFollow}
 use Rattle.mj_recorded.proofs.Traces.{Makes, makes}
 

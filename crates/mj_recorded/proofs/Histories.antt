@@ -14,7 +14,7 @@ use Rattle.mj_ast.specs.Syntax.{Routine}
 use Rattle.mj_rou.specs.Words.{Each, IsRoutineWorded}
 use Rattle.mj_written.proofs.Runs.{are_written}
 use Rattle.mj_jobs.specs.Rows.{Row, row_at, IsLive}
-use Rattle.mj_core.specs.Run.{replies_of}
+use Rattle.mj_jobvm.specs.Run.{replies_of}
 use Rattle.mj_sys.specs.declared.event.Event.{Event}
 use Rattle.mj_sys.specs.Shared.{Shared, served}
 use Rattle.mj_sys.specs.History.{History, IsServed, after, state_of, log_of}

@@ -8,7 +8,7 @@ use Rattle.mj_ast.specs.Syntax.{Routine}
 use Rattle.mj_semantics.specs.State.{Locals, Place}
 use Rattle.mj_semantics.specs.Outcome.{Needs}
 use Rattle.mj_semantics.specs.Job.{Start, next}
-use Rattle.mj_core.specs.Run.{Log, replies_of, IsTrace, begins, goes_on}
+use Rattle.mj_jobvm.specs.Run.{Log, replies_of, IsTrace, begins, goes_on}
 
 no_end : {X : Type 0} (front : List X) (y : X) (back : List X) → [] ≡ front ++ y ∷ back → ⊥
 no_end [] y back e = cc

@@ -7,11 +7,11 @@ use Rattle.mj_semantics.specs.State.{places}
 use Rattle.mj_semantics.specs.Outcome.{More}
 use Rattle.mj_semantics.specs.Job.{Start, next}
 use Rattle.mj_load.specs.Image.{Loaded, routines_of}
-use Rattle.mj_core.specs.Turn.{Turn}
-use Rattle.mj_core.specs.Turn.TheVariants.{Asks, Ran, Ended}
-use Rattle.mj_core.specs.Run.{Log, Run, replies_of, TurnsBefore, IsTrace}
-use Rattle.mj_core.specs.Jobs.{Running, IsRunOf}
-use Rattle.mj_core.specs.Told.{Told}
+use Rattle.mj_jobvm.specs.declared.job.Turn.{Turn}
+use Rattle.mj_jobvm.specs.declared.job.Turn.TheVariants.{Asks, Ran, Ended}
+use Rattle.mj_jobvm.specs.Run.{Log, Run, replies_of, TurnsBefore, IsTrace}
+use Rattle.mj_jobvm.specs.Jobs.{Running, IsRunOf}
+use Rattle.mj_jobvm.specs.Told.{Told}
 
 -- the run over a log asks, or is over, only with more turns than those before its last reply and so many behind it
 abbrev pub IsLater : List Routine → Start → Log → ℕ → Type 0
