@@ -2,7 +2,7 @@
 // (expressions, commands, faults and refusals), of the words of the command line, listings, standard input and devices over files, of the examples of
 // this repository, and of the debugger. Those of several jobs and of traces are in `mj_rows_jobs`. Their expected values were written down before the
 // program ran. A crate with tests is proved twice, so they stand here; and in few crates, since what it costs to begin a proof over the whole program is more than what
-// most rows cost. Rows of single crates are in `mj_rows_parts`, `mj_rows_reading` and `mj_rows_serving`.
+// most rows cost. Rows of single crates are in `mj_rows_parts` and `mj_rows_reading`, those of a core in `mj_rows_core`.
 #![tactic(auto)]
 
 #[cfg(test)]

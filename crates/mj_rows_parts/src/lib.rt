@@ -1,6 +1,6 @@
 // Rows of single crates: what each gives by itself, without the program around it. Their expected values were written down before the code
 // ran. A crate with tests is proved twice, so they stand here; those of the whole program are apart (`mj_rows`), so that they alone are proved anew
-// with it, and so are those of what reads texts (`mj_rows_reading`) and of what jobs share (`mj_rows_serving`), so that all can be proved at once.
+// with it, and so are those of what reads texts (`mj_rows_reading`) and of a core (`mj_rows_core`), so that all can be proved at once.
 #![tactic(auto)]
 
 #[cfg(test)]

@@ -11,7 +11,7 @@ use Rattle.mj_semantics.specs.Outcome.{More, Ended}
 use Rattle.mj_semantics.specs.Job.{Start, next}
 use Rattle.mj_semantics.proofs.Depth as depth
 use Rattle.mj_jobs.specs.Rows.{Row, row_at, opened, IsLive}
-use Rattle.mj_jobvm.specs.Run.{IsTrace, begins, goes_on}
+use Rattle.mj_core.specs.Run.{IsTrace, begins, goes_on}
 use Rattle.mj_txlog.specs.Accesses.{Transaction}
 use Rattle.mj_sys.specs.Transactions.{transaction_of}
 use Rattle.mj_sys.specs.Shared.{Shared, open_of}

@@ -37,11 +37,14 @@ fn order_of<'a>(
     command: &mut Command<'a>,
     matches: &ArgMatches<'a>,
 ) -> Result<Order<'a>, Error> {
-    match matches.subcommand() {
-        Some(("run", found)) | Some(("step", found)) => run_order(alloc, found),
-        Some(("debug", found)) => debug_order(alloc, found),
-        Some(("check", found)) => check_order(alloc, found),
-        Some(("replay", found)) => replay_order(alloc, found),
+    let Some((name, found)) = matches.subcommand() else {
+        return no_order(command);
+    };
+    match name {
+        "run" | "step" => run_order(alloc, found),
+        "debug" => debug_order(alloc, found),
+        "check" => check_order(alloc, found),
+        "replay" => replay_order(alloc, found),
         _ => no_order(command),
     }
 }

@@ -1,0 +1,25 @@
+// Tests of a core of many jobs, and of what it stands on: devices that fail, and where each is dropped; what is recorded, told to a core without
+// devices; what jobs share, served event by event; and the blocks of a history and of a core. They are no tests of the program, and one crate,
+// since most of what a check of them takes is what it takes before the first (as of any crate above so many).
+#![tactic(auto)]
+
+#[cfg(test)]
+mod begins;
+#[cfg(test)]
+mod blank;
+#[cfg(test)]
+mod boxes;
+#[cfg(test)]
+mod cores;
+#[cfg(test)]
+mod counted;
+#[cfg(test)]
+mod failing;
+#[cfg(test)]
+mod judged;
+#[cfg(test)]
+mod recorded;
+#[cfg(test)]
+mod serial;
+#[cfg(test)]
+mod serving;
