@@ -11,7 +11,7 @@ use Rattle.mj_jobvm.specs.declared.job.Went.{Went}
 use Rattle.mj_jobvm.specs.declared.job.Went.TheVariants as wents
 use Rattle.mj_machine.specs.declared.machine.Machine.{Machine}
 use Rattle.mj_machine.specs.Standing.{Standing, Code, Steps}
-use Rattle.mj_turn.specs.Sound.{IsSound}
+use Rattle.mj_segment.specs.Sound.{IsSound}
 use Rattle.mj_machine.specs.Kept.{standing}
 use Rattle.mj_jobvm.specs.Run.{Log, IsRunAfter}
 use Rattle.mj_jobvm.specs.Jobs.{running, given_of, code_in, IsRunOfAfter}

@@ -20,7 +20,7 @@ use Rattle.mj_machine.specs.declared.control.Control.TheVariants as controls
 use Rattle.mj_jobvm.specs.declared.job.Turn.TheVariants as reports
 use Rattle.mj_machine.specs.Standing.{Standing, Code, left, given_first, onward, Steps}
 use Rattle.mj_machine.specs.Standing as turns_are
-use Rattle.mj_turn.specs.Sound.{IsSound}
+use Rattle.mj_segment.specs.Sound.{IsSound}
 use Rattle.mj_jobvm.specs.Run.{Log, Run, replies_of, TurnsBefore, begins, goes_on, IsRun, IsRunAfter}
 use Rattle.mj_jobvm.specs.Told.{Told}
 

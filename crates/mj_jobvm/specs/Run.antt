@@ -8,7 +8,7 @@ use Rattle.mj_semantics.specs.State.{Locals, Place, places}
 use Rattle.mj_semantics.specs.Outcome.{Needs, Ended, More}
 use Rattle.mj_semantics.specs.Job.{Start, next}
 use Rattle.mj_machine.specs.Standing.{Standing, Code, onward}
-use Rattle.mj_turn.specs.Sound.{IsSound}
+use Rattle.mj_segment.specs.Sound.{IsSound}
 
 -- the asks of a job and their replies, in order
 abbrev pub Log : Type 0

@@ -4,18 +4,18 @@ ghost use Rattle.std.specs.Prelude.{◌≡◌, ◌++◌, ◌∷◌, [], Some, No
 ghost use Rattle.mj_ask.specs.declared.ask.Ask as asks;
 ghost use Rattle.mj_semantics.specs.State.{place_of};
 ghost use Rattle.mj_semantics.specs.Job.{Start as Starts};
-ghost use Rattle.mj_turn.specs.Starts.{start_of};
+ghost use Rattle.mj_segment.specs.Starts.{start_of};
 ghost use Rattle.mj_load.specs.Image.{Loaded, routines_of};
 ghost use Rattle.mj_frames.specs.Frames.{frames_of, place_at};
 ghost use Rattle.mj_jobvm.specs.Jobs.{Fits, IsRunOf, IsRunOfAfter, GoesForward, IsIn, given_of, opened, opening_at};
 ghost use Rattle.mj_pcode.specs.Sound.{AreChecked};
-ghost use Rattle.mj_turn.specs.Sound.{IsSound};
+ghost use Rattle.mj_segment.specs.Sound.{IsSound};
 ghost use Rattle.mj_machine.specs.Standing.{Steps};
 ghost use Rattle.mj_machine.specs.Kept.{standing, replied};
 ghost use Rattle.mj_jobvm.specs.Run.{IsTrace};
 ghost use Rattle.mj_jobvm.specs.Limit.{IsLimited};
 ghost use Rattle.mj_jobvm.specs.Told.{Told, told_of, spent_after};
-ghost use Rattle.mj_turn.specs.Units.{AreSmall};
+ghost use Rattle.mj_segment.specs.Units.{AreSmall};
 
 use mj_ask::{Ask, Entry, Reply};
 use mj_frames::{Frame, Frames};
@@ -25,9 +25,9 @@ use mj_machine::{Control, Machine, Step};
 use mj_open::Devices;
 use mj_pcode::Unit;
 use mj_segment::run_segment;
+use mj_segment::turn::{Start, make_turn};
 use mj_store::Nodes;
 use mj_text::Text;
-use mj_turn::{Start, make_turn};
 use std::alloc::{AllocError, Global};
 use std::marker::Model;
 
@@ -69,7 +69,7 @@ pub struct Job {
 
 impl Model for Job {
     ghost use Rattle.std.specs.Prelude.{◌<◌, IsSome};
-    ghost use Rattle.mj_turn.specs.Starts.{start_of};
+    ghost use Rattle.mj_segment.specs.Starts.{start_of};
     ghost use Rattle.mj_jobvm.specs.Jobs.{Running, running};
 
     ghost Value = { Running };

@@ -4,7 +4,7 @@ use Rattle.mj_semantics.specs.Job.{Start}
 use Rattle.mj_load.specs.Image.{routines_of}
 use Rattle.mj_machine.specs.Standing.{Standing}
 use Rattle.mj_machine.specs.Kept.{standing}
-use Rattle.mj_turn.specs.Starts.{start_of}
+use Rattle.mj_segment.specs.Starts.{start_of}
 use Rattle.mj_jobvm.specs.Run.{Log, IsRunAfter}
 use Rattle.mj_jobvm.specs.declared.job.Turn.TheVariants as reports
 use Rattle.mj_jobvm.specs.Told.{Told}

@@ -1,6 +1,6 @@
 use Rattle.std.proofs.Common.{sym, ◌∙◌, subst}
 use Rattle.mj_jobvm.specs.Jobs.{Running, Fits, IsRunOf}
-use Rattle.mj_turn.specs.Starts.{start_of}
+use Rattle.mj_segment.specs.Starts.{start_of}
 use Rattle.mj_jobvm.proofs.Answered.{answered_by}
 use Rattle.mj_jobvm.proofs.job.Job.answer.Goals as goal
 
