@@ -1,6 +1,6 @@
 // Tests of a core of many jobs, and of what it stands on: devices that fail, and where each is dropped; what is recorded, told to a core without
 // devices; what jobs share, served event by event; and the blocks of a history and of a core. They are no tests of the program, and one crate,
-// since most of what a check of them takes is what it takes before the first (as of any crate above so many).
+// since each that stands on a core has all below it loaded, and how parts of it are dropped proved anew.
 #![tactic(auto)]
 
 #[cfg(test)]
