@@ -26,7 +26,6 @@ use std::alloc::{AllocError, Global};
 /// The subscripts on the stack make a name that the function may be about, or fail.
 #[inline(never)]
 pub fn named(
-    _alloc: Global,
     pc: usize,
     function: NameFunction,
     reference: &Reference,

@@ -156,12 +156,7 @@ fn value_read(reply: &Reply) -> Result<Text, Failure>
 
 /// The subscripts on the stack make the variable's name, or fail.
 #[inline(never)]
-pub fn check(
-    _alloc: Global,
-    pc: usize,
-    reference: &Reference,
-    machine: &mut Machine,
-) -> Result<Step, AllocError>
+pub fn check(pc: usize, reference: &Reference, machine: &mut Machine) -> Result<Step, AllocError>
     requires next { pc + 1 < 2 ^ 64 }
     requires enough { reference.now.count ≤ length machine.old.stack.items }
     ensures ok { IfOk result (λ step. ObeysAlone (instrs.Check reference.now) pc machine.old step machine.new) }

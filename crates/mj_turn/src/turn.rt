@@ -69,11 +69,11 @@ pub fn obey(
         Instr::Unary(op) => apply_unary(alloc, pc, *op, machine),
         Instr::Binary(op) => apply_binary(alloc, pc, *op, machine),
         Instr::Call(function, count) => call(alloc, pc, *function, *count, machine),
-        Instr::Named(function, reference) => named(alloc, pc, *function, reference, machine),
+        Instr::Named(function, reference) => named(pc, *function, reference, machine),
         Instr::About(function, reference, count) => about(
             alloc, pc, *function, reference, *count, machine, given,
         ),
-        Instr::Check(reference) => check(alloc, pc, reference, machine),
+        Instr::Check(reference) => check(pc, reference, machine),
         Instr::Store(reference, depth) => store(alloc, pc, reference, *depth, machine, given),
         Instr::Renew(reference, count, depth) => {
             renew(alloc, pc, reference, *count, *depth, machine, given)
