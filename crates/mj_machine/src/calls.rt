@@ -5,7 +5,6 @@ ghost use Rattle.mj_text.specs.Failing.{then_value};
 ghost use Rattle.mj_num.specs.Number.{reading};
 ghost use Rattle.mj_nref.specs.Spelling.{part_at};
 ghost use Rattle.mj_strfn.specs.Functions.{AnswersOrMemory, number_text};
-ghost use Rattle.mj_ast.specs.declared.function.Function.TheVariants as functions;
 ghost use Rattle.mj_semantics.specs.Functions.{call_value, spelled_name, needed as needed_of, optional as optional_of};
 
 use mj_ast::Function;
@@ -15,134 +14,32 @@ use mj_strfn::{ascii, char, extract, find, justify, length, piece, reverse, tran
 use mj_text::{Failure, Text};
 use std::alloc::Global;
 
-/// What a function gives of these arguments. The functions lie apart, so that each clears its own room and no other's.
+/// What a function gives of these arguments.
 pub fn value_of(alloc: Global, function: Function, arguments: &[Text]) -> Result<Text, Failure>
     ensures { AnswersOrMemory (call_value function arguments.now) result }
 {
+    let none = Text::new(alloc);
+    let first = needed(arguments, 0, &none);
+    let second = needed(arguments, 1, &none);
     match function {
-        Function::Ascii => ascii_value(alloc, arguments),
+        Function::Ascii => ascii(alloc, first, optional(arguments, 1)),
         Function::Char => char(alloc, arguments),
-        Function::Extract => extract_value(alloc, arguments),
-        Function::Find => find_value(alloc, arguments),
-        Function::Justify => justify_value(alloc, arguments),
-        Function::Length => length_value(alloc, arguments),
-        Function::Piece => piece_value(alloc, arguments),
-        Function::QLength => name_length_value(alloc, arguments),
-        Function::QSubscript => name_part_value(alloc, arguments),
-        Function::Reverse => reverse_value(alloc, arguments),
-        Function::Translate => translate_value(alloc, arguments),
+        Function::Extract => extract(first, optional(arguments, 1), optional(arguments, 2)),
+        Function::Find => find(alloc, first, second, optional(arguments, 2)),
+        Function::Justify => justify(alloc, first, second),
+        Function::Length => Ok(length(alloc, first, optional(arguments, 1))),
+        Function::Piece => piece(
+            alloc,
+            first,
+            second,
+            optional(arguments, 2),
+            optional(arguments, 3),
+        ),
+        Function::QLength => name_length(alloc, first),
+        Function::QSubscript => name_part(alloc, first, second),
+        Function::Reverse => reverse(alloc, first),
+        Function::Translate => translate(alloc, first, second, optional(arguments, 2)),
     }
-}
-
-// `$ASCII`.
-#[inline(never)]
-fn ascii_value(alloc: Global, arguments: &[Text]) -> Result<Text, Failure>
-    ensures { AnswersOrMemory (call_value functions.Ascii arguments.now) result }
-{
-    let none = Text::new(alloc);
-    let first = needed(arguments, 0, &none);
-    ascii(alloc, first, optional(arguments, 1))
-}
-
-// `$EXTRACT`.
-#[inline(never)]
-fn extract_value(alloc: Global, arguments: &[Text]) -> Result<Text, Failure>
-    ensures { AnswersOrMemory (call_value functions.Extract arguments.now) result }
-{
-    let none = Text::new(alloc);
-    let first = needed(arguments, 0, &none);
-    extract(first, optional(arguments, 1), optional(arguments, 2))
-}
-
-// `$FIND`.
-#[inline(never)]
-fn find_value(alloc: Global, arguments: &[Text]) -> Result<Text, Failure>
-    ensures { AnswersOrMemory (call_value functions.Find arguments.now) result }
-{
-    let none = Text::new(alloc);
-    let first = needed(arguments, 0, &none);
-    let second = needed(arguments, 1, &none);
-    find(alloc, first, second, optional(arguments, 2))
-}
-
-// `$JUSTIFY`.
-#[inline(never)]
-fn justify_value(alloc: Global, arguments: &[Text]) -> Result<Text, Failure>
-    ensures { AnswersOrMemory (call_value functions.Justify arguments.now) result }
-{
-    let none = Text::new(alloc);
-    let first = needed(arguments, 0, &none);
-    let second = needed(arguments, 1, &none);
-    justify(alloc, first, second)
-}
-
-// `$LENGTH`.
-#[inline(never)]
-fn length_value(alloc: Global, arguments: &[Text]) -> Result<Text, Failure>
-    ensures { AnswersOrMemory (call_value functions.Length arguments.now) result }
-{
-    let none = Text::new(alloc);
-    let first = needed(arguments, 0, &none);
-    Ok(length(alloc, first, optional(arguments, 1)))
-}
-
-// `$PIECE`.
-#[inline(never)]
-fn piece_value(alloc: Global, arguments: &[Text]) -> Result<Text, Failure>
-    ensures { AnswersOrMemory (call_value functions.Piece arguments.now) result }
-{
-    let none = Text::new(alloc);
-    let first = needed(arguments, 0, &none);
-    let second = needed(arguments, 1, &none);
-    piece(
-        alloc,
-        first,
-        second,
-        optional(arguments, 2),
-        optional(arguments, 3),
-    )
-}
-
-// `$QLENGTH`.
-#[inline(never)]
-fn name_length_value(alloc: Global, arguments: &[Text]) -> Result<Text, Failure>
-    ensures { AnswersOrMemory (call_value functions.QLength arguments.now) result }
-{
-    let none = Text::new(alloc);
-    let first = needed(arguments, 0, &none);
-    name_length(alloc, first)
-}
-
-// `$QSUBSCRIPT`.
-#[inline(never)]
-fn name_part_value(alloc: Global, arguments: &[Text]) -> Result<Text, Failure>
-    ensures { AnswersOrMemory (call_value functions.QSubscript arguments.now) result }
-{
-    let none = Text::new(alloc);
-    let first = needed(arguments, 0, &none);
-    let second = needed(arguments, 1, &none);
-    name_part(alloc, first, second)
-}
-
-// `$REVERSE`.
-#[inline(never)]
-fn reverse_value(alloc: Global, arguments: &[Text]) -> Result<Text, Failure>
-    ensures { AnswersOrMemory (call_value functions.Reverse arguments.now) result }
-{
-    let none = Text::new(alloc);
-    let first = needed(arguments, 0, &none);
-    reverse(alloc, first)
-}
-
-// `$TRANSLATE`.
-#[inline(never)]
-fn translate_value(alloc: Global, arguments: &[Text]) -> Result<Text, Failure>
-    ensures { AnswersOrMemory (call_value functions.Translate arguments.now) result }
-{
-    let none = Text::new(alloc);
-    let first = needed(arguments, 0, &none);
-    let second = needed(arguments, 1, &none);
-    translate(alloc, first, second, optional(arguments, 2))
 }
 
 /// How many subscripts a name text has.
