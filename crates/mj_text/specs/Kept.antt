@@ -1,6 +1,6 @@
 -- How a text is kept, and which list of bytes that is.
 use Rattle.std.specs.Prelude.{ℕ, ℤ, pos, negsuc, ◌≤◌, ◌≤ℤ◌, List, length}
-use Rattle.std.specs.Arc.{arc_slice_items}
+use Rattle.std.specs.Arc.{arc_value}
 use Rattle.std.specs.Fmt.{signed_decimal}
 use Rattle.mj_text.specs.declared.text.TheConstants.{TEXT_LIMIT}
 use Rattle.mj_text.specs.declared.text.Kept.{Kept}
@@ -15,10 +15,10 @@ IsWhole n = (negsuc 999999999999999998 ≤ℤ n) × (n ≤ℤ pos 99999999999999
 abbrev pub bytes_of : Kept → List ℕ
 bytes_of (Number n) = signed_decimal n
 bytes_of (Short s) = short_bytes s
-bytes_of (Long shared) = arc_slice_items shared
+bytes_of (Long shared) = (arc_value shared).items
 
 -- what is kept is a whole number, or bytes within the limit
 abbrev pub IsWithin : Kept → Type 0
 IsWithin (Number n) = IsWhole n
 IsWithin (Short s) = s.len ≤ 15
-IsWithin (Long shared) = length (arc_slice_items shared) ≤ TEXT_LIMIT
+IsWithin (Long shared) = length ((arc_value shared).items) ≤ TEXT_LIMIT

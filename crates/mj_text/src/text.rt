@@ -1,8 +1,9 @@
 //! A text, and the room in which one that is kept as a number is spelled.
 
-ghost use Rattle.std.specs.Prelude.{◌≡◌, ◌≤◌, ◌<◌, ◌+◌, ◌-◌, ◌↔◌, ◌++◌, [], length, take, drop, IsTrue, IfOk, IfSome, IsOkUnless};
+ghost use Rattle.std.specs.Prelude.{◌≡◌, ◌≤◌, ◌<◌, ◌+◌, ◌-◌, ◌↔◌, ◌++◌, [], length, take, drop, IsTrue, IfOk, IfSome, OnOk, OnErr, IsOkUnless};
 ghost use Rattle.std.specs.Fmt.{signed_decimal};
 ghost use Rattle.std.specs.Str.{bytes_eq};
+ghost use Rattle.std.specs.Arc.{arc_value};
 ghost use Rattle.std.specs.Ordering.{nat_cmp};
 ghost use Rattle.std.specs.Cmp.Lexicographic.{slice_cmp};
 ghost use Rattle.memchr.specs.Find.{FindsNeedle};
@@ -19,7 +20,7 @@ use std::alloc::{AllocError, Global};
 use std::cmp::Ordering;
 use std::fmt;
 use std::marker::Model;
-use std::sync::ArcSlice;
+use std::sync::Arc;
 
 /// The greatest number of bytes of a text.
 pub const TEXT_LIMIT: usize = 32_767;
@@ -53,7 +54,7 @@ enum Kept {
     // Few bytes, which may spell a number too.
     Short(Short),
     // More bytes, which every clone shares.
-    Long(ArcSlice<u8>),
+    Long(Arc<Vec<u8>>),
 }
 
 impl Model for Text {
@@ -191,6 +192,63 @@ impl Text {
         Ok(Text::joined(self.alloc, front, back)?)
     }
 
+    /// Puts the bytes of `other` to its end. More than the limit are `Length`; then, as with want of memory, it stays as it was. Bytes that no other
+    /// text shares stay where they lie as long as there is room behind them, and the room doubles, so a text that grows piece by piece is copied
+    /// a few times at most.
+    pub fn append(&mut self, other: &Text) -> Result<(), Failure>
+        ensures ok { OnOk result (self.new ≡ self.old ++ other.now) }
+        ensures long { (result ≡ Err (failure.Fault fault.Length)) ↔ (TEXT_LIMIT < length self.old + length other.now) }
+        ensures within { length self.old + length other.now ≤ TEXT_LIMIT → IsOkUnless result failure.Memory }
+        ensures err { OnErr result (self.new ≡ self.old) }
+    {
+        match &mut self.kept {
+            Kept::Number(_) => {}
+            Kept::Short(short) => {
+                let mut digits = Digits::new();
+                let back = other.bytes(&mut digits);
+                if short.len() + back.len() <= SHORT_LIMIT {
+                    short.append(back);
+                    return Ok(());
+                }
+            }
+            Kept::Long(shared) => {
+                if let Some(bytes) = Arc::get_mut(shared) {
+                    return extend(bytes, other);
+                }
+            }
+        }
+        self.append_anew(other)
+    }
+
+    // The same of few bytes, or of bytes that others share, which are copied. There is room behind the copy then, since what was put to a text once
+    // often is again.
+    fn append_anew(&mut self, other: &Text) -> Result<(), Failure>
+        ensures ok { OnOk result (self.new ≡ self.old ++ other.now) }
+        ensures long { (result ≡ Err (failure.Fault fault.Length)) ↔ (TEXT_LIMIT < length self.old + length other.now) }
+        ensures within { length self.old + length other.now ≤ TEXT_LIMIT → IsOkUnless result failure.Memory }
+        ensures err { OnErr result (self.new ≡ self.old) }
+    {
+        let mut digits = Digits::new();
+        let mut other_digits = Digits::new();
+        let front = self.bytes(&mut digits);
+        let back = other.bytes(&mut other_digits);
+        let len = front.len() + back.len();
+        if len > TEXT_LIMIT {
+            return Err(Failure::Fault(Fault::Length));
+        }
+        if back.is_empty() {
+            return Ok(());
+        }
+        self.kept = if front.is_empty() {
+            other.try_clone()?.kept
+        } else if len <= SHORT_LIMIT {
+            Kept::Short(Short::of(front, back))
+        } else {
+            Kept::Long(put_together(self.alloc, front, back, len + len / 8 + 8)?)
+        };
+        Ok(())
+    }
+
     /// Its bytes from place `start` up to place `end`, which isn't in it. Places count from 0. Those past its end hold nothing.
     pub fn cut(&self, start: usize, end: usize) -> Result<Text, AllocError>
         ensures { IfOk result (λ t. t ≡ take (end - start) (drop start self.now)) }
@@ -279,14 +337,43 @@ impl Text {
                 kept: Kept::Short(Short::of(front, back)),
             });
         }
-        let mut bytes = Vec::with_capacity(alloc, len)?;
-        bytes.extend_from_slice(front)?;
-        bytes.extend_from_slice(back)?;
         Ok(Text {
             alloc,
-            kept: Kept::Long(ArcSlice::from_vec(bytes)?),
+            kept: Kept::Long(put_together(alloc, front, back, len)?),
         })
     }
+}
+
+// Two lists of bytes, one after the other, in memory of their own that holds so many.
+fn put_together(
+    alloc: Global,
+    front: &[u8],
+    back: &[u8],
+    room: usize,
+) -> Result<Arc<Vec<u8>>, AllocError>
+    ensures { IfOk result (λ shared. (arc_value shared).items ≡ front.now ++ back.now) }
+{
+    let mut bytes = Vec::with_capacity(alloc, room)?;
+    bytes.extend_from_slice(front)?;
+    bytes.extend_from_slice(back)?;
+    Ok(Arc::new(alloc, bytes)?)
+}
+
+// Puts the bytes of a text behind others.
+fn extend(bytes: &mut Vec<u8>, other: &Text) -> Result<(), Failure>
+    ensures ok { OnOk result (bytes.new.items ≡ bytes.old.items ++ other.now) }
+    ensures long { (result ≡ Err (failure.Fault fault.Length)) ↔ (TEXT_LIMIT < length bytes.old.items + length other.now) }
+    ensures within { length bytes.old.items + length other.now ≤ TEXT_LIMIT → IsOkUnless result failure.Memory }
+    ensures limit { length bytes.old.items ≤ TEXT_LIMIT → length bytes.new.items ≤ TEXT_LIMIT }
+    ensures err { OnErr result (bytes.new.items ≡ bytes.old.items) }
+{
+    let mut digits = Digits::new();
+    let back = other.bytes(&mut digits);
+    if bytes.len() + back.len() > TEXT_LIMIT {
+        return Err(Failure::Fault(Fault::Length));
+    }
+    bytes.extend_from_slice(back)?;
+    Ok(())
 }
 
 impl Clone for Text {
@@ -307,13 +394,14 @@ impl PartialEq for Text {
 
     ghost laws = { partial_equiv_from_equiv nat_list_eq_equiv };
 
+    #[inline]
     fn eq(&self, other: &Text) -> bool
         ensures same { IsTrue result ↔ (self.now ≡ other.now) }
         ensures value { result ≡ bytes_eq self.now other.now }
     {
         match (&self.kept, &other.kept) {
             (Kept::Number(number), Kept::Number(other)) => *number == *other,
-            (Kept::Short(short), Kept::Short(other)) => short.bytes() == other.bytes(),
+            (Kept::Short(short), Kept::Short(other)) => short.is_same(other),
             _ => self.is_spelled_alike(other),
         }
     }
