@@ -2,7 +2,7 @@
 use Rattle.std.proofs.Common.{◌≡◌, ℕ, zero, suc, ◌+◌, ◌-◌, ◌<◌, ◌≤◌, List, [], ◌∷◌, ◌++◌, length, take, drop, get_or, set, Ok, Err, Result, Option, ℤ, pos, negsuc, refl, sym, subst, ◌∙◌, ap, arith, append_assoc, take-append-drop, length-append, ⊎_elim, ◌⊎◌, lit≤, eqb, IfOk, IsOkUnless}
 use Rattle.std.specs.List.{flat_map}
 use Rattle.std.proofs.lemmas.Bool.{cond-true, cond-false, cond_both, eq-eqb, ne_eqb, cases_eq}
-use Rattle.std.proofs.lemmas.List.{append-nil, take_more, drop_more, take_all, drop_all, get_or-set_same, get_or-set_other, flat_map_more}
+use Rattle.std.proofs.lemmas.List.{append-nil, take_more, drop_more, take_all, drop_all, get_or-set_same, get_or-set_other, flat_map_more, take-set, take_more_set}
 use Rattle.mj_text.specs.declared.fault.Fault.{Fault}
 use Rattle.mj_text.specs.declared.fault.Failure.{Failure}
 use Rattle.mj_text.specs.declared.fault.Failure.TheVariants.{Fault as FaultFailure, Memory}
@@ -12,7 +12,7 @@ use Rattle.mj_strfn.specs.declared.translation.Becomes.TheVariants.{Itself, Byte
 use Rattle.mj_text.specs.Failing.{then_value, failing, Answers}
 use Rattle.mj_strfn.specs.Functions.{number_or, ascii_value, place, code_behind, code_at, byte_of_text, bytes_of_codes, char_value, within_limit, becomes, AnswersOrMemory}
 use Rattle.mj_strfn.specs.Parts.{AnswersByte}
-use Rattle.mj_strfn.specs.Table.{bytes_of, IsTable}
+use Rattle.mj_strfn.specs.Table.{bytes_of, IsTable, translated_by}
 
 -- ---- codes by place
 
@@ -164,17 +164,47 @@ length-translated-le a b (x ∷ xs) =
     let all = length-append (becomes a b x) (flat_map (becomes a b) xs) in
     omega arith
 
+-- a byte is written behind those that are kept, and counts or doesn't
+take_written : (made : List ℕ) (kept n w : ℕ) → kept < length made → n ≤ 1 → take (kept + n) (set made kept w) ≡ take kept made ++ take n (w ∷ [])
+take_written made kept zero w l m = ap (λ k. take k (set made kept w)) (let e : kept + 0 ≡ kept = omega arith in e) ∙ take-set made kept w ∙ sym (append-nil _)
+take_written made kept (suc zero) w l m = take_more_set made kept w l
+take_written made kept (suc (suc n)) w l m = absurd (omega arith)
+
 -- one byte more
-pub translated_more : (a b s : List ℕ) (i x : ℕ) (made v : List ℕ) → i < length s → x ≡ get_or s i x → made ≡ flat_map (becomes a b) (take i s) → v ≡ becomes a b x → made ++ v ≡ flat_map (becomes a b) (take (i + 1) s)
-translated_more a b s i x made v l is before here =
-    let f = becomes a b in
-    ap (λ m. m ++ v) before
-    ∙ ap (λ w. flat_map f (take i s) ++ w) here
+pub written_more : (f : ℕ → List ℕ) (s made : List ℕ) (i x kept n w : ℕ) → i < length s → x ≡ get_or s i x → kept < length made → n ≤ 1 → take kept made ≡ flat_map f (take i s) → take n (w ∷ []) ≡ f x → take (kept + n) (set made kept w) ≡ flat_map f (take (i + 1) s)
+written_more f s made i x kept n w l is room m before here =
+    take_written made kept n w room m
+    ∙ ap (λ v. v ++ take n (w ∷ [])) before
+    ∙ ap (λ v. flat_map f (take i s) ++ v) here
     ∙ flat_map_more f [] (take i s) x
     ∙ ap (flat_map f) (sym (take_more s i x l ∙ ap (λ y. take i s ++ y ∷ []) (sym is)))
 
-pub translated_all : (a b s made : List ℕ) (n : ℕ) → length s ≤ n → made ≡ flat_map (becomes a b) (take n s) → made ≡ flat_map (becomes a b) s
-translated_all a b s made n l h = h ∙ ap (flat_map (becomes a b)) (take_all n s l)
+pub written_all : (f : ℕ → List ℕ) (s made : List ℕ) (kept n : ℕ) → length s ≤ n → take kept made ≡ flat_map f (take n s) → take kept made ≡ flat_map f s
+written_all f s made kept n l h = h ∙ ap (flat_map f) (take_all n s l)
+
+-- by a table that has what becomes of each byte
+pub table_translates : (a b : List ℕ) (t : List Becomes) (s : List ℕ) → IsTable a b t → ((i : ℕ) → i < length s → get_or s i 0 < 256) → translated_by t s ≡ flat_map (becomes a b) s
+table_translates a b t [] h bytes = refl
+table_translates a b t (x ∷ xs) h bytes =
+    ap (λ v. v ++ translated_by t xs) (h x (bytes 0 (omega arith)))
+    ∙ ap (λ v. becomes a b x ++ v) (table_translates a b t xs h (λ i l. bytes (suc i) (omega arith)))
+
+pub translated_answers : (a b s : List ℕ) (t : List Becomes) (r : Result (List ℕ) Failure) → IsTable a b t → ((i : ℕ) → i < length s → get_or s i 0 < 256) → Answers (Ok (translated_by t s)) r → Answers (Ok (flat_map (becomes a b) s)) r
+translated_answers a b s t r h bytes made = subst (λ (l : List ℕ). Answers (Ok l) r) (table_translates a b t s h bytes) made
+
+-- each byte becomes one at most
+pub length-translated_by : (t : List Becomes) (s : List ℕ) → length (translated_by t s) ≤ length s
+length-translated_by t [] = lit≤ tt
+length-translated_by t (x ∷ xs) =
+    let rest = length-translated_by t xs in
+    let here = one_at_most (get_or t x Itself) x in
+    let all = length-append (bytes_of (get_or t x Itself) x) (translated_by t xs) in
+    omega arith
+  where
+    one_at_most : (v : Becomes) (c : ℕ) → length (bytes_of v c) ≤ 1
+    one_at_most Itself c = lit≤ tt
+    one_at_most (Byte y) c = lit≤ tt
+    one_at_most Nothing c = lit≤ tt
 
 -- a text made of bytes that a text has room for
 pub made_answers : (v made : List ℕ) (r : Result (List ℕ) Failure) → made ≡ v → length v ≤ 32767 → IfOk r (λ t. t ≡ made) → (length made ≤ 32767 → IsOkUnless r Memory) → Answers (Ok v) r

@@ -1,10 +1,12 @@
 -- What a search for the separator says of the pieces, and the pieces put together again.
-use Rattle.std.proofs.Common.{◌≡◌, ℕ, zero, suc, ◌+◌, ◌-◌, ◌<◌, ◌≤◌, Bool, true, false, List, [], ◌∷◌, ◌++◌, Some, None, length, take, drop, replicate, refl, sym, ap, subst, ◌∙◌, arith, lit<, nat_eq, length-drop, length-append, drop-drop, take-append-drop, take-take, append_assoc, ⊎_elim, zero-add, add-one, zero-le, max, ◌*◌, ℤ, zero-mul, suc-mul, Result, Ok, Err}
+use Rattle.std.proofs.Common.{◌≡◌, ℕ, zero, suc, ◌+◌, ◌-◌, ◌<◌, ◌≤◌, Bool, true, false, Option, List, [], ◌∷◌, ◌++◌, Some, None, length, take, drop, get_or, replicate, refl, sym, ap, subst, ◌∙◌, arith, lit<, nat_eq, length-drop, length-append, drop-drop, take-append-drop, take-take, append_assoc, ⊎_elim, zero-add, add-one, zero-le, max, ◌*◌, ℤ, zero-mul, suc-mul, Result, Ok, Err}
 use Rattle.std.specs.List.{starts_with, onto_first, repeat}
-use Rattle.std.proofs.lemmas.Bool.{cond-true, cond-false, cond_both, cases_lt, le-leb, lt-leb, false≢true, false_from_ne_true}
+use Rattle.std.proofs.Math.Nat.{mul-le-mul_right}
+use Rattle.std.proofs.lemmas.Bool.{eqb-true, eq-eqb, cond-true, cond-false, cond_both, cases_lt, le-leb, lt-leb, false≢true, false_from_ne_true}
 use Rattle.std.proofs.lemmas.List.{drop-take, take_all, drop_all, append-nil, length-take, take_at, drop_at, take-append-le, take-replicate}
 use Rattle.std.proofs.lemmas.Slice.Eq.{bytes_eq-Decides}
-use Rattle.memchr.specs.Find.{OccursAt, FindsNeedle}
+use Rattle.memchr.specs.Find.{OccursAt, FindsNeedle, IsFirstByte, Nowhere, Passes, is_byte}
+use Rattle.mj_text.proofs.FindLemmas.{FindsNeedle-later}
 use Rattle.memchr.proofs.lemmas.MatchLemmas.{OccursAt-part, OccursAt-from_part, OccursAt-split}
 use Rattle.mj_strfn.specs.Pieces.{pieces_behind, pieces, joined, ended, IsBehind, IsBehindFirst}
 use Rattle.mj_text.specs.Failing.{Answers}
@@ -118,6 +120,68 @@ first_found d s p some found =
 
 pub none_found : (d s : List ℕ) → 0 < length d → FindsNeedle s d 0 None → length (pieces d s) ≡ 1
 none_found d s some found = ap length (pieces_not_found d s some found)
+
+-- ---- a separator of one byte
+
+-- where the byte stands, the separator of that byte alone does
+byte_occurs : (b : ℕ) (s : List ℕ) (k : ℕ) → k < length s → is_byte b (get_or s k 0) ≡ true → OccursAt s (b ∷ []) k
+byte_occurs b s k l h = record {
+  fits = omega arith;
+  reads = λ j m.
+      let first : j ≡ 0 = omega arith in
+      ap (λ n. get_or s n 0) (let e : k + j ≡ k = omega arith in e) ∙ eqb-true (get_or s k 0) b h ∙ sym (ap (λ n. get_or (b ∷ []) n 0) first);
+}
+
+occurs_byte : (b : ℕ) (s : List ℕ) (k : ℕ) → OccursAt s (b ∷ []) k → is_byte b (get_or s k 0) ≡ true
+occurs_byte b s k at = eq-eqb (get_or s k 0) b (ap (λ n. get_or s n 0) (let e : k ≡ k + 0 = omega arith in e) ∙ at.reads 0 (lit< tt))
+
+-- a search for the byte is one for the separator
+needle_of_byte : (b : ℕ) (s : List ℕ) (r : Option ℕ) → IsFirstByte (is_byte b) s r → FindsNeedle s (b ∷ []) 0 r
+needle_of_byte b s None h = λ k low high at.
+    let fits = at.fits in
+    h k low (omega arith) (occurs_byte b s k at)
+needle_of_byte b s (Some k) h = (
+  record {
+    low = h.0.low;
+    high =
+        let high = h.0.high in
+        omega arith;
+    before = λ j low below at. h.0.before j low below (occurs_byte b s j at);
+  },
+  byte_occurs b s k h.0.high h.1,
+)
+
+byte_found : (b : ℕ) (s : List ℕ) (p : ℕ) → IsFirstByte (is_byte b) s (Some p) → IsBehindFirst (b ∷ []) s (drop (p + 1) s)
+byte_found b s p found = first_found (b ∷ []) s p (lit< tt) (needle_of_byte b s (Some p) found)
+
+-- a search of what follows the places that were looked at, and where none of those has the byte
+from_near : (b : ℕ) (s : List ℕ) (near : ℕ) (r : Option ℕ) → Nowhere (Passes (is_byte b) s) 0 near → FindsNeedle s (b ∷ []) near r → FindsNeedle s (b ∷ []) 0 r
+from_near b s near None before h = λ k low high at. ⊎_elim (λ below. before k low below (occurs_byte b s k at)) (λ from. h k from high at) (cases_lt k near)
+from_near b s near (Some p) before h = (
+  record {
+    low = zero-le;
+    high = h.0.high;
+    before = λ k low below at. ⊎_elim (λ less. before k low less (occurs_byte b s k at)) (λ from. h.0.before k from below at) (cases_lt k near);
+  },
+  h.1,
+)
+
+pub near_found : (b : ℕ) (s : List ℕ) (p : ℕ) → p < length s → get_or s p 0 ≡ b → Nowhere (Passes (is_byte b) s) 0 p → IsBehindFirst (b ∷ []) s (drop (p + 1) s)
+near_found b s p within here before = byte_found b s p (record { low = zero-le; high = within; before = before }, eq-eqb _ _ here)
+
+pub near_more : (b : ℕ) (s : List ℕ) (p n : ℕ) → n ≡ p + 1 → (get_or s p 0 ≡ b → ⊥) → Nowhere (Passes (is_byte b) s) 0 p → Nowhere (Passes (is_byte b) s) 0 n
+near_more b s p n next other before = λ k low high h.
+    ⊎_elim (λ below. before k low below h) (λ from. let same : k ≡ p = omega arith in other (ap (λ j. get_or s j 0) (sym same) ∙ eqb-true (get_or s k 0) b h)) (cases_lt k p)
+
+pub far_found : (b : ℕ) (s rest : List ℕ) (near p place : ℕ) → near ≤ length s → rest ≡ drop near s → Nowhere (Passes (is_byte b) s) 0 near → IsFirstByte (is_byte b) rest (Some p) → place ≡ near + p → IsBehindFirst (b ∷ []) s (drop (place + 1) s)
+far_found b s rest near p place within is before found at =
+    let later = FindsNeedle-later (b ∷ []) s near within (Some p) (needle_of_byte b (drop near s) (Some p) (subst (λ (l : List ℕ). IsFirstByte (is_byte b) l (Some p)) is found)) in
+    subst (λ (k : ℕ). IsBehindFirst (b ∷ []) s (drop (k + 1) s)) (let e : p + near ≡ place = omega arith in e) (first_found (b ∷ []) s (p + near) (lit< tt) (from_near b s near (Some (p + near)) before later))
+
+pub none_far : (b : ℕ) (s rest : List ℕ) (near : ℕ) → near ≤ length s → rest ≡ drop near s → Nowhere (Passes (is_byte b) s) 0 near → IsFirstByte (is_byte b) rest None → length (pieces (b ∷ []) s) ≡ 1
+none_far b s rest near within is before found =
+    let later = FindsNeedle-later (b ∷ []) s near within None (needle_of_byte b (drop near s) None (subst (λ (l : List ℕ). IsFirstByte (is_byte b) l None) is found)) in
+    none_found (b ∷ []) s (lit< tt) (from_near b s near None before later)
 
 -- one piece more
 pub behind_more : (d s r q : List ℕ) (k : ℕ) → IsBehind d s k r → IsBehindFirst d r q → IsBehind d s (k + 1) q
@@ -385,6 +449,40 @@ assembled_long front d middle back n h =
     let long = length_assembled front d middle back n in
     let large : 32767 < length (front ++ repeat n d ++ middle ++ back) = omega arith in
     cond-false _ _ _ (lt-leb _ _ large)
+
+pub assembled_within : (front d middle back : List ℕ) (n limit : ℕ) → length front + length middle + length back + n * length d ≤ limit → length (front ++ repeat n d ++ middle ++ back) ≤ limit
+assembled_within front d middle back n limit h =
+    let long = length_assembled front d middle back n in
+    omega arith
+
+-- what is put into a room: the filling once more, the middle, and the back
+pub room_more : (room front d middle back : List ℕ) (n times limit : ℕ) → room ≡ front ++ repeat n d → n < times → length front + length middle + length back + times * length d ≤ limit → length room + length d ≤ limit
+room_more room front d middle back n times limit is less h =
+    let more : suc n * length d ≤ times * length d = mul-le-mul_right (length d) (let l : suc n ≤ times = omega arith in l) in
+    let size : length room ≡ length (front ++ repeat n d) = ap length is in
+    let long = length-append front (repeat n d) in
+    let filled = length-repeat n d in
+    let one = suc-mul n (length d) in
+    omega arith
+
+pub room_middle : (room front d middle back : List ℕ) (n times limit : ℕ) → room ≡ front ++ repeat n d → n ≡ times → length front + length middle + length back + times * length d ≤ limit → length room + length middle ≤ limit
+room_middle room front d middle back n times limit is end h =
+    let size : length room ≡ length (front ++ repeat times d) = ap length (is ∙ ap (λ k. front ++ repeat k d) end) in
+    let long = length-append front (repeat times d) in
+    let filled = length-repeat times d in
+    omega arith
+
+pub room_back : (made room front d middle back : List ℕ) (n times limit : ℕ) → made ≡ room ++ middle → room ≡ front ++ repeat n d → n ≡ times → length front + length middle + length back + times * length d ≤ limit → length made + length back ≤ limit
+room_back made room front d middle back n times limit more is end h =
+    let size : length room ≡ length (front ++ repeat times d) = ap length (is ∙ ap (λ k. front ++ repeat k d) end) in
+    let all : length made ≡ length (room ++ middle) = ap length more in
+    let both = length-append room middle in
+    let long = length-append front (repeat times d) in
+    let filled = length-repeat times d in
+    omega arith
+
+pub room_all : (all made room front d middle back : List ℕ) (n times : ℕ) → all ≡ made ++ back → made ≡ room ++ middle → room ≡ front ++ repeat n d → n ≡ times → all ≡ front ++ repeat times d ++ middle ++ back
+room_all all made room front d middle back n times last more is end = last ∙ ap (λ l. l ++ back) (more ∙ ap (λ l. l ++ middle) (is ∙ ap (λ k. front ++ repeat k d) end))
 
 -- a call that wants memory for a text that there is
 pub wants_memory : (v : Result (List ℕ) Fault) (t : List ℕ) (r : Result (List ℕ) Failure) → v ≡ Ok t → r ≡ Err Memory → Answers v r

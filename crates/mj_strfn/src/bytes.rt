@@ -28,6 +28,27 @@ pub fn ascii(alloc: Global, text: &Text, at: Option<&Text>) -> Result<Text, Fail
 pub fn char(alloc: Global, codes: &[Text]) -> Result<Text, Failure>
     ensures { AnswersOrMemory (char_value codes.now) result }
 {
+    match codes {
+        [code] => char_of_one(alloc, code),
+        _ => char_of_all(alloc, codes),
+    }
+}
+
+/// The text of the byte of one code.
+fn char_of_one(alloc: Global, code: &Text) -> Result<Text, Failure>
+    ensures { AnswersOrMemory (byte_of_text code.now) result }
+{
+    match byte(code)? {
+        Some(byte) => Text::from(alloc, &[byte]),
+        None => Ok(Text::new(alloc)),
+    }
+}
+
+/// The text of the bytes of any number of codes.
+#[inline(never)]
+fn char_of_all(alloc: Global, codes: &[Text]) -> Result<Text, Failure>
+    ensures { AnswersOrMemory (char_value codes.now) result }
+{
     let mut bytes = Vec::new(alloc);
     for code in codes {
         if let Some(byte) = byte(code)? {

@@ -7,6 +7,7 @@
 mod arguments;
 mod bytes;
 mod pieces;
+mod room;
 mod search;
 mod translation;
 

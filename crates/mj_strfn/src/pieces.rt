@@ -1,6 +1,6 @@
 // The functions on the pieces of a text, and the new text of a SET of `$PIECE`.
 
-ghost use Rattle.std.specs.Prelude.{◌≡◌, ◌≤◌, ◌<◌, ◌++◌, ◌^◌, ◌+◌, ◌*◌, ◌↔◌, IsTrue, length as length_of};
+ghost use Rattle.std.specs.Prelude.{◌≡◌, ◌≤◌, ◌<◌, ◌++◌, ◌^◌, ◌+◌, ◌*◌, ◌↔◌, IsTrue, Ok, length as length_of};
 ghost use Rattle.std.specs.Option.{option_copied};
 ghost use Rattle.std.specs.List.{repeat};
 ghost use Rattle.mj_strfn.specs.Pieces.{pieces, joined};
@@ -9,6 +9,7 @@ ghost use Rattle.mj_strfn.specs.Functions.{length_value, piece_value, some_piece
 ghost use Rattle.mj_strfn.specs.Parts.{pieces_between};
 
 use crate::arguments::{count_text, first_and_last, place};
+use crate::room::{ROOM, Room};
 use crate::search::{behind, count, front};
 use mj_text::{Digits, Failure, Fault, TEXT_LIMIT, Text};
 use std::alloc::Global;
@@ -183,7 +184,51 @@ fn assembled(
     if !has_room(others, filling.len(), times) {
         return Err(Failure::Fault(Fault::Length));
     }
-    let mut bytes = Vec::new(alloc);
+    let len = others + times as usize * filling.len();
+    if len <= ROOM {
+        return assembled_short(alloc, front, filling, times, middle, back);
+    }
+    assembled_long(alloc, len, front, filling, times, middle, back)
+}
+
+/// The same of few bytes in all, which are put together without taking memory for it.
+#[inline(never)]
+fn assembled_short(
+    alloc: Global,
+    front: &[u8],
+    filling: &[u8],
+    times: u64,
+    middle: &[u8],
+    back: &[u8],
+) -> Result<Text, Failure>
+    requires { length_of front.now + length_of middle.now + length_of back.now + times * length_of filling.now ≤ ROOM }
+    ensures { Answers (Ok (front.now ++ repeat times filling.now ++ middle.now ++ back.now)) result }
+{
+    let mut room = Room::new();
+    room.put(front);
+    for _time in 0..times {
+        room.put(filling);
+    }
+    room.put(middle);
+    room.put(back);
+    Text::from(alloc, room.bytes())
+}
+
+/// The same of more bytes, `len` in all.
+#[inline(never)]
+fn assembled_long(
+    alloc: Global,
+    len: usize,
+    front: &[u8],
+    filling: &[u8],
+    times: u64,
+    middle: &[u8],
+    back: &[u8],
+) -> Result<Text, Failure>
+    requires { length_of front.now + length_of middle.now + length_of back.now + times * length_of filling.now ≤ TEXT_LIMIT }
+    ensures { Answers (Ok (front.now ++ repeat times filling.now ++ middle.now ++ back.now)) result }
+{
+    let mut bytes = Vec::with_capacity(alloc, len)?;
     bytes.extend_from_slice(front)?;
     for _time in 0..times {
         bytes.extend_from_slice(filling)?;
