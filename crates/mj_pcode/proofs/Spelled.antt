@@ -1,5 +1,5 @@
 -- The labels of a map, and which line one leads to once another has come.
-use Rattle.std.proofs.Common.{◌≡◌, ℕ, true, false, Bool, cond, nat_cmp, List, [], ◌∷◌, Option, Some, None, Vec, Global, refl, sym, ap, ◌∙◌}
+use Rattle.std.proofs.Common.{◌≡◌, ℕ, zero, suc, arith, true, false, Bool, cond, nat_cmp, List, [], ◌∷◌, ◌++◌, Option, Some, None, Vec, Global, refl, sym, ap, ◌∙◌}
 use Rattle.std.specs.Option.{is_some, unwrap_or}
 use Rattle.std.specs.Str.{bytes_eq}
 use Rattle.std.specs.Cmp.Lexicographic.{slice_cmp, nat_list_cmp_total, nat_list_eq_equiv}
@@ -7,12 +7,15 @@ use Rattle.std.specs.declared.cmp.Ordering.{Ordering}
 use Rattle.std.specs.declared.cmp.Ordering.TheVariants.{Less, Equal, Greater}
 use Rattle.std.specs.Ordering.{is_eq, match_ordering}
 use Rattle.std.specs.FinMap.{slice_cmp-IsAntisymmetric, nat_cmp-IsAntisymmetric}
+use Rattle.std.specs.List.{All}
 use Rattle.std.specs.Map.{lookup}
 use Rattle.std.specs.BTreeMap.{is_at, insert_entry}
 use Rattle.std.proofs.lemmas.Cmp.{tied_itself}
 use Rattle.std.proofs.lemmas.Map.Text.{is_eq-slice_cmp}
 use Rattle.std.proofs.lemmas.Slice.Eq.{bytes_eq-Decides}
+use Rattle.std.proofs.lemmas.List.Elements.{All-append, All-weaker}
 use Rattle.mj_pcode.specs.Labels.{Labels, spelled, line_with, with_label}
+use Rattle.mj_pcode.specs.Rows.{IsRow, AreRows}
 
 -- the order of texts
 abbrev by_bytes : List ℕ → List ℕ → Ordering
@@ -73,6 +76,27 @@ line_inserted l t k (e ∷ es) =
       | Equal ↦ λ p. over_same l t e.0 k e.1 es (slice_cmp-IsAntisymmetric nat_cmp-IsAntisymmetric t e.0 p)
       | Greater ↦ λ p. past_other l t e.0 k e.1 es (insert_entry by_bytes es t k) p (line_inserted l t k es)
     ] refl
+
+pub is_none : (o : Option ℕ) → is_some o ≡ false → o ≡ None
+is_none None e = refl
+is_none (Some n) e = let p : ◌≡◌ {A = Bool} true false = e in cc
+
+-- the rows of labels, once one more label has come with its row
+pub one_more_row : (labels : Labels) (l : List ℕ) (k : ℕ) (rows : List (List ℕ × ℕ)) → line_with l labels ≡ None → AreRows labels rows → AreRows (insert_entry by_bytes labels l k) (rows ++ (l, k) ∷ [])
+one_more_row labels l k rows none are =
+    All-append (IsRow (insert_entry by_bytes labels l k)) rows ((l, k) ∷ [])
+    (All-weaker (IsRow labels) (IsRow (insert_entry by_bytes labels l k)) (λ row is. line_inserted row.0 l k labels ∙ other row (bytes_eq l row.0) refl is) rows are)
+    (one (line_inserted l l k labels ∙ ap (λ (b : Bool). cond b (Some k) (line_with l labels)) ((bytes_eq-Decides l l).1 refl)))
+  where
+    one : IsRow (insert_entry by_bytes labels l k) (l, k) → All (IsRow (insert_entry by_bytes labels l k)) ((l, k) ∷ [])
+    one is zero d h = is
+    one is (suc j) d h = absurd (omega (arith, h))
+
+    other : (row : List ℕ × ℕ) (b : Bool) → bytes_eq l row.0 ≡ b → line_with row.0 labels ≡ Some row.1 → cond b (Some k) (line_with row.0 labels) ≡ Some row.1
+    other row true e is =
+        let never : ◌≡◌ {A = Option ℕ} None (Some row.1) = sym none ∙ ap (λ (w : List ℕ). line_with w labels) (same_bytes row.0 l e) ∙ is in
+        cc
+    other row false e is = is
 
 -- Once a label has come with line k, another one leads to the line that it led to before, or else to `later`; this one leads to the
 -- line that it led to before, or else to line k.

@@ -1,4 +1,5 @@
 pub mod Labels
+pub mod Rows
 pub mod Found
 pub mod Context
 pub mod Machine
