@@ -50,7 +50,7 @@ fn hide_words(
 {
     for word in words {
         let place = table.make_room(word)?;
-        hide_place(table, trail, alloc, place)?;
+        trail.hide(table, alloc, place)?;
     }
     Ok(())
 }
@@ -91,33 +91,10 @@ fn hide_all_but(
 {
     for place in 0..table.len() {
         if !is_among(table.word(place), words) {
-            hide_place(table, trail, alloc, place)?;
+            trail.hide(table, alloc, place)?;
         }
     }
     Ok(())
-}
-
-// The tree of a place goes into the newest group.
-fn hide_place(
-    table: &mut Table,
-    trail: &mut Trail,
-    alloc: Global,
-    place: usize,
-) -> Result<(), AllocError>
-    requires { place < length table.old }
-    ensures table { OnOk result (table.new ≡ placed table.old (word_at table.old place) []) }
-    ensures trail { OnOk result (trail.new ≡ saved (place, at table.old (word_at table.old place)) trail.old) }
-    ensures table_err { OnErr result (table.new ≡ table.old) }
-    ensures trail_err { OnErr result (trail.new ≡ trail.old) }
-{
-    let tree = table.exchange(place, Tree::new(alloc));
-    match trail.save(place, tree) {
-        Ok(()) => Ok(()),
-        Err(tree) => {
-            let _empty = table.exchange(place, tree);
-            Err(AllocError)
-        }
-    }
 }
 
 /// The words of the newest group get these values, one by one.

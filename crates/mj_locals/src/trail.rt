@@ -3,10 +3,12 @@
 // All that was saved lies in one list, each tree with the place of its word, and a NEW is a mark in it: so a NEW of words takes memory only
 // where the list grows.
 
-ghost use Rattle.std.specs.Prelude.{◌≡◌, ◌<◌, ◌++◌, [], ◌∷◌, length, option_to_list, slice_index_or, OnOk, OnErr, IfErr, IfNone};
+ghost use Rattle.std.specs.Prelude.{◌≡◌, ◌<◌, ◌++◌, [], ◌∷◌, length, option_to_list, slice_index_or, OnOk, OnErr, IfNone};
 ghost use Rattle.std.specs.Option.{option_map};
 ghost use Rattle.mj_locals.specs.Groups.{newest, spared_by, rest, begun, saved, reduced, AreSorted};
+ghost use Rattle.mj_locals.specs.Trees.{at, placed, word_at};
 
+use crate::table::Table;
 use mj_text::Text;
 use mj_tree::Tree;
 use std::alloc::{AllocError, Global};
@@ -81,17 +83,20 @@ impl Trail {
         Ok(())
     }
 
-    /// A tree and its word's place come into the newest group.
-    pub fn save(&mut self, place: usize, tree: Tree) -> Result<(), Tree>
-        ensures ok { OnOk result (self.new ≡ saved (place, tree) self.old) }
+    /// The tree of a place comes into the newest group, and the place has none any more. It takes memory only where the list grows, and room is
+    /// made first, so that the tree is moved once and need not come back.
+    pub fn hide(&mut self, table: &mut Table, alloc: Global, place: usize) -> Result<(), AllocError>
+        requires { place < length table.old }
+        ensures ok { OnOk result (self.new ≡ saved (place, at table.old (word_at table.old place)) self.old) }
+        ensures table { OnOk result (table.new ≡ placed table.old (word_at table.old place) []) }
         ensures err { OnErr result (self.new ≡ self.old) }
-        ensures back { IfErr result (λ refused. refused ≡ tree) }
+        ensures table_err { OnErr result (table.new ≡ table.old) }
     {
+        self.pairs.reserve(1)?;
+        let tree = table.exchange(place, Tree::new(alloc));
         tree.rises();
-        match self.pairs.push((place, tree)) {
-            Ok(()) => Ok(()),
-            Err(refused) => Err(refused.value.1),
-        }
+        self.pairs.push_reserved((place, tree));
+        Ok(())
     }
 
     /// How many trees the newest group has.

@@ -2,7 +2,8 @@
 //
 // A contract sees a tree as the list of its texts, each by the subscripts that lead to it, in order. Every call is the definition of its
 // name on that list, in `mj_store`: a tree is the part of a store that belongs to one word. A question or a change makes no more
-// comparisons than the depth times the logarithm of the number of siblings; `order` and `query` copy nothing but their answer; `kill`
+// comparisons than the depth times the logarithm of the number of siblings; `order` and `query` copy nothing but their answer, and
+// the questions by texts a subscript for each level; `kill`
 // frees what stands at the place and below it and walks nothing else. After want of memory a tree is as it was.
 #![tactic(auto)]
 

@@ -74,6 +74,19 @@ impl Node {
         }
     }
 
+    // The node at a list of texts, each of which is made a subscript where it is looked for, so that no list is made.
+    fn at_texts(&self, path: &[Text]) -> Result<Option<&Node>, AllocError>
+        ensures { IfOk result (λ node. nodes_of (option_copied node) ≡ subtree subscript_cmp path.now self.now) }
+    {
+        match path {
+            [] => Ok(Some(self)),
+            [text, rest @ ..] => match child_at(&self.children, text)? {
+                None => Ok(None),
+                Some(child) => child.at_texts(rest),
+            },
+        }
+    }
+
     /// The text at a list of subscripts.
     pub fn value(&self, path: &[Sub]) -> Option<&Text>
         ensures { option_copied result ≡ find (slice_cmp subscript_cmp) path.now self.now }
@@ -81,6 +94,16 @@ impl Node {
         match self.at(path) {
             None => None,
             Some(node) => node.text.as_ref(),
+        }
+    }
+
+    /// The text at a list of subscripts that are told by their texts.
+    pub fn value_at(&self, path: &[Text]) -> Result<Option<&Text>, AllocError>
+        ensures { IfOk result (λ text. option_copied text ≡ find (slice_cmp subscript_cmp) path.now self.now) }
+    {
+        match self.at_texts(path)? {
+            None => Ok(None),
+            Some(node) => Ok(node.own_text()),
         }
     }
 
@@ -106,6 +129,28 @@ impl Node {
         }
     }
 
+    /// The same of subscripts that are told by their texts.
+    pub fn data_at(&self, path: &[Text]) -> Result<u8, AllocError>
+        ensures { IfOk result (λ d. d ≡ data_of (subtree subscript_cmp path.now self.now)) }
+    {
+        match self.at_texts(path)? {
+            None => Ok(0),
+            Some(node) => Ok(node.own_data()),
+        }
+    }
+
+    // Whether it has a text, and whether one stands below it.
+    fn own_data(&self) -> u8
+        ensures { result ≡ data_of self.now }
+    {
+        match (self.text.is_some(), self.children.is_empty()) {
+            (false, true) => 0,
+            (true, true) => 1,
+            (false, false) => 10,
+            (true, false) => 11,
+        }
+    }
+
     /// The next subscript after `last` at the place below `front`, in a direction. From the empty one it is the first.
     pub fn order(&self, front: &[Sub], last: &Sub, direction: Direction) -> Option<&Sub>
         ensures { option_copied result ≡ next_past subscript_cmp direction (is_empty last.now) last.now (first_subscripts (subtree subscript_cmp front.now self.now)) }
@@ -116,6 +161,24 @@ impl Node {
                 Direction::Forward => key_after(&node.children, last),
                 Direction::Backward => key_before(&node.children, last),
             },
+        }
+    }
+
+    /// The same of subscripts that are told by their texts.
+    pub fn order_at(
+        &self,
+        front: &[Text],
+        last: &Text,
+        direction: Direction,
+    ) -> Result<Option<&Sub>, AllocError>
+        ensures { IfOk result (λ next. option_copied next ≡ next_past subscript_cmp direction (is_empty last.now) last.now (first_subscripts (subtree subscript_cmp front.now self.now))) }
+    {
+        match self.at_texts(front)? {
+            None => Ok(None),
+            Some(node) => {
+                let last = Sub::from_text(last.try_clone()?);
+                Ok(node.order(&[], &last, direction))
+            }
         }
     }
 
@@ -338,6 +401,17 @@ fn chain(alloc: Global, path: &[Sub], text: Text) -> Result<Node, AllocError>
             })
         }
     }
+}
+
+// The child at the subscript of a text.
+fn child_at<'a>(
+    children: &'a BTreeMap<Sub, Node>,
+    text: &Text,
+) -> Result<Option<&'a Node>, AllocError>
+    ensures { IfOk result (λ child. option_copied child ≡ lookup (is_at (subscript_cmp text.now)) children.now.entries) }
+{
+    let sub = Sub::from_text(text.try_clone()?);
+    Ok(children.get(&sub))
 }
 
 // One child more, or another one in place of that at its subscript.

@@ -1,6 +1,6 @@
 // A tree: what stands at the names of one word.
 
-ghost use Rattle.std.specs.Prelude.{◌≡◌, ◌↔◌, ◌++◌, if◌then◌else◌, [], option_copied, IsTrue, IfOk, IfErr, OnOk, OnErr, T};
+ghost use Rattle.std.specs.Prelude.{◌≡◌, ◌↔◌, ◌++◌, ◌∷◌, if◌then◌else◌, [], option_copied, IsTrue, IfOk, IfErr, OnOk, OnErr, T};
 ghost use Rattle.std.specs.FinMap.{find, put, is_sorted};
 ghost use Rattle.std.specs.Cmp.Lexicographic.{slice_cmp};
 ghost use Rattle.mj_subs.specs.Collation.{subscript_cmp};
@@ -75,6 +75,13 @@ impl Tree {
         self.root.value(path.as_slice())
     }
 
+    /// The text at a list of subscripts that are told by their texts. No list of subscripts is made.
+    pub fn value_at(&self, path: &[Text]) -> Result<Option<&Text>, AllocError>
+        ensures { IfOk result (λ text. option_copied text ≡ find (slice_cmp subscript_cmp) path.now self.now) }
+    {
+        self.root.value_at(path)
+    }
+
     /// The text at the list without a subscript.
     pub fn own_text(&self) -> Option<&Text>
         ensures { option_copied result ≡ find (slice_cmp subscript_cmp) [] self.now }
@@ -89,6 +96,13 @@ impl Tree {
         self.root.data(path.as_slice())
     }
 
+    /// The same of subscripts that are told by their texts. No list of subscripts is made.
+    pub fn data_at(&self, path: &[Text]) -> Result<u8, AllocError>
+        ensures { IfOk result (λ d. d ≡ data_of (subtree subscript_cmp path.now self.now)) }
+    {
+        self.root.data_at(path)
+    }
+
     /// The next subscript in place of the last one, in a direction. From the empty subscript it is the first. There is none at the end,
     /// and in place of no subscript.
     pub fn order(&self, path: &Subs, direction: Direction) -> Option<&Sub>
@@ -96,6 +110,16 @@ impl Tree {
     {
         let (last, front) = path.as_slice().split_last()?;
         self.root.order(front, last, direction)
+    }
+
+    /// The same of subscripts that are told by their texts. No list of subscripts is made.
+    pub fn order_at(&self, path: &[Text], direction: Direction) -> Result<Option<&Sub>, AllocError>
+        ensures { IfOk result (λ next. option_copied next ≡ order_in path.now direction self.now) }
+    {
+        match path.split_last() {
+            None => Ok(None),
+            Some((last, front)) => self.root.order_at(front, last, direction),
+        }
     }
 
     /// The next list of subscripts with a text.
@@ -129,6 +153,44 @@ impl Tree {
         self.root.set(self.alloc, path.as_slice(), text)
     }
 
+    /// The list of the subscripts that are told by their texts has this text from now on.
+    pub fn set_at(&mut self, path: &[Text], text: &Text) -> Result<(), AllocError>
+        ensures ok { OnOk result (self.new ≡ put (slice_cmp subscript_cmp) path.now text.now self.old) }
+        ensures err { OnErr result (self.new ≡ self.old) }
+    {
+        match path {
+            [one] => self.set_one(one, text),
+            [one, two] => self.set_two(one, two, text),
+            _ => {
+                let path = listed(self.alloc, path)?;
+                self.set(&path, text)
+            }
+        }
+    }
+
+    // The same of one subscript, which stands in place.
+    fn set_one(&mut self, one: &Text, text: &Text) -> Result<(), AllocError>
+        ensures ok { OnOk result (self.new ≡ put (slice_cmp subscript_cmp) (one.now ∷ []) text.now self.old) }
+        ensures err { OnErr result (self.new ≡ self.old) }
+    {
+        let text = text.try_clone()?;
+        let path = [Sub::from_text(one.try_clone()?)];
+        self.root.set(self.alloc, &path, text)
+    }
+
+    // The same of two.
+    fn set_two(&mut self, one: &Text, two: &Text, text: &Text) -> Result<(), AllocError>
+        ensures ok { OnOk result (self.new ≡ put (slice_cmp subscript_cmp) (one.now ∷ two.now ∷ []) text.now self.old) }
+        ensures err { OnErr result (self.new ≡ self.old) }
+    {
+        let text = text.try_clone()?;
+        let path = [
+            Sub::from_text(one.try_clone()?),
+            Sub::from_text(two.try_clone()?),
+        ];
+        self.root.set(self.alloc, &path, text)
+    }
+
     /// The list without a subscript has this text from now on. It takes no memory.
     pub fn assign(&mut self, text: Text)
         ensures { self.new ≡ put (slice_cmp subscript_cmp) [] text self.old }
@@ -141,6 +203,31 @@ impl Tree {
         ensures { self.new ≡ without subscript_cmp path.now self.old }
     {
         self.root.kill(path.as_slice());
+    }
+
+    /// The list of the subscripts that are told by their texts and every list below it go.
+    pub fn kill_at(&mut self, path: &[Text]) -> Result<(), AllocError>
+        ensures ok { OnOk result (self.new ≡ without subscript_cmp path.now self.old) }
+        ensures err { OnErr result (self.new ≡ self.old) }
+    {
+        match path {
+            [one] => self.kill_one(one),
+            _ => {
+                let path = listed(self.alloc, path)?;
+                self.kill(&path);
+                Ok(())
+            }
+        }
+    }
+
+    // The same of one subscript, which stands in place.
+    fn kill_one(&mut self, one: &Text) -> Result<(), AllocError>
+        ensures ok { OnOk result (self.new ≡ without subscript_cmp (one.now ∷ []) self.old) }
+        ensures err { OnErr result (self.new ≡ self.old) }
+    {
+        let path = [Sub::from_text(one.try_clone()?)];
+        self.root.kill(&path);
+        Ok(())
     }
 
     /// The list followed by each of the nodes' lists has that node's text from now on. Nothing goes. `Limit` where one would be too
@@ -243,6 +330,17 @@ impl Clone for Tree {
     fn clone(&self) -> Result<Tree, AllocError> {
         self.try_clone()
     }
+}
+
+// Texts as subscripts, of which there are no more than a list has.
+fn listed(alloc: Global, texts: &[Text]) -> Result<Subs, AllocError>
+    ensures { IfOk result (λ list. list ≡ texts.now) }
+{
+    let mut list = Subs::new(alloc);
+    for text in texts {
+        append(&mut list, &Sub::from_text(text.try_clone()?))?;
+    }
+    Ok(list)
 }
 
 // One list behind the other, which together are short enough.
