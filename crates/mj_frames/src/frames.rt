@@ -82,6 +82,7 @@ impl Frames {
     }
 
     /// The innermost one, if there is one, stands at a line of this routine. It takes memory only where the routine is another.
+    #[inline(always)]
     pub fn enter(&mut self, routine: &Text, line: u32) -> Result<(), AllocError>
         requires { length routine.now ≤ 31 }
         ensures ok { OnOk result (self.new ≡ with_place (record { routine = routine.now; line = line }) self.old) }
@@ -136,6 +137,7 @@ fn stand(frames: &mut [Frame], place: Place)
 }
 
 // Moves the innermost frame, which lies last, to a line, if there is a frame.
+#[inline(always)]
 fn move_to(frames: &mut [Frame], routine: &Text, line: u32) -> Result<(), AllocError>
     requires { length routine.now ≤ 31 }
     ensures ok { OnOk result (frames_of frames.new ≡ with_place (record { routine = routine.now; line = line }) (frames_of frames.old)) }
@@ -148,6 +150,16 @@ fn move_to(frames: &mut [Frame], routine: &Text, line: u32) -> Result<(), AllocE
         frame.place.line = line;
         return Ok(());
     }
+    move_away(frame, routine, line)
+}
+
+// Moves a frame to a line of another routine. It lies apart, since lines are entered often, and seldom so.
+#[inline(never)]
+fn move_away(frame: &mut Frame, routine: &Text, line: u32) -> Result<(), AllocError>
+    requires { length routine.now ≤ 31 }
+    ensures ok { OnOk result (frame_of frame.new ≡ record (frame_of frame.old) { place = record { routine = routine.now; line = line } }) }
+    ensures err { OnErr result (frame.new ≡ frame.old) }
+{
     let routine = routine.try_clone()?;
     frame.place = Place { routine, line };
     Ok(())
