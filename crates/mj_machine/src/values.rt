@@ -2,8 +2,6 @@
 
 ghost use Rattle.std.specs.Prelude.{◌≡◌, ℕ, ◌+◌, ◌<◌, ◌^◌, List, Result, IfOk, OnErr, ◌≤◌, length};
 ghost use Rattle.mj_text.specs.declared.fault.Fault as faults;
-ghost use Rattle.mj_text.specs.Failing.{Answers};
-ghost use Rattle.mj_oper.specs.Operators.{binary_value};
 ghost use Rattle.mj_oper.specs.declared.op.Op.TheVariants as ops;
 ghost use Rattle.mj_strfn.specs.Functions.{AnswersOrMemory};
 ghost use Rattle.mj_semantics.specs.Outcome as told;
@@ -132,16 +130,17 @@ fn apply_join(pc: usize, machine: &mut Machine) -> Result<Step, AllocError>
     ensures ok { IfOk result (λ step. ObeysAlone (instrs.Binary ops.Join) pc machine.old step machine.new) }
     ensures err { OnErr result (Stays machine.old machine.new) }
 {
-    let text = joined(stack::second(&machine.stack), stack::top(&machine.stack));
-    put_value(pc, 2, text, machine)?;
-    Ok(Step::Next)
-}
-
-// Two texts, one behind the other.
-fn joined(left: &Text, right: &Text) -> Result<Text, Failure>
-    ensures { Answers (binary_value ops.Join left.now right.now) result }
-{
-    left.join(right)
+    match stack::join(&mut machine.stack) {
+        Ok(()) => {
+            machine.control = Control::At(pc + 1);
+            Ok(Step::Next)
+        }
+        Err(Failure::Fault(fault)) => {
+            machine.control = Control::Faulted(fault);
+            Ok(Step::Next)
+        }
+        Err(Failure::Memory) => Err(AllocError),
+    }
 }
 
 // An operator between operands that may be any texts. It lies apart, so that numbers don't clear its room.

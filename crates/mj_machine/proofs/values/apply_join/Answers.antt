@@ -1,26 +1,35 @@
-use Rattle.std.proofs.Common.{◌≡◌, ◌+◌, ◌∷◌, List, ℕ, reverse, ap, ◌∙◌, subst}
-use Rattle.std.specs.Prelude.{Result}
-use Rattle.mj_text.specs.declared.fault.Fault.{Fault}
-use Rattle.mj_text.specs.Failing.{Answers}
-use Rattle.mj_oper.specs.Operators.{binary_value}
-use Rattle.mj_oper.specs.declared.op.Op.TheVariants as ops
-use Rattle.mj_semantics.specs.Outcome.{Timed, given}
-use Rattle.mj_pcode.specs.Machine.{Next, top, below}
-use Rattle.mj_machine.specs.declared.machine.Step.TheVariants as steps
-use Rattle.mj_machine.specs.Kept.{stack_of, state_of, context_of, with_value}
-use Rattle.mj_machine.proofs.Operands.{below_twice}
-use Rattle.mj_machine.proofs.Asks.{does_as, or_memory}
+use Rattle.std.proofs.Common.{◌+◌, ◌∷◌, ◌++◌, List, ℕ, sym, ap, ◌∙◌}
+use Rattle.std.specs.Prelude.{Ok, Err}
+use Rattle.mj_oper.specs.Operators.{joined}
+use Rattle.mj_semantics.specs.Outcome.{Timed}
+use Rattle.mj_pcode.specs.Machine.{top, below}
+use Rattle.mj_machine.specs.Standing.{given_first}
+use Rattle.mj_machine.specs.Kept.{stack_of, state_of, restart_of, context_of}
+use Rattle.mj_machine.proofs.Asks.{given_is}
+use Rattle.mj_machine.proofs.Joins.{joins, joins_not}
 use Rattle.mj_machine.proofs.values.apply_join.Goals as goal
 
-pub returns-clause-ok : goal.returns-clause-ok
-returns-clause-ok c = λ reply all u.
-    let old = c.args.machine.now in
-    let l : c.second.result.now ≡ top (below (stack_of old)) = c.second.ensures ∙ ap (λ l. top (below (reverse l))) c.deref.ensures.value in
-    let r : c.top.result.now ≡ top (stack_of old) = c.top.ensures ∙ ap (λ l. top (reverse l)) c.deref-2.ensures.value in
-    let w : Result (List ℕ) Fault = binary_value ops.Join (top (below (stack_of old))) (top (stack_of old)) in
-    let P : List ℕ → Type 0 = λ x. Answers (binary_value ops.Join x c.top.result.now) c.joined-text.result in
-    let Q : List ℕ → Type 0 = λ x. Answers (binary_value ops.Join (top (below (stack_of old))) x) c.joined-text.result in
-    let goes : Next → List (List ℕ) → Timed = λ next l. given w (λ v. next (context_of old) (c.args.pc + 1) (v ∷ l)) in
-    does_as (λ next. goes next (below (below (stack_of old)))) (λ next. given w (with_value old c.args.pc 2 next)) old reply steps.Next c.put_value.new.machine
-    (λ next n back replies. ap (λ l. goes next l n back (state_of old) replies) (below_twice (stack_of old)))
-    (c.in_ok-put_value.ensures.ok w (or_memory _ c.joined-text.result (subst Q r (subst P l c.joined-text.ensures))) reply)
+pub returns-in-Ok-clause-ok : goal.returns-in-Ok-clause-ok
+returns-in-Ok-clause-ok c = λ reply all u. (
+  tt,
+  λ next n handle replies.
+      let old = c.args.machine.now in
+      let l : List ℕ = top (below (stack_of old)) in
+      let r : List ℕ = top (stack_of old) in
+      let rest : List ℕ → Timed = λ v. next (context_of old) (c.args.pc + 1) (v ∷ below (below (stack_of old))) in
+      given_is (joined l r) (Ok (l ++ r)) rest n (handle (restart_of old)) (state_of old) (given_first reply replies)
+      (joins l r c.join.result _ c.join.ensures.long c.in-Ok.is)
+      ∙ ap (λ st. next (context_of old) (c.args.pc + 1) st n (handle (restart_of old)) (state_of old) (given_first reply replies)) (sym c.in-Ok.ensures.ok),
+)
+
+pub returns-in-Err-Fault-clause-ok : goal.returns-in-Err-Fault-clause-ok
+returns-in-Err-Fault-clause-ok c = λ reply all u. (
+  tt,
+  λ next n handle replies.
+      let old = c.args.machine.now in
+      let l : List ℕ = top (below (stack_of old)) in
+      let r : List ℕ = top (stack_of old) in
+      let rest : List ℕ → Timed = λ v. next (context_of old) (c.args.pc + 1) (v ∷ below (below (stack_of old))) in
+      given_is (joined l r) (Err c.in-Err-Fault.fault) rest n (handle (restart_of old)) (state_of old) (given_first reply replies)
+      (joins_not l r c.join.result _ c.in-Err-Fault.fault c.join.ensures.long c.join.ensures.within c.in-Err-Fault.is c.in-Err-Fault.field-0-is),
+)
