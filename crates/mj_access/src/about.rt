@@ -1,6 +1,7 @@
 // Functions of variables.
 
-ghost use Rattle.std.specs.Prelude.{◌≡◌, ◌+◌, ◌<◌, ◌^◌, true, false, option_copied, IfOk, OnErr, ◌≤◌, length};
+ghost use Rattle.std.specs.Prelude.{◌≡◌, ◌+◌, ◌<◌, ◌^◌, true, false, option_copied, IsTrue, IfOk, OnErr, ◌≤◌, length};
+ghost use Rattle.mj_ast.specs.declared.expr.Scope.TheVariants as scopes;
 ghost use Rattle.mj_store.specs.Runs as runs;
 ghost use Rattle.mj_semantics.specs.Functions.{optional};
 ghost use Rattle.mj_semantics.specs.Names.{asks as asks_of};
@@ -11,9 +12,9 @@ ghost use Rattle.mj_machine.specs.Kept.{Does, DoesAlone, Obeys, ObeysAlone, Stay
 
 use crate::globals::{ask, at_hand};
 use crate::names::{name_for, refusal_for};
-use crate::tellings::{asks, question, spelled, told_by, told_here};
+use crate::tellings::{asks, question, spelled, tells_no_name, told_by, told_here, told_under};
 use mj_ask::Reply;
-use mj_ast::NameFunction;
+use mj_ast::{NameFunction, Scope};
 use mj_machine::quiet::fail;
 use mj_machine::values::{put_told, put_value};
 use mj_machine::{Control, Machine, Step, stack};
@@ -46,6 +47,76 @@ pub fn named(
 /// What a function gives is put in the place of the `count` operands that it takes.
 #[inline(never)]
 pub fn about(
+    alloc: Global,
+    pc: usize,
+    function: NameFunction,
+    reference: &Reference,
+    count: usize,
+    machine: &mut Machine,
+    given: Option<&Reply>,
+) -> Result<Step, AllocError>
+    requires next { pc + 1 < 2 ^ 64 }
+    requires whole { reference.now.count ≤ count }
+    requires enough { count ≤ length machine.old.stack.items }
+    ensures ok { IfOk result (λ step. Obeys (instrs.About function reference.now count) pc machine.old (replied given.entry) step machine.new) }
+    ensures err { OnErr result (Stays machine.old machine.new) }
+{
+    if is_told_here(function, reference) {
+        return about_local(alloc, pc, function, reference, count, machine);
+    }
+    about_named(alloc, pc, function, reference, count, machine, given)
+}
+
+/// Whether it is a local, and the function needs no name of it.
+fn is_told_here(function: NameFunction, reference: &Reference) -> bool
+    ensures { IsTrue result → (reference.now.scope ≡ scopes.Local) × (asked.tells_no_name function ≡ true) }
+{
+    match reference.scope {
+        Scope::Local => tells_no_name(function),
+        Scope::Global => false,
+    }
+}
+
+/// What a function gives of a local is put in the place of the operands. No name is made.
+#[inline(never)]
+fn about_local(
+    alloc: Global,
+    pc: usize,
+    function: NameFunction,
+    reference: &Reference,
+    count: usize,
+    machine: &mut Machine,
+) -> Result<Step, AllocError>
+    requires next { pc + 1 < 2 ^ 64 }
+    requires local { reference.now.scope ≡ scopes.Local }
+    requires tells { asked.tells_no_name function ≡ true }
+    requires whole { reference.now.count ≤ count }
+    requires enough { count ≤ length machine.old.stack.items }
+    ensures ok { IfOk result (λ step. ObeysAlone (instrs.About function reference.now count) pc machine.old step machine.new) }
+    ensures err { OnErr result (Stays machine.old machine.new) }
+{
+    let others = count - reference.count;
+    let subscripts = stack::topmost(stack::under(&machine.stack, others), reference.count);
+    if let Some(fault) = refusal_for(function, subscripts) {
+        return Ok(fail(fault, machine));
+    }
+    let other = foremost(stack::topmost(&machine.stack, others));
+    let word = &reference.word;
+    let value = told_under(alloc, function, word, subscripts, other, &machine.locals);
+    put_value(pc, count, value, machine)?;
+    Ok(Step::Next)
+}
+
+/// The first text where it stands, if there is one.
+fn foremost(texts: &[Text]) -> Option<&Text>
+    ensures { option_copied result ≡ optional 0 texts.now }
+{
+    texts.get(0)
+}
+
+/// The same for any variable, by its name.
+#[inline(never)]
+fn about_named(
     alloc: Global,
     pc: usize,
     function: NameFunction,

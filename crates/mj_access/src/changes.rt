@@ -1,6 +1,7 @@
 // Assigning variables, and taking them away.
 
-ghost use Rattle.std.specs.Prelude.{◌≡◌, ◌+◌, ◌<◌, ◌^◌, true, false, IfOk, OnErr, ◌≤◌, length};
+ghost use Rattle.std.specs.Prelude.{◌≡◌, ◌+◌, ◌<◌, ◌^◌, true, false, drop, IfOk, OnErr, ◌≤◌, length};
+ghost use Rattle.mj_ast.specs.declared.expr.Scope.TheVariants as scopes;
 ghost use Rattle.mj_store.specs.Runs.{name_of as name_in};
 ghost use Rattle.mj_semantics.specs.State.{plain_name};
 ghost use Rattle.mj_semantics.specs.Outcome as told;
@@ -9,18 +10,18 @@ ghost use Rattle.mj_semantics.specs.Accesses as accesses;
 ghost use Rattle.mj_semantics.specs.Accesses.{answer_told};
 ghost use Rattle.mj_access.specs.Answers as answers;
 ghost use Rattle.mj_pcode.specs.declared.instr.Instr.TheVariants as instrs;
-ghost use Rattle.mj_pcode.specs.Machine.{top};
-ghost use Rattle.mj_machine.specs.Kept.{stack_of, DidAlone, Does, DoesAlone, Obeys, Stays, without, replied};
+ghost use Rattle.mj_pcode.specs.Machine.{top, operands};
+ghost use Rattle.mj_machine.specs.Kept.{stack_of, DidAlone, Does, DoesAlone, Obeys, ObeysAlone, Stays, without, replied};
 
 use crate::globals::{ask, at_hand};
-use crate::names::name_below;
+use crate::names::{name_below, refusal};
 use crate::variables::is_plain_local;
 use mj_ask::Reply;
+use mj_ast::Scope;
 use mj_machine::quiet::fail;
 use mj_machine::{Control, Machine, Step, stack};
 use mj_pcode::{Depth, Reference};
 use mj_store::{Access, Answer};
-use mj_subs::Name;
 use mj_text::{Fault, Text};
 use std::alloc::{AllocError, Global};
 
@@ -44,7 +45,10 @@ pub fn store(
     if is_plain_local(reference) {
         return store_word(pc, &reference.word, depth.taken, machine);
     }
-    store_named(alloc, pc, reference, depth, machine, given)
+    match reference.scope {
+        Scope::Local => store_subscripted(pc, reference, depth, machine),
+        Scope::Global => store_named(alloc, pc, reference, depth, machine, given),
+    }
 }
 
 // The topmost operand is assigned to a local without subscripts, and then `taken` operands are taken off.
@@ -66,7 +70,54 @@ fn store_word(
     Ok(Step::Next)
 }
 
-// The topmost operand is assigned to any variable whose subscripts lie at a depth.
+// The topmost operand is assigned to a local whose subscripts lie at a depth. No name is made.
+#[inline(never)]
+fn store_subscripted(
+    pc: usize,
+    reference: &Reference,
+    depth: Depth,
+    machine: &mut Machine,
+) -> Result<Step, AllocError>
+    requires next { pc + 1 < 2 ^ 64 }
+    requires local { reference.now.scope ≡ scopes.Local }
+    requires value { 1 ≤ length machine.old.stack.items }
+    requires enough { depth.above + reference.now.count ≤ length machine.old.stack.items }
+    requires taken { depth.taken ≤ length machine.old.stack.items }
+    ensures ok { IfOk result (λ step. ObeysAlone (instrs.Store reference.now depth) pc machine.old step machine.new) }
+    ensures err { OnErr result (Stays machine.old machine.new) }
+{
+    let subscripts = stack::below_both(&machine.stack, depth.above, 0, reference.count);
+    if let Some(fault) = refusal(subscripts) {
+        return Ok(fail(fault, machine));
+    }
+    store_under(pc, &reference.word, reference.count, depth, machine)
+}
+
+// The topmost operand is assigned to the local of this word, so many subscripts of which lie at a depth.
+fn store_under(
+    pc: usize,
+    word: &Text,
+    count: usize,
+    depth: Depth,
+    machine: &mut Machine,
+) -> Result<Step, AllocError>
+    requires next { pc + 1 < 2 ^ 64 }
+    requires value { 1 ≤ length machine.old.stack.items }
+    requires enough { depth.above + count ≤ length machine.old.stack.items }
+    requires taken { depth.taken ≤ length machine.old.stack.items }
+    ensures ok { IfOk result (λ step. DoesAlone (λ next. commands.store (answers.local_with word.now (operands count (drop depth.above (stack_of machine.old)))) (top (stack_of machine.old)) (without machine.old pc depth.taken next)) machine.old step machine.new) }
+    ensures err { OnErr result (Stays machine.old machine.new) }
+{
+    let subscripts = stack::below_both(&machine.stack, depth.above, 0, count);
+    machine
+        .locals
+        .set_under(word, subscripts, stack::top(&machine.stack))?;
+    stack::take_off(&mut machine.stack, depth.taken);
+    machine.control = Control::At(pc + 1);
+    Ok(Step::Next)
+}
+
+// The topmost operand is assigned to a global whose subscripts lie at a depth.
 #[inline(never)]
 fn store_named(
     alloc: Global,
@@ -77,6 +128,7 @@ fn store_named(
     given: Option<&Reply>,
 ) -> Result<Step, AllocError>
     requires next { pc + 1 < 2 ^ 64 }
+    requires global { reference.now.scope ≡ scopes.Global }
     requires value { 1 ≤ length machine.old.stack.items }
     requires enough { depth.above + reference.now.count ≤ length machine.old.stack.items }
     requires taken { depth.taken ≤ length machine.old.stack.items }
@@ -87,11 +139,6 @@ fn store_named(
         Ok(name) => name,
         Err(fault) => return Ok(fail(fault, machine)),
     };
-    if !name.is_global() {
-        let step = store_local(pc, depth.taken, &name, machine);
-        drop(name);
-        return step;
-    }
     let value = stack::top(&machine.stack).try_clone()?;
     change_global(
         alloc,
@@ -101,26 +148,6 @@ fn store_named(
         machine,
         given,
     )
-}
-
-// The topmost operand is assigned to a local, and then `taken` operands are taken off.
-fn store_local(
-    pc: usize,
-    taken: usize,
-    name: &Name,
-    machine: &mut Machine,
-) -> Result<Step, AllocError>
-    requires next { pc + 1 < 2 ^ 64 }
-    requires local { name.now.global ≡ false }
-    requires value { 1 ≤ length machine.old.stack.items }
-    requires enough { taken ≤ length machine.old.stack.items }
-    ensures ok { IfOk result (λ step. DoesAlone (λ next. commands.store name.now (top (stack_of machine.old)) (without machine.old pc taken next)) machine.old step machine.new) }
-    ensures err { OnErr result (Stays machine.old machine.new) }
-{
-    machine.locals.set(name, stack::top(&machine.stack))?;
-    stack::take_off(&mut machine.stack, taken);
-    machine.control = Control::At(pc + 1);
-    Ok(Step::Next)
 }
 
 /// The variable whose subscripts lie on top goes, with all that is below it.
@@ -137,15 +164,64 @@ pub fn kill(
     ensures ok { IfOk result (λ step. Obeys (instrs.Kill reference.now) pc machine.old (replied given.entry) step machine.new) }
     ensures err { OnErr result (Stays machine.old machine.new) }
 {
+    match reference.scope {
+        Scope::Local => kill_local(pc, reference, machine),
+        Scope::Global => kill_named(alloc, pc, reference, machine, given),
+    }
+}
+
+// A local goes, with all that is below it. No name is made.
+fn kill_local(pc: usize, reference: &Reference, machine: &mut Machine) -> Result<Step, AllocError>
+    requires next { pc + 1 < 2 ^ 64 }
+    requires local { reference.now.scope ≡ scopes.Local }
+    requires enough { reference.now.count ≤ length machine.old.stack.items }
+    ensures ok { IfOk result (λ step. ObeysAlone (instrs.Kill reference.now) pc machine.old step machine.new) }
+    ensures err { OnErr result (Stays machine.old machine.new) }
+{
+    if let Some(fault) = refusal(stack::topmost(&machine.stack, reference.count)) {
+        return Ok(fail(fault, machine));
+    }
+    kill_under(pc, &reference.word, reference.count, machine)
+}
+
+// The local of this word, so many subscripts of which lie on top, goes with all that is below it.
+fn kill_under(
+    pc: usize,
+    word: &Text,
+    count: usize,
+    machine: &mut Machine,
+) -> Result<Step, AllocError>
+    requires next { pc + 1 < 2 ^ 64 }
+    requires enough { count ≤ length machine.old.stack.items }
+    ensures ok { IfOk result (λ step. DoesAlone (λ next. commands.remove (answers.local_with word.now (operands count (stack_of machine.old))) (without machine.old pc count next)) machine.old step machine.new) }
+    ensures err { OnErr result (Stays machine.old machine.new) }
+{
+    let subscripts = stack::topmost(&machine.stack, count);
+    machine.locals.kill_under(word, subscripts)?;
+    stack::take_off(&mut machine.stack, count);
+    machine.control = Control::At(pc + 1);
+    Ok(Step::Next)
+}
+
+// A global goes, with all that is below it.
+#[inline(never)]
+fn kill_named(
+    alloc: Global,
+    pc: usize,
+    reference: &Reference,
+    machine: &mut Machine,
+    given: Option<&Reply>,
+) -> Result<Step, AllocError>
+    requires next { pc + 1 < 2 ^ 64 }
+    requires global { reference.now.scope ≡ scopes.Global }
+    requires enough { reference.now.count ≤ length machine.old.stack.items }
+    ensures ok { IfOk result (λ step. Obeys (instrs.Kill reference.now) pc machine.old (replied given.entry) step machine.new) }
+    ensures err { OnErr result (Stays machine.old machine.new) }
+{
     let name = match name_below(alloc, reference, machine, 0, 0)? {
         Ok(name) => name,
         Err(fault) => return Ok(fail(fault, machine)),
     };
-    if !name.is_global() {
-        let step = kill_local(pc, reference.count, &name, machine);
-        drop(name);
-        return Ok(step);
-    }
     change_global(
         alloc,
         pc,
@@ -154,19 +230,6 @@ pub fn kill(
         machine,
         given,
     )
-}
-
-// A local goes, with all that is below it, and then `taken` operands are taken off.
-fn kill_local(pc: usize, taken: usize, name: &Name, machine: &mut Machine) -> Step
-    requires next { pc + 1 < 2 ^ 64 }
-    requires local { name.now.global ≡ false }
-    requires enough { taken ≤ length machine.old.stack.items }
-    ensures { DoesAlone (λ next. commands.remove name.now (without machine.old pc taken next)) machine.old result machine.new }
-{
-    machine.locals.kill(name);
-    stack::take_off(&mut machine.stack, taken);
-    machine.control = Control::At(pc + 1);
-    Step::Next
 }
 
 // Goes on with `taken` operands less behind a change that is done, or fails.

@@ -5,7 +5,8 @@
 // of memory the machine stands where it stood.
 //
 // Variables are read (`variables`), assigned and taken away (`changes`), asked about (`about`), and merged (`merges`), and pieces of their values are
-// assigned (`pieces`). Their names are made of the operands that are their subscripts (`names`).
+// assigned (`pieces`). A local is reached by its word and by the operands that are its subscripts, as they lie on the stack; names are made of them (`names`)
+// for globals, and for locals in `$NAME`, `$QUERY`, MERGE, pieces and FOR.
 #![tactic(auto)]
 
 pub mod about;

@@ -7,8 +7,9 @@ ghost use Rattle.mj_semantics.specs.Evaluation as evaluation;
 ghost use Rattle.mj_semantics.specs.Accesses.{answer_told};
 ghost use Rattle.mj_strfn.specs.Functions.{AnswersOrMemory};
 ghost use Rattle.mj_access.specs.Answers as answers;
+ghost use Rattle.mj_pcode.specs.Machine.{operands};
 ghost use Rattle.mj_pcode.specs.declared.instr.Instr.TheVariants as instrs;
-ghost use Rattle.mj_machine.specs.Kept.{Does, DoesAlone, Obeys, ObeysAlone, Stays, with_value, replied};
+ghost use Rattle.mj_machine.specs.Kept.{Does, DoesAlone, Obeys, ObeysAlone, Stays, stack_of, with_value, replied};
 
 use crate::globals::{ask, at_hand};
 use crate::names::{name_of, refusal};
@@ -40,7 +41,10 @@ pub fn load(
     if is_plain_local(reference) {
         return read_word(pc, &reference.word, machine);
     }
-    load_named(alloc, pc, reference, machine, given)
+    match reference.scope {
+        Scope::Local => load_local(pc, reference, machine),
+        Scope::Global => load_named(alloc, pc, reference, machine, given),
+    }
 }
 
 /// Whether a variable is a local without subscripts, whose name needn't be made.
@@ -71,7 +75,46 @@ fn read_word(pc: usize, word: &Text, machine: &mut Machine) -> Result<Step, Allo
     }
 }
 
-// The value of any variable is put in the place of its subscripts.
+// The value of a local is put in the place of its subscripts. No name is made.
+#[inline(never)]
+fn load_local(pc: usize, reference: &Reference, machine: &mut Machine) -> Result<Step, AllocError>
+    requires next { pc + 1 < 2 ^ 64 }
+    requires local { reference.now.scope ≡ scopes.Local }
+    requires enough { reference.now.count ≤ length machine.old.stack.items }
+    ensures ok { IfOk result (λ step. ObeysAlone (instrs.Load reference.now) pc machine.old step machine.new) }
+    ensures err { OnErr result (Stays machine.old machine.new) }
+{
+    if let Some(fault) = refusal(stack::topmost(&machine.stack, reference.count)) {
+        return Ok(fail(fault, machine));
+    }
+    read_under(pc, &reference.word, reference.count, machine)
+}
+
+// The value of the local of this word, whose subscripts lie on top, is put in their place.
+fn read_under(
+    pc: usize,
+    word: &Text,
+    count: usize,
+    machine: &mut Machine,
+) -> Result<Step, AllocError>
+    requires next { pc + 1 < 2 ^ 64 }
+    requires enough { count ≤ length machine.old.stack.items }
+    ensures ok { IfOk result (λ step. DoesAlone (λ next. evaluation.read (answers.local_with word.now (operands count (stack_of machine.old))) (with_value machine.old pc count next)) machine.old step machine.new) }
+    ensures err { OnErr result (Stays machine.old machine.new) }
+{
+    let subscripts = stack::topmost(&machine.stack, count);
+    match machine.locals.value_under(word, subscripts)? {
+        Some(value) => {
+            let value = value.try_clone()?;
+            stack::replace(&mut machine.stack, count, value)?;
+            machine.control = Control::At(pc + 1);
+            Ok(Step::Next)
+        }
+        None => Ok(fail(Fault::Undefined, machine)),
+    }
+}
+
+// The value of a global is put in the place of its subscripts.
 #[inline(never)]
 fn load_named(
     alloc: Global,
@@ -81,6 +124,7 @@ fn load_named(
     given: Option<&Reply>,
 ) -> Result<Step, AllocError>
     requires next { pc + 1 < 2 ^ 64 }
+    requires global { reference.now.scope ≡ scopes.Global }
     requires enough { reference.now.count ≤ length machine.old.stack.items }
     ensures ok { IfOk result (λ step. Obeys (instrs.Load reference.now) pc machine.old (replied given.entry) step machine.new) }
     ensures err { OnErr result (Stays machine.old machine.new) }
@@ -93,33 +137,7 @@ fn load_named(
         Ok(name) => name,
         Err(fault) => return Ok(fail(fault, machine)),
     };
-    if name.is_global() {
-        return read_global(alloc, pc, reference.count, name, machine, given);
-    }
-    read_local(pc, reference.count, &name, machine)
-}
-
-fn read_local(
-    pc: usize,
-    count: usize,
-    name: &Name,
-    machine: &mut Machine,
-) -> Result<Step, AllocError>
-    requires next { pc + 1 < 2 ^ 64 }
-    requires local { name.now.global ≡ false }
-    requires enough { count ≤ length machine.old.stack.items }
-    ensures ok { IfOk result (λ step. DoesAlone (λ next. evaluation.read name.now (with_value machine.old pc count next)) machine.old step machine.new) }
-    ensures err { OnErr result (Stays machine.old machine.new) }
-{
-    match machine.locals.value(name) {
-        Some(value) => {
-            let value = value.try_clone()?;
-            stack::replace(&mut machine.stack, count, value)?;
-            machine.control = Control::At(pc + 1);
-            Ok(Step::Next)
-        }
-        None => Ok(fail(Fault::Undefined, machine)),
-    }
+    read_global(alloc, pc, reference.count, name, machine, given)
 }
 
 #[inline(never)]

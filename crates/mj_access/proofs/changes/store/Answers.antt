@@ -29,3 +29,6 @@ returns-then-is_plain_local-clause-ok c =
     (λ next n back replies. given_is (name_of r.scope r.word (operands r.count (drop depth.above (stack_of old)))) (Ok x) (rest next) n back (state_of old) replies is)
     (d (replied c.args.given)))
     c.store_word.ensures.ok
+
+pub returns-in-Local-clause-ok : goal.returns-in-Local-clause-ok
+returns-in-Local-clause-ok c = IfOk-weaker c.store_subscripted.result _ _ (λ step d. d (replied c.args.given)) c.store_subscripted.ensures.ok

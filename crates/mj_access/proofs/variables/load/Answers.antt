@@ -28,3 +28,6 @@ returns-then-is_plain_local-clause-ok c =
     ∙ ap (λ (k : ℕ). read x (λ v. next (context_of old) (c.args.pc + 1) (v ∷ drop k (stack_of old))) n back (state_of old) replies) plain.1)
     (d (replied c.args.given)))
     c.read_word.ensures.ok
+
+pub returns-in-Local-clause-ok : goal.returns-in-Local-clause-ok
+returns-in-Local-clause-ok c = IfOk-weaker c.load_local.result _ _ (λ step d. d (replied c.args.given)) c.load_local.ensures.ok

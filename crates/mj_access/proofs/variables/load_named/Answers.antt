@@ -3,10 +3,11 @@ use Rattle.std.specs.Prelude.{Ok, Err}
 use Rattle.std.proofs.lemmas.Result.{IfOk-weaker}
 use Rattle.mj_subs.specs.Name.{Name}
 use Rattle.mj_semantics.specs.Outcome.{Timed, given, fault}
-use Rattle.mj_semantics.specs.Evaluation.{name_of, read}
+use Rattle.mj_semantics.specs.Evaluation.{is_global, name_of, read}
 use Rattle.mj_pcode.specs.Machine.{Next, operands}
 use Rattle.mj_machine.specs.Kept.{context_of, stack_of, state_of, replied}
 use Rattle.mj_machine.proofs.Asks.{does_as, given_is}
+use Rattle.mj_access.proofs.Named.{named_kind}
 use Rattle.mj_access.proofs.variables.load_named.Goals as goal
 
 pub returns-in-Err-clause-ok : goal.returns-in-Err-clause-ok
@@ -22,8 +23,8 @@ returns-in-Err-clause-ok c = λ all u.
     (λ next n back replies. given_is (name_of r.scope r.word (operands r.count (stack_of old))) (Err c.in-Err.fault) (rest next) n back (state_of old) replies is)
     (c.fail.ensures (replied c.args.given))
 
-pub returns-then-is_global-clause-ok : goal.returns-then-is_global-clause-ok
-returns-then-is_global-clause-ok c =
+pub returns-clause-ok : goal.returns-clause-ok
+returns-clause-ok c =
     let old = c.args.machine.now in
     let r = c.args.reference.now in
     let under = c.topmost.ensures ∙ ap (λ l. operands r.count (reverse l)) c.deref.ensures.value in
@@ -36,17 +37,8 @@ returns-then-is_global-clause-ok c =
     (λ next n back replies. given_is (name_of r.scope r.word (operands r.count (stack_of old))) (Ok c.in-Ok.name) (rest next) n back (state_of old) replies is) d)
     c.read_global.ensures.ok
 
-pub returns-clause-ok : goal.returns-clause-ok
-returns-clause-ok c =
-    let old = c.args.machine.now in
+pub read_global-requires-clause-global : goal.read_global-requires-clause-global
+read_global-requires-clause-global c =
     let r = c.args.reference.now in
-    let under = c.topmost.ensures ∙ ap (λ l. operands r.count (reverse l)) c.deref.ensures.value in
-    let rest : Next → Name → Timed = λ next x. read x (λ v. next (context_of old) (c.args.pc + 1) (v ∷ drop r.count (stack_of old))) in
-    let is : name_of r.scope r.word (operands r.count (stack_of old)) ≡ Ok c.in-Ok.name =
-    sym (c.in_ok-name.ensures ∙ ap (name_of r.scope r.word) under) ∙ c.in-Ok.is in
-    IfOk-weaker c.read_local.result _ _
-    (λ step d all u. does_as (λ next. given (name_of r.scope r.word (operands r.count (stack_of old))) (rest next)) (λ next. rest next c.in-Ok.name)
-    old (replied c.args.given) step _
-    (λ next n back replies. given_is (name_of r.scope r.word (operands r.count (stack_of old))) (Ok c.in-Ok.name) (rest next) n back (state_of old) replies is)
-    (d (replied c.args.given)))
-    c.read_local.ensures.ok
+    let ss = c.topmost.result.now in
+    named_kind r.scope r.word ss ss c.in-Ok.name (sym c.in_ok-name.ensures ∙ c.in-Ok.is) ∙ ap is_global c.requires.global
