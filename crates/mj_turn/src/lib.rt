@@ -21,4 +21,4 @@ mod start;
 mod turn;
 
 pub use start::Start;
-pub use turn::make_turn;
+pub use turn::{make_turn, obey};

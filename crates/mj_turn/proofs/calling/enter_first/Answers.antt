@@ -49,7 +49,7 @@ returns-clause-ok c = λ reply. (
       next (record { unit = f.at; loops = loops_of ls; calls = calls_of ks }) f.head.start st n (handle (restart_of c.open_frame.new.machine)) (state_of c.open_frame.new.machine) rs in
       called vs [] next to n (handle (restart_of old)) (state_of old) rs
       ∙ ap (λ r. given r (opens vs [] next) n (handle (restart_of old)) (state_of old) rs) e
-      ∙ ap (λ l. goes (in_state (opened_at f l (state_of old)) (standing old reply))) (sym (c.in_ok-values.ensures ∙ c.deref.ensures.value))
+      ∙ ap (λ l. goes (in_state (opened_at f l (state_of old)) (standing old reply))) (sym (c.as_mut_slice.ensures.value ∙ c.in_ok-values.ensures ∙ c.deref.ensures.value))
       ∙ ap goes (sym (c.in_ok-open_frame.ensures.ok reply))
       ∙ ap (λ ls. there ls [] tallied) (sym c.clear.ensures.items)
       ∙ ap (λ ks. there c.clear.new.self.items ks tallied) (sym c.clear-2.ensures.items)
