@@ -1,6 +1,0 @@
-use Rattle.std.proofs.Common.{◌≡◌, ◌++◌}
-use Rattle.std.specs.List.{repeat}
-use Rattle.mj_strfn.proofs.pieces.assembled.Given as goal
-
-abbrev pub invariant-loop-time : goal.invariant-loop-time
-invariant-loop-time l = l.bytes.items ≡ l.front ++ repeat l._time l.filling
