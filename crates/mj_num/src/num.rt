@@ -87,7 +87,8 @@ impl Num {
 
     /// What a text that is kept as a number counts as. `None` says nothing: such a text counts as what [`Num::read`] says.
     pub fn at_hand(text: &Text) -> Option<Num>
-        ensures { IfSome result (λ n. reading text.now ≡ Ok n) }
+        ensures reads { IfSome result (λ n. reading text.now ≡ Ok n) }
+        ensures spelled { IfSome result (λ n. text.now ≡ canonic_text n) }
     {
         match text.number() {
             Some(value) => Some(Num { value }),

@@ -53,7 +53,7 @@ impl Short {
     }
 
     /// Whether they are the same bytes. Numbers and rooms are compared at once, which needs no jump; where they differ, what lies behind the bytes may.
-    #[inline]
+    #[inline(always)]
     pub(crate) fn is_same(&self, other: &Short) -> bool
         ensures { result ≡ bytes_eq (short_bytes self.now) (short_bytes other.now) }
     {
@@ -61,7 +61,7 @@ impl Short {
     }
 
     // Whether they lie alike. It looks at all places, so that they can be compared at once.
-    #[inline]
+    #[inline(always)]
     fn is_alike(&self, other: &Short) -> bool
         ensures { IsTrue result → short_bytes self.now ≡ short_bytes other.now }
     {

@@ -394,7 +394,7 @@ impl PartialEq for Text {
 
     ghost laws = { partial_equiv_from_equiv nat_list_eq_equiv };
 
-    #[inline]
+    #[inline(always)]
     fn eq(&self, other: &Text) -> bool
         ensures same { IsTrue result ↔ (self.now ≡ other.now) }
         ensures value { result ≡ bytes_eq self.now other.now }
