@@ -9,3 +9,4 @@ pub mod InOrder
 pub mod HiddenWords
 pub mod Formals
 pub mod Saved
+pub mod Letters

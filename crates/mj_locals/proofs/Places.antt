@@ -169,7 +169,7 @@ module _ (rows : Trees) (es : List (Vec ℕ Global × ℕ)) (h : ArePlaced es ro
 
 -- ---- a row for a word that had none
 
-found : (es : List (Vec ℕ Global × ℕ)) (key : Vec ℕ Global) (p : ℕ) (v : List ℕ) → lookup (is_at (λ (k : Vec ℕ Global). W key.items k.items)) es ≡ None → lookup (is_at (λ (k : Vec ℕ Global). W v k.items)) (insert_entry (λ (x y : Vec ℕ Global). W x.items y.items) es key p) ≡ cond (is_eq (W v key.items)) (Some p) (lookup (is_at (λ (k : Vec ℕ Global). W v k.items)) es)
+pub found : (es : List (Vec ℕ Global × ℕ)) (key : Vec ℕ Global) (p : ℕ) (v : List ℕ) → lookup (is_at (λ (k : Vec ℕ Global). W key.items k.items)) es ≡ None → lookup (is_at (λ (k : Vec ℕ Global). W v k.items)) (insert_entry (λ (x y : Vec ℕ Global). W x.items y.items) es key p) ≡ cond (is_eq (W v key.items)) (Some p) (lookup (is_at (λ (k : Vec ℕ Global). W v k.items)) es)
 found [] key p v none = refl
 found (k ∷ ks) key p v none =
     elim (W key.items k.0.items) as (λ r. W key.items k.0.items ≡ r → cond (is_eq r) (Some k.1) (lookup (is_at (λ (x : Vec ℕ Global). W key.items x.items)) ks) ≡ None → lookup (is_at (λ (x : Vec ℕ Global). W v x.items)) (match_ordering r ((key, p) ∷ k ∷ ks) ((k.0, p) ∷ ks) (k ∷ insert_entry (λ (x y : Vec ℕ Global). W x.items y.items) ks key p)) ≡ cond (is_eq (W v key.items)) (Some p) (lookup (is_at (λ (x : Vec ℕ Global). W v x.items)) (k ∷ ks))) [

@@ -6,3 +6,4 @@ pub mod Marks
 pub mod Kept
 pub mod Hiding
 pub mod Snapshots
+pub mod Letters

@@ -16,4 +16,4 @@ ArePlaced entries rows =
     × AreTrees rows
 
 abbrev pub IsPlaced : Inside → Type 0
-IsPlaced a = ArePlaced a.places.entries a.rows.items
+IsPlaced a = ArePlaced a.places a.rows.items

@@ -6,6 +6,7 @@
 #![tactic(auto)]
 
 mod access;
+mod index;
 mod locals;
 mod news;
 mod snapshot;
