@@ -10,3 +10,4 @@ pub mod HiddenWords
 pub mod Formals
 pub mod Saved
 pub mod Letters
+pub mod Longer

@@ -7,3 +7,4 @@ pub mod Kept
 pub mod Hiding
 pub mod Snapshots
 pub mod Letters
+pub mod Longer
