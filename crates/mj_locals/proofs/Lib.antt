@@ -10,4 +10,3 @@ pub mod HiddenWords
 pub mod Formals
 pub mod Saved
 pub mod Letters
-pub mod Longer

@@ -7,4 +7,3 @@ pub mod Kept
 pub mod Hiding
 pub mod Snapshots
 pub mod Letters
-pub mod Longer
