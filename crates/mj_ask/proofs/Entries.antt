@@ -67,12 +67,14 @@ drop_next front cs c =
     subst (λ l. drop (length front + 1) l ≡ cs) h
     (subst (λ (n : ℕ). drop n ((front ++ c ∷ []) ++ cs) ≡ cs) (length-append front (c ∷ [])) (drop-append_seam (front ++ c ∷ []) cs))
 
-at_next : (front cs : List ℕ) (c : ℕ) → at ((front ++ c ∷ []) ++ cs) (position_from is_caret (length (front ++ c ∷ [])) cs) ≡ from (front ++ c ∷ []) cs → at (front ++ c ∷ cs) (position_from is_caret (length front + 1) cs) ≡ from (front ++ c ∷ []) cs
+at_next : (front cs : List ℕ) (c : ℕ) → at ((front ++ c ∷ []) ++ cs) (position_from is_caret (length (front ++ c ∷ [])) cs) ≡ from (front ++ c ∷ []) cs
+    → at (front ++ c ∷ cs) (position_from is_caret (length front + 1) cs) ≡ from (front ++ c ∷ []) cs
 at_next front cs c h =
     subst (λ l. at l (position_from is_caret (length front + 1) cs) ≡ from (front ++ c ∷ []) cs) (append_assoc front (c ∷ []) cs)
     (subst (λ (n : ℕ). at ((front ++ c ∷ []) ++ cs) (position_from is_caret n cs) ≡ from (front ++ c ∷ []) cs) (length-append front (c ∷ [])) h)
 
-at_by : (front cs : List ℕ) (c : ℕ) (b : Bool) → at (front ++ c ∷ cs) (position_from is_caret (length front + 1) cs) ≡ from (front ++ c ∷ []) cs → at (front ++ c ∷ cs) (cond b (Some (length front)) (position_from is_caret (length front + 1) cs)) ≡ cond b (entry_from front cs) (from (front ++ c ∷ []) cs)
+at_by : (front cs : List ℕ) (c : ℕ) (b : Bool) → at (front ++ c ∷ cs) (position_from is_caret (length front + 1) cs) ≡ from (front ++ c ∷ []) cs
+    → at (front ++ c ∷ cs) (cond b (Some (length front)) (position_from is_caret (length front + 1) cs)) ≡ cond b (entry_from front cs) (from (front ++ c ∷ []) cs)
 at_by front cs c true h = λ i. entry_from (take-append_seam front (c ∷ cs) i) (drop_next front cs c i)
 at_by front cs c false h = h
 
@@ -101,7 +103,8 @@ from_label front (c ∷ label) routine h =
     not_true true e = absurd cc
     not_true false e = refl
 
-with_label : (o : Option (List ℕ)) (routine : List ℕ) → is_entry (record { label = o; routine = routine }) ≡ true → from [] (entry_text (record { label = o; routine = routine })) ≡ Some (record { label = o; routine = routine })
+with_label : (o : Option (List ℕ)) (routine : List ℕ) → is_entry (record { label = o; routine = routine }) ≡ true
+    → from [] (entry_text (record { label = o; routine = routine })) ≡ Some (record { label = o; routine = routine })
 with_label None routine h = ap (λ b. cond b (Some (record { label = None; routine = routine })) None) h
 with_label (Some []) routine h = absurd cc
 with_label (Some (c ∷ l)) routine h =
@@ -129,7 +132,8 @@ made (c ∷ l) routine e h = by (is_label (c ∷ l) && is_word routine) refl h
     by true w k = let same : record { label = Some (c ∷ l); routine = routine } ≡ e = cc in subst (λ (x : Entry). IsWritten x ((c ∷ l) ++ 94 ∷ routine)) same (refl, w)
     by false w k = absurd cc
 
-made_by : (front cs : List ℕ) (c : ℕ) (e : Entry) (b : Bool) → eqb c 94 ≡ b → (from (front ++ c ∷ []) cs ≡ Some e → IsWritten e ((front ++ c ∷ []) ++ cs)) → cond b (entry_from front cs) (from (front ++ c ∷ []) cs) ≡ Some e → IsWritten e (front ++ c ∷ cs)
+made_by : (front cs : List ℕ) (c : ℕ) (e : Entry) (b : Bool) → eqb c 94 ≡ b → (from (front ++ c ∷ []) cs ≡ Some e → IsWritten e ((front ++ c ∷ []) ++ cs))
+    → cond b (entry_from front cs) (from (front ++ c ∷ []) cs) ≡ Some e → IsWritten e (front ++ c ∷ cs)
 made_by front cs c e true y next k = subst (λ (b : ℕ). IsWritten e (front ++ b ∷ cs)) (sym (eqb-true c 94 y)) (made front cs e k)
 made_by front cs c e false y next k = subst (IsWritten e) (append_assoc front (c ∷ []) cs) (next k)
 

@@ -161,7 +161,8 @@ module _ (n : Name) where
       (first_so (is_lt (name_cmp (followed_by n l) e.0)) (below_all name_cmp (followed_by n l) es) h)
       (below_of l es (second_so (is_lt (name_cmp (followed_by n l) e.0)) (below_all name_cmp (followed_by n l) es) h))
     where
-      by : (o : Option (List (List ℕ))) → rest_of n e.0 ≡ o → T (is_lt (name_cmp (followed_by n l) e.0)) → T (below_all subscripts_cmp l (subtree_at es n)) → T (below_all subscripts_cmp l (cons_option (option_map (λ k. (k, e.1)) o) (subtree_at es n)))
+      by : (o : Option (List (List ℕ))) → rest_of n e.0 ≡ o → T (is_lt (name_cmp (followed_by n l) e.0)) → T (below_all subscripts_cmp l (subtree_at es n))
+          → T (below_all subscripts_cmp l (cons_option (option_map (λ k. (k, e.1)) o) (subtree_at es n)))
       by None s p q = q
       by (Some k) s p q =
           and_so (is_lt (subscripts_cmp l k)) (below_all subscripts_cmp l (subtree_at es n))
@@ -174,7 +175,8 @@ module _ (n : Name) where
       (first_so (below_all name_cmp e.0 es) (is_sorted name_cmp es) h)
       (sorted_of es (second_so (below_all name_cmp e.0 es) (is_sorted name_cmp es) h))
     where
-      by : (o : Option (List (List ℕ))) → rest_of n e.0 ≡ o → T (below_all name_cmp e.0 es) → T (is_sorted subscripts_cmp (subtree_at es n)) → T (is_sorted subscripts_cmp (cons_option (option_map (λ k. (k, e.1)) o) (subtree_at es n)))
+      by : (o : Option (List (List ℕ))) → rest_of n e.0 ≡ o → T (below_all name_cmp e.0 es) → T (is_sorted subscripts_cmp (subtree_at es n))
+          → T (is_sorted subscripts_cmp (cons_option (option_map (λ k. (k, e.1)) o) (subtree_at es n)))
       by None s p q = q
       by (Some k) s p q =
           and_so (below_all subscripts_cmp k (subtree_at es n)) (is_sorted subscripts_cmp (subtree_at es n))
@@ -210,14 +212,16 @@ order_fits content n [] way h = refl
 order_fits content n (s ∷ p) way h =
     let nodes = subtree_at content (with_subscripts n (but_last s p)) in
     let filled = firsts_filled nodes (filled_of nodes (subtree_formed content (with_subscripts n (but_last s p)) (globals_in content h))) in
-    passes_least is_filled (along way subscript_cmp) (filter (λ t. is_empty (last_of s p) || is_lt (along way subscript_cmp (last_of s p) t)) (first_subscripts nodes)) (all_filter is_filled (λ t. is_empty (last_of s p) || is_lt (along way subscript_cmp (last_of s p) t)) (first_subscripts nodes) filled)
+    passes_least is_filled (along way subscript_cmp) (filter (λ t. is_empty (last_of s p) || is_lt (along way subscript_cmp (last_of s p) t)) (first_subscripts nodes))
+    (all_filter is_filled (λ t. is_empty (last_of s p) || is_lt (along way subscript_cmp (last_of s p) t)) (first_subscripts nodes) filled)
 
 query_fits : (content : Content) (n : Name) → n.global ≡ true → is_word n.word ≡ true → is_content content ≡ true → passes is_global_name (query_at content n) ≡ true
 query_fits content n kind word h =
     let nodes = subtree_at content (with_subscripts n []) in
     let k : list_all (λ e. formed e.0) nodes ≡ true = subtree_formed content (with_subscripts n []) (globals_in content h) in
     by (next_after subscript_cmp n.subscripts nodes)
-    (passes_least formed (slice_cmp subscript_cmp) (filter (λ q. is_lt (slice_cmp subscript_cmp n.subscripts q)) (map (λ e. e.0) nodes)) (all_filter formed (λ q. is_lt (slice_cmp subscript_cmp n.subscripts q)) (map (λ e. e.0) nodes) (all_map formed (λ e. e.0) nodes k)))
+    (passes_least formed (slice_cmp subscript_cmp) (filter (λ q. is_lt (slice_cmp subscript_cmp n.subscripts q)) (map (λ e. e.0) nodes))
+    (all_filter formed (λ q. is_lt (slice_cmp subscript_cmp n.subscripts q)) (map (λ e. e.0) nodes) (all_map formed (λ e. e.0) nodes k)))
   where
     by : (o : Option (List (List ℕ))) → passes formed o ≡ true → passes is_global_name (option_map (with_subscripts n) o) ≡ true
     by None h = refl
@@ -239,7 +243,8 @@ put_formed n text (e ∷ es) g h =
     let k = both_true (is_global_name e.0) (list_all (λ d. is_global_name d.0) es) h in
     by (name_cmp n e.0) k (put_formed n text es g k.1)
   where
-    by : (o : Ordering) → (is_global_name e.0 ≡ true) × (list_all (λ d. is_global_name d.0) es ≡ true) → list_all (λ d. is_global_name d.0) (put name_cmp n text es) ≡ true → list_all (λ d. is_global_name d.0) (by_order o ((n, text) ∷ e ∷ es) ((e.0, text) ∷ es) (e ∷ put name_cmp n text es)) ≡ true
+    by : (o : Ordering) → (is_global_name e.0 ≡ true) × (list_all (λ d. is_global_name d.0) es ≡ true) → list_all (λ d. is_global_name d.0) (put name_cmp n text es) ≡ true
+        → list_all (λ d. is_global_name d.0) (by_order o ((n, text) ∷ e ∷ es) ((e.0, text) ∷ es) (e ∷ put name_cmp n text es)) ≡ true
     by Less k next = and_true (is_global_name n) (is_global_name e.0 && list_all (λ d. is_global_name d.0) es) g (and_true (is_global_name e.0) (list_all (λ d. is_global_name d.0) es) k.0 k.1)
     by Equal k next = and_true (is_global_name e.0) (list_all (λ d. is_global_name d.0) es) k.0 k.1
     by Greater k next = and_true (is_global_name e.0) (list_all (λ d. is_global_name d.0) (put name_cmp n text es)) k.0 next
@@ -271,14 +276,16 @@ neither : (a b : Bool) → (a || b) ≡ false → (a ≡ false) × (b ≡ false)
 neither true b e = absurd cc
 neither false b e = (refl, e)
 
-put_stays : (n : Name) (nodes : Subtree) (content : Content) → is_global_name n ≡ true → list_all (λ e. are_filled e.0) nodes ≡ true → is_too_deep n nodes ≡ false → is_content content ≡ true → is_content (after_put content n nodes) ≡ true
+put_stays : (n : Name) (nodes : Subtree) (content : Content) → is_global_name n ≡ true → list_all (λ e. are_filled e.0) nodes ≡ true → is_too_deep n nodes ≡ false → is_content content ≡ true
+    → is_content (after_put content n nodes) ≡ true
 put_stays n [] content g filled room h = h
 put_stays n (e ∷ es) content g filled room h =
     let k = both_true (are_filled e.0) (list_all (λ d. are_filled d.0) es) filled in
     let r = neither (nat_lt 31 (length n.subscripts + length e.0)) (is_too_deep n es) room in
     put_stays n es (after_set content (followed_by n e.0) e.1) g k.1 r.1 (set_stays (followed_by n e.0) e.1 content (followed_formed n e.0 g k.0 r.0) h)
 
-put_kept : (n : Name) (nodes : Subtree) (content : Content) (b : Bool) → is_too_deep n nodes ≡ b → is_global_name n ≡ true → list_all (λ e. are_filled e.0) nodes ≡ true → is_content content ≡ true → is_content (cond b content (after_put content n nodes)) ≡ true
+put_kept : (n : Name) (nodes : Subtree) (content : Content) (b : Bool) → is_too_deep n nodes ≡ b → is_global_name n ≡ true → list_all (λ e. are_filled e.0) nodes ≡ true
+    → is_content content ≡ true → is_content (cond b content (after_put content n nodes)) ≡ true
 put_kept n nodes content true deep g filled h = h
 put_kept n nodes content false deep g filled h = put_stays n nodes content g filled deep h
 

@@ -12,7 +12,7 @@ use Rattle.mj_ask.specs.declared.clash.Kept.{Kept}
 use Rattle.mj_ask.specs.declared.clash.Kept.TheVariants as kepts
 use Rattle.mj_ask.specs.Formed.{is_kept, is_answer}
 use Rattle.mj_ask.specs.Fits.{answers}
-use Rattle.mj_ask.specs.Keeping.{kept_subscript, kept_of, is_limit, Keeps}
+use Rattle.mj_ask.specs.Keeping.{kept_subscript, kept_of, is_limit, KeepsAnswer}
 
 -- ---- what is kept is formed
 
@@ -111,7 +111,7 @@ back (accesses.Put n put) (answers_are.Query m) h k = absurd cc
 back (accesses.Put n put) (answers_are.Subtree nodes) h k = absurd cc
 back (accesses.Put n put) answers_are.Done h k = refl
 
-pub keeps : (x : Answer) (k : Kept) → k ≡ kept_of x → Keeps x k
+pub keeps : (x : Answer) (k : Kept) → k ≡ kept_of x → KeepsAnswer x k
 keeps x k is = record {
   formed = λ h. ap is_kept is ∙ kept_formed x h;
   apart = λ a y both same. sym (back a y both.other both.other_within) ∙ ap (answer_kept a) (same ∙ is) ∙ back a x both.one both.one_within;

@@ -33,7 +33,8 @@ all_filter p q (x ∷ xs) h = by (q x) (both_true (p x) (list_all p xs) h) (all_
     by true h k = and_true (p x) (list_all p (filter q xs)) h.0 k
     by false h k = k
 
-pub all_filter_map : {A B : Type 0} (p : A → Bool) (q : B → Bool) (f : A → Option B) → ((x : A) → p x ≡ true → passes q (f x) ≡ true) → (xs : List A) → list_all p xs ≡ true → list_all q (filter_map f xs) ≡ true
+pub all_filter_map : {A B : Type 0} (p : A → Bool) (q : B → Bool) (f : A → Option B) → ((x : A) → p x ≡ true → passes q (f x) ≡ true) → (xs : List A) → list_all p xs ≡ true
+    → list_all q (filter_map f xs) ≡ true
 all_filter_map {B = B} p q f g [] h = refl
 all_filter_map {B = B} p q f g (x ∷ xs) h =
     let k = both_true (p x) (list_all p xs) h in

@@ -7,6 +7,10 @@ use Rattle.mj_store.specs.declared.access.Answer.{Answer}
 use Rattle.mj_store.specs.declared.access.Answer.TheVariants as answers_are
 use Rattle.mj_ask.specs.declared.ask.Ask.{Ask}
 use Rattle.mj_ask.specs.declared.ask.Ask.TheVariants as asks
+use Rattle.mj_ask.specs.declared.ask.SharedAsk.{SharedAsk}
+use Rattle.mj_ask.specs.declared.ask.SharedAsk.TheVariants as shared_asks
+use Rattle.mj_ask.specs.declared.ask.DeviceAsk.{DeviceAsk}
+use Rattle.mj_ask.specs.declared.ask.DeviceAsk.TheVariants as device_asks
 use Rattle.mj_ask.specs.declared.ask.Reply.{Reply}
 use Rattle.mj_ask.specs.declared.ask.Reply.TheVariants as replies
 
@@ -28,52 +32,76 @@ answers (accesses.Kill n) answers_are.Done = true
 answers (accesses.Put n nodes) answers_are.Done = true
 answers _ _ = false
 
--- The reply stands in the table behind this ask
+-- The reply stands in the table behind this ask of what all share
+abbrev pub is_shared_reply : SharedAsk → Reply → Bool
+is_shared_reply (shared_asks.Access a) (replies.Answer x) = answers a x
+is_shared_reply (shared_asks.Try names timeout) replies.Got = true
+is_shared_reply (shared_asks.Try names timeout) replies.Late = true
+is_shared_reply (shared_asks.Try names timeout) replies.Limit = true
+is_shared_reply (shared_asks.Unlock names) replies.Done = true
+is_shared_reply (shared_asks.Unlock names) replies.Limit = true
+is_shared_reply shared_asks.UnlockAll replies.Done = true
+is_shared_reply shared_asks.UnlockAll replies.Limit = true
+is_shared_reply (shared_asks.Begin kind) replies.Done = true
+is_shared_reply shared_asks.Commit replies.Done = true
+is_shared_reply shared_asks.Commit (replies.Clash clash) = true
+is_shared_reply shared_asks.Rollback replies.Done = true
+is_shared_reply (shared_asks.Open device timeout) replies.Got = true
+is_shared_reply (shared_asks.Open device timeout) replies.Late = true
+is_shared_reply (shared_asks.Open device timeout) replies.NoSession = true
+is_shared_reply (shared_asks.Close device) replies.Done = true
+is_shared_reply (shared_asks.Start start timeout) (replies.Job number) = true
+is_shared_reply (shared_asks.Start start timeout) replies.Limit = true
+is_shared_reply (shared_asks.Halt fault) replies.Done = true
+is_shared_reply _ _ = false
+
+-- the reply stands in the table behind this ask of a device
+abbrev pub is_device_reply : DeviceAsk → Reply → Bool
+is_device_reply device_asks.Begin replies.Done = true
+is_device_reply device_asks.Begin replies.Failed = true
+is_device_reply (device_asks.Write bytes) replies.Done = true
+is_device_reply (device_asks.Write bytes) replies.Failed = true
+is_device_reply (device_asks.Line timeout) (replies.Line text) = true
+is_device_reply (device_asks.Line timeout) replies.End = true
+is_device_reply (device_asks.Line timeout) replies.Late = true
+is_device_reply (device_asks.Line timeout) replies.Failed = true
+is_device_reply (device_asks.Byte timeout) (replies.Byte code) = true
+is_device_reply (device_asks.Byte timeout) replies.End = true
+is_device_reply (device_asks.Byte timeout) replies.Late = true
+is_device_reply (device_asks.Byte timeout) replies.Failed = true
+is_device_reply device_asks.End replies.Done = true
+is_device_reply device_asks.End replies.Failed = true
+is_device_reply _ _ = false
+
+-- the reply is that it is done
+abbrev pub is_done : Reply → Bool
+is_done replies.Done = true
+is_done _ = false
+
+-- the reply stands in the table behind this ask
 abbrev pub is_reply_to : Ask → Reply → Bool
-is_reply_to (asks.DeviceBegin device) replies.Done = true
-is_reply_to (asks.DeviceBegin device) replies.Failed = true
-is_reply_to (asks.DeviceWrite device bytes) replies.Done = true
-is_reply_to (asks.DeviceWrite device bytes) replies.Failed = true
-is_reply_to (asks.DeviceLine device timeout) (replies.Line text) = true
-is_reply_to (asks.DeviceLine device timeout) replies.End = true
-is_reply_to (asks.DeviceLine device timeout) replies.Late = true
-is_reply_to (asks.DeviceLine device timeout) replies.Failed = true
-is_reply_to (asks.DeviceByte device timeout) (replies.Byte code) = true
-is_reply_to (asks.DeviceByte device timeout) replies.End = true
-is_reply_to (asks.DeviceByte device timeout) replies.Late = true
-is_reply_to (asks.DeviceByte device timeout) replies.Failed = true
-is_reply_to (asks.DeviceEnd device) replies.Done = true
-is_reply_to (asks.DeviceEnd device) replies.Failed = true
-is_reply_to (asks.Access a) (replies.Answer x) = answers a x
-is_reply_to (asks.Try names timeout) replies.Got = true
-is_reply_to (asks.Try names timeout) replies.Late = true
-is_reply_to (asks.Try names timeout) replies.Limit = true
-is_reply_to (asks.Unlock names) replies.Done = true
-is_reply_to (asks.Unlock names) replies.Limit = true
-is_reply_to asks.UnlockAll replies.Done = true
-is_reply_to asks.UnlockAll replies.Limit = true
-is_reply_to (asks.Begin kind) replies.Done = true
-is_reply_to asks.Commit replies.Done = true
-is_reply_to asks.Commit (replies.Clash clash) = true
-is_reply_to asks.Rollback replies.Done = true
-is_reply_to (asks.Open device timeout) replies.Got = true
-is_reply_to (asks.Open device timeout) replies.Late = true
-is_reply_to (asks.Open device timeout) replies.NoSession = true
-is_reply_to (asks.Close device) replies.Done = true
-is_reply_to (asks.Start start timeout) (replies.Job number) = true
-is_reply_to (asks.Start start timeout) replies.Limit = true
-is_reply_to (asks.Rest time) replies.Done = true
-is_reply_to (asks.Halt fault) replies.Done = true
-is_reply_to _ _ = false
+is_reply_to (asks.Shared a) r = is_shared_reply a r
+is_reply_to (asks.Device device a) r = is_device_reply a r
+is_reply_to (asks.Rest time) r = is_done r
+
+-- how long an ask of what all share waits, where it has a timeout
+abbrev pub shared_timeout : SharedAsk → Option ℤ
+shared_timeout (shared_asks.Try names timeout) = timeout
+shared_timeout (shared_asks.Open device timeout) = timeout
+shared_timeout (shared_asks.Start start timeout) = timeout
+shared_timeout _ = None
+
+-- how long an ask of a device waits, where it has a timeout
+abbrev pub device_timeout : DeviceAsk → Option ℤ
+device_timeout (device_asks.Line timeout) = timeout
+device_timeout (device_asks.Byte timeout) = timeout
+device_timeout _ = None
 
 -- how long the ask waits, where it has a timeout
 abbrev pub timeout_of : Ask → Option ℤ
-timeout_of (asks.DeviceLine device timeout) = timeout
-timeout_of (asks.DeviceByte device timeout) = timeout
-timeout_of (asks.Try names timeout) = timeout
-timeout_of (asks.Open device timeout) = timeout
-timeout_of (asks.Start start timeout) = timeout
-timeout_of _ = None
+timeout_of (asks.Shared a) = shared_timeout a
+timeout_of (asks.Device device a) = device_timeout a
+timeout_of (asks.Rest time) = None
 
 -- it was late
 abbrev pub is_late : Reply → Bool
@@ -86,10 +114,5 @@ fits a r = is_reply_to a r && (not (is_late r) || is_some (timeout_of a))
 
 -- the shared state serves this ask
 abbrev pub is_shared : Ask → Bool
-is_shared (asks.DeviceBegin device) = false
-is_shared (asks.DeviceWrite device bytes) = false
-is_shared (asks.DeviceLine device timeout) = false
-is_shared (asks.DeviceByte device timeout) = false
-is_shared (asks.DeviceEnd device) = false
-is_shared (asks.Rest time) = false
-is_shared _ = true
+is_shared (asks.Shared a) = true
+is_shared _ = false

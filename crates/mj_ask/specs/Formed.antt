@@ -17,6 +17,8 @@ use Rattle.mj_ask.specs.declared.clash.Kept.TheVariants as kepts
 use Rattle.mj_ask.specs.declared.clash.Clash.{Clash}
 use Rattle.mj_ask.specs.declared.ask.Ask.{Ask}
 use Rattle.mj_ask.specs.declared.ask.Ask.TheVariants as asks
+use Rattle.mj_ask.specs.declared.ask.SharedAsk.{SharedAsk}
+use Rattle.mj_ask.specs.declared.ask.SharedAsk.TheVariants as shared_asks
 use Rattle.mj_ask.specs.declared.ask.Reply.{Reply}
 use Rattle.mj_ask.specs.declared.ask.Reply.TheVariants as replies
 
@@ -70,12 +72,17 @@ is_access (accesses.Put n nodes) = is_global_name n && is_subtree nodes
 abbrev pub are_names : List Name → Bool
 are_names names = nat_lt 0 (length names) && list_all is_name names
 
--- an ask that can be written
+-- an ask of what all share that can be written
+abbrev pub is_shared_ask : SharedAsk → Bool
+is_shared_ask (shared_asks.Access a) = is_access a
+is_shared_ask (shared_asks.Try names timeout) = are_names names
+is_shared_ask (shared_asks.Unlock names) = are_names names
+is_shared_ask (shared_asks.Start start timeout) = is_entry start.entry
+is_shared_ask _ = true
+
+-- an ask that can be written: each is that isn't of what all share
 abbrev pub is_ask : Ask → Bool
-is_ask (asks.Access a) = is_access a
-is_ask (asks.Try names timeout) = are_names names
-is_ask (asks.Unlock names) = are_names names
-is_ask (asks.Start start timeout) = is_entry start.entry
+is_ask (asks.Shared a) = is_shared_ask a
 is_ask _ = true
 
 -- what a clash keeps of a reply

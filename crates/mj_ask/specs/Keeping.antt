@@ -36,6 +36,6 @@ pub record AreAnswers (a : Access) (x y : Answer) : Type 0 where
   pub other_within : is_limit y ≡ false
 
 -- what is kept of an answer that can be written can be written, and it tells the answers to one access apart
-pub record Keeps (x : Answer) (k : Kept) : Type 0 where
+pub record KeepsAnswer (x : Answer) (k : Kept) : Type 0 where
   pub formed : is_answer x ≡ true → is_kept k ≡ true
   pub apart : (a : Access) (y : Answer) → AreAnswers a x y → kept_of y ≡ k → y ≡ x

@@ -1,7 +1,8 @@
 // Questions and replies.
 
 ghost use Rattle.std.specs.Prelude.{◌≡◌, IfOk};
-ghost use Rattle.mj_ask.specs.Fits.{fits, is_reply_to, is_late, is_shared, timeout_of, answers, is_data};
+ghost use Rattle.mj_ask.specs.Fits.{fits, is_reply_to, is_shared_reply, is_device_reply, is_late, is_shared};
+ghost use Rattle.mj_ask.specs.Fits.{timeout_of, shared_timeout, device_timeout, answers, is_data};
 
 use crate::clash::BoxedClash;
 use crate::names::Names;
@@ -20,20 +21,20 @@ pub enum Kind {
     Plain,
 }
 
-/// A question of a job. A device is called by the name under which the job has it, the principal one by `0`. Where a timeout may stand
-/// and none does, the job waits.
+/// A question of a job, by who serves it.
 #[derive(Drop)]
 pub enum Ask {
-    /// the session of the device begins
-    DeviceBegin(Text),
-    /// these bytes go to the device
-    DeviceWrite(Text, Text),
-    /// the device gives the rest of a line, or the next line
-    DeviceLine(Text, Option<Num>),
-    /// the device gives the next byte
-    DeviceByte(Text, Option<Num>),
-    /// the session of the device ends
-    DeviceEnd(Text),
+    /// what all jobs share serves it
+    Shared(SharedAsk),
+    /// the job's own session of the device with this name serves it. The principal device is `0`
+    Device(Text, DeviceAsk),
+    /// the clock serves it: the job waits so many seconds
+    Rest(Num),
+}
+
+/// A question on what all jobs share, or a change of it. Where a timeout may stand and none does, the job waits.
+#[derive(Drop)]
+pub enum SharedAsk {
     /// a question on the globals, or a change of them
     Access(Access),
     /// the names are locked, all or none
@@ -54,10 +55,23 @@ pub enum Ask {
     Close(Text),
     /// another job starts
     Start(Start, Option<Num>),
-    /// the job waits so many seconds
-    Rest(Num),
     /// the job is over, by a fault or without one
     Halt(Option<Fault>),
+}
+
+/// A question of a job to its session of a device. Where a timeout may stand and none does, the job waits.
+#[derive(Drop)]
+pub enum DeviceAsk {
+    /// the session begins
+    Begin,
+    /// these bytes go to the device
+    Write(Text),
+    /// the device gives the rest of a line, or the next line
+    Line(Option<Num>),
+    /// the device gives the next byte
+    Byte(Option<Num>),
+    /// the session ends
+    End,
 }
 
 /// What a job is told.
@@ -102,49 +116,17 @@ impl Ask {
         ensures { result ≡ is_reply_to self.now reply.now }
     {
         match self {
-            Ask::DeviceBegin(_) | Ask::DeviceWrite(_, _) | Ask::DeviceEnd(_) => {
-                matches!(reply, Reply::Done | Reply::Failed)
-            }
-            Ask::DeviceLine(_, _) => {
-                matches!(
-                    reply,
-                    Reply::Line(_) | Reply::End | Reply::Late | Reply::Failed
-                )
-            }
-            Ask::DeviceByte(_, _) => {
-                matches!(
-                    reply,
-                    Reply::Byte(_) | Reply::End | Reply::Late | Reply::Failed
-                )
-            }
-            Ask::Access(access) => match reply {
-                Reply::Answer(answer) => answers(access, answer),
-                _ => false,
-            },
-            Ask::Try(_, _) => matches!(reply, Reply::Got | Reply::Late | Reply::Limit),
-            Ask::Unlock(_) | Ask::UnlockAll => matches!(reply, Reply::Done | Reply::Limit),
-            Ask::Commit => matches!(reply, Reply::Done | Reply::Clash(_)),
-            Ask::Open(_, _) => matches!(reply, Reply::Got | Reply::Late | Reply::NoSession),
-            Ask::Start(_, _) => matches!(reply, Reply::Job(_) | Reply::Limit),
-            Ask::Begin(_) | Ask::Rollback | Ask::Close(_) | Ask::Rest(_) | Ask::Halt(_) => {
-                matches!(reply, Reply::Done)
-            }
+            Ask::Shared(ask) => ask.has_reply(reply),
+            Ask::Device(_, ask) => ask.has_reply(reply),
+            Ask::Rest(_) => matches!(reply, Reply::Done),
         }
     }
 
-    /// Whether the state that all jobs share serves it. The others are served by the job's own device sessions, or by none.
+    /// Whether the state that all jobs share serves it. The others are served by the job's own device sessions, or by the clock.
     pub fn is_shared(&self) -> bool
         ensures { result ≡ is_shared self.now }
     {
-        !matches!(
-            self,
-            Ask::DeviceBegin(_)
-                | Ask::DeviceWrite(_, _)
-                | Ask::DeviceLine(_, _)
-                | Ask::DeviceByte(_, _)
-                | Ask::DeviceEnd(_)
-                | Ask::Rest(_)
-        )
+        matches!(self, Ask::Shared(_))
     }
 
     /// How many seconds it waits, where it has a timeout.
@@ -152,46 +134,124 @@ impl Ask {
         ensures { result ≡ timeout_of self.now }
     {
         match self {
-            Ask::DeviceLine(_, timeout)
-            | Ask::DeviceByte(_, timeout)
-            | Ask::Try(_, timeout)
-            | Ask::Open(_, timeout)
-            | Ask::Start(_, timeout) => *timeout,
-            _ => None,
+            Ask::Shared(ask) => ask.timeout(),
+            Ask::Device(_, ask) => ask.timeout(),
+            Ask::Rest(_) => None,
         }
     }
 
-    /// The same ask once more.
+    /// Copies the ask.
     pub fn try_clone(&self) -> Result<Ask, AllocError>
         ensures { IfOk result (λ ask. ask ≡ self.now) }
     {
         Ok(match self {
-            Ask::DeviceBegin(device) => Ask::DeviceBegin(device.try_clone()?),
-            Ask::DeviceWrite(device, bytes) => Ask::DeviceWrite(
-                device.try_clone()?,
-                bytes.try_clone()?,
-            ),
-            Ask::DeviceLine(device, timeout) => Ask::DeviceLine(device.try_clone()?, *timeout),
-            Ask::DeviceByte(device, timeout) => Ask::DeviceByte(device.try_clone()?, *timeout),
-            Ask::DeviceEnd(device) => Ask::DeviceEnd(device.try_clone()?),
-            Ask::Access(access) => Ask::Access(access.try_clone()?),
-            Ask::Try(names, timeout) => Ask::Try(names.try_clone()?, *timeout),
-            Ask::Unlock(names) => Ask::Unlock(names.try_clone()?),
-            Ask::UnlockAll => Ask::UnlockAll,
-            Ask::Begin(kind) => Ask::Begin(*kind),
-            Ask::Commit => Ask::Commit,
-            Ask::Rollback => Ask::Rollback,
-            Ask::Open(device, timeout) => Ask::Open(device.try_clone()?, *timeout),
-            Ask::Close(device) => Ask::Close(device.try_clone()?),
-            Ask::Start(start, timeout) => Ask::Start(start.try_clone()?, *timeout),
+            Ask::Shared(ask) => Ask::Shared(ask.try_clone()?),
+            Ask::Device(device, ask) => Ask::Device(device.try_clone()?, ask.try_clone()?),
             Ask::Rest(time) => Ask::Rest(*time),
-            Ask::Halt(fault) => Ask::Halt(*fault),
+        })
+    }
+}
+
+impl SharedAsk {
+    /// Whether the table has this reply for it, whatever its timeout.
+    pub fn has_reply(&self, reply: &Reply) -> bool
+        ensures { result ≡ is_shared_reply self.now reply.now }
+    {
+        match self {
+            SharedAsk::Access(access) => match reply {
+                Reply::Answer(answer) => answers(access, answer),
+                _ => false,
+            },
+            SharedAsk::Try(_, _) => matches!(reply, Reply::Got | Reply::Late | Reply::Limit),
+            SharedAsk::Unlock(_) | SharedAsk::UnlockAll => {
+                matches!(reply, Reply::Done | Reply::Limit)
+            }
+            SharedAsk::Commit => matches!(reply, Reply::Done | Reply::Clash(_)),
+            SharedAsk::Open(_, _) => matches!(reply, Reply::Got | Reply::Late | Reply::NoSession),
+            SharedAsk::Start(_, _) => matches!(reply, Reply::Job(_) | Reply::Limit),
+            SharedAsk::Begin(_) | SharedAsk::Rollback | SharedAsk::Close(_) | SharedAsk::Halt(_) =>
+                { matches!(reply, Reply::Done) }
+        }
+    }
+
+    /// How many seconds it waits, where it has a timeout.
+    pub fn timeout(&self) -> Option<Num>
+        ensures { result ≡ shared_timeout self.now }
+    {
+        match self {
+            SharedAsk::Try(_, timeout)
+            | SharedAsk::Open(_, timeout)
+            | SharedAsk::Start(_, timeout) => *timeout,
+            _ => None,
+        }
+    }
+
+    /// Copies the ask.
+    pub fn try_clone(&self) -> Result<SharedAsk, AllocError>
+        ensures { IfOk result (λ ask. ask ≡ self.now) }
+    {
+        Ok(match self {
+            SharedAsk::Access(access) => SharedAsk::Access(access.try_clone()?),
+            SharedAsk::Try(names, timeout) => SharedAsk::Try(names.try_clone()?, *timeout),
+            SharedAsk::Unlock(names) => SharedAsk::Unlock(names.try_clone()?),
+            SharedAsk::UnlockAll => SharedAsk::UnlockAll,
+            SharedAsk::Begin(kind) => SharedAsk::Begin(*kind),
+            SharedAsk::Commit => SharedAsk::Commit,
+            SharedAsk::Rollback => SharedAsk::Rollback,
+            SharedAsk::Open(device, timeout) => SharedAsk::Open(device.try_clone()?, *timeout),
+            SharedAsk::Close(device) => SharedAsk::Close(device.try_clone()?),
+            SharedAsk::Start(start, timeout) => SharedAsk::Start(start.try_clone()?, *timeout),
+            SharedAsk::Halt(fault) => SharedAsk::Halt(*fault),
+        })
+    }
+}
+
+impl DeviceAsk {
+    /// Whether the table has this reply for it, whatever its timeout.
+    pub fn has_reply(&self, reply: &Reply) -> bool
+        ensures { result ≡ is_device_reply self.now reply.now }
+    {
+        match self {
+            DeviceAsk::Begin | DeviceAsk::Write(_) | DeviceAsk::End => {
+                matches!(reply, Reply::Done | Reply::Failed)
+            }
+            DeviceAsk::Line(_) => matches!(
+                reply,
+                Reply::Line(_) | Reply::End | Reply::Late | Reply::Failed
+            ),
+            DeviceAsk::Byte(_) => matches!(
+                reply,
+                Reply::Byte(_) | Reply::End | Reply::Late | Reply::Failed
+            ),
+        }
+    }
+
+    /// How many seconds it waits, where it has a timeout.
+    pub fn timeout(&self) -> Option<Num>
+        ensures { result ≡ device_timeout self.now }
+    {
+        match self {
+            DeviceAsk::Line(timeout) | DeviceAsk::Byte(timeout) => *timeout,
+            _ => None,
+        }
+    }
+
+    /// Copies the ask.
+    pub fn try_clone(&self) -> Result<DeviceAsk, AllocError>
+        ensures { IfOk result (λ ask. ask ≡ self.now) }
+    {
+        Ok(match self {
+            DeviceAsk::Begin => DeviceAsk::Begin,
+            DeviceAsk::Write(bytes) => DeviceAsk::Write(bytes.try_clone()?),
+            DeviceAsk::Line(timeout) => DeviceAsk::Line(*timeout),
+            DeviceAsk::Byte(timeout) => DeviceAsk::Byte(*timeout),
+            DeviceAsk::End => DeviceAsk::End,
         })
     }
 }
 
 impl Reply {
-    /// The same reply once more.
+    /// Copies the reply.
     pub fn try_clone(&self) -> Result<Reply, AllocError>
         ensures { IfOk result (λ reply. reply ≡ self.now) }
     {

@@ -2,7 +2,7 @@
 
 ghost use Rattle.std.specs.Prelude.{◌≡◌, IfOk, pos};
 ghost use Rattle.mj_ask.specs.declared.clash.Kept.TheVariants as kepts;
-ghost use Rattle.mj_ask.specs.Keeping.{kept_subscript, kept_of, Keeps};
+ghost use Rattle.mj_ask.specs.Keeping.{kept_subscript, kept_of, KeepsAnswer};
 
 use mj_num::Num;
 use mj_store::{Answer, Nodes};
@@ -30,7 +30,7 @@ impl Kept {
     /// What is kept of an answer. It tells the answers to one question apart.
     pub fn of(answer: Answer) -> Kept
         ensures value { result ≡ kept_of answer }
-        ensures kept { Keeps answer result }
+        ensures kept { KeepsAnswer answer result }
     {
         Kept::made(answer)
     }

@@ -6,10 +6,10 @@ ghost use Rattle.std.specs.FinMap.{is_sorted};
 ghost use Rattle.mj_subs.specs.Name.{is_word};
 ghost use Rattle.mj_subs.specs.Collation.{subscripts_cmp};
 ghost use Rattle.mj_ask.specs.Formed.{is_filled, are_filled, are_filled_before_last, is_name, is_global_name, is_search_name, is_subtree, starts_after};
-ghost use Rattle.mj_ask.specs.Formed.{is_access, are_names, is_ask, is_kept, is_clash, is_answer, is_reply};
+ghost use Rattle.mj_ask.specs.Formed.{is_access, are_names, is_ask, is_shared_ask, is_kept, is_clash, is_answer, is_reply};
 ghost use Rattle.mj_ask.specs.Fitting.{IsAnswered, IsServed};
 
-use crate::ask::{Ask, Reply};
+use crate::ask::{Ask, Reply, SharedAsk};
 use crate::clash::{Clash, Kept};
 use crate::entry::Entry;
 use mj_store::{Access, Answer, Nodes};
@@ -149,9 +149,18 @@ pub fn is_ask(ask: &Ask) -> bool
     ensures { result ≡ is_ask ask.now }
 {
     match ask {
-        Ask::Access(access) => is_access(access),
-        Ask::Try(names, _) | Ask::Unlock(names) => are_names(names.as_slice()),
-        Ask::Start(start, _) => start.entry().is_entry(),
+        Ask::Shared(ask) => is_shared_ask(ask),
+        Ask::Device(_, _) | Ask::Rest(_) => true,
+    }
+}
+
+fn is_shared_ask(ask: &SharedAsk) -> bool
+    ensures { result ≡ is_shared_ask ask.now }
+{
+    match ask {
+        SharedAsk::Access(access) => is_access(access),
+        SharedAsk::Try(names, _) | SharedAsk::Unlock(names) => are_names(names.as_slice()),
+        SharedAsk::Start(start, _) => start.entry().is_entry(),
         _ => true,
     }
 }

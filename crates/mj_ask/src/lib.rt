@@ -1,7 +1,8 @@
 // What a job may ask, what it may be told, and what it starts with: plain data.
 //
-// `Ask::fits` is the table of asks. A contract sees a list of names as a list, a start as a record, and every other type by its fields. What
-// an ask or a reply can hold beyond what can be written, as a name whose word is none, is told by the tests of `formed`.
+// An ask is served by what all jobs share, by a session that the job has of a device, or by the clock: its type says by which. `Ask::fits`
+// is the table of asks. A contract sees a list of names as a list, a start as a record, and every other type by its fields. What an ask or
+// a reply can hold beyond what can be written, as a name whose word is none, is told by the tests of `formed`.
 #![tactic(auto)]
 
 mod ask;
@@ -11,7 +12,7 @@ mod formed;
 mod names;
 mod start;
 
-pub use ask::{Ask, Kind, Reply};
+pub use ask::{Ask, DeviceAsk, Kind, Reply, SharedAsk};
 pub use clash::{BoxedClash, Clash, Kept};
 pub use entry::Entry;
 pub use formed::{

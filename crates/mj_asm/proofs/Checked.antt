@@ -1,13 +1,13 @@
 -- The code of each piece has at each place the operands and the FORs that it needs there, and leads to places of its own.
 use Rattle.std.proofs.Common.{◌≡◌, ℕ, ◌+◌, ◌-◌, ◌≤◌, List, [], ◌∷◌, ◌++◌, length, map, Option, Some, None, refl, sym, ap, ◌∙◌, subst, arith, length-append}
 use Rattle.std.specs.Prelude.{⊤}
-use Rattle.mj_ast.specs.Syntax.{Expr, Chain, Tails, Done, Then, Operand, Literal, Value, Intrinsic, Unary, Group, Call, Select, Variable, Var, Exprs, No, More, Choices, Last, Before, Destination, Plain, Pieces, Targets, One, Several, Assignment, Killed, Gone, Spared, Merged, Output, Shown, Format, Coded, Called, Jumped, Started, Locked, Opened, Received, Input, Prompted, Arranged, Into, Range, Single, Endless, UpTo, Renewed, Fresh, Kept, Restartable, Command, Set, Write, Halt, Hang, Job, Lock, OpenDevice, UseDevice, CloseDevice, Read, Kill, Merge, If, Else, For, Forever, Do, Goto, Quit, New, TStart, TCommit, TRestart, TRollback, Break, Step, Line, About}
+use Rattle.mj_ast.specs.Syntax.{Expr, Chain, Tails, Done, Then, Operand, Literal, Value, Intrinsic, Unary, Group, Call, Select, Variable, Var, Exprs, No, More, Choices, Last, Before, Destination, Plain, Pieces, Targets, One, Several, Assignment, Killed, Gone, Spared, Merged, Output, Shown, Format, Coded, Called, Jumped, Started, Locked, Opened, Received, Input, Prompted, Arranged, Into, Range, Single, Endless, UpTo, Renewed, Fresh, Kept, Restartable, Command, Set, Write, Halt, Hang, Job, Lock, OpenDevice, UseDevice, CloseDevice, Read, Kill, Merge, If, Else, For, Forever, Do, Goto, Quit, New, TStart, TCommit, TRestart, TRollback, Break, LineCommand, Line, About}
 use Rattle.mj_semantics.specs.Lines.{Here, next_line, entry_of}
 use Rattle.mj_semantics.specs.Transactions.{listed_by, serial_by}
 use Rattle.mj_pcode.specs.declared.instr.Depth.{Depth}
 use Rattle.mj_pcode.specs.declared.instr.Reference.{Reference}
 use Rattle.mj_pcode.specs.declared.instr.Wait.{Wait}
-use Rattle.mj_ast.specs.declared.routine.Mark.{Mark}
+use Rattle.mj_ast.specs.declared.routine.FormatMark.{FormatMark}
 use Rattle.mj_ast.specs.declared.routine.ReadMode.{ReadMode}
 use Rattle.mj_ast.specs.declared.routine.LockMode.{LockMode}
 use Rattle.mj_ast.specs.declared.routine.LockMode.TheVariants.{Whole, Plus, Minus}
@@ -15,28 +15,28 @@ use Rattle.mj_pcode.specs.declared.instr.Span.TheVariants as span
 use Rattle.mj_pcode.specs.declared.instr.Instr.{Instr}
 use Rattle.mj_pcode.specs.declared.instr.Instr.TheVariants as instr
 use Rattle.mj_pcode.specs.Machine.{given_count, wait_size, counts}
-use Rattle.mj_pcode.specs.Checked.{Footing, footing, bare, behind, Holds, Fits}
-use Rattle.mj_asm.specs.Code.{count, reference, expr_code, tails_code, operand_code, choices_code, subscripts_code, exprs_code, size, sizes, destination_code, destinations_code, store_code, stores_code, targets_code, assignment_code, assignments_code, names_code, kill_code, kills_code, kill_all_code, merge_code, merges_code, format_code, output_code, outputs_code, renewed_code, news_code, new_all_code, actuals_code, shape_of, timeout_code, wait_of, hang_code, hangs_code, start_code, jobs_code, name_code, variables_code, lock_variables, taking_code, lock_code, locks_code, lock_all_code, open_code, opens_code, use_code, uses_code, close_code, closes_code, taken_code, receive_code, input_code, inputs_code, code_if, call_code, calls_code, do_code, jump_code, jumps_code, quit_code, ifs_code, if_code, else_code, range_code, ranges_code, body_code, for_code, restores_by, begin_code, transaction_code, commit_code, restart_code, command_code, and_then, obey_code, steps_code, line_code, lines_code}
+use Rattle.mj_pcode.specs.Checked.{Footing, footing, bare, footing_behind, Holds, InstrFits}
+use Rattle.mj_asm.specs.Code.{count, reference, expr_code, tails_code, operand_code, choices_code, subscripts_code, exprs_code, size, sizes, destination_code, destinations_code, store_code, stores_code, targets_code, assignment_code, assignments_code, names_code, kill_code, kills_code, kill_all_code, merge_code, merges_code, format_code, output_code, outputs_code, set_piece_code, news_code, new_all_code, actuals_code, shape_of, timeout_code, wait_of, hang_code, hangs_code, start_code, jobs_code, name_code, variables_code, lock_variables, taking_code, lock_code, locks_code, lock_all_code, open_code, opens_code, use_code, uses_code, close_code, closes_code, taken_code, receive_code, input_code, inputs_code, code_if, call_code, calls_code, do_code, jump_code, jumps_code, quit_code, ifs_code, if_code, else_code, range_code, ranges_code, body_code, for_code, restores_by, begin_code, transaction_code, commit_code, restart_code, command_code, and_then, obey_code, steps_code, line_code, lines_code}
 
 -- what the place behind code holds
 abbrev pub reached : Footing → List Instr → Footing
 reached f [] = f
-reached f (i ∷ is) = reached (behind i f) is
+reached f (i ∷ is) = reached (footing_behind i f) is
 
 pub reached_both : (f : Footing) (a b : List Instr) → reached f (a ++ b) ≡ reached (reached f a) b
 reached_both f [] b = refl
-reached_both f (i ∷ a) b = reached_both (behind i f) a b
+reached_both f (i ∷ a) b = reached_both (footing_behind i f) a b
 
 module _ (fs : List Footing) where
   -- the places of code that begins here hold what the code leaves
   abbrev pub Laid : ℕ → Footing → List Instr → Type 0
   Laid pc f [] = Holds fs pc f
-  Laid pc f (i ∷ is) = Holds fs pc f × Laid (pc + 1) (behind i f) is
+  Laid pc f (i ∷ is) = Holds fs pc f × Laid (pc + 1) (footing_behind i f) is
 
   -- its instructions have what they need, and so have the places that they lead to
   abbrev pub Fit : ℕ → Footing → List Instr → Type 0
   Fit pc f [] = ⊤
-  Fit pc f (i ∷ is) = Fits fs pc i f × Fit (pc + 1) (behind i f) is
+  Fit pc f (i ∷ is) = InstrFits fs pc i f × Fit (pc + 1) (footing_behind i f) is
 
   -- code that begins here leads from this to that
   abbrev pub Goes : ℕ → List Instr → Footing → Footing → Type 0
@@ -48,25 +48,25 @@ module _ (fs : List Footing) where
 
   pub laid_front : (pc : ℕ) (f : Footing) (a b : List Instr) → Laid pc f (a ++ b) → Laid pc f a
   laid_front pc f [] b h = laid_here pc f b h
-  laid_front pc f (i ∷ a) b h = (h.0, laid_front (pc + 1) (behind i f) a b h.1)
+  laid_front pc f (i ∷ a) b h = (h.0, laid_front (pc + 1) (footing_behind i f) a b h.1)
 
   pub laid_back : (pc : ℕ) (f : Footing) (a b : List Instr) → Laid pc f (a ++ b) → Laid (pc + length a) (reached f a) b
   laid_back pc f [] b h = let e : pc ≡ pc + 0 = omega arith in subst (λ n. Laid n f b) e h
   laid_back pc f (i ∷ a) b h =
       let e : pc + 1 + length a ≡ pc + length (i ∷ a) = omega arith in
-      subst (λ n. Laid n (reached (behind i f) a) b) e (laid_back (pc + 1) (behind i f) a b h.1)
+      subst (λ n. Laid n (reached (footing_behind i f) a) b) e (laid_back (pc + 1) (footing_behind i f) a b h.1)
 
   pub laid_end : (pc : ℕ) (f : Footing) (c : List Instr) → Laid pc f c → Holds fs (pc + length c) (reached f c)
   laid_end pc f [] h = let e : pc ≡ pc + 0 = omega arith in subst (λ n. Holds fs n f) e h
   laid_end pc f (i ∷ is) h =
       let e : pc + 1 + length is ≡ pc + length (i ∷ is) = omega arith in
-      subst (λ n. Holds fs n (reached (behind i f) is)) e (laid_end (pc + 1) (behind i f) is h.1)
+      subst (λ n. Holds fs n (reached (footing_behind i f) is)) e (laid_end (pc + 1) (footing_behind i f) is h.1)
 
   fit_both : (pc : ℕ) (f : Footing) (a b : List Instr) → Fit pc f a → Fit (pc + length a) (reached f a) b → Fit pc f (a ++ b)
   fit_both pc f [] b h k = let e : pc + 0 ≡ pc = omega arith in subst (λ n. Fit n f b) e k
   fit_both pc f (i ∷ a) b h k =
       let e : pc + length (i ∷ a) ≡ pc + 1 + length a = omega arith in
-      (h.0, fit_both (pc + 1) (behind i f) a b h.1 (subst (λ n. Fit n (reached (behind i f) a) b) e k))
+      (h.0, fit_both (pc + 1) (footing_behind i f) a b h.1 (subst (λ n. Fit n (reached (footing_behind i f) a) b) e k))
 
   pub nothing : (pc : ℕ) (f : Footing) → Goes pc [] f f
   nothing pc f h = (refl, tt)
@@ -81,8 +81,8 @@ module _ (fs : List Footing) where
       )
 
   -- an instruction, by the code behind it
-  pub led : (pc : ℕ) (f g h : Footing) (i : Instr) (rest : List Instr) → behind i f ≡ g
-      → (Laid (pc + 1) g rest → Holds fs (pc + 1 + length rest) h → Fits fs pc i f) → Goes (pc + 1) rest g h → Goes pc (i ∷ rest) f h
+  pub led : (pc : ℕ) (f g h : Footing) (i : Instr) (rest : List Instr) → footing_behind i f ≡ g
+      → (Laid (pc + 1) g rest → Holds fs (pc + 1 + length rest) h → InstrFits fs pc i f) → Goes (pc + 1) rest g h → Goes pc (i ∷ rest) f h
   led pc f g h i rest e fits goes laid =
       let next : Laid (pc + 1) g rest = subst (λ x. Laid (pc + 1) x rest) e laid.1 in
       let r = goes next in
@@ -90,10 +90,10 @@ module _ (fs : List Footing) where
       (ap (λ x. reached x rest) e ∙ r.0, (fits next end, subst (λ x. Fit (pc + 1) x rest) (sym e) r.1))
 
   -- one that leads on only to the next
-  pub on : (pc : ℕ) (f g h : Footing) (i : Instr) (rest : List Instr) → behind i f ≡ g → Fits fs pc i f → Goes (pc + 1) rest g h → Goes pc (i ∷ rest) f h
+  pub on : (pc : ℕ) (f g h : Footing) (i : Instr) (rest : List Instr) → footing_behind i f ≡ g → InstrFits fs pc i f → Goes (pc + 1) rest g h → Goes pc (i ∷ rest) f h
   on pc f g h i rest e fits goes = led pc f g h i rest e (λ l k. fits) goes
 
-  pub one : (pc : ℕ) (f g : Footing) (i : Instr) → behind i f ≡ g → Fits fs pc i f → Goes pc (i ∷ []) f g
+  pub one : (pc : ℕ) (f g : Footing) (i : Instr) → footing_behind i f ≡ g → InstrFits fs pc i f → Goes pc (i ∷ []) f g
   one pc f g i e fits = on pc f g g i [] e fits (nothing (pc + 1) g)
 
   pub goes_as : (pc : ℕ) (f g h : Footing) (c : List Instr) → g ≡ h → Goes pc c f g → Goes pc c f h
@@ -110,7 +110,7 @@ module _ (fs : List Footing) where
     -- a condition, its value, and the choices behind it
     choice_goes : (pc d : ℕ) (cc ce more : List Instr) → Goes pc cc (at d) (at (d + 1)) → Goes (pc + length cc + 1) ce (at d) (at (d + 1))
         → Goes (pc + length cc + 1 + length ce + 1) more (at d) (at (d + 1))
-        → Goes pc (cc ++ instr.Unless (pc + length cc + 1 + length ce + 1) ∷ (ce ++ instr.Jump (pc + length cc + 1 + length ce + 1 + length more) ∷ more)) (at d) (at (d + 1))
+        → Goes pc (cc ++ instr.JumpUnless (pc + length cc + 1 + length ce + 1) ∷ (ce ++ instr.Jump (pc + length cc + 1 + length ce + 1 + length more) ∷ more)) (at d) (at (d + 1))
     choice_goes pc d cc ce more gc ge gm =
         let value = pc + length cc + 1 in
         let others = value + length ce + 1 in
@@ -118,12 +118,12 @@ module _ (fs : List Footing) where
         let less : at (d + 1 - 1) ≡ at d = same (d + 1 - 1) d (omega arith) in
         let rest : Goes value (ce ++ jump ∷ more) (at d) (at (d + 1)) =
         both value (at d) (at (d + 1)) (at (d + 1)) ce (jump ∷ more) ge (led (value + length ce) (at (d + 1)) (at d) (at (d + 1)) jump more less (λ l e. (tt, e)) gm) in
-        both pc (at d) (at (d + 1)) (at (d + 1)) cc (instr.Unless others ∷ (ce ++ jump ∷ more)) gc
-        (led (pc + length cc) (at (d + 1)) (at d) (at (d + 1)) (instr.Unless others) (ce ++ jump ∷ more) less
+        both pc (at d) (at (d + 1)) (at (d + 1)) cc (instr.JumpUnless others ∷ (ce ++ jump ∷ more)) gc
+        (led (pc + length cc) (at (d + 1)) (at d) (at (d + 1)) (instr.JumpUnless others) (ce ++ jump ∷ more) less
         (λ l e. (
           omega arith,
-          subst (λ x. Holds fs others (behind jump x)) (ge (laid_front value (at d) ce (jump ∷ more) l)).0
-              (laid_here others (behind jump (reached (at d) ce)) more (laid_back value (at d) ce (jump ∷ more) l).1),
+          subst (λ x. Holds fs others (footing_behind jump x)) (ge (laid_front value (at d) ce (jump ∷ more) l)).0
+              (laid_here others (footing_behind jump (reached (at d) ce)) more (laid_back value (at d) ce (jump ∷ more) l).1),
         )) rest)
 
     mutual
@@ -148,7 +148,7 @@ module _ (fs : List Footing) where
           let n = (reference v).count in
           both pc (at d) (at (d + n)) (at (d + 1)) cs (instr.Load (reference v) ∷ []) (subscripts_go v pc d)
           (one (pc + length cs) (at (d + n)) (at (d + 1)) (instr.Load (reference v)) (same (d + n - n + 1) (d + 1) (omega arith)) (omega arith, tt))
-      operand_goes (Intrinsic v) pc d = one pc (at d) (at (d + 1)) (instr.Special v) refl (tt, tt)
+      operand_goes (Intrinsic v) pc d = one pc (at d) (at (d + 1)) (instr.PushSpecial v) refl (tt, tt)
       operand_goes (Unary op x) pc d =
           let cx = operand_code pc x in
           both pc (at d) (at (d + 1)) (at (d + 1)) cx (instr.Unary op ∷ []) (operand_goes x pc d)
@@ -157,16 +157,16 @@ module _ (fs : List Footing) where
       operand_goes (Call g es) pc d =
           let ce = exprs_code pc es in
           let n = count es in
-          both pc (at d) (at (d + n)) (at (d + 1)) ce (instr.Call g n ∷ []) (exprs_go es pc d)
-          (one (pc + length ce) (at (d + n)) (at (d + 1)) (instr.Call g n) (same (d + n - n + 1) (d + 1) (omega arith)) (omega arith, tt))
+          both pc (at d) (at (d + n)) (at (d + 1)) ce (instr.CallFunction g n ∷ []) (exprs_go es pc d)
+          (one (pc + length ce) (at (d + n)) (at (d + 1)) (instr.CallFunction g n) (same (d + n - n + 1) (d + 1) (omega arith)) (omega arith, tt))
       operand_goes (About g v es) pc d =
           let cs = subscripts_code pc v in
           let n = (reference v).count in
           let m = count es in
           let ce = exprs_code (pc + length cs + 1) es in
-          let last = instr.About g (reference v) (n + m) in
-          both pc (at d) (at (d + n)) (at (d + 1)) cs (instr.Named g (reference v) ∷ (ce ++ last ∷ [])) (subscripts_go v pc d)
-          (on (pc + length cs) (at (d + n)) (at (d + n)) (at (d + 1)) (instr.Named g (reference v)) (ce ++ last ∷ []) refl (omega arith, tt)
+          let last = instr.CallNameFunction g (reference v) (n + m) in
+          both pc (at d) (at (d + n)) (at (d + 1)) cs (instr.CheckNamed g (reference v) ∷ (ce ++ last ∷ [])) (subscripts_go v pc d)
+          (on (pc + length cs) (at (d + n)) (at (d + n)) (at (d + 1)) (instr.CheckNamed g (reference v)) (ce ++ last ∷ []) refl (omega arith, tt)
           (both (pc + length cs + 1) (at (d + n)) (at (d + n + m)) (at (d + 1)) ce (last ∷ []) (exprs_go es (pc + length cs + 1) (d + n))
           (one (pc + length cs + 1 + length ce) (at (d + n + m)) (at (d + 1)) last (same (d + n + m - (n + m) + 1) (d + 1) (omega arith)) ((omega arith, omega arith), tt))))
       operand_goes (Select choices) pc d = choices_go choices pc d
@@ -188,7 +188,7 @@ module _ (fs : List Footing) where
           let value = pc + length cc + 1 in
           let ce = expr_code value e in
           let others = value + length ce + 1 in
-          choice_goes pc d cc ce (instr.NoneTrue ∷ []) (expr_goes c pc d) (expr_goes e value d) (one others (at d) (at (d + 1)) instr.NoneTrue refl (tt, tt))
+          choice_goes pc d cc ce (instr.SelectFails ∷ []) (expr_goes c pc d) (expr_goes e value d) (one others (at d) (at (d + 1)) instr.SelectFails refl (tt, tt))
       choices_go (Before c e rest) pc d =
           let cc = expr_code pc c in
           let value = pc + length cc + 1 in
@@ -201,14 +201,14 @@ module _ (fs : List Footing) where
     destination_goes (Plain v) pc d =
         let cs = subscripts_code pc v in
         let n = (reference v).count in
-        both pc (at d) (at (d + n)) (at (d + n)) cs (instr.Check (reference v) ∷ []) (subscripts_go v pc d)
-        (one (pc + length cs) (at (d + n)) (at (d + n)) (instr.Check (reference v)) refl (omega arith, tt))
+        both pc (at d) (at (d + n)) (at (d + n)) cs (instr.CheckName (reference v) ∷ []) (subscripts_go v pc d)
+        (one (pc + length cs) (at (d + n)) (at (d + n)) (instr.CheckName (reference v)) refl (omega arith, tt))
     destination_goes (Pieces v es) pc d =
         let cs = subscripts_code pc v in
         let n = (reference v).count in
         let ce = exprs_code (pc + length cs + 1) es in
-        both pc (at d) (at (d + n)) (at (d + (n + count es))) cs (instr.Check (reference v) ∷ ce) (subscripts_go v pc d)
-        (on (pc + length cs) (at (d + n)) (at (d + n)) (at (d + (n + count es))) (instr.Check (reference v)) ce refl (omega arith, tt)
+        both pc (at d) (at (d + n)) (at (d + (n + count es))) cs (instr.CheckName (reference v) ∷ ce) (subscripts_go v pc d)
+        (on (pc + length cs) (at (d + n)) (at (d + n)) (at (d + (n + count es))) (instr.CheckName (reference v)) ce refl (omega arith, tt)
         (goes_as (pc + length cs + 1) (at (d + n)) (at (d + n + count es)) (at (d + (n + count es))) ce (same (d + n + count es) (d + (n + count es)) (omega arith)) (exprs_go es (pc + length cs + 1) (d + n))))
 
     destinations_go : (list : List Destination) (pc d : ℕ) → Goes pc (destinations_code pc list) (at d) (at (d + sizes list))
@@ -227,7 +227,7 @@ module _ (fs : List Footing) where
         let m = count es in
         let under : Depth = record { above = depth.above + m + 1; taken = depth.taken + 1 } in
         let e : pc + 1 + length (instr.Store (reference v) under ∷ []) ≡ pc + 2 = omega arith in
-        led pc (at d) (at (d + 1)) (at (d - depth.taken)) (instr.Renew (reference v) m depth) (instr.Store (reference v) under ∷ []) refl
+        led pc (at d) (at (d + 1)) (at (d - depth.taken)) (instr.SetPiece (reference v) m depth) (instr.Store (reference v) under ∷ []) refl
         (λ l h. ((some, omega (arith, deep), few), subst (λ p. Holds fs p (at (d - depth.taken))) e h))
         (one (pc + 1) (at (d + 1)) (at (d - depth.taken)) (instr.Store (reference v) under) (same (d + 1 - (depth.taken + 1)) (d - depth.taken) (omega arith))
         ((omega arith, omega (arith, deep), omega (arith, few)), tt))
@@ -274,15 +274,15 @@ module _ (fs : List Footing) where
         both pc (at 0) (at 0) (at 0) ca (assignments_code (pc + length ca) list) (targets_go a.targets a.value pc 0) (assignments_go list (pc + length ca))
 
     -- a value, and an instruction that takes it off and leads only to the next
-    taken_goes : (e : Expr) (i : Instr) → behind i (at (0 + 1)) ≡ at (0 + 1 - 1) → ((pc : ℕ) → Fits fs pc i (at (0 + 1))) → Passes (λ pc. expr_code pc e ++ i ∷ [])
+    taken_goes : (e : Expr) (i : Instr) → footing_behind i (at (0 + 1)) ≡ at (0 + 1 - 1) → ((pc : ℕ) → InstrFits fs pc i (at (0 + 1))) → Passes (λ pc. expr_code pc e ++ i ∷ [])
     taken_goes e i leaves fits pc =
         let ce = expr_code pc e in
         both pc (at 0) (at (0 + 1)) (at 0) ce (i ∷ []) (expr_goes e pc 0)
         (one (pc + length ce) (at (0 + 1)) (at 0) i (leaves ∙ same (0 + 1 - 1) 0 (omega arith)) (fits (pc + length ce)))
 
-    format_goes : (marks : List Mark) (o : Option Expr) → Passes (λ pc. format_code pc marks o)
-    format_goes marks None pc = one pc (at 0) (at 0) (instr.Format marks) refl (tt, tt)
-    format_goes marks (Some e) pc = taken_goes e (instr.Tab marks) refl (λ q. (omega arith, tt)) pc
+    format_goes : (marks : List FormatMark) (o : Option Expr) → Passes (λ pc. format_code pc marks o)
+    format_goes marks None pc = one pc (at 0) (at 0) (instr.WriteFormat marks) refl (tt, tt)
+    format_goes marks (Some e) pc = taken_goes e (instr.WriteTab marks) refl (λ q. (omega arith, tt)) pc
 
     output_goes : (o : Output) → Passes (λ pc. output_code pc o)
     output_goes (Shown e) pc =
@@ -306,12 +306,12 @@ module _ (fs : List Footing) where
     kill_goes (Gone v) pc =
         let cs = subscripts_code pc v in
         let n = (reference v).count in
-        both pc (at 0) (at (0 + n)) (at 0) cs (instr.Check (reference v) ∷ instr.Kill (reference v) ∷ []) (subscripts_go v pc 0)
-        (on (pc + length cs) (at (0 + n)) (at (0 + n)) (at 0) (instr.Check (reference v)) (instr.Kill (reference v) ∷ []) refl (omega arith, tt)
+        both pc (at 0) (at (0 + n)) (at 0) cs (instr.CheckName (reference v) ∷ instr.Kill (reference v) ∷ []) (subscripts_go v pc 0)
+        (on (pc + length cs) (at (0 + n)) (at (0 + n)) (at 0) (instr.CheckName (reference v)) (instr.Kill (reference v) ∷ []) refl (omega arith, tt)
         (one (pc + length cs + 1) (at (0 + n)) (at 0) (instr.Kill (reference v)) (same (0 + n - n) 0 (omega arith)) (omega arith, tt)))
     kill_goes (Spared words) pc =
         let cn = names_code words in
-        both pc (at 0) (at 0) (at 0) cn (instr.Spare words ∷ []) (names_go words pc) (one (pc + length cn) (at 0) (at 0) (instr.Spare words) refl (tt, tt))
+        both pc (at 0) (at 0) (at 0) cn (instr.KillExcept words ∷ []) (names_go words pc) (one (pc + length cn) (at 0) (at 0) (instr.KillExcept words) refl (tt, tt))
 
     kills_go : (list : List Killed) → Passes (λ pc. kills_code pc list)
     kills_go [] pc = nothing pc (at 0)
@@ -320,7 +320,7 @@ module _ (fs : List Footing) where
         both pc (at 0) (at 0) (at 0) cx (kills_code (pc + length cx) list) (kill_goes x pc) (kills_go list (pc + length cx))
 
     kill_all_goes : (list : List Killed) → Passes (λ pc. kill_all_code pc list)
-    kill_all_goes [] pc = one pc (at 0) (at 0) (instr.Spare []) refl (tt, tt)
+    kill_all_goes [] pc = one pc (at 0) (at 0) (instr.KillExcept []) refl (tt, tt)
     kill_all_goes (x ∷ list) pc = kills_go (x ∷ list) pc
 
     merge_goes : (m : Merged) → Passes (λ pc. merge_code pc m)
@@ -329,11 +329,11 @@ module _ (fs : List Footing) where
         let n = (reference m.into).count in
         let j = (reference m.from).count in
         let cf = subscripts_code (pc + length ci + 1) m.from in
-        let take = instr.Take (reference m.into) (reference m.from) in
-        let put = instr.Put (reference m.into) in
+        let take = instr.MergeTake (reference m.into) (reference m.from) in
+        let put = instr.MergePut (reference m.into) in
         let last = pc + length ci + 1 + length cf in
-        both pc (at 0) (at (0 + n)) (at 0) ci (instr.Check (reference m.into) ∷ (cf ++ take ∷ put ∷ [])) (subscripts_go m.into pc 0)
-        (on (pc + length ci) (at (0 + n)) (at (0 + n)) (at 0) (instr.Check (reference m.into)) (cf ++ take ∷ put ∷ []) refl (omega arith, tt)
+        both pc (at 0) (at (0 + n)) (at 0) ci (instr.CheckName (reference m.into) ∷ (cf ++ take ∷ put ∷ [])) (subscripts_go m.into pc 0)
+        (on (pc + length ci) (at (0 + n)) (at (0 + n)) (at 0) (instr.CheckName (reference m.into)) (cf ++ take ∷ put ∷ []) refl (omega arith, tt)
         (both (pc + length ci + 1) (at (0 + n)) (at (0 + n + j)) (at 0) cf (take ∷ put ∷ []) (subscripts_go m.from (pc + length ci + 1) (0 + n))
         (on last (at (0 + n + j)) (at (0 + n)) (at 0) take (put ∷ []) (same (0 + n + j - j) (0 + n) (omega arith)) (omega arith, tt)
         (one (last + 1) (at (0 + n)) (at 0) put (same (0 + n - n) 0 (omega arith)) (omega arith, tt)))))
@@ -344,7 +344,7 @@ module _ (fs : List Footing) where
         let cm = merge_code pc m in
         both pc (at 0) (at 0) (at 0) cm (merges_code (pc + length cm) list) (merge_goes m pc) (merges_go list (pc + length cm))
 
-    renewed_goes : (r : Renewed) → Passes (λ pc. renewed_code r)
+    renewed_goes : (r : Renewed) → Passes (λ pc. set_piece_code r)
     renewed_goes (Fresh word) pc = one pc (at 0) (at 0) (instr.New (word ∷ [])) refl (tt, tt)
     renewed_goes (Kept words) pc =
         let cn = names_code words in
@@ -353,7 +353,7 @@ module _ (fs : List Footing) where
     news_go : (list : List Renewed) → Passes (λ pc. news_code list)
     news_go [] pc = nothing pc (at 0)
     news_go (r ∷ list) pc =
-        let cr = renewed_code r in
+        let cr = set_piece_code r in
         both pc (at 0) (at 0) (at 0) cr (news_code list) (renewed_goes r pc) (news_go list (pc + length cr))
 
     new_all_goes : (list : List Renewed) → Passes (λ pc. new_all_code list)
@@ -374,7 +374,7 @@ module _ (fs : List Footing) where
     timeout_goes None pc d = goes_as pc (at d) (at d) (at (d + 0)) [] (same d (d + 0) (omega arith)) (nothing pc (at d))
     timeout_goes (Some e) pc d =
         let ce = expr_code pc e in
-        both pc (at d) (at (d + 1)) (at (d + 1)) ce (instr.Number ∷ []) (expr_goes e pc d) (one (pc + length ce) (at (d + 1)) (at (d + 1)) instr.Number refl (omega arith, tt))
+        both pc (at d) (at (d + 1)) (at (d + 1)) ce (instr.CheckNumber ∷ []) (expr_goes e pc d) (one (pc + length ce) (at (d + 1)) (at (d + 1)) instr.CheckNumber refl (omega arith, tt))
 
     hang_goes : (e : Expr) → Passes (λ pc. hang_code pc e)
     hang_goes e pc =
@@ -394,7 +394,7 @@ module _ (fs : List Footing) where
         let pw = pc + length ca in
         let cw = timeout_code pw s.timeout in
         let w = wait_size (wait_of s.timeout) in
-        let i = instr.Start (entry_of here s.target) (shape_of s.actuals) (wait_of s.timeout) in
+        let i = instr.StartJob (entry_of here s.target) (shape_of s.actuals) (wait_of s.timeout) in
         both pc (at 0) (at (0 + n)) (at 0) ca (cw ++ i ∷ []) (actuals_go s.actuals pc 0)
         (both pw (at (0 + n)) (at (0 + n + w)) (at 0) cw (i ∷ []) (timeout_goes s.timeout pw (0 + n))
         (one (pw + length cw) (at (0 + n + w)) (at 0) i (same (0 + n + w - (n + w)) 0 (omega arith)) (omega arith, tt)))
@@ -409,8 +409,8 @@ module _ (fs : List Footing) where
     name_goes v pc d =
         let cs = subscripts_code pc v in
         let n = (reference v).count in
-        both pc (at d) (at (d + n)) (at (d + n)) cs (instr.Check (reference v) ∷ []) (subscripts_go v pc d)
-        (one (pc + length cs) (at (d + n)) (at (d + n)) (instr.Check (reference v)) refl (omega arith, tt))
+        both pc (at d) (at (d + n)) (at (d + n)) cs (instr.CheckName (reference v) ∷ []) (subscripts_go v pc d)
+        (one (pc + length cs) (at (d + n)) (at (d + n)) (instr.CheckName (reference v)) refl (omega arith, tt))
 
     variables_go : (vs : List Variable) (pc d : ℕ) → Goes pc (variables_code pc vs) (at d) (at (d + counts (map reference vs)))
     variables_go [] pc d = goes_as pc (at d) (at d) (at (d + 0)) [] (same d (d + 0) (omega arith)) (nothing pc (at d))
@@ -460,7 +460,7 @@ module _ (fs : List Footing) where
         let w = wait_of o.timeout in
         let n = wait_size w in
         let d = 0 + 1 + n in
-        let i = instr.Obtain w in
+        let i = instr.OpenDevice w in
         let at_begin = pw + length cw + 1 in
         let e : at_begin + length (instr.BeginSession ∷ []) ≡ pw + length cw + 2 = omega arith in
         let gone : at 0 ≡ at (d - (1 + n)) = same 0 (d - (1 + n)) (omega arith) in
@@ -480,21 +480,21 @@ module _ (fs : List Footing) where
     uses_go [] pc = nothing pc (at 0)
     uses_go (e ∷ es) pc =
         let cu = use_code pc e in
-        both pc (at 0) (at 0) (at 0) cu (uses_code (pc + length cu) es) (taken_goes e instr.Use refl (λ q. (omega arith, tt)) pc) (uses_go es (pc + length cu))
+        both pc (at 0) (at 0) (at 0) cu (uses_code (pc + length cu) es) (taken_goes e instr.UseDevice refl (λ q. (omega arith, tt)) pc) (uses_go es (pc + length cu))
 
     close_goes : (e : Expr) → Passes (λ pc. close_code pc e)
     close_goes e pc =
         let ce = expr_code pc e in
         let pe = pc + length ce in
-        let rest = instr.GiveUpFailed ∷ instr.GiveUp ∷ [] in
+        let rest = instr.GiveUpFailedDevice ∷ instr.GiveUpDevice ∷ [] in
         let well : pe + 1 + 1 ≡ pe + 2 = omega arith in
         let past : pe + 1 + length rest ≡ pe + 3 = omega arith in
         let gone : at 0 ≡ at (0 + 1 - 1) = same 0 (0 + 1 - 1) (omega arith) in
         both pc (at 0) (at (0 + 1)) (at 0) ce (instr.EndSession ∷ rest) (expr_goes e pc 0)
         (led pe (at (0 + 1)) (at (0 + 1)) (at 0) instr.EndSession rest refl
-        (λ l h. (omega arith, (subst (λ p. Holds fs p (at (0 + 1))) well (laid_here (pe + 1 + 1) (at (0 + 1)) (instr.GiveUp ∷ []) l.1), subst (λ f. Holds fs (pe + 3) f) gone (subst (λ p. Holds fs p (at 0)) past h))))
-        (on (pe + 1) (at (0 + 1)) (at (0 + 1)) (at 0) instr.GiveUpFailed (instr.GiveUp ∷ []) refl (omega arith, tt)
-        (one (pe + 1 + 1) (at (0 + 1)) (at 0) instr.GiveUp (same (0 + 1 - 1) 0 (omega arith)) (omega arith, tt))))
+        (λ l h. (omega arith, (subst (λ p. Holds fs p (at (0 + 1))) well (laid_here (pe + 1 + 1) (at (0 + 1)) (instr.GiveUpDevice ∷ []) l.1), subst (λ f. Holds fs (pe + 3) f) gone (subst (λ p. Holds fs p (at 0)) past h))))
+        (on (pe + 1) (at (0 + 1)) (at (0 + 1)) (at 0) instr.GiveUpFailedDevice (instr.GiveUpDevice ∷ []) refl (omega arith, tt)
+        (one (pe + 1 + 1) (at (0 + 1)) (at 0) instr.GiveUpDevice (same (0 + 1 - 1) 0 (omega arith)) (omega arith, tt))))
 
     closes_go : (es : List Expr) → Passes (λ pc. closes_code pc es)
     closes_go [] pc = nothing pc (at 0)
@@ -536,8 +536,8 @@ module _ (fs : List Footing) where
         both pc (at 0) (at 0) (at 0) ci (inputs_code (pc + length ci) list) (input_goes i pc) (inputs_go list (pc + length ci))
 
     -- code behind a test, which leads past it
-    tested : (pc : ℕ) (e : Expr) (i : Instr) (rest : List Instr) → behind i (at (0 + 1)) ≡ at (0 + 1 - 1)
-        → (Holds fs (pc + length (expr_code pc e) + 1 + length rest) (at (0 + 1 - 1)) → Fits fs (pc + length (expr_code pc e)) i (at (0 + 1)))
+    tested : (pc : ℕ) (e : Expr) (i : Instr) (rest : List Instr) → footing_behind i (at (0 + 1)) ≡ at (0 + 1 - 1)
+        → (Holds fs (pc + length (expr_code pc e) + 1 + length rest) (at (0 + 1 - 1)) → InstrFits fs (pc + length (expr_code pc e)) i (at (0 + 1)))
         → Goes (pc + length (expr_code pc e) + 1) rest (at 0) (at 0) → Goes pc (expr_code pc e ++ i ∷ rest) (at 0) (at 0)
     tested pc e i rest is fits goes =
         let ce = expr_code pc e in
@@ -549,7 +549,7 @@ module _ (fs : List Footing) where
     code_if_goes None code goes pc = goes pc
     code_if_goes (Some e) code goes pc =
         let at_body = pc + length (expr_code pc e) + 1 in
-        tested pc e (instr.Unless (at_body + length (code at_body))) (code at_body) refl (λ h. (omega arith, h)) (goes at_body)
+        tested pc e (instr.JumpUnless (at_body + length (code at_body))) (code at_body) refl (λ h. (omega arith, h)) (goes at_body)
 
     call_goes : (here : Here) (c : Called) → Passes (call_code here c)
     call_goes here c pc =
@@ -565,7 +565,7 @@ module _ (fs : List Footing) where
         both pc (at 0) (at 0) (at 0) cc (calls_code here (pc + length cc) list) (code_if_goes c.condition (call_code here c) (call_goes here c) pc) (calls_go here list (pc + length cc))
 
     do_goes : (here : Here) (list : List Called) → Passes (λ pc. do_code here pc list)
-    do_goes here [] pc = one pc (at 0) (at 0) (instr.Block here.line) refl (refl, tt)
+    do_goes here [] pc = one pc (at 0) (at 0) (instr.DoBlock here.line) refl (refl, tt)
     do_goes here (c ∷ list) pc = calls_go here (c ∷ list) pc
 
     jumps_go : (here : Here) (list : List Jumped) → Passes (λ pc. jumps_code here pc list)
@@ -593,16 +593,16 @@ module _ (fs : List Footing) where
         (led p (at 0) (at 0) (at 0) (instr.StartTransaction (restores_by a) (serial_by a)) (instr.MarkRestart ∷ []) refl (λ l h. (refl, subst (λ q. Holds fs q (at 0)) e h))
         (one (p + 1) (at 0) (at 0) instr.MarkRestart refl (refl, tt)))
 
-    again_goes : Passes (λ pc. instr.BeginAgain ∷ [])
-    again_goes pc = one pc (at 0) (at 0) instr.BeginAgain refl (tt, tt)
+    again_goes : Passes (λ pc. instr.BeginRestart ∷ [])
+    again_goes pc = one pc (at 0) (at 0) instr.BeginRestart refl (tt, tt)
 
     commit_goes : Passes (λ pc. commit_code)
     commit_goes pc =
-        let e : pc + 1 + length (instr.BeginAgain ∷ []) ≡ pc + 2 = omega arith in
-        led pc (at 0) (at 0) (at 0) instr.Commit (instr.BeginAgain ∷ []) refl (λ l h. (tt, subst (λ q. Holds fs q (at 0)) e h)) (again_goes (pc + 1))
+        let e : pc + 1 + length (instr.BeginRestart ∷ []) ≡ pc + 2 = omega arith in
+        led pc (at 0) (at 0) (at 0) instr.Commit (instr.BeginRestart ∷ []) refl (λ l h. (tt, subst (λ q. Holds fs q (at 0)) e h)) (again_goes (pc + 1))
 
     restart_goes : Passes (λ pc. restart_code)
-    restart_goes pc = on pc (at 0) (at 0) (at 0) instr.GiveBack (instr.BeginAgain ∷ []) refl (tt, tt) (again_goes (pc + 1))
+    restart_goes pc = on pc (at 0) (at 0) (at 0) instr.RollBackForRestart (instr.BeginRestart ∷ []) refl (tt, tt) (again_goes (pc + 1))
 
     command_goes : (here : Here) (out : Option ℕ) (command : Command) → Closes out → Passes (λ pc. command_code here pc out command)
     command_goes here out (Set list) closes pc = assignments_go list pc
@@ -636,25 +636,25 @@ module _ (fs : List Footing) where
     ifs_go [] rest goes pc = goes pc
     ifs_go (e ∷ es) rest goes pc =
         let at_body = pc + length (expr_code pc e) + 1 in
-        tested pc e (instr.Decide (at_body + length (ifs_code at_body es rest))) (ifs_code at_body es rest) refl (λ h. (omega arith, h)) (ifs_go es rest goes at_body)
+        tested pc e (instr.SetTest (at_body + length (ifs_code at_body es rest))) (ifs_code at_body es rest) refl (λ h. (omega arith, h)) (ifs_go es rest goes at_body)
 
     if_goes : (es : List Expr) (rest : ℕ → List Instr) → Passes rest → Passes (λ pc. if_code pc es rest)
-    if_goes [] rest goes pc = led pc (at 0) (at 0) (at 0) (instr.If (pc + 1 + length (rest (pc + 1)))) (rest (pc + 1)) refl (λ l h. (tt, h)) (goes (pc + 1))
+    if_goes [] rest goes pc = led pc (at 0) (at 0) (at 0) (instr.JumpUnlessTest (pc + 1 + length (rest (pc + 1)))) (rest (pc + 1)) refl (λ l h. (tt, h)) (goes (pc + 1))
     if_goes (e ∷ es) rest goes pc = ifs_go (e ∷ es) rest goes pc
 
     else_goes : (rest : ℕ → List Instr) → Passes rest → Passes (λ pc. else_code pc rest)
-    else_goes rest goes pc = led pc (at 0) (at 0) (at 0) (instr.Else (pc + 1 + length (rest (pc + 1)))) (rest (pc + 1)) refl (λ l h. (tt, h)) (goes (pc + 1))
+    else_goes rest goes pc = led pc (at 0) (at 0) (at 0) (instr.JumpIfTest (pc + 1 + length (rest (pc + 1)))) (rest (pc + 1)) refl (λ l h. (tt, h)) (goes (pc + 1))
 
     -- what a FOR goes through
     range_goes : 1 ≤ k → (r : Range) → Passes (λ pc. range_code pc r)
     range_goes some (Single a) pc =
         let ca = expr_code pc a in
-        both pc (at 0) (at (0 + 1)) (at 0) ca (instr.Begin span.One ∷ []) (expr_goes a pc 0)
-        (one (pc + length ca) (at (0 + 1)) (at 0) (instr.Begin span.One) refl ((omega arith, some), tt))
+        both pc (at 0) (at (0 + 1)) (at 0) ca (instr.ForBegin span.One ∷ []) (expr_goes a pc 0)
+        (one (pc + length ca) (at (0 + 1)) (at 0) (instr.ForBegin span.One) refl ((omega arith, some), tt))
     range_goes some (Endless a b) pc =
         let ca = expr_code pc a in
         let cb = expr_code (pc + length ca) b in
-        let last = instr.Begin span.Endless in
+        let last = instr.ForBegin span.Endless in
         both pc (at 0) (at (0 + 1)) (at 0) ca (cb ++ last ∷ []) (expr_goes a pc 0)
         (both (pc + length ca) (at (0 + 1)) (at (0 + 1 + 1)) (at 0) cb (last ∷ []) (expr_goes b (pc + length ca) (0 + 1))
         (one (pc + length ca + length cb) (at (0 + 1 + 1)) (at 0) last refl ((omega arith, some), tt)))
@@ -662,7 +662,7 @@ module _ (fs : List Footing) where
         let ca = expr_code pc a in
         let cb = expr_code (pc + length ca) b in
         let cc = expr_code (pc + length ca + length cb) c in
-        let last = instr.Begin span.UpTo in
+        let last = instr.ForBegin span.UpTo in
         both pc (at 0) (at (0 + 1)) (at 0) ca (cb ++ (cc ++ last ∷ [])) (expr_goes a pc 0)
         (both (pc + length ca) (at (0 + 1)) (at (0 + 1 + 1)) (at 0) cb (cc ++ last ∷ []) (expr_goes b (pc + length ca) (0 + 1))
         (both (pc + length ca + length cb) (at (0 + 1 + 1)) (at (0 + 1 + 1 + 1)) (at 0) cc (last ∷ []) (expr_goes c (pc + length ca + length cb) (0 + 1 + 1))
@@ -684,11 +684,11 @@ module _ (fs : List Footing) where
       let cr = rest (close + 1) (Some close) in
       let more : footing 0 (k + 1 - 1) ≡ footing 0 k = ap (λ n. footing 0 n) (omega arith) in
       let target = close + 1 + length cr + 1 in
-      let e : close + 1 + length (cr ++ instr.Again ∷ []) ≡ target = omega (arith, length-append cr (instr.Again ∷ [])) in
-      led close (footing 0 (k + 1)) (footing 0 (k + 1)) (footing 0 k) (instr.Close target) (cr ++ instr.Again ∷ []) refl
+      let e : close + 1 + length (cr ++ instr.ForAgain ∷ []) ≡ target = omega (arith, length-append cr (instr.ForAgain ∷ [])) in
+      led close (footing 0 (k + 1)) (footing 0 (k + 1)) (footing 0 k) (instr.ForClose target) (cr ++ instr.ForAgain ∷ []) refl
       (λ l h. ((refl, omega arith), subst (Holds fs target) (sym more) (subst (λ p. Holds fs p (footing 0 k)) e h)))
-      (both (close + 1) (footing 0 (k + 1)) (footing 0 (k + 1)) (footing 0 k) cr (instr.Again ∷ []) (goes (k + 1) (Some close) laid.0 (close + 1))
-      (one (close + 1 + length cr) (footing 0 (k + 1)) (footing 0 k) instr.Again more ((refl, omega arith), tt))) laid
+      (both (close + 1) (footing 0 (k + 1)) (footing 0 (k + 1)) (footing 0 k) cr (instr.ForAgain ∷ []) (goes (k + 1) (Some close) laid.0 (close + 1))
+      (one (close + 1 + length cr) (footing 0 (k + 1)) (footing 0 k) instr.ForAgain more ((refl, omega arith), tt))) laid
 
   for_goes : (v : Variable) (rs : List Range) (rest : ℕ → Option ℕ → List Instr) → Rest rest → (k pc : ℕ) → Goes pc (for_code pc v rs rest) (footing 0 k) (footing 0 k)
   for_goes v rs rest goes k pc =
@@ -698,7 +698,7 @@ module _ (fs : List Footing) where
       let cr = ranges_code first rs in
       let close = first + length cr in
       let cb = body_code close rest in
-      let opens = instr.Open (reference v).word n (close + 1) in
+      let opens = instr.ForOpen (reference v).word n (close + 1) in
       let inside = footing 0 (k + 1) in
       let ranges : Goes first cr inside inside = ranges_go (k + 1) (omega arith) rs first in
       both pc (footing 0 k) (footing (0 + n) k) (footing 0 k) cs (opens ∷ (cr ++ cb)) (subscripts_go k v pc 0)
@@ -706,16 +706,16 @@ module _ (fs : List Footing) where
       (λ l h. (
         omega arith,
         let back : Laid close inside cb = subst (λ x. Laid close x cb) (ranges (laid_front first inside cr cb l)).0 (laid_back first inside cr cb l) in
-            laid_here (close + 1) inside (rest (close + 1) (Some close) ++ instr.Again ∷ []) back.1,
+            laid_here (close + 1) inside (rest (close + 1) (Some close) ++ instr.ForAgain ∷ []) back.1,
       ))
       (both first inside inside (footing 0 k) cr cb ranges (body_goes rest goes k close)))
 
-  forever_goes : (rest : ℕ → Option ℕ → List Instr) → Rest rest → (k pc : ℕ) → Goes pc (instr.Forever ∷ body_code (pc + 1) rest) (footing 0 k) (footing 0 k)
+  forever_goes : (rest : ℕ → Option ℕ → List Instr) → Rest rest → (k pc : ℕ) → Goes pc (instr.ForForever ∷ body_code (pc + 1) rest) (footing 0 k) (footing 0 k)
   forever_goes rest goes k pc =
       let inside = footing 0 (k + 1) in
       let e : pc + 1 + 1 ≡ pc + 2 = omega arith in
-      led pc (footing 0 k) inside (footing 0 k) instr.Forever (body_code (pc + 1) rest) refl
-      (λ l h. (refl, subst (λ p. Holds fs p inside) e (laid_here (pc + 1 + 1) inside (rest (pc + 1 + 1) (Some (pc + 1)) ++ instr.Again ∷ []) l.1)))
+      led pc (footing 0 k) inside (footing 0 k) instr.ForForever (body_code (pc + 1) rest) refl
+      (λ l h. (refl, subst (λ p. Holds fs p inside) e (laid_here (pc + 1 + 1) inside (rest (pc + 1 + 1) (Some (pc + 1)) ++ instr.ForAgain ∷ []) l.1)))
       (body_goes rest goes k (pc + 1))
 
   then_goes : (here : Here) (c : Option Expr) (command : Command) (rest : ℕ → Option ℕ → List Instr) → Rest rest → (k : ℕ) (out : Option ℕ) → Closes k out → (pc : ℕ) → Goes pc (and_then here pc out c command rest) (footing 0 k) (footing 0 k)
@@ -751,7 +751,7 @@ module _ (fs : List Footing) where
   obey_goes here TRollback c rest goes k out closes pc = then_goes here c TRollback rest goes k out closes pc
   obey_goes here Break c rest goes k out closes pc = then_goes here c Break rest goes k out closes pc
 
-  steps_go : (here : Here) (steps : List Step) → Rest (λ p o. steps_code here p o steps)
+  steps_go : (here : Here) (steps : List LineCommand) → Rest (λ p o. steps_code here p o steps)
   steps_go here [] k out closes pc = nothing pc (footing 0 k)
   steps_go here (step ∷ steps) k out closes pc =
       obey_goes here step.command step.condition (λ p o. steps_code here p o steps) (steps_go here steps) k out closes pc

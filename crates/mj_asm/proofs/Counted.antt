@@ -21,7 +21,7 @@ mutual
   operand_some pc (Intrinsic v) = omega arith
   operand_some pc (Unary op x) = middle (operand_code pc x) (instr.Unary op) []
   operand_some pc (Group e) = expr_some pc e
-  operand_some pc (Call f es) = middle (exprs_code pc es) (instr.Call f (count es)) []
+  operand_some pc (Call f es) = middle (exprs_code pc es) (instr.CallFunction f (count es)) []
   operand_some pc (About f v es) = middle (subscripts_code pc v) _ _
   operand_some pc (Select (Last c e)) = middle (expr_code pc c) _ _
   operand_some pc (Select (Before c e rest)) = middle (expr_code pc c) _ _
@@ -38,11 +38,11 @@ subscripts_below pc (Var scope word es) = count_below pc es
 pub size_below : (pc : ℕ) (d : Destination) → size d + 1 ≤ length (destination_code pc d)
 size_below pc (Plain v) =
     let cs = subscripts_code pc v in
-    omega (arith, subscripts_below pc v, length-append cs (instr.Check (reference v) ∷ []))
+    omega (arith, subscripts_below pc v, length-append cs (instr.CheckName (reference v) ∷ []))
 size_below pc (Pieces v es) =
     let cs = subscripts_code pc v in
     let ce = exprs_code (pc + length cs + 1) es in
-    omega (arith, subscripts_below pc v, count_below (pc + length cs + 1) es, length-append cs (instr.Check (reference v) ∷ ce))
+    omega (arith, subscripts_below pc v, count_below (pc + length cs + 1) es, length-append cs (instr.CheckName (reference v) ∷ ce))
 
 pub sizes_below : (pc : ℕ) (list : List Destination) → sizes list ≤ length (destinations_code pc list)
 sizes_below pc [] = omega arith

@@ -3,7 +3,7 @@ use Rattle.std.proofs.Common.{◌≡◌, ℕ, ◌+◌, List, [], ◌∷◌, Opti
 use Rattle.std.specs.Prelude.{slice_set}
 use Rattle.std.proofs.Math.Seq.{set-append_seam}
 use Rattle.mj_pcode.specs.declared.instr.Instr.{Instr}
-use Rattle.mj_pcode.specs.declared.instr.Instr.TheVariants.{Unless, Jump, Close, Again}
+use Rattle.mj_pcode.specs.declared.instr.Instr.TheVariants.{JumpUnless, Jump, ForClose, ForAgain}
 use Rattle.mj_asm.specs.Code.{body_code}
 
 -- a jump that gets its target once there is code behind it
@@ -34,13 +34,13 @@ tested base test z body c1 c2 c3 c4 y at e1 m e2 e3 e4 =
     ∙ append_assoc base test _
 
 -- the instruction that closes a FOR, and its passes
-pub closed : (base : List Instr) (rest : ℕ → Option ℕ → List Instr) (c2 c3 c4 c5 : List Instr) (at : ℕ) → at ≡ length base → c2 ≡ base ++ Close 0 ∷ [] → c3 ≡ c2 ++ rest (length c2) (Some at) → c4 ≡ c3 ++ Again ∷ [] → c5 ≡ slice_set c4 at (Close (length c4)) → c5 ≡ base ++ body_code (length base) rest
+pub closed : (base : List Instr) (rest : ℕ → Option ℕ → List Instr) (c2 c3 c4 c5 : List Instr) (at : ℕ) → at ≡ length base → c2 ≡ base ++ ForClose 0 ∷ [] → c3 ≡ c2 ++ rest (length c2) (Some at) → c4 ≡ c3 ++ ForAgain ∷ [] → c5 ≡ slice_set c4 at (ForClose (length c4)) → c5 ≡ base ++ body_code (length base) rest
 closed base rest c2 c3 c4 c5 at m e2 e3 e4 e5 =
     let k : ℕ = length base in
-    let body : ℕ → List Instr = λ p. rest p (Some k) ++ Again ∷ [] in
-    let whole : c4 ≡ c2 ++ body (length c2) = e4 ∙ ap (λ l. l ++ Again ∷ []) (e3 ∙ ap (λ j. c2 ++ rest (length c2) (Some j)) m) ∙ append_assoc c2 (rest (length c2) (Some k)) (Again ∷ []) in
-    let n : k + 1 + length (body (k + 1)) ≡ k + 1 + length (rest (k + 1) (Some k)) + 1 = omega (arith, length-append (rest (k + 1) (Some k)) (Again ∷ [])) in
-    led base (λ j. Close j) body c2 c4 c5 (Close 0) at m e2 whole e5 ∙ ap (λ j. base ++ Close j ∷ body (k + 1)) n
+    let body : ℕ → List Instr = λ p. rest p (Some k) ++ ForAgain ∷ [] in
+    let whole : c4 ≡ c2 ++ body (length c2) = e4 ∙ ap (λ l. l ++ ForAgain ∷ []) (e3 ∙ ap (λ j. c2 ++ rest (length c2) (Some j)) m) ∙ append_assoc c2 (rest (length c2) (Some k)) (ForAgain ∷ []) in
+    let n : k + 1 + length (body (k + 1)) ≡ k + 1 + length (rest (k + 1) (Some k)) + 1 = omega (arith, length-append (rest (k + 1) (Some k)) (ForAgain ∷ [])) in
+    led base (λ j. ForClose j) body c2 c4 c5 (ForClose 0) at m e2 whole e5 ∙ ap (λ j. base ++ ForClose j ∷ body (k + 1)) n
 
 -- the instruction that begins a FOR, its ranges, and what stands behind them
 pub opened : (base test : List Instr) (z : ℕ → Instr) (body passes : ℕ → List Instr) (c1 c2 c3 c4 c5 : List Instr) (y : Instr) (at : ℕ) → c1 ≡ base ++ test → at ≡ length c1 → c2 ≡ c1 ++ y ∷ [] → c3 ≡ c2 ++ body (length c2) → c4 ≡ slice_set c3 at (z (length c3)) → c5 ≡ c4 ++ passes (length c4) →
@@ -61,16 +61,16 @@ one_more base one rest c1 e =
 
 -- a condition, its value, which begins at v, and what stands behind its jump
 abbrev pub choice_code : ℕ → List Instr → (ℕ → List Instr) → (ℕ → List Instr) → List Instr
-choice_code v cc body more = cc ++ Unless (v + length (body v) + 1) ∷ (body v ++ Jump (v + length (body v) + 1 + length (more (v + length (body v) + 1))) ∷ more (v + length (body v) + 1))
+choice_code v cc body more = cc ++ JumpUnless (v + length (body v) + 1) ∷ (body v ++ Jump (v + length (body v) + 1 + length (more (v + length (body v) + 1))) ∷ more (v + length (body v) + 1))
 
 -- a choice before others
 pub chosen : (base cc : List Instr) (body more : ℕ → List Instr) (c1 c2 c3 c4 c5 c6 c7 : List Instr) (y z : Instr) (test exit : ℕ)
     → c1 ≡ base ++ cc → test ≡ length c1 → c2 ≡ c1 ++ y ∷ [] → c3 ≡ c2 ++ body (length c2) → exit ≡ length c3 → c4 ≡ c3 ++ z ∷ []
-    → c5 ≡ slice_set c4 test (Unless (length c4)) → c6 ≡ c5 ++ more (length c5) → c7 ≡ slice_set c6 exit (Jump (length c6))
+    → c5 ≡ slice_set c4 test (JumpUnless (length c4)) → c6 ≡ c5 ++ more (length c5) → c7 ≡ slice_set c6 exit (Jump (length c6))
     → c7 ≡ base ++ choice_code (length base + length cc + 1) cc body more
 chosen base cc body more c1 c2 c3 c4 c5 c6 c7 y z test exit e1 t e2 e3 x e4 e5 e6 e7 =
     let v : ℕ = length c2 in
-    let u : Instr = Unless (length c4) in
+    let u : Instr = JumpUnless (length c4) in
     let tail : c4 ≡ c2 ++ (body v ++ z ∷ []) = e4 ∙ ap (λ l. l ++ z ∷ []) e3 ∙ append_assoc c2 (body v) (z ∷ []) in
     let first : c5 ≡ c1 ++ u ∷ (body v ++ z ∷ []) = e5 ∙ aimed c1 c2 c4 (body v ++ z ∷ []) y u test t e2 tail in
     let again : c5 ≡ (c1 ++ u ∷ body v) ++ z ∷ [] = first ∙ sym (append_assoc c1 (u ∷ body v) (z ∷ [])) in
@@ -81,7 +81,7 @@ chosen base cc body more c1 c2 c3 c4 c5 c6 c7 y z test exit e1 t e2 e3 x e4 e5 e
     let n5 : length c5 ≡ v + length (body v) + 1 = omega (arith, ap length again, length-append (c1 ++ u ∷ body v) (z ∷ []), nd) in
     let n6 : length c6 ≡ length c5 + length (more (length c5)) = omega (arith, ap length e6, length-append c5 (more (length c5))) in
     let at : exit ≡ length (c1 ++ u ∷ body v) = omega (arith, x, n3, nd) in
-    let made : List Instr → ℕ → ℕ → ℕ → ℕ → List Instr = λ l w o o' k. (l ++ Unless o' ∷ body w) ++ Jump k ∷ more o in
+    let made : List Instr → ℕ → ℕ → ℕ → ℕ → List Instr = λ l w o o' k. (l ++ JumpUnless o' ∷ body w) ++ Jump k ∷ more o in
     let last : made (base ++ cc) (length base + length cc + 1) (length base + length cc + 1 + length (body (length base + length cc + 1)) + 1) (length base + length cc + 1 + length (body (length base + length cc + 1)) + 1) (length base + length cc + 1 + length (body (length base + length cc + 1)) + 1 + length (more (length base + length cc + 1 + length (body (length base + length cc + 1)) + 1))) ≡ base ++ choice_code (length base + length cc + 1) cc body more = simp append_assoc in
     e7
     ∙ aimed (c1 ++ u ∷ body v) c5 c6 (more (length c5)) z (Jump (length c6)) exit at again e6

@@ -1,7 +1,7 @@
 -- The code of a small routine, by computing. Its text stands above it, a `/` between its lines.
 use Rattle.std.specs.Prelude.{◌≡◌, refl, ℕ, true, false, List, [], ◌∷◌, Some, None, codes}
 use Rattle.mj_ast.specs.declared.expr.Scope.TheVariants.{Local, Global}
-use Rattle.mj_ast.specs.declared.routine.Mark.TheVariants.{NewLine}
+use Rattle.mj_ast.specs.declared.routine.FormatMark.TheVariants.{NewLine}
 use Rattle.mj_ast.specs.declared.routine.Serial.TheVariants.{Bare}
 use Rattle.mj_ast.specs.Syntax.{Expr, Chain, Done, Then, Operand, Literal, Value, Var, No, More, One, Several, Plain, Pieces, Gone, Spared, Kill, Merge, Set, Write, Shown, Format, Halt, If, Else, For, Forever, Single, UpTo, Do, Goto, Quit, New, Fresh, Kept, Listed, TStart, TCommit, TRestart, TRollback, Break, Line}
 use Rattle.mj_oper.specs.declared.op.Op.TheVariants.{Add, Is}
@@ -41,10 +41,10 @@ text =
 
 instructions : lines_code 0 here text
     ≡ instr.Line (record { line = 1; level = 1; next = 14 })
-    ∷ instr.Push (49 ∷ []) ∷ instr.Check (record { scope = Global; word = codes "X"; count = 1 })
+    ∷ instr.Push (49 ∷ []) ∷ instr.CheckName (record { scope = Global; word = codes "X"; count = 1 })
     ∷ instr.Push (50 ∷ []) ∷ instr.Push (51 ∷ []) ∷ instr.Binary Add ∷ instr.Store (record { scope = Global; word = codes "X"; count = 1 }) (record { above = 1; taken = 2 })
-    ∷ instr.Load (record { scope = Local; word = codes "Y"; count = 0 }) ∷ instr.Push (52 ∷ []) ∷ instr.Binary (Is Equal) ∷ instr.Unless 14
-    ∷ instr.Push (53 ∷ []) ∷ instr.Write ∷ instr.Format (NewLine ∷ NewLine ∷ [])
+    ∷ instr.Load (record { scope = Local; word = codes "Y"; count = 0 }) ∷ instr.Push (52 ∷ []) ∷ instr.Binary (Is Equal) ∷ instr.JumpUnless 14
+    ∷ instr.Push (53 ∷ []) ∷ instr.Write ∷ instr.WriteFormat (NewLine ∷ NewLine ∷ [])
     ∷ instr.Line (record { line = 2; level = 1; next = 15 })
     ∷ instr.Line (record { line = 3; level = 1; next = 17 }) ∷ instr.Halt ∷ []
 instructions = refl
@@ -79,18 +79,18 @@ commands =
 
 their_instructions : lines_code 0 here commands
     ≡ instr.Line (record { line = 1; level = 1; next = 20 })
-    ∷ instr.Check (record { scope = Local; word = codes "X"; count = 0 })
-    ∷ instr.Push (49 ∷ []) ∷ instr.Check (record { scope = Global; word = codes "Y"; count = 1 }) ∷ instr.Push (45 ∷ [])
+    ∷ instr.CheckName (record { scope = Local; word = codes "X"; count = 0 })
+    ∷ instr.Push (49 ∷ []) ∷ instr.CheckName (record { scope = Global; word = codes "Y"; count = 1 }) ∷ instr.Push (45 ∷ [])
     ∷ instr.Push (50 ∷ [])
     ∷ instr.Store (record { scope = Local; word = codes "X"; count = 0 }) (record { above = 3; taken = 0 })
-    ∷ instr.Renew (record { scope = Global; word = codes "Y"; count = 1 }) 1 (record { above = 1; taken = 0 })
+    ∷ instr.SetPiece (record { scope = Global; word = codes "Y"; count = 1 }) 1 (record { above = 1; taken = 0 })
     ∷ instr.Store (record { scope = Global; word = codes "Y"; count = 1 }) (record { above = 3; taken = 1 })
     ∷ instr.Discard 3
-    ∷ instr.Push (49 ∷ []) ∷ instr.Check (record { scope = Global; word = codes "Y"; count = 1 }) ∷ instr.Kill (record { scope = Global; word = codes "Y"; count = 1 })
-    ∷ instr.Discard 0 ∷ instr.Spare (codes "X" ∷ []) ∷ instr.Spare []
-    ∷ instr.Check (record { scope = Global; word = codes "Z"; count = 0 })
-    ∷ instr.Push (49 ∷ []) ∷ instr.Take (record { scope = Global; word = codes "Z"; count = 0 }) (record { scope = Global; word = codes "Y"; count = 1 })
-    ∷ instr.Put (record { scope = Global; word = codes "Z"; count = 0 }) ∷ []
+    ∷ instr.Push (49 ∷ []) ∷ instr.CheckName (record { scope = Global; word = codes "Y"; count = 1 }) ∷ instr.Kill (record { scope = Global; word = codes "Y"; count = 1 })
+    ∷ instr.Discard 0 ∷ instr.KillExcept (codes "X" ∷ []) ∷ instr.KillExcept []
+    ∷ instr.CheckName (record { scope = Global; word = codes "Z"; count = 0 })
+    ∷ instr.Push (49 ∷ []) ∷ instr.MergeTake (record { scope = Global; word = codes "Z"; count = 0 }) (record { scope = Global; word = codes "Y"; count = 1 })
+    ∷ instr.MergePut (record { scope = Global; word = codes "Z"; count = 0 }) ∷ []
 their_instructions = refl
 
 abbrev digit : ℕ → Expr
@@ -114,15 +114,15 @@ control =
 
 control_instructions : lines_code 0 here control
     ≡ instr.Line (record { line = 1; level = 1; next = 17 })
-    ∷ instr.Open (codes "I") 0 9
-    ∷ instr.Push (49 ∷ []) ∷ instr.Begin span.One
-    ∷ instr.Push (50 ∷ []) ∷ instr.Push (51 ∷ []) ∷ instr.Push (52 ∷ []) ∷ instr.Begin span.UpTo
-    ∷ instr.Close 17
-    ∷ instr.Push (53 ∷ []) ∷ instr.Decide 16
-    ∷ instr.Push (54 ∷ []) ∷ instr.Unless 14 ∷ instr.Jump 8
+    ∷ instr.ForOpen (codes "I") 0 9
+    ∷ instr.Push (49 ∷ []) ∷ instr.ForBegin span.One
+    ∷ instr.Push (50 ∷ []) ∷ instr.Push (51 ∷ []) ∷ instr.Push (52 ∷ []) ∷ instr.ForBegin span.UpTo
+    ∷ instr.ForClose 17
+    ∷ instr.Push (53 ∷ []) ∷ instr.SetTest 16
+    ∷ instr.Push (54 ∷ []) ∷ instr.JumpUnless 14 ∷ instr.Jump 8
     ∷ instr.Push (55 ∷ []) ∷ instr.Do (record { label = Some (codes "B"); routine = codes "S" }) (true ∷ [])
-    ∷ instr.Again
-    ∷ instr.Line (record { line = 2; level = 2; next = 20 }) ∷ instr.Else 20 ∷ instr.Block 2 ∷ []
+    ∷ instr.ForAgain
+    ∷ instr.Line (record { line = 2; level = 2; next = 20 }) ∷ instr.JumpIfTest 20 ∷ instr.DoBlock 2 ∷ []
 control_instructions = refl
 
 -- A(X) IF X,1 FOR I=1:1:3 QUIT:I=2  DO B(,I),^D:X / . ELSE  NEW Z,(Y) GOTO A / IF  FOR  DO  QUIT / QUIT:X
@@ -163,18 +163,18 @@ flow =
 
 flow_instructions : lines_code 0 here flow
     ≡ instr.Line (record { line = 1; level = 1; next = 22 })
-    ∷ instr.Load (record { scope = Local; word = codes "X"; count = 0 }) ∷ instr.Decide 22 ∷ instr.Push (49 ∷ []) ∷ instr.Decide 22
-    ∷ instr.Open (codes "I") 0 11 ∷ instr.Push (49 ∷ []) ∷ instr.Push (49 ∷ []) ∷ instr.Push (51 ∷ []) ∷ instr.Begin span.UpTo ∷ instr.Close 22
-    ∷ instr.Load (record { scope = Local; word = codes "I"; count = 0 }) ∷ instr.Push (50 ∷ []) ∷ instr.Binary (Is Equal) ∷ instr.Unless 16 ∷ instr.Jump 10
+    ∷ instr.Load (record { scope = Local; word = codes "X"; count = 0 }) ∷ instr.SetTest 22 ∷ instr.Push (49 ∷ []) ∷ instr.SetTest 22
+    ∷ instr.ForOpen (codes "I") 0 11 ∷ instr.Push (49 ∷ []) ∷ instr.Push (49 ∷ []) ∷ instr.Push (51 ∷ []) ∷ instr.ForBegin span.UpTo ∷ instr.ForClose 22
+    ∷ instr.Load (record { scope = Local; word = codes "I"; count = 0 }) ∷ instr.Push (50 ∷ []) ∷ instr.Binary (Is Equal) ∷ instr.JumpUnless 16 ∷ instr.Jump 10
     ∷ instr.Load (record { scope = Local; word = codes "I"; count = 0 }) ∷ instr.Do (record { label = Some (codes "B"); routine = codes "R" }) (false ∷ true ∷ [])
-    ∷ instr.Load (record { scope = Local; word = codes "X"; count = 0 }) ∷ instr.Unless 21 ∷ instr.Do (record { label = None; routine = codes "D" }) []
-    ∷ instr.Again
+    ∷ instr.Load (record { scope = Local; word = codes "X"; count = 0 }) ∷ instr.JumpUnless 21 ∷ instr.Do (record { label = None; routine = codes "D" }) []
+    ∷ instr.ForAgain
     ∷ instr.Line (record { line = 2; level = 2; next = 28 })
-    ∷ instr.Else 28 ∷ instr.New (codes "Z" ∷ []) ∷ instr.Discard 0 ∷ instr.NewExcept (codes "Y" ∷ []) ∷ instr.Goto (record { label = Some (codes "A"); routine = codes "R" })
+    ∷ instr.JumpIfTest 28 ∷ instr.New (codes "Z" ∷ []) ∷ instr.Discard 0 ∷ instr.NewExcept (codes "Y" ∷ []) ∷ instr.Goto (record { label = Some (codes "A"); routine = codes "R" })
     ∷ instr.Line (record { line = 3; level = 1; next = 35 })
-    ∷ instr.If 35 ∷ instr.Forever ∷ instr.Close 35 ∷ instr.Block 3 ∷ instr.Jump 31 ∷ instr.Again
+    ∷ instr.JumpUnlessTest 35 ∷ instr.ForForever ∷ instr.ForClose 35 ∷ instr.DoBlock 3 ∷ instr.Jump 31 ∷ instr.ForAgain
     ∷ instr.Line (record { line = 4; level = 1; next = 39 })
-    ∷ instr.Load (record { scope = Local; word = codes "X"; count = 0 }) ∷ instr.Unless 39 ∷ instr.Quit ∷ []
+    ∷ instr.Load (record { scope = Local; word = codes "X"; count = 0 }) ∷ instr.JumpUnless 39 ∷ instr.Quit ∷ []
 flow_instructions = refl
 
 --  TSTART (X,Y):SERIAL TSTART  TCOMMIT:1  TRESTART  TROLLBACK  BREAK
@@ -198,6 +198,6 @@ transactions_instructions : lines_code 0 here transactions
     ≡ instr.Line (record { line = 1; level = 1; next = 15 })
     ∷ instr.Discard 0 ∷ instr.Discard 0 ∷ instr.StartTransaction (restores.Only (codes "X" ∷ codes "Y" ∷ [])) true ∷ instr.MarkRestart
     ∷ instr.StartTransaction restores.Never false ∷ instr.MarkRestart
-    ∷ instr.Push (49 ∷ []) ∷ instr.Unless 11 ∷ instr.Commit ∷ instr.BeginAgain
-    ∷ instr.GiveBack ∷ instr.BeginAgain ∷ instr.RollBack ∷ instr.Discard 0 ∷ []
+    ∷ instr.Push (49 ∷ []) ∷ instr.JumpUnless 11 ∷ instr.Commit ∷ instr.BeginRestart
+    ∷ instr.RollBackForRestart ∷ instr.BeginRestart ∷ instr.RollBack ∷ instr.Discard 0 ∷ []
 transactions_instructions = refl

@@ -7,13 +7,13 @@ use Rattle.mj_num.specs.Number.{reading}
 use Rattle.mj_oper.specs.Operators.{truth_value}
 use Rattle.mj_ask.specs.declared.entry.Entry.{Entry}
 use Rattle.mj_ast.specs.declared.expr.Scope.TheVariants.{Local}
-use Rattle.mj_ast.specs.Syntax.{Expr, Variable, Called, Jumped, Range, Single, Endless, UpTo, Command, Set, Write, Halt, Hang, Job, Lock, OpenDevice, UseDevice, CloseDevice, Read, Kill, Merge, If, Else, For, Forever, Do, Goto, Quit, New, TStart, TCommit, TRestart, TRollback, Break, Step, Line, Routine}
+use Rattle.mj_ast.specs.Syntax.{Expr, Variable, Called, Jumped, Range, Single, Endless, UpTo, Command, Set, Write, Halt, Hang, Job, Lock, OpenDevice, UseDevice, CloseDevice, Read, Kill, Merge, If, Else, For, Forever, Do, Goto, Quit, New, TStart, TCommit, TRestart, TRollback, Break, LineCommand, Line, Routine}
 use Rattle.mj_semantics.specs.State.{State, Place, level_of, may_go, set_test, pushed, popped}
 use Rattle.mj_semantics.specs.Outcome.{Timed, turn, look, change, given, fault, end}
 use Rattle.mj_semantics.specs.Lines.{Here, place_at, next_line, entry_of, entered, levels_of}
 use Rattle.mj_semantics.specs.Evaluation.{when, name_of, ev_actuals, ev_local}
 use Rattle.mj_semantics.specs.Points.{Leave, Ways, Once as PassesOnce, Always as PassesAlways, By as PassesBy, Points, AtLine, Called as CalledAt, Jumped as JumpedAt, Pass}
-use Rattle.mj_semantics.specs.Commands.{again, if_test, ifs, if_all, ranges, calls, block, do_all, jumps, quit_frame, assign_all, output_all, hang_all, start_all, lock_all, open_all, use_all, close_all, read_all, kill_all, merge_all, new_all, start_transaction, commit_transaction, restart_transaction, obey, obey_all}
+use Rattle.mj_semantics.specs.Commands.{for_again, if_test, ifs, if_all, ranges, calls, block, do_all, jumps, quit_frame, assign_all, output_all, hang_all, start_all, lock_all, open_all, use_all, close_all, read_all, kill_all, merge_all, new_all, start_transaction, commit_transaction, restart_transaction, obey, obey_all}
 use Rattle.mj_semantics.specs.Transactions.{roll_back}
 use Rattle.mj_semantics.specs.Job.{points_of, jump, in_pass}
 use Rattle.mj_pcode.specs.declared.instr.Span.TheVariants as span
@@ -144,9 +144,9 @@ module _ (image : List Routine) (units : List unit.Unit) (alike : LeadAlike imag
           (has_front code_here pc cc _ has) (λ p has' after. call_one c p later has' after)
           (calls_follow list (pc + length cc) rest (has_back code_here pc cc _ has) (moved units u ctx at b _ _ [] rest (seam' pc cc (calls_code here (pc + length cc) list)) h))
 
-      block_follows : (pc : ℕ) (rest : Timed) → slice_get code_here pc ≡ Some (instr.Block k) → follows_from (pc + 1) rest → follows_from pc (turn (block (points_of image d) here rest))
+      block_follows : (pc : ℕ) (rest : Timed) → slice_get code_here pc ≡ Some (instr.DoBlock k) → follows_from (pc + 1) rest → follows_from pc (turn (block (points_of image d) here rest))
       block_follows pc rest has h =
-          one units u ctx at b pc [] (instr.Block k) _ has (λ n lt.
+          one units u ctx at b pc [] (instr.DoBlock k) _ has (λ n lt.
           let there' : Timed = exec units n (at_unit j (suspended ctx (pc + 1))) (start_of u (k + 1)) [] in
           let line : Timed = turn (points_of image d (AtLine (next_line here) (λ v. change popped rest))) in
           let enters : State → State → State = λ s. pushed (place_in u k) (level_of s + 1) false (Some s.test) in
@@ -188,11 +188,11 @@ module _ (image : List Routine) (units : List unit.Unit) (alike : LeadAlike imag
           let behind = pc + length ce + 1 in
           let cr = ifs_code behind es rest in
           let target = behind + length cr in
-          let back = has_back code_here pc ce (instr.Decide target ∷ cr) has in
-          let len : target ≡ pc + length (ce ++ instr.Decide target ∷ cr) = omega (arith, length-append ce (instr.Decide target ∷ cr)) in
+          let back = has_back code_here pc ce (instr.SetTest target ∷ cr) has in
+          let len : target ≡ pc + length (ce ++ instr.SetTest target ∷ cr) = omega (arith, length-append ce (instr.SetTest target ∷ cr)) in
           let after = moved units u ctx at b target _ [] line_end len h in
           expr_follows units u ctx at b (points_of image d) here e pc [] _ (has_front code_here pc ce _ has) (λ v.
-          one units u ctx at b (pc + length ce) (v ∷ []) (instr.Decide target) _ back.0 (λ n lt.
+          one units u ctx at b (pc + length ce) (v ∷ []) (instr.SetTest target) _ back.0 (λ n lt.
           given_at n (truth_value v) _ _ (λ t q.
           change_at n (set_test t) (if t then (exec units n ctx behind []) else (exec units n ctx target [])) (if t then ifs (points_of image d) here es line_end done else line_end)
           (if_at n t (exec units n ctx behind []) (ifs (points_of image d) here es line_end done) (exec units n ctx target []) line_end
@@ -215,22 +215,22 @@ module _ (image : List Routine) (units : List unit.Unit) (alike : LeadAlike imag
       if_follows : (es : List Expr) (rest : ℕ → List Instr) (line_end done : Timed) (pc : ℕ) → HasAt code_here pc (if_code pc es rest)
           → ((p : ℕ) → HasAt code_here p (rest p) → follows_from (p + length (rest p)) line_end → follows_from p done)
           → follows_from (pc + length (if_code pc es rest)) line_end → follows_from pc (if_all (points_of image d) here es line_end done)
-      if_follows [] rest line_end done pc has f h = test_follows true instr.If (rest (pc + 1)) line_end done pc (λ n. refl) has (λ h'. f (pc + 1) has.1 h') h
+      if_follows [] rest line_end done pc has f h = test_follows true instr.JumpUnlessTest (rest (pc + 1)) line_end done pc (λ n. refl) has (λ h'. f (pc + 1) has.1 h') h
       if_follows (e ∷ es) rest line_end done pc has f h = ifs_follow (e ∷ es) rest line_end done pc has f h
 
     -- the rest of a line follows, in each FOR and for all turns
-    abbrev Follows : List Step → Type 0
+    abbrev Follows : List LineCommand → Type 0
     Follows steps =
         (b d : ℕ) → b ≤ d → ((m : ℕ) → m < b → DoLines image units m) → (loops : List Loop) (out : Option ℕ) (ways : Ways) (pc : ℕ)
         → HasAt code_here pc (steps_code here pc out steps) → Agree b (there loops (pc + length (steps_code here pc out steps))) ways.line_end
         → QuitsFor b loops out ways.for_quit → Leaves units b below ways.leave
         → Agree b (there loops pc) (obey_all (points_of image d) here steps ways)
 
-    module _ (steps : List Step) (follows : Follows steps) (ls : List Loop) (close : ℕ) (ways : Ways) where
+    module _ (steps : List LineCommand) (follows : Follows steps) (ls : List Loop) (close : ℕ) (ways : Ways) where
       -- the passes of a FOR
       record Stands (l : Loop) : Type 0 where
         body : HasAt code_here l.body (steps_code here l.body (Some close) steps)
-        again : slice_get code_here (l.body + length (steps_code here l.body (Some close) steps)) ≡ Some instr.Again
+        again : slice_get code_here (l.body + length (steps_code here l.body (Some close) steps)) ≡ Some instr.ForAgain
 
       kept : (l : Loop) (passes : Passes) (resume : ℕ) → Stands l → Stands (with_passes l passes resume)
       kept l passes resume h = record { body = h.body; again = h.again }
@@ -245,8 +245,8 @@ module _ (image : List Routine) (units : List unit.Unit) (alike : LeadAlike imag
       pass_after b d deep lines l stands after resumes closes leaves next =
           let pass : Timed = points_of image d (Pass here (passes_of l) steps after ways) in
           let end = l.body + length (steps_code here l.body (Some close) steps) in
-          let ended : Agree b (there (l ∷ ls) end) (turn (again (passes_of l) after pass)) =
-          one units u (in_frame (l ∷ ls)) at b end [] instr.Again _ stands.again (λ n lt.
+          let ended : Agree b (there (l ∷ ls) end) (turn (for_again (passes_of l) after pass)) =
+          one units u (in_frame (l ∷ ls)) at b end [] instr.ForAgain _ stands.again (λ n lt.
           again_at n (passes_of l) (exec units n (in_frame (l ∷ ls)) l.resume []) after (exec units n (in_frame (l ∷ ls)) l.body []) pass
           (resumes.by n (omega arith)) (next n lt)) in
           record { by = λ n le. (follows b d deep lines (l ∷ ls) (Some close) (in_pass (passes_of l) after pass ways) l.body stands.body ended closes leaves).by n le }
@@ -277,7 +277,7 @@ module _ (image : List Routine) (units : List unit.Unit) (alike : LeadAlike imag
             let c = in_frame (l ∷ ls) in
             let ca = expr_code pc a in
             let cr = range_code pc (Single a) in
-            let i = instr.Begin span.One in
+            let i = instr.ForBegin span.One in
             let front = has_front code_here pc cr _ has in
             let behind = pc + length ca + 1 in
             let len : pc + length cr ≡ behind = omega (arith, length-append ca (i ∷ [])) in
@@ -295,7 +295,7 @@ module _ (image : List Routine) (units : List unit.Unit) (alike : LeadAlike imag
             let second = pc + length ca in
             let c2 = expr_code second a2 in
             let cr = range_code pc (Endless a a2) in
-            let i = instr.Begin span.Endless in
+            let i = instr.ForBegin span.Endless in
             let front = has_front code_here pc cr _ has in
             let back = has_back code_here pc ca (c2 ++ i ∷ []) front in
             let last = second + length c2 in
@@ -319,7 +319,7 @@ module _ (image : List Routine) (units : List unit.Unit) (alike : LeadAlike imag
             let third = second + length c2 in
             let c3 = expr_code third a3 in
             let cr = range_code pc (UpTo a a2 a3) in
-            let i = instr.Begin span.UpTo in
+            let i = instr.ForBegin span.UpTo in
             let front = has_front code_here pc cr _ has in
             let back = has_back code_here pc ca (c2 ++ (c3 ++ i ∷ [])) front in
             let back' = has_back code_here second c2 (c3 ++ i ∷ []) back in
@@ -340,23 +340,23 @@ module _ (image : List Routine) (units : List unit.Unit) (alike : LeadAlike imag
             (later.by n (omega arith)) (begun d n l' (kept l l'.passes l'.resume stands) after lt (omega arith) later)))))))
 
     -- where the passes of a FOR stand: what closes it, the commands, and the next pass
-    body_stands : (steps : List Step) (close : ℕ) (l : Loop) → l.body ≡ close + 1 → HasAt code_here close (body_code close (λ p o. steps_code here p o steps)) → (follows : Follows steps) (ls : List Loop) (ways : Ways) → Stands steps follows ls close ways l
+    body_stands : (steps : List LineCommand) (close : ℕ) (l : Loop) → l.body ≡ close + 1 → HasAt code_here close (body_code close (λ p o. steps_code here p o steps)) → (follows : Follows steps) (ls : List Loop) (ways : Ways) → Stands steps follows ls close ways l
     body_stands steps close l e has follows ls ways =
         let cb = steps_code here (close + 1) (Some close) steps in
         record {
-          body = subst (λ p. HasAt code_here p (steps_code here p (Some close) steps)) (sym e) (has_front code_here (close + 1) cb (instr.Again ∷ []) has.1);
-          again = ap (λ p. slice_get code_here (p + length (steps_code here p (Some close) steps))) e ∙ (has_back code_here (close + 1) cb (instr.Again ∷ []) has.1).0;
+          body = subst (λ p. HasAt code_here p (steps_code here p (Some close) steps)) (sym e) (has_front code_here (close + 1) cb (instr.ForAgain ∷ []) has.1);
+          again = ap (λ p. slice_get code_here (p + length (steps_code here p (Some close) steps))) e ∙ (has_back code_here (close + 1) cb (instr.ForAgain ∷ []) has.1).0;
         }
 
-    closed : (b : ℕ) (steps : List Step) (close : ℕ) (l : Loop) (ls : List Loop) (line_end : Timed) → HasAt code_here close (body_code close (λ p o. steps_code here p o steps))
+    closed : (b : ℕ) (steps : List LineCommand) (close : ℕ) (l : Loop) (ls : List Loop) (line_end : Timed) → HasAt code_here close (body_code close (λ p o. steps_code here p o steps))
         → Agree b (there ls (close + length (body_code close (λ p o. steps_code here p o steps)))) line_end → Agree b (there (l ∷ ls) close) (turn line_end)
     closed b steps close l ls line_end has h =
         let cb = steps_code here (close + 1) (Some close) steps in
         let target = close + 1 + length cb + 1 in
-        let len : target ≡ close + length (body_code close (λ p o. steps_code here p o steps)) = omega (arith, length-append cb (instr.Again ∷ [])) in
-        one units u (in_frame (l ∷ ls)) at b close [] (instr.Close target) line_end has.0 (λ n lt. (moved units u (in_frame ls) at b target _ [] line_end len h).by n (omega arith))
+        let len : target ≡ close + length (body_code close (λ p o. steps_code here p o steps)) = omega (arith, length-append cb (instr.ForAgain ∷ [])) in
+        one units u (in_frame (l ∷ ls)) at b close [] (instr.ForClose target) line_end has.0 (λ n lt. (moved units u (in_frame ls) at b target _ [] line_end len h).by n (omega arith))
 
-    for_follows : (steps : List Step) → Follows steps → (b d : ℕ) → b ≤ d → ((m : ℕ) → m < b → DoLines image units m) → (loops : List Loop) (ways : Ways) (v : Variable) (rs : List Range) (pc : ℕ)
+    for_follows : (steps : List LineCommand) → Follows steps → (b d : ℕ) → b ≤ d → ((m : ℕ) → m < b → DoLines image units m) → (loops : List Loop) (ways : Ways) (v : Variable) (rs : List Range) (pc : ℕ)
         → HasAt code_here pc (for_code pc v rs (λ p o. steps_code here p o steps)) → Agree b (there loops (pc + length (for_code pc v rs (λ p o. steps_code here p o steps)))) ways.line_end
         → Leaves units b below ways.leave
         → Agree b (there loops pc) (ev_local (points_of image d) here v (λ x. ranges (points_of image d) here x rs steps ways))
@@ -367,7 +367,7 @@ module _ (image : List Routine) (units : List unit.Unit) (alike : LeadAlike imag
         let cr = ranges_code first rs in
         let close = first + length cr in
         let cb = body_code close (λ p o. steps_code here p o steps) in
-        let i = instr.Open (reference v).word (reference v).count (close + 1) in
+        let i = instr.ForOpen (reference v).word (reference v).count (close + 1) in
         let back = has_back code_here pc cs (i ∷ (cr ++ cb)) has in
         let has_body = has_back code_here first cr cb back.1 in
         let len : close + length cb ≡ pc + length (cs ++ i ∷ (cr ++ cb)) = omega (arith, length-append cs (i ∷ (cr ++ cb)), length-append cr cb) in
@@ -381,8 +381,8 @@ module _ (image : List Routine) (units : List unit.Unit) (alike : LeadAlike imag
         (ranges_follow steps follows loops close ways b d deep lines (λ l'. closed b steps close l' loops ways.line_end has_body behind) leaves rs l first
         (body_stands steps close l refl has_body follows loops ways) (has_front code_here first cr cb back.1) refl).by n (omega arith)))
 
-    forever_follows : (steps : List Step) → Follows steps → (b d : ℕ) → b ≤ d → ((m : ℕ) → m < b → DoLines image units m) → (loops : List Loop) (ways : Ways) (pc : ℕ)
-        → HasAt code_here pc (instr.Forever ∷ body_code (pc + 1) (λ p o. steps_code here p o steps)) → Agree b (there loops (pc + length (instr.Forever ∷ body_code (pc + 1) (λ p o. steps_code here p o steps)))) ways.line_end
+    forever_follows : (steps : List LineCommand) → Follows steps → (b d : ℕ) → b ≤ d → ((m : ℕ) → m < b → DoLines image units m) → (loops : List Loop) (ways : Ways) (pc : ℕ)
+        → HasAt code_here pc (instr.ForForever ∷ body_code (pc + 1) (λ p o. steps_code here p o steps)) → Agree b (there loops (pc + length (instr.ForForever ∷ body_code (pc + 1) (λ p o. steps_code here p o steps)))) ways.line_end
         → Leaves units b below ways.leave
         → Agree b (there loops pc) (turn (points_of image d (Pass here PassesAlways steps (turn ways.line_end) ways)))
     forever_follows steps follows b d deep lines loops ways pc has h leaves =
@@ -390,15 +390,15 @@ module _ (image : List Routine) (units : List unit.Unit) (alike : LeadAlike imag
         let cb = body_code (pc + 1) (λ p o. steps_code here p o steps) in
         let l : Loop = record { name = nameless; passes = Always; body = pc + 2; resume = pc + 1 } in
         let e : pc + 2 ≡ pc + 1 + 1 = omega arith in
-        let len : pc + 1 + length cb ≡ pc + length (instr.Forever ∷ cb) = omega arith in
+        let len : pc + 1 + length cb ≡ pc + length (instr.ForForever ∷ cb) = omega arith in
         let behind : Agree b (there loops (pc + 1 + length cb)) ways.line_end = moved units u c at b _ _ [] ways.line_end len h in
         let ends : Agree b (there (l ∷ loops) (pc + 1)) (turn ways.line_end) = closed b steps (pc + 1) l loops ways.line_end has.1 behind in
-        one units u c at b pc [] instr.Forever _ has.0 (λ n lt.
+        one units u c at b pc [] instr.ForForever _ has.0 (λ n lt.
         begun steps follows loops (pc + 1) ways b d deep lines (λ l'. closed b steps (pc + 1) l' loops ways.line_end has.1 behind) leaves d n l
         (body_stands steps (pc + 1) l e has.1 follows loops ways) (turn ways.line_end) lt (omega arith) ends)
 
     -- a command behind its postcondition, and the rest of its line
-    rest_follows : (command : Command) (c : Option Expr) (done : Timed) (steps : List Step) → Follows steps → (b d : ℕ) → b ≤ d → ((m : ℕ) → m < b → DoLines image units m) → (loops : List Loop) (out : Option ℕ) (ways : Ways) (pc : ℕ)
+    rest_follows : (command : Command) (c : Option Expr) (done : Timed) (steps : List LineCommand) → Follows steps → (b d : ℕ) → b ≤ d → ((m : ℕ) → m < b → DoLines image units m) → (loops : List Loop) (out : Option ℕ) (ways : Ways) (pc : ℕ)
         → HasAt code_here pc (and_then here pc out c command (λ p o. steps_code here p o steps)) → Agree b (there loops (pc + length (and_then here pc out c command (λ p o. steps_code here p o steps)))) ways.line_end
         → QuitsFor b loops out ways.for_quit → Leaves units b below ways.leave
         → ((p : ℕ) → HasAt code_here p (command_code here p out command) → Agree b (there loops (p + length (command_code here p out command))) (obey_all (points_of image d) here steps ways) → Agree b (there loops p) done)
@@ -411,7 +411,7 @@ module _ (image : List Routine) (units : List unit.Unit) (alike : LeadAlike imag
         (f b d deep lines loops out ways (pc + length cc) (has_back code_here pc cc cs has) (moved units u (in_frame loops) at b _ _ [] ways.line_end (seam' pc cc cs) h) quits leaves)
 
     -- a command with its postcondition, and the rest of its line
-    step_follows : (command : Command) (c : Option Expr) (steps : List Step) → Follows steps → (b d : ℕ) → b ≤ d → ((m : ℕ) → m < b → DoLines image units m) → (loops : List Loop) (out : Option ℕ) (ways : Ways) (pc : ℕ)
+    step_follows : (command : Command) (c : Option Expr) (steps : List LineCommand) → Follows steps → (b d : ℕ) → b ≤ d → ((m : ℕ) → m < b → DoLines image units m) → (loops : List Loop) (out : Option ℕ) (ways : Ways) (pc : ℕ)
         → HasAt code_here pc (obey_code here pc out command c (λ p o. steps_code here p o steps)) → Agree b (there loops (pc + length (obey_code here pc out command c (λ p o. steps_code here p o steps)))) ways.line_end
         → QuitsFor b loops out ways.for_quit → Leaves units b below ways.leave
         → Agree b (there loops pc) (obey (points_of image d) here command c steps ways (obey_all (points_of image d) here steps ways))
@@ -455,7 +455,7 @@ module _ (image : List Routine) (units : List unit.Unit) (alike : LeadAlike imag
         if_follows b d deep lines loops es (λ p. steps_code here p out steps) ways.line_end (obey_all (points_of image d) here steps ways) pc has
         (λ p has' after. f b d deep lines loops out ways p has' after quits leaves) h
     step_follows Else c steps f b d deep lines loops out ways pc has h quits leaves =
-        test_follows b d deep lines loops false instr.Else (steps_code here (pc + 1) out steps) ways.line_end (obey_all (points_of image d) here steps ways) pc (λ n. refl) has
+        test_follows b d deep lines loops false instr.JumpIfTest (steps_code here (pc + 1) out steps) ways.line_end (obey_all (points_of image d) here steps ways) pc (λ n. refl) has
         (λ after. f b d deep lines loops out ways (pc + 1) has.1 after quits leaves) h
     step_follows (For v rs) c steps f b d deep lines loops out ways pc has h quits leaves = for_follows steps f b d deep lines loops ways v rs pc has h leaves
     step_follows Forever c steps f b d deep lines loops out ways pc has h quits leaves = forever_follows steps f b d deep lines loops ways pc has h leaves
@@ -487,7 +487,7 @@ module _ (image : List Routine) (units : List unit.Unit) (alike : LeadAlike imag
         rest_follows Break c (turn (obey_all (points_of image d) here steps ways)) steps f b d deep lines loops out ways pc has h quits leaves
         (λ p has' after. break_follows image units u (in_frame loops) at b d deep here p _ has'.0 after)
 
-    pub steps_follow : (steps : List Step) → Follows steps
+    pub steps_follow : (steps : List LineCommand) → Follows steps
     steps_follow [] b d deep lines loops out ways pc has h quits leaves = moved units u (in_frame loops) at b pc (pc + 0) [] ways.line_end (omega arith) h
     steps_follow (step ∷ steps) b d deep lines loops out ways pc has h quits leaves =
         step_follows step.command step.condition steps (steps_follow steps) b d deep lines loops out ways pc has h quits leaves

@@ -8,20 +8,20 @@ use Rattle.mj_oper.specs.Operators.{binary_value, unary_value, truth_value}
 use Rattle.mj_text.specs.declared.fault.Fault.TheVariants.{Select as NoTrue, Device}
 use Rattle.mj_ast.specs.Syntax.{Expr, Chain, Tails, Done, Then, Operand, Literal, Value, Intrinsic, Unary, Group, Call, Select, Variable, Var, Exprs, No, More, Choices, Last, Before, Destination, Plain, Pieces, Targets, One, Several, Assignment, Killed, Gone, Spared, Merged, Output, Shown, Format, Coded, Started, LockNames, Lone, Together, Locked, Opened, Received, Input, Prompted, Arranged, Into, Renewed, Fresh, Kept, About}
 use Rattle.mj_semantics.specs.Functions.{call_value, optional}
-use Rattle.mj_semantics.specs.State.{Only, AllBut, spare, newed, special_value}
+use Rattle.mj_semantics.specs.State.{Only, AllBut, kill_except, newed, special_value}
 use Rattle.mj_semantics.specs.Outcome.{Timed, turn, given, fault}
 use Rattle.mj_semantics.specs.Lines.{Here, entry_of}
 use Rattle.mj_semantics.specs.Sharing.{start_job, take_names, give_names, lock}
-use Rattle.mj_semantics.specs.Devices.{obtain, begin_session, open_device, give_up, close, read_input}
+use Rattle.mj_semantics.specs.Devices.{request_device, begin_session, open_device, give_up, close, read_input}
 use Rattle.mj_semantics.specs.Points.{Points}
 use Rattle.mj_semantics.specs.Evaluation.{ev, ev_tails, ev_operand, ev_choices, ev_name, ev_all, name_of, read, when, ev_named, ev_local, ev_actuals, named_for, about}
 use Rattle.mj_ast.specs.declared.function.NameFunction.{NameFunction}
 use Rattle.mj_ast.specs.declared.expr.Scope.TheVariants.{Local}
-use Rattle.mj_semantics.specs.Commands.{Aim, Whole, Part, ev_destination, ev_destinations, store, renew, put, put_all, assign_to, assign, assign_all, remove, named, kill, kill_list, kill_all, take_nodes, put_nodes, merge, merge_all, ev_timeout, hang_all, start_all, ev_names, ev_lock_names, lock_list, lock_all, open_all, use_all, close_all, receive, input, read_all, mark_byte, write, arrange, output, output_all, renewal, new_list, new_all}
+use Rattle.mj_semantics.specs.Commands.{Aim, Whole, Part, ev_destination, ev_destinations, store, assign_piece, put, put_all, assign_to, assign, assign_all, remove, named, kill, kill_list, kill_all, take_nodes, put_nodes, merge, merge_all, ev_timeout, hang_all, start_all, ev_names, ev_lock_names, lock_list, lock_all, open_all, use_all, close_all, receive, input, read_all, mark_byte, write, arrange, output, output_all, renewal, new_list, new_all}
 use Rattle.mj_pcode.specs.declared.instr.Reference.{Reference}
 use Rattle.mj_pcode.specs.declared.instr.Depth.{Depth}
 use Rattle.mj_pcode.specs.declared.instr.Wait.{Wait}
-use Rattle.mj_ast.specs.declared.routine.Mark.{Mark}
+use Rattle.mj_ast.specs.declared.routine.FormatMark.{FormatMark}
 use Rattle.mj_ast.specs.declared.routine.LockMode.{LockMode}
 use Rattle.mj_ast.specs.declared.routine.LockMode.TheVariants as mode
 use Rattle.mj_pcode.specs.declared.instr.Instr.{Instr}
@@ -29,7 +29,7 @@ use Rattle.mj_pcode.specs.declared.instr.Instr.TheVariants as instr
 use Rattle.mj_pcode.specs.declared.instr.Unit as unit
 use Rattle.mj_pcode.specs.Context.{Context}
 use Rattle.mj_pcode.specs.Machine.{Stack, top, act, act_in, exec, operands, spread, given_count, wait_size, waits, counts, names_on}
-use Rattle.mj_asm.specs.Code.{count, reference, expr_code, tails_code, operand_code, choices_code, subscripts_code, exprs_code, size, sizes, destination_code, destinations_code, store_code, stores_code, targets_code, assignment_code, assignments_code, kill_code, kills_code, kill_all_code, merge_code, merges_code, format_code, output_code, outputs_code, code_if, names_code, renewed_code, news_code, new_all_code, actuals_code, shape_of, timeout_code, wait_of, hang_code, hangs_code, start_code, jobs_code, name_code, variables_code, lock_variables, taking_code, lock_code, locks_code, lock_all_code, open_code, opens_code, use_code, uses_code, close_code, closes_code, taken_code, receive_code, input_code, inputs_code}
+use Rattle.mj_asm.specs.Code.{count, reference, expr_code, tails_code, operand_code, choices_code, subscripts_code, exprs_code, size, sizes, destination_code, destinations_code, store_code, stores_code, targets_code, assignment_code, assignments_code, kill_code, kills_code, kill_all_code, merge_code, merges_code, format_code, output_code, outputs_code, code_if, names_code, set_piece_code, news_code, new_all_code, actuals_code, shape_of, timeout_code, wait_of, hang_code, hangs_code, start_code, jobs_code, name_code, variables_code, lock_variables, taking_code, lock_code, locks_code, lock_all_code, open_code, opens_code, use_code, uses_code, close_code, closes_code, taken_code, receive_code, input_code, inputs_code}
 use Rattle.mj_asm.specs.Correct.{Agree}
 use Rattle.mj_pcode.proofs.Agree.{if_at, look_at, change_at, given_at, read_at, store_at, renew_at, remove_at, take_nodes_at, put_nodes_at, write_at, about_at, hang_at, start_job_at, unlock_all_at, take_names_at, give_names_at, tab_at, write_code_at, obtain_at, begin_session_at, use_device_at, end_session_at, give_up_at, read_input_at}
 use Rattle.mj_asm.proofs.Lies.{onto, rest_below, operands_are, drop_more, Lies, LieAll, below_one, below_all, both_below, LiesWait, waited, below_wait, below_more, LieNames, below_names, names_are}
@@ -120,7 +120,7 @@ module _ (units : List unit.Unit) (u : unit.Unit) (ctx : Context) (there : slice
             ∙ given_at n (name_of (reference v).scope (reference v).word ss) _ _ (λ x e.
             read_at n x _ _ (λ w. (moved _ _ (w ∷ stack) (rest w) (end_of pc cs i) (k w)).by n (omega arith))))
         operand_follows (Intrinsic v) pc stack rest has k =
-            one pc stack (instr.Special v) _ has.0 (λ n lt.
+            one pc stack (instr.PushSpecial v) _ has.0 (λ n lt.
             look_at n (λ s. exec units n ctx (pc + 1) (special_value v s ∷ stack)) (λ s. rest (special_value v s)) (λ s. (k (special_value v s)).by n (omega arith)))
         operand_follows (Unary op x) pc stack rest has k =
             let cx = operand_code pc x in
@@ -131,7 +131,7 @@ module _ (units : List unit.Unit) (u : unit.Unit) (ctx : Context) (there : slice
         operand_follows (Group e) pc stack rest has k = expr_follows e pc stack rest has k
         operand_follows (Call f es) pc stack rest has k =
             let ce = exprs_code pc es in
-            let i = instr.Call f (count es) in
+            let i = instr.CallFunction f (count es) in
             all_follow es pc stack _ (has_front code pc ce _ has) (λ vs many.
             one (pc + length ce) (onto vs stack) i _ (has_back code pc ce _ has).0 (λ n lt.
             ap (λ l. given (call_value f l) (λ w. exec units n ctx (pc + length ce + 1) (w ∷ drop (count es) (onto vs stack))) n) (operands_are vs stack _ many)
@@ -143,11 +143,11 @@ module _ (units : List unit.Unit) (u : unit.Unit) (ctx : Context) (there : slice
             let cs = subscripts_code pc v in
             let pv = pc + length cs + 1 in
             let ce = exprs_code pv es in
-            let i = instr.About f r total in
-            let back = has_back code pc cs (instr.Named f r ∷ (ce ++ i ∷ [])) has in
-            let len : pv + length ce + 1 ≡ pc + length (cs ++ instr.Named f r ∷ (ce ++ i ∷ [])) = omega (arith, length-append cs (instr.Named f r ∷ (ce ++ i ∷ [])), length-append ce (i ∷ [])) in
+            let i = instr.CallNameFunction f r total in
+            let back = has_back code pc cs (instr.CheckNamed f r ∷ (ce ++ i ∷ [])) has in
+            let len : pv + length ce + 1 ≡ pc + length (cs ++ instr.CheckNamed f r ∷ (ce ++ i ∷ [])) = omega (arith, length-append cs (instr.CheckNamed f r ∷ (ce ++ i ∷ [])), length-append ce (i ∷ [])) in
             let few : total - r.count ≡ count es = omega arith in
-            named_follows f v (instr.Named f r) pc stack _ (has_front code pc cs _ has) back.0 (λ ss n lt many.
+            named_follows f v (instr.CheckNamed f r) pc stack _ (has_front code pc cs _ has) back.0 (λ ss n lt many.
             ap (λ l. given (named_for f r.scope r.word l) (λ x. exec units n ctx pv (onto ss stack)) n) (operands_are ss stack _ many)
             ∙ given_at n (named_for f r.scope r.word ss) _ _ (λ x e.
             (all_follow es pv (onto ss stack) (λ vs. turn (about f x (optional 0 vs) rest)) (has_front code pv ce _ back.1) (λ vs some.
@@ -169,17 +169,17 @@ module _ (units : List unit.Unit) (u : unit.Unit) (ctx : Context) (there : slice
             let ce = expr_code value e in
             let others = value + length ce + 1 in
             let j = instr.Jump (others + 1) in
-            let i = instr.Unless others in
-            let back = has_back code pc cc' (i ∷ (ce ++ j ∷ instr.NoneTrue ∷ [])) has in
-            let back' = has_back code value ce (j ∷ instr.NoneTrue ∷ []) back.1 in
-            let end : others + 1 ≡ pc + length (cc' ++ i ∷ (ce ++ j ∷ instr.NoneTrue ∷ [])) = omega (arith, length-append cc' (i ∷ (ce ++ j ∷ instr.NoneTrue ∷ [])), length-append ce (j ∷ instr.NoneTrue ∷ [])) in
+            let i = instr.JumpUnless others in
+            let back = has_back code pc cc' (i ∷ (ce ++ j ∷ instr.SelectFails ∷ [])) has in
+            let back' = has_back code value ce (j ∷ instr.SelectFails ∷ []) back.1 in
+            let end : others + 1 ≡ pc + length (cc' ++ i ∷ (ce ++ j ∷ instr.SelectFails ∷ [])) = omega (arith, length-append cc' (i ∷ (ce ++ j ∷ instr.SelectFails ∷ [])), length-append ce (j ∷ instr.SelectFails ∷ [])) in
             expr_follows c pc stack _ (has_front code pc cc' _ has) (λ v.
             one (pc + length cc') (v ∷ stack) i _ back.0 (λ n lt.
             given_at n (truth_value v) _ _ (λ t q.
             if_at n t (exec units n ctx value stack) _ (exec units n ctx others stack) _
             ((expr_follows e value stack (λ w. turn (rest w)) (has_front code value ce _ back.1) (λ w.
             one (value + length ce) (w ∷ stack) j (rest w) back'.0 (λ m lt'. (moved _ _ (w ∷ stack) (rest w) end (k w)).by m (omega arith)))).by n (omega arith))
-            ((one others stack instr.NoneTrue (fault NoTrue) back'.1.0 (λ m lt'. refl)).by n (omega arith)))))
+            ((one others stack instr.SelectFails (fault NoTrue) back'.1.0 (λ m lt'. refl)).by n (omega arith)))))
         choices_follow (Before c e x) pc stack rest has k =
             let cc' = expr_code pc c in
             let value = pc + length cc' + 1 in
@@ -187,7 +187,7 @@ module _ (units : List unit.Unit) (u : unit.Unit) (ctx : Context) (there : slice
             let others = value + length ce + 1 in
             let co = choices_code others x in
             let j = instr.Jump (others + length co) in
-            let i = instr.Unless others in
+            let i = instr.JumpUnless others in
             let back = has_back code pc cc' (i ∷ (ce ++ j ∷ co)) has in
             let back' = has_back code value ce (j ∷ co) back.1 in
             let end : others + length co ≡ pc + length (cc' ++ i ∷ (ce ++ j ∷ co)) = omega (arith, length-append cc' (i ∷ (ce ++ j ∷ co)), length-append ce (j ∷ co)) in
@@ -219,13 +219,13 @@ module _ (units : List unit.Unit) (u : unit.Unit) (ctx : Context) (there : slice
             moved _ _ (onto vs (v ∷ stack)) (rest (v ∷ vs)) (seam pc ce cr) (k (v ∷ vs) (omega (arith, many)))))
 
       -- a name that is looked at, and then what comes behind it
-      checked : (v : Variable) (pc : ℕ) (stack : Stack) (rest : Name → Timed) → HasAt code pc (subscripts_code pc v) → slice_get code (pc + length (subscripts_code pc v)) ≡ Some (instr.Check (reference v))
+      checked : (v : Variable) (pc : ℕ) (stack : Stack) (rest : Name → Timed) → HasAt code pc (subscripts_code pc v) → slice_get code (pc + length (subscripts_code pc v)) ≡ Some (instr.CheckName (reference v))
           → ((x : Name) (ss : List (List ℕ)) → length ss ≡ (reference v).count → name_of (reference v).scope (reference v).word ss ≡ Ok x → Agree b (from (pc + length (subscripts_code pc v) + 1) (onto ss stack)) (rest x))
           → Agree b (from pc stack) (ev_name points here v rest)
       checked v pc stack rest has at k =
           let r = reference v in
           let behind = pc + length (subscripts_code pc v) + 1 in
-          name_follows v (instr.Check r) pc stack rest has at (λ ss n lt many.
+          name_follows v (instr.CheckName r) pc stack rest has at (λ ss n lt many.
           ap (λ l. given (name_of r.scope r.word l) (λ x. exec units n ctx behind (onto ss stack)) n) (operands_are ss stack _ many)
           ∙ given_at n (name_of r.scope r.word ss) (λ x. exec units n ctx behind (onto ss stack)) rest (λ x e. (k x ss many e).by n (omega arith)))
 
@@ -234,12 +234,12 @@ module _ (units : List unit.Unit) (u : unit.Unit) (ctx : Context) (there : slice
           → Agree b (from pc stack) (ev_destination points here d rest)
       destination_follows (Plain v) pc stack rest has k =
           let cs = subscripts_code pc v in
-          let i = instr.Check (reference v) in
+          let i = instr.CheckName (reference v) in
           checked v pc stack _ (has_front code pc cs _ has) (has_back code pc cs _ has).0 (λ x ss many e.
           moved _ _ (onto ss stack) (rest (Whole x)) (end_of pc cs i) (k (Whole x) (onto ss stack) (ss, many, e, refl)))
       destination_follows (Pieces v es) pc stack rest has k =
           let cs = subscripts_code pc v in
-          let i = instr.Check (reference v) in
+          let i = instr.CheckName (reference v) in
           let ce = exprs_code (pc + length cs + 1) es in
           let len : pc + length cs + 1 + length ce ≡ pc + length (cs ++ i ∷ ce) = omega (arith, length-append cs (i ∷ ce)) in
           let back = has_back code pc cs (i ∷ ce) has in
@@ -285,11 +285,11 @@ module _ (units : List unit.Unit) (u : unit.Unit) (ctx : Context) (there : slice
           let under : drop n (drop depth.above stack) ≡ onto l.0 base = ap (drop n) l.4 ∙ rest_below ts (onto l.0 base) n l.3 in
           let args : operands n (drop depth.above stack) ≡ ts = ap (operands n) l.4 ∙ operands_are ts (onto l.0 base) n l.3 in
           let deeper : (w : List ℕ) → drop (depth.above + n + 1) (w ∷ stack) ≡ onto l.0 base = λ w. drop_more (depth.above + n) w stack ∙ sym (drop-drop n depth.above stack) ∙ under in
-          one pc stack (instr.Renew r n depth) _ has.0 (λ m lt.
-          ap (λ st. given (name_of r.scope r.word (operands r.count st)) (λ y. renew y (operands n (drop depth.above stack)) (top stack) (past m) (behind m)) m) under
-          ∙ ap (λ ss. given (name_of r.scope r.word ss) (λ y. renew y (operands n (drop depth.above stack)) (top stack) (past m) (behind m)) m) (operands_are l.0 base r.count l.1)
-          ∙ ap (λ o. given o (λ y. renew y (operands n (drop depth.above stack)) (top stack) (past m) (behind m)) m) l.2
-          ∙ ap (λ l. renew x l (top stack) (past m) (behind m) m) args
+          one pc stack (instr.SetPiece r n depth) _ has.0 (λ m lt.
+          ap (λ st. given (name_of r.scope r.word (operands r.count st)) (λ y. assign_piece y (operands n (drop depth.above stack)) (top stack) (past m) (behind m)) m) under
+          ∙ ap (λ ss. given (name_of r.scope r.word ss) (λ y. assign_piece y (operands n (drop depth.above stack)) (top stack) (past m) (behind m)) m) (operands_are l.0 base r.count l.1)
+          ∙ ap (λ o. given o (λ y. assign_piece y (operands n (drop depth.above stack)) (top stack) (past m) (behind m)) m) l.2
+          ∙ ap (λ l. assign_piece x l (top stack) (past m) (behind m) m) args
           ∙ renew_at m x ts (top stack) (past m) rest (behind m) (λ w. turn (store x w rest)) ((moved (pc + 2) _ _ rest (omega arith) k).by m (omega arith))
           (λ w. (stored r (record { above = depth.above + n + 1; taken = depth.taken + 1 }) x l.0 (pc + 1) (w ∷ stack) base rest l.1 l.2 (deeper w) has.1.0
           (over (pc + 1 + 1) (drop (depth.taken + 1) (w ∷ stack)) (drop depth.taken stack) rest (drop_more depth.taken w stack) (moved (pc + 1 + 1) _ _ rest (omega arith) k))).by m (omega arith)))
@@ -354,7 +354,7 @@ module _ (units : List unit.Unit) (u : unit.Unit) (ctx : Context) (there : slice
       kill_follows (Gone v) pc stack rest has k =
           let r = reference v in
           let cs = subscripts_code pc v in
-          let i = instr.Check r in
+          let i = instr.CheckName r in
           let j = instr.Kill r in
           let behind = pc + length cs + 1 in
           let back = has_back code pc cs (i ∷ j ∷ []) has in
@@ -368,8 +368,8 @@ module _ (units : List unit.Unit) (u : unit.Unit) (ctx : Context) (there : slice
       kill_follows (Spared words) pc stack rest has k =
           let cn = names_code words in
           names_follow words pc stack _ (has_front code pc cn _ has)
-          (one (pc + length cn) stack (instr.Spare words) _ (has_back code pc cn _ has).0 (λ n lt.
-          change_at n (spare words) (exec units n ctx (pc + length cn + 1) stack) rest ((moved _ _ stack rest (end_of pc cn (instr.Spare words)) k).by n (omega arith))))
+          (one (pc + length cn) stack (instr.KillExcept words) _ (has_back code pc cn _ has).0 (λ n lt.
+          change_at n (kill_except words) (exec units n ctx (pc + length cn + 1) stack) rest ((moved _ _ stack rest (end_of pc cn (instr.KillExcept words)) k).by n (omega arith))))
 
       kills_follow : (list : List Killed) (pc : ℕ) (stack : Stack) (rest : Timed) → HasAt code pc (kills_code pc list) → Agree b (from (pc + length (kills_code pc list)) stack) rest → Agree b (from pc stack) (kill_list points here list rest)
       kills_follow [] pc stack rest has k = moved pc (pc + 0) stack rest (omega arith) k
@@ -380,7 +380,7 @@ module _ (units : List unit.Unit) (u : unit.Unit) (ctx : Context) (there : slice
 
       pub kill_all_follows : (list : List Killed) (pc : ℕ) (stack : Stack) (rest : Timed) → HasAt code pc (kill_all_code pc list) → Agree b (from (pc + length (kill_all_code pc list)) stack) rest → Agree b (from pc stack) (kill_all points here list rest)
       kill_all_follows [] pc stack rest has k =
-          one pc stack (instr.Spare []) _ has.0 (λ n lt. change_at n (spare []) (exec units n ctx (pc + 1) stack) rest (k.by n (omega arith)))
+          one pc stack (instr.KillExcept []) _ has.0 (λ n lt. change_at n (kill_except []) (exec units n ctx (pc + 1) stack) rest (k.by n (omega arith)))
       kill_all_follows (x ∷ list) pc stack rest has k = kills_follow (x ∷ list) pc stack rest has k
 
       merge_follows : (m : Merged) (pc : ℕ) (stack : Stack) (rest : Timed) → HasAt code pc (merge_code pc m) → Agree b (from (pc + length (merge_code pc m)) stack) rest → Agree b (from pc stack) (merge points here m rest)
@@ -390,9 +390,9 @@ module _ (units : List unit.Unit) (u : unit.Unit) (ctx : Context) (there : slice
           let ca = subscripts_code pc m.into in
           let behind = pc + length ca + 1 in
           let cf = subscripts_code behind m.from in
-          let i = instr.Check a in
-          let j = instr.Take a f in
-          let p = instr.Put a in
+          let i = instr.CheckName a in
+          let j = instr.MergeTake a f in
+          let p = instr.MergePut a in
           let at = behind + length cf in
           let back = has_back code pc ca (i ∷ (cf ++ j ∷ p ∷ [])) has in
           let back' = has_back code behind cf (j ∷ p ∷ []) back.1 in
@@ -418,14 +418,14 @@ module _ (units : List unit.Unit) (u : unit.Unit) (ctx : Context) (there : slice
           merge_follows m pc stack _ (has_front code pc cm _ has)
           (merges_follow list (pc + length cm) stack rest (has_back code pc cm _ has) (moved _ _ stack rest (seam pc cm (merges_code (pc + length cm) list)) k))
 
-      format_follows : (marks : List Mark) (o : Option Expr) (pc : ℕ) (stack : Stack) (rest : Timed) → HasAt code pc (format_code pc marks o) → Agree b (from (pc + length (format_code pc marks o)) stack) rest → Agree b (from pc stack) (arrange points here marks o rest)
+      format_follows : (marks : List FormatMark) (o : Option Expr) (pc : ℕ) (stack : Stack) (rest : Timed) → HasAt code pc (format_code pc marks o) → Agree b (from (pc + length (format_code pc marks o)) stack) rest → Agree b (from pc stack) (arrange points here marks o rest)
       format_follows marks None pc stack rest has k =
-          one pc stack (instr.Format marks) _ has.0 (λ n lt. write_at n (map mark_byte marks) (exec units n ctx (pc + 1) stack) rest (k.by n (omega arith)))
+          one pc stack (instr.WriteFormat marks) _ has.0 (λ n lt. write_at n (map mark_byte marks) (exec units n ctx (pc + 1) stack) rest (k.by n (omega arith)))
       format_follows marks (Some e) pc stack rest has k =
           let ce = expr_code pc e in
           expr_follows e pc stack _ (has_front code pc ce _ has) (λ v.
-          one (pc + length ce) (v ∷ stack) (instr.Tab marks) _ (has_back code pc ce _ has).0 (λ n lt.
-          tab_at n marks v (exec units n ctx (pc + length ce + 1) stack) rest ((moved _ _ stack rest (end_of pc ce (instr.Tab marks)) k).by n (omega arith))))
+          one (pc + length ce) (v ∷ stack) (instr.WriteTab marks) _ (has_back code pc ce _ has).0 (λ n lt.
+          tab_at n marks v (exec units n ctx (pc + length ce + 1) stack) rest ((moved _ _ stack rest (end_of pc ce (instr.WriteTab marks)) k).by n (omega arith))))
 
       output_follows : (o : Output) (pc : ℕ) (stack : Stack) (rest : Timed) → HasAt code pc (output_code pc o) → Agree b (from (pc + length (output_code pc o)) stack) rest → Agree b (from pc stack) (output points here o rest)
       output_follows (Shown e) pc stack rest has k =
@@ -447,7 +447,7 @@ module _ (units : List unit.Unit) (u : unit.Unit) (ctx : Context) (there : slice
           output_follows o pc stack _ (has_front code pc co _ has)
           (outputs_follow list (pc + length co) stack rest (has_back code pc co _ has) (moved _ _ stack rest (seam pc co (outputs_code (pc + length co) list)) k))
 
-      renewal_follows : (x : Renewed) (pc : ℕ) (stack : Stack) (rest : Timed) → HasAt code pc (renewed_code x) → Agree b (from (pc + length (renewed_code x)) stack) rest → Agree b (from pc stack) (renewal x rest)
+      renewal_follows : (x : Renewed) (pc : ℕ) (stack : Stack) (rest : Timed) → HasAt code pc (set_piece_code x) → Agree b (from (pc + length (set_piece_code x)) stack) rest → Agree b (from pc stack) (renewal x rest)
       renewal_follows (Fresh word) pc stack rest has k =
           one pc stack (instr.New (word ∷ [])) _ has.0 (λ n lt. change_at n (newed (Only (word ∷ []))) (exec units n ctx (pc + 1) stack) rest (k.by n (omega arith)))
       renewal_follows (Kept words) pc stack rest has k =
@@ -459,7 +459,7 @@ module _ (units : List unit.Unit) (u : unit.Unit) (ctx : Context) (there : slice
       news_follow : (list : List Renewed) (pc : ℕ) (stack : Stack) (rest : Timed) → HasAt code pc (news_code list) → Agree b (from (pc + length (news_code list)) stack) rest → Agree b (from pc stack) (new_list list rest)
       news_follow [] pc stack rest has k = moved pc (pc + 0) stack rest (omega arith) k
       news_follow (x ∷ list) pc stack rest has k =
-          let cx = renewed_code x in
+          let cx = set_piece_code x in
           renewal_follows x pc stack _ (has_front code pc cx _ has)
           (news_follow list (pc + length cx) stack rest (has_back code pc cx _ has) (moved _ _ stack rest (seam pc cx (news_code list)) k))
 
@@ -487,9 +487,9 @@ module _ (units : List unit.Unit) (u : unit.Unit) (ctx : Context) (there : slice
       timeout_follows (Some e) pc stack rest has k =
           let ce = expr_code pc e in
           expr_follows e pc stack _ (has_front code pc ce _ has) (λ v.
-          one (pc + length ce) (v ∷ stack) instr.Number _ (has_back code pc ce _ has).0 (λ n lt.
+          one (pc + length ce) (v ∷ stack) instr.CheckNumber _ (has_back code pc ce _ has).0 (λ n lt.
           given_at n (reading v) (λ i. exec units n ctx (pc + length ce + 1) (v ∷ stack)) (λ i. rest (Some i)) (λ i q.
-          (moved _ _ (v ∷ stack) (rest (Some i)) (end_of pc ce instr.Number) (k (Some i) (v ∷ stack) (v, refl, q))).by n (omega arith))))
+          (moved _ _ (v ∷ stack) (rest (Some i)) (end_of pc ce instr.CheckNumber) (k (Some i) (v ∷ stack) (v, refl, q))).by n (omega arith))))
 
       pub hangs_follow : (es : List Expr) (pc : ℕ) (stack : Stack) (rest : Timed) → HasAt code pc (hangs_code pc es) → Agree b (from (pc + length (hangs_code pc es)) stack) rest → Agree b (from pc stack) (hang_all points here es rest)
       hangs_follow [] pc stack rest has k = moved pc (pc + 0) stack rest (omega arith) k
@@ -512,7 +512,7 @@ module _ (units : List unit.Unit) (u : unit.Unit) (ctx : Context) (there : slice
           let w = wait_of s.timeout in
           let shape = shape_of s.actuals in
           let entry = entry_of here s.target in
-          let i = instr.Start entry shape w in
+          let i = instr.StartJob entry shape w in
           let back = has_back code pc ca (cw ++ i ∷ []) has in
           let at = pw + length cw in
           let taken = given_count shape + wait_size w in
@@ -540,7 +540,7 @@ module _ (units : List unit.Unit) (u : unit.Unit) (ctx : Context) (there : slice
       variables_follow [] pc stack rest has k = moved pc (pc + 0) stack (rest []) (omega arith) (k [] stack refl)
       variables_follow (v ∷ vs) pc stack rest has k =
           let cs = subscripts_code pc v in
-          let i = instr.Check (reference v) in
+          let i = instr.CheckName (reference v) in
           let cn = name_code pc v in
           let front = has_front code pc cn _ has in
           checked v pc stack _ (has_front code pc cs _ front) (has_back code pc cs _ front).0 (λ x ss many e.
@@ -626,7 +626,7 @@ module _ (units : List unit.Unit) (u : unit.Unit) (ctx : Context) (there : slice
           let pw = pc + length ce in
           let cw = timeout_code pw o.timeout in
           let w = wait_of o.timeout in
-          let i = instr.Obtain w in
+          let i = instr.OpenDevice w in
           let last = i ∷ instr.BeginSession ∷ [] in
           let back = has_back code pc ce (cw ++ last) has in
           let there_is = has_back code pw cw last back in
@@ -638,8 +638,8 @@ module _ (units : List unit.Unit) (u : unit.Unit) (ctx : Context) (there : slice
           one at st i (open_device v t rest) there_is.0 (λ n lt.
           let past : Timed = exec units n ctx (at + 2) (drop (1 + wait_size w) st) in
           let begun : Stack → Timed = λ base. exec units n ctx (at + 1) base in
-          waited o.timeout t st (v ∷ stack) l (λ z. obtain (top (drop (wait_size w) st)) z past (begun (drop (wait_size w) st))) n
-          ∙ ap (λ base. obtain (top base) t past (begun base) n) (below_wait o.timeout t st (v ∷ stack) l)
+          waited o.timeout t st (v ∷ stack) l (λ z. request_device (top (drop (wait_size w) st)) z past (begun (drop (wait_size w) st))) n
+          ∙ ap (λ base. request_device (top base) t past (begun base) n) (below_wait o.timeout t st (v ∷ stack) l)
           ∙ obtain_at n v t past rest (begun (v ∷ stack)) (turn (begin_session v rest))
           ((over (at + 2) (drop (1 + wait_size w) st) stack rest (below_more o.timeout t st (v ∷ stack) 1 l) (moved _ _ stack rest len k)).by n (omega arith))
           ((one (at + 1) (v ∷ stack) instr.BeginSession (begin_session v rest) there_is.1.0 (λ m lt'.
@@ -659,9 +659,9 @@ module _ (units : List unit.Unit) (u : unit.Unit) (ctx : Context) (there : slice
           let cu = use_code pc e in
           let front = has_front code pc cu _ has in
           expr_follows e pc stack _ (has_front code pc ce _ front) (λ v.
-          one (pc + length ce) (v ∷ stack) instr.Use _ (has_back code pc ce _ front).0 (λ n lt.
+          one (pc + length ce) (v ∷ stack) instr.UseDevice _ (has_back code pc ce _ front).0 (λ n lt.
           use_device_at n v (exec units n ctx (pc + length ce + 1) stack) (use_all points here es rest)
-          ((moved _ _ stack (use_all points here es rest) (end_of pc ce instr.Use)
+          ((moved _ _ stack (use_all points here es rest) (end_of pc ce instr.UseDevice)
           (uses_follow es (pc + length cu) stack rest (has_back code pc cu _ has) (moved _ _ stack rest (seam pc cu (uses_code (pc + length cu) es)) k))).by n (omega arith))))
 
       close_follows : (e : Expr) (pc : ℕ) (stack : Stack) (rest : Timed) → HasAt code pc (close_code pc e) → Agree b (from (pc + length (close_code pc e)) stack) rest
@@ -669,7 +669,7 @@ module _ (units : List unit.Unit) (u : unit.Unit) (ctx : Context) (there : slice
       close_follows e pc stack rest has k =
           let ce = expr_code pc e in
           let pe = pc + length ce in
-          let last = instr.EndSession ∷ instr.GiveUpFailed ∷ instr.GiveUp ∷ [] in
+          let last = instr.EndSession ∷ instr.GiveUpFailedDevice ∷ instr.GiveUpDevice ∷ [] in
           let there_is = has_back code pc ce last has in
           let len : pe + 3 ≡ pc + length (ce ++ last) = omega (arith, length-append ce last) in
           let len' : pe + 1 + 1 + 1 ≡ pc + length (ce ++ last) = omega (arith, len) in
@@ -679,9 +679,9 @@ module _ (units : List unit.Unit) (u : unit.Unit) (ctx : Context) (there : slice
           (exec units n ctx (pe + 1) (v ∷ stack)) (turn (give_up v (fault Device)))
           (exec units n ctx (pe + 2) (v ∷ stack)) (turn (give_up v rest))
           ((moved _ _ stack rest len k).by n (omega arith))
-          ((one (pe + 1) (v ∷ stack) instr.GiveUpFailed (give_up v (fault Device)) there_is.1.0 (λ m lt'. refl)).by n (omega arith))
+          ((one (pe + 1) (v ∷ stack) instr.GiveUpFailedDevice (give_up v (fault Device)) there_is.1.0 (λ m lt'. refl)).by n (omega arith))
           ((moved (pe + 2) (pe + 1 + 1) (v ∷ stack) (turn (give_up v rest)) (omega arith)
-          (one (pe + 1 + 1) (v ∷ stack) instr.GiveUp (give_up v rest) there_is.1.1.0 (λ m lt'.
+          (one (pe + 1 + 1) (v ∷ stack) instr.GiveUpDevice (give_up v rest) there_is.1.1.0 (λ m lt'.
           give_up_at m v (exec units m ctx (pe + 1 + 1 + 1) stack) rest ((moved _ _ stack rest len' k).by m (omega arith))))).by n (omega arith))))
 
       pub closes_follow : (es : List Expr) (pc : ℕ) (stack : Stack) (rest : Timed) → HasAt code pc (closes_code pc es) → Agree b (from (pc + length (closes_code pc es)) stack) rest → Agree b (from pc stack) (close_all points here es rest)
@@ -708,7 +708,7 @@ module _ (units : List unit.Unit) (u : unit.Unit) (ctx : Context) (there : slice
           let at = pw + length cw in
           let len : at + 1 + 1 ≡ pc + length (cn ++ (cw ++ last)) = omega (arith, length-append cn (cw ++ last), length-append cw last) in
           checked v pc stack _ (has_front code pc cs _ front) (has_back code pc cs _ front).0 (λ x ss many e.
-          moved _ _ (onto ss stack) _ (end_of pc cs (instr.Check ref))
+          moved _ _ (onto ss stack) _ (end_of pc cs (instr.CheckName ref))
           (timeout_follows r.timeout pw (onto ss stack) _ (has_front code pw cw _ back) (λ t st l.
           one at st (instr.Read r.mode w) (read_input r.mode t (λ u. turn (store x u rest))) there_is.0 (λ n lt.
           let behind : Stack → List ℕ → Timed = λ base u. exec units n ctx (at + 1) (u ∷ base) in
@@ -747,11 +747,11 @@ module _ (units : List unit.Unit) (u : unit.Unit) (ctx : Context) (there : slice
           let ce = expr_code pc e in
           let behind = pc + length ce + 1 in
           let past = behind + length (made behind) in
-          let back = has_back code pc ce (instr.Unless past ∷ made behind) has in
-          let len : past ≡ pc + length (ce ++ instr.Unless past ∷ made behind) = omega (arith, length-append ce (instr.Unless past ∷ made behind)) in
+          let back = has_back code pc ce (instr.JumpUnless past ∷ made behind) has in
+          let len : past ≡ pc + length (ce ++ instr.JumpUnless past ∷ made behind) = omega (arith, length-append ce (instr.JumpUnless past ∷ made behind)) in
           let after = moved past _ stack rest len k in
           expr_follows e pc stack _ (has_front code pc ce _ has) (λ v.
-          one (pc + length ce) (v ∷ stack) (instr.Unless past) _ back.0 (λ n lt.
+          one (pc + length ce) (v ∷ stack) (instr.JumpUnless past) _ back.0 (λ n lt.
           given_at n (truth_value v) _ _ (λ t q.
           if_at n t (exec units n ctx behind stack) done (exec units n ctx past stack) rest
           ((f behind back.1 after).by n (omega arith))

@@ -11,7 +11,7 @@ use Rattle.mj_ast.specs.declared.function.Function.{Function}
 use Rattle.mj_ast.specs.declared.function.NameFunction.{NameFunction}
 use Rattle.mj_ast.specs.Syntax.{Chain, Then, Call, About, Var, More}
 use Rattle.mj_ast.specs.Trees.{operand_of, expr_of, variable_of, choice_of, tail_row, expr_row, tails_of, exprs_of}
-use Rattle.mj_pcode.specs.declared.instr.Instr.TheVariants.{NoneTrue}
+use Rattle.mj_pcode.specs.declared.instr.Instr.TheVariants.{SelectFails}
 use Rattle.mj_asm.specs.Code.{count, reference, expr_code, choices_code, others_code}
 use Rattle.mj_asm.proofs.Emitted.{choice_code}
 
@@ -51,7 +51,7 @@ unfolding out-Choice denote.Hole.Carrier.out
 choice_is pc (choice.Choice' c e choice.None') = refl
 choice_is pc (choice.Choice' c e (choice.Some' p o)) = refl
 
-pub others_none : (pc : ℕ) (x : choice.Choice) → (out-Choice x).others ≡ None → others_code pc (choice_of x) ≡ NoneTrue ∷ []
+pub others_none : (pc : ℕ) (x : choice.Choice) → (out-Choice x).others ≡ None → others_code pc (choice_of x) ≡ SelectFails ∷ []
 unfolding out-Choice denote.Hole.Carrier.out
 others_none pc (choice.Choice' c e choice.None') h = refl
 others_none pc (choice.Choice' c e (choice.Some' p o)) h = absurd (some_none _ h)

@@ -2,7 +2,7 @@
 use Rattle.std.proofs.Common.{ℕ, ◌+◌, List, [], ◌∷◌, length}
 use Rattle.mj_ast.specs.declared.routine.Command as kept_command
 use Rattle.mj_ast.specs.declared.routine.Command.TheVariants as command
-use Rattle.mj_ast.specs.declared.routine.Step as step
+use Rattle.mj_ast.specs.declared.routine.LineCommand as step
 
 -- how many conditions an IF has
 abbrev pub conditions_in : kept_command.Command → ℕ
@@ -33,6 +33,6 @@ conditions_in command.TRollback = 0
 conditions_in command.Break = 0
 
 -- commands, each for 3, and the conditions of each IF
-abbrev pub weight : List step.Step → ℕ
+abbrev pub weight : List step.LineCommand → ℕ
 weight [] = 0
 weight (s ∷ steps) = weight steps + conditions_in s.command + 3

@@ -5,7 +5,7 @@ use Rattle.mj_ast.specs.Syntax.{Restored, Alone, Listed, Everything, Restartable
 use Rattle.mj_semantics.specs.Outcome.{Timed, turn}
 use Rattle.mj_semantics.specs.Lines.{Here}
 use Rattle.mj_semantics.specs.Points.{Started}
-use Rattle.mj_semantics.specs.Transactions.{restored_by, words_of, listed_by, serial_by, begin_transaction, commit, roll_back, give_back, begin_again}
+use Rattle.mj_semantics.specs.Transactions.{restored_by, words_of, listed_by, serial_by, begin_transaction, commit, roll_back, roll_back_for_restart, begin_restart}
 use Rattle.mj_semantics.specs.Commands.{start_transaction, commit_transaction, restart_transaction}
 use Rattle.mj_semantics.specs.Job.{points_of}
 use Rattle.mj_pcode.specs.declared.instr.Instr.{Instr}
@@ -70,20 +70,20 @@ module _ (image : List Routine) (units : List unit.Unit) (u : unit.Unit) (ctx : 
         (inner.by n (omega arith)) (marked_at b d n (p + 1) rest deep (omega arith) back.1.0 (λ m le. behind.by m le))))
 
     -- a transaction that begins once more
-    again_follows : (pc : ℕ) → slice_get code pc ≡ Some instr.BeginAgain → Agree b (at pc) (turn begin_again)
-    again_follows pc has = one units u ctx there b pc [] instr.BeginAgain begin_again has (λ n lt. refl)
+    again_follows : (pc : ℕ) → slice_get code pc ≡ Some instr.BeginRestart → Agree b (at pc) (turn begin_restart)
+    again_follows pc has = one units u ctx there b pc [] instr.BeginRestart begin_restart has (λ n lt. refl)
 
     pub commit_follows : (pc : ℕ) (rest : Timed) → HasAt code pc commit_code → Agree b (at (pc + length commit_code)) rest
         → Agree b (at pc) (commit_transaction (points_of image d) here rest)
     commit_follows pc rest has k =
-        one units u ctx there b pc [] instr.Commit (commit (turn begin_again) rest) has.0 (λ n lt.
-        commit_at n (exec units n ctx (pc + 1) []) (turn begin_again) (exec units n ctx (pc + 2) []) rest
+        one units u ctx there b pc [] instr.Commit (commit (turn begin_restart) rest) has.0 (λ n lt.
+        commit_at n (exec units n ctx (pc + 1) []) (turn begin_restart) (exec units n ctx (pc + 2) []) rest
         ((again_follows (pc + 1) has.1.0).by n (omega arith)) (k.by n (omega arith)))
 
     pub restart_follows : (pc : ℕ) → HasAt code pc restart_code → Agree b (at pc) (restart_transaction (points_of image d) here)
     restart_follows pc has =
-        one units u ctx there b pc [] instr.GiveBack (give_back (turn begin_again)) has.0 (λ n lt.
-        give_back_at n (exec units n ctx (pc + 1) []) (turn begin_again) ((again_follows (pc + 1) has.1.0).by n (omega arith)))
+        one units u ctx there b pc [] instr.RollBackForRestart (roll_back_for_restart (turn begin_restart)) has.0 (λ n lt.
+        give_back_at n (exec units n ctx (pc + 1) []) (turn begin_restart) ((again_follows (pc + 1) has.1.0).by n (omega arith)))
 
     pub roll_back_follows : (pc : ℕ) (rest : Timed) → slice_get code pc ≡ Some instr.RollBack → Agree b (at (pc + 1)) rest → Agree b (at pc) (turn (roll_back rest))
     roll_back_follows pc rest has k =

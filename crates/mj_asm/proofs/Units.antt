@@ -10,7 +10,7 @@ use Rattle.mj_pcode.specs.declared.instr.Instr.{Instr}
 use Rattle.mj_pcode.specs.declared.instr.Instr.TheVariants as instr
 use Rattle.mj_pcode.specs.declared.instr.Unit as unit
 use Rattle.mj_pcode.specs.Found.{start_of, levels_in}
-use Rattle.mj_pcode.specs.Checked.{Footing, bare, behind, footings, Holds, Fits, footings_in, IsChecked}
+use Rattle.mj_pcode.specs.Checked.{Footing, bare, footing_behind, footings, Holds, InstrFits, footings_in, IsChecked}
 use Rattle.mj_asm.specs.Code.{steps_code, line_code, lines_code, starts}
 use Rattle.mj_asm.specs.Correct.{line_of}
 use Rattle.mj_asm.proofs.Lines.{line_at, many, LineStands, lines_stand}
@@ -25,24 +25,24 @@ laid_all [] f pre =
     let within : length pre < length (pre ++ f ∷ []) = omega (arith, length-append pre (f ∷ [])) in
     slice_get-get_or (pre ++ f ∷ []) (length pre) f within ∙ ap Some (get_or-append_seam pre f [] f)
 laid_all (i ∷ c) f pre =
-    let rest = footings (behind i f) c in
+    let rest = footings (footing_behind i f) c in
     let within : length pre < length (pre ++ f ∷ rest) = omega (arith, length-append pre (f ∷ rest)) in
     let here = slice_get-get_or (pre ++ f ∷ rest) (length pre) f within ∙ ap Some (get_or-append_seam pre f rest f) in
     let n : length (pre ++ f ∷ []) ≡ length pre + 1 = omega (arith, length-append pre (f ∷ [])) in
-    let later = subst (λ l. Laid l (length (pre ++ f ∷ [])) (behind i f) c) (append_assoc pre (f ∷ []) rest) (laid_all c (behind i f) (pre ++ f ∷ [])) in
-    (here, subst (λ m. Laid (pre ++ f ∷ rest) m (behind i f) c) n later)
+    let later = subst (λ l. Laid l (length (pre ++ f ∷ [])) (footing_behind i f) c) (append_assoc pre (f ∷ []) rest) (laid_all c (footing_behind i f) (pre ++ f ∷ [])) in
+    (here, subst (λ m. Laid (pre ++ f ∷ rest) m (footing_behind i f) c) n later)
 
 -- an instruction of code that fits
-fits_at : (fs : List Footing) (pc : ℕ) (f : Footing) (c : List Instr) → Laid fs pc f c → Fit fs pc f c → (j : ℕ) (i : Instr) (g : Footing) → slice_get c j ≡ Some i → Holds fs (pc + j) g → Fits fs (pc + j) i g
+fits_at : (fs : List Footing) (pc : ℕ) (f : Footing) (c : List Instr) → Laid fs pc f c → Fit fs pc f c → (j : ℕ) (i : Instr) (g : Footing) → slice_get c j ≡ Some i → Holds fs (pc + j) g → InstrFits fs (pc + j) i g
 fits_at fs pc f [] l h j i g e k = absurd (none-some i e)
 fits_at fs pc f (x ∷ c) l h zero i g e k =
     let n : pc + 0 ≡ pc = omega arith in
     let n' : pc ≡ pc + 0 = omega arith in
     let same : f ≡ g = some_is f g (sym l.0 ∙ subst (λ m. slice_get fs m ≡ Some g) n k) in
-    subst (λ m. Fits fs m i g) n' (subst (λ y. Fits fs pc y g) (some_is x i e) (subst (λ y. Fits fs pc x y) same h.0))
+    subst (λ m. InstrFits fs m i g) n' (subst (λ y. InstrFits fs pc y g) (some_is x i e) (subst (λ y. InstrFits fs pc x y) same h.0))
 fits_at fs pc f (x ∷ c) l h (suc j) i g e k =
     let n : pc + 1 + j ≡ pc + suc j = omega arith in
-    subst (λ m. Fits fs m i g) n (fits_at fs (pc + 1) (behind x f) c l.1 h.1 j i g e (subst (λ m. Holds fs m g) (sym n) k))
+    subst (λ m. InstrFits fs m i g) n (fits_at fs (pc + 1) (footing_behind x f) c l.1 h.1 j i g e (subst (λ m. Holds fs m g) (sym n) k))
 
 -- nothing lies where lines begin
 lines_begin : (fs : List Footing) (here : Here) (lines : List Line) (pc : ℕ) → Laid fs pc bare (lines_code pc here lines) → (j p : ℕ) → slice_get (starts pc here lines) j ≡ Some p → Holds fs p bare
@@ -99,7 +99,7 @@ module _ (routine : Routine) (u : unit.Unit) (name : u.name ≡ routine.name) (h
       record {
         fits = λ pc i f at holds.
             let n : pc ≡ 0 + pc = omega arith in
-            subst (λ m. Fits (footings_in u) m i f) (sym n) (fits_at (footings_in u) 0 bare u.instrs.items all_laid done.1 pc i f at (subst (λ m. Holds (footings_in u) m f) n holds));
+            subst (λ m. InstrFits (footings_in u) m i f) (sym n) (fits_at (footings_in u) 0 bare u.instrs.items all_laid done.1 pc i f at (subst (λ m. Holds (footings_in u) m f) n holds));
         lines = λ k h e.
             let n : k + 1 - 1 ≡ k = omega arith in
             line_enters k h e (slice_get routine.lines k) refl

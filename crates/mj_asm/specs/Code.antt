@@ -1,7 +1,7 @@
 -- The instructions of each piece of a routine.
 use Rattle.std.specs.Prelude.{ℕ, ◌+◌, List, [], ◌∷◌, ◌++◌, Option, Some, None, Bool, true, false, length, map}
-use Rattle.mj_ast.specs.Syntax.{Expr, Chain, Tails, Done, Then, Operand, Literal, Value, Intrinsic, Unary, Group, Call, Select, Variable, Var, Exprs, No, More, Choices, Last, Before, Destination, Plain, Pieces, Targets, One, Several, Assignment, Killed, Gone, Spared, Merged, Output, Shown, Format, Coded, Called, Jumped, Started, LockNames, Lone, Together, Locked, Opened, Received, Input, Prompted, Arranged, Into, Range, Single, Endless, UpTo, Renewed, Fresh, Kept, Restored, Alone, Listed, Everything, Restartable, Command, Set, Write, Halt, Hang, Job, Lock, OpenDevice, UseDevice, CloseDevice, Read, Kill, Merge, If, Else, For, Forever, Do, Goto, Quit, New, TStart, TCommit, TRestart, TRollback, Break, Step, Line, About}
-use Rattle.mj_ast.specs.declared.routine.Mark.{Mark}
+use Rattle.mj_ast.specs.Syntax.{Expr, Chain, Tails, Done, Then, Operand, Literal, Value, Intrinsic, Unary, Group, Call, Select, Variable, Var, Exprs, No, More, Choices, Last, Before, Destination, Plain, Pieces, Targets, One, Several, Assignment, Killed, Gone, Spared, Merged, Output, Shown, Format, Coded, Called, Jumped, Started, LockNames, Lone, Together, Locked, Opened, Received, Input, Prompted, Arranged, Into, Range, Single, Endless, UpTo, Renewed, Fresh, Kept, Restored, Alone, Listed, Everything, Restartable, Command, Set, Write, Halt, Hang, Job, Lock, OpenDevice, UseDevice, CloseDevice, Read, Kill, Merge, If, Else, For, Forever, Do, Goto, Quit, New, TStart, TCommit, TRestart, TRollback, Break, LineCommand, Line, About}
+use Rattle.mj_ast.specs.declared.routine.FormatMark.{FormatMark}
 use Rattle.mj_ast.specs.declared.routine.ReadMode.{ReadMode}
 use Rattle.mj_ast.specs.declared.routine.LockMode.{LockMode}
 use Rattle.mj_ast.specs.declared.routine.LockMode.TheVariants.{Whole, Plus, Minus}
@@ -38,12 +38,12 @@ abbrev mutual
   pub operand_code : ℕ → Operand → List Instr
   operand_code pc (Literal t) = instr.Push t ∷ []
   operand_code pc (Value v) = subscripts_code pc v ++ instr.Load (reference v) ∷ []
-  operand_code pc (Intrinsic v) = instr.Special v ∷ []
+  operand_code pc (Intrinsic v) = instr.PushSpecial v ∷ []
   operand_code pc (Unary op x) = operand_code pc x ++ instr.Unary op ∷ []
   operand_code pc (Group e) = expr_code pc e
-  operand_code pc (Call f es) = exprs_code pc es ++ instr.Call f (count es) ∷ []
+  operand_code pc (Call f es) = exprs_code pc es ++ instr.CallFunction f (count es) ∷ []
   operand_code pc (About f v es) =
-      subscripts_code pc v ++ instr.Named f (reference v) ∷ (exprs_code (pc + length (subscripts_code pc v) + 1) es ++ instr.About f (reference v) ((reference v).count + count es) ∷ [])
+      subscripts_code pc v ++ instr.CheckNamed f (reference v) ∷ (exprs_code (pc + length (subscripts_code pc v) + 1) es ++ instr.CallNameFunction f (reference v) ((reference v).count + count es) ∷ [])
   operand_code pc (Select choices) = choices_code pc choices
 
   pub subscripts_code : ℕ → Variable → List Instr
@@ -58,15 +58,15 @@ abbrev mutual
   choices_code pc (Last c e) =
       let value = pc + length (expr_code pc c) + 1 in
       let others = value + length (expr_code value e) + 1 in
-      expr_code pc c ++ instr.Unless others ∷ (expr_code value e ++ instr.Jump (others + 1) ∷ instr.NoneTrue ∷ [])
+      expr_code pc c ++ instr.JumpUnless others ∷ (expr_code value e ++ instr.Jump (others + 1) ∷ instr.SelectFails ∷ [])
   choices_code pc (Before c e rest) =
       let value = pc + length (expr_code pc c) + 1 in
       let others = value + length (expr_code value e) + 1 in
-      expr_code pc c ++ instr.Unless others ∷ (expr_code value e ++ instr.Jump (others + length (choices_code others rest)) ∷ choices_code others rest)
+      expr_code pc c ++ instr.JumpUnless others ∷ (expr_code value e ++ instr.Jump (others + length (choices_code others rest)) ∷ choices_code others rest)
 
 -- what stands behind the jump of the first choice
 abbrev pub others_code : ℕ → Choices → List Instr
-others_code pc (Last c e) = instr.NoneTrue ∷ []
+others_code pc (Last c e) = instr.SelectFails ∷ []
 others_code pc (Before c e rest) = choices_code pc rest
 
 -- how many operands a destination is: its subscripts, and its arguments
@@ -80,9 +80,9 @@ sizes (d ∷ list) = size d + sizes list
 
 -- a name that is looked at once its subscripts have their values, and then of pieces the arguments
 abbrev pub destination_code : ℕ → Destination → List Instr
-destination_code pc (Plain v) = subscripts_code pc v ++ instr.Check (reference v) ∷ []
+destination_code pc (Plain v) = subscripts_code pc v ++ instr.CheckName (reference v) ∷ []
 destination_code pc (Pieces v es) =
-    subscripts_code pc v ++ instr.Check (reference v) ∷ exprs_code (pc + length (subscripts_code pc v) + 1) es
+    subscripts_code pc v ++ instr.CheckName (reference v) ∷ exprs_code (pc + length (subscripts_code pc v) + 1) es
 
 abbrev pub destinations_code : ℕ → List Destination → List Instr
 destinations_code pc [] = []
@@ -92,7 +92,7 @@ destinations_code pc (d ∷ list) = destination_code pc d ++ destinations_code (
 abbrev pub store_code : Destination → Depth → List Instr
 store_code (Plain v) depth = instr.Store (reference v) depth ∷ []
 store_code (Pieces v es) depth =
-    instr.Renew (reference v) (count es) depth
+    instr.SetPiece (reference v) (count es) depth
     ∷ instr.Store (reference v) (record { above = depth.above + count es + 1; taken = depth.taken + 1 }) ∷ []
 
 -- the assignments of a list: above the operands of each lie those of the later ones, and the value
@@ -117,9 +117,9 @@ assignments_code pc [] = []
 assignments_code pc (a ∷ list) = assignment_code pc a ++ assignments_code (pc + length (assignment_code pc a)) list
 
 -- a format, of which the column has its value first
-abbrev pub format_code : ℕ → List Mark → Option Expr → List Instr
-format_code pc marks None = instr.Format marks ∷ []
-format_code pc marks (Some e) = expr_code pc e ++ instr.Tab marks ∷ []
+abbrev pub format_code : ℕ → List FormatMark → Option Expr → List Instr
+format_code pc marks None = instr.WriteFormat marks ∷ []
+format_code pc marks (Some e) = expr_code pc e ++ instr.WriteTab marks ∷ []
 
 abbrev pub output_code : ℕ → Output → List Instr
 output_code pc (Shown e) = expr_code pc e ++ instr.Write ∷ []
@@ -137,8 +137,8 @@ names_code (word ∷ words) = instr.Discard 0 ∷ names_code words
 
 -- a name that goes is looked at once its subscripts have their values
 abbrev pub kill_code : ℕ → Killed → List Instr
-kill_code pc (Gone v) = subscripts_code pc v ++ instr.Check (reference v) ∷ instr.Kill (reference v) ∷ []
-kill_code pc (Spared words) = names_code words ++ instr.Spare words ∷ []
+kill_code pc (Gone v) = subscripts_code pc v ++ instr.CheckName (reference v) ∷ instr.Kill (reference v) ∷ []
+kill_code pc (Spared words) = names_code words ++ instr.KillExcept words ∷ []
 
 abbrev pub kills_code : ℕ → List Killed → List Instr
 kills_code pc [] = []
@@ -146,29 +146,29 @@ kills_code pc (k ∷ list) = kill_code pc k ++ kills_code (pc + length (kill_cod
 
 -- without arguments all locals go
 abbrev pub kill_all_code : ℕ → List Killed → List Instr
-kill_all_code pc [] = instr.Spare [] ∷ []
+kill_all_code pc [] = instr.KillExcept [] ∷ []
 kill_all_code pc (k ∷ list) = kills_code pc (k ∷ list)
 
 -- the name to which is looked at before the name from which
 abbrev pub merge_code : ℕ → Merged → List Instr
 merge_code pc m =
     subscripts_code pc m.into
-    ++ instr.Check (reference m.into)
+    ++ instr.CheckName (reference m.into)
     ∷ (subscripts_code (pc + length (subscripts_code pc m.into) + 1) m.from
-    ++ instr.Take (reference m.into) (reference m.from) ∷ instr.Put (reference m.into) ∷ [])
+    ++ instr.MergeTake (reference m.into) (reference m.from) ∷ instr.MergePut (reference m.into) ∷ [])
 
 abbrev pub merges_code : ℕ → List Merged → List Instr
 merges_code pc [] = []
 merges_code pc (m ∷ list) = merge_code pc m ++ merges_code (pc + length (merge_code pc m)) list
 
 -- NEW, an argument; a list of names takes an instruction for each
-abbrev pub renewed_code : Renewed → List Instr
-renewed_code (Fresh word) = instr.New (word ∷ []) ∷ []
-renewed_code (Kept words) = names_code words ++ instr.NewExcept words ∷ []
+abbrev pub set_piece_code : Renewed → List Instr
+set_piece_code (Fresh word) = instr.New (word ∷ []) ∷ []
+set_piece_code (Kept words) = names_code words ++ instr.NewExcept words ∷ []
 
 abbrev pub news_code : List Renewed → List Instr
 news_code [] = []
-news_code (r ∷ list) = renewed_code r ++ news_code list
+news_code (r ∷ list) = set_piece_code r ++ news_code list
 
 -- without arguments it is all locals
 abbrev pub new_all_code : List Renewed → List Instr
@@ -190,7 +190,7 @@ shape_of (Some e ∷ es) = true ∷ shape_of es
 -- how long an argument may wait: a number, which is looked at
 abbrev pub timeout_code : ℕ → Option Expr → List Instr
 timeout_code pc None = []
-timeout_code pc (Some e) = expr_code pc e ++ instr.Number ∷ []
+timeout_code pc (Some e) = expr_code pc e ++ instr.CheckNumber ∷ []
 
 abbrev pub wait_of : Option Expr → Wait
 wait_of None = Ever
@@ -209,7 +209,7 @@ abbrev pub start_code : Here → ℕ → Started → List Instr
 start_code here pc s =
     let wait = pc + length (actuals_code pc s.actuals) in
     actuals_code pc s.actuals
-    ++ (timeout_code wait s.timeout ++ instr.Start (entry_of here s.target) (shape_of s.actuals) (wait_of s.timeout) ∷ [])
+    ++ (timeout_code wait s.timeout ++ instr.StartJob (entry_of here s.target) (shape_of s.actuals) (wait_of s.timeout) ∷ [])
 
 abbrev pub jobs_code : Here → ℕ → List Started → List Instr
 jobs_code here pc [] = []
@@ -217,7 +217,7 @@ jobs_code here pc (s ∷ list) = start_code here pc s ++ jobs_code here (pc + le
 
 -- a name that is looked at once its subscripts have their values
 abbrev pub name_code : ℕ → Variable → List Instr
-name_code pc v = subscripts_code pc v ++ instr.Check (reference v) ∷ []
+name_code pc v = subscripts_code pc v ++ instr.CheckName (reference v) ∷ []
 
 abbrev pub variables_code : ℕ → List Variable → List Instr
 variables_code pc [] = []
@@ -254,14 +254,14 @@ lock_all_code pc (l ∷ list) = locks_code pc (l ∷ list)
 abbrev pub open_code : ℕ → Opened → List Instr
 open_code pc o =
     let wait = pc + length (expr_code pc o.device) in
-    expr_code pc o.device ++ (timeout_code wait o.timeout ++ instr.Obtain (wait_of o.timeout) ∷ instr.BeginSession ∷ [])
+    expr_code pc o.device ++ (timeout_code wait o.timeout ++ instr.OpenDevice (wait_of o.timeout) ∷ instr.BeginSession ∷ [])
 
 abbrev pub opens_code : ℕ → List Opened → List Instr
 opens_code pc [] = []
 opens_code pc (o ∷ list) = open_code pc o ++ opens_code (pc + length (open_code pc o)) list
 
 abbrev pub use_code : ℕ → Expr → List Instr
-use_code pc e = expr_code pc e ++ instr.Use ∷ []
+use_code pc e = expr_code pc e ++ instr.UseDevice ∷ []
 
 abbrev pub uses_code : ℕ → List Expr → List Instr
 uses_code pc [] = []
@@ -269,7 +269,7 @@ uses_code pc (e ∷ es) = use_code pc e ++ uses_code (pc + length (use_code pc e
 
 -- an argument of CLOSE: the session ends, and the device is given up where that failed, or where it didn't
 abbrev pub close_code : ℕ → Expr → List Instr
-close_code pc e = expr_code pc e ++ instr.EndSession ∷ instr.GiveUpFailed ∷ instr.GiveUp ∷ []
+close_code pc e = expr_code pc e ++ instr.EndSession ∷ instr.GiveUpFailedDevice ∷ instr.GiveUpDevice ∷ []
 
 abbrev pub closes_code : ℕ → List Expr → List Instr
 closes_code pc [] = []
@@ -300,7 +300,7 @@ abbrev pub code_if : ℕ → Option Expr → (ℕ → List Instr) → List Instr
 code_if pc None code = code pc
 code_if pc (Some e) code =
     let behind = pc + length (expr_code pc e) + 1 in
-    expr_code pc e ++ instr.Unless (behind + length (code behind)) ∷ code behind
+    expr_code pc e ++ instr.JumpUnless (behind + length (code behind)) ∷ code behind
 
 -- an argument of DO, in a line that stands here
 abbrev pub call_code : Here → Called → ℕ → List Instr
@@ -314,7 +314,7 @@ calls_code here pc (c ∷ list) =
 
 -- without arguments it is the block
 abbrev pub do_code : Here → ℕ → List Called → List Instr
-do_code here pc [] = instr.Block here.line ∷ []
+do_code here pc [] = instr.DoBlock here.line ∷ []
 do_code here pc (c ∷ list) = calls_code here pc (c ∷ list)
 
 abbrev pub jump_code : Here → Jumped → ℕ → List Instr
@@ -336,26 +336,26 @@ abbrev pub ifs_code : ℕ → List Expr → (ℕ → List Instr) → List Instr
 ifs_code pc [] rest = rest pc
 ifs_code pc (e ∷ es) rest =
     let behind = pc + length (expr_code pc e) + 1 in
-    expr_code pc e ++ instr.Decide (behind + length (ifs_code behind es rest)) ∷ ifs_code behind es rest
+    expr_code pc e ++ instr.SetTest (behind + length (ifs_code behind es rest)) ∷ ifs_code behind es rest
 
 -- without arguments it is by `$TEST`
 abbrev pub if_code : ℕ → List Expr → (ℕ → List Instr) → List Instr
-if_code pc [] rest = instr.If (pc + 1 + length (rest (pc + 1))) ∷ rest (pc + 1)
+if_code pc [] rest = instr.JumpUnlessTest (pc + 1 + length (rest (pc + 1))) ∷ rest (pc + 1)
 if_code pc (e ∷ es) rest = ifs_code pc (e ∷ es) rest
 
 -- ELSE: a test that leads to the end of the rest of the line
 abbrev pub else_code : ℕ → (ℕ → List Instr) → List Instr
-else_code pc rest = instr.Else (pc + 1 + length (rest (pc + 1))) ∷ rest (pc + 1)
+else_code pc rest = instr.JumpIfTest (pc + 1 + length (rest (pc + 1))) ∷ rest (pc + 1)
 
 -- what a FOR goes through
 abbrev pub range_code : ℕ → Range → List Instr
-range_code pc (Single a) = expr_code pc a ++ instr.Begin span.One ∷ []
+range_code pc (Single a) = expr_code pc a ++ instr.ForBegin span.One ∷ []
 range_code pc (Endless a b) =
-    expr_code pc a ++ (expr_code (pc + length (expr_code pc a)) b ++ instr.Begin span.Endless ∷ [])
+    expr_code pc a ++ (expr_code (pc + length (expr_code pc a)) b ++ instr.ForBegin span.Endless ∷ [])
 range_code pc (UpTo a b c) =
     let second = pc + length (expr_code pc a) in
     let third = second + length (expr_code second b) in
-    expr_code pc a ++ (expr_code second b ++ (expr_code third c ++ instr.Begin span.UpTo ∷ []))
+    expr_code pc a ++ (expr_code second b ++ (expr_code third c ++ instr.ForBegin span.UpTo ∷ []))
 
 abbrev pub ranges_code : ℕ → List Range → List Instr
 ranges_code pc [] = []
@@ -365,7 +365,7 @@ ranges_code pc (r ∷ rs) = range_code pc r ++ ranges_code (pc + length (range_c
 -- next pass
 abbrev pub body_code : ℕ → (ℕ → Option ℕ → List Instr) → List Instr
 body_code close rest =
-    instr.Close (close + 1 + length (rest (close + 1) (Some close)) + 1) ∷ (rest (close + 1) (Some close) ++ instr.Again ∷ [])
+    instr.ForClose (close + 1 + length (rest (close + 1) (Some close)) + 1) ∷ (rest (close + 1) (Some close) ++ instr.ForAgain ∷ [])
 
 abbrev pub subscript_exprs : Variable → Exprs
 subscript_exprs (Var scope word es) = es
@@ -375,7 +375,7 @@ abbrev pub for_code : ℕ → Variable → List Range → (ℕ → Option ℕ �
 for_code pc v rs rest =
     let first = pc + length (subscripts_code pc v) + 1 in
     let close = first + length (ranges_code first rs) in
-    subscripts_code pc v ++ instr.Open (reference v).word (reference v).count (close + 1) ∷ (ranges_code first rs ++ body_code close rest)
+    subscripts_code pc v ++ instr.ForOpen (reference v).word (reference v).count (close + 1) ∷ (ranges_code first rs ++ body_code close rest)
 
 -- the names of a list of them
 abbrev pub listed_of : Restored → List (List ℕ)
@@ -403,10 +403,10 @@ transaction_code a = names_code (listed_by a) ++ begin_code (restores_by a) (ser
 
 -- TCOMMIT: a clash leads to a restart
 abbrev pub commit_code : List Instr
-commit_code = instr.Commit ∷ instr.BeginAgain ∷ []
+commit_code = instr.Commit ∷ instr.BeginRestart ∷ []
 
 abbrev pub restart_code : List Instr
-restart_code = instr.GiveBack ∷ instr.BeginAgain ∷ []
+restart_code = instr.RollBackForRestart ∷ instr.BeginRestart ∷ []
 
 -- a command without its postcondition, in a FOR that is closed at an instruction, or in none. IF, ELSE and FOR have the rest of
 -- their line in their code
@@ -460,7 +460,7 @@ obey_code here pc out (Merge list) c rest = and_then here pc out c (Merge list) 
 obey_code here pc out (If es) c rest = if_code pc es (λ p. rest p out)
 obey_code here pc out Else c rest = else_code pc (λ p. rest p out)
 obey_code here pc out (For v rs) c rest = for_code pc v rs rest
-obey_code here pc out Forever c rest = instr.Forever ∷ body_code (pc + 1) rest
+obey_code here pc out Forever c rest = instr.ForForever ∷ body_code (pc + 1) rest
 obey_code here pc out (Do list) c rest = and_then here pc out c (Do list) rest
 obey_code here pc out (Goto list) c rest = and_then here pc out c (Goto list) rest
 obey_code here pc out Quit c rest = and_then here pc out c Quit rest
@@ -471,7 +471,7 @@ obey_code here pc out TRestart c rest = and_then here pc out c TRestart rest
 obey_code here pc out TRollback c rest = and_then here pc out c TRollback rest
 obey_code here pc out Break c rest = and_then here pc out c Break rest
 
-abbrev pub steps_code : Here → ℕ → Option ℕ → List Step → List Instr
+abbrev pub steps_code : Here → ℕ → Option ℕ → List LineCommand → List Instr
 steps_code here pc out [] = []
 steps_code here pc out (step ∷ steps) = obey_code here pc out step.command step.condition (λ p o. steps_code here p o steps)
 

@@ -49,12 +49,12 @@ fn emit_format(alloc: Global, code: &mut Vec<Instr>, layout: &Layout) -> Result<
     match &layout.column {
         None => {
             let marks = Marks::copied(alloc, &layout.marks)?;
-            put(code, Instr::Format(marks))
+            put(code, Instr::WriteFormat(marks))
         }
         Some(column) => {
             emit_expr(code, column)?;
             let marks = Marks::copied(alloc, &layout.marks)?;
-            put(code, Instr::Tab(marks))
+            put(code, Instr::WriteTab(marks))
         }
     }
 }
@@ -75,7 +75,7 @@ fn emit_open(code: &mut Vec<Instr>, opened: &Opened) -> Result<(), AllocError>
 {
     emit_expr(code, &opened.device)?;
     let wait = emit_timeout(code, &opened.timeout)?;
-    put(code, Instr::Obtain(wait))?;
+    put(code, Instr::OpenDevice(wait))?;
     put(code, Instr::BeginSession)
 }
 
@@ -93,7 +93,7 @@ fn emit_use(code: &mut Vec<Instr>, name: &Expr) -> Result<(), AllocError>
     ensures { OnOk result (code.new.items ≡ code.old.items ++ use_code (length code.old.items) (expr_of name.now)) }
 {
     emit_expr(code, name)?;
-    put(code, Instr::Use)
+    put(code, Instr::UseDevice)
 }
 
 /// The arguments of CLOSE.
@@ -112,8 +112,8 @@ fn emit_close(code: &mut Vec<Instr>, name: &Expr) -> Result<(), AllocError>
 {
     emit_expr(code, name)?;
     put(code, Instr::EndSession)?;
-    put(code, Instr::GiveUpFailed)?;
-    put(code, Instr::GiveUp)
+    put(code, Instr::GiveUpFailedDevice)?;
+    put(code, Instr::GiveUpDevice)
 }
 
 /// The arguments of READ.

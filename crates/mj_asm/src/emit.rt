@@ -3,7 +3,7 @@
 ghost use Rattle.std.specs.Prelude.{◌≡◌, ◌<◌, ◌+◌, ◌^◌, [], ◌∷◌, ◌++◌, length, map, slice_set, option_map, IfOk, OnOk};
 ghost use Rattle.mj_pcode.specs.Checked.{IsChecked};
 ghost use Rattle.mj_ast.specs.Trees.{expr_of, variable_of, assignment_of, killed_of, merged_of, called_of, jumped_of, range_of, renewed_of, restored_of, restartable_of, command_of, step_of, line_of, routine_of};
-ghost use Rattle.mj_asm.specs.Code.{assignment_code, assignments_code, names_code, kill_code, kills_code, kill_all_code, merge_code, merges_code, code_if, command_code, steps_code, if_code, ifs_code, else_code, for_code, body_code, range_code, ranges_code, do_code, call_code, jumps_code, jump_code, new_all_code, renewed_code, listed_of, restores_of, begin_code, transaction_code, line_code};
+ghost use Rattle.mj_asm.specs.Code.{assignment_code, assignments_code, names_code, kill_code, kills_code, kill_all_code, merge_code, merges_code, code_if, command_code, steps_code, if_code, ifs_code, else_code, for_code, body_code, range_code, ranges_code, do_code, call_code, jumps_code, jump_code, new_all_code, set_piece_code, listed_of, restores_of, begin_code, transaction_code, line_code};
 ghost use Rattle.mj_semantics.specs.Transactions as transactions;
 ghost use Rattle.mj_asm.specs.Sites.{here_of};
 ghost use Rattle.mj_asm.specs.Correct.{with_labels, IsUnitOf};
@@ -15,8 +15,8 @@ use crate::sharing::{emit_hangs, emit_jobs, emit_lock_all};
 use crate::site::Site;
 use crate::targets::{emit_name, emit_one, emit_several};
 use mj_ast::{
-    Assignment, Called, Command, Expr, Jumped, Killed, Line, Merged, Range, Renewed, Restartable,
-    Restored, Routine, Serial, Step, Targets, Variable,
+    Assignment, Called, Command, Expr, Jumped, Killed, Line, LineCommand, Merged, Range, Renewed,
+    Restartable, Restored, Routine, Serial, Targets, Variable,
 };
 use mj_pcode::{Head, Instr, Labels, LineStart, Restores, Span, Unit, Words};
 use mj_text::Text;
@@ -94,7 +94,7 @@ fn emit_steps(
     site: Site,
     code: &mut Vec<Instr>,
     close: Option<usize>,
-    steps: &[Step],
+    steps: &[LineCommand],
 ) -> Result<(), AllocError>
     ensures { OnOk result (code.new.items ≡ code.old.items ++ steps_code (here_of site.entry) (length code.old.items) close (map step_of steps.now)) }
 {
@@ -105,7 +105,7 @@ fn emit_steps(
             Command::Else => return emit_else(site, code, close, behind),
             Command::For(variable, ranges) => return emit_for(site, code, variable, ranges, behind),
             Command::Forever => {
-                put(code, Instr::Forever)?;
+                put(code, Instr::ForForever)?;
                 return emit_body(site, code, behind);
             }
             _ => emit_step(site, code, close, step)?,
@@ -121,15 +121,15 @@ fn emit_else(
     site: Site,
     code: &mut Vec<Instr>,
     close: Option<usize>,
-    behind: &[Step],
+    behind: &[LineCommand],
 ) -> Result<(), AllocError>
     ensures { OnOk result (code.new.items ≡ code.old.items ++ else_code (length code.old.items) (λ p. steps_code (here_of site.entry) p close (map step_of behind.now))) }
 {
     let test = code.len();
-    put(code, Instr::Else(0))?;
+    put(code, Instr::JumpIfTest(0))?;
     emit_steps(site, code, close, behind)?;
     let target = code.len();
-    change(code, test, Instr::Else(target));
+    change(code, test, Instr::JumpIfTest(target));
     Ok(())
 }
 
@@ -140,16 +140,16 @@ fn emit_if(
     code: &mut Vec<Instr>,
     close: Option<usize>,
     conditions: &[Expr],
-    behind: &[Step],
+    behind: &[LineCommand],
 ) -> Result<(), AllocError>
     ensures { OnOk result (code.new.items ≡ code.old.items ++ if_code (length code.old.items) (map expr_of conditions.now) (λ p. steps_code (here_of site.entry) p close (map step_of behind.now))) }
 {
     if conditions.is_empty() {
         let test = code.len();
-        put(code, Instr::If(0))?;
+        put(code, Instr::JumpUnlessTest(0))?;
         emit_steps(site, code, close, behind)?;
         let target = code.len();
-        change(code, test, Instr::If(target));
+        change(code, test, Instr::JumpUnlessTest(target));
         return Ok(());
     }
     emit_ifs(site, code, close, conditions, behind)
@@ -162,7 +162,7 @@ fn emit_ifs(
     code: &mut Vec<Instr>,
     close: Option<usize>,
     conditions: &[Expr],
-    behind: &[Step],
+    behind: &[LineCommand],
 ) -> Result<(), AllocError>
     ensures { OnOk result (code.new.items ≡ code.old.items
         ++ ifs_code (length code.old.items) (map expr_of conditions.now) (λ p. steps_code (here_of site.entry) p close (map step_of behind.now))) }
@@ -172,10 +172,10 @@ fn emit_ifs(
         Some((first, others)) => {
             emit_expr(code, first)?;
             let test = code.len();
-            put(code, Instr::Decide(0))?;
+            put(code, Instr::SetTest(0))?;
             emit_ifs(site, code, close, others, behind)?;
             let target = code.len();
-            change(code, test, Instr::Decide(target));
+            change(code, test, Instr::SetTest(target));
             Ok(())
         }
     }
@@ -188,7 +188,7 @@ fn emit_for(
     code: &mut Vec<Instr>,
     variable: &Variable,
     ranges: &[Range],
-    behind: &[Step],
+    behind: &[LineCommand],
 ) -> Result<(), AllocError>
     ensures { OnOk result (code.new.items ≡ code.old.items
         ++ for_code (length code.old.items) (variable_of variable.now) (map range_of ranges.now) (λ p o. steps_code (here_of site.entry) p o (map step_of behind.now))) }
@@ -199,21 +199,21 @@ fn emit_for(
     put(code, Instr::Discard(0))?;
     emit_ranges(code, ranges)?;
     let body = code.len() + 1;
-    change(code, open, Instr::Open(local.word, local.count, body));
+    change(code, open, Instr::ForOpen(local.word, local.count, body));
     emit_body(site, code, behind)
 }
 
 // The instruction that closes a FOR, the commands of its passes, and the next pass.
 #[cycle(steps)]
-fn emit_body(site: Site, code: &mut Vec<Instr>, behind: &[Step]) -> Result<(), AllocError>
+fn emit_body(site: Site, code: &mut Vec<Instr>, behind: &[LineCommand]) -> Result<(), AllocError>
     ensures { OnOk result (code.new.items ≡ code.old.items ++ body_code (length code.old.items) (λ p o. steps_code (here_of site.entry) p o (map step_of behind.now))) }
 {
     let close = code.len();
-    put(code, Instr::Close(0))?;
+    put(code, Instr::ForClose(0))?;
     emit_steps(site, code, Some(close), behind)?;
-    put(code, Instr::Again)?;
+    put(code, Instr::ForAgain)?;
     let target = code.len();
-    change(code, close, Instr::Close(target));
+    change(code, close, Instr::ForClose(target));
     Ok(())
 }
 
@@ -233,18 +233,18 @@ fn emit_range(code: &mut Vec<Instr>, range: &Range) -> Result<(), AllocError>
     match range {
         Range::One(first) => {
             emit_expr(code, first)?;
-            put(code, Instr::Begin(Span::One))
+            put(code, Instr::ForBegin(Span::One))
         }
         Range::Endless(first, step) => {
             emit_expr(code, first)?;
             emit_expr(code, step)?;
-            put(code, Instr::Begin(Span::Endless))
+            put(code, Instr::ForBegin(Span::Endless))
         }
         Range::UpTo(first, step, last) => {
             emit_expr(code, first)?;
             emit_expr(code, step)?;
             emit_expr(code, last)?;
-            put(code, Instr::Begin(Span::UpTo))
+            put(code, Instr::ForBegin(Span::UpTo))
         }
     }
 }
@@ -254,7 +254,7 @@ fn emit_step(
     site: Site,
     code: &mut Vec<Instr>,
     close: Option<usize>,
-    step: &Step,
+    step: &LineCommand,
 ) -> Result<(), AllocError>
     ensures { OnOk result (code.new.items ≡ code.old.items
         ++ code_if (length code.old.items) (option_map expr_of step.now.condition) (λ p. command_code (here_of site.entry) p close (command_of step.now.command))) }
@@ -264,7 +264,7 @@ fn emit_step(
         Some(condition) => {
             emit_expr(code, condition)?;
             let test = code.len();
-            put(code, Instr::Unless(0))?;
+            put(code, Instr::JumpUnless(0))?;
             emit_command(site, code, close, &step.command)?;
             aim(code, test);
             Ok(())
@@ -302,7 +302,7 @@ fn emit_command(
         Command::New(list) => emit_new_all(site.alloc, code, list),
         Command::TStart(argument) => emit_transaction(site.alloc, code, argument),
         Command::TCommit => emit_again(code, Instr::Commit),
-        Command::TRestart => emit_again(code, Instr::GiveBack),
+        Command::TRestart => emit_again(code, Instr::RollBackForRestart),
         Command::TRollback => put(code, Instr::RollBack),
         Command::Break => put(code, Instr::Discard(0)),
         Command::If(_) | Command::Else | Command::For(_, _) | Command::Forever => Ok(()),
@@ -314,7 +314,7 @@ fn emit_do(site: Site, code: &mut Vec<Instr>, list: &[Called]) -> Result<(), All
     ensures { OnOk result (code.new.items ≡ code.old.items ++ do_code (here_of site.entry) (length code.old.items) (map called_of list.now)) }
 {
     if list.is_empty() {
-        return put(code, Instr::Block(site.line));
+        return put(code, Instr::DoBlock(site.line));
     }
     for called in list {
         emit_called(site, code, called)?;
@@ -331,7 +331,7 @@ fn emit_called(site: Site, code: &mut Vec<Instr>, called: &Called) -> Result<(),
         Some(condition) => {
             emit_expr(code, condition)?;
             let test = code.len();
-            put(code, Instr::Unless(0))?;
+            put(code, Instr::JumpUnless(0))?;
             emit_call(site, code, called)?;
             aim(code, test);
             Ok(())
@@ -366,7 +366,7 @@ fn emit_jumped(site: Site, code: &mut Vec<Instr>, jumped: &Jumped) -> Result<(),
         Some(condition) => {
             emit_expr(code, condition)?;
             let test = code.len();
-            put(code, Instr::Unless(0))?;
+            put(code, Instr::JumpUnless(0))?;
             emit_jump(site, code, jumped)?;
             aim(code, test);
             Ok(())
@@ -396,7 +396,7 @@ fn emit_new_all(alloc: Global, code: &mut Vec<Instr>, list: &[Renewed]) -> Resul
 }
 
 fn emit_new(alloc: Global, code: &mut Vec<Instr>, renewed: &Renewed) -> Result<(), AllocError>
-    ensures { OnOk result (code.new.items ≡ code.old.items ++ renewed_code (renewed_of renewed.now)) }
+    ensures { OnOk result (code.new.items ≡ code.old.items ++ set_piece_code (renewed_of renewed.now)) }
 {
     match renewed {
         Renewed::Name(word) => {
@@ -466,10 +466,10 @@ fn says_serial(serial: Serial) -> bool
 
 // An instruction, and the one that begins the transaction once more.
 fn emit_again(code: &mut Vec<Instr>, first: Instr) -> Result<(), AllocError>
-    ensures { OnOk result (code.new.items ≡ code.old.items ++ first ∷ Instr.BeginAgain ∷ []) }
+    ensures { OnOk result (code.new.items ≡ code.old.items ++ first ∷ Instr.BeginRestart ∷ []) }
 {
     put(code, first)?;
-    put(code, Instr::BeginAgain)
+    put(code, Instr::BeginRestart)
 }
 
 fn emit_assignments(code: &mut Vec<Instr>, assignments: &[Assignment]) -> Result<(), AllocError>
@@ -497,7 +497,7 @@ fn emit_kill_all(alloc: Global, code: &mut Vec<Instr>, list: &[Killed]) -> Resul
 {
     if list.is_empty() {
         let none = Words::copied(alloc, &[])?;
-        return put(code, Instr::Spare(none));
+        return put(code, Instr::KillExcept(none));
     }
     emit_kills(alloc, code, list)
 }
@@ -523,7 +523,7 @@ fn emit_kill(alloc: Global, code: &mut Vec<Instr>, killed: &Killed) -> Result<()
         Killed::Except(words) => {
             emit_names(code, words)?;
             let words = Words::copied(alloc, words)?;
-            put(code, Instr::Spare(words))
+            put(code, Instr::KillExcept(words))
         }
     }
 }
@@ -556,7 +556,7 @@ fn emit_merge(code: &mut Vec<Instr>, merged: &Merged) -> Result<(), AllocError>
     emit_subscripts(code, &merged.from)?;
     let into = reference(&merged.into)?;
     let from = reference(&merged.from)?;
-    put(code, Instr::Take(into, from))?;
+    put(code, Instr::MergeTake(into, from))?;
     let filled = reference(&merged.into)?;
-    put(code, Instr::Put(filled))
+    put(code, Instr::MergePut(filled))
 }

@@ -30,10 +30,10 @@ pub fn change(code: &mut Vec<Instr>, at: usize, instr: Instr)
 /// The test at this place leads to the end of the code where it fails.
 pub fn aim(code: &mut Vec<Instr>, at: usize)
     requires { at < length code.old.items }
-    ensures { code.new.items ≡ slice_set code.old.items at (Instr.Unless (length code.old.items)) }
+    ensures { code.new.items ≡ slice_set code.old.items at (Instr.JumpUnless (length code.old.items)) }
 {
     let target = code.len();
-    change(code, at, Instr::Unless(target));
+    change(code, at, Instr::JumpUnless(target));
 }
 
 // The jump at this place leads to the end of the code.
@@ -80,7 +80,7 @@ fn emit_operand(code: &mut Vec<Instr>, operand: &Operand) -> Result<(), AllocErr
             let reference = reference(variable)?;
             put(code, Instr::Load(reference))
         }
-        Operand::Special(special) => put(code, Instr::Special(*special)),
+        Operand::Special(special) => put(code, Instr::PushSpecial(*special)),
         Operand::Unary(op, inner) => {
             emit_operand(code, inner)?;
             put(code, Instr::Unary(*op))
@@ -88,16 +88,16 @@ fn emit_operand(code: &mut Vec<Instr>, operand: &Operand) -> Result<(), AllocErr
         Operand::Group(e) => emit_expr(code, e),
         Operand::Call(function, arguments) => {
             emit_all(code, arguments)?;
-            put(code, Instr::Call(*function, arguments.len()))
+            put(code, Instr::CallFunction(*function, arguments.len()))
         }
         Operand::About(function, variable, others) => {
             emit_subscripts(code, variable)?;
             let name = reference(variable)?;
-            put(code, Instr::Named(*function, name))?;
+            put(code, Instr::CheckNamed(*function, name))?;
             emit_all(code, others)?;
             let name = reference(variable)?;
             let count = variable.subscripts.len() + others.len();
-            put(code, Instr::About(*function, name, count))
+            put(code, Instr::CallNameFunction(*function, name, count))
         }
         Operand::Select(choice) => emit_choice(code, choice),
     }
@@ -110,7 +110,7 @@ fn emit_choice(code: &mut Vec<Instr>, choice: &Choice) -> Result<(), AllocError>
 {
     emit_expr(code, &choice.condition)?;
     let test = code.len();
-    put(code, Instr::Unless(0))?;
+    put(code, Instr::JumpUnless(0))?;
     emit_expr(code, &choice.value)?;
     let exit = code.len();
     put(code, Instr::Jump(0))?;
@@ -127,7 +127,7 @@ fn emit_others(code: &mut Vec<Instr>, choice: &Choice) -> Result<(), AllocError>
 {
     match &choice.others {
         Some(others) => emit_choice(code, others),
-        None => put(code, Instr::NoneTrue),
+        None => put(code, Instr::SelectFails),
     }
 }
 

@@ -40,7 +40,7 @@ pub fn emit_timeout(code: &mut Vec<Instr>, timeout: &Option<Expr>) -> Result<Wai
         None => Ok(Wait::Ever),
         Some(time) => {
             emit_expr(code, time)?;
-            put(code, Instr::Number)?;
+            put(code, Instr::CheckNumber)?;
             Ok(Wait::Timed)
         }
     }
@@ -63,7 +63,7 @@ fn emit_start(site: Site, code: &mut Vec<Instr>, started: &Started) -> Result<()
     let shape = emit_actuals(site.alloc, code, &started.actuals)?;
     let wait = emit_timeout(code, &started.timeout)?;
     let entry = entry_of(site, &started.target)?;
-    put(code, Instr::Start(entry, shape, wait))
+    put(code, Instr::StartJob(entry, shape, wait))
 }
 
 /// The arguments of LOCK; without one all names are given up.

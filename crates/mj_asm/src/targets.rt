@@ -65,11 +65,11 @@ fn emit_destination(code: &mut Vec<Instr>, destination: &Destination) -> Result<
 /// The subscripts, and then the name's check.
 pub fn emit_name(code: &mut Vec<Instr>, variable: &Variable) -> Result<(), AllocError>
     ensures { OnOk result (code.new.items ≡ code.old.items
-        ++ (subscripts_code (length code.old.items) (variable_of variable.now) ++ Instr.Check (code_spec.reference (variable_of variable.now)) ∷ [])) }
+        ++ (subscripts_code (length code.old.items) (variable_of variable.now) ++ Instr.CheckName (code_spec.reference (variable_of variable.now)) ∷ [])) }
 {
     emit_subscripts(code, variable)?;
     let checked = reference(variable)?;
-    put(code, Instr::Check(checked))
+    put(code, Instr::CheckName(checked))
 }
 
 // The assignments from left to right. Above the operands of each lie those of the later ones, and the value.
@@ -112,7 +112,7 @@ fn emit_store(
         Destination::Pieces(variable, arguments) => {
             let count = arguments.len();
             let read = reference(variable)?;
-            put(code, Instr::Renew(read, count, depth))?;
+            put(code, Instr::SetPiece(read, count, depth))?;
             let stored = reference(variable)?;
             let under = Depth {
                 above: depth.above + count + 1,

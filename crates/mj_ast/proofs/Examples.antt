@@ -13,7 +13,7 @@ use Rattle.mj_ast.specs.declared.function.NameFunction.TheVariants as names
 use Rattle.mj_ast.specs.declared.function.Callee.TheVariants.{Texts, Names}
 use Rattle.mj_ast.specs.Expressions.{callee_of}
 use Rattle.mj_ast.specs.declared.expr.Scope.TheVariants.{Local, Global}
-use Rattle.mj_ast.specs.Syntax.{Expr, Variable, Var, No, More, Chain, Done, Literal, Value, Plain, Pieces, One, Several, Gone, Spared, Shown, Single, UpTo, Lone, Together, Fresh, Kept, Set, Write, Halt, Hang, Job, Lock, Kill, If, For, Do, Goto, New, Step}
+use Rattle.mj_ast.specs.Syntax.{Expr, Variable, Var, No, More, Chain, Done, Literal, Value, Plain, Pieces, One, Several, Gone, Spared, Shown, Single, UpTo, Lone, Together, Fresh, Kept, Set, Write, Halt, Hang, Job, Lock, Kill, If, For, Do, Goto, New, LineCommand}
 use Rattle.mj_ast.specs.Commands.{verb_of, bare_of, full_of, Put, Named, Label, PieceCall, Text, Place, Control, command_parts, is_formed, plain, is_conditional, SpellsStep, step_nesting}
 use Rattle.mj_ast.specs.Lines.{SpellsWritten, SpellsLine}
 use Rattle.mj_ast.specs.Routines.{lines_of}
@@ -99,7 +99,8 @@ name_part = refl
 name_function : callee_of (codes "na") ≡ Some (Names names.Name)
 name_function = refl
 
-order_function : callee_of (codes "o") ∷ callee_of (codes "q") ∷ callee_of (codes "Data") ∷ callee_of (codes "G") ∷ [] ≡ Some (Names names.Order) ∷ Some (Names names.Query) ∷ Some (Names names.Data) ∷ Some (Names names.Get) ∷ []
+order_function : callee_of (codes "o") ∷ callee_of (codes "q") ∷ callee_of (codes "Data") ∷ callee_of (codes "G") ∷ [] ≡ Some (Names names.Order) ∷
+    Some (Names names.Query) ∷ Some (Names names.Data) ∷ Some (Names names.Get) ∷ []
 order_function = refl
 
 no_function : callee_of (codes "LEN") ≡ None
@@ -155,10 +156,10 @@ one_line : lines_of (65 ∷ 10 ∷ []) ≡ (65 ∷ []) ∷ []
 one_line = refl
 
 -- `007` is the number 7, and HALT may stand behind two blanks
-abbrev writes_seven : Step
+abbrev writes_seven : LineCommand
 writes_seven = record { condition = None; command = Write (Shown (Chain (Literal (55 ∷ [])) Done) ∷ []) }
 
-abbrev halts : Step
+abbrev halts : LineCommand
 halts = record { condition = None; command = Halt }
 
 spelled_line : SpellsWritten (tokens (codes "A w 007  H ;c")) (record { label = Some (65 ∷ []); formals = []; level = 1; steps = writes_seven ∷ halts ∷ [] })
@@ -190,21 +191,26 @@ spelled_line = (
 )
 
 -- `5^R:X`, `(A,B),C` and `A(,X)`
-goto_parts : command_parts (Goto (record { target = record { label = Some (codes "5"); routine = Some (codes "R") }; condition = Some ex } ∷ [])) ≡ Label (codes "5") ∷ Put Caret ∷ Named (codes "R") ∷ Put Colon ∷ Text 0 ex ∷ []
+goto_parts : command_parts (Goto (record { target = record { label = Some (codes "5"); routine = Some (codes "R") }; condition = Some ex } ∷ [])) ≡
+    Label (codes "5") ∷ Put Caret ∷ Named (codes "R") ∷ Put Colon ∷ Text 0 ex ∷ []
 goto_parts = refl
 
-new_parts : command_parts (New (Kept (codes "A" ∷ codes "B" ∷ []) ∷ Fresh (codes "C") ∷ [])) ≡ Put Open ∷ Named (codes "A") ∷ Put Comma ∷ Named (codes "B") ∷ Put Close ∷ Put Comma ∷ Named (codes "C") ∷ []
+new_parts : command_parts (New (Kept (codes "A" ∷ codes "B" ∷ []) ∷ Fresh (codes "C") ∷ [])) ≡ Put Open ∷ Named (codes "A") ∷ Put Comma ∷ Named (codes "B") ∷
+    Put Close ∷ Put Comma ∷ Named (codes "C") ∷ []
 new_parts = refl
 
-call_parts : command_parts (Do (record { target = record { label = Some (codes "A"); routine = None }; actuals = None ∷ Some ex ∷ []; condition = None } ∷ [])) ≡ Label (codes "A") ∷ Put Open ∷ Put Comma ∷ Text 1 ex ∷ Put Close ∷ []
+call_parts : command_parts (Do (record { target = record { label = Some (codes "A"); routine = None }; actuals = None ∷ Some ex ∷ []; condition = None } ∷ []))
+    ≡ Label (codes "A") ∷ Put Open ∷ Put Comma ∷ Text 1 ex ∷ Put Close ∷ []
 call_parts = refl
 
 -- `A()` is `A`
-empty_call : plain (Do (record { target = record { label = Some (codes "A"); routine = None }; actuals = None ∷ []; condition = None } ∷ [])) ≡ Do (record { target = record { label = Some (codes "A"); routine = None }; actuals = []; condition = None } ∷ [])
+empty_call : plain (Do (record { target = record { label = Some (codes "A"); routine = None }; actuals = None ∷ []; condition = None } ∷ [])) ≡
+    Do (record { target = record { label = Some (codes "A"); routine = None }; actuals = []; condition = None } ∷ [])
 empty_call = refl
 
 -- `A(X)::X`, `+(X,X):X` and `X`
-job_parts : command_parts (Job (record { target = record { label = Some (codes "A"); routine = None }; actuals = Some ex ∷ []; timeout = Some ex } ∷ [])) ≡ Label (codes "A") ∷ Put Open ∷ Text 1 ex ∷ Put Close ∷ Put Colon ∷ Put Colon ∷ Text 0 ex ∷ []
+job_parts : command_parts (Job (record { target = record { label = Some (codes "A"); routine = None }; actuals = Some ex ∷ []; timeout = Some ex } ∷ [])) ≡
+    Label (codes "A") ∷ Put Open ∷ Text 1 ex ∷ Put Close ∷ Put Colon ∷ Put Colon ∷ Text 0 ex ∷ []
 job_parts = refl
 
 lock_parts : command_parts (Lock (record { mode = Added; names = Together (x ∷ x ∷ []); timeout = Some ex } ∷ record { mode = Whole; names = Lone x; timeout = None } ∷ [])) ≡
@@ -219,17 +225,31 @@ no_hang : is_formed (Hang []) ≡ false
 no_hang = refl
 
 -- `J A()` starts at `A` without actuals
-empty_start : plain (Job (record { target = record { label = Some (codes "A"); routine = None }; actuals = None ∷ []; timeout = None } ∷ [])) ≡ Job (record { target = record { label = Some (codes "A"); routine = None }; actuals = []; timeout = None } ∷ [])
+empty_start : plain (Job (record { target = record { label = Some (codes "A"); routine = None }; actuals = None ∷ []; timeout = None } ∷ [])) ≡
+    Job (record { target = record { label = Some (codes "A"); routine = None }; actuals = []; timeout = None } ∷ [])
 empty_start = refl
 
 no_condition : is_conditional keyword.Else ≡ false
 no_condition = refl
 
 -- IF has a condition, and behind it stands another command
-spelled_control : SpellsLine (tokens (codes " I 1 G A")) (record { label = None; formals = []; level = 1; steps = record { condition = None; command = If (Chain (Literal (49 ∷ [])) Done ∷ []) } ∷ record { condition = None; command = Goto (record { target = record { label = Some (65 ∷ []); routine = None }; condition = None } ∷ []) } ∷ [] })
+spelled_control : SpellsLine (tokens (codes " I 1 G A")) (record {
+  label = None;
+  formals = [];
+  level = 1;
+  steps =
+      record { condition = None; command = If (Chain (Literal (49 ∷ [])) Done ∷ []) } ∷
+      record { condition = None; command = Goto (record { target = record { label = Some (65 ∷ []); routine = None }; condition = None } ∷ []) } ∷ [];
+})
 unfolding lexemes digits
 spelled_control = (
-  record { label = None; formals = []; level = 1; steps = record { condition = None; command = If (Chain (Literal (49 ∷ [])) Done ∷ []) } ∷ record { condition = None; command = Goto (record { target = record { label = Some (65 ∷ []); routine = None }; condition = None } ∷ []) } ∷ [] },
+  record {
+    label = None;
+    formals = [];
+    level = 1;
+    steps = record { condition = None; command = If (Chain (Literal (49 ∷ [])) Done ∷ []) } ∷
+        record { condition = None; command = Goto (record { target = record { label = Some (65 ∷ []); routine = None }; condition = None } ∷ []) } ∷ [];
+  },
   (
     [],
     tokens (codes " I 1 G A"),

@@ -1,3 +1,4 @@
 pub mod Examples
 pub mod Held
 pub mod LeftRows
+pub mod LeftColons

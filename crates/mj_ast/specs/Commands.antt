@@ -40,8 +40,8 @@ use Rattle.mj_ast.specs.declared.sign.Sign.TheVariants.{Plus, Minus, Star, Hash,
 use Rattle.mj_ast.specs.declared.expr.Scope.TheVariants.{Local, Global}
 use Rattle.mj_ast.specs.declared.function.Function.TheVariants.{Piece}
 use Rattle.mj_ast.specs.declared.function.Callee.TheVariants.{Texts}
-use Rattle.mj_ast.specs.declared.routine.Mark.{Mark}
-use Rattle.mj_ast.specs.declared.routine.Mark.TheVariants.{NewLine, NewPage}
+use Rattle.mj_ast.specs.declared.routine.FormatMark.{FormatMark}
+use Rattle.mj_ast.specs.declared.routine.FormatMark.TheVariants.{NewLine, NewPage}
 use Rattle.mj_ast.specs.declared.routine.LockMode.{LockMode}
 use Rattle.mj_ast.specs.declared.routine.LockMode.TheVariants as lock
 use Rattle.mj_ast.specs.declared.routine.ReadMode.{ReadMode}
@@ -52,7 +52,7 @@ use Rattle.mj_ast.specs.declared.keyword.Keyword.{Keyword}
 use Rattle.mj_ast.specs.declared.keyword.Keyword.TheVariants as keyword
 use Rattle.mj_ast.specs.declared.keyword.Verb.{Verb}
 use Rattle.mj_ast.specs.declared.keyword.Verb.TheVariants.{Of, HaltOrHang}
-use Rattle.mj_ast.specs.Syntax.{Expr, Exprs, No, More, Variable, Var, Destination, Plain, Pieces, Targets, One, Several, Assignment, Killed, Gone, Spared, Merged, Layout, Output, Shown, Format, Coded, Received, Input, Prompted, Arranged, Into, Opened, Target, Called, Jumped, Started, LockNames, Lone, Together, Locked, Range, Single, Endless, UpTo, Renewed, Fresh, Kept, Restored, Alone, Listed, Everything, Restartable, Command, Set, Write, Halt, Hang, Job, Lock, Kill, Merge, If, Else, For, Forever, Do, Goto, Quit, New, OpenDevice, UseDevice, CloseDevice, Read, TStart, TCommit, TRestart, TRollback, Break, Step}
+use Rattle.mj_ast.specs.Syntax.{Expr, Exprs, No, More, Variable, Var, Destination, Plain, Pieces, Targets, One, Several, Assignment, Killed, Gone, Spared, Merged, Layout, Output, Shown, Format, Coded, Received, Input, Prompted, Arranged, Into, Opened, Target, Called, Jumped, Started, LockNames, Lone, Together, Locked, Range, Single, Endless, UpTo, Renewed, Fresh, Kept, Restored, Alone, Listed, Everything, Restartable, Command, Set, Write, Halt, Hang, Job, Lock, Kill, Merge, If, Else, For, Forever, Do, Goto, Quit, New, OpenDevice, UseDevice, CloseDevice, Read, TStart, TCommit, TRestart, TRollback, Break, LineCommand}
 use Rattle.mj_ast.specs.Tokens.{Token, Word, Called as CalledWord, Digits, Quoted, Signed, Blank}
 use Rattle.mj_ast.specs.Expressions.{Spells, expressions, variables, callee_of, name_limit, count, expr_nesting, variable_nesting, expr_width, variable_width}
 
@@ -180,7 +180,7 @@ abbrev pub assignment_parts : Assignment → List Part
 assignment_parts a = targets_parts a.targets ++ Put Equals ∷ Text 0 a.value ∷ []
 
 -- the sign of a format mark
-abbrev pub mark_part : Mark → Part
+abbrev pub mark_part : FormatMark → Part
 mark_part NewLine = Put Exclamation
 mark_part NewPage = Put Hash
 
@@ -475,7 +475,7 @@ plain (Do list) = Do (map plain_called list)
 plain (Job list) = Job (map plain_started list)
 plain c = c
 
-abbrev pub plain_step : Step → Step
+abbrev pub plain_step : LineCommand → LineCommand
 plain_step s = record { condition = s.condition; command = plain s.command }
 
 -- ---- spelling
@@ -521,14 +521,14 @@ meant v [] = bare_of v
 meant v (p ∷ ps) = full_of v
 
 -- the word leads to the command, where these are its parts
-abbrev pub Leads : List ℕ → List Part → Keyword → Type 0
-Leads word parts k = (v : Verb) × (verb_of word ≡ Some v) × (k ≡ meant v parts)
+abbrev pub WordLeads : List ℕ → List Part → Keyword → Type 0
+WordLeads word parts k = (v : Verb) × (verb_of word ≡ Some v) × (k ≡ meant v parts)
 
 -- a command with its postcondition
-abbrev pub SpellsStep : List Token → Step → Type 0
+abbrev pub SpellsStep : List Token → LineCommand → Type 0
 SpellsStep ks s =
     (word : List ℕ) × (condition : List Token) × (arguments : List Token)
-    × (ks ≡ Word word ∷ (condition ++ arguments)) × Leads word (command_parts s.command) (keyword_for s.command)
+    × (ks ≡ Word word ∷ (condition ++ arguments)) × WordLeads word (command_parts s.command) (keyword_for s.command)
     × SpellsCondition condition s.condition × SpellsArguments arguments (command_parts s.command) × (is_formed s.command ≡ true) × IsConditional (keyword_for s.command) s.condition
 
 -- how many blanks stand behind arguments before another command, at least
@@ -565,9 +565,9 @@ condition_measure e None = 0
 condition_measure e (Some x) = e x
 
 -- how deep a command nests
-abbrev pub step_nesting : Step → ℕ
+abbrev pub step_nesting : LineCommand → ℕ
 step_nesting s = max (condition_measure expr_nesting s.condition) (greatest part_nesting (command_parts s.command))
 
 -- the length of its longest list of subscripts
-abbrev pub step_width : Step → ℕ
+abbrev pub step_width : LineCommand → ℕ
 step_width s = max (condition_measure expr_width s.condition) (greatest part_width (command_parts s.command))

@@ -34,6 +34,7 @@ use Rattle.mj_ast.specs.declared.function.Callee.{Callee}
 use Rattle.mj_ast.specs.declared.function.Callee.TheVariants as callee
 use Rattle.mj_ast.specs.Syntax.{Expr, Chain, Tails, Done, Then, Operand, Literal, Value, Intrinsic, Unary, Group, Call, About, Select, Variable, Var, Exprs, No, More, Choices, Last, Before}
 use Rattle.mj_ast.specs.Tokens.{Token, Word, Called, Special, Digits, Quoted, Signed}
+use Rattle.mj_ast.specs.declared.limits.TheConstants.{DEPTH_LIMIT}
 
 -- ---- functions
 
@@ -144,7 +145,7 @@ name_limit = 31
 
 -- the most levels that are open at once
 abbrev pub depth_limit : ℕ
-depth_limit = 64
+depth_limit = DEPTH_LIMIT
 
 -- the most subscripts of a variable
 abbrev pub width_limit : ℕ
@@ -385,12 +386,12 @@ abbrev pub Spells : {T : Type 0} → Phrases T → List Token → T → Type 0
 Spells P ks t = (map symbol ks ≡ P.symbols t) × (P.misfits t ≡ 0)
 
 -- the tree nests no deeper, and has no longer list
-pub record IsWithin {T : Type 0} (P : Phrases T) (depth width : ℕ) (t : T) : Type 0 where
+pub record NestsWithin {T : Type 0} (P : Phrases T) (depth width : ℕ) (t : T) : Type 0 where
   pub nests : P.nesting t ≤ depth
   pub lists : P.width t ≤ width
 
 -- the tokens begin a phrase
-pub record Begins {T : Type 0} (P : Phrases T) (ks : List Token) : Type 0 where
+pub record BeginsPhrase {T : Type 0} (P : Phrases T) (ks : List Token) : Type 0 where
   pub rest : List Token
   pub tree : T
   pub spells : Spells P (ks ++ rest) tree
@@ -400,4 +401,4 @@ pub record BeginsWithin {T : Type 0} (P : Phrases T) (depth width : ℕ) (ks : L
   pub rest : List Token
   pub tree : T
   pub spells : Spells P (ks ++ rest) tree
-  pub within : IsWithin P depth width tree
+  pub within : NestsWithin P depth width tree

@@ -43,7 +43,7 @@ use Rattle.mj_ast.specs.declared.function.Callee.TheVariants.{Texts, Names}
 use Rattle.mj_ast.specs.declared.keyword.Keyword.{Keyword}
 use Rattle.mj_ast.specs.declared.keyword.Keyword.TheVariants as keyword
 use Rattle.mj_ast.specs.declared.keyword.Verb.{Verb}
-use Rattle.mj_ast.specs.Syntax.{Line, Step}
+use Rattle.mj_ast.specs.Syntax.{Line, LineCommand}
 use Rattle.mj_ast.specs.Tokens.{Token, Word, Called, Special, Digits, Quoted, Signed, Blank, Stray, tokens}
 use Rattle.mj_ast.specs.Expressions.{callee_of, is_named}
 use Rattle.mj_ast.specs.Commands.{capital, verb_of, keyword_for}
@@ -349,7 +349,7 @@ is_match t = is_question t || is_negated_question t
 -- ---- the command that stands last
 
 -- the last command of a line, by its word
-abbrev pub last_keyword : List Step → Option Keyword
+abbrev pub last_keyword : List LineCommand → Option Keyword
 last_keyword [] = None
 last_keyword (s ∷ []) = Some (keyword_for s.command)
 last_keyword (s ∷ t ∷ ss) = last_keyword (t ∷ ss)
@@ -438,34 +438,34 @@ IsQuitArgument front t behind = (begins_argument t behind ≡ true) × IsBehindC
 -- ---- the table
 
 -- the token stands for the construct there, by its row of the table
-abbrev pub Fits : Construct → List Token → Token → List Token → Type 0
-Fits construct.Indirection front t behind = (is_at t ≡ true) × MayBeginName front
-Fits construct.Fraction front t behind =
+abbrev pub StandsFor : Construct → List Token → Token → List Token → Type 0
+StandsFor construct.Indirection front t behind = (is_at t ≡ true) × MayBeginName front
+StandsFor construct.Fraction front t behind =
     (is_dot t ≡ true) × ((ends_in is_digits front ≡ true) ⊎ ((starts is_digits behind ≡ true) × MayBeginOperand front))
-Fits construct.Exponent front t behind = (is_exponent t && ends_in is_digits front) ≡ true
-Fits construct.Power front t behind = (is_star t && ends_in is_star front) ≡ true
-Fits construct.Pattern front t behind = (is_match t ≡ true) × MayBeOperator front
-Fits construct.Naked front t behind = (is_open t && ends_in is_caret front) ≡ true
-Fits construct.Environment front t behind = ((is_bracket t || is_bar t) && ends_in is_caret front) ≡ true
-Fits construct.Structured front t behind = (has_dollar t && ends_in is_caret front) ≡ true
-Fits construct.ByReference front t behind = ((is_dot t && starts is_word behind) ≡ true) × MayBeginActual front
-Fits construct.EntryOffset front t behind = (is_plus t ≡ true) × IsBehindLabel front
-Fits construct.ReadLength front t behind = (is_hash t ≡ true) × IsBehindInput front
-Fits construct.DeviceParameters front t behind = ((is_colon t ≡ true) × IsBehindDevice front) ⊎ IsBehindColon keyword.Open front
-Fits construct.ProcessParameters front t behind = IsBehindColon keyword.Job front
-Fits construct.MnemonicSpace front t behind =
+StandsFor construct.Exponent front t behind = (is_exponent t && ends_in is_digits front) ≡ true
+StandsFor construct.Power front t behind = (is_star t && ends_in is_star front) ≡ true
+StandsFor construct.Pattern front t behind = (is_match t ≡ true) × MayBeOperator front
+StandsFor construct.Naked front t behind = (is_open t && ends_in is_caret front) ≡ true
+StandsFor construct.Environment front t behind = ((is_bracket t || is_bar t) && ends_in is_caret front) ≡ true
+StandsFor construct.Structured front t behind = (has_dollar t && ends_in is_caret front) ≡ true
+StandsFor construct.ByReference front t behind = ((is_dot t && starts is_word behind) ≡ true) × MayBeginActual front
+StandsFor construct.EntryOffset front t behind = (is_plus t ≡ true) × IsBehindLabel front
+StandsFor construct.ReadLength front t behind = (is_hash t ≡ true) × IsBehindInput front
+StandsFor construct.DeviceParameters front t behind = ((is_colon t ≡ true) × IsBehindDevice front) ⊎ IsBehindColon keyword.Open front
+StandsFor construct.ProcessParameters front t behind = IsBehindColon keyword.Job front
+StandsFor construct.MnemonicSpace front t behind =
     ((is_colon t ≡ true) × IsBehindTimeout front) ⊎ ((is_slash t ≡ true) × MayBeginOutput front)
-Fits construct.TransactionId front t behind = (is_transaction_word t ≡ true) × IsBehindSerial front
-Fits construct.BareSerial front t behind = (is_colon t ≡ true) × MayBeginRestartable front
-Fits construct.SetExtract front t behind = (is_extract (called t) ≡ true) × MayBeginDestination front
-Fits construct.JustifyDecimals front t behind = is_comma_in is_justify 1 front t ≡ true
-Fits construct.QueryBackward front t behind = is_comma_in is_query 0 front t ≡ true
-Fits construct.NameDepth front t behind = is_comma_in is_name 0 front t ≡ true
-Fits construct.OrderNames front t behind = ((is_close t || is_comma t) && is_order_name (reverse front)) ≡ true
-Fits construct.Function front t behind = is_no_function t ≡ true
-Fits construct.Variable front t behind = is_no_variable t ≡ true
-Fits construct.Command front t behind = (is_unknown t ≡ true) × MayBeginCommand front
-Fits construct.Extrinsic front t behind = is_two_dollars t behind ≡ true
+StandsFor construct.TransactionId front t behind = (is_transaction_word t ≡ true) × IsBehindSerial front
+StandsFor construct.BareSerial front t behind = (is_colon t ≡ true) × MayBeginRestartable front
+StandsFor construct.SetExtract front t behind = (is_extract (called t) ≡ true) × MayBeginDestination front
+StandsFor construct.JustifyDecimals front t behind = is_comma_in is_justify 1 front t ≡ true
+StandsFor construct.QueryBackward front t behind = is_comma_in is_query 0 front t ≡ true
+StandsFor construct.NameDepth front t behind = is_comma_in is_name 0 front t ≡ true
+StandsFor construct.OrderNames front t behind = ((is_close t || is_comma t) && is_order_name (reverse front)) ≡ true
+StandsFor construct.Function front t behind = is_no_function t ≡ true
+StandsFor construct.Variable front t behind = is_no_variable t ≡ true
+StandsFor construct.Command front t behind = (is_unknown t ≡ true) × MayBeginCommand front
+StandsFor construct.Extrinsic front t behind = is_two_dollars t behind ≡ true
 
 -- the rows in their order
 abbrev pub rows : List Construct
@@ -479,7 +479,7 @@ rows =
 -- the first of the rows that fits there, if one does
 abbrev pub IsFirstOf : List Construct → List Token → Token → List Token → Option Construct → Type 0
 IsFirstOf [] front t behind c = c ≡ None
-IsFirstOf (r ∷ rs) front t behind c = (Fits r front t behind × (c ≡ Some r)) ⊎ ((Fits r front t behind → ⊥) × IsFirstOf rs front t behind c)
+IsFirstOf (r ∷ rs) front t behind c = (StandsFor r front t behind × (c ≡ Some r)) ⊎ ((StandsFor r front t behind → ⊥) × IsFirstOf rs front t behind c)
 
 -- The construct that the token stands for, if it does: an argument of QUIT comes before the rows. There is one answer.
 abbrev pub IsNamed : List Token → Token → List Token → Option Construct → Type 0

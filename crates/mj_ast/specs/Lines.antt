@@ -13,10 +13,11 @@
 use Rattle.std.specs.Prelude.{◌≡◌, ◌⊎◌, ℕ, zero, suc, ◌+◌, ◌≤◌, ◌<◌, List, [], ◌∷◌, ◌++◌, length, take, map, replicate, Contains, Option, Some, None, bytes_eq}
 use Rattle.std.specs.List.{IsDistinct}
 use Rattle.mj_ast.specs.declared.sign.Sign.TheVariants.{Comma, Open, Close, Dot}
-use Rattle.mj_ast.specs.Syntax.{Step, Line}
+use Rattle.mj_ast.specs.Syntax.{LineCommand, Line}
 use Rattle.mj_ast.specs.Tokens.{Token, Word, Called, Special, Digits, Signed, Blank, Comment, tokens, column}
 use Rattle.mj_ast.specs.Expressions.{name_limit, depth_limit, width_limit}
 use Rattle.mj_ast.specs.Commands.{SpellsStep, plain_step, command_parts, gap_of, comment_gap_of, greatest, step_nesting, step_width}
+use Rattle.mj_ast.specs.declared.limits.TheConstants.{LINE_LIMIT}
 
 -- ---- spelling
 
@@ -27,7 +28,7 @@ SpellsEnd c ks =
     ⊎ ((n : ℕ) × (text : List ℕ) × (c ≤ n) × (ks ≡ replicate n Blank ++ Comment text ∷ []))
 
 -- the commands of a line up to its end, the first behind g blanks or more, or a comment behind c
-abbrev pub SpellsSteps : ℕ → ℕ → List Token → List Step → Type 0
+abbrev pub SpellsSteps : ℕ → ℕ → List Token → List LineCommand → Type 0
 SpellsSteps g c ks [] = SpellsEnd c ks
 SpellsSteps g c ks (s ∷ ss) =
     (n : ℕ) × (front : List Token) × (rest : List Token)
@@ -171,7 +172,7 @@ pub record HasOverlong (ks : List Token) : Type 0 where
 
 -- the most bytes of a line
 abbrev pub line_limit : ℕ
-line_limit = 8192
+line_limit = LINE_LIMIT
 
 -- a line over its limit, or with a word or a list of subscripts over its own
 abbrev pub IsLong : List ℕ → Type 0

@@ -6,6 +6,7 @@ use Rattle.mj_ast.specs.Expressions.{name_limit}
 use Rattle.mj_ast.specs.Lines.{SpellsLine, IsLong, IsDeepAt, HasLabelOf, label_of}
 use Rattle.mj_ast.specs.LeftOut.{IsStuckOn}
 use Rattle.mj_ast.specs.declared.construct.Construct.{Construct}
+use Rattle.mj_ast.specs.declared.limits.TheConstants.{ROUTINE_LIMIT}
 
 -- ---- lines of a file
 
@@ -50,7 +51,7 @@ labels_before (l ∷ ls) (suc k) = elim (label_of (tokens l)) [ None ↦ labels_
 
 -- the most lines of a routine
 abbrev pub routine_limit : ℕ
-routine_limit = 10000
+routine_limit = ROUTINE_LIMIT
 
 -- the bytes spell the routine
 pub record SpellsRoutine (name bytes : List ℕ) (r : Routine) : Type 0 where
@@ -61,17 +62,17 @@ pub record SpellsRoutine (name bytes : List ℕ) (r : Routine) : Type 0 where
 
 -- Why a line is refused. A line that is too long comes first, then a label that stands twice, then the least column. Where the
 -- line can't go on it is refused by the name of what stands there, if that is left out by a name.
-pub data Refusal : Type 0 where
-  Long : Refusal
-  Twice : Refusal
-  StuckAt : (column : ℕ) → Refusal
-  LeftOutAt : (column : ℕ) (construct : Construct) → Refusal
-  DeepAt : (column : ℕ) → Refusal
+pub data LineRefusal : Type 0 where
+  Long : LineRefusal
+  Twice : LineRefusal
+  StuckAt : (column : ℕ) → LineRefusal
+  LeftOutAt : (column : ℕ) (construct : Construct) → LineRefusal
+  DeepAt : (column : ℕ) → LineRefusal
 
 -- why the line, of which the earlier labels are given, is refused
-abbrev pub IsRefused : List (List ℕ) → List ℕ → Refusal → Type 0
-IsRefused labels line Long = IsLong line
-IsRefused labels line Twice = (IsLong line → ⊥) × HasLabelOf labels (tokens line)
-IsRefused labels line (StuckAt c) = (IsLong line → ⊥) × (HasLabelOf labels (tokens line) → ⊥) × IsStuckOn line c None
-IsRefused labels line (LeftOutAt c x) = (IsLong line → ⊥) × (HasLabelOf labels (tokens line) → ⊥) × IsStuckOn line c (Some x)
-IsRefused labels line (DeepAt c) = (IsLong line → ⊥) × (HasLabelOf labels (tokens line) → ⊥) × IsDeepAt line c
+abbrev pub IsRefusalOfLine : List (List ℕ) → List ℕ → LineRefusal → Type 0
+IsRefusalOfLine labels line Long = IsLong line
+IsRefusalOfLine labels line Twice = (IsLong line → ⊥) × HasLabelOf labels (tokens line)
+IsRefusalOfLine labels line (StuckAt c) = (IsLong line → ⊥) × (HasLabelOf labels (tokens line) → ⊥) × IsStuckOn line c None
+IsRefusalOfLine labels line (LeftOutAt c x) = (IsLong line → ⊥) × (HasLabelOf labels (tokens line) → ⊥) × IsStuckOn line c (Some x)
+IsRefusalOfLine labels line (DeepAt c) = (IsLong line → ⊥) × (HasLabelOf labels (tokens line) → ⊥) × IsDeepAt line c

@@ -6,7 +6,7 @@ use Rattle.mj_ast.specs.declared.function.NameFunction.{NameFunction}
 use Rattle.mj_ast.specs.declared.function.Special.{Special}
 use Rattle.mj_oper.specs.declared.op.Op.{Op}
 use Rattle.mj_oper.specs.declared.op.UnaryOp.{UnaryOp}
-use Rattle.mj_ast.specs.declared.routine.Mark.{Mark}
+use Rattle.mj_ast.specs.declared.routine.FormatMark.{FormatMark}
 use Rattle.mj_ast.specs.declared.routine.LockMode.{LockMode}
 use Rattle.mj_ast.specs.declared.routine.ReadMode.{ReadMode}
 use Rattle.mj_ast.specs.declared.routine.Serial.{Serial}
@@ -76,7 +76,7 @@ pub record Merged : Type 0 where
 
 -- a format: a run of marks, and the column that is filled up to behind them, if there is one
 pub record Layout : Type 0 where
-  pub marks : List Mark
+  pub marks : List FormatMark
   pub column : Option Expr
 
 -- an argument of WRITE: the text of an expression, a format, or the byte of a code
@@ -187,7 +187,7 @@ pub data Command : Type 0 where
   Break : Command
 
 -- a command with its postcondition, if it has one
-pub record Step : Type 0 where
+pub record LineCommand : Type 0 where
   pub condition : Option Expr
   pub command : Command
 
@@ -196,7 +196,7 @@ pub record Line : Type 0 where
   pub label : Option (List ℕ)
   pub formals : List (List ℕ)
   pub level : ℕ
-  pub steps : List Step
+  pub steps : List LineCommand
 
 -- a routine: its name and its lines, of which the first is line 1
 pub record Routine : Type 0 where

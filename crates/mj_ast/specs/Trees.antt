@@ -36,10 +36,10 @@ use Rattle.mj_ast.specs.declared.routine.Restored.TheVariants as restored
 use Rattle.mj_ast.specs.declared.routine.Restartable as restartable
 use Rattle.mj_ast.specs.declared.routine.Command as kept_command
 use Rattle.mj_ast.specs.declared.routine.Command.TheVariants as command
-use Rattle.mj_ast.specs.declared.routine.Step as step
+use Rattle.mj_ast.specs.declared.routine.LineCommand as step
 use Rattle.mj_ast.specs.declared.routine.Line as line
 use Rattle.mj_ast.specs.declared.routine.Routine as routine
-use Rattle.mj_ast.specs.Syntax.{Expr, Chain, Tails, Done, Then, Operand, Literal, Value, Unary, Group, Call, Select, Variable, Var, Exprs, No, More, Choices, Last, Before, Destination, Plain, Pieces, Targets, One, Several, Assignment, Killed, Gone, Spared, Merged, Layout, Output, Shown, Format, Coded, Received, Input, Prompted, Arranged, Into, Opened, Target, Called, Jumped, Started, LockNames, Lone, Together, Locked, Range, Single, Endless, UpTo, Renewed, Fresh, Kept, Restored, Alone, Listed, Everything, Restartable, Command, Set, Write, Halt, Hang, Job, Lock, Kill, Merge, If, Else, For, Forever, Do, Goto, Quit, New, OpenDevice, UseDevice, CloseDevice, Read, TStart, TCommit, TRestart, TRollback, Break, Step, Line, Routine, About, Intrinsic}
+use Rattle.mj_ast.specs.Syntax.{Expr, Chain, Tails, Done, Then, Operand, Literal, Value, Unary, Group, Call, Select, Variable, Var, Exprs, No, More, Choices, Last, Before, Destination, Plain, Pieces, Targets, One, Several, Assignment, Killed, Gone, Spared, Merged, Layout, Output, Shown, Format, Coded, Received, Input, Prompted, Arranged, Into, Opened, Target, Called, Jumped, Started, LockNames, Lone, Together, Locked, Range, Single, Endless, UpTo, Renewed, Fresh, Kept, Restored, Alone, Listed, Everything, Restartable, Command, Set, Write, Halt, Hang, Job, Lock, Kill, Merge, If, Else, For, Forever, Do, Goto, Quit, New, OpenDevice, UseDevice, CloseDevice, Read, TStart, TCommit, TRestart, TRollback, Break, LineCommand, Line, Routine, About, Intrinsic}
 
 abbrev mutual
   pub operand_of : operand.Operand → Operand
@@ -180,7 +180,7 @@ command_of command.TRestart = TRestart
 command_of command.TRollback = TRollback
 command_of command.Break = Break
 
-abbrev pub step_of : step.Step → Step
+abbrev pub step_of : step.LineCommand → LineCommand
 step_of s = record { condition = option_map expr_of s.condition; command = command_of s.command }
 
 abbrev pub line_of : line.Line → Line

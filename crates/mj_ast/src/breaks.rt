@@ -5,7 +5,7 @@ ghost use Rattle.std.specs.List.{list_any};
 ghost use Rattle.mj_ast.specs.Trees.{command_of, line_of};
 ghost use Rattle.mj_ast.specs.Breaks as breaks;
 
-use crate::routine::{Command, Line, Step};
+use crate::routine::{Command, Line, LineCommand};
 
 impl Command {
     /// Whether it is BREAK.
@@ -53,7 +53,7 @@ impl Line {
 }
 
 // Whether one of these commands is BREAK.
-fn is_among(steps: &[Step]) -> bool
+fn is_among(steps: &[LineCommand]) -> bool
     ensures { result ≡ list_any (λ s. breaks.is_break (command_of s.command)) steps.now }
 {
     steps.iter().any(|step| step.command.is_break())

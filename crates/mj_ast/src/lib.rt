@@ -9,6 +9,7 @@ mod construct;
 mod expr;
 mod function;
 mod keyword;
+mod limits;
 mod routine;
 mod sign;
 
@@ -16,9 +17,10 @@ pub use construct::Construct;
 pub use expr::{Choice, Expr, Operand, Scope, Tail, Variable};
 pub use function::{Callee, Function, NameFunction, Special};
 pub use keyword::{Keyword, Verb};
+pub use limits::{DEPTH_LIMIT, LINE_LIMIT, ROUTINE_LIMIT};
 pub use routine::{
-    Assignment, Called, Command, Destination, Input, Jumped, Killed, Layout, Line, LockMode,
-    LockNames, Locked, Mark, Merged, Opened, Output, Range, ReadMode, Received, Renewed,
-    Restartable, Restored, Routine, Serial, Started, Step, Target, Targets,
+    Assignment, Called, Command, Destination, FormatMark, Input, Jumped, Killed, Layout, Line,
+    LineCommand, LockMode, LockNames, Locked, Merged, Opened, Output, Range, ReadMode, Received,
+    Renewed, Restartable, Restored, Routine, Serial, Started, Target, Targets,
 };
 pub use sign::Sign;

@@ -45,7 +45,7 @@ pub struct Merged {
 
 /// A byte that a format writes.
 #[derive(Clone, Copy, PartialEq, Eq, Debug)]
-pub enum Mark {
+pub enum FormatMark {
     /// `!`
     NewLine,
     /// `#`
@@ -55,7 +55,7 @@ pub enum Mark {
 /// A format: a run of marks, and the column that is filled up to behind them, if there is one. It has one of the two at least.
 #[derive(Drop)]
 pub struct Layout {
-    pub marks: Vec<Mark>,
+    pub marks: Vec<FormatMark>,
     pub column: Option<Expr>,
 }
 
@@ -252,7 +252,7 @@ pub enum Command {
 
 /// A command with its postcondition, if it has one. IF, ELSE and FOR have none.
 #[derive(Drop)]
-pub struct Step {
+pub struct LineCommand {
     pub condition: Option<Expr>,
     pub command: Command,
 }
@@ -264,7 +264,7 @@ pub struct Line {
     pub label: Option<Text>,
     pub formals: Vec<Text>,
     pub level: usize,
-    pub steps: Vec<Step>,
+    pub steps: Vec<LineCommand>,
 }
 
 /// A routine: its name and its lines, of which the first is line 1.

@@ -7,14 +7,14 @@ use Rattle.mj_semantics.specs.Job.{Start}
 use Rattle.mj_load.specs.Image.{Loaded}
 use Rattle.mj_dev.specs.Heard.{Heard}
 use Rattle.mj_jobs.specs.Rows.{Row, row_at}
-use Rattle.mj_core.specs.Run.{Log}
-use Rattle.mj_core.specs.Jobs.{Running, IsRunOf, IsRunOfAfter}
+use Rattle.mj_jobvm.specs.Run.{Log}
+use Rattle.mj_jobvm.specs.Jobs.{Running, IsRunOf, IsRunOfAfter}
 use Rattle.mj_expect.specs.Heeds.{Heeds, AreHeeds}
 use Rattle.mj_sys.specs.Shared.{Shared}
 use Rattle.mj_sys.specs.History.{state_of, log_of}
 use Rattle.mj_sys.specs.System.{Recorded, Claimed}
-use Rattle.mj_events.specs.declared.happened.Happened.{Happened}
-use Rattle.mj_events.specs.Woven.{woven}
+use Rattle.mj_core.specs.declared.happened.Happened.{Happened}
+use Rattle.mj_core.specs.Woven.{woven}
 use Rattle.mj_core.specs.Runs.{start_in}
 use Rattle.mj_core.specs.Kept.{claim_of}
 use Rattle.mj_blank.specs.Ties.{Placed}

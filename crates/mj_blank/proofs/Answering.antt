@@ -10,21 +10,21 @@ use Rattle.mj_jobs.specs.Rows.{Row, row_at, IsLive}
 use Rattle.mj_sys.specs.Shared.{Shared}
 use Rattle.mj_sys.specs.History.{History, state_of}
 use Rattle.mj_sys.specs.System.{Recorded, Claimed, history_limit}
-use Rattle.mj_events.specs.declared.happened.Happened.{Happened}
-use Rattle.mj_events.specs.Woven.{woven}
-use Rattle.mj_core.specs.Turn.{Turn}
-use Rattle.mj_core.specs.Turn.TheVariants as turns
+use Rattle.mj_core.specs.declared.happened.Happened.{Happened}
+use Rattle.mj_core.specs.Woven.{woven}
+use Rattle.mj_jobvm.specs.declared.job.Turn.{Turn}
+use Rattle.mj_jobvm.specs.declared.job.Turn.TheVariants as turns
 use Rattle.mj_core.specs.declared.seen.Seen.{Seen}
 use Rattle.mj_core.specs.declared.seen.Seen.TheVariants as seen
-use Rattle.mj_core.specs.declared.seen.Refusal.{Refusal}
-use Rattle.mj_core.specs.declared.seen.Refusal.TheVariants as refusals
-use Rattle.mj_core.specs.declared.seen.Step.{Step}
-use Rattle.mj_core.specs.declared.seen.Way.{Way}
-use Rattle.mj_core.specs.declared.seen.Way.TheVariants as ways
-use Rattle.mj_core.specs.contracts.seen.Way as way
+use Rattle.mj_steps.specs.declared.step.Refusal.{Refusal}
+use Rattle.mj_steps.specs.declared.step.Refusal.TheVariants as refusals
+use Rattle.mj_steps.specs.declared.step.Step.{Step}
+use Rattle.mj_steps.specs.declared.step.Way.{Way}
+use Rattle.mj_steps.specs.declared.step.Way.TheVariants as ways
+use Rattle.mj_steps.specs.contracts.step.Way as way
 use Rattle.mj_core.specs.Shown.{Shown, was_over, with_over}
 use Rattle.mj_core.specs.Gives.{is_late, Readies, GivesReady}
-use Rattle.mj_blank.specs.Gives.{Made, Gives}
+use Rattle.mj_blank.specs.Gives.{Made, CoreStepGives}
 use Rattle.mj_blank.specs.Ties.{Placed}
 use Rattle.mj_blank.specs.Kept.{AreKept, logs_of, turns_of, shown}
 use Rattle.mj_blank.proofs.Histories.{same_state}
@@ -43,24 +43,24 @@ shown_same image slots slots' order over n history turns =
     ∙ ap (λ (t : List ℕ). let s : Shown = record { image = image; history = woven (logs_of slots) order; over = over; spent = t } in s) turns
 
 module _ (opening : Shared) (old : Shown) (step : Step) (given : Option Reply) where
-  pub no_job : row_at (state_of opening old.history).rows step.job ≡ None → Gives opening old step given (Err refusals.NoJob) old
+  pub no_job : row_at (state_of opening old.history).rows step.job ≡ None → CoreStepGives opening old step given (Err refusals.NoJob) old
   no_job none = inl (none, refl, refl)
 
   module _ (at : ℕ) (is : step.job ≡ suc at) (some : IsSome (row_at (state_of opening old.history).rows step.job)) where
     there : (row : Row) × (row_at (state_of opening old.history).rows step.job ≡ Some row)
     there = row_there (row_at (state_of opening old.history).rows step.job) some
 
-    pub was_seen : slice_index_or old.over at false ≡ true → Gives opening old step given (Err refusals.Ended) old
+    pub was_seen : slice_index_or old.over at false ≡ true → CoreStepGives opening old step given (Err refusals.Ended) old
     was_seen over = inr (there.0, there.1, inl (ap (was_over old.over) is ∙ over, refl, refl))
 
     module _ (goes : slice_index_or old.over at false ≡ false) where
-      pub is_full : history_limit ≤ length old.history → Gives opening old step given (Err refusals.Full) old
+      pub is_full : history_limit ≤ length old.history → CoreStepGives opening old step given (Err refusals.Full) old
       is_full long = inr (there.0, there.1, inr (inl (ap (was_over old.over) is ∙ goes, long, refl, refl)))
 
       module _ (room : length old.history < history_limit) where
         pub is_made : (answer : Result Seen Refusal) (new : Shown)
             → ((row : Row) → row_at (state_of opening old.history).rows (suc at) ≡ Some row → Made opening old (suc at) row (is_late step.way) given answer new)
-            → Gives opening old step given answer new
+            → CoreStepGives opening old step given answer new
         is_made answer new made = inr (
           there.0,
           there.1,
@@ -72,12 +72,12 @@ module _ (opening : Shared) (old : Shown) (step : Step) (given : Option Reply) w
           )),
         )
 
-        pub is_done : (IsLive (state_of opening old.history).rows step.job → ⊥) → Gives opening old step given (Ok seen.Ended) (record old { over = with_over old.over (suc at) })
+        pub is_done : (IsLive (state_of opening old.history).rows step.job → ⊥) → CoreStepGives opening old step given (Ok seen.Ended) (record old { over = with_over old.over (suc at) })
         is_done done =
             is_made (Ok seen.Ended) (record old { over = with_over old.over (suc at) })
             (λ row here. ((λ live. done (subst (λ j. IsLive (state_of opening old.history).rows j) (sym is) live)), refl))
 
-        pub is_short : Gives opening old step given (Err refusals.Memory) old
+        pub is_short : CoreStepGives opening old step given (Err refusals.Memory) old
         is_short = is_made (Err refusals.Memory) old (λ row here. (tt, refl))
 
 -- ---- and what it gives to make a job ready

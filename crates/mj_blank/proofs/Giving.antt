@@ -7,23 +7,23 @@ use Rattle.mj_ask.specs.declared.ask.Reply.{Reply}
 use Rattle.mj_load.specs.Image.{Loaded, routines_of}
 use Rattle.mj_jobs.specs.Rows.{Row, row_at}
 use Rattle.mj_semantics.specs.Job.{Start}
-use Rattle.mj_core.specs.Run.{Log, GoesOn, HasEnded}
+use Rattle.mj_jobvm.specs.Run.{Log, GoesOn, HasEnded}
 use Rattle.mj_sys.specs.declared.served.Held.{Held}
 use Rattle.mj_sys.specs.Shared.{Shared, served}
 use Rattle.mj_sys.specs.History.{History, state_of, log_of}
-use Rattle.mj_sys.specs.System.{Recorded, Claimed, Keeps}
-use Rattle.mj_events.specs.declared.happened.Happened.{Happened}
-use Rattle.mj_events.specs.Woven.{woven}
+use Rattle.mj_sys.specs.System.{Recorded, Claimed, KeepsBusy}
+use Rattle.mj_core.specs.declared.happened.Happened.{Happened}
+use Rattle.mj_core.specs.Woven.{woven}
 use Rattle.mj_core.specs.declared.seen.Seen.TheVariants as seen
-use Rattle.mj_core.specs.declared.seen.Refusal.{Refusal}
+use Rattle.mj_steps.specs.declared.step.Refusal.{Refusal}
 use Rattle.mj_core.specs.declared.slot.Made.TheVariants as made
 use Rattle.mj_core.specs.Runs.{start_in}
 use Rattle.mj_core.specs.Shown.{Shown, with_spent, with_over}
-use Rattle.mj_core.specs.Gives.{fuel, spent_limit, Makes, IsTimely, IsTold, IsRefused}
+use Rattle.mj_core.specs.Gives.{fuel, spent_limit, Makes, IsTimely, IsReplyTold, IsStepRefused}
 use Rattle.mj_blank.specs.Recorded.{IsRecorded, IsUnheard}
-use Rattle.mj_blank.specs.Gives.{Goes}
+use Rattle.mj_blank.specs.Gives.{LiveStepGives}
 use Rattle.mj_blank.specs.Ties.{Placed, IsPlaced, start_of, Steps}
-use Rattle.mj_blank.specs.Kept.{AreKept, IsAt, logs_of, turns_of, shown}
+use Rattle.mj_blank.specs.Kept.{AreKept, IsSlotOf, logs_of, turns_of, shown}
 use Rattle.mj_blank.proofs.Histories.{same_state, starts}
 use Rattle.mj_blank.proofs.Views.{as_many}
 use Rattle.mj_blank.proofs.Keeping.{shows_event, shows_still}
@@ -74,7 +74,7 @@ module _ (image : Loaded) (opening : Shared) (system : Recorded) (slots : List P
   abbrev slots' : List Placed
   slots' = slice_set slots k slot'
 
-  at : IsAt image opening system old.history (suc k) slot
+  at : IsSlotOf image opening system old.history (suc k) slot
   at = kept.tied k slot here
 
   same : state_of opening old.history ≡ state_of opening system.history
@@ -113,14 +113,14 @@ module _ (image : Loaded) (opening : Shared) (system : Recorded) (slots : List P
     is_still = shown_still log sessions placed spent
 
     pub gives_busy : (holder : ℕ) (held : Held) → Steps (routines_of image) opening late given system slot (made.Busy holder held) system' slot'
-        → Goes (routines_of image) opening (suc k) start late given old (seen.Busy holder held) still
+        → LiveStepGives (routines_of image) opening (suc k) start late given old (seen.Busy holder held) still
     gives_busy holder held t =
         let F : ℕ → Start → Log → Shared → Type 0 = λ j st l s.
-        (a : Ask) × Makes (routines_of image) st l a × IsTimely late a × (served s j a late ≡ None) × Keeps s j a holder held in
+        (a : Ask) × Makes (routines_of image) st l a × IsTimely late a × (served s j a late ≡ None) × KeepsBusy s j a holder held in
         let there = move F (t.0, t.1, t.2, t.3, t.4) in
         (there.0, there.1, there.2, there.3, there.4, is_still)
 
-    pub gives_unfit : Steps (routines_of image) opening late given system slot made.Unfit system' slot' → Goes (routines_of image) opening (suc k) start late given old seen.Unfit still
+    pub gives_unfit : Steps (routines_of image) opening late given system slot made.Unfit system' slot' → LiveStepGives (routines_of image) opening (suc k) start late given old seen.Unfit still
     gives_unfit t =
         let F : ℕ → Start → Log → Shared → Type 0 = λ j st l s. Makes (routines_of image) st l t.0 × IsUnheard l t.0 late given in
         let there = move F (t.1, t.4) in
@@ -136,7 +136,7 @@ module _ (image : Loaded) (opening : Shared) (system : Recorded) (slots : List P
   -- it goes on for all turns
   pub gives_ran : (log : slot'.job.run.log ≡ slot.job.run.log) (sessions : slot'.heeds ≡ slot.heeds) → IsPlaced image opening system slot'
       → slot'.job.run.spent ≡ min (slot.job.run.spent + fuel) spent_limit → GoesOn (routines_of image) (start_of slot) slot.job.run.log slot'.job.run.spent
-      → Goes (routines_of image) opening (suc k) start late given old seen.Ran (shown image slots' order over n)
+      → LiveStepGives (routines_of image) opening (suc k) start late given old seen.Ran (shown image slots' order over n)
   gives_ran log sessions placed counts goes =
       let F : ℕ → Start → Log → Shared → Type 0 = λ j st l s. GoesOn (routines_of image) st l slot'.job.run.spent in (
         slot'.job.run.spent,
@@ -155,18 +155,18 @@ module _ (image : Loaded) (opening : Shared) (system : Recorded) (slots : List P
     new = shown image slots' order' over n
 
     pub gives_event : Makes (routines_of image) (start_of slot) slot.job.run.log a → IsTimely late a
-        → IsTold (state_of opening system.history) slot.claim.job a late reply (state_of opening system'.history) → IsRecorded given a reply
-        → Goes (routines_of image) opening (suc k) start late given old (seen.Event (length order)) new
+        → IsReplyTold (state_of opening system.history) slot.claim.job a late reply (state_of opening system'.history) → IsRecorded given a reply
+        → LiveStepGives (routines_of image) opening (suc k) start late given old (seen.Event (length order)) new
     gives_event makes timely told recorded =
         let later : state_of opening new.history ≡ state_of opening system'.history = same_state image opening system' slots' waiting order' kept' in
-        let F : ℕ → Start → Log → Shared → Type 0 = λ j st l s. Makes (routines_of image) st l a × IsTold s j a late reply (state_of opening system'.history) in
+        let F : ℕ → Start → Log → Shared → Type 0 = λ j st l s. Makes (routines_of image) st l a × IsReplyTold s j a late reply (state_of opening system'.history) in
         let there = move F (makes, told) in
         let history_on = shows_event image opening system slots waiting order kept k slot slot' here numbered system' a reply late log in (
           a,
           reply,
           there.0,
           timely,
-          subst (λ s. IsTold (state_of opening old.history) (suc k) a late reply s) (sym later) there.1,
+          subst (λ s. IsReplyTold (state_of opening old.history) (suc k) a late reply s) (sym later) there.1,
           recorded,
           sym (as_many (logs_of slots) order kept.there),
           ap (λ h. seen_with h (turns_of n slots')) history_on
@@ -175,7 +175,7 @@ module _ (image : Loaded) (opening : Shared) (system : Recorded) (slots : List P
         )
 
   -- it isn't made
-  pub refuses : (why : Refusal) → IsRefused (routines_of image) (start_of slot) slot.job.run.log late why → IsRefused (routines_of image) start (log_of (suc k) old.history) late why
+  pub refuses : (why : Refusal) → IsStepRefused (routines_of image) (start_of slot) slot.job.run.log late why → IsStepRefused (routines_of image) start (log_of (suc k) old.history) late why
   refuses why is_refused =
-      let F : ℕ → Start → Log → Shared → Type 0 = λ j st l s. IsRefused (routines_of image) st l late why in
+      let F : ℕ → Start → Log → Shared → Type 0 = λ j st l s. IsStepRefused (routines_of image) st l late why in
       move F is_refused

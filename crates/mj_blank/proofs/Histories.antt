@@ -5,16 +5,16 @@ use Rattle.std.proofs.Common.{◌≡◌, ℕ, zero, suc, List, [], Option, Some,
 use Rattle.std.proofs.lemmas.Option.{slice_get-map, none-some, same_Some}
 use Rattle.mj_load.specs.Image.{Loaded, routines_of}
 use Rattle.mj_jobs.specs.Rows.{Row, row_at}
-use Rattle.mj_core.specs.Run.{IsTrace, begins}
+use Rattle.mj_jobvm.specs.Run.{IsTrace, begins}
 use Rattle.mj_dev.specs.Talk.{beginning}
 use Rattle.mj_sessions.specs.Follow.{AreTalks}
 use Rattle.mj_sys.specs.Shared.{Shared}
 use Rattle.mj_sys.specs.History.{History, state_of, log_of}
 use Rattle.mj_sys.specs.System.{Recorded, Claimed}
-use Rattle.mj_events.specs.declared.happened.Happened.{Happened}
-use Rattle.mj_events.specs.Woven.{woven}
-use Rattle.mj_events.proofs.Happen.{shared_leaves}
-use Rattle.mj_events.proofs.Logs.{silent_zero, silent_past}
+use Rattle.mj_core.specs.declared.happened.Happened.{Happened}
+use Rattle.mj_core.specs.Woven.{woven}
+use Rattle.mj_core.proofs.Happen.{shared_leaves}
+use Rattle.mj_core.proofs.Logs.{silent_zero, silent_past}
 use Rattle.mj_core.specs.Runs.{IsRun, start_in}
 use Rattle.mj_expect.proofs.Hearing.{heard_talks}
 use Rattle.mj_blank.specs.Ties.{Placed}

@@ -9,8 +9,8 @@ use Rattle.mj_ask.specs.declared.ask.Ask.{Ask}
 use Rattle.mj_ask.specs.declared.ask.Reply.{Reply}
 use Rattle.mj_load.specs.Image.{Loaded}
 use Rattle.mj_jobs.specs.Rows.{Row, row_at, IsLive}
-use Rattle.mj_core.specs.Run.{Log}
-use Rattle.mj_core.specs.Jobs.{Running, IsRunOf}
+use Rattle.mj_jobvm.specs.Run.{Log}
+use Rattle.mj_jobvm.specs.Jobs.{Running, IsRunOf}
 use Rattle.mj_expect.specs.Heeds.{Heeds, AreHeeds}
 use Rattle.mj_sys.specs.declared.event.Event.{Event}
 use Rattle.mj_sys.specs.Shared.{Shared}
@@ -18,17 +18,17 @@ use Rattle.mj_sys.specs.History.{History, state_of, log_of, events_of}
 use Rattle.mj_sys.specs.System.{Recorded, Claimed, history_limit}
 use Rattle.mj_sys.proofs.Replays.{left, no_events}
 use Rattle.mj_sys.proofs.Rows.{rows_kept, state_of_append, log_of_append, events_of_append}
-use Rattle.mj_events.specs.declared.happened.Happened.{Happened}
-use Rattle.mj_events.specs.Happen.{AllHappen, Happens, shared_of}
-use Rattle.mj_events.specs.Woven.{Logs, woven, AreThere}
-use Rattle.mj_events.proofs.Happen.{shared_append, happen_more}
-use Rattle.mj_events.proofs.Weave.{woven_on, there_on, woven_still, there_still, jobs_stay}
-use Rattle.mj_events.proofs.Logs.{log_own, log_other, shared_silent}
+use Rattle.mj_core.specs.declared.happened.Happened.{Happened}
+use Rattle.mj_core.specs.Happen.{AllHappen, Happens, shared_of}
+use Rattle.mj_core.specs.Woven.{Logs, woven, AreThere}
+use Rattle.mj_core.proofs.Happen.{shared_append, happen_more}
+use Rattle.mj_core.proofs.Weave.{woven_on, there_on, woven_still, there_still, jobs_stay}
+use Rattle.mj_core.proofs.Logs.{log_own, log_other, shared_silent}
 use Rattle.mj_core.specs.Runs.{start_in}
-use Rattle.mj_core.specs.Gives.{IsTold}
+use Rattle.mj_core.specs.Gives.{IsReplyTold}
 use Rattle.mj_blank.specs.Ties.{Placed, IsTied, IsPlaced}
 use Rattle.mj_core.specs.Kept.{IsClaimed}
-use Rattle.mj_blank.specs.Kept.{AreKept, IsAt, logs_of}
+use Rattle.mj_blank.specs.Kept.{AreKept, IsSlotOf, logs_of}
 use Rattle.mj_blank.proofs.Histories.{same_state, none_past}
 
 -- an element of a list with one that was changed
@@ -112,7 +112,7 @@ module _ (image : Loaded) (opening : Shared) (system : Recorded) (slots : List P
     abbrev slots' : List Placed
     slots' = slice_set slots k slot'
 
-    at : IsAt image opening system history (suc k) slot
+    at : IsSlotOf image opening system history (suc k) slot
     at = kept.tied k slot here
 
     log_here : slice_get (logs_of slots) k ≡ Some slot.job.run.log
@@ -126,7 +126,7 @@ module _ (image : Loaded) (opening : Shared) (system : Recorded) (slots : List P
       -- what is known of the event of a job
       abbrev Made : ℕ → Type 0
       Made job =
-          IsLive state.rows job × IsTold state job a late reply (state_of opening system'.history)
+          IsLive state.rows job × IsReplyTold state job a late reply (state_of opening system'.history)
           × (system' ≡ record system { history = system.history ++ shared_of (event job ∷ []) })
 
       module _ (room : length order < history_limit) (placed : IsPlaced image opening system' slot') (log : slot'.job.run.log ≡ slot.job.run.log ++ (a, reply) ∷ [])
@@ -161,7 +161,7 @@ module _ (image : Loaded) (opening : Shared) (system : Recorded) (slots : List P
                   (made.0, shared, (late, made.1.shared shared ∙ ap (λ t. Some (reply, t)) (sym (left state (suc k) a late reply (state_of opening system'.history) (made.1.shared shared))))),
             )
 
-        own : IsAt image opening system' history' (suc k) slot'
+        own : IsSlotOf image opening system' history' (suc k) slot'
         own = record {
           numbered = numbered ∙ at.numbered;
           placed = placed;
@@ -170,7 +170,7 @@ module _ (image : Loaded) (opening : Shared) (system : Recorded) (slots : List P
               ∙ ap (λ l. slot.job.run.log ++ l) (log_own (suc k) e refl) ∙ sym log;
         }
 
-        other : (j : ℕ) (s : Placed) → (j ≡ k → ⊥) → slice_get slots j ≡ Some s → IsAt image opening system' history' (suc j) s
+        other : (j : ℕ) (s : Placed) → (j ≡ k → ⊥) → slice_get slots j ≡ Some s → IsSlotOf image opening system' history' (suc j) s
         other j s apart there =
             let old = kept.tied j s there in
             let not_it : suc k ≡ suc j → ⊥ = λ is. apart (let i : suc k ≡ suc j = is in omega (arith, i)) in
@@ -186,12 +186,12 @@ module _ (image : Loaded) (opening : Shared) (system : Recorded) (slots : List P
                   ∙ append-nil (log_of (suc j) history) ∙ old.logged;
             }
 
-        tied_on : (j : ℕ) (s : Placed) → slice_get slots' j ≡ Some s → IsAt image opening system' history' (suc j) s
+        tied_on : (j : ℕ) (s : Placed) → slice_get slots' j ≡ Some s → IsSlotOf image opening system' history' (suc j) s
         tied_on j s there = by (get_set slots k j slot' s there) where
-          by : ((j ≡ k) × (s ≡ slot')) ⊎ ((j ≡ k → ⊥) × (slice_get slots j ≡ Some s)) → IsAt image opening system' history' (suc j) s
+          by : ((j ≡ k) × (s ≡ slot')) ⊎ ((j ≡ k → ⊥) × (slice_get slots j ≡ Some s)) → IsSlotOf image opening system' history' (suc j) s
           by (inl is) =
-              let P : ℕ → Type 0 = λ i. IsAt image opening system' history' (suc i) slot' in
-              let Q : Placed → Type 0 = λ p. IsAt image opening system' history' (suc j) p in
+              let P : ℕ → Type 0 = λ i. IsSlotOf image opening system' history' (suc i) slot' in
+              let Q : Placed → Type 0 = λ p. IsSlotOf image opening system' history' (suc j) p in
               subst Q (sym is.1) (subst P (sym is.0) own)
           by (inr is) = other j s is.0 is.1
 
@@ -209,7 +209,7 @@ module _ (image : Loaded) (opening : Shared) (system : Recorded) (slots : List P
 
       -- what is known of the event, by the number of its claim
       pub keeps_event : length order < history_limit → IsPlaced image opening system' slot' → slot'.job.run.log ≡ slot.job.run.log ++ (a, reply) ∷ []
-          → IsLive state.rows slot.claim.job → IsTold state slot.claim.job a late reply (state_of opening system'.history)
+          → IsLive state.rows slot.claim.job → IsReplyTold state slot.claim.job a late reply (state_of opening system'.history)
           → system' ≡ record system { history = system.history ++ shared_of (event slot.claim.job ∷ []) }
           → AreKept image opening system' slots' waiting (order ++ record { job = suc k; at = length slot.job.run.log } ∷ [])
       keeps_event room placed log live told new = kept_event room placed log (subst Made at.numbered (live, told, new))
@@ -229,26 +229,26 @@ module _ (image : Loaded) (opening : Shared) (system : Recorded) (slots : List P
       pub shows_still : woven (logs_of slots') order ≡ history
       shows_still = ap (λ l. woven l order) logs_same
 
-      still : IsAt image opening system history (suc k) slot'
+      still : IsSlotOf image opening system history (suc k) slot'
       still = record {
         numbered = numbered ∙ at.numbered;
         placed = placed;
         logged = at.logged ∙ sym log;
       }
 
-      tied_still : (j : ℕ) (s : Placed) → slice_get slots' j ≡ Some s → IsAt image opening system history (suc j) s
+      tied_still : (j : ℕ) (s : Placed) → slice_get slots' j ≡ Some s → IsSlotOf image opening system history (suc j) s
       tied_still j s there = by (get_set slots k j slot' s there) where
-        by : ((j ≡ k) × (s ≡ slot')) ⊎ ((j ≡ k → ⊥) × (slice_get slots j ≡ Some s)) → IsAt image opening system history (suc j) s
+        by : ((j ≡ k) × (s ≡ slot')) ⊎ ((j ≡ k → ⊥) × (slice_get slots j ≡ Some s)) → IsSlotOf image opening system history (suc j) s
         by (inl is) =
-            let P : ℕ → Type 0 = λ i. IsAt image opening system history (suc i) slot' in
-            let Q : Placed → Type 0 = λ p. IsAt image opening system history (suc j) p in
+            let P : ℕ → Type 0 = λ i. IsSlotOf image opening system history (suc i) slot' in
+            let Q : Placed → Type 0 = λ p. IsSlotOf image opening system history (suc j) p in
             subst Q (sym is.1) (subst P (sym is.0) still)
         by (inr is) = kept.tied j s is.1
 
       pub keeps_still : AreKept image opening system slots' waiting order
       keeps_still = record {
         history = ap shared_of shows_still ∙ kept.history;
-        tied = λ j s there. (let P : History → Type 0 = λ h. IsAt image opening system h (suc j) s in subst P (sym shows_still) (tied_still j s there));
+        tied = λ j s there. (let P : History → Type 0 = λ h. IsSlotOf image opening system h (suc j) s in subst P (sym shows_still) (tied_still j s there));
         happen = (let P : History → Type 0 = λ h. AllHappen opening h in subst P (sym shows_still) kept.happen);
         there = (let P : Logs → Type 0 = λ l. AreThere l order in subst P (sym logs_same) kept.there);
         claimed = subst (λ n. IsClaimed opening system n waiting) (sym (length-set slots k slot')) kept.claimed;
@@ -290,26 +290,26 @@ module _ (image : Loaded) (opening : Shared) (system : Recorded) (slots : List P
     none : log_of (suc (length slots)) old_history ≡ []
     none = none_past image opening system slots (Some claim) order kept (length slots) (slice_get_end slots)
 
-    first : IsAt image opening system old_history (suc (length slots)) slot
+    first : IsSlotOf image opening system old_history (suc (length slots)) slot
     first = record {
       numbered = ap (λ (c : Claimed). c.job) is ∙ kept.claimed.1;
       placed = placed;
       logged = none ∙ sym log;
     }
 
-    tied_more : (j : ℕ) (s : Placed) → slice_get more j ≡ Some s → IsAt image opening system old_history (suc j) s
+    tied_more : (j : ℕ) (s : Placed) → slice_get more j ≡ Some s → IsSlotOf image opening system old_history (suc j) s
     tied_more j s there = by (get_end slots j slot s there) where
-      by : ((j ≡ length slots) × (s ≡ slot)) ⊎ (slice_get slots j ≡ Some s) → IsAt image opening system old_history (suc j) s
+      by : ((j ≡ length slots) × (s ≡ slot)) ⊎ (slice_get slots j ≡ Some s) → IsSlotOf image opening system old_history (suc j) s
       by (inl e) =
-          let P : ℕ → Type 0 = λ i. IsAt image opening system old_history (suc i) slot in
-          let Q : Placed → Type 0 = λ p. IsAt image opening system old_history (suc j) p in
+          let P : ℕ → Type 0 = λ i. IsSlotOf image opening system old_history (suc i) slot in
+          let Q : Placed → Type 0 = λ p. IsSlotOf image opening system old_history (suc j) p in
           subst Q (sym e.1) (subst P (sym e.0) first)
       by (inr e) = kept.tied j s e
 
     pub keeps_slot : AreKept image opening system more None order
     keeps_slot = record {
       history = ap shared_of shows_slot ∙ kept.history;
-      tied = λ j s there. (let P : History → Type 0 = λ h. IsAt image opening system h (suc j) s in subst P (sym shows_slot) (tied_more j s there));
+      tied = λ j s there. (let P : History → Type 0 = λ h. IsSlotOf image opening system h (suc j) s in subst P (sym shows_slot) (tied_more j s there));
       happen = (let P : History → Type 0 = λ h. AllHappen opening h in subst P (sym shows_slot) kept.happen);
       there =
           (let P : Logs → Type 0 = λ l. AreThere l order in

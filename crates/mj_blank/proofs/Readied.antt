@@ -5,15 +5,15 @@ use Rattle.std.proofs.Common.{◌≡◌, ℕ, suc, ◌<◌, List, length, get_or
 use Rattle.std.proofs.lemmas.List.{get_or_default}
 use Rattle.mj_load.specs.Image.{Loaded}
 use Rattle.mj_jobs.specs.Rows.{Row, row_at, IsLive}
-use Rattle.mj_core.specs.Turn.{Turn}
-use Rattle.mj_core.specs.Turn.TheVariants as turns
+use Rattle.mj_jobvm.specs.declared.job.Turn.{Turn}
+use Rattle.mj_jobvm.specs.declared.job.Turn.TheVariants as turns
 use Rattle.mj_sys.specs.Shared.{Shared}
 use Rattle.mj_sys.specs.History.{state_of}
 use Rattle.mj_sys.specs.System.{Recorded, Claimed}
-use Rattle.mj_events.specs.declared.happened.Happened.{Happened}
-use Rattle.mj_events.specs.Woven.{woven}
-use Rattle.mj_core.specs.declared.seen.Refusal.{Refusal}
-use Rattle.mj_core.specs.declared.seen.Refusal.TheVariants as refusals
+use Rattle.mj_core.specs.declared.happened.Happened.{Happened}
+use Rattle.mj_core.specs.Woven.{woven}
+use Rattle.mj_steps.specs.declared.step.Refusal.{Refusal}
+use Rattle.mj_steps.specs.declared.step.Refusal.TheVariants as refusals
 use Rattle.mj_core.specs.Shown.{Shown}
 use Rattle.mj_core.specs.Gives.{Readies, GivesReady}
 use Rattle.mj_blank.specs.Ties.{Placed}

@@ -7,18 +7,18 @@ use Rattle.mj_load.specs.Image.{Loaded, routines_of}
 use Rattle.mj_jobs.specs.Rows.{Row, row_at}
 use Rattle.mj_semantics.specs.State.{places}
 use Rattle.mj_semantics.specs.Job.{Start}
-use Rattle.mj_core.specs.Run.{Log, GoesOn, HasEnded}
-use Rattle.mj_core.specs.Jobs.{Running, IsRunOf}
-use Rattle.mj_core.specs.Told.{Told, spent_after}
-use Rattle.mj_core.specs.Turn.{Turn}
-use Rattle.mj_core.specs.Turn.TheVariants as turns
+use Rattle.mj_jobvm.specs.Run.{Log, GoesOn, HasEnded}
+use Rattle.mj_jobvm.specs.Jobs.{Running, IsRunOf}
+use Rattle.mj_jobvm.specs.Told.{AdvanceTells, spent_after}
+use Rattle.mj_jobvm.specs.declared.job.Turn.{Turn}
+use Rattle.mj_jobvm.specs.declared.job.Turn.TheVariants as turns
 use Rattle.mj_expect.specs.Heeds.{AreHeeds}
 use Rattle.mj_sys.specs.Shared.{Shared}
 use Rattle.mj_sys.specs.History.{state_of}
 use Rattle.mj_sys.specs.System.{Recorded, Claimed}
-use Rattle.mj_events.specs.declared.happened.Happened.{Happened}
-use Rattle.mj_events.specs.Woven.{woven}
-use Rattle.mj_core.specs.declared.seen.Refusal.TheVariants as refusals
+use Rattle.mj_core.specs.declared.happened.Happened.{Happened}
+use Rattle.mj_core.specs.Woven.{woven}
+use Rattle.mj_steps.specs.declared.step.Refusal.TheVariants as refusals
 use Rattle.mj_core.specs.Gives.{Makes, Readies}
 use Rattle.mj_blank.specs.Ties.{Placed, IsPlaced, start_of}
 use Rattle.mj_blank.specs.Kept.{AreKept, logs_of, shown}
@@ -58,7 +58,7 @@ module _ (image : Loaded) (opening : Shared) (system : Recorded) (slots : List P
     still spent = shown_still image opening system slots waiting order kept over n k few slot slot_on here refl row is false None log refl placed_on spent
 
     -- what its turns say is what is seen of it
-    pub readies : HasHalted → (turn : Turn) → Told (routines_of image) (start_of slot) turn job.run → job.run.spent ≡ spent_after {E = AllocError} (Ok turn) 10000 slot.job.run.spent
+    pub readies : HasHalted → (turn : Turn) → AdvanceTells (routines_of image) (start_of slot) turn job.run → job.run.spent ≡ spent_after {E = AllocError} (Ok turn) 10000 slot.job.run.spent
         → Readies opening (shown image slots order over n) (suc k) row (Ok turn) (shown image (slice_set slots k slot_on) order over n)
     readies halted turns.Asks told spent =
         let F : ℕ → Start → Log → Shared → Type 0 = λ j st l s. (a : Ask) × Makes (routines_of image) st l a in

@@ -6,7 +6,7 @@ use Rattle.mj_ask.specs.declared.ask.Ask.TheVariants as asks
 use Rattle.mj_ask.specs.declared.ask.Reply.{Reply}
 use Rattle.mj_ask.specs.declared.ask.Reply.TheVariants as replies
 use Rattle.mj_ask.specs.Fits.{fits, is_shared, timeout_of}
-use Rattle.mj_ask.specs.Late.{is_over}
+use Rattle.mj_ask.specs.Late.{is_timed_out}
 use Rattle.mj_ask.proofs.Fitting.{answered}
 use Rattle.mj_sessions.specs.Events.{Log}
 use Rattle.mj_sys.specs.Shared.{Shared, served}
@@ -17,23 +17,9 @@ use Rattle.mj_blank.specs.Recorded.{IsOfDevice, IsHeard, is_rest, is_early}
 
 -- what isn't shared and is no rest is an ask to a device
 pub of_device : (a : Ask) → is_shared a ≡ false → is_rest a ≡ false → IsOfDevice a
-of_device (asks.DeviceBegin d) unshared other = (d, refl)
-of_device (asks.DeviceWrite d bytes) unshared other = (d, refl)
-of_device (asks.DeviceLine d t) unshared other = (d, refl)
-of_device (asks.DeviceByte d t) unshared other = (d, refl)
-of_device (asks.DeviceEnd d) unshared other = (d, refl)
+of_device (asks.Device d a) unshared other = (d, refl)
 of_device (asks.Rest t) unshared other = absurd (let no : true ≡ false = other in cc)
-of_device (asks.Access x) unshared other = absurd (let no : true ≡ false = unshared in cc)
-of_device (asks.Try names t) unshared other = absurd (let no : true ≡ false = unshared in cc)
-of_device (asks.Unlock names) unshared other = absurd (let no : true ≡ false = unshared in cc)
-of_device asks.UnlockAll unshared other = absurd (let no : true ≡ false = unshared in cc)
-of_device (asks.Begin kind) unshared other = absurd (let no : true ≡ false = unshared in cc)
-of_device asks.Commit unshared other = absurd (let no : true ≡ false = unshared in cc)
-of_device asks.Rollback unshared other = absurd (let no : true ≡ false = unshared in cc)
-of_device (asks.Open d t) unshared other = absurd (let no : true ≡ false = unshared in cc)
-of_device (asks.Close d) unshared other = absurd (let no : true ≡ false = unshared in cc)
-of_device (asks.Start s t) unshared other = absurd (let no : true ≡ false = unshared in cc)
-of_device (asks.Halt f) unshared other = absurd (let no : true ≡ false = unshared in cc)
+of_device (asks.Shared a) unshared other = absurd (let no : true ≡ false = unshared in cc)
 
 -- a rest is over at once, which changes nothing of the talks, and no device serves it
 pub record IsResting (a : Ask) : Type 0 where
@@ -46,27 +32,13 @@ no_name name is = let no : None ≡ Some name = is in cc
 
 pub resting : (a : Ask) → is_rest a ≡ true → IsResting a
 resting (asks.Rest t) is = record { fit = refl; heard = λ log xs all. heard_rest log xs t replies.Done all; apart = λ of. no_name of.0 of.1 }
-resting (asks.DeviceBegin d) is = absurd (let no : false ≡ true = is in cc)
-resting (asks.DeviceWrite d bytes) is = absurd (let no : false ≡ true = is in cc)
-resting (asks.DeviceLine d t) is = absurd (let no : false ≡ true = is in cc)
-resting (asks.DeviceByte d t) is = absurd (let no : false ≡ true = is in cc)
-resting (asks.DeviceEnd d) is = absurd (let no : false ≡ true = is in cc)
-resting (asks.Access x) is = absurd (let no : false ≡ true = is in cc)
-resting (asks.Try names t) is = absurd (let no : false ≡ true = is in cc)
-resting (asks.Unlock names) is = absurd (let no : false ≡ true = is in cc)
-resting asks.UnlockAll is = absurd (let no : false ≡ true = is in cc)
-resting (asks.Begin kind) is = absurd (let no : false ≡ true = is in cc)
-resting asks.Commit is = absurd (let no : false ≡ true = is in cc)
-resting asks.Rollback is = absurd (let no : false ≡ true = is in cc)
-resting (asks.Open d t) is = absurd (let no : false ≡ true = is in cc)
-resting (asks.Close d) is = absurd (let no : false ≡ true = is in cc)
-resting (asks.Start s t) is = absurd (let no : false ≡ true = is in cc)
-resting (asks.Halt f) is = absurd (let no : false ≡ true = is in cc)
+resting (asks.Device d a) is = absurd (let no : false ≡ true = is in cc)
+resting (asks.Shared a) is = absurd (let no : false ≡ true = is in cc)
 
 -- what isn't early comes late only where the timeout is over
-pub in_time : (a : Ask) (late : Bool) (reply : Reply) → is_early a late reply ≡ false → reply ≡ replies.Late → is_over (timeout_of a) late ≡ true
-in_time a late reply early is = by (is_over (timeout_of a) late) refl where
-  by : (b : Bool) → is_over (timeout_of a) late ≡ b → is_over (timeout_of a) late ≡ true
+pub in_time : (a : Ask) (late : Bool) (reply : Reply) → is_early a late reply ≡ false → reply ≡ replies.Late → is_timed_out (timeout_of a) late ≡ true
+in_time a late reply early is = by (is_timed_out (timeout_of a) late) refl where
+  by : (b : Bool) → is_timed_out (timeout_of a) late ≡ b → is_timed_out (timeout_of a) late ≡ true
   by true e = e
   by false e =
       let P : Reply → Type 0 = λ r. is_early a late r ≡ false in

@@ -7,16 +7,16 @@ use Rattle.std.proofs.lemmas.Option.{slice_get-map, slice_get_read, slice_get_pa
 use Rattle.mj_ask.specs.declared.ask.Ask.{Ask}
 use Rattle.mj_ask.specs.declared.ask.Reply.{Reply}
 use Rattle.mj_load.specs.Image.{Loaded}
-use Rattle.mj_core.specs.Run.{Log}
+use Rattle.mj_jobvm.specs.Run.{Log}
 use Rattle.mj_sys.specs.declared.event.Event.{Event}
 use Rattle.mj_sys.specs.Shared.{Shared}
 use Rattle.mj_sys.specs.History.{History}
 use Rattle.mj_sys.specs.System.{Recorded, Claimed}
-use Rattle.mj_events.specs.declared.happened.Happened.{Happened}
-use Rattle.mj_events.specs.Woven.{Logs, entry_at, woven, AreThere}
+use Rattle.mj_core.specs.declared.happened.Happened.{Happened}
+use Rattle.mj_core.specs.Woven.{Logs, entry_at, woven, AreThere}
 use Rattle.mj_core.specs.Runs.{start_in}
 use Rattle.mj_jobs.specs.Rows.{Row, row_at}
-use Rattle.mj_core.specs.Jobs.{IsRunOf}
+use Rattle.mj_jobvm.specs.Jobs.{IsRunOf}
 use Rattle.mj_sys.specs.History.{state_of}
 use Rattle.mj_blank.proofs.Histories.{same_state, starts}
 use Rattle.mj_blank.specs.Ties.{Placed}

@@ -5,7 +5,7 @@ use Rattle.mj_ask.specs.declared.ask.Ask.TheVariants as asks
 use Rattle.mj_ask.specs.declared.ask.Reply.{Reply}
 use Rattle.mj_ask.specs.declared.ask.Reply.TheVariants as replies
 use Rattle.mj_ask.specs.Fits.{fits, timeout_of}
-use Rattle.mj_ask.specs.Late.{is_over}
+use Rattle.mj_ask.specs.Late.{is_timed_out}
 use Rattle.mj_sessions.specs.Events.{Log, device_of}
 use Rattle.mj_sessions.specs.Follow.{AreTalks}
 use Rattle.mj_expect.specs.Heeds.{Heeds, AreHeeds}
@@ -25,7 +25,7 @@ IsRecorded given a reply = IsOfDevice a → given ≡ Some reply
 
 -- the reply says that the timeout is over, and it isn't
 abbrev pub is_early : Ask → Bool → Reply → Bool
-is_early a late replies.Late = not (is_over (timeout_of a) late)
+is_early a late replies.Late = not (is_timed_out (timeout_of a) late)
 is_early a late _ = false
 
 -- What is recorded can't be the reply to what a device is asked, behind what its job asked and was told before: there is none; or it doesn't fit; or

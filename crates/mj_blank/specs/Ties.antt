@@ -4,23 +4,23 @@ use Rattle.mj_ask.specs.declared.ask.Ask.{Ask}
 use Rattle.mj_ask.specs.declared.ask.Reply.{Reply}
 use Rattle.mj_ask.specs.declared.ask.Reply.TheVariants as replies
 use Rattle.mj_ask.specs.Fits.{fits, is_shared, timeout_of}
-use Rattle.mj_ask.specs.Late.{is_over}
+use Rattle.mj_ask.specs.Late.{is_timed_out}
 use Rattle.mj_ast.specs.Syntax.{Routine}
 use Rattle.mj_semantics.specs.Job.{Start}
 use Rattle.mj_load.specs.Image.{Loaded}
 use Rattle.mj_jobs.specs.Rows.{Row, row_at, IsLive}
-use Rattle.mj_core.specs.Run.{GoesOn, HasEnded}
-use Rattle.mj_core.specs.Jobs.{Running, IsRunOf}
+use Rattle.mj_jobvm.specs.Run.{GoesOn, HasEnded}
+use Rattle.mj_jobvm.specs.Jobs.{Running, IsRunOf}
 use Rattle.mj_sys.specs.Shared.{Shared, served}
 use Rattle.mj_sys.specs.History.{state_of, events_of}
-use Rattle.mj_sys.specs.System.{Recorded, Claimed, Keeps}
+use Rattle.mj_sys.specs.System.{Recorded, Claimed, KeepsBusy}
 use Rattle.mj_sys.specs.Told.{recorded}
-use Rattle.mj_events.specs.Happen.{shared_of}
+use Rattle.mj_core.specs.Happen.{shared_of}
 use Rattle.mj_expect.specs.Heeds.{Heeds, AreHeeds}
 use Rattle.mj_core.specs.declared.slot.Made.{Made}
 use Rattle.mj_core.specs.declared.slot.Made.TheVariants as made
 use Rattle.mj_core.specs.Runs.{start_in}
-use Rattle.mj_core.specs.Gives.{fuel, spent_limit, Makes, IsTimely, IsTold}
+use Rattle.mj_core.specs.Gives.{fuel, spent_limit, Makes, IsTimely, IsReplyTold}
 use Rattle.mj_core.specs.Ties.{GoesOnBy}
 use Rattle.mj_blank.specs.Recorded.{IsOfDevice, IsRecorded, IsUnheard}
 
@@ -57,14 +57,14 @@ abbrev pub Steps : List Routine → Shared → Bool → Option Reply → Recorde
 Steps image opening late given old slot made.Event new slot' =
     (a : Ask) × (reply : Reply) × Makes image (start_of slot) slot.job.run.log a × IsTimely late a
     × IsLive (state_of opening old.history).rows slot.claim.job
-    × IsTold (state_of opening old.history) slot.claim.job a late reply (state_of opening new.history)
+    × IsReplyTold (state_of opening old.history) slot.claim.job a late reply (state_of opening new.history)
     × (slot'.job.run.log ≡ slot.job.run.log ++ (a, reply) ∷ [])
     × (slot'.job.run.spent ≡ 0)
     × IsRecorded given a reply
     × (new ≡ record old { history = old.history ++ shared_of (record { job = slot.claim.job; ask = a; reply = reply } ∷ []) })
 Steps image opening late given old slot (made.Busy holder held) new slot' =
     (a : Ask) × Makes image (start_of slot) slot.job.run.log a × IsTimely late a
-    × (served (state_of opening old.history) slot.claim.job a late ≡ None) × Keeps (state_of opening old.history) slot.claim.job a holder held
+    × (served (state_of opening old.history) slot.claim.job a late ≡ None) × KeepsBusy (state_of opening old.history) slot.claim.job a holder held
     × (new ≡ old) × IsStill slot slot'
 Steps image opening late given old slot made.NotYet new slot' = ⊥
 Steps image opening late given old slot made.Unfit new slot' =
@@ -79,7 +79,7 @@ Steps image opening late given old slot made.Ended new slot' = HasEnded image (s
 -- what a job that asks is told by what is recorded, or isn't
 abbrev pub Talks : Running → Heeds → Ask → Bool → Option Reply → Made → Running → Heeds → Type 0
 Talks old xs a late given made.Event new xs' =
-    (reply : Reply) × (fits a reply ≡ true) × (reply ≡ replies.Late → is_over (timeout_of a) late ≡ true)
+    (reply : Reply) × (fits a reply ≡ true) × (reply ≡ replies.Late → is_timed_out (timeout_of a) late ≡ true)
     × GoesOnBy old a reply new × (AreHeeds old.run.log xs → AreHeeds (old.run.log ++ (a, reply) ∷ []) xs')
     × IsRecorded given a reply
 Talks old xs a late given made.Unfit new xs' =
@@ -95,13 +95,13 @@ Shares opening old claim job a late made.Event new claim' job' =
     × (claim' ≡ record claim { events = claim.events + 1 })
     × GoesOnBy job a reply job'
 Shares opening old claim job a late (made.Busy holder held) new claim' job' =
-    (served (state_of opening old.history) claim.job a late ≡ None) × Keeps (state_of opening old.history) claim.job a holder held
+    (served (state_of opening old.history) claim.job a late ≡ None) × KeepsBusy (state_of opening old.history) claim.job a holder held
     × (new ≡ old) × (claim' ≡ claim) × (job' ≡ job)
 Shares opening old claim job a late _ new claim' job' = ⊥
 
 -- what a job that asks is told, or isn't: by what is recorded, or by the system
-abbrev pub Tells : Shared → Recorded → Claimed → Running → Heeds → Bool → Option Reply → Made → Recorded → Claimed → Running → Heeds → Type 0
-Tells opening old claim job xs late given made new claim' job' xs' =
+abbrev pub JobIsTold : Shared → Recorded → Claimed → Running → Heeds → Bool → Option Reply → Made → Recorded → Claimed → Running → Heeds → Type 0
+JobIsTold opening old claim job xs late given made new claim' job' xs' =
     (a : Ask) × (job.run.pending ≡ Some a) × IsTimely late a
     × (((is_shared a ≡ false) × Talks job xs a late given made job' xs' × (new ≡ old) × (claim' ≡ claim))
     ⊎ ((is_shared a ≡ true) × Shares opening old claim job a late made new claim' job' × (xs' ≡ xs)))

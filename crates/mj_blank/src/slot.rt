@@ -2,7 +2,7 @@
 
 ghost use Rattle.std.specs.Prelude.{◌≡◌, ◌<◌, ◌++◌, ◌∷◌, [], ℕ, length, true, false, Some, IsSome, IfOk, IfErr, IfSome, OnErr, option_copied};
 ghost use Rattle.mj_ask.specs.Fits.{is_shared};
-ghost use Rattle.mj_ask.specs.Late.{is_over};
+ghost use Rattle.mj_ask.specs.Late.{is_timed_out};
 ghost use Rattle.mj_ask.specs.declared.ask.Ask as asks;
 ghost use Rattle.mj_jobs.specs.Rows.{IsLive};
 ghost use Rattle.mj_load.specs.Image.{routines_of};
@@ -11,16 +11,16 @@ ghost use Rattle.mj_sys.specs.History.{state_of};
 ghost use Rattle.mj_sys.specs.System.{history_limit};
 ghost use Rattle.mj_sys.specs.Told.{IsTurn};
 ghost use Rattle.mj_expect.specs.Heeds.{AreHeeds};
-ghost use Rattle.mj_core.specs.Gives.{IsRefused};
+ghost use Rattle.mj_core.specs.Gives.{IsStepRefused};
 ghost use Rattle.mj_core.specs.Ties.{IsMuted};
 ghost use Rattle.mj_blank.specs.Recorded.{IsOfDevice, IsHeard, is_early, is_rest};
-ghost use Rattle.mj_blank.specs.Ties.{IsPlaced, start_of, Steps, IsStill, Tells, Talks, Shares};
+ghost use Rattle.mj_blank.specs.Ties.{IsPlaced, start_of, Steps, IsStill, JobIsTold, Talks, Shares};
 
 use mj_ask::{Ask, Reply};
-use mj_core::jobvm::{Job, Turn};
 use mj_core::{FUEL, Made, Refusal};
 use mj_dev::Device;
 use mj_expect::Heeds;
+use mj_jobvm::{Job, Turn};
 use mj_load::Image;
 use mj_num::Num;
 use mj_sys::{Claim, Opening, Refused, Served, System};
@@ -54,8 +54,9 @@ pub fn step_slot<D: Device, O: Opening>(
     requires tied { IsPlaced image.now O.opening system.old slot.old }
     requires live { IsLive (state_of O.opening system.old.history).rows slot.old.claim.job }
     requires room { length system.old.history < history_limit }
-    ensures gives { IfOk result (λ made. Steps (routines_of image.now) O.opening late (option_copied given.entry) system.old slot.old made system.new slot.new) }
-    ensures refused { IfErr result (λ why. IsRefused (routines_of image.now) (start_of slot.old) slot.old.job.run.log late why) }
+    ensures gives { IfOk result
+        (λ made. Steps (routines_of image.now) O.opening late (option_copied given.entry) system.old slot.old made system.new slot.new) }
+    ensures refused { IfErr result (λ why. IsStepRefused (routines_of image.now) (start_of slot.old) slot.old.job.run.log late why) }
     ensures kept { OnErr result ((system.new ≡ system.old) × IsStill slot.old slot.new) }
     ensures tied { IsPlaced image.now O.opening system.new slot.new }
     ensures claim { (slot.new.claim.job ≡ slot.old.claim.job) × (slot.new.claim.start ≡ slot.old.claim.start) }
@@ -87,7 +88,8 @@ fn ask<D: Device, O: Opening>(
     requires asks { IsSome job.old.run.pending }
     requires turn { IsTurn O.opening system.old claim.old }
     requires room { length system.old.history < history_limit }
-    ensures ok { IfOk result (λ made. Tells O.opening system.old claim.old job.old heeds.old late (option_copied given.entry) made system.new claim.new job.new heeds.new) }
+    ensures ok { IfOk result
+        (λ made. JobIsTold O.opening system.old claim.old job.old heeds.old late (option_copied given.entry) made system.new claim.new job.new heeds.new) }
     ensures refused { IfErr result (λ why. IsMuted job.old late why) }
     ensures kept { OnErr result ((system.new ≡ system.old) × (claim.new ≡ claim.old) × (job.new ≡ job.old) × (heeds.new ≡ heeds.old)) }
 {
@@ -112,7 +114,8 @@ fn talk(
     given: Option<&Reply>,
 ) -> Result<Made, Refusal>
     requires asks { (a : asks.Ask) × (job.old.run.pending ≡ Some a) × (is_shared a ≡ false) }
-    ensures ok { IfOk result (λ made. (a : asks.Ask) × (job.old.run.pending ≡ Some a) × Talks job.old heeds.old a late (option_copied given.entry) made job.new heeds.new) }
+    ensures ok { IfOk result
+        (λ made. (a : asks.Ask) × (job.old.run.pending ≡ Some a) × Talks job.old heeds.old a late (option_copied given.entry) made job.new heeds.new) }
     ensures err { IfErr result (λ why. (why ≡ Refusal.Memory) × (job.new ≡ job.old) × (heeds.new ≡ heeds.old)) }
 {
     let Some(ask) = job.ask() else {
@@ -138,7 +141,8 @@ fn is_rest(ask: &Ask) -> bool
 // Tells a job this reply of a device, if it may be one.
 fn hear(job: &mut Job, heeds: &mut Heeds, late: bool, reply: &Reply) -> Result<Made, Refusal>
     requires asks { (a : asks.Ask) × (job.old.run.pending ≡ Some a) × (is_shared a ≡ false) × IsOfDevice a }
-    ensures ok { IfOk result (λ made. (a : asks.Ask) × (job.old.run.pending ≡ Some a) × Talks job.old heeds.old a late (Some reply.now) made job.new heeds.new) }
+    ensures ok { IfOk result
+        (λ made. (a : asks.Ask) × (job.old.run.pending ≡ Some a) × Talks job.old heeds.old a late (Some reply.now) made job.new heeds.new) }
     ensures err { IfErr result (λ why. (why ≡ Refusal.Memory) × (job.new ≡ job.old) × (heeds.new ≡ heeds.old)) }
 {
     let Some(ask) = job.ask() else {
@@ -199,14 +203,14 @@ fn is_early(ask: &Ask, late: bool, reply: &Reply) -> bool
     ensures { result ≡ is_early ask.now late reply.now }
 {
     match reply {
-        Reply::Late => !is_over(ask.timeout(), late),
+        Reply::Late => !is_timed_out(ask.timeout(), late),
         _ => false,
     }
 }
 
 // Whether a timeout is over: it is 0 or less, or the job was stepped late.
-fn is_over(timeout: Option<Num>, late: bool) -> bool
-    ensures { result ≡ is_over timeout late }
+fn is_timed_out(timeout: Option<Num>, late: bool) -> bool
+    ensures { result ≡ is_timed_out timeout late }
 {
     match timeout {
         None => false,

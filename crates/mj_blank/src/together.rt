@@ -5,30 +5,29 @@ ghost use Rattle.mj_ask.specs.declared.ask.Reply as replies;
 ghost use Rattle.mj_load.specs.Image.{routines_of};
 ghost use Rattle.mj_dev.specs.Shelves.{principal, left_of};
 ghost use Rattle.mj_jobs.specs.Rows.{Row, row_at, rows_limit, IsLive};
-ghost use Rattle.mj_core.specs.Jobs.{IsRunOf};
+ghost use Rattle.mj_jobvm.specs.Jobs.{IsRunOf};
 ghost use Rattle.mj_locktab.specs.Locks.{LocksApart};
 ghost use Rattle.mj_sys.specs.History.{state_of, log_of};
 ghost use Rattle.mj_sys.specs.Opening.{opening_of};
 ghost use Rattle.mj_sys.specs.Shared.{are_global};
 ghost use Rattle.mj_sys.specs.System.{Claimed, history_limit};
-ghost use Rattle.mj_events.specs.Woven.{woven};
+ghost use Rattle.mj_core.specs.Woven.{woven};
 ghost use Rattle.mj_core.specs.Gives.{Readies, GivesReady};
 ghost use Rattle.mj_core.specs.Runs.{IsRun, start_in, out_of};
 ghost use Rattle.mj_core.specs.Kept.{claim_of, shown_event};
-ghost use Rattle.mj_blank.specs.Gives.{Gives, Made as StepGives};
+ghost use Rattle.mj_blank.specs.Gives.{CoreStepGives, Made as StepGives};
 ghost use Rattle.mj_blank.specs.Kept.{AreKept, logs_of, turns_of, shown};
 ghost use Rattle.mj_blank.specs.Pools.{shelves_of};
 
 use crate::pools::{Blank, pool_of};
 use crate::slot::{Slot, step_slot};
 use mj_ask::{Ask, Reply, Start};
-use mj_core::jobvm::{Job, Turn};
-use mj_core::{FUEL, Made, Refusal, Seen, Step, Way, ended_by_halt};
+use mj_core::{FUEL, Happened, Made, Refusal, Seen, Step, Way, ended_by_halt};
 use mj_dev::Session;
-use mj_events::Happened;
 use mj_expect::Heeds;
 use mj_globs::Globals;
 use mj_jobs::ROWS_LIMIT;
+use mj_jobvm::{Job, Turn};
 use mj_load::Image;
 use mj_locktab::LockTable;
 use mj_sessions::output;
@@ -58,7 +57,7 @@ impl<O: Opening> Model for Core<O> {
     ghost use Rattle.std.specs.Prelude.{◌≡◌, length};
     ghost use Rattle.mj_ast.specs.contracts.routine.Routine as routine;
     ghost use Rattle.mj_pcode.specs.contracts.instr.Unit as unit;
-    ghost use Rattle.mj_events.specs.Woven.{woven};
+    ghost use Rattle.mj_core.specs.Woven.{woven};
     ghost use Rattle.mj_core.specs.Shown.{Shown};
     ghost use Rattle.mj_core.specs.Kept.{claim_of};
     ghost use Rattle.mj_blank.specs.Kept.{AreKept, logs_of, turns_of};
@@ -116,21 +115,21 @@ impl<O: Opening> Core<O> {
     /// Makes a step: the job goes on for at most 10,000 turns to its next ask, which is served, where it isn't one to a device. Where it isn't made, nothing
     /// is asked or told.
     pub fn step(&mut self, step: Step) -> Result<Seen, Refusal>
-        ensures { Gives O.opening self.old step None result self.new }
+        ensures { CoreStepGives O.opening self.old step None result self.new }
     {
         self.make(step, None)
     }
 
     /// Makes a step in which this reply is told where a device is asked. Any other ask is served.
     pub fn step_with(&mut self, step: Step, reply: &Reply) -> Result<Seen, Refusal>
-        ensures { Gives O.opening self.old step (Some reply.now) result self.new }
+        ensures { CoreStepGives O.opening self.old step (Some reply.now) result self.new }
     {
         self.make(step, Some(reply))
     }
 
     // Makes a step, for which a reply of a device is given or none.
     fn make(&mut self, step: Step, given: Option<&Reply>) -> Result<Seen, Refusal>
-        ensures { Gives O.opening self.old step (option_copied given.entry) result self.new }
+        ensures { CoreStepGives O.opening self.old step (option_copied given.entry) result self.new }
     {
         let Some(at) = self.place(step.job) else {
             return Err(Refusal::NoJob);
@@ -251,7 +250,9 @@ impl<O: Opening> Core<O> {
     pub fn job(&self, job: u32) -> Option<&Job>
         ensures none { IfNone result (log_of job self.now.history ≡ []) }
         ensures log { IfSome result (λ found. found.now.run.log ≡ log_of job self.now.history) }
-        ensures run { IfSome result (λ found. (row : Row) × (row_at (state_of O.opening self.now.history).rows job ≡ Some row) × IsRunOf self.now.image (start_in job row.start) found.now) }
+        ensures run { IfSome result
+            (λ found. (row : Row) × (row_at (state_of O.opening self.now.history).rows job ≡ Some row)
+            × IsRunOf self.now.image (start_in job row.start) found.now) }
     {
         match (job as usize).checked_sub(1) {
             None => None,
@@ -389,7 +390,8 @@ fn go<O: Opening>(
     ensures kept { (waiting : Option Claimed) → AreKept image.now O.opening system.old slots.old waiting order.old.items
         → AreKept image.now O.opening system.new slots.new waiting order.new.items }
     ensures made { (row : Row) → row_at (state_of O.opening (woven (logs_of slots.old) order.old.items)).rows (suc at) ≡ Some row
-        → StepGives O.opening (shown image.now slots.old order.old.items over.old 255) (suc at) row late (option_copied given.entry) result (shown image.now slots.new order.new.items over.new 255) }
+        → StepGives O.opening (shown image.now slots.old order.old.items over.old 255) (suc at) row late (option_copied given.entry) result
+        (shown image.now slots.new order.new.items over.new 255) }
 {
     ended_by_halt();
     let slot = &mut slots[at];
@@ -425,7 +427,8 @@ fn go_ready<O: Opening>(
     requires few { at < 255 }
     requires there { at < length slots.old }
     requires kept { (waiting : Option Claimed) × AreKept image.now O.opening system.now slots.old waiting order.now }
-    ensures kept { (waiting : Option Claimed) → AreKept image.now O.opening system.now slots.old waiting order.now → AreKept image.now O.opening system.now slots.new waiting order.now }
+    ensures kept { (waiting : Option Claimed) → AreKept image.now O.opening system.now slots.old waiting order.now
+        → AreKept image.now O.opening system.now slots.new waiting order.now }
     ensures readies { (over : List Bool) → (row : Row) → row_at (state_of O.opening (woven (logs_of slots.old) order.now)).rows (suc at) ≡ Some row
         → Readies O.opening (shown image.now slots.old order.now over 255) (suc at) row result (shown image.now slots.new order.now over 255) }
 {

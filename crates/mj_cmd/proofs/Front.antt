@@ -4,23 +4,23 @@ use Rattle.std.specs.Prelude.{cond, bytes_eq, replicate, is_some}
 use Rattle.std.specs.List.{list_any}
 use Rattle.std.proofs.lemmas.Bool.Decides.{nat_tests}
 use Rattle.mj_ast.specs.declared.sign.Sign.TheVariants.{Comma, Open, Close, Dot}
-use Rattle.mj_ast.specs.Syntax.{Step, Line}
+use Rattle.mj_ast.specs.Syntax.{LineCommand, Line}
 use Rattle.mj_ast.specs.Tokens.{Token, Word, Digits, Signed, Blank, Comment}
 use Rattle.mj_expr.specs.Machine.{Limits}
-use Rattle.mj_expr.specs.declared.stop.Stop.{Stop}
+use Rattle.mj_expr.specs.declared.stop.ParseError.{ParseError}
 use Rattle.mj_lex.specs.declared.token.Lexeme.{Lexeme}
 use Rattle.mj_lex.specs.Seen.{tokens_seen}
 use Rattle.mj_line.specs.Sentences.{Clause, Sentence}
 use Rattle.mj_line.specs.Machine.{Spot, Begin, Labelled, FormalsOpened, FormalWanted, FormalBehind, FormalsEnd, Indented, Behind, State, At, is_new, Go, Stuck, first, refused, run, turn}
 use Rattle.mj_line.proofs.Formals.{long_new}
-use Rattle.mj_line.proofs.Complete.{blanks_indent, NoDot, indented_same, name_run}
+use Rattle.mj_line.proofs.CompleteLines.{blanks_indent, NoDot, indented_same, name_run}
 use Rattle.mj_cmd.specs.Heads.{HasNoComma, HasNoOpen, HasNoClose, HasNoName, HasNoBlank, HasNoDot, HasOther, IsUnlabelled, IsHead}
-use Rattle.mj_cmd.specs.Reads.{Reads, AreWritten, IsWrittenLine}
+use Rattle.mj_cmd.specs.Reads.{ReadsTokens, AreWritten, IsWrittenLine}
 use Rattle.mj_cmd.proofs.Follow.{refuses_from}
 
 -- a reading from further on, where that is the same
-pub reads_behind : {X T : Type 0} (limited : Bool) (tree : X → T) (rest : X → List Lexeme) (r : Result X Stop) (m : Limits) (ls ms : List Lexeme) (s t : State) (holding : T → State) →
-    run m (tokens_seen ls) s ≡ run m (tokens_seen ms) t → Reads limited tree rest r m ms t holding → Reads limited tree rest r m ls s holding
+pub reads_behind : {X T : Type 0} (limited : Bool) (tree : X → T) (rest : X → List Lexeme) (r : Result X ParseError) (m : Limits) (ls ms : List Lexeme) (s t : State) (holding : T → State) →
+    run m (tokens_seen ls) s ≡ run m (tokens_seen ms) t → ReadsTokens limited tree rest r m ms t holding → ReadsTokens limited tree rest r m ls s holding
 reads_behind limited tree rest (Ok x) m ls ms s t holding e h = (h.0, h.1, e ∙ h.2)
 reads_behind limited tree rest (Err x) m ls ms s t holding e h = refuses_from limited x _ _ e h
 
@@ -60,7 +60,8 @@ unclosed m label [] h = refl
 unclosed m label (Signed Close ∷ ks) h = absurd h
 unclosed m label (k ∷ ks) h = refl
 
-long_stuck : (m : Limits) (label : List ℕ) (names : List (List ℕ)) (w : List ℕ) (ks : List Token) (b : Bool) → nat_le (length w) 31 ≡ b → (length w ≤ 31 → ⊥) → run m (Word w ∷ ks) (At (FormalWanted label names)) ≡ refused (Word w ∷ ks)
+long_stuck : (m : Limits) (label : List ℕ) (names : List (List ℕ)) (w : List ℕ) (ks : List Token) (b : Bool) → nat_le (length w) 31 ≡ b → (length w ≤ 31 → ⊥) →
+    run m (Word w ∷ ks) (At (FormalWanted label names)) ≡ refused (Word w ∷ ks)
 long_stuck m label names w ks true e h = absurd (h (grind (arith, nat_tests)))
 long_stuck m label names w ks false e h = ap (λ (b : Bool). turn m ks (Word w) (first (first (cond b (Go (At (FormalBehind label (names ++ w ∷ [])))) Stuck) Stuck) Stuck)) (long_new names w e)
 
@@ -70,7 +71,8 @@ unnamed m label names (Word w ∷ ks) h = long_stuck m label names w ks (nat_le 
 unnamed m label names (k ∷ ks) h = refl
 
 -- a name that stands there already
-pub named_stuck : (m : Limits) (label : List ℕ) (names : List (List ℕ)) (ks rest : List Token) (w : List ℕ) → ks ≡ Word w ∷ rest → list_any (bytes_eq w) names ≡ true → run m ks (At (FormalWanted label names)) ≡ refused ks
+pub named_stuck : (m : Limits) (label : List ℕ) (names : List (List ℕ)) (ks rest : List Token) (w : List ℕ) → ks ≡ Word w ∷ rest →
+    list_any (bytes_eq w) names ≡ true → run m ks (At (FormalWanted label names)) ≡ refused ks
 named_stuck m label names ks rest w e h =
     ap (λ (zs : List Token). run m zs (At (FormalWanted label names))) e
     ∙ ap (λ (b : Bool). turn m rest (Word w) (first (first (cond (cond b false (nat_le (length w) 31)) (Go (At (FormalBehind label (names ++ w ∷ [])))) Stuck) Stuck) Stuck)) h
@@ -79,16 +81,20 @@ named_stuck m label names ks rest w e h =
 new_is : (names : List (List ℕ)) (w : List ℕ) → list_any (bytes_eq w) names ≡ false → length w ≤ 31 → is_new names w ≡ true
 new_is names w e h = ap (λ (b : Bool). cond b false (nat_le (length w) 31)) e ∙ (let f : nat_le (length w) 31 ≡ true = grind (arith, nat_tests) in f)
 
-pub name_goes : (m : Limits) (label : List ℕ) (names : List (List ℕ)) (ks rest : List Token) (w t : List ℕ) → ks ≡ Word w ∷ rest → list_any (bytes_eq w) names ≡ false → length w ≤ 31 → t ≡ w → run m ks (At (FormalWanted label names)) ≡ run m rest (At (FormalBehind label (names ++ t ∷ [])))
+pub name_goes : (m : Limits) (label : List ℕ) (names : List (List ℕ)) (ks rest : List Token) (w t : List ℕ) → ks ≡ Word w ∷ rest →
+    list_any (bytes_eq w) names ≡ false → length w ≤ 31 → t ≡ w → run m ks (At (FormalWanted label names)) ≡
+    run m rest (At (FormalBehind label (names ++ t ∷ [])))
 name_goes m label names ks rest w t e f h i =
     ap (λ (zs : List Token). run m zs (At (FormalWanted label names))) e
     ∙ name_run m label names w rest (new_is names w f h)
     ∙ ap (λ (x : List ℕ). run m rest (At (FormalBehind label (names ++ x ∷ [])))) (sym i)
 
-pub comma_goes : (m : Limits) (label : List ℕ) (names : List (List ℕ)) (ks rest : List Token) → ks ≡ Signed Comma ∷ rest → run m ks (At (FormalBehind label names)) ≡ run m rest (At (FormalWanted label names))
+pub comma_goes : (m : Limits) (label : List ℕ) (names : List (List ℕ)) (ks rest : List Token) → ks ≡ Signed Comma ∷ rest →
+    run m ks (At (FormalBehind label names)) ≡ run m rest (At (FormalWanted label names))
 comma_goes m label names ks rest e = ap (λ (zs : List Token). run m zs (At (FormalBehind label names))) e
 
-pub close_goes : (m : Limits) (label : List ℕ) (names : List (List ℕ)) (ks rest : List Token) → ks ≡ Signed Close ∷ rest → run m ks (At (FormalBehind label names)) ≡ run m rest (At (FormalsEnd label names))
+pub close_goes : (m : Limits) (label : List ℕ) (names : List (List ℕ)) (ks rest : List Token) → ks ≡ Signed Close ∷ rest →
+    run m ks (At (FormalBehind label names)) ≡ run m rest (At (FormalsEnd label names))
 close_goes m label names ks rest e = ap (λ (zs : List Token). run m zs (At (FormalBehind label names))) e
 
 pub names_stuck : (m : Limits) (label : List ℕ) (names : List (List ℕ)) (ks : List Token) → HasNoComma ks → HasNoClose ks → run m ks (At (FormalBehind label names)) ≡ refused ks
@@ -174,11 +180,11 @@ head_stuck m p o ks (inr h) i j = ap (λ (x : Spot). run m ks (At x)) h.2 ∙ fo
 abbrev pub head_of : Option (List ℕ) → List (List ℕ) → ℕ → Sentence
 head_of label formals level = record { label = label; formals = formals; level = level; clauses = [] }
 
-pub line_written : (label : Option (List ℕ)) (formals : List (List ℕ)) (n d : ℕ) (cs : List Clause) (ss : List Step) → n ≡ d → AreWritten cs ss →
+pub line_written : (label : Option (List ℕ)) (formals : List (List ℕ)) (n d : ℕ) (cs : List Clause) (ss : List LineCommand) → n ≡ d → AreWritten cs ss →
     IsWrittenLine (record { label = label; formals = formals; level = n + 1; clauses = cs }) (record { label = label; formals = formals; level = d + 1; steps = ss })
 line_written label formals n d cs ss e h = (
   record { label = label; formals = formals; level = d + 1; steps = h.0 },
   ap (λ (x : ℕ). let y : Sentence = record { label = label; formals = formals; level = x + 1; clauses = cs } in y) e
       ∙ ap (λ (xs : List Clause). let y : Sentence = record { label = label; formals = formals; level = d + 1; clauses = xs } in y) h.1,
-  ap (λ (xs : List Step). let y : Line = record { label = label; formals = formals; level = d + 1; steps = xs } in y) h.2,
+  ap (λ (xs : List LineCommand). let y : Line = record { label = label; formals = formals; level = d + 1; steps = xs } in y) h.2,
 )

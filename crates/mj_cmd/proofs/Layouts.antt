@@ -3,8 +3,8 @@ use Rattle.std.proofs.Common.{◌≡◌, ℕ, ◌≤◌, arith, List, [], ◌∷
 use Rattle.std.specs.Prelude.{cond}
 use Rattle.std.proofs.lemmas.Bool.Decides.{nat_tests}
 use Rattle.mj_ast.specs.declared.sign.Sign.TheVariants.{Star, Hash, Colon, Exclamation, Question}
-use Rattle.mj_ast.specs.declared.routine.Mark.{Mark}
-use Rattle.mj_ast.specs.declared.routine.Mark.TheVariants.{NewLine, NewPage}
+use Rattle.mj_ast.specs.declared.routine.FormatMark.{FormatMark}
+use Rattle.mj_ast.specs.declared.routine.FormatMark.TheVariants.{NewLine, NewPage}
 use Rattle.mj_ast.specs.declared.routine.ReadMode.{ReadMode}
 use Rattle.mj_ast.specs.declared.routine.ReadMode.TheVariants.{Line, Byte}
 use Rattle.mj_ast.specs.declared.keyword.Verb.{Verb}
@@ -18,14 +18,16 @@ use Rattle.mj_lex.specs.Seen.{tokens_seen}
 use Rattle.mj_line.specs.Forms.{Sort, Names, Labels, Serials, Node, AVar, takes, wants, part_at, Talk, Writes, Reads, OutputWanted, OutputEnd, MarksEnd, ColumnWanted, CodeWanted, IntoWanted, IntoEnd, IntoTimed, DeviceWanted, DeviceEnd, DeviceColon, DeviceTimed, DeviceWaited, part_of}
 use Rattle.mj_line.specs.Sentences.{Sentence}
 use Rattle.mj_line.specs.Machine.{Args, At, args_rest, on_rested, run}
-use Rattle.mj_line.proofs.Tables.{part_taken, called_apart}
+use Rattle.mj_line.proofs.Entries.{part_taken, called_apart}
 use Rattle.mj_cmd.specs.Heads.{HasNoColon, HasNoMark, HasNoQuestion, HasNoQuoted, HasNoStar, StartsLayout, StartsQuestion}
 use Rattle.mj_cmd.specs.Parts.{MayBeColumn, MayBeInto, mark_sign, read_node, read_tokens}
 use Rattle.mj_cmd.proofs.Follow.{Untaken, Unended, Went, SignUntaken, went_token, untaken_by, no_sign, SameAt, went_same, name_neither, piece_neither}
 
 -- ---- marks
 
-marks_go : (talk : Talk) (m : Limits) (o : Sentence) (condition : Option Expr) (k : Verb) (done : List Part) (xs : List Mark) (ks : List Token) → run m (map (λ x. Signed (mark_sign x)) xs ++ ks) (At (Args o condition k done (MarksEnd talk))) ≡ run m ks (At (Args o condition k (done ++ map mark_part xs) (MarksEnd talk)))
+marks_go : (talk : Talk) (m : Limits) (o : Sentence) (condition : Option Expr) (k : Verb) (done : List Part) (xs : List FormatMark) (ks : List Token) →
+    run m (map (λ x. Signed (mark_sign x)) xs ++ ks) (At (Args o condition k done (MarksEnd talk))) ≡
+    run m ks (At (Args o condition k (done ++ map mark_part xs) (MarksEnd talk)))
 marks_go talk m o condition k done [] ks = ap (λ (ps : List Part). run m ks (At (Args o condition k ps (MarksEnd talk)))) (sym (append-nil done))
 marks_go talk m o condition k done (NewLine ∷ xs) ks =
     marks_go talk m o condition k (done ++ Put Exclamation ∷ []) xs ks
@@ -34,14 +36,16 @@ marks_go talk m o condition k done (NewPage ∷ xs) ks =
     marks_go talk m o condition k (done ++ Put Hash ∷ []) xs ks
     ∙ ap (λ (ps : List Part). run m ks (At (Args o condition k ps (MarksEnd talk)))) (append_assoc done (Put Hash ∷ []) (map mark_part xs))
 
-first_mark : (talk : Talk) (m : Limits) (o : Sentence) (condition : Option Expr) (k : Verb) (done : List Part) (x : Mark) (ks : List Token) → run m (Signed (mark_sign x) ∷ ks) (At (Args o condition k done (OutputWanted talk))) ≡ run m ks (At (Args o condition k (done ++ mark_part x ∷ []) (MarksEnd talk)))
+first_mark : (talk : Talk) (m : Limits) (o : Sentence) (condition : Option Expr) (k : Verb) (done : List Part) (x : FormatMark) (ks : List Token) →
+    run m (Signed (mark_sign x) ∷ ks) (At (Args o condition k done (OutputWanted talk))) ≡
+    run m ks (At (Args o condition k (done ++ mark_part x ∷ []) (MarksEnd talk)))
 first_mark Writes m o condition k done NewLine ks = refl
 first_mark Writes m o condition k done NewPage ks = refl
 first_mark Reads m o condition k done NewLine ks = refl
 first_mark Reads m o condition k done NewPage ks = refl
 
 -- a run of them
-pub went_marks : (limited : Bool) (talk : Talk) (m : Limits) (ls rest : List Lexeme) (x : Mark) (xs : List Mark) (o : Sentence) (condition : Option Expr) (k : Verb) (done : List Part) →
+pub went_marks : (limited : Bool) (talk : Talk) (m : Limits) (ls rest : List Lexeme) (x : FormatMark) (xs : List FormatMark) (o : Sentence) (condition : Option Expr) (k : Verb) (done : List Part) →
     tokens_seen ls ≡ map (λ y. Signed (mark_sign y)) (x ∷ xs) ++ tokens_seen rest → Went limited (map mark_part (x ∷ xs)) m ls (OutputWanted talk) rest (MarksEnd talk) o condition k done
 went_marks limited talk m ls rest x xs o condition k done e = (
   map mark_part (x ∷ xs),
@@ -55,15 +59,19 @@ went_marks limited talk m ls rest x xs o condition k done e = (
 -- behind marks and no column it is as behind an argument
 marks_same : (talk : Talk) (m : Limits) (ks : List Token) → HasNoMark ks → HasNoQuestion ks → SameAt m (MarksEnd talk) (OutputEnd talk) ks
 marks_same talk m [] h i o condition k done = refl
-marks_same talk m (Word w ∷ ks) h i o condition k done = name_neither m (MarksEnd talk) (OutputEnd talk) w ks o condition k done (nat_le (length w) 31) (on_rested (Some (args_rest o condition k done)) (Word w)) refl refl
-marks_same talk m (Called w ∷ ks) h i o condition k done = piece_neither m (MarksEnd talk) (OutputEnd talk) w ks o condition k done (part_of (Called w)) (on_rested (Some (args_rest o condition k done)) (Called w)) (called_apart (MarksEnd talk) (callee_of w) (nat_le (length w) 31) refl) (called_apart (OutputEnd talk) (callee_of w) (nat_le (length w) 31) refl)
+marks_same talk m (Word w ∷ ks) h i o condition k done = name_neither m (MarksEnd talk) (OutputEnd talk) w ks o condition k done (nat_le (length w) 31)
+    (on_rested (Some (args_rest o condition k done)) (Word w)) refl refl
+marks_same talk m (Called w ∷ ks) h i o condition k done = piece_neither m (MarksEnd talk) (OutputEnd talk) w ks o condition k done (part_of (Called w))
+    (on_rested (Some (args_rest o condition k done)) (Called w)) (called_apart (MarksEnd talk) (callee_of w) (nat_le (length w) 31) refl)
+    (called_apart (OutputEnd talk) (callee_of w) (nat_le (length w) 31) refl)
 marks_same talk m (Signed Exclamation ∷ ks) h i o condition k done = absurd h
 marks_same talk m (Signed Hash ∷ ks) h i o condition k done = absurd h
 marks_same talk m (Signed Question ∷ ks) h i o condition k done = absurd i
 marks_same talk m (Signed s ∷ ks) h i o condition k done = refl
 marks_same talk m (t ∷ ks) h i o condition k done = refl
 
-pub went_uncolumned : (limited : Bool) (talk : Talk) (m : Limits) (ls : List Lexeme) (o : Sentence) (condition : Option Expr) (k : Verb) (done : List Part) → HasNoMark (tokens_seen ls) → HasNoQuestion (tokens_seen ls) → Went limited [] m ls (MarksEnd talk) ls (OutputEnd talk) o condition k done
+pub went_uncolumned : (limited : Bool) (talk : Talk) (m : Limits) (ls : List Lexeme) (o : Sentence) (condition : Option Expr) (k : Verb) (done : List Part) →
+    HasNoMark (tokens_seen ls) → HasNoQuestion (tokens_seen ls) → Went limited [] m ls (MarksEnd talk) ls (OutputEnd talk) o condition k done
 went_uncolumned limited talk m ls o condition k done h i = went_same limited m (MarksEnd talk) (OutputEnd talk) ls o condition k done (marks_same talk m (tokens_seen ls) h i)
 
 no_question : (ks : List Token) → StartsQuestion ks → HasNoQuestion ks → ⊥
@@ -72,8 +80,10 @@ no_question (Signed Question ∷ ks) h i = i
 no_question (t ∷ ks) h i = h
 
 -- where a column may stand and none does
-pub went_no_column : (limited : Bool) (talk : Talk) (n : Node) (m : Limits) (ls : List Lexeme) (o : Sentence) (condition : Option Expr) (k : Verb) (done : List Part) → MayBeColumn talk n (tokens_seen ls) → HasNoQuestion (tokens_seen ls) → Went limited [] m ls n ls (OutputEnd talk) o condition k done
-went_no_column limited talk n m ls o condition k done (inl g) h = let P : Node → Type 0 = λ x. Went limited [] m ls x ls (OutputEnd talk) o condition k done in subst P (sym g.0) (went_uncolumned limited talk m ls o condition k done g.1 h)
+pub went_no_column : (limited : Bool) (talk : Talk) (n : Node) (m : Limits) (ls : List Lexeme) (o : Sentence) (condition : Option Expr) (k : Verb)
+    (done : List Part) → MayBeColumn talk n (tokens_seen ls) → HasNoQuestion (tokens_seen ls) → Went limited [] m ls n ls (OutputEnd talk) o condition k done
+went_no_column limited talk n m ls o condition k done (inl g) h = let P : Node → Type 0 = λ x. Went limited [] m ls x ls (OutputEnd talk) o condition k done in
+    subst P (sym g.0) (went_uncolumned limited talk m ls o condition k done g.1 h)
 went_no_column limited talk n m ls o condition k done (inr g) h = absurd (no_question (tokens_seen ls) g.1 h)
 
 -- a format begins with its marks, or with its column
@@ -86,12 +96,13 @@ column_alone (Signed s ∷ ks) h i = h
 column_alone (t ∷ ks) h i = h
 
 -- behind the marks of a format its column may stand
-abbrev pub WentMarks : Bool → Talk → Limits → List Lexeme → List Lexeme → List Mark → Type 0
+abbrev pub WentMarks : Bool → Talk → Limits → List Lexeme → List Lexeme → List FormatMark → Type 0
 WentMarks limited talk m ls rest xs =
     (n : Node) × MayBeColumn talk n (tokens_seen rest)
     × ((o : Sentence) → (condition : Option Expr) → (k : Verb) → (done : List Part) → Went limited (map mark_part xs) m ls (OutputWanted talk) rest n o condition k done)
 
-pub went_front : (limited : Bool) (talk : Talk) (m : Limits) (ls rest : List Lexeme) (xs : List Mark) → StartsLayout (tokens_seen ls) → tokens_seen ls ≡ map (λ y. Signed (mark_sign y)) xs ++ tokens_seen rest → HasNoMark (tokens_seen rest) → WentMarks limited talk m ls rest xs
+pub went_front : (limited : Bool) (talk : Talk) (m : Limits) (ls rest : List Lexeme) (xs : List FormatMark) → StartsLayout (tokens_seen ls) →
+    tokens_seen ls ≡ map (λ y. Signed (mark_sign y)) xs ++ tokens_seen rest → HasNoMark (tokens_seen rest) → WentMarks limited talk m ls rest xs
 went_front limited talk m ls rest [] h e i =
     let P : List Token → Type 0 = λ ks. StartsLayout ks in (
       OutputWanted talk,
@@ -160,7 +171,8 @@ read_untaken (Signed s ∷ ks) h i j l = refl
 read_untaken (t ∷ ks) h i j l = refl
 
 -- the variable, behind a `*` or at once
-pub into_untaken : (mode : ReadMode) (front ks : List Token) → front ≡ read_tokens mode ++ ks → MayBeInto mode ks → HasNoMark front → HasNoQuestion front → HasNoQuoted front → Untaken (read_node mode) ks
+pub into_untaken : (mode : ReadMode) (front ks : List Token) → front ≡ read_tokens mode ++ ks → MayBeInto mode ks → HasNoMark front → HasNoQuestion front →
+    HasNoQuoted front → Untaken (read_node mode) ks
 into_untaken Line front ks e h i j l =
     let P : List Token → Type 0 = λ zs. HasNoMark zs in
     let Q : List Token → Type 0 = λ zs. HasNoQuestion zs in
@@ -175,7 +187,8 @@ pub into_unended : (mode : ReadMode) (ks : List Token) → Unended (read_node mo
 into_unended Line ks = inl refl
 into_unended Byte ks = inl refl
 
-pub went_into : (limited : Bool) (m : Limits) (ls rest : List Lexeme) (mode : ReadMode) (o : Sentence) (condition : Option Expr) (k : Verb) (done : List Part) → tokens_seen ls ≡ read_tokens mode ++ tokens_seen rest → Went limited (read_mode_parts mode) m ls (OutputWanted Reads) rest (read_node mode) o condition k done
+pub went_into : (limited : Bool) (m : Limits) (ls rest : List Lexeme) (mode : ReadMode) (o : Sentence) (condition : Option Expr) (k : Verb) (done : List Part) →
+    tokens_seen ls ≡ read_tokens mode ++ tokens_seen rest → Went limited (read_mode_parts mode) m ls (OutputWanted Reads) rest (read_node mode) o condition k done
 went_into limited m ls rest Line o condition k done e = (
   [],
   λ l. refl,
@@ -185,22 +198,29 @@ went_into limited m ls rest Line o condition k done e = (
 went_into limited m ls rest Byte o condition k done e = went_token limited (Signed Star) (Put Star) m ls (OutputWanted Reads) rest IntoWanted o condition k done e refl refl
 
 -- a text in quotes
-pub went_prompt : (limited : Bool) (m : Limits) (ls rest : List Lexeme) (v : List ℕ) (o : Sentence) (condition : Option Expr) (k : Verb) (done : List Part) → tokens_seen ls ≡ Quoted v ∷ tokens_seen rest → length v ≤ 32767 → Went limited (Prompt v ∷ []) m ls (OutputWanted Reads) rest (OutputEnd Reads) o condition k done
+pub went_prompt : (limited : Bool) (m : Limits) (ls rest : List Lexeme) (v : List ℕ) (o : Sentence) (condition : Option Expr) (k : Verb) (done : List Part) →
+    tokens_seen ls ≡ Quoted v ∷ tokens_seen rest → length v ≤ 32767 →
+    Went limited (Prompt v ∷ []) m ls (OutputWanted Reads) rest (OutputEnd Reads) o condition k done
 went_prompt limited m ls rest v o condition k done e h =
-    went_token limited (Quoted v) (Prompt v) m ls (OutputWanted Reads) rest (OutputEnd Reads) o condition k done e (ap (λ (b : Bool). cond b (Some (Prompt v)) None) (let z : nat_le (length v) 32767 ≡ true = grind (arith, nat_tests) in z)) refl
+    went_token limited (Quoted v) (Prompt v) m ls (OutputWanted Reads) rest (OutputEnd Reads) o condition k done e
+    (ap (λ (b : Bool). cond b (Some (Prompt v)) None) (let z : nat_le (length v) 32767 ≡ true = grind (arith, nat_tests) in z)) refl
 
 pub into_timed_untaken : (ks : List Token) → Untaken IntoTimed ks
 into_timed_untaken ks = untaken_by IntoTimed ks refl (λ w. refl) refl (no_sign IntoTimed ks (λ s. refl))
 
 untimed_same : (m : Limits) (ks : List Token) → HasNoColon ks → SameAt m IntoEnd (OutputEnd Reads) ks
 untimed_same m [] i o condition k done = refl
-untimed_same m (Word w ∷ ks) i o condition k done = name_neither m IntoEnd (OutputEnd Reads) w ks o condition k done (nat_le (length w) 31) (on_rested (Some (args_rest o condition k done)) (Word w)) refl refl
-untimed_same m (Called w ∷ ks) i o condition k done = piece_neither m IntoEnd (OutputEnd Reads) w ks o condition k done (part_of (Called w)) (on_rested (Some (args_rest o condition k done)) (Called w)) (called_apart IntoEnd (callee_of w) (nat_le (length w) 31) refl) (called_apart (OutputEnd Reads) (callee_of w) (nat_le (length w) 31) refl)
+untimed_same m (Word w ∷ ks) i o condition k done = name_neither m IntoEnd (OutputEnd Reads) w ks o condition k done (nat_le (length w) 31)
+    (on_rested (Some (args_rest o condition k done)) (Word w)) refl refl
+untimed_same m (Called w ∷ ks) i o condition k done = piece_neither m IntoEnd (OutputEnd Reads) w ks o condition k done (part_of (Called w))
+    (on_rested (Some (args_rest o condition k done)) (Called w)) (called_apart IntoEnd (callee_of w) (nat_le (length w) 31) refl)
+    (called_apart (OutputEnd Reads) (callee_of w) (nat_le (length w) 31) refl)
 untimed_same m (Signed Colon ∷ ks) i o condition k done = absurd i
 untimed_same m (Signed s ∷ ks) i o condition k done = refl
 untimed_same m (t ∷ ks) i o condition k done = refl
 
-pub went_untimed : (limited : Bool) (m : Limits) (ls : List Lexeme) (o : Sentence) (condition : Option Expr) (k : Verb) (done : List Part) → HasNoColon (tokens_seen ls) → Went limited [] m ls IntoEnd ls (OutputEnd Reads) o condition k done
+pub went_untimed : (limited : Bool) (m : Limits) (ls : List Lexeme) (o : Sentence) (condition : Option Expr) (k : Verb) (done : List Part) →
+    HasNoColon (tokens_seen ls) → Went limited [] m ls IntoEnd ls (OutputEnd Reads) o condition k done
 went_untimed limited m ls o condition k done h = went_same limited m IntoEnd (OutputEnd Reads) ls o condition k done (untimed_same m (tokens_seen ls) h)
 
 -- ---- OPEN
@@ -222,11 +242,15 @@ device_colon_untaken ks h = untaken_by DeviceColon ks refl (λ w. refl) refl (co
 
 unwaited_same : (m : Limits) (ks : List Token) → HasNoColon ks → SameAt m DeviceEnd DeviceWaited ks
 unwaited_same m [] i o condition k done = refl
-unwaited_same m (Word w ∷ ks) i o condition k done = name_neither m DeviceEnd DeviceWaited w ks o condition k done (nat_le (length w) 31) (on_rested (Some (args_rest o condition k done)) (Word w)) refl refl
-unwaited_same m (Called w ∷ ks) i o condition k done = piece_neither m DeviceEnd DeviceWaited w ks o condition k done (part_of (Called w)) (on_rested (Some (args_rest o condition k done)) (Called w)) (called_apart DeviceEnd (callee_of w) (nat_le (length w) 31) refl) (called_apart DeviceWaited (callee_of w) (nat_le (length w) 31) refl)
+unwaited_same m (Word w ∷ ks) i o condition k done = name_neither m DeviceEnd DeviceWaited w ks o condition k done (nat_le (length w) 31)
+    (on_rested (Some (args_rest o condition k done)) (Word w)) refl refl
+unwaited_same m (Called w ∷ ks) i o condition k done = piece_neither m DeviceEnd DeviceWaited w ks o condition k done (part_of (Called w))
+    (on_rested (Some (args_rest o condition k done)) (Called w)) (called_apart DeviceEnd (callee_of w) (nat_le (length w) 31) refl)
+    (called_apart DeviceWaited (callee_of w) (nat_le (length w) 31) refl)
 unwaited_same m (Signed Colon ∷ ks) i o condition k done = absurd i
 unwaited_same m (Signed s ∷ ks) i o condition k done = refl
 unwaited_same m (t ∷ ks) i o condition k done = refl
 
-pub went_unwaited : (limited : Bool) (m : Limits) (ls : List Lexeme) (o : Sentence) (condition : Option Expr) (k : Verb) (done : List Part) → HasNoColon (tokens_seen ls) → Went limited [] m ls DeviceEnd ls DeviceWaited o condition k done
+pub went_unwaited : (limited : Bool) (m : Limits) (ls : List Lexeme) (o : Sentence) (condition : Option Expr) (k : Verb) (done : List Part) →
+    HasNoColon (tokens_seen ls) → Went limited [] m ls DeviceEnd ls DeviceWaited o condition k done
 went_unwaited limited m ls o condition k done h = went_same limited m DeviceEnd DeviceWaited ls o condition k done (unwaited_same m (tokens_seen ls) h)

@@ -1,5 +1,6 @@
 pub mod Said
 pub mod Follow
+pub mod FollowLines
 pub mod Locals
 pub mod Places
 pub mod Jumps

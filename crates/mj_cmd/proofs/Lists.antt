@@ -37,11 +37,14 @@ items_snoc is (x ∷ z ∷ xs) y ps qs h i = (
   items_snoc is (z ∷ xs) y h.1 qs h.4 i,
 )
 
-pub items_more : {X : Type 0} (is : List Part → X → Type 0) (old new : List X) (y : X) (ps qs : List Part) → new ≡ old ++ y ∷ [] → AreItems is ps old → is qs y → AreItems is (ps ++ (Put Comma ∷ qs)) new
+pub items_more : {X : Type 0} (is : List Part → X → Type 0) (old new : List X) (y : X) (ps qs : List Part) → new ≡ old ++ y ∷ [] → AreItems is ps old →
+    is qs y → AreItems is (ps ++ (Put Comma ∷ qs)) new
 items_more {X = X} is old new y ps qs e h i = let P : List X → Type 0 = λ xs. AreItems is (ps ++ (Put Comma ∷ qs)) xs in subst P (sym e) (items_snoc is old y ps qs h i)
 
 -- one more behind a comma
-pub more_items : {X : Type 0} (is : List Part → X → Type 0) (limited : Bool) (old new : List X) (y : X) (m : Limits) (ls : List Lexeme) (n : Node) (ms : List Lexeme) (behind : Node) (ns : List Lexeme) (more : Node) (rest : List Lexeme) (o : Sentence) (condition : Option Expr) (k : Verb) (done : List Part) →
+pub more_items : {X : Type 0} (is : List Part → X → Type 0) (limited : Bool) (old new : List X) (y : X) (m : Limits) (ls : List Lexeme) (n : Node)
+    (ms : List Lexeme) (behind : Node) (ns : List Lexeme) (more : Node) (rest : List Lexeme) (o : Sentence) (condition : Option Expr) (k : Verb)
+    (done : List Part) →
     new ≡ old ++ y ∷ [] → tokens_seen ms ≡ Signed Comma ∷ tokens_seen ns → takes behind (Put Comma) ≡ Some more →
     WentAs limited (λ ps. AreItems is ps old) m ls n ms behind o condition k done → ((d : List Part) → WentAs limited (λ ps. is ps y) m ns more rest behind o condition k d) →
     WentAs limited (λ ps. AreItems is ps new) m ls n rest behind o condition k done
@@ -71,7 +74,8 @@ hang_meant v [] ps e h = absurd h
 hang_meant v (x ∷ xs) ps e h = ap (meant HaltOrHang) (sym (items_parts expr_of value_parts (x ∷ xs) ps h)) ∙ ap (λ (w : Verb). meant w ps) (sym e)
 
 -- items as they may be written
-pub items_written : {X T : Type 0} (f : X → T) (parts : T → List Part) (plain : T → T) (xs : List X) (ps : List Part) → AreItems (λ qs x. IsWrittenAs parts plain qs (f x)) ps xs → AreWrittenAs parts plain ps (map f xs)
+pub items_written : {X T : Type 0} (f : X → T) (parts : T → List Part) (plain : T → T) (xs : List X) (ps : List Part) →
+    AreItems (λ qs x. IsWrittenAs parts plain qs (f x)) ps xs → AreWrittenAs parts plain ps (map f xs)
 items_written f parts plain [] ps h = absurd h
 items_written {T = T} f parts plain (x ∷ []) ps h = (h.0 ∷ [], h.1 ∙ sym (append-nil (parts h.0)), ap (λ (c : T). c ∷ []) h.2)
 items_written {T = T} f parts plain (x ∷ y ∷ xs) ps h = by (items_written f parts plain (y ∷ xs) h.1 h.4)
@@ -92,7 +96,8 @@ items_written {T = T} f parts plain (x ∷ y ∷ xs) ps h = by (items_written f 
 
 -- ---- where nothing goes on
 
-pub over_stuck : (m : Limits) (o : Sentence) (condition : Option Expr) (k : Verb) (done : List Part) (n : Node) (ks : List Token) → IsOver n → HasNoComma ks → HasOther ks → run m ks (At (Args o condition k done n)) ≡ refused ks
+pub over_stuck : (m : Limits) (o : Sentence) (condition : Option Expr) (k : Verb) (done : List Part) (n : Node) (ks : List Token) → IsOver n → HasNoComma ks →
+    HasOther ks → run m ks (At (Args o condition k done n)) ≡ refused ks
 over_stuck m o condition k done n ks v h u = here_stuck m o condition k done n ks v.shut.alone (comma_untaken n ks v.shut.unlabelled v.shut.unnamed v.shut.pieceless v.comma h) (inr u)
 
 neither_sign : (n : Node) (ks : List Token) → comma_or_close n → HasNoComma ks → HasNoClose ks → SignUntaken n ks
@@ -105,5 +110,7 @@ neither_sign n (Signed s ∷ ks) v h i = by s (v s) h i
     by s (inr (inr e)) y z = absurd (let P : Sign → Type 0 = λ x. HasNoClose (Signed x ∷ ks) in subst P e z)
 neither_sign n (t ∷ ks) v h i = tt
 
-pub unclosed_stuck : (m : Limits) (o : Sentence) (condition : Option Expr) (k : Verb) (done : List Part) (n : Node) (ks : List Token) → IsUnclosed n → HasNoComma ks → HasNoClose ks → run m ks (At (Args o condition k done n)) ≡ refused ks
-unclosed_stuck m o condition k done n ks v h i = here_stuck m o condition k done n ks v.shut.alone (untaken_by n ks v.shut.unlabelled v.shut.unnamed v.shut.pieceless (neither_sign n ks v.comma h i)) (inl v.open_yet)
+pub unclosed_stuck : (m : Limits) (o : Sentence) (condition : Option Expr) (k : Verb) (done : List Part) (n : Node) (ks : List Token) → IsUnclosed n →
+    HasNoComma ks → HasNoClose ks → run m ks (At (Args o condition k done n)) ≡ refused ks
+unclosed_stuck m o condition k done n ks v h i = here_stuck m o condition k done n ks v.shut.alone
+    (untaken_by n ks v.shut.unlabelled v.shut.unnamed v.shut.pieceless (neither_sign n ks v.comma h i)) (inl v.open_yet)

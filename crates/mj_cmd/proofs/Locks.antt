@@ -14,13 +14,15 @@ use Rattle.mj_lex.specs.Seen.{tokens_seen}
 use Rattle.mj_line.specs.Forms.{LockWanted, LockSigned, LockListed, LockNamed, LockTimed, LockEnd, AVar, part_of, takes, wants}
 use Rattle.mj_line.specs.Sentences.{Sentence}
 use Rattle.mj_line.specs.Machine.{At, Args, args_rest, on_rested, run}
-use Rattle.mj_line.proofs.Tables.{called_apart}
+use Rattle.mj_line.proofs.Entries.{called_apart}
 use Rattle.mj_cmd.specs.Heads.{HasNoOpen, HasNoPlus, HasNoMinus, HasNoColon}
 use Rattle.mj_cmd.specs.Parts.{MayBeNamed, lock_node, mode_tokens}
 use Rattle.mj_cmd.proofs.Follow.{Untaken, Unended, SignUntaken, SameAt, Went, went_same, went_token, untaken_by, no_sign, name_neither, piece_neither}
 
 -- the sign in front, if there is one
-pub went_mode : (limited : Bool) (m : Limits) (ls rest : List Lexeme) (mode : LockMode) (first : Bool) (o : Sentence) (condition : Option Expr) (k : Verb) (done : List Part) → tokens_seen ls ≡ mode_tokens mode ++ tokens_seen rest → Went limited (mode_parts mode) m ls (LockWanted first) rest (lock_node mode first) o condition k done
+pub went_mode : (limited : Bool) (m : Limits) (ls rest : List Lexeme) (mode : LockMode) (first : Bool) (o : Sentence) (condition : Option Expr) (k : Verb)
+    (done : List Part) → tokens_seen ls ≡ mode_tokens mode ++ tokens_seen rest →
+    Went limited (mode_parts mode) m ls (LockWanted first) rest (lock_node mode first) o condition k done
 went_mode limited m ls rest Whole first o condition k done e = (
   [],
   λ l. refl,
@@ -76,10 +78,13 @@ timed_untaken ks = untaken_by LockTimed ks refl (λ w. refl) refl (no_sign LockT
 untimed_same : (m : Limits) (ks : List Token) → HasNoColon ks → SameAt m LockNamed LockEnd ks
 untimed_same m [] i o condition k done = refl
 untimed_same m (Word w ∷ ks) i o condition k done = name_neither m LockNamed LockEnd w ks o condition k done (nat_le (length w) 31) (on_rested (Some (args_rest o condition k done)) (Word w)) refl refl
-untimed_same m (Called w ∷ ks) i o condition k done = piece_neither m LockNamed LockEnd w ks o condition k done (part_of (Called w)) (on_rested (Some (args_rest o condition k done)) (Called w)) (called_apart LockNamed (callee_of w) (nat_le (length w) 31) refl) (called_apart LockEnd (callee_of w) (nat_le (length w) 31) refl)
+untimed_same m (Called w ∷ ks) i o condition k done = piece_neither m LockNamed LockEnd w ks o condition k done (part_of (Called w))
+    (on_rested (Some (args_rest o condition k done)) (Called w)) (called_apart LockNamed (callee_of w) (nat_le (length w) 31) refl)
+    (called_apart LockEnd (callee_of w) (nat_le (length w) 31) refl)
 untimed_same m (Signed Colon ∷ ks) i o condition k done = absurd i
 untimed_same m (Signed s ∷ ks) i o condition k done = refl
 untimed_same m (t ∷ ks) i o condition k done = refl
 
-pub went_untimed : (limited : Bool) (m : Limits) (ls : List Lexeme) (o : Sentence) (condition : Option Expr) (k : Verb) (done : List Part) → HasNoColon (tokens_seen ls) → Went limited [] m ls LockNamed ls LockEnd o condition k done
+pub went_untimed : (limited : Bool) (m : Limits) (ls : List Lexeme) (o : Sentence) (condition : Option Expr) (k : Verb) (done : List Part) →
+    HasNoColon (tokens_seen ls) → Went limited [] m ls LockNamed ls LockEnd o condition k done
 went_untimed limited m ls o condition k done h = went_same limited m LockNamed LockEnd ls o condition k done (untimed_same m (tokens_seen ls) h)

@@ -16,17 +16,17 @@ use Rattle.mj_ast.specs.Tokens.{Token, Word, Called, Signed}
 use Rattle.mj_ast.specs.Expressions.{callee_of}
 use Rattle.mj_ast.specs.Commands.{Part, Put, Named, PieceCall, Text, with_commas, more_parts, destination_parts, name_parts}
 use Rattle.mj_expr.specs.Machine.{Limits}
-use Rattle.mj_expr.specs.declared.stop.Stop.{Stop}
+use Rattle.mj_expr.specs.declared.stop.ParseError.{ParseError}
 use Rattle.mj_lex.specs.declared.token.Lexeme.{Lexeme}
 use Rattle.mj_lex.specs.Seen.{tokens_seen}
 use Rattle.mj_line.specs.Forms.{Node, SetTarget, PieceOpens, PieceVariable, PieceComma, PieceText, PieceBehind, SetBehind, SetValue, KillWanted, NameWanted, NameBehind, MergeInto, MergeBehind, MergeFrom, KeptWanted, KeptBehind, RestoredWanted, RestoredBehind, part_of, part_at, sort_of, piece_part, takes, wants, ends}
 use Rattle.mj_line.specs.Sentences.{Sentence}
-use Rattle.mj_line.specs.Machine.{Args, At, behind, run, first}
-use Rattle.mj_line.proofs.Tables.{part_taken, word_apart, called_apart}
+use Rattle.mj_line.specs.Machine.{Args, At, run, first}
+use Rattle.mj_line.proofs.Entries.{part_taken, word_apart, called_apart}
 use Rattle.mj_cmd.specs.Heads.{HasNoComma, HasNoEquals, HasNoOpen, HasNoClose, HasNoPiece, HasNoName}
 use Rattle.mj_cmd.specs.Parts.{piece_node, opened_parts, NameList, Sparing, Keeping, Restoring, name_wanted, name_behind, name_end, NotListed}
 use Rattle.mj_cmd.specs.Lists.{comma_or}
-use Rattle.mj_cmd.specs.Reads.{Reads}
+use Rattle.mj_cmd.specs.Reads.{ReadsTokens}
 use Rattle.mj_cmd.proofs.Follow.{refuses_from, Untaken, token_run, Went, went_then, went_as, went_token, SignUntaken, untaken_by, no_sign, comma_untaken, commas_more, kept_untaken_word, went_word}
 
 piece_comma : (listed : Bool) → comma_or (PieceComma listed)
@@ -212,8 +212,10 @@ piece_closes listed zero h = absurd (omega arith)
 piece_closes listed (suc n) h = close_takes listed (2 - n)
 
 -- the expressions of `$PIECE` so far
-pub went_from : (limited : Bool) (old new : List kept.Expr) (x : kept.Expr) (m : Limits) (ls rest : List Lexeme) (listed : Bool) (o : Sentence) (condition : Option Expr) (k : Verb) (done : List Part) → old ≡ [] → new ≡ old ++ x ∷ [] →
-    Went limited (Put Comma ∷ Text 1 (expr_of x) ∷ []) m ls (PieceComma listed) rest (PieceBehind listed 2) o condition k done → Went limited (more_parts (exprs_of new)) m ls (PieceComma listed) rest (piece_node listed (length new)) o condition k done
+pub went_from : (limited : Bool) (old new : List kept.Expr) (x : kept.Expr) (m : Limits) (ls rest : List Lexeme) (listed : Bool) (o : Sentence)
+    (condition : Option Expr) (k : Verb) (done : List Part) → old ≡ [] → new ≡ old ++ x ∷ [] →
+    Went limited (Put Comma ∷ Text 1 (expr_of x) ∷ []) m ls (PieceComma listed) rest (PieceBehind listed 2) o condition k done →
+    Went limited (more_parts (exprs_of new)) m ls (PieceComma listed) rest (piece_node listed (length new)) o condition k done
 went_from limited old new x m ls rest listed o condition k done e h w =
     let P : List kept.Expr → Type 0 = λ es. Went limited (more_parts (exprs_of es)) m ls (PieceComma listed) rest (piece_node listed (length es)) o condition k done in
     subst P (sym (h ∙ ap (λ (zs : List kept.Expr). zs ++ x ∷ []) e)) w
@@ -222,17 +224,24 @@ node_more : (listed : Bool) (n : ℕ) → 1 ≤ n → piece_node listed (n + 1) 
 node_more listed n h = ap (piece_node listed) (let e : n + 1 ≡ suc n = omega arith in e)
 
 -- the place behind as many as were counted
-pub went_count : (limited : Bool) (ps : List Part) (m : Limits) (ls rest : List Lexeme) (listed : Bool) (n i : ℕ) (o : Sentence) (condition : Option Expr) (k : Verb) (done : List Part) → n ≡ i → Went limited ps m ls (PieceComma listed) rest (piece_node listed i) o condition k done → Went limited ps m ls (PieceComma listed) rest (piece_node listed n) o condition k done
-went_count limited ps m ls rest listed n i o condition k done e w = let P : ℕ → Type 0 = λ x. Went limited ps m ls (PieceComma listed) rest (piece_node listed x) o condition k done in subst P (sym e) w
+pub went_count : (limited : Bool) (ps : List Part) (m : Limits) (ls rest : List Lexeme) (listed : Bool) (n i : ℕ) (o : Sentence) (condition : Option Expr)
+    (k : Verb) (done : List Part) → n ≡ i → Went limited ps m ls (PieceComma listed) rest (piece_node listed i) o condition k done →
+    Went limited ps m ls (PieceComma listed) rest (piece_node listed n) o condition k done
+went_count limited ps m ls rest listed n i o condition k done e w = let P : ℕ → Type 0 =
+    λ x. Went limited ps m ls (PieceComma listed) rest (piece_node listed x) o condition k done in subst P (sym e) w
 
-pub went_more : (limited : Bool) (old new : List kept.Expr) (x : kept.Expr) (n : ℕ) (m : Limits) (ls mid rest : List Lexeme) (listed : Bool) (o : Sentence) (condition : Option Expr) (k : Verb) (done : List Part) → n ≡ length old → new ≡ old ++ x ∷ [] → 1 ≤ length old →
+pub went_more : (limited : Bool) (old new : List kept.Expr) (x : kept.Expr) (n : ℕ) (m : Limits) (ls mid rest : List Lexeme) (listed : Bool) (o : Sentence)
+    (condition : Option Expr) (k : Verb) (done : List Part) → n ≡ length old → new ≡ old ++ x ∷ [] → 1 ≤ length old →
     Went limited (more_parts (exprs_of old)) m ls (PieceComma listed) mid (piece_node listed (length old)) o condition k done →
     ((d : List Part) → Went limited (Put Comma ∷ Text 1 (expr_of x) ∷ []) m mid (piece_node listed n) rest (PieceBehind listed (2 - n)) o condition k d) →
     Went limited (more_parts (exprs_of new)) m ls (PieceComma listed) rest (piece_node listed (length new)) o condition k done
 went_more limited old new x n m ls mid rest listed o condition k done c h i w f =
-    let y = went_then limited (more_parts (exprs_of old)) (Put Comma ∷ Text 1 (expr_of x) ∷ []) m ls (PieceComma listed) mid (piece_node listed n) rest (PieceBehind listed (2 - n)) o condition k done (went_count limited (more_parts (exprs_of old)) m ls mid listed n (length old) o condition k done c w) f in
+    let y = went_then limited (more_parts (exprs_of old)) (Put Comma ∷ Text 1 (expr_of x) ∷
+    []) m ls (PieceComma listed) mid (piece_node listed n) rest (PieceBehind listed (2 - n)) o condition k done
+    (went_count limited (more_parts (exprs_of old)) m ls mid listed n (length old) o condition k done c w) f in
     let N : Node → Type 0 = λ z. Went limited (more_parts (exprs_of new)) m ls (PieceComma listed) rest z o condition k done in
-    let z = went_as limited (more_parts (exprs_of old) ++ (Put Comma ∷ Text 1 (expr_of x) ∷ [])) (more_parts (exprs_of new)) m ls (PieceComma listed) rest (PieceBehind listed (2 - n)) o condition k done (more_pushed old new x h) y in
+    let z = went_as limited (more_parts (exprs_of old) ++ (Put Comma ∷ Text 1 (expr_of x) ∷ [])) (more_parts (exprs_of new)) m ls (PieceComma listed) rest
+    (PieceBehind listed (2 - n)) o condition k done (more_pushed old new x h) y in
     subst N (sym (ap (piece_node listed) (ap (length {A = kept.Expr}) h ∙ length-append old (x ∷ []) ∙ ap (λ (j : ℕ). j + 1) (sym c)) ∙ node_more listed n (omega arith))) z
 
 pub first_length : (old new : List kept.Expr) (x : kept.Expr) → old ≡ [] → new ≡ old ++ x ∷ [] → (1 ≤ length new) × (length new ≤ 3)
@@ -242,10 +251,13 @@ pub more_length : (old new : List kept.Expr) (x : kept.Expr) (i : ℕ) → i ≡
 more_length old new x i c h l = let n = ap (length {A = kept.Expr}) h in let k = length-append old (x ∷ []) in (omega arith, omega arith)
 
 -- what stands behind the word of `$PIECE` is read with it
-pub piece_reads : {X : Type 0} (limited : Bool) (tree : X → Destination) (rest : X → List Lexeme) (r : Result X Stop) (m : Limits) (ls behind : List Lexeme) (word : List ℕ) (listed : Bool) (o : Sentence) (condition : Option Expr) (k : Verb) (done : List Part) → tokens_seen ls ≡ Called word ∷ tokens_seen behind → part_of (Called word) ≡ Some PieceCall →
+pub piece_reads : {X : Type 0} (limited : Bool) (tree : X → Destination) (rest : X →
+    List Lexeme) (r : Result X ParseError) (m : Limits) (ls behind : List Lexeme) (word : List ℕ) (listed : Bool) (o : Sentence) (condition : Option Expr) (k : Verb)
+    (done : List Part) → tokens_seen ls ≡ Called word ∷ tokens_seen behind → part_of (Called word) ≡ Some PieceCall →
     IfOk r (λ x. destination_parts (tree x) ≡ PieceCall ∷ opened_parts (tree x)) →
-    Reads limited (λ x. opened_parts (tree x)) rest r m behind (At (Args o condition k (done ++ PieceCall ∷ []) (PieceOpens listed))) (λ ps. At (Args o condition k ((done ++ PieceCall ∷ []) ++ ps) (SetBehind listed))) →
-    Reads limited (λ x. destination_parts (tree x)) rest r m ls (At (Args o condition k done (SetTarget listed))) (λ ps. At (Args o condition k (done ++ ps) (SetBehind listed)))
+    ReadsTokens limited (λ x. opened_parts (tree x)) rest r m behind (At (Args o condition k (done ++ PieceCall ∷ []) (PieceOpens listed)))
+    (λ ps. At (Args o condition k ((done ++ PieceCall ∷ []) ++ ps) (SetBehind listed))) →
+    ReadsTokens limited (λ x. destination_parts (tree x)) rest r m ls (At (Args o condition k done (SetTarget listed))) (λ ps. At (Args o condition k (done ++ ps) (SetBehind listed)))
 piece_reads limited tree rest (Ok x) m ls behind word listed o condition k done l p d h = (
   PieceCall ∷ h.0,
   λ e. ap (λ (zs : List Part). PieceCall ∷ zs) (h.1 e) ∙ sym d,
@@ -257,10 +269,12 @@ piece_reads limited tree rest (Err e) m ls behind word listed o condition k done
     refuses_from limited e _ _ (token_run m o condition k done (SetTarget listed) (PieceOpens listed) (Called word) PieceCall (tokens_seen ls) (tokens_seen behind) l p (piece_takes listed)) h
 
 -- a name
-pub went_name : (limited : Bool) (m : Limits) (ls rest : List Lexeme) (w t : List ℕ) (o : Sentence) (condition : Option Expr) (k : Verb) (done : List Part) → tokens_seen ls ≡ Word w ∷ tokens_seen rest → length w ≤ 31 → t ≡ w → Went limited (Named t ∷ []) m ls NameWanted rest NameBehind o condition k done
+pub went_name : (limited : Bool) (m : Limits) (ls rest : List Lexeme) (w t : List ℕ) (o : Sentence) (condition : Option Expr) (k : Verb) (done : List Part) →
+    tokens_seen ls ≡ Word w ∷ tokens_seen rest → length w ≤ 31 → t ≡ w → Went limited (Named t ∷ []) m ls NameWanted rest NameBehind o condition k done
 went_name limited m ls rest w t o condition k done l h e =
     went_as limited (Named w ∷ []) (Named t ∷ []) m ls NameWanted rest NameBehind o condition k done (ap (λ (z : List ℕ). Named z ∷ []) (sym e))
-    (went_token limited (Word w) (Named w) m ls NameWanted rest NameBehind o condition k done l (ap (λ (b : Bool). cond b (Some (Named w)) None) (let z : nat_le (length w) 31 ≡ true = grind (arith, nat_tests) in z)) refl)
+    (went_token limited (Word w) (Named w) m ls NameWanted rest NameBehind o condition k done l
+    (ap (λ (b : Bool). cond b (Some (Named w)) None) (let z : nat_le (length w) 31 ≡ true = grind (arith, nat_tests) in z)) refl)
 
 pub kept_word : (old new : List (List ℕ)) (x : List ℕ) → old ≡ [] → new ≡ old ++ x ∷ [] → name_parts x ≡ with_commas name_parts new
 kept_word old new x e h = ap (with_commas name_parts) (sym (h ∙ ap (λ (xs : List (List ℕ)). xs ++ x ∷ []) e))
@@ -268,7 +282,7 @@ kept_word old new x e h = ap (with_commas name_parts) (sym (h ∙ ap (λ (xs : L
 pub kept_words : (old new : List (List ℕ)) (x : List ℕ) → new ≡ old ++ x ∷ [] → 1 ≤ length old → with_commas name_parts old ++ (Put Comma ∷ Named x ∷ []) ≡ with_commas name_parts new
 kept_words old new x e h = sym (commas_more name_parts old x h) ∙ ap (with_commas name_parts) (sym e)
 
--- the same in each list of names
+-- a name in each list of names
 pub name_sign : (new : NameList) (z : Sign) → part_at (sort_of (name_behind new)) (Signed z) ≡ Some (Put z)
 name_sign Sparing z = refl
 name_sign Keeping z = refl
@@ -342,7 +356,9 @@ listed_names Sparing ks h i = names_untaken ks h i
 listed_names Keeping ks h i = untaken_by KeptBehind ks refl (λ w. refl) refl (kept_sign ks h i)
 listed_names Restoring ks h i = untaken_by RestoredBehind ks refl (λ w. refl) refl (restored_sign ks h i)
 
-pub went_listed : (new : NameList) (limited : Bool) (m : Limits) (ls rest : List Lexeme) (w t : List ℕ) (o : Sentence) (condition : Option Expr) (k : Verb) (done : List Part) → tokens_seen ls ≡ Word w ∷ tokens_seen rest → length w ≤ 31 → t ≡ w → Went limited (Named t ∷ []) m ls (name_wanted new) rest (name_behind new) o condition k done
+pub went_listed : (new : NameList) (limited : Bool) (m : Limits) (ls rest : List Lexeme) (w t : List ℕ) (o : Sentence) (condition : Option Expr) (k : Verb)
+    (done : List Part) → tokens_seen ls ≡ Word w ∷ tokens_seen rest → length w ≤ 31 → t ≡ w →
+    Went limited (Named t ∷ []) m ls (name_wanted new) rest (name_behind new) o condition k done
 went_listed Sparing limited m ls rest w t o condition k done l h e = went_name limited m ls rest w t o condition k done l h e
 went_listed Keeping limited m ls rest w t o condition k done l h e = went_word limited m KeptWanted KeptBehind ls rest w t o condition k done refl refl l h e
 went_listed Restoring limited m ls rest w t o condition k done l h e = went_word limited m RestoredWanted RestoredBehind ls rest w t o condition k done refl refl l h e

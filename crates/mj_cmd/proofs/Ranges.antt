@@ -8,13 +8,13 @@ use Rattle.mj_ast.specs.Expressions.{callee_of}
 use Rattle.mj_ast.specs.Commands.{Part, Put, Text, Control}
 use Rattle.mj_expr.specs.Machine.{Limits}
 use Rattle.mj_expr.specs.Machine as phrase
-use Rattle.mj_expr.specs.declared.stop.Stop.{Stop}
+use Rattle.mj_expr.specs.declared.stop.ParseError.{ParseError}
 use Rattle.mj_lex.specs.declared.token.Lexeme.{Lexeme}
 use Rattle.mj_lex.specs.Seen.{tokens_seen}
 use Rattle.mj_line.specs.Forms.{Node, ForWanted, ForBehind, RangeWanted, RangeEnd, StepWanted, StepEnd, LimitWanted, LimitEnd, AnExpr, ALocal, part_of, sort_of, takes, wants, ends}
 use Rattle.mj_line.specs.Sentences.{Sentence}
-use Rattle.mj_line.specs.Machine.{Args, Argument, At, In, args_rest, expression_wanted, variable_wanted, behind, on_rested, run}
-use Rattle.mj_line.proofs.Tables.{called_apart}
+use Rattle.mj_line.specs.Machine.{Args, Argument, At, In, args_rest, expression_wanted, variable_wanted, behind_phrase, on_rested, run}
+use Rattle.mj_line.proofs.Entries.{called_apart}
 use Rattle.mj_cmd.specs.Heads.{HasNoEquals, HasNoColon, HasNoCaret, HasOther}
 use Rattle.mj_cmd.specs.Reads.{Refuses}
 use Rattle.mj_cmd.proofs.Follow.{Untaken, SignUntaken, Went, SameAt, sign_at, enter_here, went_then, went_token, went_text, went_same, fails_then, fails_enter, untaken_by, no_sign, name_neither, piece_neither}
@@ -44,22 +44,33 @@ limit_untaken ks = untaken_by LimitWanted ks refl (λ w. refl) refl (no_sign Lim
 
 -- ---- the local
 
-pub went_local : (limited : Bool) (v : Variable) (m : Limits) (ls rest : List Lexeme) (o : Sentence) (condition : Option Expr) (k : Verb) (done : List Part) → HasNoCaret (tokens_seen ls) → HasOther (tokens_seen ls) →
-    (t : Variable) × (limited ≡ true → t ≡ v) × (run m (tokens_seen ls) (In (Argument o condition k done (ALocal ForBehind)) variable_wanted) ≡ run m (tokens_seen rest) (At (behind (Argument o condition k done (ALocal ForBehind)) (phrase.Target t)))) → Went limited (Control v ∷ []) m ls ForWanted rest ForBehind o condition k done
-went_local limited v m ls rest o condition k done c u h = (Control h.0 ∷ [], λ l. ap (λ (x : Variable). Control x ∷ []) (h.1 l), enter_here m o condition k done ForWanted (ALocal ForBehind) (tokens_seen ls) c refl (for_untaken (tokens_seen ls)) (inr u) ∙ h.2)
+pub went_local : (limited : Bool) (v : Variable) (m : Limits) (ls rest : List Lexeme) (o : Sentence) (condition : Option Expr) (k : Verb) (done : List Part) →
+    HasNoCaret (tokens_seen ls) → HasOther (tokens_seen ls) →
+    (t : Variable) × (limited ≡ true → t ≡ v) × (run m (tokens_seen ls) (In (Argument o condition k done (ALocal ForBehind)) variable_wanted) ≡
+    run m (tokens_seen rest) (At (behind_phrase (Argument o condition k done (ALocal ForBehind)) (phrase.Target t)))) →
+    Went limited (Control v ∷ []) m ls ForWanted rest ForBehind o condition k done
+went_local limited v m ls rest o condition k done c u h = (
+  Control h.0 ∷ [],
+  λ l. ap (λ (x : Variable). Control x ∷ []) (h.1 l),
+  enter_here m o condition k done ForWanted (ALocal ForBehind) (tokens_seen ls) c refl (for_untaken (tokens_seen ls)) (inr u) ∙ h.2,
+)
 
 -- ---- ranges
 
 -- an expression behind a colon
-pub went_colon_text : (limited : Bool) (e : Expr) (m : Limits) (ls : List Lexeme) (n : Node) (ms : List Lexeme) (w : Node) (rest : List Lexeme) (next : Node) (o : Sentence) (condition : Option Expr) (k : Verb) (done : List Part) →
+pub went_colon_text : (limited : Bool) (e : Expr) (m : Limits) (ls : List Lexeme) (n : Node) (ms : List Lexeme) (w : Node) (rest : List Lexeme) (next : Node)
+    (o : Sentence) (condition : Option Expr) (k : Verb) (done : List Part) →
     tokens_seen ls ≡ Signed Colon ∷ tokens_seen ms → takes n (Put Colon) ≡ Some w → wants w ≡ Some (AnExpr 0 next) → Untaken w (tokens_seen ms) → ends w ≡ false →
-    ((d : List Part) → (t : Expr) × (limited ≡ true → t ≡ e) × (run m (tokens_seen ms) (In (Argument o condition k d (AnExpr 0 next)) expression_wanted) ≡ run m (tokens_seen rest) (At (behind (Argument o condition k d (AnExpr 0 next)) (phrase.Whole t))))) →
+    ((d : List Part) → (t : Expr) × (limited ≡ true → t ≡ e) × (run m (tokens_seen ms) (In (Argument o condition k d (AnExpr 0 next)) expression_wanted) ≡
+    run m (tokens_seen rest) (At (behind_phrase (Argument o condition k d (AnExpr 0 next)) (phrase.Whole t))))) →
     Went limited (Put Colon ∷ Text 0 e ∷ []) m ls n rest next o condition k done
 went_colon_text limited e m ls n ms w rest next o condition k done l h i u z f =
-    went_then limited (Put Colon ∷ []) (Text 0 e ∷ []) m ls n ms w rest next o condition k done (went_token limited (Signed Colon) (Put Colon) m ls n ms w o condition k done l (sign_at (sort_of n) Colon) h)
+    went_then limited (Put Colon ∷ []) (Text 0 e ∷ []) m ls n ms w rest next o condition k done
+    (went_token limited (Signed Colon) (Put Colon) m ls n ms w o condition k done l (sign_at (sort_of n) Colon) h)
     (λ d. went_text limited 0 e m ms w rest next o condition k d i u (inl z) (f d))
 
-pub fails_colon_text : (limited : Bool) (e : Stop) (m : Limits) (ls : List Lexeme) (n : Node) (ms : List Lexeme) (w next : Node) (o : Sentence) (condition : Option Expr) (k : Verb) (done : List Part) →
+pub fails_colon_text : (limited : Bool) (e : ParseError) (m : Limits) (ls : List Lexeme) (n : Node) (ms : List Lexeme) (w next : Node) (o : Sentence)
+    (condition : Option Expr) (k : Verb) (done : List Part) →
     tokens_seen ls ≡ Signed Colon ∷ tokens_seen ms → takes n (Put Colon) ≡ Some w → wants w ≡ Some (AnExpr 0 next) → Untaken w (tokens_seen ms) → ends w ≡ false →
     ((d : List Part) → Refuses limited e (run m (tokens_seen ms) (In (Argument o condition k d (AnExpr 0 next)) expression_wanted))) →
     Refuses limited e (run m (tokens_seen ls) (At (Args o condition k done n)))
@@ -71,7 +82,9 @@ fails_colon_text limited e m ls n ms w next o condition k done l h i u z f =
 range_same : (m : Limits) (ks : List Token) → HasNoColon ks → SameAt m RangeEnd LimitEnd ks
 range_same m [] h o condition k done = refl
 range_same m (Word w ∷ ks) h o condition k done = name_neither m RangeEnd LimitEnd w ks o condition k done (nat_le (length w) 31) (on_rested (Some (args_rest o condition k done)) (Word w)) refl refl
-range_same m (Called w ∷ ks) h o condition k done = piece_neither m RangeEnd LimitEnd w ks o condition k done (part_of (Called w)) (on_rested (Some (args_rest o condition k done)) (Called w)) (called_apart RangeEnd (callee_of w) (nat_le (length w) 31) refl) (called_apart LimitEnd (callee_of w) (nat_le (length w) 31) refl)
+range_same m (Called w ∷ ks) h o condition k done = piece_neither m RangeEnd LimitEnd w ks o condition k done (part_of (Called w))
+    (on_rested (Some (args_rest o condition k done)) (Called w)) (called_apart RangeEnd (callee_of w) (nat_le (length w) 31) refl)
+    (called_apart LimitEnd (callee_of w) (nat_le (length w) 31) refl)
 range_same m (Signed Colon ∷ ks) h o condition k done = absurd h
 range_same m (Signed s ∷ ks) h o condition k done = refl
 range_same m (t ∷ ks) h o condition k done = refl
@@ -79,13 +92,17 @@ range_same m (t ∷ ks) h o condition k done = refl
 step_same : (m : Limits) (ks : List Token) → HasNoColon ks → SameAt m StepEnd LimitEnd ks
 step_same m [] h o condition k done = refl
 step_same m (Word w ∷ ks) h o condition k done = name_neither m StepEnd LimitEnd w ks o condition k done (nat_le (length w) 31) (on_rested (Some (args_rest o condition k done)) (Word w)) refl refl
-step_same m (Called w ∷ ks) h o condition k done = piece_neither m StepEnd LimitEnd w ks o condition k done (part_of (Called w)) (on_rested (Some (args_rest o condition k done)) (Called w)) (called_apart StepEnd (callee_of w) (nat_le (length w) 31) refl) (called_apart LimitEnd (callee_of w) (nat_le (length w) 31) refl)
+step_same m (Called w ∷ ks) h o condition k done = piece_neither m StepEnd LimitEnd w ks o condition k done (part_of (Called w))
+    (on_rested (Some (args_rest o condition k done)) (Called w)) (called_apart StepEnd (callee_of w) (nat_le (length w) 31) refl)
+    (called_apart LimitEnd (callee_of w) (nat_le (length w) 31) refl)
 step_same m (Signed Colon ∷ ks) h o condition k done = absurd h
 step_same m (Signed s ∷ ks) h o condition k done = refl
 step_same m (t ∷ ks) h o condition k done = refl
 
-pub went_unstepped : (limited : Bool) (m : Limits) (ls : List Lexeme) (o : Sentence) (condition : Option Expr) (k : Verb) (done : List Part) → HasNoColon (tokens_seen ls) → Went limited [] m ls RangeEnd ls LimitEnd o condition k done
+pub went_unstepped : (limited : Bool) (m : Limits) (ls : List Lexeme) (o : Sentence) (condition : Option Expr) (k : Verb) (done : List Part) →
+    HasNoColon (tokens_seen ls) → Went limited [] m ls RangeEnd ls LimitEnd o condition k done
 went_unstepped limited m ls o condition k done h = went_same limited m RangeEnd LimitEnd ls o condition k done (range_same m (tokens_seen ls) h)
 
-pub went_unlimited : (limited : Bool) (m : Limits) (ls : List Lexeme) (o : Sentence) (condition : Option Expr) (k : Verb) (done : List Part) → HasNoColon (tokens_seen ls) → Went limited [] m ls StepEnd ls LimitEnd o condition k done
+pub went_unlimited : (limited : Bool) (m : Limits) (ls : List Lexeme) (o : Sentence) (condition : Option Expr) (k : Verb) (done : List Part) →
+    HasNoColon (tokens_seen ls) → Went limited [] m ls StepEnd ls LimitEnd o condition k done
 went_unlimited limited m ls o condition k done h = went_same limited m StepEnd LimitEnd ls o condition k done (step_same m (tokens_seen ls) h)

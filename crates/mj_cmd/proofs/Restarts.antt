@@ -8,15 +8,15 @@ use Rattle.mj_ast.specs.Tokens.{Token, Word, Called, Signed}
 use Rattle.mj_ast.specs.Expressions.{callee_of}
 use Rattle.mj_ast.specs.Commands.{Part, Named, SerialWord, is_serial_word}
 use Rattle.mj_expr.specs.Machine.{Limits}
-use Rattle.mj_expr.specs.declared.stop.Stop.{Stop}
+use Rattle.mj_expr.specs.declared.stop.ParseError.{ParseError}
 use Rattle.mj_lex.specs.declared.token.Lexeme.{Lexeme}
 use Rattle.mj_lex.specs.Seen.{tokens_seen}
 use Rattle.mj_line.specs.Forms.{Node, RestartWanted, RestoredOpens, RestoredWanted, RestoredEnd, SerialWanted, SerialInside, SerialBehind, SerialEnd, part_of, part_at, Sort, Serials, sort_of, takes}
 use Rattle.mj_line.specs.Sentences.{Sentence}
 use Rattle.mj_line.specs.Machine.{At, Args, Stuck, args_rest, first, on_rested, taken, turn}
-use Rattle.mj_line.proofs.Tables.{part_taken, called_apart}
+use Rattle.mj_line.proofs.Entries.{part_taken, called_apart}
 use Rattle.mj_cmd.specs.Heads.{HasNoStar, HasNoOpen, HasNoClose, HasNoColon, HasNoName, HasNoSerial}
-use Rattle.mj_cmd.specs.Reads.{Reads}
+use Rattle.mj_cmd.specs.Reads.{ReadsTokens}
 use Rattle.mj_cmd.proofs.Follow.{refuses_from, Untaken, SignUntaken, SameAt, Went, went_same, went_token, untaken_by, no_sign, name_neither, piece_neither, kept_untaken_word}
 
 -- ---- which locals
@@ -32,22 +32,25 @@ restart_untaken (t ∷ ks) h i j = refl
 
 -- the first name of a list, or another
 word_same : (m : Limits) (w : List ℕ) (ks : List Token) (o : Sentence) (condition : Option Expr) (k : Verb) (done : List Part) (b : Bool) →
-    turn m ks (Word w) (first (first (taken o condition k done RestoredOpens (cond b (Some (Named w)) None)) Stuck) Stuck) ≡ turn m ks (Word w) (first (first (taken o condition k done RestoredWanted (cond b (Some (Named w)) None)) Stuck) Stuck)
+    turn m ks (Word w) (first (first (taken o condition k done RestoredOpens (cond b (Some (Named w)) None)) Stuck) Stuck) ≡
+    turn m ks (Word w) (first (first (taken o condition k done RestoredWanted (cond b (Some (Named w)) None)) Stuck) Stuck)
 word_same m w ks o condition k done true = refl
 word_same m w ks o condition k done false = refl
 
 pub first_same : (m : Limits) (ks : List Token) → HasNoClose ks → SameAt m RestoredOpens RestoredWanted ks
 first_same m [] i o condition k done = refl
 first_same m (Word w ∷ ks) i o condition k done = word_same m w ks o condition k done (nat_le (length w) 31)
-first_same m (Called w ∷ ks) i o condition k done = piece_neither m RestoredOpens RestoredWanted w ks o condition k done (part_of (Called w)) Stuck (called_apart RestoredOpens (callee_of w) (nat_le (length w) 31) refl) (called_apart RestoredWanted (callee_of w) (nat_le (length w) 31) refl)
+first_same m (Called w ∷ ks) i o condition k done = piece_neither m RestoredOpens RestoredWanted w ks o condition k done (part_of (Called w)) Stuck
+    (called_apart RestoredOpens (callee_of w) (nat_le (length w) 31) refl) (called_apart RestoredWanted (callee_of w) (nat_le (length w) 31) refl)
 first_same m (Signed Close ∷ ks) i o condition k done = absurd i
 first_same m (Signed s ∷ ks) i o condition k done = refl
 first_same m (t ∷ ks) i o condition k done = refl
 
 -- what is read from the one place on is read from the other
-pub reads_same : {X : Type 0} (limited : Bool) (tree : X → List Part) (rest : X → List Lexeme) (r : Result X Stop) (m : Limits) (n q next : Node) (ls : List Lexeme) (o : Sentence) (condition : Option Expr) (k : Verb) (done : List Part) →
-    SameAt m n q (tokens_seen ls) → Reads limited tree rest r m ls (At (Args o condition k done q)) (λ ps. At (Args o condition k (done ++ ps) next)) →
-    Reads limited tree rest r m ls (At (Args o condition k done n)) (λ ps. At (Args o condition k (done ++ ps) next))
+pub reads_same : {X : Type 0} (limited : Bool) (tree : X → List Part) (rest : X →
+    List Lexeme) (r : Result X ParseError) (m : Limits) (n q next : Node) (ls : List Lexeme) (o : Sentence) (condition : Option Expr) (k : Verb) (done : List Part) →
+    SameAt m n q (tokens_seen ls) → ReadsTokens limited tree rest r m ls (At (Args o condition k done q)) (λ ps. At (Args o condition k (done ++ ps) next)) →
+    ReadsTokens limited tree rest r m ls (At (Args o condition k done n)) (λ ps. At (Args o condition k (done ++ ps) next))
 reads_same limited tree rest (Ok x) m n q next ls o condition k done s h = (h.0, h.1, s o condition k done ∙ h.2)
 reads_same limited tree rest (Err e) m n q next ls o condition k done s h = refuses_from limited e _ _ (s o condition k done) h
 
@@ -85,7 +88,8 @@ pub end_untaken : (ks : List Token) → Untaken SerialEnd ks
 end_untaken ks = untaken_by SerialEnd ks refl (λ w. refl) refl (no_sign SerialEnd ks (λ s. refl))
 
 -- it is read where it is wanted
-pub went_serial : (limited : Bool) (m : Limits) (n next : Node) (ls rest : List Lexeme) (w : List ℕ) (o : Sentence) (condition : Option Expr) (k : Verb) (done : List Part) → sort_of n ≡ Serials → takes n SerialWord ≡ Some next → tokens_seen ls ≡ Word w ∷ tokens_seen rest → is_serial_word w ≡ true →
+pub went_serial : (limited : Bool) (m : Limits) (n next : Node) (ls rest : List Lexeme) (w : List ℕ) (o : Sentence) (condition : Option Expr) (k : Verb)
+    (done : List Part) → sort_of n ≡ Serials → takes n SerialWord ≡ Some next → tokens_seen ls ≡ Word w ∷ tokens_seen rest → is_serial_word w ≡ true →
     Went limited (SerialWord ∷ []) m ls n rest next o condition k done
 went_serial limited m n next ls rest w o condition k done z f l h =
     let P : Sort → Type 0 = λ b. part_at b (Word w) ≡ Some SerialWord in
@@ -94,11 +98,15 @@ went_serial limited m n next ls rest w o condition k done z f l h =
 -- where none follows
 unserial_same : (m : Limits) (ks : List Token) → HasNoColon ks → SameAt m RestoredEnd SerialEnd ks
 unserial_same m [] i o condition k done = refl
-unserial_same m (Word w ∷ ks) i o condition k done = name_neither m RestoredEnd SerialEnd w ks o condition k done (nat_le (length w) 31) (on_rested (Some (args_rest o condition k done)) (Word w)) refl refl
-unserial_same m (Called w ∷ ks) i o condition k done = piece_neither m RestoredEnd SerialEnd w ks o condition k done (part_of (Called w)) (on_rested (Some (args_rest o condition k done)) (Called w)) (called_apart RestoredEnd (callee_of w) (nat_le (length w) 31) refl) (called_apart SerialEnd (callee_of w) (nat_le (length w) 31) refl)
+unserial_same m (Word w ∷ ks) i o condition k done = name_neither m RestoredEnd SerialEnd w ks o condition k done (nat_le (length w) 31)
+    (on_rested (Some (args_rest o condition k done)) (Word w)) refl refl
+unserial_same m (Called w ∷ ks) i o condition k done = piece_neither m RestoredEnd SerialEnd w ks o condition k done (part_of (Called w))
+    (on_rested (Some (args_rest o condition k done)) (Called w)) (called_apart RestoredEnd (callee_of w) (nat_le (length w) 31) refl)
+    (called_apart SerialEnd (callee_of w) (nat_le (length w) 31) refl)
 unserial_same m (Signed Colon ∷ ks) i o condition k done = absurd i
 unserial_same m (Signed s ∷ ks) i o condition k done = refl
 unserial_same m (t ∷ ks) i o condition k done = refl
 
-pub went_unserial : (limited : Bool) (m : Limits) (ls : List Lexeme) (o : Sentence) (condition : Option Expr) (k : Verb) (done : List Part) → HasNoColon (tokens_seen ls) → Went limited [] m ls RestoredEnd ls SerialEnd o condition k done
+pub went_unserial : (limited : Bool) (m : Limits) (ls : List Lexeme) (o : Sentence) (condition : Option Expr) (k : Verb) (done : List Part) →
+    HasNoColon (tokens_seen ls) → Went limited [] m ls RestoredEnd ls SerialEnd o condition k done
 went_unserial limited m ls o condition k done h = went_same limited m RestoredEnd SerialEnd ls o condition k done (unserial_same m (tokens_seen ls) h)

@@ -1,5 +1,5 @@
 -- What stands in front of the tokens.
-use Rattle.std.specs.Prelude.{ℕ, ◌≡◌, ◌⊎◌, ◌≤◌, false, List, [], ◌∷◌, length, Option, Some, None}
+use Rattle.std.specs.Prelude.{ℕ, ◌≡◌, ◌⊎◌, ◌+◌, ◌<◌, ◌≤◌, Bool, true, false, List, [], ◌∷◌, length, Option, Some, None}
 use Rattle.mj_text.specs.declared.text.TheConstants.{TEXT_LIMIT}
 use Rattle.mj_ast.specs.Expressions.{name_limit}
 use Rattle.mj_ast.specs.Commands.{PieceCall, is_serial_word}
@@ -7,9 +7,11 @@ use Rattle.mj_line.specs.Forms.{part_of}
 use Rattle.mj_line.specs.Sentences.{Sentence}
 use Rattle.mj_line.specs.Machine.{Spot, Begin, Labelled, FormalsEnd, empty_line, headed}
 use Rattle.mj_ast.specs.declared.sign.Sign.TheVariants.{Plus, Minus, Star, Hash, Equals, Comma, Colon, Exclamation, Question, Caret, Open, Close, Dot}
-use Rattle.mj_ast.specs.Tokens.{Token, Word, Digits, Quoted, Signed, Blank, Comment}
+use Rattle.mj_ast.specs.Tokens.{Token, Word, Called, Digits, Quoted, Signed, Blank, Comment}
+use Rattle.mj_lex.specs.declared.token.Lexeme.{Lexeme}
+use Rattle.mj_lex.specs.Seen.{tokens_seen}
 
--- such a token doesn't
+-- no such token stands in front
 abbrev pub HasNoComma : List Token → Type 0
 HasNoComma (Signed Comma ∷ ks) = ⊥
 HasNoComma ks = Unit {0}
@@ -124,6 +126,42 @@ HasOther [] = ⊥
 HasOther (Blank ∷ ks) = ⊥
 HasOther (Comment text ∷ ks) = ⊥
 HasOther ks = Unit {0}
+
+-- an argument stands in front: it isn't the first, or something does
+abbrev pub HasArgument : Bool → List Token → Type 0
+HasArgument first ks = (first ≡ false) ⊎ HasOther ks
+
+-- ---- what stands in front of the tokens, with the rest behind it
+
+-- the token
+abbrev pub StartsWith : Token → List Lexeme → List Lexeme → Type 0
+StartsWith k ls rest = (tokens_seen ls ≡ k ∷ tokens_seen rest) × (length rest < length ls)
+
+-- the token, and the rest has one token fewer
+abbrev pub StepsOver : Token → List Lexeme → List Lexeme → Type 0
+StepsOver k ls rest = (tokens_seen ls ≡ k ∷ tokens_seen rest) × (length ls ≡ length rest + 1)
+
+-- a word of a length that a name may have
+abbrev pub StartsWithName : List ℕ → List Lexeme → List Lexeme → Type 0
+StartsWithName word ls rest = (tokens_seen ls ≡ Word word ∷ tokens_seen rest) × (length word ≤ name_limit) × (length rest < length ls)
+
+-- a label of a length that it may have
+abbrev pub StartsWithLabel : List ℕ → List Lexeme → List Lexeme → Type 0
+StartsWithLabel label ls rest = StartsLabel (tokens_seen ls) label (tokens_seen rest) × (length label ≤ TEXT_LIMIT) × (length rest < length ls)
+
+-- `$PIECE` with a `(` behind it
+abbrev pub StartsWithPiece : List Lexeme → List Lexeme → Type 0
+StartsWithPiece ls rest =
+    (word : List ℕ) × (tokens_seen ls ≡ Called word ∷ tokens_seen rest) × (part_of (Called word) ≡ Some PieceCall) × (length rest < length ls)
+
+-- a text in quotes, of a length that a text may have
+abbrev pub StartsWithQuoted : List ℕ → List Lexeme → List Lexeme → Type 0
+StartsWithQuoted value ls rest = (tokens_seen ls ≡ Quoted value ∷ tokens_seen rest) × (length value ≤ TEXT_LIMIT) × (length rest < length ls)
+
+-- the word that makes a transaction SERIAL
+abbrev pub StartsWithSerial : List Lexeme → List Lexeme → Type 0
+StartsWithSerial ls rest =
+    (word : List ℕ) × (tokens_seen ls ≡ Word word ∷ tokens_seen rest) × (is_serial_word word ≡ true) × (length rest < length ls)
 
 -- digits in front are no longer than a text
 abbrev pub IsLabelShort : List Token → Type 0

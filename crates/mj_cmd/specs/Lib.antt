@@ -1,4 +1,5 @@
 pub mod Reads
+pub mod Readers
 pub mod Heads
 pub mod Said
 pub mod Words

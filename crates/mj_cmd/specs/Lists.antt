@@ -12,6 +12,10 @@ AreItems is ps [] = ⊥
 AreItems is ps (x ∷ []) = is ps x
 AreItems is ps (x ∷ y ∷ xs) = (front : List Part) × (rest : List Part) × (ps ≡ front ++ Put Comma ∷ rest) × is front x × AreItems is rest (y ∷ xs)
 
+-- such items, and the `)` behind them
+abbrev pub AreEnclosed : {X : Type 0} → (List Part → X → Type 0) → List Part → List X → Type 0
+AreEnclosed is ps xs = (qs : List Part) × (ps ≡ qs ++ Put Close ∷ []) × AreItems is qs xs
+
 -- of all signs a comma alone is taken there
 abbrev pub comma_or : Node → Type 0
 comma_or n = (s : Sign) → (takes n (Put s) ≡ None) ⊎ (s ≡ Comma)

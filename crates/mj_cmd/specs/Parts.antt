@@ -2,15 +2,15 @@
 use Rattle.std.specs.Prelude.{◌≡◌, ◌⊎◌, ℕ, zero, suc, ◌-◌, Bool, true, false, List, [], ◌∷◌, ◌++◌}
 use Rattle.mj_ast.specs.declared.sign.Sign.{Sign}
 use Rattle.mj_ast.specs.declared.sign.Sign.TheVariants.{Plus, Minus, Star, Hash, Exclamation, Open, Close}
-use Rattle.mj_ast.specs.declared.routine.Mark.{Mark}
-use Rattle.mj_ast.specs.declared.routine.Mark.TheVariants.{NewLine, NewPage}
+use Rattle.mj_ast.specs.declared.routine.FormatMark.{FormatMark}
+use Rattle.mj_ast.specs.declared.routine.FormatMark.TheVariants.{NewLine, NewPage}
 use Rattle.mj_ast.specs.declared.routine.ReadMode.{ReadMode}
 use Rattle.mj_ast.specs.declared.routine.ReadMode.TheVariants.{Line, Byte}
 use Rattle.mj_ast.specs.Syntax.{Destination, Plain, Pieces}
 use Rattle.mj_ast.specs.Tokens.{Token, Signed}
 use Rattle.mj_ast.specs.declared.routine.LockMode.{LockMode}
 use Rattle.mj_ast.specs.declared.routine.LockMode.TheVariants.{Whole, Plus as Added, Minus as Taken}
-use Rattle.mj_ast.specs.Commands.{Part, Put, Place, more_parts}
+use Rattle.mj_ast.specs.Commands.{Part, Put, Place, more_parts, name_parts, with_commas}
 use Rattle.mj_line.specs.Forms.{Mode, Jumps, Talk, Reads, Node, OutputWanted, MarksEnd, IntoWanted, PieceComma, PieceBehind, NameWanted, NameBehind, KillEnd, KeptWanted, KeptBehind, NewEnd, RestoredWanted, RestoredBehind, RestoredEnd, RoutineEnd, ActualEnd, ActualsEnd, LockWanted, LockSigned}
 use Rattle.mj_cmd.specs.Heads.{HasNoOpen, HasNoPlus, HasNoMinus, HasNoMark, HasNoStar, HasOther, StartsQuestion}
 
@@ -50,6 +50,10 @@ name_end Restoring = RestoredEnd
 abbrev pub MayBeGuarded : Mode → Node → List Token → Type 0
 MayBeGuarded mode n ks = ((n ≡ RoutineEnd mode) × ((mode ≡ Jumps) ⊎ HasNoOpen ks)) ⊎ (n ≡ ActualsEnd mode)
 
+-- names with commas between them, and the `)` behind them
+abbrev pub enclosed_names : List (List ℕ) → List Part
+enclosed_names names = with_commas name_parts names ++ Put Close ∷ []
+
 -- behind actuals, by the place behind the last
 abbrev pub actuals_closed : Node → Node
 actuals_closed (ActualEnd mode) = ActualsEnd mode
@@ -85,7 +89,7 @@ MayBeInto Line ks = HasNoStar ks
 MayBeInto Byte ks = Unit {0}
 
 -- the sign of a format mark
-abbrev pub mark_sign : Mark → Sign
+abbrev pub mark_sign : FormatMark → Sign
 mark_sign NewLine = Exclamation
 mark_sign NewPage = Hash
 

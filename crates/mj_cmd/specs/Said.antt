@@ -4,8 +4,8 @@ use Rattle.mj_ast.specs.Syntax.{Line}
 use Rattle.mj_ast.specs.Tokens.{Token}
 use Rattle.mj_ast.specs.Expressions.{depth_limit, width_limit}
 use Rattle.mj_ast.specs.Lines.{SpellsLine, IsLineWithin, IsStuck, IsDeep, HasOverlong}
-use Rattle.mj_expr.specs.declared.stop.Stop.{Stop}
-use Rattle.mj_expr.specs.declared.stop.Stop.TheVariants as stop
+use Rattle.mj_expr.specs.declared.stop.ParseError.{ParseError}
+use Rattle.mj_expr.specs.declared.stop.ParseError.TheVariants as stop
 
 -- The tokens spell the line, within the limits, and no other line. No word and no list is over its limit.
 pub record IsRead (ks : List Token) (l : Line) : Type 0 where
@@ -29,14 +29,14 @@ pub record IsDeepWith (ks : List Token) (left : ℕ) : Type 0 where
   pub short : HasOverlong ks → ⊥
 
 -- What a refusal says of the line. Want of memory says nothing.
-abbrev pub IsRefused : List Token → Stop → Type 0
-IsRefused ks stop.Memory = Unit {0}
-IsRefused ks (stop.Stuck left) = IsStuckWith ks left
-IsRefused ks (stop.Deep left) = IsDeepWith ks left
-IsRefused ks stop.Long = HasOverlong ks
+abbrev pub RefusalSays : List Token → ParseError → Type 0
+RefusalSays ks stop.Memory = Unit {0}
+RefusalSays ks (stop.Stuck left) = IsStuckWith ks left
+RefusalSays ks (stop.Deep left) = IsDeepWith ks left
+RefusalSays ks stop.Long = HasOverlong ks
 
 -- what comes before a level too many
-abbrev pub IsLate : List Token → Stop → Type 0
+abbrev pub IsLate : List Token → ParseError → Type 0
 IsLate ks stop.Memory = Unit {0}
 IsLate ks (stop.Stuck left) = ⊥
 IsLate ks (stop.Deep left) = ⊥

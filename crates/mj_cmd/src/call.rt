@@ -1,32 +1,31 @@
 // The arguments of DO and JOB.
 
-ghost use Rattle.std.specs.Prelude.{◌≡◌, ◌⊎◌, ◌∷◌, ◌++◌, ◌≤◌, Bool, IfOk, Some, [], false, length, map, option_map, refl, true};
+ghost use Rattle.std.specs.Prelude.{◌≡◌, ◌∷◌, ◌++◌, ◌≤◌, IfOk, Some, false, length, map, option_map, refl, true};
 ghost use Rattle.mj_ast.specs.Commands.{Put, actual_parts, plain_actuals as the_plain, wait_parts};
 ghost use Rattle.mj_ast.specs.Trees.{called_of, expr_of, started_of};
 ghost use Rattle.mj_ast.specs.declared.sign.Sign.TheVariants.{Close};
-ghost use Rattle.mj_expr.specs.Machine.{Limits};
-ghost use Rattle.mj_lex.specs.Seen.{tokens_seen};
-ghost use Rattle.mj_line.specs.Forms.{ActualEnd, ActualWanted, ActualsEnd, Calls, EntryWanted, GuardEnd, Mode, Node, RoutineEnd, Starts, actuals_at};
-ghost use Rattle.mj_cmd.specs.Heads.{HasOther};
+ghost use Rattle.mj_line.specs.Forms.{ActualEnd, ActualWanted, Calls, EntryWanted, GuardEnd, Mode, Starts};
+ghost use Rattle.mj_cmd.specs.Heads.{HasOther, HasArgument};
 ghost use Rattle.mj_cmd.specs.Parts.{MayBeGuarded, actuals_closed};
-ghost use Rattle.mj_cmd.specs.Reads.{AreWrittenActuals, HasRoom, IsWrittenCall, IsWrittenStart, Passes, PassesAs};
+ghost use Rattle.mj_cmd.specs.Reads.{IsWrittenCall, IsWrittenStart};
+ghost use Rattle.mj_cmd.specs.Readers.{PassesActuals, PassesAsEach, PassesAsWhere, PassesEach, PassesWhere};
 
 use crate::control::{entry, guard};
 use crate::list::{Argument, Enclosed, Item, listed};
 use crate::parts::{behind_close, behind_colon, behind_comma, behind_open, stuck};
 use crate::phrase::Phrases;
 use mj_ast::{Called, Expr, Started};
-use mj_expr::Stop;
+use mj_expr::ParseError;
 use mj_lex::Lexeme;
 use std::alloc::Global;
 
-/// An actual, or none where it is left out.
+/// Reads an actual, or none where it is left out.
 fn actual<'a, 't>(
     phrases: Phrases,
     tokens: &'t [Lexeme<'a>],
-) -> Result<(Option<Expr>, &'t [Lexeme<'a>]), Stop>
+) -> Result<(Option<Expr>, &'t [Lexeme<'a>]), ParseError>
     ensures shorter { IfOk result (λ x. length x.1.now ≤ length tokens.now) }
-    ensures reads { (m : Limits) → HasRoom phrases.limited m tokens.now → (mode : Mode) → Passes phrases.limited (λ x. actual_parts (option_map expr_of x.0)) (λ x. x.1.now) result m tokens.now (ActualWanted mode) (ActualEnd mode) }
+    ensures reads { PassesEach phrases.limited (λ x. actual_parts (option_map expr_of x.0)) (λ x. x.1.now) result tokens.now ActualWanted ActualEnd }
 {
     match behind_comma(tokens) {
         Some(_) => Ok((None, tokens)),
@@ -56,7 +55,7 @@ impl Item for Option<Expr> {
     fn read<'a, 't>(
         phrases: Phrases,
         tokens: &'t [Lexeme<'a>],
-    ) -> Result<(Option<Expr>, &'t [Lexeme<'a>]), Stop> {
+    ) -> Result<(Option<Expr>, &'t [Lexeme<'a>]), ParseError> {
         actual(phrases, tokens)
     }
 
@@ -73,7 +72,7 @@ impl Enclosed for Option<Expr> {
     ghost unclosed = { actuals_unclosed };
 }
 
-/// The actuals that are meant: parentheses with nothing in them, which are written as one that is left out, have none.
+/// Gives the actuals that are meant: parentheses with nothing in them, which are written as one that is left out, have none.
 fn plain_actuals(alloc: Global, actuals: Vec<Option<Expr>>) -> Vec<Option<Expr>>
     ensures { map (option_map expr_of) result.items ≡ the_plain (map (option_map expr_of) actuals.items) }
 {
@@ -87,13 +86,13 @@ fn plain_actuals(alloc: Global, actuals: Vec<Option<Expr>>) -> Vec<Option<Expr>>
     actuals
 }
 
-/// The actuals behind an entry, if there are some.
+/// Reads the actuals behind an entry, if there are some.
 fn passed<'a, 't>(
     phrases: Phrases,
     tokens: &'t [Lexeme<'a>],
-) -> Result<(Vec<Option<Expr>>, &'t [Lexeme<'a>]), Stop>
+) -> Result<(Vec<Option<Expr>>, &'t [Lexeme<'a>]), ParseError>
     ensures shorter { IfOk result (λ x. length x.1.now ≤ length tokens.now) }
-    ensures reads { (m : Limits) → HasRoom phrases.limited m tokens.now → (mode : Mode) → actuals_at mode ≡ Some (ActualWanted mode) → PassesAs phrases.limited (λ ps x. AreWrittenActuals ps (map (option_map expr_of) x.0.items)) (λ x. x.1.now) result m tokens.now (RoutineEnd mode) (ActualsEnd mode) }
+    ensures reads { PassesActuals phrases.limited (λ x. map (option_map expr_of) x.0.items) (λ x. x.1.now) result tokens.now }
 {
     match behind_open(tokens) {
         None => Ok((Vec::new(phrases.alloc), tokens)),
@@ -104,13 +103,14 @@ fn passed<'a, 't>(
     }
 }
 
-/// An entry, its actuals and its condition.
+/// Reads an entry, its actuals and its condition.
 fn called<'a, 't>(
     phrases: Phrases,
     tokens: &'t [Lexeme<'a>],
-) -> Result<(Called, &'t [Lexeme<'a>]), Stop>
+) -> Result<(Called, &'t [Lexeme<'a>]), ParseError>
     ensures shorter { IfOk result (λ x. length x.1.now ≤ length tokens.now) }
-    ensures reads { (m : Limits) → HasRoom phrases.limited m tokens.now → (first : Bool) → (first ≡ false) ⊎ HasOther (tokens_seen tokens.now) → PassesAs phrases.limited (λ ps x. IsWrittenCall ps (called_of x.0)) (λ x. x.1.now) result m tokens.now (EntryWanted Calls first) (GuardEnd Calls) }
+    ensures reads { PassesAsWhere phrases.limited HasArgument (λ ps x. IsWrittenCall ps (called_of x.0)) (λ x. x.1.now) result tokens.now
+        (EntryWanted Calls) (λ _. GuardEnd Calls) }
 {
     let (target, rest) = entry(phrases, tokens)?;
     match passed(phrases, rest) {
@@ -124,13 +124,13 @@ fn called<'a, 't>(
                 rest,
             )),
             Err(stop) => {
-                drop(target);
-                drop(actuals);
+                drop(target); // for the proof
+                drop(actuals); // for the proof
                 Err(stop)
             }
         },
         Err(stop) => {
-            drop(target);
+            drop(target); // for the proof
             Err(stop)
         }
     }
@@ -150,7 +150,7 @@ impl Item for Called {
     fn read<'a, 't>(
         phrases: Phrases,
         tokens: &'t [Lexeme<'a>],
-    ) -> Result<(Called, &'t [Lexeme<'a>]), Stop> {
+    ) -> Result<(Called, &'t [Lexeme<'a>]), ParseError> {
         called(phrases, tokens)
     }
 
@@ -163,13 +163,14 @@ impl Argument for Called {
     ghost over = { λ _. guard_over Calls };
 }
 
-/// The timeout of a job that starts, behind two colons, if there is one.
+/// Reads the timeout of a job that starts, behind two colons, if there is one.
 fn wait<'a, 't>(
     phrases: Phrases,
     tokens: &'t [Lexeme<'a>],
-) -> Result<(Option<Expr>, &'t [Lexeme<'a>]), Stop>
+) -> Result<(Option<Expr>, &'t [Lexeme<'a>]), ParseError>
     ensures shorter { IfOk result (λ x. length x.1.now ≤ length tokens.now) }
-    ensures reads { (m : Limits) → HasRoom phrases.limited m tokens.now → (n : Node) → MayBeGuarded Starts n (tokens_seen tokens.now) → Passes phrases.limited (λ x. wait_parts (option_map expr_of x.0)) (λ x. x.1.now) result m tokens.now n (GuardEnd Starts) }
+    ensures reads { PassesWhere phrases.limited (MayBeGuarded Starts) (λ x. wait_parts (option_map expr_of x.0)) (λ x. x.1.now) result tokens.now
+        (λ n. n) (λ _. GuardEnd Starts) }
 {
     match behind_colon(tokens) {
         None => Ok((None, tokens)),
@@ -183,13 +184,14 @@ fn wait<'a, 't>(
     }
 }
 
-/// An entry, its actuals and its timeout.
+/// Reads an entry, its actuals and its timeout.
 fn started<'a, 't>(
     phrases: Phrases,
     tokens: &'t [Lexeme<'a>],
-) -> Result<(Started, &'t [Lexeme<'a>]), Stop>
+) -> Result<(Started, &'t [Lexeme<'a>]), ParseError>
     ensures shorter { IfOk result (λ x. length x.1.now ≤ length tokens.now) }
-    ensures reads { (m : Limits) → HasRoom phrases.limited m tokens.now → (first : Bool) → PassesAs phrases.limited (λ ps x. IsWrittenStart ps (started_of x.0)) (λ x. x.1.now) result m tokens.now (EntryWanted Starts first) (GuardEnd Starts) }
+    ensures reads { PassesAsEach phrases.limited (λ ps x. IsWrittenStart ps (started_of x.0)) (λ x. x.1.now) result tokens.now
+        (EntryWanted Starts) (λ _. GuardEnd Starts) }
 {
     let (target, rest) = entry(phrases, tokens)?;
     match passed(phrases, rest) {
@@ -203,13 +205,13 @@ fn started<'a, 't>(
                 rest,
             )),
             Err(stop) => {
-                drop(target);
-                drop(actuals);
+                drop(target); // for the proof
+                drop(actuals); // for the proof
                 Err(stop)
             }
         },
         Err(stop) => {
-            drop(target);
+            drop(target); // for the proof
             Err(stop)
         }
     }
@@ -229,7 +231,7 @@ impl Item for Started {
     fn read<'a, 't>(
         phrases: Phrases,
         tokens: &'t [Lexeme<'a>],
-    ) -> Result<(Started, &'t [Lexeme<'a>]), Stop> {
+    ) -> Result<(Started, &'t [Lexeme<'a>]), ParseError> {
         started(phrases, tokens)
     }
 

@@ -1,26 +1,24 @@
 // Commands, with their postconditions and their arguments.
 
-ghost use Rattle.std.specs.Prelude.{◌≡◌, ◌∷◌, ◌≤◌, Option, IfOk, [], length, option_map, true};
+ghost use Rattle.std.specs.Prelude.{◌≡◌, ◌∷◌, ◌≤◌, IfOk, [], length, option_map, true};
 ghost use Rattle.mj_ast.specs.Tokens.{Blank};
 ghost use Rattle.mj_line.specs.Forms.{may_be_bare as the_bare};
 ghost use Rattle.mj_ast.specs.Syntax as tree;
 ghost use Rattle.mj_ast.specs.declared.keyword.Verb.TheVariants.{Of};
 ghost use Rattle.mj_ast.specs.Commands.{bare_of, command_parts, keyword_for, plain, is_conditional as the_conditional};
 ghost use Rattle.mj_ast.specs.Trees.{expr_of, command_of, step_of};
-ghost use Rattle.mj_expr.specs.Machine.{Limits};
 ghost use Rattle.mj_lex.specs.Seen.{tokens_seen};
-ghost use Rattle.mj_line.specs.Sentences.{Sentence};
-ghost use Rattle.mj_line.specs.Machine.{At, Bare, Worded, Behind, args_rest, with_clause};
 ghost use Rattle.mj_cmd.specs.Heads.{HasOther, HasParted};
-ghost use Rattle.mj_cmd.specs.Reads.{HasRoom, IsMeant, IsWritten, IsWrittenStep, Reads, ReadsAs};
+ghost use Rattle.mj_cmd.specs.Reads.{IsMeant, IsWrittenStep, IsWrittenAfter};
+ghost use Rattle.mj_cmd.specs.Readers.{ReadsArguments, ReadsCondition, ReadsStep};
 
 use crate::list::arguments;
 use crate::parts::{behind_blank, behind_colon, parted, stuck};
 use crate::phrase::Phrases;
 use crate::repeat::repeated;
 use crate::restart::restartable;
-use mj_ast::{Command, Expr, Keyword, Step, Verb};
-use mj_expr::Stop;
+use mj_ast::{Command, Expr, Keyword, LineCommand, Verb};
+use mj_expr::ParseError;
 use mj_lex::Lexeme;
 use std::alloc::Global;
 
@@ -34,14 +32,14 @@ fn is_conditional(verb: Verb) -> bool
     }
 }
 
-/// A postcondition, if there is one.
+/// Reads a postcondition, if there is one.
 fn condition<'a, 't>(
     phrases: Phrases,
     verb: Verb,
     tokens: &'t [Lexeme<'a>],
-) -> Result<(Option<Expr>, &'t [Lexeme<'a>]), Stop>
+) -> Result<(Option<Expr>, &'t [Lexeme<'a>]), ParseError>
     ensures shorter { IfOk result (λ x. length x.1.now ≤ length tokens.now) }
-    ensures reads { (m : Limits) → HasRoom phrases.limited m tokens.now → (o : Sentence) → Reads phrases.limited (λ x. option_map expr_of x.0) (λ x. x.1.now) result m tokens.now (At (Worded o verb)) (λ c. At (Bare o c verb)) }
+    ensures reads { ReadsCondition phrases.limited (λ x. option_map expr_of x.0) (λ x. x.1.now) result verb tokens.now }
 {
     if !is_conditional(verb) {
         return Ok((None, tokens));
@@ -77,7 +75,7 @@ fn may_be_bare(verb: Verb) -> bool
     }
 }
 
-/// The command that the word is without arguments.
+/// Finds the command that the word is without arguments.
 fn bare_keyword(verb: Verb) -> Keyword
     ensures { result ≡ bare_of verb }
 {
@@ -87,7 +85,7 @@ fn bare_keyword(verb: Verb) -> Keyword
     }
 }
 
-/// The command without arguments.
+/// Makes the command without arguments.
 fn bare(alloc: Global, keyword: Keyword) -> Command
     ensures named { keyword_for (command_of result) ≡ keyword }
     ensures parts { command_parts (command_of result) ≡ [] }
@@ -121,19 +119,20 @@ fn bare(alloc: Global, keyword: Keyword) -> Command
     }
 }
 
-/// The command with its arguments, which stand behind a blank: `tokens` are those from the blank on, `behind` those behind it.
+/// Reads the command with its arguments, which stand behind a blank: `tokens` are those from the blank on, `behind` those
+/// behind it.
 fn with_own<'a, 't>(
     phrases: Phrases,
     keyword: Keyword,
     tokens: &'t [Lexeme<'a>],
     behind: &'t [Lexeme<'a>],
-) -> Result<(Command, &'t [Lexeme<'a>]), Stop>
+) -> Result<(Command, &'t [Lexeme<'a>]), ParseError>
     requires blank { tokens_seen tokens.now ≡ Blank ∷ tokens_seen behind.now }
     requires room { length behind.now ≤ length tokens.now }
     requires other { the_bare (Of keyword) ≡ true → HasOther (tokens_seen behind.now) }
     ensures shorter { IfOk result (λ x. length x.1.now ≤ length behind.now) }
     ensures parted { IfOk result (λ x. HasParted (tokens_seen x.1.now)) }
-    ensures reads { (m : Limits) → HasRoom phrases.limited m tokens.now → (o : Sentence) → (condition : Option tree.Expr) → ReadsAs phrases.limited (λ ps x. IsWritten ps (command_of x.0) × (keyword_for (command_of x.0) ≡ keyword)) (λ x. x.1.now) result m tokens.now (At (Bare o condition (Of keyword))) (λ ps. At (Behind (args_rest o condition (Of keyword) ps))) }
+    ensures reads { ReadsArguments phrases.limited (λ ps x. IsWrittenAfter keyword ps (command_of x.0)) (λ x. x.1.now) result (Of keyword) tokens.now }
 {
     match keyword {
         Keyword::Set => {
@@ -214,19 +213,19 @@ fn with_own<'a, 't>(
     }
 }
 
-/// The same behind a word.
+/// Reads the arguments behind a word, which may stand for one of two commands.
 fn with_arguments<'a, 't>(
     phrases: Phrases,
     verb: Verb,
     tokens: &'t [Lexeme<'a>],
     behind: &'t [Lexeme<'a>],
-) -> Result<(Command, &'t [Lexeme<'a>]), Stop>
+) -> Result<(Command, &'t [Lexeme<'a>]), ParseError>
     requires blank { tokens_seen tokens.now ≡ Blank ∷ tokens_seen behind.now }
     requires room { length behind.now ≤ length tokens.now }
     requires other { the_bare verb ≡ true → HasOther (tokens_seen behind.now) }
     ensures shorter { IfOk result (λ x. length x.1.now ≤ length behind.now) }
     ensures parted { IfOk result (λ x. HasParted (tokens_seen x.1.now)) }
-    ensures reads { (m : Limits) → HasRoom phrases.limited m tokens.now → (o : Sentence) → (condition : Option tree.Expr) → ReadsAs phrases.limited (λ ps x. IsMeant verb ps (command_of x.0)) (λ x. x.1.now) result m tokens.now (At (Bare o condition verb)) (λ ps. At (Behind (args_rest o condition verb ps))) }
+    ensures reads { ReadsArguments phrases.limited (λ ps x. IsMeant verb ps (command_of x.0)) (λ x. x.1.now) result verb tokens.now }
 {
     match verb {
         Verb::Of(keyword) => with_own(phrases, keyword, tokens, behind),
@@ -237,16 +236,16 @@ fn with_arguments<'a, 't>(
     }
 }
 
-/// The command behind its word and its postcondition: without arguments at the end, or at one blank and then a second one, a
-/// comment or the end; else with arguments behind a blank.
+/// Reads the command behind its word and its postcondition: without arguments at the end, or at one blank and then a second
+/// one, a comment or the end; else with arguments behind a blank.
 fn command<'a, 't>(
     phrases: Phrases,
     verb: Verb,
     tokens: &'t [Lexeme<'a>],
-) -> Result<(Command, &'t [Lexeme<'a>]), Stop>
+) -> Result<(Command, &'t [Lexeme<'a>]), ParseError>
     ensures shorter { IfOk result (λ x. length x.1.now ≤ length tokens.now) }
     ensures parted { IfOk result (λ x. HasParted (tokens_seen x.1.now)) }
-    ensures reads { (m : Limits) → HasRoom phrases.limited m tokens.now → (o : Sentence) → (condition : Option tree.Expr) → ReadsAs phrases.limited (λ ps x. IsMeant verb ps (command_of x.0)) (λ x. x.1.now) result m tokens.now (At (Bare o condition verb)) (λ ps. At (Behind (args_rest o condition verb ps))) }
+    ensures reads { ReadsArguments phrases.limited (λ ps x. IsMeant verb ps (command_of x.0)) (λ x. x.1.now) result verb tokens.now }
 {
     let may_end = may_be_bare(verb);
     match behind_blank(tokens) {
@@ -269,21 +268,21 @@ fn command<'a, 't>(
     }
 }
 
-/// A command behind its word, up to where it ends.
+/// Reads a command behind its word, up to where it ends.
 pub fn step<'a, 't>(
     phrases: Phrases,
     verb: Verb,
     tokens: &'t [Lexeme<'a>],
-) -> Result<(Step, &'t [Lexeme<'a>]), Stop>
+) -> Result<(LineCommand, &'t [Lexeme<'a>]), ParseError>
     ensures shorter { IfOk result (λ x. length x.1.now ≤ length tokens.now) }
     ensures parted { IfOk result (λ x. HasParted (tokens_seen x.1.now)) }
-    ensures reads { (m : Limits) → HasRoom phrases.limited m tokens.now → (o : Sentence) → ReadsAs phrases.limited (λ c x. IsWrittenStep c (step_of x.0)) (λ x. x.1.now) result m tokens.now (At (Worded o verb)) (λ c. At (Behind (record { line = with_clause o c; gap = 1; comment = 0 }))) }
+    ensures reads { ReadsStep phrases.limited (λ c x. IsWrittenStep c (step_of x.0)) (λ x. x.1.now) result verb tokens.now }
 {
     let (condition, rest) = condition(phrases, verb, tokens)?;
     match command(phrases, verb, rest) {
-        Ok((command, rest)) => Ok((Step { condition, command }, rest)),
+        Ok((command, rest)) => Ok((LineCommand { condition, command }, rest)),
         Err(stop) => {
-            drop(condition);
+            drop(condition); // for the proof
             Err(stop)
         }
     }

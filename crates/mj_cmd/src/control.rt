@@ -3,12 +3,9 @@
 ghost use Rattle.std.specs.Prelude.{◌≡◌, ◌⊎◌, ◌∷◌, ◌++◌, ◌≤◌, Bool, IfOk, [], false, length, option_map, refl, true};
 ghost use Rattle.mj_ast.specs.Commands.{Named, value_parts, guard_parts, jumped_parts, renewed_parts, target_parts};
 ghost use Rattle.mj_ast.specs.Trees.{expr_of, jumped_of, renewed_of, target_of};
-ghost use Rattle.mj_expr.specs.Machine.{Limits};
-ghost use Rattle.mj_lex.specs.Seen.{tokens_seen};
-ghost use Rattle.mj_line.specs.Forms.{EntryWanted, GuardEnd, GuardWanted, ValueEnd, ValueWanted, Jumps, colon_at, Mode, NewEnd, NewWanted, Node, RoutineEnd, RoutineWanted, ends};
-ghost use Rattle.mj_cmd.specs.Heads.{HasOther};
-ghost use Rattle.mj_cmd.specs.Parts.{MayBeGuarded};
-ghost use Rattle.mj_cmd.specs.Reads.{HasRoom, Passes};
+ghost use Rattle.mj_line.specs.Forms.{EntryWanted, GuardEnd, ValueEnd, ValueWanted, Jumps, NewEnd, NewWanted, RoutineEnd, RoutineWanted};
+ghost use Rattle.mj_cmd.specs.Heads.{HasOther, HasArgument};
+ghost use Rattle.mj_cmd.specs.Readers.{PassesEach, PassesEntry, PassesEverEach, PassesGuard, PassesWhere};
 
 use crate::kill::{names, word_text};
 use crate::list::{Argument, Item};
@@ -17,17 +14,17 @@ use crate::parts::{
 };
 use crate::phrase::Phrases;
 use mj_ast::{Expr, Jumped, Renewed, Target};
-use mj_expr::Stop;
+use mj_expr::ParseError;
 use mj_lex::Lexeme;
 use mj_text::Text;
 
-/// A condition of IF, or an argument of HANG.
+/// Reads a condition of IF, or an argument of HANG.
 fn value<'a, 't>(
     phrases: Phrases,
     tokens: &'t [Lexeme<'a>],
-) -> Result<(Expr, &'t [Lexeme<'a>]), Stop>
+) -> Result<(Expr, &'t [Lexeme<'a>]), ParseError>
     ensures shorter { IfOk result (λ x. length x.1.now ≤ length tokens.now) }
-    ensures reads { (m : Limits) → HasRoom phrases.limited m tokens.now → (first : Bool) → (first ≡ false) ⊎ HasOther (tokens_seen tokens.now) → Passes phrases.limited (λ x. value_parts (expr_of x.0)) (λ x. x.1.now) result m tokens.now (ValueWanted first) ValueEnd }
+    ensures reads { PassesWhere phrases.limited HasArgument (λ x. value_parts (expr_of x.0)) (λ x. x.1.now) result tokens.now ValueWanted (λ _. ValueEnd) }
 {
     let (value, rest) = phrases.expression(0, tokens)?;
     Ok((value, rest))
@@ -49,7 +46,7 @@ impl Item for Expr {
     fn read<'a, 't>(
         phrases: Phrases,
         tokens: &'t [Lexeme<'a>],
-    ) -> Result<(Expr, &'t [Lexeme<'a>]), Stop> {
+    ) -> Result<(Expr, &'t [Lexeme<'a>]), ParseError> {
         value(phrases, tokens)
     }
 
@@ -62,13 +59,13 @@ impl Argument for Expr {
     ghost over = { λ _. value_over };
 }
 
-/// A name, or names in parentheses.
+/// Reads a name, or names in parentheses.
 fn renewed<'a, 't>(
     phrases: Phrases,
     tokens: &'t [Lexeme<'a>],
-) -> Result<(Renewed, &'t [Lexeme<'a>]), Stop>
+) -> Result<(Renewed, &'t [Lexeme<'a>]), ParseError>
     ensures shorter { IfOk result (λ x. length x.1.now ≤ length tokens.now) }
-    ensures reads { (m : Limits) → HasRoom phrases.limited m tokens.now → (first : Bool) → (first ≡ false) ⊎ HasOther (tokens_seen tokens.now) → Passes phrases.limited (λ x. renewed_parts (renewed_of x.0)) (λ x. x.1.now) result m tokens.now (NewWanted first) NewEnd }
+    ensures reads { PassesWhere phrases.limited HasArgument (λ x. renewed_parts (renewed_of x.0)) (λ x. x.1.now) result tokens.now NewWanted (λ _. NewEnd) }
 {
     match behind_open(tokens) {
         None => match behind_name(tokens) {
@@ -99,7 +96,7 @@ impl Item for Renewed {
     fn read<'a, 't>(
         phrases: Phrases,
         tokens: &'t [Lexeme<'a>],
-    ) -> Result<(Renewed, &'t [Lexeme<'a>]), Stop> {
+    ) -> Result<(Renewed, &'t [Lexeme<'a>]), ParseError> {
         renewed(phrases, tokens)
     }
 
@@ -112,13 +109,13 @@ impl Argument for Renewed {
     ghost over = { λ _. new_over };
 }
 
-/// The name of a routine, behind a `^`.
+/// Reads the name of a routine, behind a `^`.
 fn routine<'a, 't>(
     phrases: Phrases,
     tokens: &'t [Lexeme<'a>],
-) -> Result<(Text, &'t [Lexeme<'a>]), Stop>
+) -> Result<(Text, &'t [Lexeme<'a>]), ParseError>
     ensures shorter { IfOk result (λ x. length x.1.now ≤ length tokens.now) }
-    ensures reads { (m : Limits) → (mode : Mode) → Passes phrases.limited (λ x. Named x.0 ∷ []) (λ x. x.1.now) result m tokens.now (RoutineWanted mode) (RoutineEnd mode) }
+    ensures reads { PassesEverEach phrases.limited (λ x. Named x.0 ∷ []) (λ x. x.1.now) result tokens.now RoutineWanted RoutineEnd }
 {
     match behind_name(tokens) {
         None => Err(stuck(tokens)),
@@ -129,13 +126,13 @@ fn routine<'a, 't>(
     }
 }
 
-/// A label, a routine behind a `^`, or both.
+/// Reads a label, a routine behind a `^`, or both.
 pub fn entry<'a, 't>(
     phrases: Phrases,
     tokens: &'t [Lexeme<'a>],
-) -> Result<(Target, &'t [Lexeme<'a>]), Stop>
+) -> Result<(Target, &'t [Lexeme<'a>]), ParseError>
     ensures shorter { IfOk result (λ x. length x.1.now ≤ length tokens.now) }
-    ensures reads { (m : Limits) → (mode : Mode) → (first : Bool) → (ends (EntryWanted mode first) ≡ false) ⊎ HasOther (tokens_seen tokens.now) → Passes phrases.limited (λ x. target_parts (target_of x.0)) (λ x. x.1.now) result m tokens.now (EntryWanted mode first) (RoutineEnd mode) }
+    ensures reads { PassesEntry phrases.limited (λ x. target_parts (target_of x.0)) (λ x. x.1.now) result tokens.now }
 {
     match behind_entry_label(tokens) {
         None => match behind_caret(tokens) {
@@ -172,13 +169,13 @@ pub fn entry<'a, 't>(
     }
 }
 
-/// The condition of an argument of DO or GOTO, if there is one.
+/// Reads the condition of an argument of DO or GOTO, if there is one.
 pub fn guard<'a, 't>(
     phrases: Phrases,
     tokens: &'t [Lexeme<'a>],
-) -> Result<(Option<Expr>, &'t [Lexeme<'a>]), Stop>
+) -> Result<(Option<Expr>, &'t [Lexeme<'a>]), ParseError>
     ensures shorter { IfOk result (λ x. length x.1.now ≤ length tokens.now) }
-    ensures reads { (m : Limits) → HasRoom phrases.limited m tokens.now → (mode : Mode) → colon_at mode ≡ GuardWanted mode → (n : Node) → MayBeGuarded mode n (tokens_seen tokens.now) → Passes phrases.limited (λ x. guard_parts (option_map expr_of x.0)) (λ x. x.1.now) result m tokens.now n (GuardEnd mode) }
+    ensures reads { PassesGuard phrases.limited (λ x. guard_parts (option_map expr_of x.0)) (λ x. x.1.now) result tokens.now }
 {
     match behind_colon(tokens) {
         None => Ok((None, tokens)),
@@ -189,13 +186,13 @@ pub fn guard<'a, 't>(
     }
 }
 
-/// An entry, and its condition.
+/// Reads an entry, and its condition.
 fn jump<'a, 't>(
     phrases: Phrases,
     tokens: &'t [Lexeme<'a>],
-) -> Result<(Jumped, &'t [Lexeme<'a>]), Stop>
+) -> Result<(Jumped, &'t [Lexeme<'a>]), ParseError>
     ensures shorter { IfOk result (λ x. length x.1.now ≤ length tokens.now) }
-    ensures reads { (m : Limits) → HasRoom phrases.limited m tokens.now → (first : Bool) → Passes phrases.limited (λ x. jumped_parts (jumped_of x.0)) (λ x. x.1.now) result m tokens.now (EntryWanted Jumps first) (GuardEnd Jumps) }
+    ensures reads { PassesEach phrases.limited (λ x. jumped_parts (jumped_of x.0)) (λ x. x.1.now) result tokens.now (EntryWanted Jumps) (λ _. GuardEnd Jumps) }
 {
     let (target, rest) = entry(phrases, tokens)?;
     let (condition, rest) = guard(phrases, rest)?;
@@ -216,7 +213,7 @@ impl Item for Jumped {
     fn read<'a, 't>(
         phrases: Phrases,
         tokens: &'t [Lexeme<'a>],
-    ) -> Result<(Jumped, &'t [Lexeme<'a>]), Stop> {
+    ) -> Result<(Jumped, &'t [Lexeme<'a>]), ParseError> {
         jump(phrases, tokens)
     }
 

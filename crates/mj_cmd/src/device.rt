@@ -3,24 +3,23 @@
 ghost use Rattle.std.specs.Prelude.{◌≡◌, ◌≤◌, IfOk, length, option_map, refl};
 ghost use Rattle.mj_ast.specs.Commands.{opened_parts, wait_parts};
 ghost use Rattle.mj_ast.specs.Trees.{expr_of, opened_of};
-ghost use Rattle.mj_expr.specs.Machine.{Limits};
 ghost use Rattle.mj_line.specs.Forms.{DeviceEnd, DeviceWaited, DeviceWanted};
-ghost use Rattle.mj_cmd.specs.Reads.{HasRoom, Passes};
+ghost use Rattle.mj_cmd.specs.Readers.{PassesIn};
 
 use crate::list::{Argument, Item};
 use crate::parts::{behind_colon, stuck};
 use crate::phrase::Phrases;
 use mj_ast::{Expr, Opened};
-use mj_expr::Stop;
+use mj_expr::ParseError;
 use mj_lex::Lexeme;
 
-/// The timeout behind two colons, if there is one.
+/// Reads the timeout behind two colons, if there is one.
 fn wait<'a, 't>(
     phrases: Phrases,
     tokens: &'t [Lexeme<'a>],
-) -> Result<(Option<Expr>, &'t [Lexeme<'a>]), Stop>
+) -> Result<(Option<Expr>, &'t [Lexeme<'a>]), ParseError>
     ensures shorter { IfOk result (λ x. length x.1.now ≤ length tokens.now) }
-    ensures reads { (m : Limits) → HasRoom phrases.limited m tokens.now → Passes phrases.limited (λ x. wait_parts (option_map expr_of x.0)) (λ x. x.1.now) result m tokens.now DeviceEnd DeviceWaited }
+    ensures reads { PassesIn phrases.limited (λ x. wait_parts (option_map expr_of x.0)) (λ x. x.1.now) result tokens.now DeviceEnd DeviceWaited }
 {
     match behind_colon(tokens) {
         None => Ok((None, tokens)),
@@ -34,19 +33,19 @@ fn wait<'a, 't>(
     }
 }
 
-/// A device and its timeout.
+/// Reads a device and its timeout.
 fn opened<'a, 't>(
     phrases: Phrases,
     tokens: &'t [Lexeme<'a>],
-) -> Result<(Opened, &'t [Lexeme<'a>]), Stop>
+) -> Result<(Opened, &'t [Lexeme<'a>]), ParseError>
     ensures shorter { IfOk result (λ x. length x.1.now ≤ length tokens.now) }
-    ensures reads { (m : Limits) → HasRoom phrases.limited m tokens.now → Passes phrases.limited (λ x. opened_parts (opened_of x.0)) (λ x. x.1.now) result m tokens.now DeviceWanted DeviceWaited }
+    ensures reads { PassesIn phrases.limited (λ x. opened_parts (opened_of x.0)) (λ x. x.1.now) result tokens.now DeviceWanted DeviceWaited }
 {
     let (device, rest) = phrases.expression(0, tokens)?;
     match wait(phrases, rest) {
         Ok((timeout, rest)) => Ok((Opened { device, timeout }, rest)),
         Err(stop) => {
-            drop(device);
+            drop(device); // for the proof
             Err(stop)
         }
     }
@@ -66,7 +65,7 @@ impl Item for Opened {
     fn read<'a, 't>(
         phrases: Phrases,
         tokens: &'t [Lexeme<'a>],
-    ) -> Result<(Opened, &'t [Lexeme<'a>]), Stop> {
+    ) -> Result<(Opened, &'t [Lexeme<'a>]), ParseError> {
         opened(phrases, tokens)
     }
 

@@ -1,15 +1,14 @@
 // Formals, behind the label of a line.
 
-ghost use Rattle.std.specs.Prelude.{◌∷◌, ◌++◌, ◌≡◌, ◌≤◌, Bool, IfOk, List, [], bytes_eq, length, ℕ};
+ghost use Rattle.std.specs.Prelude.{◌∷◌, ◌++◌, ◌≡◌, ◌≤◌, IfOk, [], bytes_eq, length};
 ghost use Rattle.std.specs.List.{list_any};
-ghost use Rattle.mj_expr.specs.Machine.{Limits};
 ghost use Rattle.mj_lex.specs.Seen.{tokens_seen};
-ghost use Rattle.mj_line.specs.Machine.{At, FormalBehind, FormalWanted, FormalsEnd, FormalsOpened, Labelled};
-ghost use Rattle.mj_cmd.specs.Reads.{Reads};
+ghost use Rattle.mj_line.specs.Machine.{FormalBehind, FormalWanted, FormalsEnd, FormalsOpened, Labelled};
+ghost use Rattle.mj_cmd.specs.Readers.{ReadsFormals};
 
 use crate::kill::word_text;
 use crate::parts::{behind_close, behind_comma, behind_name, behind_open, stuck};
-use mj_expr::{Stop, added};
+use mj_expr::{ParseError, added};
 use mj_lex::Lexeme;
 use mj_text::{Digits, Text};
 use std::alloc::Global;
@@ -23,14 +22,14 @@ fn is_among(names: &[Text], name: &[u8]) -> bool
         .any(|other| name == other.bytes(&mut Digits::new()))
 }
 
-/// A name that isn't one of these, and what follows it.
+/// Reads a name that isn't one of these, and what follows it.
 fn formal<'a, 't>(
     alloc: Global,
     names: &[Text],
     tokens: &'t [Lexeme<'a>],
-) -> Result<(Text, &'t [Lexeme<'a>]), Stop>
+) -> Result<(Text, &'t [Lexeme<'a>]), ParseError>
     ensures shorter { IfOk result (λ x. length x.1.now ≤ length tokens.now) }
-    ensures reads { (m : Limits) → (limited : Bool) → (label : List ℕ) → Reads limited (λ x. names.now ++ x.0 ∷ []) (λ x. x.1.now) result m tokens.now (At (FormalWanted label names.now)) (λ ns. At (FormalBehind label ns)) }
+    ensures reads { ReadsFormals (λ x. names.now ++ x.0 ∷ []) (λ x. x.1.now) result tokens.now (λ l. FormalWanted l names.now) FormalBehind }
 {
     match behind_name(tokens) {
         None => Err(stuck(tokens)),
@@ -44,13 +43,13 @@ fn formal<'a, 't>(
     }
 }
 
-/// The names behind a `(`, with commas between them, or none, and what follows the `)`.
+/// Reads the names behind a `(`, with commas between them, or none, and what follows the `)`.
 fn names<'a, 't>(
     alloc: Global,
     tokens: &'t [Lexeme<'a>],
-) -> Result<(Vec<Text>, &'t [Lexeme<'a>]), Stop>
+) -> Result<(Vec<Text>, &'t [Lexeme<'a>]), ParseError>
     ensures shorter { IfOk result (λ x. length x.1.now ≤ length tokens.now) }
-    ensures reads { (m : Limits) → (limited : Bool) → (label : List ℕ) → Reads limited (λ x. x.0.items) (λ x. x.1.now) result m tokens.now (At (FormalsOpened label)) (λ ns. At (FormalsEnd label ns)) }
+    ensures reads { ReadsFormals (λ x. x.0.items) (λ x. x.1.now) result tokens.now FormalsOpened FormalsEnd }
 {
     let mut names = Vec::new(alloc);
     match behind_close(tokens) {
@@ -71,13 +70,14 @@ fn names<'a, 't>(
     }
 }
 
-/// The formals directly behind a label, and what follows them. Parentheses with nothing in them have none, as no parentheses.
+/// Reads the formals directly behind a label, and what follows them. Parentheses with nothing in them have none, as no
+/// parentheses.
 pub fn formals<'a, 't>(
     alloc: Global,
     tokens: &'t [Lexeme<'a>],
-) -> Result<(Vec<Text>, &'t [Lexeme<'a>]), Stop>
+) -> Result<(Vec<Text>, &'t [Lexeme<'a>]), ParseError>
     ensures shorter { IfOk result (λ x. length x.1.now ≤ length tokens.now) }
-    ensures reads { (m : Limits) → (limited : Bool) → (label : List ℕ) → Reads limited (λ x. x.0.items) (λ x. x.1.now) result m tokens.now (At (Labelled label)) (λ ns. At (FormalsEnd label ns)) }
+    ensures reads { ReadsFormals (λ x. x.0.items) (λ x. x.1.now) result tokens.now Labelled FormalsEnd }
 {
     match behind_open(tokens) {
         None => Ok((Vec::new(alloc), tokens)),

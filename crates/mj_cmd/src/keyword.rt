@@ -21,7 +21,7 @@ pub fn is_serial(word: &[u8]) -> bool
     is_spelled(word, b"SERIAL") || is_spelled(word, b"S")
 }
 
-/// What a word is, or the abbreviation of one, in any case.
+/// Finds what a word is, or the abbreviation of one, in any case.
 pub fn verb_of(word: &[u8]) -> Option<Verb>
     ensures { result ≡ verb_of word.now }
 {
@@ -49,7 +49,7 @@ pub fn verb_of(word: &[u8]) -> Option<Verb>
     verb_from_kill(word)
 }
 
-// The same of the words of the table from KILL on.
+// Finds a word among those of the table from KILL on.
 fn verb_from_kill(word: &[u8]) -> Option<Verb>
     ensures { result ≡ looked_up (map capital word.now) (drop 11 command_words) }
 {
@@ -71,7 +71,7 @@ fn verb_from_kill(word: &[u8]) -> Option<Verb>
     verb_from_do(word)
 }
 
-// The same of those from DO on.
+// Finds a word among those from DO on.
 fn verb_from_do(word: &[u8]) -> Option<Verb>
     ensures { result ≡ looked_up (map capital word.now) (drop 21 command_words) }
 {
@@ -96,7 +96,7 @@ fn verb_from_do(word: &[u8]) -> Option<Verb>
     verb_from_close(word)
 }
 
-// The same of those from CLOSE on.
+// Finds a word among those from CLOSE on.
 fn verb_from_close(word: &[u8]) -> Option<Verb>
     ensures { result ≡ looked_up (map capital word.now) (drop 33 command_words) }
 {

@@ -1,45 +1,42 @@
 // The arguments of KILL and MERGE.
 
-ghost use Rattle.std.specs.Prelude.{◌≡◌, ◌⊎◌, ◌∷◌, ◌++◌, ◌≤◌, Bool, IfErr, IfOk, [], false, length, refl, true};
-ghost use Rattle.mj_ast.specs.Commands.{Put, killed_parts, merged_parts, name_parts, with_commas};
+ghost use Rattle.std.specs.Prelude.{◌≡◌, ◌≤◌, IfErr, IfOk, false, length, refl, true};
+ghost use Rattle.mj_ast.specs.Commands.{killed_parts, merged_parts};
 ghost use Rattle.mj_ast.specs.Trees.{killed_of, merged_of};
-ghost use Rattle.mj_ast.specs.declared.sign.Sign.TheVariants.{Close};
-ghost use Rattle.mj_expr.specs.Machine.{Limits};
-ghost use Rattle.mj_expr.specs.declared.stop.Stop.TheVariants.{Memory};
-ghost use Rattle.mj_lex.specs.Seen.{tokens_seen};
+ghost use Rattle.mj_expr.specs.declared.stop.ParseError.TheVariants.{Memory};
 ghost use Rattle.mj_line.specs.Forms.{KillEnd, KillWanted, MergeEnd, MergeInto};
-ghost use Rattle.mj_cmd.specs.Heads.{HasOther};
-ghost use Rattle.mj_cmd.specs.Parts.{NameList, name_end, name_wanted};
-ghost use Rattle.mj_cmd.specs.Reads.{HasRoom, Passes};
+ghost use Rattle.mj_cmd.specs.Heads.{HasOther, HasArgument};
+ghost use Rattle.mj_cmd.specs.Parts.{name_end, name_wanted, enclosed_names};
+ghost use Rattle.mj_cmd.specs.Readers.{PassesEverEach, PassesIn, PassesWhere};
 
 use crate::list::{Argument, Item};
 use crate::parts::{behind_close, behind_comma, behind_equals, behind_name, behind_open, stuck};
 use crate::phrase::Phrases;
 use mj_ast::{Killed, Merged};
-use mj_expr::{Stop, added};
+use mj_expr::{ParseError, added};
 use mj_lex::Lexeme;
 use mj_text::{TEXT_LIMIT, Text};
 use std::alloc::Global;
 
-/// A word as a text.
-pub fn word_text(alloc: Global, bytes: &[u8]) -> Result<Text, Stop>
+/// Makes a text of a word.
+pub fn word_text(alloc: Global, bytes: &[u8]) -> Result<Text, ParseError>
     requires { length bytes.now ≤ TEXT_LIMIT }
     ensures ok { IfOk result (λ t. t ≡ bytes.now) }
     ensures memory { IfErr result (λ e. e ≡ Memory) }
 {
     match Text::from(alloc, bytes) {
         Ok(text) => Ok(text),
-        Err(_) => Err(Stop::Memory),
+        Err(_) => Err(ParseError::Memory),
     }
 }
 
-/// The names of a list behind its `(`, and the `)` that closes it.
+/// Reads the names of a list behind its `(`, and the `)` that closes it.
 pub fn names<'a, 't>(
     phrases: Phrases,
     tokens: &'t [Lexeme<'a>],
-) -> Result<(Vec<Text>, &'t [Lexeme<'a>]), Stop>
+) -> Result<(Vec<Text>, &'t [Lexeme<'a>]), ParseError>
     ensures shorter { IfOk result (λ x. length x.1.now ≤ length tokens.now) }
-    ensures reads { (m : Limits) → (new : NameList) → Passes phrases.limited (λ x. with_commas name_parts x.0.items ++ Put Close ∷ []) (λ x. x.1.now) result m tokens.now (name_wanted new) (name_end new) }
+    ensures reads { PassesEverEach phrases.limited (λ x. enclosed_names x.0.items) (λ x. x.1.now) result tokens.now name_wanted name_end }
 {
     let mut names = Vec::new(phrases.alloc);
     match behind_name(tokens) {
@@ -66,13 +63,13 @@ pub fn names<'a, 't>(
     }
 }
 
-/// A variable, or names in parentheses.
+/// Reads a variable, or names in parentheses.
 fn killed<'a, 't>(
     phrases: Phrases,
     tokens: &'t [Lexeme<'a>],
-) -> Result<(Killed, &'t [Lexeme<'a>]), Stop>
+) -> Result<(Killed, &'t [Lexeme<'a>]), ParseError>
     ensures shorter { IfOk result (λ x. length x.1.now ≤ length tokens.now) }
-    ensures reads { (m : Limits) → HasRoom phrases.limited m tokens.now → (first : Bool) → (first ≡ false) ⊎ HasOther (tokens_seen tokens.now) → Passes phrases.limited (λ x. killed_parts (killed_of x.0)) (λ x. x.1.now) result m tokens.now (KillWanted first) KillEnd }
+    ensures reads { PassesWhere phrases.limited HasArgument (λ x. killed_parts (killed_of x.0)) (λ x. x.1.now) result tokens.now KillWanted (λ _. KillEnd) }
 {
     match behind_open(tokens) {
         None => {
@@ -100,7 +97,7 @@ impl Item for Killed {
     fn read<'a, 't>(
         phrases: Phrases,
         tokens: &'t [Lexeme<'a>],
-    ) -> Result<(Killed, &'t [Lexeme<'a>]), Stop> {
+    ) -> Result<(Killed, &'t [Lexeme<'a>]), ParseError> {
         killed(phrases, tokens)
     }
 
@@ -113,24 +110,24 @@ impl Argument for Killed {
     ghost over = { λ _. kill_over };
 }
 
-/// A variable, `=` and the variable that is copied.
+/// Reads a variable, `=` and the variable that is copied.
 fn merged<'a, 't>(
     phrases: Phrases,
     tokens: &'t [Lexeme<'a>],
-) -> Result<(Merged, &'t [Lexeme<'a>]), Stop>
+) -> Result<(Merged, &'t [Lexeme<'a>]), ParseError>
     ensures shorter { IfOk result (λ x. length x.1.now ≤ length tokens.now) }
-    ensures reads { (m : Limits) → HasRoom phrases.limited m tokens.now → Passes phrases.limited (λ x. merged_parts (merged_of x.0)) (λ x. x.1.now) result m tokens.now MergeInto MergeEnd }
+    ensures reads { PassesIn phrases.limited (λ x. merged_parts (merged_of x.0)) (λ x. x.1.now) result tokens.now MergeInto MergeEnd }
 {
     let (into, rest) = phrases.variable(0, tokens)?;
     match behind_equals(rest) {
         None => {
-            drop(into);
+            drop(into); // for the proof
             Err(stuck(rest))
         }
         Some(behind) => match phrases.variable(0, behind) {
             Ok((from, rest)) => Ok((Merged { into, from }, rest)),
             Err(stop) => {
-                drop(into);
+                drop(into); // for the proof
                 Err(stop)
             }
         },
@@ -151,7 +148,7 @@ impl Item for Merged {
     fn read<'a, 't>(
         phrases: Phrases,
         tokens: &'t [Lexeme<'a>],
-    ) -> Result<(Merged, &'t [Lexeme<'a>]), Stop> {
+    ) -> Result<(Merged, &'t [Lexeme<'a>]), ParseError> {
         merged(phrases, tokens)
     }
 

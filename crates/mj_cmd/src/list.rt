@@ -1,19 +1,18 @@
 // Lists of items with commas between them.
 
-ghost use Rattle.std.specs.Prelude.{◌≡◌, ◌++◌, ◌∷◌, ◌≤◌, Option, IfOk, Some, [], length, List};
+ghost use Rattle.std.specs.Prelude.{◌≡◌, ◌≤◌, Option, IfOk, Some, length, List};
 ghost use Rattle.mj_ast.specs.Commands.{Part, Put};
 ghost use Rattle.mj_ast.specs.Tokens.{Token};
 ghost use Rattle.mj_ast.specs.declared.sign.Sign.TheVariants.{Close, Comma};
-ghost use Rattle.mj_expr.specs.Machine.{Limits};
 ghost use Rattle.mj_lex.specs.Seen.{tokens_seen};
 ghost use Rattle.mj_line.specs.Forms.{Node, takes};
 ghost use Rattle.mj_cmd.specs.Heads.{HasNoComma, HasParted};
-ghost use Rattle.mj_cmd.specs.Lists.{AreItems, IsOver, IsUnclosed};
-ghost use Rattle.mj_cmd.specs.Reads.{HasRoom, PassesAs};
+ghost use Rattle.mj_cmd.specs.Lists.{AreItems, IsOver, IsUnclosed, AreEnclosed};
+ghost use Rattle.mj_cmd.specs.Readers.{PassesList, PassesMore};
 
 use crate::parts::{behind_close, behind_comma, parted, stuck};
 use crate::phrase::Phrases;
-use mj_expr::{Stop, added};
+use mj_expr::{ParseError, added};
 use mj_lex::Lexeme;
 
 /// What stands between commas.
@@ -38,10 +37,10 @@ pub trait Item: Drop + Sized {
     fn read<'a, 't>(
         phrases: Phrases,
         tokens: &'t [Lexeme<'a>],
-    ) -> Result<(Self, &'t [Lexeme<'a>]), Stop>
+    ) -> Result<(Self, &'t [Lexeme<'a>]), ParseError>
         ensures shorter { IfOk result (λ x. length x.1.now ≤ length tokens.now) }
-        ensures first { (q : lists) → (m : Limits) → HasRoom phrases.limited m tokens.now → begins q (tokens_seen tokens.now) → PassesAs phrases.limited (λ ps x. spells ps x.0) (λ x. x.1.now) result m tokens.now (first_at q) (behind_at q) }
-        ensures more { (q : lists) → (m : Limits) → HasRoom phrases.limited m tokens.now → PassesAs phrases.limited (λ ps x. spells ps x.0) (λ x. x.1.now) result m tokens.now (more_at q) (behind_at q) };
+        ensures first { PassesList phrases.limited begins (λ ps x. spells ps x.0) (λ x. x.1.now) result tokens.now first_at behind_at }
+        ensures more { PassesMore phrases.limited (λ ps x. spells ps x.0) (λ x. x.1.now) result tokens.now more_at behind_at };
 
     ghost comma: { (q : lists) → takes (behind_at q) (Put Comma) ≡ Some (more_at q) };
 }
@@ -63,15 +62,15 @@ pub trait Enclosed: Item {
     ghost unclosed: { (q : Self.lists) → IsUnclosed (Self.behind_at q) };
 }
 
-/// The items, of which there is one at least, up to where no comma follows.
+/// Reads the items, of which there is one at least, up to where no comma follows.
 fn items<'a, 't, T: Item>(
     phrases: Phrases,
     tokens: &'t [Lexeme<'a>],
-) -> Result<(Vec<T>, &'t [Lexeme<'a>]), Stop>
+) -> Result<(Vec<T>, &'t [Lexeme<'a>]), ParseError>
     ensures shorter { IfOk result (λ x. length x.1.now ≤ length tokens.now) }
     ensures some { IfOk result (λ x. 1 ≤ length x.0.items) }
     ensures over { IfOk result (λ x. HasNoComma (tokens_seen x.1.now)) }
-    ensures reads { (q : T.lists) → (m : Limits) → HasRoom phrases.limited m tokens.now → T.begins q (tokens_seen tokens.now) → PassesAs phrases.limited (λ ps x. AreItems T.spells ps x.0.items) (λ x. x.1.now) result m tokens.now (T.first_at q) (T.behind_at q) }
+    ensures reads { PassesList phrases.limited T.begins (λ ps x. AreItems T.spells ps x.0.items) (λ x. x.1.now) result tokens.now T.first_at T.behind_at }
 {
     let mut items = Vec::new(phrases.alloc);
     let (first, mut rest) = T::read(phrases, tokens)?;
@@ -84,28 +83,29 @@ fn items<'a, 't, T: Item>(
     Ok((items, rest))
 }
 
-/// The arguments of a command, of which there is one at least, up to where it ends.
+/// Reads the arguments of a command, of which there is one at least, up to where it ends.
 pub fn arguments<'a, 't, T: Argument>(
     phrases: Phrases,
     tokens: &'t [Lexeme<'a>],
-) -> Result<(Vec<T>, &'t [Lexeme<'a>]), Stop>
+) -> Result<(Vec<T>, &'t [Lexeme<'a>]), ParseError>
     ensures shorter { IfOk result (λ x. length x.1.now ≤ length tokens.now) }
     ensures parted { IfOk result (λ x. HasParted (tokens_seen x.1.now)) }
-    ensures reads { (q : T.lists) → (m : Limits) → HasRoom phrases.limited m tokens.now → T.begins q (tokens_seen tokens.now) → PassesAs phrases.limited (λ ps x. AreItems T.spells ps x.0.items) (λ x. x.1.now) result m tokens.now (T.first_at q) (T.behind_at q) }
+    ensures reads { PassesList phrases.limited T.begins (λ ps x. AreItems T.spells ps x.0.items) (λ x. x.1.now) result tokens.now T.first_at T.behind_at }
 {
     let (items, rest) = items(phrases, tokens)?;
     let rest = parted(rest)?;
     Ok((items, rest))
 }
 
-/// The items of a list in parentheses behind its `(`, of which there is one at least, and the `)` that closes it.
+/// Reads the items of a list in parentheses behind its `(`, of which there is one at least, and the `)` that closes it.
 pub fn listed<'a, 't, T: Enclosed>(
     phrases: Phrases,
     tokens: &'t [Lexeme<'a>],
-) -> Result<(Vec<T>, &'t [Lexeme<'a>]), Stop>
+) -> Result<(Vec<T>, &'t [Lexeme<'a>]), ParseError>
     ensures shorter { IfOk result (λ x. length x.1.now ≤ length tokens.now) }
     ensures some { IfOk result (λ x. 1 ≤ length x.0.items) }
-    ensures reads { (q : T.lists) → (m : Limits) → HasRoom phrases.limited m tokens.now → T.begins q (tokens_seen tokens.now) → PassesAs phrases.limited (λ ps x. (qs : List Part) × (ps ≡ qs ++ Put Close ∷ []) × AreItems T.spells qs x.0.items) (λ x. x.1.now) result m tokens.now (T.first_at q) (T.closed_at (T.behind_at q)) }
+    ensures reads { PassesList phrases.limited T.begins (λ ps x. AreEnclosed T.spells ps x.0.items) (λ x. x.1.now) result tokens.now
+        T.first_at (λ q. T.closed_at (T.behind_at q)) }
 {
     let (items, rest) = items(phrases, tokens)?;
     match behind_close(rest) {

@@ -3,21 +3,20 @@
 ghost use Rattle.std.specs.Prelude.{◌≡◌, ◌⊎◌, ◌++◌, ◌≤◌, Bool, IfOk, false, length, option_map, refl, true};
 ghost use Rattle.mj_ast.specs.Commands.{guard_parts, lock_names_parts, locked_parts, variable_parts};
 ghost use Rattle.mj_ast.specs.Trees.{expr_of, lock_names_of, locked_of, variable_of};
-ghost use Rattle.mj_expr.specs.Machine.{Limits};
 ghost use Rattle.mj_lex.specs.Seen.{tokens_seen};
 ghost use Rattle.mj_line.specs.Forms.{LockBehind, LockEnd, LockListed, LockNamed, LockWanted};
-ghost use Rattle.mj_cmd.specs.Heads.{HasOther};
+ghost use Rattle.mj_cmd.specs.Heads.{HasOther, HasArgument};
 ghost use Rattle.mj_cmd.specs.Parts.{MayBeNamed, lock_node, mode_tokens};
-ghost use Rattle.mj_cmd.specs.Reads.{HasRoom, Passes};
+ghost use Rattle.mj_cmd.specs.Readers.{PassesIn, PassesWhere, PassesWherePaired};
 
 use crate::list::{Argument, Enclosed, Item, listed};
 use crate::parts::{behind_colon, behind_minus, behind_open, behind_plus};
 use crate::phrase::Phrases;
 use mj_ast::{Expr, LockMode, LockNames, Locked, Variable};
-use mj_expr::Stop;
+use mj_expr::ParseError;
 use mj_lex::Lexeme;
 
-/// What the argument does, by the sign in front, and what follows that.
+/// Reads what the argument does, by the sign in front, and what follows that.
 fn lock_mode<'a, 't>(tokens: &'t [Lexeme<'a>]) -> (LockMode, &'t [Lexeme<'a>])
     ensures spelled { tokens_seen tokens.now ≡ mode_tokens result.0 ++ tokens_seen result.1.now }
     ensures named { (first : Bool) → (first ≡ false) ⊎ HasOther (tokens_seen tokens.now) → MayBeNamed result.0 first (tokens_seen result.1.now) }
@@ -32,13 +31,13 @@ fn lock_mode<'a, 't>(tokens: &'t [Lexeme<'a>]) -> (LockMode, &'t [Lexeme<'a>])
     }
 }
 
-/// A variable of a list.
+/// Reads a variable of a list.
 fn name<'a, 't>(
     phrases: Phrases,
     tokens: &'t [Lexeme<'a>],
-) -> Result<(Variable, &'t [Lexeme<'a>]), Stop>
+) -> Result<(Variable, &'t [Lexeme<'a>]), ParseError>
     ensures shorter { IfOk result (λ x. length x.1.now ≤ length tokens.now) }
-    ensures reads { (m : Limits) → HasRoom phrases.limited m tokens.now → Passes phrases.limited (λ x. variable_parts (variable_of x.0)) (λ x. x.1.now) result m tokens.now LockListed LockBehind }
+    ensures reads { PassesIn phrases.limited (λ x. variable_parts (variable_of x.0)) (λ x. x.1.now) result tokens.now LockListed LockBehind }
 {
     let (variable, rest) = phrases.variable(0, tokens)?;
     Ok((variable, rest))
@@ -58,7 +57,7 @@ impl Item for Variable {
     fn read<'a, 't>(
         phrases: Phrases,
         tokens: &'t [Lexeme<'a>],
-    ) -> Result<(Variable, &'t [Lexeme<'a>]), Stop> {
+    ) -> Result<(Variable, &'t [Lexeme<'a>]), ParseError> {
         name(phrases, tokens)
     }
 
@@ -75,13 +74,14 @@ impl Enclosed for Variable {
     ghost unclosed = { λ _. locks_unclosed };
 }
 
-/// A variable, or a list of variables in parentheses.
+/// Reads a variable, or a list of variables in parentheses.
 fn names<'a, 't>(
     phrases: Phrases,
     tokens: &'t [Lexeme<'a>],
-) -> Result<(LockNames, &'t [Lexeme<'a>]), Stop>
+) -> Result<(LockNames, &'t [Lexeme<'a>]), ParseError>
     ensures shorter { IfOk result (λ x. length x.1.now ≤ length tokens.now) }
-    ensures reads { (m : Limits) → HasRoom phrases.limited m tokens.now → (mode : LockMode) → (first : Bool) → MayBeNamed mode first (tokens_seen tokens.now) → Passes phrases.limited (λ x. lock_names_parts (lock_names_of x.0)) (λ x. x.1.now) result m tokens.now (lock_node mode first) LockNamed }
+    ensures reads { PassesWherePaired phrases.limited MayBeNamed (λ x. lock_names_parts (lock_names_of x.0)) (λ x. x.1.now) result tokens.now
+        lock_node (λ _. LockNamed) }
 {
     match behind_open(tokens) {
         None => {
@@ -95,13 +95,13 @@ fn names<'a, 't>(
     }
 }
 
-/// The timeout, if there is one.
+/// Reads the timeout, if there is one.
 fn timeout<'a, 't>(
     phrases: Phrases,
     tokens: &'t [Lexeme<'a>],
-) -> Result<(Option<Expr>, &'t [Lexeme<'a>]), Stop>
+) -> Result<(Option<Expr>, &'t [Lexeme<'a>]), ParseError>
     ensures shorter { IfOk result (λ x. length x.1.now ≤ length tokens.now) }
-    ensures reads { (m : Limits) → HasRoom phrases.limited m tokens.now → Passes phrases.limited (λ x. guard_parts (option_map expr_of x.0)) (λ x. x.1.now) result m tokens.now LockNamed LockEnd }
+    ensures reads { PassesIn phrases.limited (λ x. guard_parts (option_map expr_of x.0)) (λ x. x.1.now) result tokens.now LockNamed LockEnd }
 {
     match behind_colon(tokens) {
         None => Ok((None, tokens)),
@@ -112,13 +112,13 @@ fn timeout<'a, 't>(
     }
 }
 
-/// What the argument does, its names and its timeout.
+/// Reads what the argument does, its names and its timeout.
 fn locked<'a, 't>(
     phrases: Phrases,
     tokens: &'t [Lexeme<'a>],
-) -> Result<(Locked, &'t [Lexeme<'a>]), Stop>
+) -> Result<(Locked, &'t [Lexeme<'a>]), ParseError>
     ensures shorter { IfOk result (λ x. length x.1.now ≤ length tokens.now) }
-    ensures reads { (m : Limits) → HasRoom phrases.limited m tokens.now → (first : Bool) → (first ≡ false) ⊎ HasOther (tokens_seen tokens.now) → Passes phrases.limited (λ x. locked_parts (locked_of x.0)) (λ x. x.1.now) result m tokens.now (LockWanted first) LockEnd }
+    ensures reads { PassesWhere phrases.limited HasArgument (λ x. locked_parts (locked_of x.0)) (λ x. x.1.now) result tokens.now LockWanted (λ _. LockEnd) }
 {
     let (mode, rest) = lock_mode(tokens);
     let (names, rest) = names(phrases, rest)?;
@@ -147,7 +147,7 @@ impl Item for Locked {
     fn read<'a, 't>(
         phrases: Phrases,
         tokens: &'t [Lexeme<'a>],
-    ) -> Result<(Locked, &'t [Lexeme<'a>]), Stop> {
+    ) -> Result<(Locked, &'t [Lexeme<'a>]), ParseError> {
         locked(phrases, tokens)
     }
 

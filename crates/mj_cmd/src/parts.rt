@@ -1,8 +1,8 @@
 // What commands and lines are made of: single tokens, blanks, and where a command may end.
 
-ghost use Rattle.std.specs.Prelude.{◌≡◌, List, Some, false, true, ◌∷◌, ◌++◌, ◌+◌, ◌<◌, ◌≤◌, Bool, IfErr, IfOk, MatchOption, length, nat_le, if◌then◌else◌, replicate, ℕ};
-ghost use Rattle.mj_expr.specs.declared.stop.Stop.TheVariants.{Stuck, Long};
-ghost use Rattle.mj_ast.specs.Tokens.{Blank, Called, Quoted, Signed, Word};
+ghost use Rattle.std.specs.Prelude.{◌≡◌, Some, false, true, ◌++◌, ◌+◌, ◌<◌, Bool, IfErr, IfOk, MatchOption, length, nat_le, if◌then◌else◌, replicate};
+ghost use Rattle.mj_expr.specs.declared.stop.ParseError.TheVariants.{Stuck, Long};
+ghost use Rattle.mj_ast.specs.Tokens.{Blank, Called, Signed, Word};
 ghost use Rattle.mj_ast.specs.Commands.{PieceCall};
 ghost use Rattle.mj_line.specs.Forms.{part_of};
 ghost use Rattle.mj_ast.specs.declared.sign.Sign.TheVariants.{Caret, Close, Colon, Comma, Dot, Equals, Minus, Open, Plus, Question, Star};
@@ -10,10 +10,10 @@ ghost use Rattle.mj_cmd.specs.Parts.{mark_sign};
 ghost use Rattle.mj_lex.specs.Seen.{tokens_seen};
 ghost use Rattle.mj_line.specs.Machine.{refused};
 ghost use Rattle.mj_cmd.specs.Reads.{Refuses};
-ghost use Rattle.mj_cmd.specs.Heads.{HasNoBlank, HasNoCaret, HasNoClose, HasNoColon, HasNoComma, HasNoDot, HasNoEquals, HasNoLabel, HasNoMark, HasNoMinus, HasNoName, HasNoOpen, HasNoPiece, HasNoPlus, HasNoQuestion, HasNoQuoted, HasNoStar, HasNoWord, HasOther, HasParted, StartsLabel};
+ghost use Rattle.mj_cmd.specs.Heads.{HasNoBlank, HasNoCaret, HasNoClose, HasNoColon, HasNoComma, HasNoDot, HasNoEquals, HasNoLabel, HasNoMark, HasNoMinus, HasNoName, HasNoOpen, HasNoPiece, HasNoPlus, HasNoQuestion, HasNoQuoted, HasNoStar, HasNoWord, HasOther, HasParted, StartsWith, StartsWithLabel, StartsWithName, StartsWithPiece, StartsWithQuoted, StepsOver};
 
-use mj_ast::{Callee, Function, Mark, Sign};
-use mj_expr::{Stop, callee};
+use mj_ast::{Callee, FormatMark, Function, Sign};
+use mj_expr::{ParseError, callee};
 use mj_lex::{Lexeme, Token, next, unquoted};
 use mj_text::{Failure, TEXT_LIMIT, Text};
 use std::alloc::{AllocError, Global};
@@ -21,32 +21,32 @@ use std::alloc::{AllocError, Global};
 /// The most bytes of a word.
 pub const WORD_LIMIT: usize = 31;
 
-/// The same where that token is a word.
-fn stuck_word(tokens: &[Lexeme], word: &[u8]) -> Stop
+/// Refuses where the grammar can't go on at this word, the first of these tokens: one past its limit is too long.
+fn stuck_word(tokens: &[Lexeme], word: &[u8]) -> ParseError
     ensures { result ≡ (if nat_le (length word.now) 31 then Stuck (length tokens.now) else Long) }
 {
     if word.len() <= WORD_LIMIT {
-        Stop::Stuck(tokens.len())
+        ParseError::Stuck(tokens.len())
     } else {
-        Stop::Long
+        ParseError::Long
     }
 }
 
-/// The refusal where the grammar can't go on at the first of these tokens: a word past its limit comes before that.
-pub fn stuck(tokens: &[Lexeme]) -> Stop
+/// Refuses where the grammar can't go on at the first of these tokens: a word past its limit comes before that.
+pub fn stuck(tokens: &[Lexeme]) -> ParseError
     ensures { (limited : Bool) → Refuses limited result (refused (tokens_seen tokens.now)) }
 {
     match next(tokens) {
         Some((Token::Word(word), _)) => stuck_word(tokens, word),
         Some((Token::Called(word), _)) => stuck_word(tokens, word),
         Some((Token::Special(word), _)) => stuck_word(tokens, word),
-        _ => Stop::Stuck(tokens.len()),
+        _ => ParseError::Stuck(tokens.len()),
     }
 }
 
 /// The word in front, and what follows it.
 pub fn behind_word<'a, 't>(tokens: &'t [Lexeme<'a>]) -> Option<(&'a [u8], &'t [Lexeme<'a>])>
-    ensures { MatchOption result (HasNoWord (tokens_seen tokens.now)) (λ x. (tokens_seen tokens.now ≡ Word x.0.now ∷ tokens_seen x.1.now) × (length x.1.now < length tokens.now)) }
+    ensures { MatchOption result (HasNoWord (tokens_seen tokens.now)) (λ x. StartsWith (Word x.0.now) tokens.now x.1.now) }
 {
     match next(tokens) {
         Some((Token::Word(word), rest)) => Some((word, rest)),
@@ -56,7 +56,7 @@ pub fn behind_word<'a, 't>(tokens: &'t [Lexeme<'a>]) -> Option<(&'a [u8], &'t [L
 
 /// The word of a length that a name may have in front, and what follows it.
 pub fn behind_name<'a, 't>(tokens: &'t [Lexeme<'a>]) -> Option<(&'a [u8], &'t [Lexeme<'a>])>
-    ensures { MatchOption result (HasNoName (tokens_seen tokens.now)) (λ x. (tokens_seen tokens.now ≡ Word x.0.now ∷ tokens_seen x.1.now) × (length x.0.now ≤ 31) × (length x.1.now < length tokens.now)) }
+    ensures { MatchOption result (HasNoName (tokens_seen tokens.now)) (λ x. StartsWithName x.0.now tokens.now x.1.now) }
 {
     match behind_word(tokens) {
         None => None,
@@ -71,7 +71,7 @@ pub fn behind_name<'a, 't>(tokens: &'t [Lexeme<'a>]) -> Option<(&'a [u8], &'t [L
 
 /// The label in front, a name or digits, and what follows it.
 pub fn behind_entry_label<'a, 't>(tokens: &'t [Lexeme<'a>]) -> Option<(&'a [u8], &'t [Lexeme<'a>])>
-    ensures { MatchOption result (HasNoLabel (tokens_seen tokens.now)) (λ x. StartsLabel (tokens_seen tokens.now) x.0.now (tokens_seen x.1.now) × (length x.0.now ≤ TEXT_LIMIT) × (length x.1.now < length tokens.now)) }
+    ensures { MatchOption result (HasNoLabel (tokens_seen tokens.now)) (λ x. StartsWithLabel x.0.now tokens.now x.1.now) }
 {
     match next(tokens) {
         Some((Token::Word(name), rest)) => {
@@ -106,7 +106,7 @@ fn is_piece(word: &[u8]) -> bool
 
 /// What follows `$PIECE`, if it stands in front with a `(` behind it.
 pub fn behind_piece<'a, 't>(tokens: &'t [Lexeme<'a>]) -> Option<&'t [Lexeme<'a>]>
-    ensures { MatchOption result (HasNoPiece (tokens_seen tokens.now)) (λ x. (word : List ℕ) × (tokens_seen tokens.now ≡ Called word ∷ tokens_seen x.now) × (part_of (Called word) ≡ Some PieceCall) × (length x.now < length tokens.now)) }
+    ensures { MatchOption result (HasNoPiece (tokens_seen tokens.now)) (λ x. StartsWithPiece tokens.now x.now) }
 {
     match next(tokens) {
         None => None,
@@ -124,7 +124,7 @@ pub fn behind_piece<'a, 't>(tokens: &'t [Lexeme<'a>]) -> Option<&'t [Lexeme<'a>]
 
 /// What follows a `^`, if it stands in front.
 pub fn behind_caret<'a, 't>(tokens: &'t [Lexeme<'a>]) -> Option<&'t [Lexeme<'a>]>
-    ensures { MatchOption result (HasNoCaret (tokens_seen tokens.now)) (λ x. (tokens_seen tokens.now ≡ Signed Caret ∷ tokens_seen x.now) × (length x.now < length tokens.now)) }
+    ensures { MatchOption result (HasNoCaret (tokens_seen tokens.now)) (λ x. StartsWith (Signed Caret) tokens.now x.now) }
 {
     match next(tokens) {
         Some((Token::Sign(Sign::Caret), rest)) => Some(rest),
@@ -134,7 +134,7 @@ pub fn behind_caret<'a, 't>(tokens: &'t [Lexeme<'a>]) -> Option<&'t [Lexeme<'a>]
 
 /// What follows a `+`, if it stands in front.
 pub fn behind_plus<'a, 't>(tokens: &'t [Lexeme<'a>]) -> Option<&'t [Lexeme<'a>]>
-    ensures { MatchOption result (HasNoPlus (tokens_seen tokens.now)) (λ x. (tokens_seen tokens.now ≡ Signed Plus ∷ tokens_seen x.now) × (length x.now < length tokens.now)) }
+    ensures { MatchOption result (HasNoPlus (tokens_seen tokens.now)) (λ x. StartsWith (Signed Plus) tokens.now x.now) }
 {
     match next(tokens) {
         Some((Token::Sign(Sign::Plus), rest)) => Some(rest),
@@ -144,7 +144,7 @@ pub fn behind_plus<'a, 't>(tokens: &'t [Lexeme<'a>]) -> Option<&'t [Lexeme<'a>]>
 
 /// What follows a `-`, if it stands in front.
 pub fn behind_minus<'a, 't>(tokens: &'t [Lexeme<'a>]) -> Option<&'t [Lexeme<'a>]>
-    ensures { MatchOption result (HasNoMinus (tokens_seen tokens.now)) (λ x. (tokens_seen tokens.now ≡ Signed Minus ∷ tokens_seen x.now) × (length x.now < length tokens.now)) }
+    ensures { MatchOption result (HasNoMinus (tokens_seen tokens.now)) (λ x. StartsWith (Signed Minus) tokens.now x.now) }
 {
     match next(tokens) {
         Some((Token::Sign(Sign::Minus), rest)) => Some(rest),
@@ -154,7 +154,7 @@ pub fn behind_minus<'a, 't>(tokens: &'t [Lexeme<'a>]) -> Option<&'t [Lexeme<'a>]
 
 /// What follows a `(`, if it stands in front.
 pub fn behind_open<'a, 't>(tokens: &'t [Lexeme<'a>]) -> Option<&'t [Lexeme<'a>]>
-    ensures { MatchOption result (HasNoOpen (tokens_seen tokens.now)) (λ x. (tokens_seen tokens.now ≡ Signed Open ∷ tokens_seen x.now) × (length x.now < length tokens.now)) }
+    ensures { MatchOption result (HasNoOpen (tokens_seen tokens.now)) (λ x. StartsWith (Signed Open) tokens.now x.now) }
 {
     match next(tokens) {
         Some((Token::Sign(Sign::Open), rest)) => Some(rest),
@@ -164,7 +164,7 @@ pub fn behind_open<'a, 't>(tokens: &'t [Lexeme<'a>]) -> Option<&'t [Lexeme<'a>]>
 
 /// What follows a `)`, if it stands in front.
 pub fn behind_close<'a, 't>(tokens: &'t [Lexeme<'a>]) -> Option<&'t [Lexeme<'a>]>
-    ensures { MatchOption result (HasNoClose (tokens_seen tokens.now)) (λ x. (tokens_seen tokens.now ≡ Signed Close ∷ tokens_seen x.now) × (length x.now < length tokens.now)) }
+    ensures { MatchOption result (HasNoClose (tokens_seen tokens.now)) (λ x. StartsWith (Signed Close) tokens.now x.now) }
 {
     match next(tokens) {
         Some((Token::Sign(Sign::Close), rest)) => Some(rest),
@@ -174,7 +174,7 @@ pub fn behind_close<'a, 't>(tokens: &'t [Lexeme<'a>]) -> Option<&'t [Lexeme<'a>]
 
 /// What follows a comma, if it stands in front.
 pub fn behind_comma<'a, 't>(tokens: &'t [Lexeme<'a>]) -> Option<&'t [Lexeme<'a>]>
-    ensures { MatchOption result (HasNoComma (tokens_seen tokens.now)) (λ x. (tokens_seen tokens.now ≡ Signed Comma ∷ tokens_seen x.now) × (length x.now < length tokens.now)) }
+    ensures { MatchOption result (HasNoComma (tokens_seen tokens.now)) (λ x. StartsWith (Signed Comma) tokens.now x.now) }
 {
     match next(tokens) {
         Some((Token::Sign(Sign::Comma), rest)) => Some(rest),
@@ -184,7 +184,7 @@ pub fn behind_comma<'a, 't>(tokens: &'t [Lexeme<'a>]) -> Option<&'t [Lexeme<'a>]
 
 /// What follows a `=`, if it stands in front.
 pub fn behind_equals<'a, 't>(tokens: &'t [Lexeme<'a>]) -> Option<&'t [Lexeme<'a>]>
-    ensures { MatchOption result (HasNoEquals (tokens_seen tokens.now)) (λ x. (tokens_seen tokens.now ≡ Signed Equals ∷ tokens_seen x.now) × (length x.now < length tokens.now)) }
+    ensures { MatchOption result (HasNoEquals (tokens_seen tokens.now)) (λ x. StartsWith (Signed Equals) tokens.now x.now) }
 {
     match next(tokens) {
         Some((Token::Sign(Sign::Equals), rest)) => Some(rest),
@@ -194,7 +194,7 @@ pub fn behind_equals<'a, 't>(tokens: &'t [Lexeme<'a>]) -> Option<&'t [Lexeme<'a>
 
 /// What follows a colon, if it stands in front.
 pub fn behind_colon<'a, 't>(tokens: &'t [Lexeme<'a>]) -> Option<&'t [Lexeme<'a>]>
-    ensures { MatchOption result (HasNoColon (tokens_seen tokens.now)) (λ x. (tokens_seen tokens.now ≡ Signed Colon ∷ tokens_seen x.now) × (length x.now < length tokens.now)) }
+    ensures { MatchOption result (HasNoColon (tokens_seen tokens.now)) (λ x. StartsWith (Signed Colon) tokens.now x.now) }
 {
     match next(tokens) {
         Some((Token::Sign(Sign::Colon), rest)) => Some(rest),
@@ -203,19 +203,19 @@ pub fn behind_colon<'a, 't>(tokens: &'t [Lexeme<'a>]) -> Option<&'t [Lexeme<'a>]
 }
 
 /// The format mark in front, and what follows it.
-pub fn behind_mark<'a, 't>(tokens: &'t [Lexeme<'a>]) -> Option<(Mark, &'t [Lexeme<'a>])>
-    ensures { MatchOption result (HasNoMark (tokens_seen tokens.now)) (λ x. (tokens_seen tokens.now ≡ Signed (mark_sign x.0) ∷ tokens_seen x.1.now) × (length x.1.now < length tokens.now)) }
+pub fn behind_mark<'a, 't>(tokens: &'t [Lexeme<'a>]) -> Option<(FormatMark, &'t [Lexeme<'a>])>
+    ensures { MatchOption result (HasNoMark (tokens_seen tokens.now)) (λ x. StartsWith (Signed (mark_sign x.0)) tokens.now x.1.now) }
 {
     match next(tokens) {
-        Some((Token::Sign(Sign::Exclamation), rest)) => Some((Mark::NewLine, rest)),
-        Some((Token::Sign(Sign::Hash), rest)) => Some((Mark::NewPage, rest)),
+        Some((Token::Sign(Sign::Exclamation), rest)) => Some((FormatMark::NewLine, rest)),
+        Some((Token::Sign(Sign::Hash), rest)) => Some((FormatMark::NewPage, rest)),
         _ => None,
     }
 }
 
 /// What follows a `?`, if it stands in front.
 pub fn behind_question<'a, 't>(tokens: &'t [Lexeme<'a>]) -> Option<&'t [Lexeme<'a>]>
-    ensures { MatchOption result (HasNoQuestion (tokens_seen tokens.now)) (λ x. (tokens_seen tokens.now ≡ Signed Question ∷ tokens_seen x.now) × (length x.now < length tokens.now)) }
+    ensures { MatchOption result (HasNoQuestion (tokens_seen tokens.now)) (λ x. StartsWith (Signed Question) tokens.now x.now) }
 {
     match next(tokens) {
         Some((Token::Sign(Sign::Question), rest)) => Some(rest),
@@ -225,7 +225,7 @@ pub fn behind_question<'a, 't>(tokens: &'t [Lexeme<'a>]) -> Option<&'t [Lexeme<'
 
 /// What follows a `*`, if it stands in front.
 pub fn behind_star<'a, 't>(tokens: &'t [Lexeme<'a>]) -> Option<&'t [Lexeme<'a>]>
-    ensures { MatchOption result (HasNoStar (tokens_seen tokens.now)) (λ x. (tokens_seen tokens.now ≡ Signed Star ∷ tokens_seen x.now) × (length x.now < length tokens.now)) }
+    ensures { MatchOption result (HasNoStar (tokens_seen tokens.now)) (λ x. StartsWith (Signed Star) tokens.now x.now) }
 {
     match next(tokens) {
         Some((Token::Sign(Sign::Star), rest)) => Some(rest),
@@ -238,7 +238,7 @@ pub fn behind_quoted<'a, 't>(
     alloc: Global,
     tokens: &'t [Lexeme<'a>],
 ) -> Result<Option<(Text, &'t [Lexeme<'a>])>, AllocError>
-    ensures { IfOk result (λ q. MatchOption q (HasNoQuoted (tokens_seen tokens.now)) (λ x. (tokens_seen tokens.now ≡ Quoted x.0 ∷ tokens_seen x.1.now) × (length x.0 ≤ TEXT_LIMIT) × (length x.1.now < length tokens.now))) }
+    ensures { IfOk result (λ q. MatchOption q (HasNoQuoted (tokens_seen tokens.now)) (λ x. StartsWithQuoted x.0 tokens.now x.1.now)) }
 {
     match next(tokens) {
         Some((Token::Quoted(bytes), rest)) => match unquoted(alloc, bytes) {
@@ -252,7 +252,7 @@ pub fn behind_quoted<'a, 't>(
 
 /// What follows a dot, if it stands in front.
 pub fn behind_dot<'a, 't>(tokens: &'t [Lexeme<'a>]) -> Option<&'t [Lexeme<'a>]>
-    ensures { MatchOption result (HasNoDot (tokens_seen tokens.now)) (λ x. (tokens_seen tokens.now ≡ Signed Dot ∷ tokens_seen x.now) × (length tokens.now ≡ length x.now + 1)) }
+    ensures { MatchOption result (HasNoDot (tokens_seen tokens.now)) (λ x. StepsOver (Signed Dot) tokens.now x.now) }
 {
     match next(tokens) {
         Some((Token::Sign(Sign::Dot), rest)) => Some(rest),
@@ -262,7 +262,7 @@ pub fn behind_dot<'a, 't>(tokens: &'t [Lexeme<'a>]) -> Option<&'t [Lexeme<'a>]>
 
 /// What follows a blank, if it stands in front.
 pub fn behind_blank<'a, 't>(tokens: &'t [Lexeme<'a>]) -> Option<&'t [Lexeme<'a>]>
-    ensures { MatchOption result (HasNoBlank (tokens_seen tokens.now)) (λ x. (tokens_seen tokens.now ≡ Blank ∷ tokens_seen x.now) × (length tokens.now ≡ length x.now + 1)) }
+    ensures { MatchOption result (HasNoBlank (tokens_seen tokens.now)) (λ x. StepsOver Blank tokens.now x.now) }
 {
     match next(tokens) {
         Some((Token::Blank, rest)) => Some(rest),
@@ -290,8 +290,8 @@ pub fn behind_blanks<'a, 't>(tokens: &'t [Lexeme<'a>]) -> (usize, &'t [Lexeme<'a
     }
 }
 
-/// The tokens, where a command may end before them: at a blank, a comment or the line's end.
-pub fn parted<'a, 't>(tokens: &'t [Lexeme<'a>]) -> Result<&'t [Lexeme<'a>], Stop>
+/// Gives the tokens, where a command may end before them: at a blank, a comment or the line's end.
+pub fn parted<'a, 't>(tokens: &'t [Lexeme<'a>]) -> Result<&'t [Lexeme<'a>], ParseError>
     ensures ok { IfOk result (λ x. (x.now ≡ tokens.now) × HasParted (tokens_seen tokens.now)) }
     ensures other { IfErr result (λ _. HasOther (tokens_seen tokens.now)) }
     ensures refused { IfErr result (λ e. (limited : Bool) → Refuses limited e (refused (tokens_seen tokens.now))) }

@@ -1,14 +1,14 @@
 // The phrases of commands: expressions and variables, with their trees, or without them and however deep they nest.
 
-ghost use Rattle.std.specs.Prelude.{◌≡◌, ◌≤◌, IfOk, length};
+ghost use Rattle.std.specs.Prelude.{◌≤◌, IfOk, length};
 ghost use Rattle.mj_ast.specs.Trees.{expr_of, variable_of};
-ghost use Rattle.mj_expr.specs.Machine.{Limits, Whole, Target};
-ghost use Rattle.mj_line.specs.Machine.{Goal, At, In, IsClosed, behind, expression_wanted, variable_wanted};
+ghost use Rattle.mj_expr.specs.Machine.{Whole, Target};
+ghost use Rattle.mj_line.specs.Machine.{expression_wanted, variable_wanted};
 ghost use Rattle.mj_line.specs.Machine as lines;
-ghost use Rattle.mj_cmd.specs.Reads.{HasRoom, Reads};
+ghost use Rattle.mj_cmd.specs.Readers.{ReadsPhrase};
 
 use mj_ast::{Expr, Operand, Scope, Variable};
-use mj_expr::{Stop, behind_expression, behind_variable};
+use mj_expr::{ParseError, behind_expression, behind_variable};
 use mj_lex::Lexeme;
 use mj_text::Text;
 use std::alloc::Global;
@@ -21,15 +21,15 @@ pub struct Phrases {
 }
 
 impl Phrases {
-    /// An expression that stands inside so many levels, at most one. Where depth doesn't matter its tree stands for any.
+    /// Reads an expression that stands inside so many levels, at most one. Where depth doesn't matter its tree stands for any.
     pub fn expression<'a, 't>(
         self,
         level: usize,
         tokens: &'t [Lexeme<'a>],
-    ) -> Result<(Expr, &'t [Lexeme<'a>]), Stop>
+    ) -> Result<(Expr, &'t [Lexeme<'a>]), ParseError>
         requires { level ≤ 1 }
         ensures shorter { IfOk result (λ x. length x.1.now ≤ length tokens.now) }
-        ensures reads { (m : Limits) → HasRoom self.limited m tokens.now → (g : Goal) → lines.level g ≡ level → IsClosed g → Reads self.limited (λ x. expr_of x.0) (λ x. x.1.now) result m tokens.now (In g expression_wanted) (λ e. At (behind g (Whole e))) }
+        ensures reads { ReadsPhrase self.limited (λ x. expr_of x.0) (λ x. x.1.now) result level tokens.now expression_wanted Whole }
     {
         if self.limited {
             return mj_expr::expression(self.alloc, tokens, level);
@@ -42,15 +42,15 @@ impl Phrases {
         Ok((any, rest))
     }
 
-    /// A variable, likewise.
+    /// Reads a variable that stands inside so many levels, at most one. Where depth doesn't matter its tree stands for any.
     pub fn variable<'a, 't>(
         self,
         level: usize,
         tokens: &'t [Lexeme<'a>],
-    ) -> Result<(Variable, &'t [Lexeme<'a>]), Stop>
+    ) -> Result<(Variable, &'t [Lexeme<'a>]), ParseError>
         requires { level ≤ 1 }
         ensures shorter { IfOk result (λ x. length x.1.now ≤ length tokens.now) }
-        ensures reads { (m : Limits) → HasRoom self.limited m tokens.now → (g : Goal) → lines.level g ≡ level → IsClosed g → Reads self.limited (λ x. variable_of x.0) (λ x. x.1.now) result m tokens.now (In g variable_wanted) (λ v. At (behind g (Target v))) }
+        ensures reads { ReadsPhrase self.limited (λ x. variable_of x.0) (λ x. x.1.now) result level tokens.now variable_wanted Target }
     {
         if self.limited {
             return mj_expr::variable(self.alloc, tokens, level);

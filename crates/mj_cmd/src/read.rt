@@ -3,22 +3,20 @@
 ghost use Rattle.std.specs.Prelude.{◌≡◌, ◌++◌, ◌≤◌, IfOk, length, option_map, refl};
 ghost use Rattle.mj_ast.specs.Commands.{guard_parts, input_parts, received_parts};
 ghost use Rattle.mj_ast.specs.Trees.{expr_of, input_of, received_of};
-ghost use Rattle.mj_expr.specs.Machine.{Limits};
 ghost use Rattle.mj_lex.specs.Seen.{tokens_seen};
 ghost use Rattle.mj_line.specs.Forms.{IntoEnd, OutputEnd, OutputWanted, Reads as InRead};
-ghost use Rattle.mj_cmd.specs.Heads.{HasNoMark, HasNoQuestion, HasNoQuoted};
 ghost use Rattle.mj_cmd.specs.Parts.{MayBeInto, read_tokens};
-ghost use Rattle.mj_cmd.specs.Reads.{HasRoom, Passes};
+ghost use Rattle.mj_cmd.specs.Readers.{PassesIn, PassesReceived};
 
 use crate::layout::{begins_layout, layout};
 use crate::list::{Argument, Item};
 use crate::parts::{behind_colon, behind_quoted, behind_star};
 use crate::phrase::Phrases;
 use mj_ast::{Expr, Input, ReadMode, Received};
-use mj_expr::Stop;
+use mj_expr::ParseError;
 use mj_lex::Lexeme;
 
-/// How much is taken, by the `*` in front if there is one, and what follows that.
+/// Reads how much is taken, by the `*` in front if there is one, and what follows that.
 fn read_mode<'a, 't>(tokens: &'t [Lexeme<'a>]) -> (ReadMode, &'t [Lexeme<'a>])
     ensures spelled { tokens_seen tokens.now ≡ read_tokens result.0 ++ tokens_seen result.1.now }
     ensures into { MayBeInto result.0 (tokens_seen result.1.now) }
@@ -30,13 +28,13 @@ fn read_mode<'a, 't>(tokens: &'t [Lexeme<'a>]) -> (ReadMode, &'t [Lexeme<'a>])
     }
 }
 
-/// The timeout behind a variable, if there is one.
+/// Reads the timeout behind a variable, if there is one.
 fn timeout<'a, 't>(
     phrases: Phrases,
     tokens: &'t [Lexeme<'a>],
-) -> Result<(Option<Expr>, &'t [Lexeme<'a>]), Stop>
+) -> Result<(Option<Expr>, &'t [Lexeme<'a>]), ParseError>
     ensures shorter { IfOk result (λ x. length x.1.now ≤ length tokens.now) }
-    ensures reads { (m : Limits) → HasRoom phrases.limited m tokens.now → Passes phrases.limited (λ x. guard_parts (option_map expr_of x.0)) (λ x. x.1.now) result m tokens.now IntoEnd (OutputEnd InRead) }
+    ensures reads { PassesIn phrases.limited (λ x. guard_parts (option_map expr_of x.0)) (λ x. x.1.now) result tokens.now IntoEnd (OutputEnd InRead) }
 {
     match behind_colon(tokens) {
         None => Ok((None, tokens)),
@@ -47,13 +45,13 @@ fn timeout<'a, 't>(
     }
 }
 
-/// What is taken: how much, the variable that gets it, and its timeout.
+/// Reads what is taken: how much, the variable that gets it, and its timeout.
 fn received<'a, 't>(
     phrases: Phrases,
     tokens: &'t [Lexeme<'a>],
-) -> Result<(Received, &'t [Lexeme<'a>]), Stop>
+) -> Result<(Received, &'t [Lexeme<'a>]), ParseError>
     ensures shorter { IfOk result (λ x. length x.1.now ≤ length tokens.now) }
-    ensures reads { (m : Limits) → HasRoom phrases.limited m tokens.now → HasNoMark (tokens_seen tokens.now) → HasNoQuestion (tokens_seen tokens.now) → HasNoQuoted (tokens_seen tokens.now) → Passes phrases.limited (λ x. received_parts (received_of x.0)) (λ x. x.1.now) result m tokens.now (OutputWanted InRead) (OutputEnd InRead) }
+    ensures reads { PassesReceived phrases.limited (λ x. received_parts (received_of x.0)) (λ x. x.1.now) result tokens.now }
 {
     let (mode, rest) = read_mode(tokens);
     let (variable, rest) = phrases.variable(0, rest)?;
@@ -67,19 +65,19 @@ fn received<'a, 't>(
             rest,
         )),
         Err(stop) => {
-            drop(variable);
+            drop(variable); // for the proof
             Err(stop)
         }
     }
 }
 
-/// A format, a text in quotes, or what is taken.
+/// Reads a format, a text in quotes, or what is taken.
 fn input<'a, 't>(
     phrases: Phrases,
     tokens: &'t [Lexeme<'a>],
-) -> Result<(Input, &'t [Lexeme<'a>]), Stop>
+) -> Result<(Input, &'t [Lexeme<'a>]), ParseError>
     ensures shorter { IfOk result (λ x. length x.1.now ≤ length tokens.now) }
-    ensures reads { (m : Limits) → HasRoom phrases.limited m tokens.now → Passes phrases.limited (λ x. input_parts (input_of x.0)) (λ x. x.1.now) result m tokens.now (OutputWanted InRead) (OutputEnd InRead) }
+    ensures reads { PassesIn phrases.limited (λ x. input_parts (input_of x.0)) (λ x. x.1.now) result tokens.now (OutputWanted InRead) (OutputEnd InRead) }
 {
     if begins_layout(tokens) {
         let (layout, rest) = layout(phrases, tokens)?;
@@ -108,7 +106,7 @@ impl Item for Input {
     fn read<'a, 't>(
         phrases: Phrases,
         tokens: &'t [Lexeme<'a>],
-    ) -> Result<(Input, &'t [Lexeme<'a>]), Stop> {
+    ) -> Result<(Input, &'t [Lexeme<'a>]), ParseError> {
         input(phrases, tokens)
     }
 

@@ -5,27 +5,26 @@ ghost use Rattle.mj_ast.specs.Commands.{Control, Put, command_parts, range_parts
 ghost use Rattle.mj_ast.specs.Syntax.{For};
 ghost use Rattle.mj_ast.specs.Trees.{range_of, variable_of};
 ghost use Rattle.mj_ast.specs.declared.sign.Sign.TheVariants.{Equals};
-ghost use Rattle.mj_expr.specs.Machine.{Limits};
 ghost use Rattle.mj_lex.specs.Seen.{tokens_seen};
 ghost use Rattle.mj_line.specs.Forms.{ForWanted, LimitEnd, RangeWanted};
 ghost use Rattle.mj_cmd.specs.Heads.{HasOther, HasParted};
-ghost use Rattle.mj_cmd.specs.Reads.{HasRoom, Passes};
+ghost use Rattle.mj_cmd.specs.Readers.{PassesIn};
 
 use crate::list::{Argument, Item, arguments};
 use crate::parts::{behind_caret, behind_colon, behind_equals, stuck};
 use crate::phrase::Phrases;
 use mj_ast::{Range, Variable};
-use mj_expr::Stop;
+use mj_expr::ParseError;
 use mj_lex::Lexeme;
 
-/// A value; or numbers, by the first, the step and perhaps the last, with colons between them. What was read before a refusal is given to
-/// `drop`: a function at whose ends expressions are dropped by themselves takes a long proof.
+/// Reads a value; or numbers, by the first, the step and perhaps the last, with colons between them. What was read before a
+/// refusal is given to `drop`: a function at whose ends expressions are dropped by themselves takes a long proof.
 fn range<'a, 't>(
     phrases: Phrases,
     tokens: &'t [Lexeme<'a>],
-) -> Result<(Range, &'t [Lexeme<'a>]), Stop>
+) -> Result<(Range, &'t [Lexeme<'a>]), ParseError>
     ensures shorter { IfOk result (λ x. length x.1.now ≤ length tokens.now) }
-    ensures reads { (m : Limits) → HasRoom phrases.limited m tokens.now → Passes phrases.limited (λ x. range_parts (range_of x.0)) (λ x. x.1.now) result m tokens.now RangeWanted LimitEnd }
+    ensures reads { PassesIn phrases.limited (λ x. range_parts (range_of x.0)) (λ x. x.1.now) result tokens.now RangeWanted LimitEnd }
 {
     let (first, rest) = phrases.expression(0, tokens)?;
     match behind_colon(rest) {
@@ -36,14 +35,14 @@ fn range<'a, 't>(
                 Some(behind) => match phrases.expression(0, behind) {
                     Ok((last, rest)) => Ok((Range::UpTo(first, step, last), rest)),
                     Err(stop) => {
-                        drop(first);
-                        drop(step);
+                        drop(first); // for the proof
+                        drop(step); // for the proof
                         Err(stop)
                     }
                 },
             },
             Err(stop) => {
-                drop(first);
+                drop(first); // for the proof
                 Err(stop)
             }
         },
@@ -64,7 +63,7 @@ impl Item for Range {
     fn read<'a, 't>(
         phrases: Phrases,
         tokens: &'t [Lexeme<'a>],
-    ) -> Result<(Range, &'t [Lexeme<'a>]), Stop> {
+    ) -> Result<(Range, &'t [Lexeme<'a>]), ParseError> {
         range(phrases, tokens)
     }
 
@@ -77,14 +76,14 @@ impl Argument for Range {
     ghost over = { λ _. range_over };
 }
 
-/// The local that is set at each pass, and the `=` behind it.
+/// Reads the local that is set at each pass, and the `=` behind it.
 fn counter<'a, 't>(
     phrases: Phrases,
     tokens: &'t [Lexeme<'a>],
-) -> Result<(Variable, &'t [Lexeme<'a>]), Stop>
+) -> Result<(Variable, &'t [Lexeme<'a>]), ParseError>
     requires { HasOther (tokens_seen tokens.now) }
     ensures shorter { IfOk result (λ x. length x.1.now ≤ length tokens.now) }
-    ensures reads { (m : Limits) → HasRoom phrases.limited m tokens.now → Passes phrases.limited (λ x. Control (variable_of x.0) ∷ Put Equals ∷ []) (λ x. x.1.now) result m tokens.now ForWanted RangeWanted }
+    ensures reads { PassesIn phrases.limited (λ x. Control (variable_of x.0) ∷ Put Equals ∷ []) (λ x. x.1.now) result tokens.now ForWanted RangeWanted }
 {
     match behind_caret(tokens) {
         Some(_) => Err(stuck(tokens)),
@@ -98,15 +97,16 @@ fn counter<'a, 't>(
     }
 }
 
-/// The argument of FOR, up to where the command ends: a local, and what it goes through.
+/// Reads the argument of FOR, up to where the command ends: a local, and what it goes through.
 pub fn repeated<'a, 't>(
     phrases: Phrases,
     tokens: &'t [Lexeme<'a>],
-) -> Result<(Variable, Vec<Range>, &'t [Lexeme<'a>]), Stop>
+) -> Result<(Variable, Vec<Range>, &'t [Lexeme<'a>]), ParseError>
     requires { HasOther (tokens_seen tokens.now) }
     ensures shorter { IfOk result (λ x. length x.2.now ≤ length tokens.now) }
     ensures parted { IfOk result (λ x. HasParted (tokens_seen x.2.now)) }
-    ensures reads { (m : Limits) → HasRoom phrases.limited m tokens.now → Passes phrases.limited (λ x. command_parts (For (variable_of x.0) (map range_of x.1.items))) (λ x. x.2.now) result m tokens.now ForWanted LimitEnd }
+    ensures reads { PassesIn phrases.limited (λ x. command_parts (For (variable_of x.0) (map range_of x.1.items))) (λ x. x.2.now) result tokens.now
+        ForWanted LimitEnd }
 {
     let (counter, rest) = counter(phrases, tokens)?;
     let (ranges, rest) = arguments(phrases, rest)?;

@@ -1,39 +1,38 @@
 // The arguments of SET.
 
-ghost use Rattle.std.specs.Prelude.{◌≡◌, ◌<◌, ◌-◌, ◌∷◌, ◌++◌, ◌≤◌, Bool, IfOk, [], false, length, refl, true};
-ghost use Rattle.mj_ast.specs.Commands.{PieceCall, Put, Text, assignment_parts, destination_parts, more_parts, targets_parts};
+ghost use Rattle.std.specs.Prelude.{◌≡◌, ◌<◌, ◌-◌, ◌∷◌, ◌++◌, ◌≤◌, IfOk, [], false, length, refl, true};
+ghost use Rattle.mj_ast.specs.Commands.{PieceCall, Put, assignment_parts, destination_parts, more_parts, targets_parts};
 ghost use Rattle.mj_ast.specs.Tokens.{Signed};
 ghost use Rattle.mj_ast.specs.Trees.{assignment_of, destination_of, expr_of, exprs_of, targets_of};
 ghost use Rattle.mj_ast.specs.declared.sign.Sign.TheVariants.{Close, Comma};
-ghost use Rattle.mj_expr.specs.Machine.{Limits};
 ghost use Rattle.mj_lex.specs.Seen.{tokens_seen};
-ghost use Rattle.mj_line.specs.Forms.{PieceBehind, PieceComma, PieceOpens, SetBehind, SetEnd, SetTarget};
-ghost use Rattle.mj_cmd.specs.Parts.{NotListed, opened_parts, piece_node};
-ghost use Rattle.mj_cmd.specs.Reads.{HasRoom, Passes};
+ghost use Rattle.mj_line.specs.Forms.{PieceComma, PieceOpens, SetBehind, SetEnd, SetTarget};
+ghost use Rattle.mj_cmd.specs.Parts.{NotListed, opened_parts};
+ghost use Rattle.mj_cmd.specs.Readers.{PassesEach, PassesIn, PassesText, PassesWhere};
 
 use crate::list::{Argument, Enclosed, Item, listed};
 use crate::parts::{behind_close, behind_comma, behind_equals, behind_open, behind_piece, stuck};
 use crate::phrase::Phrases;
 use mj_ast::{Assignment, Destination, Expr, Targets};
-use mj_expr::{Stop, added};
+use mj_expr::{ParseError, added};
 use mj_lex::Lexeme;
 
 /// The most expressions behind the variable of `$PIECE`.
 const PIECE_LIMIT: usize = 3;
 
-/// Another expression of `$PIECE`, behind a comma, where so many stand before it.
+/// Reads another expression of `$PIECE`, behind a comma, where so many stand before it.
 fn text<'a, 't>(
     phrases: Phrases,
     count: usize,
     tokens: &'t [Lexeme<'a>],
     behind: &'t [Lexeme<'a>],
-) -> Result<(Expr, &'t [Lexeme<'a>]), Stop>
+) -> Result<(Expr, &'t [Lexeme<'a>]), ParseError>
     requires comma { tokens_seen tokens.now ≡ Signed Comma ∷ tokens_seen behind.now }
     requires count { count ≤ 3 }
     requires room { length behind.now ≤ length tokens.now }
     ensures shorter { IfOk result (λ x. length x.1.now ≤ length behind.now) }
     ensures few { IfOk result (λ _. count < 3) }
-    ensures reads { (m : Limits) → HasRoom phrases.limited m tokens.now → (listed : Bool) → Passes phrases.limited (λ x. Put Comma ∷ Text 1 (expr_of x.0) ∷ []) (λ x. x.1.now) result m tokens.now (piece_node listed count) (PieceBehind listed (2 - count)) }
+    ensures reads { PassesText phrases.limited (λ x. expr_of x.0) (λ x. x.1.now) result count tokens.now }
 {
     if count >= PIECE_LIMIT {
         return Err(stuck(tokens));
@@ -42,13 +41,13 @@ fn text<'a, 't>(
     Ok((text, rest))
 }
 
-/// The expressions of `$PIECE`, each behind a comma, and the `)` that closes them.
+/// Reads the expressions of `$PIECE`, each behind a comma, and the `)` that closes them.
 fn texts<'a, 't>(
     phrases: Phrases,
     tokens: &'t [Lexeme<'a>],
-) -> Result<(Vec<Expr>, &'t [Lexeme<'a>]), Stop>
+) -> Result<(Vec<Expr>, &'t [Lexeme<'a>]), ParseError>
     ensures shorter { IfOk result (λ x. length x.1.now ≤ length tokens.now) }
-    ensures reads { (m : Limits) → HasRoom phrases.limited m tokens.now → (listed : Bool) → Passes phrases.limited (λ x. more_parts (exprs_of x.0.items) ++ Put Close ∷ []) (λ x. x.1.now) result m tokens.now (PieceComma listed) (SetBehind listed) }
+    ensures reads { PassesEach phrases.limited (λ x. more_parts (exprs_of x.0.items) ++ Put Close ∷ []) (λ x. x.1.now) result tokens.now PieceComma SetBehind }
 {
     let mut texts = Vec::new(phrases.alloc);
     match behind_comma(tokens) {
@@ -69,13 +68,13 @@ fn texts<'a, 't>(
     }
 }
 
-/// What stands behind `$PIECE`, up to the `)` that closes it.
+/// Reads what stands behind `$PIECE`, up to the `)` that closes it.
 fn pieces<'a, 't>(
     phrases: Phrases,
     tokens: &'t [Lexeme<'a>],
-) -> Result<(Destination, &'t [Lexeme<'a>]), Stop>
+) -> Result<(Destination, &'t [Lexeme<'a>]), ParseError>
     ensures shorter { IfOk result (λ x. length x.1.now ≤ length tokens.now) }
-    ensures reads { (m : Limits) → HasRoom phrases.limited m tokens.now → (listed : Bool) → Passes phrases.limited (λ x. opened_parts (destination_of x.0)) (λ x. x.1.now) result m tokens.now (PieceOpens listed) (SetBehind listed) }
+    ensures reads { PassesEach phrases.limited (λ x. opened_parts (destination_of x.0)) (λ x. x.1.now) result tokens.now PieceOpens SetBehind }
     ensures pieces { IfOk result (λ x. destination_parts (destination_of x.0) ≡ PieceCall ∷ opened_parts (destination_of x.0)) }
 {
     match behind_open(tokens) {
@@ -88,13 +87,13 @@ fn pieces<'a, 't>(
     }
 }
 
-/// What a value is assigned to: a variable, or pieces of one.
+/// Reads what a value is assigned to: a variable, or pieces of one.
 fn destination<'a, 't>(
     phrases: Phrases,
     tokens: &'t [Lexeme<'a>],
-) -> Result<(Destination, &'t [Lexeme<'a>]), Stop>
+) -> Result<(Destination, &'t [Lexeme<'a>]), ParseError>
     ensures shorter { IfOk result (λ x. length x.1.now ≤ length tokens.now) }
-    ensures reads { (m : Limits) → HasRoom phrases.limited m tokens.now → (listed : Bool) → NotListed listed (tokens_seen tokens.now) → Passes phrases.limited (λ x. destination_parts (destination_of x.0)) (λ x. x.1.now) result m tokens.now (SetTarget listed) (SetBehind listed) }
+    ensures reads { PassesWhere phrases.limited NotListed (λ x. destination_parts (destination_of x.0)) (λ x. x.1.now) result tokens.now SetTarget SetBehind }
 {
     match behind_piece(tokens) {
         Some(behind) => pieces(phrases, behind),
@@ -119,7 +118,7 @@ impl Item for Destination {
     fn read<'a, 't>(
         phrases: Phrases,
         tokens: &'t [Lexeme<'a>],
-    ) -> Result<(Destination, &'t [Lexeme<'a>]), Stop> {
+    ) -> Result<(Destination, &'t [Lexeme<'a>]), ParseError> {
         destination(phrases, tokens)
     }
 
@@ -136,13 +135,13 @@ impl Enclosed for Destination {
     ghost unclosed = { λ _. targets_unclosed };
 }
 
-/// One destination, or a list in parentheses.
+/// Reads one destination, or a list in parentheses.
 fn targets<'a, 't>(
     phrases: Phrases,
     tokens: &'t [Lexeme<'a>],
-) -> Result<(Targets, &'t [Lexeme<'a>]), Stop>
+) -> Result<(Targets, &'t [Lexeme<'a>]), ParseError>
     ensures shorter { IfOk result (λ x. length x.1.now ≤ length tokens.now) }
-    ensures reads { (m : Limits) → HasRoom phrases.limited m tokens.now → Passes phrases.limited (λ x. targets_parts (targets_of x.0)) (λ x. x.1.now) result m tokens.now (SetTarget false) (SetBehind false) }
+    ensures reads { PassesIn phrases.limited (λ x. targets_parts (targets_of x.0)) (λ x. x.1.now) result tokens.now (SetTarget false) (SetBehind false) }
 {
     match behind_open(tokens) {
         None => {
@@ -156,25 +155,25 @@ fn targets<'a, 't>(
     }
 }
 
-/// Destinations, `=` and the value. Destinations that are refused behind are given to `drop`: a function at whose ends they are dropped by
-/// themselves takes a long proof.
+/// Reads destinations, `=` and the value. Destinations that are refused behind are given to `drop`: a function at whose ends
+/// they are dropped by themselves takes a long proof.
 fn assignment<'a, 't>(
     phrases: Phrases,
     tokens: &'t [Lexeme<'a>],
-) -> Result<(Assignment, &'t [Lexeme<'a>]), Stop>
+) -> Result<(Assignment, &'t [Lexeme<'a>]), ParseError>
     ensures shorter { IfOk result (λ x. length x.1.now ≤ length tokens.now) }
-    ensures reads { (m : Limits) → HasRoom phrases.limited m tokens.now → Passes phrases.limited (λ x. assignment_parts (assignment_of x.0)) (λ x. x.1.now) result m tokens.now (SetTarget false) SetEnd }
+    ensures reads { PassesIn phrases.limited (λ x. assignment_parts (assignment_of x.0)) (λ x. x.1.now) result tokens.now (SetTarget false) SetEnd }
 {
     let (targets, rest) = targets(phrases, tokens)?;
     match behind_equals(rest) {
         None => {
-            drop(targets);
+            drop(targets); // for the proof
             Err(stuck(rest))
         }
         Some(behind) => match phrases.expression(0, behind) {
             Ok((value, rest)) => Ok((Assignment { targets, value }, rest)),
             Err(stop) => {
-                drop(targets);
+                drop(targets); // for the proof
                 Err(stop)
             }
         },
@@ -195,7 +194,7 @@ impl Item for Assignment {
     fn read<'a, 't>(
         phrases: Phrases,
         tokens: &'t [Lexeme<'a>],
-    ) -> Result<(Assignment, &'t [Lexeme<'a>]), Stop> {
+    ) -> Result<(Assignment, &'t [Lexeme<'a>]), ParseError> {
         assignment(phrases, tokens)
     }
 

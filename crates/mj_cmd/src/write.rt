@@ -3,26 +3,25 @@
 ghost use Rattle.std.specs.Prelude.{◌≡◌, ◌≤◌, IfOk, length, refl};
 ghost use Rattle.mj_ast.specs.Commands.{output_parts};
 ghost use Rattle.mj_ast.specs.Trees.{output_of};
-ghost use Rattle.mj_expr.specs.Machine.{Limits};
 ghost use Rattle.mj_lex.specs.Seen.{tokens_seen};
 ghost use Rattle.mj_line.specs.Forms.{OutputEnd, OutputWanted, Writes};
-ghost use Rattle.mj_cmd.specs.Reads.{HasRoom, Passes};
+ghost use Rattle.mj_cmd.specs.Readers.{PassesIn};
 
 use crate::layout::{begins_layout, layout};
 use crate::list::{Argument, Item};
 use crate::parts::behind_star;
 use crate::phrase::Phrases;
 use mj_ast::Output;
-use mj_expr::Stop;
+use mj_expr::ParseError;
 use mj_lex::Lexeme;
 
-/// A format, the code of a byte behind a `*`, or an expression.
+/// Reads a format, the code of a byte behind a `*`, or an expression.
 fn output<'a, 't>(
     phrases: Phrases,
     tokens: &'t [Lexeme<'a>],
-) -> Result<(Output, &'t [Lexeme<'a>]), Stop>
+) -> Result<(Output, &'t [Lexeme<'a>]), ParseError>
     ensures shorter { IfOk result (λ x. length x.1.now ≤ length tokens.now) }
-    ensures reads { (m : Limits) → HasRoom phrases.limited m tokens.now → Passes phrases.limited (λ x. output_parts (output_of x.0)) (λ x. x.1.now) result m tokens.now (OutputWanted Writes) (OutputEnd Writes) }
+    ensures reads { PassesIn phrases.limited (λ x. output_parts (output_of x.0)) (λ x. x.1.now) result tokens.now (OutputWanted Writes) (OutputEnd Writes) }
 {
     if begins_layout(tokens) {
         let (layout, rest) = layout(phrases, tokens)?;
@@ -54,7 +53,7 @@ impl Item for Output {
     fn read<'a, 't>(
         phrases: Phrases,
         tokens: &'t [Lexeme<'a>],
-    ) -> Result<(Output, &'t [Lexeme<'a>]), Stop> {
+    ) -> Result<(Output, &'t [Lexeme<'a>]), ParseError> {
         output(phrases, tokens)
     }
 

@@ -9,17 +9,17 @@ use Rattle.mj_semantics.specs.Job.{Start}
 use Rattle.mj_load.specs.Image.{Loaded}
 use Rattle.mj_dev.specs.Heard.{Heard, IsNew}
 use Rattle.mj_dev.specs.Shelves.{principal}
-use Rattle.mj_dev.specs.Talk.{Stand, stand_of, beginning}
+use Rattle.mj_dev.specs.Talk.{TalkStand, stand_of, beginning}
 use Rattle.mj_dev.specs.declared.talk.State.{State}
 use Rattle.mj_jobs.specs.Rows.{Row, row_at}
 use Rattle.mj_jobvm.specs.Run.{Log}
 use Rattle.mj_jobvm.specs.Jobs.{Running, IsRunOf, IsRunOfAfter}
-use Rattle.mj_sessions.specs.Named.{Named, Roomy, is_named, session_of, Tells, AreTold}
+use Rattle.mj_sessions.specs.Named.{Named, Roomy, is_named, session_of, TalkLeaves, AreTold}
 use Rattle.mj_sys.specs.Shared.{Shared}
 use Rattle.mj_sys.specs.History.{state_of, log_of}
 use Rattle.mj_sys.specs.System.{Recorded, Claimed}
-use Rattle.mj_events.specs.declared.happened.Happened.{Happened}
-use Rattle.mj_events.specs.Woven.{woven}
+use Rattle.mj_core.specs.declared.happened.Happened.{Happened}
+use Rattle.mj_core.specs.Woven.{woven}
 use Rattle.mj_core.specs.Runs.{start_in}
 use Rattle.mj_core.specs.Ties.{Placed}
 use Rattle.mj_core.specs.Kept.{AreKept, claim_of, logs_of, turns_of}
@@ -58,10 +58,10 @@ named name session = record { name = name; session = session }
 -- by an empty log a job has a new session
 told_first : (name : List ℕ) (h : Heard) → IsNew h → AreTold [] (named name h ∷ [])
 told_first name h new n = by (is_named n (named name h)) where
-  of : Option (List ℕ) → State → Stand
+  of : Option (List ℕ) → State → TalkStand
   of rest state = record { rest = rest; state = state }
 
-  by : (b : Bool) → Tells [] (cond b (Some (named name h)) None)
+  by : (b : Bool) → TalkLeaves [] (cond b (Some (named name h)) None)
   by true = (ap (λ r. of r h.state) new.rest ∙ ap (of None) new.state, new.taken)
   by false = (refl, refl)
 

@@ -5,6 +5,7 @@ use Rattle.std.specs.Str.{bytes_eq}
 use Rattle.std.proofs.Common.{◌≡◌, ℕ, ◌<◌, List, [], ◌∷◌, ◌++◌, Bool, true, false, Option, Some, None, refl, sym, ap, ◌∙◌, subst}
 use Rattle.mj_ask.specs.declared.ask.Ask.{Ask}
 use Rattle.mj_ask.specs.declared.ask.Ask.TheVariants as asks
+use Rattle.mj_ask.specs.declared.ask.SharedAsk.TheVariants as shared_asks
 use Rattle.mj_ask.specs.Fits.{is_shared}
 use Rattle.mj_sessions.specs.Follow.{ends_on}
 use Rattle.mj_sessions.specs.Named.{Named, Roomy, is_named, session_of}
@@ -14,46 +15,18 @@ use Rattle.mj_core.specs.Ties.{IsPlace}
 
 -- by an ask to a job's own sessions none goes to it
 pub unopened : (s : Shared) (name : List ℕ) (a : Ask) (has : Bool) → is_shared a ≡ false → has_behind s name a has ≡ (if ends_on name a then false else has)
-unopened s name (asks.DeviceBegin d) has is = refl
-unopened s name (asks.DeviceWrite d bytes) has is = refl
-unopened s name (asks.DeviceLine d t) has is = refl
-unopened s name (asks.DeviceByte d t) has is = refl
-unopened s name (asks.DeviceEnd d) has is = refl
+unopened s name (asks.Device d a) has is = refl
 unopened s name (asks.Rest t) has is = refl
-unopened s name (asks.Access x) has is = absurd (let no : true ≡ false = is in cc)
-unopened s name (asks.Try names t) has is = absurd (let no : true ≡ false = is in cc)
-unopened s name (asks.Unlock names) has is = absurd (let no : true ≡ false = is in cc)
-unopened s name asks.UnlockAll has is = absurd (let no : true ≡ false = is in cc)
-unopened s name (asks.Begin kind) has is = absurd (let no : true ≡ false = is in cc)
-unopened s name asks.Commit has is = absurd (let no : true ≡ false = is in cc)
-unopened s name asks.Rollback has is = absurd (let no : true ≡ false = is in cc)
-unopened s name (asks.Open d t) has is = absurd (let no : true ≡ false = is in cc)
-unopened s name (asks.Close d) has is = absurd (let no : true ≡ false = is in cc)
-unopened s name (asks.Start start t) has is = absurd (let no : true ≡ false = is in cc)
-unopened s name (asks.Halt f) has is = absurd (let no : true ≡ false = is in cc)
+unopened s name (asks.Shared a) has is = absurd (let no : true ≡ false = is in cc)
 
 -- a shared ask by which none goes to the job leaves it those that it has
 pub unmoved : (s : Shared) (name : List ℕ) (a : Ask) (has : Bool) → is_shared a ≡ true → takes_session s a ≡ false → has_behind s name a has ≡ has
-unmoved s name (asks.DeviceBegin d) has is stays = absurd (let not : false ≡ true = is in cc)
-unmoved s name (asks.DeviceWrite d bytes) has is stays = absurd (let not : false ≡ true = is in cc)
-unmoved s name (asks.DeviceLine d t) has is stays = absurd (let not : false ≡ true = is in cc)
-unmoved s name (asks.DeviceByte d t) has is stays = absurd (let not : false ≡ true = is in cc)
-unmoved s name (asks.DeviceEnd d) has is stays = absurd (let not : false ≡ true = is in cc)
+unmoved s name (asks.Device d a) has is stays = absurd (let not : false ≡ true = is in cc)
 unmoved s name (asks.Rest t) has is stays = absurd (let not : false ≡ true = is in cc)
-unmoved s name (asks.Access x) has is stays = refl
-unmoved s name (asks.Try names t) has is stays = refl
-unmoved s name (asks.Unlock names) has is stays = refl
-unmoved s name asks.UnlockAll has is stays = refl
-unmoved s name (asks.Begin kind) has is stays = refl
-unmoved s name asks.Commit has is stays = refl
-unmoved s name asks.Rollback has is stays = refl
-unmoved s name (asks.Open d t) has is stays = ap (λ b. if bytes_eq d name && b then true else has) stays ∙ by (bytes_eq d name) where
+unmoved s name (asks.Shared a) has is stays = ap (λ b. if opens_on name (asks.Shared a) && b then true else has) stays ∙ by (opens_on name (asks.Shared a)) where
   by : (b : Bool) → (if b && false then true else has) ≡ has
   by true = refl
   by false = refl
-unmoved s name (asks.Close d) has is stays = refl
-unmoved s name (asks.Start start t) has is stays = refl
-unmoved s name (asks.Halt f) has is stays = refl
 
 -- one more is there
 pub there_more : (name : List ℕ) (xs : List Named) (x : Named) → is_some (session_of name (xs ++ x ∷ [])) ≡ (if bytes_eq x.name name && true then true else is_some (session_of name xs))
@@ -70,24 +43,9 @@ there_more name (y ∷ xs) x = by (bytes_eq x.name name) (is_named name y) (ther
   by false false rest = rest
 
 -- only by an OPEN one goes to the job
-is_open : (s : Shared) (a : Ask) → takes_session s a ≡ true → (device : List ℕ) × (timeout : Option ℤ) × (a ≡ asks.Open device timeout)
-is_open s (asks.Open d t) is = (d, t, refl)
-is_open s (asks.DeviceBegin d) is = absurd (let no : false ≡ true = is in cc)
-is_open s (asks.DeviceWrite d bytes) is = absurd (let no : false ≡ true = is in cc)
-is_open s (asks.DeviceLine d t) is = absurd (let no : false ≡ true = is in cc)
-is_open s (asks.DeviceByte d t) is = absurd (let no : false ≡ true = is in cc)
-is_open s (asks.DeviceEnd d) is = absurd (let no : false ≡ true = is in cc)
-is_open s (asks.Rest t) is = absurd (let no : false ≡ true = is in cc)
-is_open s (asks.Access x) is = absurd (let no : false ≡ true = is in cc)
-is_open s (asks.Try names t) is = absurd (let no : false ≡ true = is in cc)
-is_open s (asks.Unlock names) is = absurd (let no : false ≡ true = is in cc)
-is_open s asks.UnlockAll is = absurd (let no : false ≡ true = is in cc)
-is_open s (asks.Begin kind) is = absurd (let no : false ≡ true = is in cc)
-is_open s asks.Commit is = absurd (let no : false ≡ true = is in cc)
-is_open s asks.Rollback is = absurd (let no : false ≡ true = is in cc)
-is_open s (asks.Close d) is = absurd (let no : false ≡ true = is in cc)
-is_open s (asks.Start start t) is = absurd (let no : false ≡ true = is in cc)
-is_open s (asks.Halt f) is = absurd (let no : false ≡ true = is in cc)
+is_open : (s : Shared) (a : Ask) → takes_session s a ≡ true → (device : List ℕ) × (timeout : Option ℤ) × (a ≡ asks.Shared (shared_asks.Open device timeout))
+is_open s (asks.Shared (shared_asks.Open d t)) is = (d, t, refl)
+is_open s _ is = absurd (let no : false ≡ true = is in cc)
 
 -- a place was kept for it
 pub no_place : (s : Shared) (a : Ask) (sessions : Roomy) → takes_session s a ≡ true → IsPlace sessions a None → ⊥

@@ -10,6 +10,8 @@ use Rattle.mj_text.specs.declared.fault.Fault.{Fault}
 use Rattle.mj_ask.specs.Started.{Started}
 use Rattle.mj_ask.specs.declared.ask.Ask.{Ask}
 use Rattle.mj_ask.specs.declared.ask.Ask.TheVariants as asks
+use Rattle.mj_ask.specs.declared.ask.SharedAsk.{SharedAsk}
+use Rattle.mj_ask.specs.declared.ask.SharedAsk.TheVariants as shared_asks
 use Rattle.mj_ask.specs.declared.ask.Reply.{Reply}
 use Rattle.mj_ask.specs.declared.ask.Reply.TheVariants as replies
 use Rattle.mj_dev.specs.Shelves.{principal}
@@ -23,10 +25,10 @@ use Rattle.mj_locktab.specs.Tries.{outcome_of, after_try}
 use Rattle.mj_subs.specs.Name.{Name}
 use Rattle.mj_sys.specs.declared.event.Event.{Event}
 use Rattle.mj_sys.specs.Devices.{Device, device_at, with_device, opened_by}
-use Rattle.mj_sys.specs.Shared.{Shared, busy, tried, open_free, open_known, has_room, served}
+use Rattle.mj_sys.specs.Shared.{Shared, busy, tried, open_free, open_known, has_room, answered, served}
 use Rattle.mj_sys.specs.History.{History, left_by, after, state_of, log_of}
 use Rattle.mj_sys.proofs.Replays.{left_busy}
-use Rattle.mj_events.specs.Happen.{AllHappen}
+use Rattle.mj_core.specs.Happen.{AllHappen}
 use Rattle.mj_core.specs.Runs.{start_in}
 use Rattle.mj_core.specs.Ended.{HasHalted}
 
@@ -145,24 +147,16 @@ module _ (s : Shared) where
   by_start true start = stays_added s.rows (opened start ∷ [])
   by_start false start = stays_same s.rows
 
+  by_shared : (job : ℕ) (ask : SharedAsk) → Left (answered s job ask true)
+  by_shared job (shared_asks.Try names timeout) = by_try job names timeout (outcome_of s.locks job names) (after_try s.locks job names)
+  by_shared job (shared_asks.Open name timeout) = by_name job name timeout (bytes_eq name principal)
+  by_shared job (shared_asks.Start start timeout) = by_start (has_room s) start
+  by_shared job (shared_asks.Halt fault) = stays_ended s.rows job
+  by_shared job _ = stays_same s.rows
+
   by_ask : (job : ℕ) (ask : Ask) → Left (served s job ask true)
-  by_ask job (asks.Access a) = stays_same s.rows
-  by_ask job (asks.Try names timeout) = by_try job names timeout (outcome_of s.locks job names) (after_try s.locks job names)
-  by_ask job (asks.Unlock names) = stays_same s.rows
-  by_ask job asks.UnlockAll = stays_same s.rows
-  by_ask job (asks.Open name timeout) = by_name job name timeout (bytes_eq name principal)
-  by_ask job (asks.Close name) = stays_same s.rows
-  by_ask job (asks.Start start timeout) = by_start (has_room s) start
-  by_ask job (asks.Halt fault) = stays_ended s.rows job
-  by_ask job (asks.Begin kind) = stays_same s.rows
-  by_ask job asks.Commit = stays_same s.rows
-  by_ask job asks.Rollback = stays_same s.rows
-  by_ask job (asks.DeviceBegin device) = stays_same s.rows
-  by_ask job (asks.DeviceWrite device bytes) = stays_same s.rows
-  by_ask job (asks.DeviceLine device timeout) = stays_same s.rows
-  by_ask job (asks.DeviceByte device timeout) = stays_same s.rows
-  by_ask job (asks.DeviceEnd device) = stays_same s.rows
-  by_ask job (asks.Rest time) = stays_same s.rows
+  by_ask job (asks.Shared ask) = by_shared job ask
+  by_ask job _ = stays_same s.rows
 
 -- ---- a history
 
@@ -171,30 +165,30 @@ stays_over s [] job is = is
 stays_over s (e ∷ history) job is = stays_over (after s e) history job ((by_ask s e.job e.ask).over job is)
 
 -- behind the halt of a job its row has ended
-over_at : (s : Shared) (e : Event) (fault : Option Fault) → IsLive s.rows e.job → e.ask ≡ asks.Halt fault → IsOver (after s e).rows e.job
+over_at : (s : Shared) (e : Event) (fault : Option Fault) → IsLive s.rows e.job → e.ask ≡ asks.Shared (shared_asks.Halt fault) → IsOver (after s e).rows e.job
 over_at s e fault live is =
     subst (λ a. IsOver (left_by s (served s e.job a true)).rows e.job) (sym is) (has_ended s.rows e.job live.0 live.1)
 
 -- so it has where its events end in its halt
 over_behind : (s : Shared) (job : ℕ) (history : History) → AllHappen s history
-    → (earlier : Log) (fault : Option Fault) (r : Reply) → log_of job history ≡ earlier ++ (asks.Halt fault, r) ∷ [] → IsOver (state_of s history).rows job
+    → (earlier : Log) (fault : Option Fault) (r : Reply) → log_of job history ≡ earlier ++ (asks.Shared (shared_asks.Halt fault), r) ∷ [] → IsOver (state_of s history).rows job
 over_behind s job [] happen [] fault r is = absurd cc
 over_behind s job [] happen (x ∷ earlier) fault r is = absurd cc
 over_behind s job (e ∷ history) happen earlier fault r is =
     by (e.job == job) refl earlier is (λ earlier is. over_behind (after s e) job history happen.1 earlier fault r is)
   where
     by : (b : Bool) → (e.job == job) ≡ b → (earlier : Log)
-        → (if b then (e.ask, e.reply) ∷ log_of job history else log_of job history) ≡ earlier ++ (asks.Halt fault, r) ∷ []
-        → ((earlier : Log) → log_of job history ≡ earlier ++ (asks.Halt fault, r) ∷ [] → IsOver (state_of (after s e) history).rows job)
+        → (if b then (e.ask, e.reply) ∷ log_of job history else log_of job history) ≡ earlier ++ (asks.Shared (shared_asks.Halt fault), r) ∷ []
+        → ((earlier : Log) → log_of job history ≡ earlier ++ (asks.Shared (shared_asks.Halt fault), r) ∷ [] → IsOver (state_of (after s e) history).rows job)
         → IsOver (state_of (after s e) history).rows job
     by false same earlier is rest = rest earlier is
     by true same [] is rest =
-        let first : (e.ask, e.reply) ≡ (asks.Halt fault, r) = cc in
-        let asked : e.ask ≡ asks.Halt fault = ap (λ (p : Ask × Reply). p.0) first in
+        let first : (e.ask, e.reply) ≡ (asks.Shared (shared_asks.Halt fault), r) = cc in
+        let asked : e.ask ≡ asks.Shared (shared_asks.Halt fault) = ap (λ (p : Ask × Reply). p.0) first in
         let here : IsOver (after s e).rows e.job = over_at s e fault happen.0.0 asked in
         let mine : e.job ≡ job = eqb→eq e.job job (subst T (sym same) tt) in
         stays_over (after s e) history job (subst (λ j. IsOver (after s e).rows j) mine here)
-    by true same (x ∷ earlier) is rest = rest earlier (let tail : log_of job history ≡ earlier ++ (asks.Halt fault, r) ∷ [] = cc in tail)
+    by true same (x ∷ earlier) is rest = rest earlier (let tail : log_of job history ≡ earlier ++ (asks.Shared (shared_asks.Halt fault), r) ∷ [] = cc in tail)
 
 -- a row that has ended isn't that of a job that goes on
 not_live : (rows : List Row) (job : ℕ) → IsOver rows job → IsLive rows job → ⊥

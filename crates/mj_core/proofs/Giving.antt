@@ -13,24 +13,24 @@ use Rattle.mj_semantics.specs.Job.{Start}
 use Rattle.mj_jobvm.specs.Run.{Log, GoesOn, HasEnded}
 use Rattle.mj_sessions.specs.Events.{device_of, talk_on}
 use Rattle.mj_sessions.specs.Follow.{Follow}
-use Rattle.mj_sessions.specs.Named.{Named, session_of, Tells, AreTold}
+use Rattle.mj_sessions.specs.Named.{Named, session_of, TalkLeaves, AreTold}
 use Rattle.mj_sys.specs.declared.served.Held.{Held}
 use Rattle.mj_sys.specs.Shared.{Shared, served}
 use Rattle.mj_sys.specs.History.{History, state_of, log_of}
-use Rattle.mj_sys.specs.System.{Recorded, Claimed, Keeps}
-use Rattle.mj_events.specs.declared.happened.Happened.{Happened}
-use Rattle.mj_events.specs.Woven.{woven}
+use Rattle.mj_sys.specs.System.{Recorded, Claimed, KeepsBusy}
+use Rattle.mj_core.specs.declared.happened.Happened.{Happened}
+use Rattle.mj_core.specs.Woven.{woven}
 use Rattle.mj_core.specs.declared.seen.Seen.{Seen}
 use Rattle.mj_core.specs.declared.seen.Seen.TheVariants as seen
-use Rattle.mj_core.specs.declared.seen.Refusal.{Refusal}
-use Rattle.mj_core.specs.declared.seen.Step.{Step}
+use Rattle.mj_steps.specs.declared.step.Refusal.{Refusal}
+use Rattle.mj_steps.specs.declared.step.Step.{Step}
 use Rattle.mj_core.specs.declared.slot.Made.TheVariants as made
 use Rattle.mj_core.specs.Runs.{start_in}
 use Rattle.mj_core.specs.Shown.{Shown, with_spent, with_over}
 use Rattle.mj_core.specs.Having.{HasFailed, IsQuiet, IsUnfit, has_session}
-use Rattle.mj_core.specs.Gives.{fuel, spent_limit, Makes, IsTimely, IsTold, IsRefused, Goes, Gives, RunGives}
+use Rattle.mj_core.specs.Gives.{fuel, spent_limit, Makes, IsTimely, IsReplyTold, IsStepRefused, LiveStepGives, CoreStepGives, RunGives}
 use Rattle.mj_core.specs.Ties.{Placed, IsPlaced, start_of, Steps, IsQuietOf, IsShut}
-use Rattle.mj_core.specs.Kept.{AreKept, IsAt, logs_of, turns_of, shown}
+use Rattle.mj_core.specs.Kept.{AreKept, IsSlotOf, logs_of, turns_of, shown}
 use Rattle.mj_core.proofs.Histories.{same_state, starts}
 use Rattle.mj_core.proofs.Keeping.{shows_event, shows_still}
 use Rattle.mj_core.proofs.Views.{as_many}
@@ -71,7 +71,7 @@ counted_more (suc n) (s ∷ slots) slot none = ap (λ l. s.job.run.spent ∷ l) 
 
 -- the stand of a session that is there, by its talk
 stands : (log : Log) (xs : List Named) (name : List ℕ) (s : Named) → AreTold log xs → session_of name xs ≡ Some s → Follow beginning (talk_on name log) (stand_of s.session)
-stands log xs name s told there = (subst (λ o. Tells (talk_on name log) o) there (told name)).0
+stands log xs name s told there = (subst (λ o. TalkLeaves (talk_on name log) o) there (told name)).0
 
 module _ (image : Loaded) (opening : Shared) (system : Recorded) (slots : List Placed) (waiting : Option Claimed) (order : List Happened)
     (kept : AreKept image opening system slots waiting order) (over : List Bool) (n k : ℕ) (few : k < n) (slot slot' : Placed) (here : slice_get slots k ≡ Some slot)
@@ -85,7 +85,7 @@ module _ (image : Loaded) (opening : Shared) (system : Recorded) (slots : List P
   abbrev slots' : List Placed
   slots' = slice_set slots k slot'
 
-  at : IsAt image opening system old.history (suc k) slot
+  at : IsSlotOf image opening system old.history (suc k) slot
   at = kept.tied k slot here
 
   same : state_of opening old.history ≡ state_of opening system.history
@@ -141,21 +141,21 @@ module _ (image : Loaded) (opening : Shared) (system : Recorded) (slots : List P
     is_still = shown_still log sessions placed spent
 
     pub gives_busy : (holder : ℕ) (held : Held) → Steps (routines_of image) opening late system slot (made.Busy holder held) system' slot'
-        → Goes (routines_of image) opening (suc k) start late old (seen.Busy holder held) still
+        → LiveStepGives (routines_of image) opening (suc k) start late old (seen.Busy holder held) still
     gives_busy holder held t =
         let F : ℕ → Start → Log → Shared → Type 0 = λ j st l s.
-        (a : Ask) × Makes (routines_of image) st l a × IsTimely late a × (served s j a late ≡ None) × Keeps s j a holder held in
+        (a : Ask) × Makes (routines_of image) st l a × IsTimely late a × (served s j a late ≡ None) × KeepsBusy s j a holder held in
         let there = move F (t.0, t.1, t.2, t.3, t.4) in
         (there.0, there.1, there.2, there.3, there.4, is_still)
 
-    pub gives_not_yet : Steps (routines_of image) opening late system slot made.NotYet system' slot' → Goes (routines_of image) opening (suc k) start late old seen.NotYet still
+    pub gives_not_yet : Steps (routines_of image) opening late system slot made.NotYet system' slot' → LiveStepGives (routines_of image) opening (suc k) start late old seen.NotYet still
     gives_not_yet t =
         let F : ℕ → Start → Log → Shared → Type 0 = λ j st l s. Makes (routines_of image) st l t.0 × IsQuiet l t.0 in
         let there = move F (t.1, quiet t.0 t.5) in
         (t.0, there.0, t.2, t.3, t.4, there.1, is_still)
 
     pub gives_unfit : (a : Ask) → Makes (routines_of image) (start_of slot) slot.job.run.log a → IsTimely late a → IsUnfit opening old.history (suc k) a
-        → Goes (routines_of image) opening (suc k) start late old seen.Unfit still
+        → LiveStepGives (routines_of image) opening (suc k) start late old seen.Unfit still
     gives_unfit a makes timely unfit =
         let F : ℕ → Start → Log → Shared → Type 0 = λ j st l s. Makes (routines_of image) st l a in
         (a, move F makes, timely, unfit, is_still)
@@ -170,7 +170,7 @@ module _ (image : Loaded) (opening : Shared) (system : Recorded) (slots : List P
   -- it goes on for all turns
   pub gives_ran : (log : slot'.job.run.log ≡ slot.job.run.log) (sessions : slot'.sessions.sessions ≡ slot.sessions.sessions) → IsPlaced image opening system slot'
       → slot'.job.run.spent ≡ min (slot.job.run.spent + fuel) spent_limit → GoesOn (routines_of image) (start_of slot) slot.job.run.log slot'.job.run.spent
-      → Goes (routines_of image) opening (suc k) start late old seen.Ran (shown image slots' order over n)
+      → LiveStepGives (routines_of image) opening (suc k) start late old seen.Ran (shown image slots' order over n)
   gives_ran log sessions placed counts goes =
       let F : ℕ → Start → Log → Shared → Type 0 = λ j st l s. GoesOn (routines_of image) st l slot'.job.run.spent in (
         slot'.job.run.spent,
@@ -189,18 +189,18 @@ module _ (image : Loaded) (opening : Shared) (system : Recorded) (slots : List P
     new = shown image slots' order' over n
 
     pub gives_event : Makes (routines_of image) (start_of slot) slot.job.run.log a → IsTimely late a
-        → IsTold (state_of opening system.history) slot.claim.job a late reply (state_of opening system'.history)
-        → Goes (routines_of image) opening (suc k) start late old (seen.Event (length order)) new
+        → IsReplyTold (state_of opening system.history) slot.claim.job a late reply (state_of opening system'.history)
+        → LiveStepGives (routines_of image) opening (suc k) start late old (seen.Event (length order)) new
     gives_event makes timely told =
         let later : state_of opening new.history ≡ state_of opening system'.history = same_state image opening system' slots' waiting order' kept' in
-        let F : ℕ → Start → Log → Shared → Type 0 = λ j st l s. Makes (routines_of image) st l a × IsTold s j a late reply (state_of opening system'.history) in
+        let F : ℕ → Start → Log → Shared → Type 0 = λ j st l s. Makes (routines_of image) st l a × IsReplyTold s j a late reply (state_of opening system'.history) in
         let there = move F (makes, told) in
         let history_on = shows_event image opening system slots waiting order kept k slot slot' here numbered system' a reply late log in (
           a,
           reply,
           there.0,
           timely,
-          subst (λ s. IsTold (state_of opening old.history) (suc k) a late reply s) (sym later) there.1,
+          subst (λ s. IsReplyTold (state_of opening old.history) (suc k) a late reply s) (sym later) there.1,
           sym (as_many (logs_of slots) order kept.there),
           ap (λ h. seen_with h (turns_of n slots')) history_on
               ∙ ap (λ t. seen_with (old.history ++ record { job = suc k; ask = a; reply = reply } ∷ []) t)
@@ -208,17 +208,17 @@ module _ (image : Loaded) (opening : Shared) (system : Recorded) (slots : List P
         )
 
   -- it isn't made
-  pub refuses : (why : Refusal) → IsRefused (routines_of image) (start_of slot) slot.job.run.log late why → IsRefused (routines_of image) start (log_of (suc k) old.history) late why
+  pub refuses : (why : Refusal) → IsStepRefused (routines_of image) (start_of slot) slot.job.run.log late why → IsStepRefused (routines_of image) start (log_of (suc k) old.history) late why
   refuses why is_refused =
-      let F : ℕ → Start → Log → Shared → Type 0 = λ j st l s. IsRefused (routines_of image) st l late why in
+      let F : ℕ → Start → Log → Shared → Type 0 = λ j st l s. IsStepRefused (routines_of image) st l late why in
       move F is_refused
 
 -- ---- lists of steps
 
 -- one step more
 pub run_on : (opening : Shared) (before mid behind : Shown) (steps : List Step) (answers : List (Result Seen Refusal)) (step : Step) (answer : Result Seen Refusal)
-    → RunGives opening before steps answers mid → Gives opening mid step answer behind → RunGives opening before (steps ++ step ∷ []) (answers ++ answer ∷ []) behind
-run_on opening before mid behind [] [] step answer run gives = (behind, subst (λ m. Gives opening m step answer behind) run gives, refl)
+    → RunGives opening before steps answers mid → CoreStepGives opening mid step answer behind → RunGives opening before (steps ++ step ∷ []) (answers ++ answer ∷ []) behind
+run_on opening before mid behind [] [] step answer run gives = (behind, subst (λ m. CoreStepGives opening m step answer behind) run gives, refl)
 run_on opening before mid behind (first ∷ steps) (told ∷ answers) step answer run gives = (run.0, run.1, run_on opening run.0 mid behind steps answers step answer run.2 gives)
 run_on opening before mid behind [] (told ∷ answers) step answer run gives = absurd run
 run_on opening before mid behind (first ∷ steps) [] step answer run gives = absurd run

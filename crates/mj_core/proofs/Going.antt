@@ -9,18 +9,18 @@ use Rattle.mj_jobvm.specs.Run.{Log}
 use Rattle.mj_sys.specs.Shared.{Shared, takes_session}
 use Rattle.mj_sys.specs.History.{History, state_of}
 use Rattle.mj_sys.specs.System.{Recorded, Claimed, history_limit}
-use Rattle.mj_events.specs.declared.happened.Happened.{Happened}
-use Rattle.mj_events.specs.Happen.{shared_of}
-use Rattle.mj_events.specs.Woven.{woven}
+use Rattle.mj_core.specs.declared.happened.Happened.{Happened}
+use Rattle.mj_core.specs.Happen.{shared_of}
+use Rattle.mj_core.specs.Woven.{woven}
 use Rattle.mj_core.specs.declared.seen.Seen.{Seen}
 use Rattle.mj_core.specs.declared.seen.Seen.TheVariants as seen
-use Rattle.mj_core.specs.declared.seen.Refusal.{Refusal}
+use Rattle.mj_steps.specs.declared.step.Refusal.{Refusal}
 use Rattle.mj_core.specs.declared.slot.Made.{Made}
 use Rattle.mj_core.specs.declared.slot.Made.TheVariants as made
 use Rattle.mj_core.specs.Runs.{start_in}
 use Rattle.mj_core.specs.Shown.{with_over}
 use Rattle.mj_core.specs.Having.{IsUnfit}
-use Rattle.mj_core.specs.Gives.{IsRefused}
+use Rattle.mj_core.specs.Gives.{IsStepRefused}
 use Rattle.mj_core.specs.Gives as gives
 use Rattle.mj_core.specs.Ties.{Placed, IsPlaced, Steps, IsStill, start_of, IsShut, IsTwice}
 use Rattle.mj_core.specs.Kept.{AreKept, logs_of, shown}
@@ -148,7 +148,7 @@ module _ (image : Loaded) (opening : Shared) (system : Recorded) (slots : List P
           )
 
     -- and where it isn't made, nothing changes
-    pub makes_none : (why : Refusal) → IsRefused (routines_of image) (start_of slot) slot.job.run.log late why → (system' ≡ system) × IsStill slot slot'
+    pub makes_none : (why : Refusal) → IsStepRefused (routines_of image) (start_of slot) slot.job.run.log late why → (system' ≡ system) × IsStill slot slot'
         → gives.Made opening (shown image slots order over n) (suc k) row late (Err why) (shown image slots' order over n)
     makes_none why refused t = (
       refuses image opening system slots waiting order kept over n k few slot slot' here numbered row is late why refused,

@@ -6,17 +6,17 @@ use Rattle.std.proofs.lemmas.Option.{slice_get-map, none-some, same_Some}
 use Rattle.mj_load.specs.Image.{Loaded, routines_of}
 use Rattle.mj_jobs.specs.Rows.{Row, row_at}
 use Rattle.mj_jobvm.specs.Run.{Log, IsTrace, begins}
-use Rattle.mj_dev.specs.Talk.{Stand, beginning, stand_of}
+use Rattle.mj_dev.specs.Talk.{TalkStand, beginning, stand_of}
 use Rattle.mj_sessions.specs.Events.{talk_on}
 use Rattle.mj_sessions.specs.Follow.{Follow, AreTalks}
-use Rattle.mj_sessions.specs.Named.{Named, session_of, Tells, AreTold}
+use Rattle.mj_sessions.specs.Named.{Named, session_of, TalkLeaves, AreTold}
 use Rattle.mj_sys.specs.Shared.{Shared}
 use Rattle.mj_sys.specs.History.{History, state_of, log_of}
 use Rattle.mj_sys.specs.System.{Recorded, Claimed}
-use Rattle.mj_events.specs.declared.happened.Happened.{Happened}
-use Rattle.mj_events.specs.Woven.{woven}
-use Rattle.mj_events.proofs.Happen.{shared_leaves}
-use Rattle.mj_events.proofs.Logs.{silent_zero, silent_past}
+use Rattle.mj_core.specs.declared.happened.Happened.{Happened}
+use Rattle.mj_core.specs.Woven.{woven}
+use Rattle.mj_core.proofs.Happen.{shared_leaves}
+use Rattle.mj_core.proofs.Logs.{silent_zero, silent_past}
 use Rattle.mj_core.specs.Runs.{IsRun, start_in}
 use Rattle.mj_core.specs.Ties.{Placed}
 use Rattle.mj_core.specs.Kept.{AreKept, logs_of}
@@ -24,7 +24,7 @@ use Rattle.mj_core.specs.Kept.{AreKept, logs_of}
 -- a job whose sessions are those of which its log tells has talked as the protocol says
 pub told_talks : (log : Log) (xs : List Named) → AreTold log xs → AreTalks log
 told_talks log xs told name = by (session_of name xs) (told name) where
-  by : (found : Option Named) → Tells (talk_on name log) found → (last : Stand) × Follow beginning (talk_on name log) last
+  by : (found : Option Named) → TalkLeaves (talk_on name log) found → (last : TalkStand) × Follow beginning (talk_on name log) last
   by None t = (beginning, t.0)
   by (Some s) t = (stand_of s.session, t.0)
 

@@ -1,3 +1,6 @@
+pub mod Happen
+pub mod Weave
+pub mod Logs
 mod Behind
 mod Telling
 mod Stepping

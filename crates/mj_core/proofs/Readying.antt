@@ -10,16 +10,16 @@ use Rattle.mj_semantics.specs.Outcome.{Needs}
 use Rattle.mj_semantics.specs.Job.{Start, next}
 use Rattle.mj_jobvm.specs.Run.{Log, replies_of, GoesOn, HasEnded}
 use Rattle.mj_jobvm.specs.Jobs.{Running, IsRunOf}
-use Rattle.mj_jobvm.specs.Told.{Told, spent_after}
+use Rattle.mj_jobvm.specs.Told.{AdvanceTells, spent_after}
 use Rattle.mj_jobvm.specs.declared.job.Turn.{Turn}
 use Rattle.mj_jobvm.specs.declared.job.Turn.TheVariants as turns
 use Rattle.mj_sessions.specs.Named.{AreTold}
 use Rattle.mj_sys.specs.Shared.{Shared}
 use Rattle.mj_sys.specs.History.{state_of, log_of}
 use Rattle.mj_sys.specs.System.{Recorded, Claimed}
-use Rattle.mj_events.specs.declared.happened.Happened.{Happened}
-use Rattle.mj_events.specs.Woven.{woven}
-use Rattle.mj_core.specs.declared.seen.Refusal.TheVariants as refusals
+use Rattle.mj_core.specs.declared.happened.Happened.{Happened}
+use Rattle.mj_core.specs.Woven.{woven}
+use Rattle.mj_steps.specs.declared.step.Refusal.TheVariants as refusals
 use Rattle.mj_core.specs.Runs.{start_in}
 use Rattle.mj_core.specs.Gives.{Makes, Readies}
 use Rattle.mj_core.specs.Asking.{IsAtAsk}
@@ -62,7 +62,7 @@ module _ (image : Loaded) (opening : Shared) (system : Recorded) (slots : List P
     still spent = shown_still image opening system slots waiting order kept over n k few slot slot_on here refl row is false log refl placed_on spent
 
     -- what its turns say is what is seen of it
-    readies_by : (turn : Turn) → Told (routines_of image) (start_of slot) turn job.run → job.run.spent ≡ spent_after {E = AllocError} (Ok turn) 10000 slot.job.run.spent
+    readies_by : (turn : Turn) → AdvanceTells (routines_of image) (start_of slot) turn job.run → job.run.spent ≡ spent_after {E = AllocError} (Ok turn) 10000 slot.job.run.spent
         → Readies opening (shown image slots order over n) (suc k) row (Ok turn) (shown image (slice_set slots k slot_on) order over n)
     readies_by turns.Asks told spent =
         let F : ℕ → Start → Log → Shared → Type 0 = λ j st l s. (a : Ask) × Makes (routines_of image) st l a in
@@ -81,11 +81,11 @@ module _ (image : Loaded) (opening : Shared) (system : Recorded) (slots : List P
         let run = is_run image opening system slots waiting order kept in
         ((has_halted (routines_of image) opening (woven (logs_of slots) order) run (suc k) row is over_now).1, still spent)
 
-    pub readies : (turn went : Turn) → turn ≡ went → Told (routines_of image) (start_of slot) turn job.run
+    pub readies : (turn went : Turn) → turn ≡ went → AdvanceTells (routines_of image) (start_of slot) turn job.run
         → job.run.spent ≡ spent_after {E = AllocError} (Ok turn) 10000 slot.job.run.spent
         → Readies opening (shown image slots order over n) (suc k) row (Ok went) (shown image (slice_set slots k slot_on) order over n)
     readies turn went same told spent =
-        let T : Turn → Type 0 = λ t. Told (routines_of image) (start_of slot) t job.run in
+        let T : Turn → Type 0 = λ t. AdvanceTells (routines_of image) (start_of slot) t job.run in
         let S : Turn → Type 0 = λ t. job.run.spent ≡ spent_after {E = AllocError} (Ok t) 10000 slot.job.run.spent in
         readies_by went (subst T same told) (subst S same spent)
 
@@ -95,13 +95,13 @@ module _ (image : Loaded) (opening : Shared) (system : Recorded) (slots : List P
     readies_none spent = (refl, still spent)
 
   -- where it asks, it stands at its ask
-  pub at_ask : (turn : Turn) → turn ≡ turns.Asks → ((start : Start) → IsRunOf image start slot.job → Told (routines_of image) start turn job.run)
+  pub at_ask : (turn : Turn) → turn ≡ turns.Asks → ((start : Start) → IsRunOf image start slot.job → AdvanceTells (routines_of image) start turn job.run)
       → IsAtAsk image opening (woven (logs_of slots) order) (suc k) job
   at_ask turn same told =
       let its = shown_run image opening system slots waiting order kept k slot here in
       let start = start_in (suc k) its.0.start in
       let logged : job.run.log ≡ log_of (suc k) (woven (logs_of slots) order) = log ∙ sym (kept.tied k slot here).logged in
-      let T : Turn → Type 0 = λ t. Told (routines_of image) start t job.run in
+      let T : Turn → Type 0 = λ t. AdvanceTells (routines_of image) start t job.run in
       let asks = subst T same (told start its.2) in
       let N : Log → Type 0 = λ l. (n : ℕ) × (next (routines_of image) start n (replies_of l) ≡ Needs asks.0 job.run.at.state.locals (places job.run.at.state)) in
       record { row = its.0; there = its.1; run = run start its.2; log = logged; ask = asks.0; waits = asks.1; needs = subst N logged asks.2 }

@@ -10,10 +10,10 @@ use Rattle.mj_load.specs.Image.{Loaded, routines_of}
 use Rattle.mj_jobs.specs.Rows.{Row, row_at, IsLive}
 use Rattle.mj_jobvm.specs.Run.{Log, Run}
 use Rattle.mj_jobvm.specs.declared.job.Turn.TheVariants as turns
-use Rattle.mj_jobvm.specs.Told.{Told}
+use Rattle.mj_jobvm.specs.Told.{AdvanceTells}
 use Rattle.mj_semantics.specs.State.{places}
 use Rattle.mj_jobvm.specs.Jobs.{Running, IsRunOf}
-use Rattle.mj_ask.specs.Late.{is_over}
+use Rattle.mj_ask.specs.Late.{is_timed_out}
 use Rattle.mj_sessions.specs.Named.{Named, AreTold}
 use Rattle.mj_sys.specs.declared.event.Event.{Event}
 use Rattle.mj_sys.specs.Shared.{Shared, served}
@@ -21,14 +21,14 @@ use Rattle.mj_sys.specs.History.{History, state_of, events_of}
 use Rattle.mj_sys.specs.System.{Recorded, Claimed}
 use Rattle.mj_sys.specs.Told.{recorded}
 use Rattle.mj_sys.proofs.Rows.{rows_kept, state_of_append, events_of_append}
-use Rattle.mj_events.specs.Happen.{shared_of}
+use Rattle.mj_core.specs.Happen.{shared_of}
 use Rattle.mj_core.specs.declared.slot.Made.{Made}
 use Rattle.mj_core.specs.declared.slot.Made.TheVariants as made
 use Rattle.mj_core.specs.Runs.{start_in}
-use Rattle.mj_core.specs.declared.seen.Refusal.{Refusal}
-use Rattle.mj_core.specs.declared.seen.Refusal.TheVariants as refusals
-use Rattle.mj_core.specs.Gives.{fuel, Makes, IsTimely, IsTold, IsRefused}
-use Rattle.mj_core.specs.Ties.{Placed, IsTied, Steps, IsStill, Tells, Talks, Shares, IsMuted, GoesOnBy}
+use Rattle.mj_steps.specs.declared.step.Refusal.{Refusal}
+use Rattle.mj_steps.specs.declared.step.Refusal.TheVariants as refusals
+use Rattle.mj_core.specs.Gives.{fuel, Makes, IsTimely, IsReplyTold, IsStepRefused}
+use Rattle.mj_core.specs.Ties.{Placed, IsTied, Steps, IsStill, JobIsTold, Talks, Shares, IsMuted, GoesOnBy}
 
 -- nothing but the place in the private run changes
 pub tied_same : (image : Loaded) (opening : Shared) (old new : Recorded) (claim claim' : Claimed) (job mid job' : Running) (xs xs' : List Named) → IsTied image opening old claim job xs
@@ -187,7 +187,7 @@ module _ (image : Loaded) (opening : Shared) (old new : Recorded) (claim claim' 
   by_share made.Ran a is timely shared t = absurd t
   by_share made.Ended a is timely shared t = absurd t
 
-  pub stepped : (m : Made) → Tells opening old claim mid xs late m new claim' job' xs' → Goal m
+  pub stepped : (m : Made) → JobIsTold opening old claim mid xs late m new claim' job' xs' → Goal m
   stepped m tells = by tells.3 where
     by : ((is_shared tells.0 ≡ false) × Talks mid xs tells.0 late m job' xs' × (new ≡ old) × (claim' ≡ claim))
         ⊎ ((is_shared tells.0 ≡ true) × Shares opening old claim mid xs tells.0 late m new claim' job' xs') → Goal m
@@ -195,19 +195,19 @@ module _ (image : Loaded) (opening : Shared) (old new : Recorded) (claim claim' 
     by (inr t) = by_share m tells.0 tells.1 tells.2 t.0 t.1
 
   -- the same of what a call of `ask` gives
-  pub stepped_ok : (r : Result Made Refusal) → IfOk r (λ m. Tells opening old claim mid xs late m new claim' job' xs')
+  pub stepped_ok : (r : Result Made Refusal) → IfOk r (λ m. JobIsTold opening old claim mid xs late m new claim' job' xs')
       → IfOk r (λ m. Steps (routines_of image) opening late old slot m new slot')
   stepped_ok (Ok m) tells = (stepped m tells).0
   stepped_ok (Err why) tells = tt
 
-  muted : (why : Refusal) → IsMuted mid late why → IsRefused (routines_of image) start job.run.log late why
+  muted : (why : Refusal) → IsMuted mid late why → IsStepRefused (routines_of image) start job.run.log late why
   muted refusals.NotTimed is = (is.0, (is.1.0, makes_it is.1.0 is.1.1, is.1.2))
   muted refusals.Memory is = tt
   muted refusals.NoJob is = absurd is
   muted refusals.Ended is = absurd is
   muted refusals.Full is = absurd is
 
-  pub stepped_err : (r : Result Made Refusal) → IfErr r (λ why. IsMuted mid late why) → IfErr r (λ why. IsRefused (routines_of image) start job.run.log late why)
+  pub stepped_err : (r : Result Made Refusal) → IfErr r (λ why. IsMuted mid late why) → IfErr r (λ why. IsStepRefused (routines_of image) start job.run.log late why)
   stepped_err (Ok m) is = tt
   stepped_err (Err why) is = muted why is
 
@@ -215,11 +215,11 @@ module _ (image : Loaded) (opening : Shared) (old new : Recorded) (claim claim' 
   stepped_still (Ok m) kept = tt
   stepped_still (Err why) kept = (kept.0, still kept.2 kept.3)
 
-  pub stepped_tied : (r : Result Made Refusal) → IfOk r (λ m. Tells opening old claim mid xs late m new claim' job' xs')
+  pub stepped_tied : (r : Result Made Refusal) → IfOk r (λ m. JobIsTold opening old claim mid xs late m new claim' job' xs')
       → OnErr r ((new ≡ old) × (claim' ≡ claim) × (job' ≡ mid) × (xs' ≡ xs)) → IsTied image opening new claim' job' xs'
   stepped_tied (Ok m) tells kept = (stepped m tells).1
   stepped_tied (Err why) tells kept = tied_same image opening old new claim claim' job mid job' xs xs' tied run log kept.0 kept.1 kept.2 kept.3
 
 -- what a job's run needs
-pub needed : (image : Loaded) (from : Start) (run : Run) → Told (routines_of image) from turns.Asks run → (a : Ask) × (run.pending ≡ Some a) × Makes (routines_of image) from run.log a
+pub needed : (image : Loaded) (from : Start) (run : Run) → AdvanceTells (routines_of image) from turns.Asks run → (a : Ask) × (run.pending ≡ Some a) × Makes (routines_of image) from run.log a
 needed image from run t = (t.0, t.1, (t.2.0, run.at.state.locals, places run.at.state, t.2.1))

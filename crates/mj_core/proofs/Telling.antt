@@ -4,14 +4,15 @@ use Rattle.std.specs.Prelude.{◌⊎◌, IsTrue}
 use Rattle.mj_ask.proofs.Fitting.{answered}
 use Rattle.mj_ask.specs.declared.ask.Ask.{Ask}
 use Rattle.mj_ask.specs.declared.ask.Ask.TheVariants as asks
+use Rattle.mj_ask.specs.declared.ask.DeviceAsk.{DeviceAsk}
+use Rattle.mj_ask.specs.declared.ask.DeviceAsk.TheVariants as device_asks
 use Rattle.mj_ask.specs.declared.ask.Reply.{Reply}
 use Rattle.mj_ask.specs.declared.ask.Reply.TheVariants as replies
 use Rattle.mj_ask.specs.Fits.{fits, is_shared, timeout_of}
 use Rattle.mj_sessions.specs.declared.answer.Answer.{Answer}
 use Rattle.mj_sessions.specs.declared.answer.Answer.TheVariants as answers
-use Rattle.mj_ask.specs.Late.{is_over}
-use Rattle.mj_sessions.specs.Answers.{Answers, Asked, Ends, IsEnding, IsReading}
-use Rattle.mj_sessions.specs.Events.{device_of}
+use Rattle.mj_ask.specs.Late.{is_timed_out}
+use Rattle.mj_sessions.specs.Answers.{Answers, Asked, SessionEnds, IsEnding, IsReading}
 use Rattle.mj_sessions.specs.Named.{Named, is_named, session_of, with_session}
 use Rattle.mj_dev.specs.Heard.{Heard}
 use Rattle.mj_sys.specs.Shared.{Shared, served}
@@ -27,43 +28,33 @@ fits_served s job ask late reply t shared is =
 -- by a job's sessions
 module _ (xs new : List Named) (late : Bool) (reply : Reply) where
   abbrev IsFit : Ask → Type 0
-  IsFit ask = (fits ask reply ≡ true) × (reply ≡ replies.Late → is_over (timeout_of ask) late ≡ true)
+  IsFit ask = (fits ask reply ≡ true) × (reply ≡ replies.Late → is_timed_out (timeout_of ask) late ≡ true)
 
-  by_call : (device : List ℕ) (ask : Ask) → Asked device xs ask late (answers.Told reply) new → IsFit ask
+  by_call : (device : List ℕ) (ask : DeviceAsk) → Asked device xs ask late (answers.Told reply) new → IsFit (asks.Device device ask)
   by_call device ask (inl absent) = absurd (let no : answers.Told reply ≡ answers.Unfit = absent.1 in cc)
   by_call device ask (inr told) = (told.2.1.2, told.2.1.3)
 
   by_done : (ask : Ask) (done : Reply) → answers.Told reply ≡ answers.Told done → fits ask done ≡ true → (done ≡ replies.Late → ⊥) → IsFit ask
   by_done ask done is fit early =
       let same : reply ≡ done = cc in
-      let P : Reply → Type 0 = λ r. (fits ask r ≡ true) × (r ≡ replies.Late → is_over (timeout_of ask) late ≡ true) in
+      let P : Reply → Type 0 = λ r. (fits ask r ≡ true) × (r ≡ replies.Late → is_timed_out (timeout_of ask) late ≡ true) in
       subst P (sym same) (fit, (λ q. absurd (early q)))
 
-  by_end : (device : List ℕ) → Ends device xs (answers.Told reply) new → IsFit (asks.DeviceEnd device)
+  by_end : (device : List ℕ) → SessionEnds device xs (answers.Told reply) new → IsFit (asks.Device device device_asks.End)
   by_end device (inl absent) = absurd (let no : answers.Told reply ≡ answers.Unfit = absent.1 in cc)
   by_end device (inr told) = done told.2.1 where
-    done : (answers.Told reply ≡ answers.Told replies.Done) ⊎ (answers.Told reply ≡ answers.Told replies.Failed) → IsFit (asks.DeviceEnd device)
-    done (inl is) = by_done (asks.DeviceEnd device) replies.Done is refl (λ q. cc)
-    done (inr is) = by_done (asks.DeviceEnd device) replies.Failed is refl (λ q. cc)
+    done : (answers.Told reply ≡ answers.Told replies.Done) ⊎ (answers.Told reply ≡ answers.Told replies.Failed) → IsFit (asks.Device device device_asks.End)
+    done (inl is) = by_done (asks.Device device device_asks.End) replies.Done is refl (λ q. cc)
+    done (inr is) = by_done (asks.Device device device_asks.End) replies.Failed is refl (λ q. cc)
 
   pub fits_answer : (ask : Ask) → Answers xs ask late (answers.Told reply) new → IsFit ask
-  fits_answer (asks.DeviceBegin d) a = by_call d (asks.DeviceBegin d) a
-  fits_answer (asks.DeviceWrite d bytes) a = by_call d (asks.DeviceWrite d bytes) a
-  fits_answer (asks.DeviceLine d t) a = by_call d (asks.DeviceLine d t) a
-  fits_answer (asks.DeviceByte d t) a = by_call d (asks.DeviceByte d t) a
-  fits_answer (asks.DeviceEnd d) a = by_end d a
+  fits_answer (asks.Device d device_asks.Begin) a = by_call d device_asks.Begin a
+  fits_answer (asks.Device d (device_asks.Write bytes)) a = by_call d (device_asks.Write bytes) a
+  fits_answer (asks.Device d (device_asks.Line t)) a = by_call d (device_asks.Line t) a
+  fits_answer (asks.Device d (device_asks.Byte t)) a = by_call d (device_asks.Byte t) a
+  fits_answer (asks.Device d device_asks.End) a = by_end d a
   fits_answer (asks.Rest t) a = by_done (asks.Rest t) replies.Done a.0 refl (λ q. cc)
-  fits_answer (asks.Access x) a = absurd a
-  fits_answer (asks.Try names t) a = absurd a
-  fits_answer (asks.Unlock names) a = absurd a
-  fits_answer asks.UnlockAll a = absurd a
-  fits_answer (asks.Begin kind) a = absurd a
-  fits_answer asks.Commit a = absurd a
-  fits_answer asks.Rollback a = absurd a
-  fits_answer (asks.Open d t) a = absurd a
-  fits_answer (asks.Close d) a = absurd a
-  fits_answer (asks.Start s t) a = absurd a
-  fits_answer (asks.Halt f) a = absurd a
+  fits_answer (asks.Shared x) a = absurd a
 
 -- ---- where nothing is told
 
@@ -80,18 +71,18 @@ left_so : (name : List ℕ) (xs new : List Named) (s : Named) (h : Heard) → se
 left_so name xs new s h is same new_is = new_is ∙ ap (λ k. with_session name k xs) same ∙ with_same name xs s is
 
 abbrev Waits : List Named → List Named → Ask → Bool → Type 0
-Waits xs new ask late = IsReading ask × (is_over (timeout_of ask) late ≡ false) × IsQuietOf xs ask × (new ≡ xs)
+Waits xs new ask late = IsReading ask × (is_timed_out (timeout_of ask) late ≡ false) × IsQuietOf xs ask × (new ≡ xs)
 
 module _ (xs new : List Named) (late : Bool) where
-  call_waits : (device : List ℕ) (ask : Ask) → device_of ask ≡ Some device → Asked device xs ask late answers.NotYet new → Waits xs new ask late
-  call_waits device ask of (inl absent) = absurd (let no : answers.NotYet ≡ answers.Unfit = absent.1 in cc)
-  call_waits device ask of (inr t) = (t.2.1.1, t.2.1.3, (device, of, (t.0, t.1, t.2.1.0, t.2.1.2)), left_so device xs new t.0 t.2.0 t.1 t.2.1.4 t.2.2)
+  call_waits : (device : List ℕ) (ask : DeviceAsk) → Asked device xs ask late answers.NotYet new → Waits xs new (asks.Device device ask) late
+  call_waits device ask (inl absent) = absurd (let no : answers.NotYet ≡ answers.Unfit = absent.1 in cc)
+  call_waits device ask (inr t) = (t.2.1.1, t.2.1.3, (device, refl, (t.0, t.1, t.2.1.0, t.2.1.2)), left_so device xs new t.0 t.2.0 t.1 t.2.1.4 t.2.2)
 
-  call_unfit : (device : List ℕ) (ask : Ask) → device_of ask ≡ Some device → Asked device xs ask late answers.Unfit new → IsShut xs ask × (new ≡ xs)
-  call_unfit device ask of (inl absent) = ((device, of, inl absent.0), absent.2)
-  call_unfit device ask of (inr t) = ((device, of, inr (t.0, t.1, t.2.1.0)), left_so device xs new t.0 t.2.0 t.1 t.2.1.1 t.2.2)
+  call_unfit : (device : List ℕ) (ask : DeviceAsk) → Asked device xs ask late answers.Unfit new → IsShut xs (asks.Device device ask) × (new ≡ xs)
+  call_unfit device ask (inl absent) = ((device, refl, inl absent.0), absent.2)
+  call_unfit device ask (inr t) = ((device, refl, inr (t.0, t.1, t.2.1.0)), left_so device xs new t.0 t.2.0 t.1 t.2.1.1 t.2.2)
 
-  call_short : (device : List ℕ) (ask : Ask) → Asked device xs ask late answers.Memory new → new ≡ xs
+  call_short : (device : List ℕ) (ask : DeviceAsk) → Asked device xs ask late answers.Memory new → new ≡ xs
   call_short device ask (inl absent) = absurd (let no : answers.Memory ≡ answers.Unfit = absent.1 in cc)
   call_short device ask (inr t) = left_so device xs new t.0 t.2.0 t.1 t.2.1.1 t.2.2
 
@@ -101,71 +92,41 @@ module _ (xs new : List Named) (late : Bool) where
     by (inl is) = never replies.Done is
     by (inr is) = never replies.Failed is
 
-  end_unfit : (device : List ℕ) → Ends device xs answers.Unfit new → IsShut xs (asks.DeviceEnd device) × (new ≡ xs)
+  end_unfit : (device : List ℕ) → SessionEnds device xs answers.Unfit new → IsShut xs (asks.Device device device_asks.End) × (new ≡ xs)
   end_unfit device (inl absent) = ((device, refl, inl absent.0), absent.2)
   end_unfit device (inr t) = absurd (not_told answers.Unfit t.0.session (λ r q. cc) t.2)
 
-  end_waits : (device : List ℕ) → Ends device xs answers.NotYet new → ⊥
+  end_waits : (device : List ℕ) → SessionEnds device xs answers.NotYet new → ⊥
   end_waits device (inl absent) = let no : answers.NotYet ≡ answers.Unfit = absent.1 in cc
   end_waits device (inr t) = not_told answers.NotYet t.0.session (λ r q. cc) t.2
 
-  end_short : (device : List ℕ) → Ends device xs answers.Memory new → ⊥
+  end_short : (device : List ℕ) → SessionEnds device xs answers.Memory new → ⊥
   end_short device (inl absent) = let no : answers.Memory ≡ answers.Unfit = absent.1 in cc
   end_short device (inr t) = not_told answers.Memory t.0.session (λ r q. cc) t.2
 
   pub waits_answer : (ask : Ask) → Answers xs ask late answers.NotYet new → Waits xs new ask late
-  waits_answer (asks.DeviceBegin d) a = call_waits d (asks.DeviceBegin d) refl a
-  waits_answer (asks.DeviceWrite d bytes) a = call_waits d (asks.DeviceWrite d bytes) refl a
-  waits_answer (asks.DeviceLine d t) a = call_waits d (asks.DeviceLine d t) refl a
-  waits_answer (asks.DeviceByte d t) a = call_waits d (asks.DeviceByte d t) refl a
-  waits_answer (asks.DeviceEnd d) a = absurd (end_waits d a)
+  waits_answer (asks.Device d device_asks.Begin) a = call_waits d device_asks.Begin a
+  waits_answer (asks.Device d (device_asks.Write bytes)) a = call_waits d (device_asks.Write bytes) a
+  waits_answer (asks.Device d (device_asks.Line t)) a = call_waits d (device_asks.Line t) a
+  waits_answer (asks.Device d (device_asks.Byte t)) a = call_waits d (device_asks.Byte t) a
+  waits_answer (asks.Device d device_asks.End) a = absurd (end_waits d a)
   waits_answer (asks.Rest t) a = absurd (let no : answers.NotYet ≡ answers.Told replies.Done = a.0 in cc)
-  waits_answer (asks.Access x) a = absurd a
-  waits_answer (asks.Try names t) a = absurd a
-  waits_answer (asks.Unlock names) a = absurd a
-  waits_answer asks.UnlockAll a = absurd a
-  waits_answer (asks.Begin kind) a = absurd a
-  waits_answer asks.Commit a = absurd a
-  waits_answer asks.Rollback a = absurd a
-  waits_answer (asks.Open d t) a = absurd a
-  waits_answer (asks.Close d) a = absurd a
-  waits_answer (asks.Start s t) a = absurd a
-  waits_answer (asks.Halt f) a = absurd a
+  waits_answer (asks.Shared x) a = absurd a
 
   pub unfit_answer : (ask : Ask) → Answers xs ask late answers.Unfit new → IsShut xs ask × (new ≡ xs)
-  unfit_answer (asks.DeviceBegin d) a = call_unfit d (asks.DeviceBegin d) refl a
-  unfit_answer (asks.DeviceWrite d bytes) a = call_unfit d (asks.DeviceWrite d bytes) refl a
-  unfit_answer (asks.DeviceLine d t) a = call_unfit d (asks.DeviceLine d t) refl a
-  unfit_answer (asks.DeviceByte d t) a = call_unfit d (asks.DeviceByte d t) refl a
-  unfit_answer (asks.DeviceEnd d) a = end_unfit d a
+  unfit_answer (asks.Device d device_asks.Begin) a = call_unfit d device_asks.Begin a
+  unfit_answer (asks.Device d (device_asks.Write bytes)) a = call_unfit d (device_asks.Write bytes) a
+  unfit_answer (asks.Device d (device_asks.Line t)) a = call_unfit d (device_asks.Line t) a
+  unfit_answer (asks.Device d (device_asks.Byte t)) a = call_unfit d (device_asks.Byte t) a
+  unfit_answer (asks.Device d device_asks.End) a = end_unfit d a
   unfit_answer (asks.Rest t) a = absurd (let no : answers.Unfit ≡ answers.Told replies.Done = a.0 in cc)
-  unfit_answer (asks.Access x) a = absurd a
-  unfit_answer (asks.Try names t) a = absurd a
-  unfit_answer (asks.Unlock names) a = absurd a
-  unfit_answer asks.UnlockAll a = absurd a
-  unfit_answer (asks.Begin kind) a = absurd a
-  unfit_answer asks.Commit a = absurd a
-  unfit_answer asks.Rollback a = absurd a
-  unfit_answer (asks.Open d t) a = absurd a
-  unfit_answer (asks.Close d) a = absurd a
-  unfit_answer (asks.Start s t) a = absurd a
-  unfit_answer (asks.Halt f) a = absurd a
+  unfit_answer (asks.Shared x) a = absurd a
 
   pub short_answer : (ask : Ask) → Answers xs ask late answers.Memory new → new ≡ xs
-  short_answer (asks.DeviceBegin d) a = call_short d (asks.DeviceBegin d) a
-  short_answer (asks.DeviceWrite d bytes) a = call_short d (asks.DeviceWrite d bytes) a
-  short_answer (asks.DeviceLine d t) a = call_short d (asks.DeviceLine d t) a
-  short_answer (asks.DeviceByte d t) a = call_short d (asks.DeviceByte d t) a
-  short_answer (asks.DeviceEnd d) a = absurd (end_short d a)
+  short_answer (asks.Device d device_asks.Begin) a = call_short d device_asks.Begin a
+  short_answer (asks.Device d (device_asks.Write bytes)) a = call_short d (device_asks.Write bytes) a
+  short_answer (asks.Device d (device_asks.Line t)) a = call_short d (device_asks.Line t) a
+  short_answer (asks.Device d (device_asks.Byte t)) a = call_short d (device_asks.Byte t) a
+  short_answer (asks.Device d device_asks.End) a = absurd (end_short d a)
   short_answer (asks.Rest t) a = a.1
-  short_answer (asks.Access x) a = absurd a
-  short_answer (asks.Try names t) a = absurd a
-  short_answer (asks.Unlock names) a = absurd a
-  short_answer asks.UnlockAll a = absurd a
-  short_answer (asks.Begin kind) a = absurd a
-  short_answer asks.Commit a = absurd a
-  short_answer asks.Rollback a = absurd a
-  short_answer (asks.Open d t) a = absurd a
-  short_answer (asks.Close d) a = absurd a
-  short_answer (asks.Start s t) a = absurd a
-  short_answer (asks.Halt f) a = absurd a
+  short_answer (asks.Shared x) a = absurd a

@@ -15,8 +15,8 @@ use Rattle.mj_sys.specs.declared.event.Event.{Event}
 use Rattle.mj_sys.specs.Shared.{Shared}
 use Rattle.mj_sys.specs.History.{History, state_of}
 use Rattle.mj_sys.specs.System.{Recorded, Claimed}
-use Rattle.mj_events.specs.declared.happened.Happened.{Happened}
-use Rattle.mj_events.specs.Woven.{Logs, entry_at, woven, AreThere}
+use Rattle.mj_core.specs.declared.happened.Happened.{Happened}
+use Rattle.mj_core.specs.Woven.{Logs, entry_at, woven, AreThere}
 use Rattle.mj_core.specs.Runs.{start_in, out_of}
 use Rattle.mj_core.specs.Ties.{Placed}
 use Rattle.mj_core.specs.Kept.{AreKept, logs_of}

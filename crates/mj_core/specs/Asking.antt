@@ -12,7 +12,7 @@ use Rattle.mj_jobvm.specs.Run.{replies_of}
 use Rattle.mj_jobvm.specs.Jobs.{Running, IsRunOf}
 use Rattle.mj_sys.specs.Shared.{Shared}
 use Rattle.mj_sys.specs.History.{History, state_of, log_of}
-use Rattle.mj_core.specs.declared.seen.Refusal.{Refusal}
+use Rattle.mj_steps.specs.declared.step.Refusal.{Refusal}
 use Rattle.mj_core.specs.declared.seen.Ready.{Ready}
 use Rattle.mj_core.specs.declared.seen.Ready.TheVariants as readies
 use Rattle.mj_core.specs.Runs.{start_in}

@@ -13,19 +13,19 @@ use Rattle.mj_jobs.specs.Rows.{Row, row_at, IsLive}
 use Rattle.mj_jobvm.specs.declared.job.Turn.{Turn}
 use Rattle.mj_jobvm.specs.declared.job.Turn.TheVariants as turns
 use Rattle.mj_jobvm.specs.Run.{Log, replies_of, GoesOn}
-use Rattle.mj_ask.specs.Late.{is_over}
+use Rattle.mj_ask.specs.Late.{is_timed_out}
 use Rattle.mj_sessions.specs.Answers.{IsReading}
 use Rattle.mj_sys.specs.declared.event.Event.{Event}
 use Rattle.mj_sys.specs.Shared.{Shared, served}
 use Rattle.mj_sys.specs.History.{state_of, log_of}
-use Rattle.mj_sys.specs.System.{Keeps, history_limit}
+use Rattle.mj_sys.specs.System.{KeepsBusy, history_limit}
 use Rattle.mj_core.specs.declared.seen.Seen.{Seen}
 use Rattle.mj_core.specs.declared.seen.Seen.TheVariants as seen
-use Rattle.mj_core.specs.declared.seen.Refusal.{Refusal}
-use Rattle.mj_core.specs.declared.seen.Refusal.TheVariants as refusals
-use Rattle.mj_core.specs.declared.seen.Step.{Step}
-use Rattle.mj_core.specs.declared.seen.Way.{Way}
-use Rattle.mj_core.specs.declared.seen.Way.TheVariants as ways
+use Rattle.mj_steps.specs.declared.step.Refusal.{Refusal}
+use Rattle.mj_steps.specs.declared.step.Refusal.TheVariants as refusals
+use Rattle.mj_steps.specs.declared.step.Step.{Step}
+use Rattle.mj_steps.specs.declared.step.Way.{Way}
+use Rattle.mj_steps.specs.declared.step.Way.TheVariants as ways
 use Rattle.mj_core.specs.Shown.{Shown, was_over, with_over, spent_by, with_spent}
 use Rattle.mj_core.specs.Having.{IsQuiet, IsUnfit}
 use Rattle.mj_core.specs.Runs.{start_in}
@@ -47,43 +47,43 @@ abbrev pub IsTimely : Bool → Ask → Type 0
 IsTimely late a = late ≡ true → timeout_of a ≡ None → ⊥
 
 -- the reply is one that the ask is told: what the shared state serves as that serves it, and else late only where the timeout is over
-pub record IsTold (s : Shared) (job : ℕ) (a : Ask) (late : Bool) (reply : Reply) (s' : Shared) : Type 0 where
+pub record IsReplyTold (s : Shared) (job : ℕ) (a : Ask) (late : Bool) (reply : Reply) (s' : Shared) : Type 0 where
   pub fit : fits a reply ≡ true
   pub shared : is_shared a ≡ true → served s job a late ≡ Some (reply, s')
-  pub in_time : is_shared a ≡ false → reply ≡ replies.Late → is_over (timeout_of a) late ≡ true
+  pub in_time : is_shared a ≡ false → reply ≡ replies.Late → is_timed_out (timeout_of a) late ≡ true
 
 -- When a step of one job isn't made: it is late, and what the job asks has no timeout; or memory was refused.
-abbrev pub IsRefused : List Routine → Start → Log → Bool → Refusal → Type 0
-IsRefused image start log late refusals.NotTimed = (late ≡ true) × ((a : Ask) × Makes image start log a × (timeout_of a ≡ None))
-IsRefused image start log late refusals.Memory = Unit {0}
-IsRefused image start log late _ = ⊥
+abbrev pub IsStepRefused : List Routine → Start → Log → Bool → Refusal → Type 0
+IsStepRefused image start log late refusals.NotTimed = (late ≡ true) × ((a : Ask) × Makes image start log a × (timeout_of a ≡ None))
+IsStepRefused image start log late refusals.Memory = Unit {0}
+IsStepRefused image start log late _ = ⊥
 
 -- the job goes on for all turns of a step, and asks nothing
-abbrev pub Runs : List Routine → ℕ → Start → Shown → Shown → Type 0
-Runs image job start old new =
+abbrev pub RunsOn : List Routine → ℕ → Start → Shown → Shown → Type 0
+RunsOn image job start old new =
     (turns : ℕ) × (turns ≡ min (spent_by old.spent job + fuel) spent_limit) × GoesOn image start (log_of job old.history) turns
     × (new ≡ record old { spent = with_spent old.spent job turns })
 
 -- What a step of a live job gives: an event, of what the job asks after its events so far, which is told its reply; what keeps it busy; that there
 -- is nothing to read yet; that no session of the job can serve it; or that it goes on for all turns of the step.
-abbrev pub Goes : List Routine → Shared → ℕ → Start → Bool → Shown → Seen → Shown → Type 0
-Goes image opening job start late old (seen.Event at) new =
+abbrev pub LiveStepGives : List Routine → Shared → ℕ → Start → Bool → Shown → Seen → Shown → Type 0
+LiveStepGives image opening job start late old (seen.Event at) new =
     (a : Ask) × (reply : Reply) × Makes image start (log_of job old.history) a × IsTimely late a
-    × IsTold (state_of opening old.history) job a late reply (state_of opening new.history)
+    × IsReplyTold (state_of opening old.history) job a late reply (state_of opening new.history)
     × (at ≡ length old.history)
     × (new ≡ record old { history = old.history ++ record { job = job; ask = a; reply = reply } ∷ []; spent = with_spent old.spent job 0 })
-Goes image opening job start late old (seen.Busy holder held) new =
+LiveStepGives image opening job start late old (seen.Busy holder held) new =
     (a : Ask) × Makes image start (log_of job old.history) a × IsTimely late a
-    × (served (state_of opening old.history) job a late ≡ None) × Keeps (state_of opening old.history) job a holder held
+    × (served (state_of opening old.history) job a late ≡ None) × KeepsBusy (state_of opening old.history) job a holder held
     × (new ≡ old)
-Goes image opening job start late old seen.NotYet new =
+LiveStepGives image opening job start late old seen.NotYet new =
     (a : Ask) × Makes image start (log_of job old.history) a × IsTimely late a
-    × IsReading a × (is_over (timeout_of a) late ≡ false) × IsQuiet (log_of job old.history) a
+    × IsReading a × (is_timed_out (timeout_of a) late ≡ false) × IsQuiet (log_of job old.history) a
     × (new ≡ old)
-Goes image opening job start late old seen.Unfit new =
+LiveStepGives image opening job start late old seen.Unfit new =
     (a : Ask) × Makes image start (log_of job old.history) a × IsTimely late a × IsUnfit opening old.history job a × (new ≡ old)
-Goes image opening job start late old seen.Ran new = Runs image job start old new
-Goes image opening job start late old seen.Ended new = ⊥
+LiveStepGives image opening job start late old seen.Ran new = RunsOn image job start old new
+LiveStepGives image opening job start late old seen.Ended new = ⊥
 
 -- the job's row isn't that of a job that goes on
 abbrev pub IsDone : Shared → Shown → ℕ → Type 0
@@ -94,9 +94,9 @@ IsDone opening old job = IsLive (state_of opening old.history).rows job → ⊥
 abbrev pub Made : Shared → Shown → ℕ → Row → Bool → Result Seen Refusal → Shown → Type 0
 Made opening old job row late (Ok seen.Ended) new = IsDone opening old job × (new ≡ record old { over = with_over old.over job })
 Made opening old job row late (Ok what) new =
-    IsLive (state_of opening old.history).rows job × Goes (routines_of old.image) opening job (start_in job row.start) late old what new
+    IsLive (state_of opening old.history).rows job × LiveStepGives (routines_of old.image) opening job (start_in job row.start) late old what new
 Made opening old job row late (Err why) new =
-    IsRefused (routines_of old.image) (start_in job row.start) (log_of job old.history) late why × (new ≡ old)
+    IsStepRefused (routines_of old.image) (start_in job row.start) (log_of job old.history) late why × (new ≡ old)
 
 -- whether a step is late
 abbrev pub is_late : Way → Bool
@@ -104,8 +104,8 @@ is_late ways.Go = false
 is_late ways.Late = true
 
 -- What a step gives. That there is no such job is tested first; then that its end was seen; then that the history is full.
-abbrev pub Gives : Shared → Shown → Step → Result Seen Refusal → Shown → Type 0
-Gives opening old step answer new =
+abbrev pub CoreStepGives : Shared → Shown → Step → Result Seen Refusal → Shown → Type 0
+CoreStepGives opening old step answer new =
     ((row_at (state_of opening old.history).rows step.job ≡ None) × (answer ≡ Err refusals.NoJob) × (new ≡ old))
     ⊎ ((row : Row) × (row_at (state_of opening old.history).rows step.job ≡ Some row)
     × (((was_over old.over step.job ≡ true) × (answer ≡ Err refusals.Ended) × (new ≡ old))
@@ -115,7 +115,7 @@ Gives opening old step answer new =
 -- these steps give these answers, one for each, one after the other
 abbrev pub RunGives : Shared → Shown → List Step → List (Result Seen Refusal) → Shown → Type 0
 RunGives opening old [] [] new = new ≡ old
-RunGives opening old (step ∷ steps) (answer ∷ answers) new = (mid : Shown) × Gives opening old step answer mid × RunGives opening mid steps answers new
+RunGives opening old (step ∷ steps) (answer ∷ answers) new = (mid : Shown) × CoreStepGives opening old step answer mid × RunGives opening mid steps answers new
 RunGives opening old [] (answer ∷ answers) new = ⊥
 RunGives opening old (step ∷ steps) [] new = ⊥
 
@@ -124,7 +124,7 @@ RunGives opening old (step ∷ steps) [] new = ⊥
 abbrev pub Readies : Shared → Shown → ℕ → Row → Result Turn Refusal → Shown → Type 0
 Readies opening old job row (Ok turns.Asks) new =
     ((a : Ask) × Makes (routines_of old.image) (start_in job row.start) (log_of job old.history) a) × (new ≡ old)
-Readies opening old job row (Ok turns.Ran) new = Runs (routines_of old.image) job (start_in job row.start) old new
+Readies opening old job row (Ok turns.Ran) new = RunsOn (routines_of old.image) job (start_in job row.start) old new
 Readies opening old job row (Ok turns.Ended) new = IsDone opening old job × (new ≡ old)
 Readies opening old job row (Err why) new = (why ≡ refusals.Memory) × (new ≡ old)
 

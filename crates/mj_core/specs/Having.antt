@@ -3,8 +3,9 @@ use Rattle.std.specs.Prelude.{◌≡◌, ℕ, ◌==◌, List, [], ◌∷◌, Boo
 use Rattle.std.specs.Str.{bytes_eq}
 use Rattle.mj_ask.specs.declared.ask.Ask.{Ask}
 use Rattle.mj_ask.specs.declared.ask.Ask.TheVariants as asks
+use Rattle.mj_ask.specs.declared.ask.SharedAsk.TheVariants as shared_asks
 use Rattle.mj_dev.specs.Shelves.{principal}
-use Rattle.mj_dev.specs.Talk.{Stand, beginning}
+use Rattle.mj_dev.specs.Talk.{TalkStand, beginning}
 use Rattle.mj_dev.specs.declared.talk.State.TheVariants as states
 use Rattle.mj_sessions.specs.Events.{Log, device_of, talk_on}
 use Rattle.mj_sessions.specs.Follow.{Follow, ends_on}
@@ -13,7 +14,7 @@ use Rattle.mj_sys.specs.History.{History, after, state_of, log_of}
 
 -- an ask that is to open the device of a name
 abbrev pub opens_on : List ℕ → Ask → Bool
-opens_on name (asks.Open device timeout) = bytes_eq device name
+opens_on name (asks.Shared (shared_asks.Open device timeout)) = bytes_eq device name
 opens_on name _ = false
 
 -- Whether a job has a session with the device of a name behind one of its asks: one that it ends is gone, and one that goes to it by an OPEN is
@@ -32,13 +33,13 @@ has_session opening job name history = has_after opening job name (bytes_eq prin
 
 -- by a job's log, its session with the device of a name has failed, and wasn't ended yet
 abbrev pub HasFailed : Log → List ℕ → Type 0
-HasFailed log name = (last : Stand) × Follow beginning (talk_on name log) last × (last.state ≡ states.Open → ⊥)
+HasFailed log name = (last : TalkStand) × Follow beginning (talk_on name log) last × (last.state ≡ states.Open → ⊥)
 
 -- by a job's log, the session that serves what it asks is open, and no rest of a line is left on it
 abbrev pub IsQuiet : Log → Ask → Type 0
 IsQuiet log a =
     (name : List ℕ) × (device_of a ≡ Some name)
-    × ((last : Stand) × Follow beginning (talk_on name log) last × (last.state ≡ states.Open) × (last.rest ≡ None))
+    × ((last : TalkStand) × Follow beginning (talk_on name log) last × (last.state ≡ states.Open) × (last.rest ≡ None))
 
 -- No session of a job can serve what it asks: it has none with that device, or one that has failed; or it is to open a device that nobody holds,
 -- though its session with it wasn't ended yet.

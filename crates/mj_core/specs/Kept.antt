@@ -11,9 +11,9 @@ use Rattle.mj_sys.specs.declared.event.Event.{Event}
 use Rattle.mj_sys.specs.Shared.{Shared}
 use Rattle.mj_sys.specs.History.{History, state_of, log_of}
 use Rattle.mj_sys.specs.System.{Recorded, Claimed, history_limit}
-use Rattle.mj_events.specs.declared.happened.Happened.{Happened}
-use Rattle.mj_events.specs.Happen.{AllHappen, shared_of}
-use Rattle.mj_events.specs.Woven.{Logs, woven, AreThere}
+use Rattle.mj_core.specs.declared.happened.Happened.{Happened}
+use Rattle.mj_core.specs.Happen.{AllHappen, shared_of}
+use Rattle.mj_core.specs.Woven.{Logs, woven, AreThere}
 use Rattle.mj_core.specs.Having.{has_session}
 use Rattle.mj_core.specs.Shown.{Shown}
 use Rattle.mj_core.specs.Ties.{Placed, IsPlaced}
@@ -49,7 +49,7 @@ abbrev pub AreHeld : Shared → ℕ → History → List Named → Type 0
 AreHeld opening job history xs = (name : List ℕ) → is_some (session_of name xs) ≡ has_session opening job name history
 
 -- a slot is that of this job, tied to the system, and the history of all jobs has its log, and says which sessions it has
-pub record IsAt (image : Loaded) (opening : Shared) (system : Recorded) (history : History) (job : ℕ) (slot : Placed) : Type 0 where
+pub record IsSlotOf (image : Loaded) (opening : Shared) (system : Recorded) (history : History) (job : ℕ) (slot : Placed) : Type 0 where
   pub numbered : slot.claim.job ≡ job
   pub placed : IsPlaced image opening system slot
   pub logged : log_of job history ≡ slot.job.run.log
@@ -59,7 +59,7 @@ pub record IsAt (image : Loaded) (opening : Shared) (system : Recorded) (history
 -- could; and the jobs of the first rows, which were claimed, have a slot, but for one that may wait for it.
 pub record AreKept (image : Loaded) (opening : Shared) (system : Recorded) (slots : List Placed) (waiting : Option Claimed) (order : List Happened) : Type 0 where
   pub history : shared_of (woven (logs_of slots) order) ≡ system.history
-  pub tied : (k : ℕ) (slot : Placed) → slice_get slots k ≡ Some slot → IsAt image opening system (woven (logs_of slots) order) (suc k) slot
+  pub tied : (k : ℕ) (slot : Placed) → slice_get slots k ≡ Some slot → IsSlotOf image opening system (woven (logs_of slots) order) (suc k) slot
   pub happen : AllHappen opening (woven (logs_of slots) order)
   pub there : AreThere (logs_of slots) order
   pub claimed : IsClaimed opening system (length slots) waiting

@@ -1,3 +1,5 @@
+pub mod Happen
+pub mod Woven
 pub mod Runs
 pub mod Shown
 pub mod Having
@@ -6,8 +8,3 @@ pub mod Asking
 pub mod Ties
 pub mod Kept
 pub mod Ended
--- What a job is, for the crates above.
-pub use Rattle.mj_jobvm.specs.Run
-pub use Rattle.mj_jobvm.specs.Jobs
-pub use Rattle.mj_jobvm.specs.Told
-pub use Rattle.mj_jobvm.specs.declared.job.Turn

@@ -8,7 +8,7 @@ use Rattle.mj_jobvm.specs.Run.{IsTrace}
 use Rattle.mj_sessions.specs.Follow.{AreTalks, output_of_log}
 use Rattle.mj_sys.specs.Shared.{Shared}
 use Rattle.mj_sys.specs.History.{History, state_of, log_of}
-use Rattle.mj_events.specs.Happen.{AllHappen}
+use Rattle.mj_core.specs.Happen.{AllHappen}
 
 -- how a job of a row starts
 abbrev pub start_in : ℕ → Started → Start

@@ -3,6 +3,7 @@ use Rattle.std.specs.Prelude.{◌≡◌, ℕ, ◌+◌, ◌<◌, ◌≤◌, min, 
 use Rattle.std.specs.Option.{is_some}
 use Rattle.mj_ask.specs.declared.ask.Ask.{Ask}
 use Rattle.mj_ask.specs.declared.ask.Ask.TheVariants as asks
+use Rattle.mj_ask.specs.declared.ask.SharedAsk.TheVariants as shared_asks
 use Rattle.mj_ask.specs.declared.ask.Reply.{Reply}
 use Rattle.mj_ask.specs.declared.ask.Reply.TheVariants as replies
 use Rattle.mj_ask.specs.Fits.{fits, is_shared, timeout_of}
@@ -13,24 +14,24 @@ use Rattle.mj_jobs.specs.Rows.{Row, row_at, IsLive}
 use Rattle.mj_jobvm.specs.Run.{Log, GoesOn, HasEnded}
 use Rattle.mj_jobvm.specs.Jobs.{Running, IsRunOf}
 use Rattle.mj_dev.specs.declared.talk.State.TheVariants as states
-use Rattle.mj_ask.specs.Late.{is_over}
+use Rattle.mj_ask.specs.Late.{is_timed_out}
 use Rattle.mj_sessions.specs.Answers.{IsReading}
 use Rattle.mj_sessions.specs.Events.{device_of}
 use Rattle.mj_sessions.specs.Named.{Named, Roomy, session_of, AreTold}
 use Rattle.mj_sys.specs.declared.event.Event.{Event}
 use Rattle.mj_sys.specs.Shared.{Shared, served, takes_session}
 use Rattle.mj_sys.specs.History.{state_of, events_of}
-use Rattle.mj_sys.specs.System.{Recorded, Claimed, Keeps}
+use Rattle.mj_sys.specs.System.{Recorded, Claimed, KeepsBusy}
 use Rattle.mj_sys.specs.Told.{recorded}
-use Rattle.mj_core.specs.declared.seen.Refusal.{Refusal}
-use Rattle.mj_core.specs.declared.seen.Refusal.TheVariants as refusals
+use Rattle.mj_steps.specs.declared.step.Refusal.{Refusal}
+use Rattle.mj_steps.specs.declared.step.Refusal.TheVariants as refusals
 use Rattle.mj_core.specs.declared.slot.Unplaced.{Unplaced}
 use Rattle.mj_core.specs.declared.slot.Unplaced.TheVariants as unplaced
 use Rattle.mj_core.specs.declared.slot.Made.{Made}
 use Rattle.mj_core.specs.declared.slot.Made.TheVariants as made
-use Rattle.mj_events.specs.Happen.{shared_of}
+use Rattle.mj_core.specs.Happen.{shared_of}
 use Rattle.mj_core.specs.Runs.{start_in}
-use Rattle.mj_core.specs.Gives.{fuel, spent_limit, Makes, IsTimely, IsTold}
+use Rattle.mj_core.specs.Gives.{fuel, spent_limit, Makes, IsTimely, IsReplyTold}
 use Rattle.mj_core.specs.Having.{opens_on, has_behind}
 
 -- a job with its claim and its sessions
@@ -90,18 +91,18 @@ abbrev pub Steps : List Routine → Shared → Bool → Recorded → Placed → 
 Steps image opening late old slot made.Event new slot' =
     (a : Ask) × (reply : Reply) × Makes image (start_of slot) slot.job.run.log a × IsTimely late a
     × IsLive (state_of opening old.history).rows slot.claim.job
-    × IsTold (state_of opening old.history) slot.claim.job a late reply (state_of opening new.history)
+    × IsReplyTold (state_of opening old.history) slot.claim.job a late reply (state_of opening new.history)
     × (slot'.job.run.log ≡ slot.job.run.log ++ (a, reply) ∷ [])
     × (slot'.job.run.spent ≡ 0)
     × AreBehind (state_of opening old.history) a slot.sessions.sessions slot'.sessions.sessions
     × (new ≡ record old { history = old.history ++ shared_of (record { job = slot.claim.job; ask = a; reply = reply } ∷ []) })
 Steps image opening late old slot (made.Busy holder held) new slot' =
     (a : Ask) × Makes image (start_of slot) slot.job.run.log a × IsTimely late a
-    × (served (state_of opening old.history) slot.claim.job a late ≡ None) × Keeps (state_of opening old.history) slot.claim.job a holder held
+    × (served (state_of opening old.history) slot.claim.job a late ≡ None) × KeepsBusy (state_of opening old.history) slot.claim.job a holder held
     × (new ≡ old) × IsStill slot slot'
 Steps image opening late old slot made.NotYet new slot' =
     (a : Ask) × Makes image (start_of slot) slot.job.run.log a × IsTimely late a
-    × IsReading a × (is_over (timeout_of a) late ≡ false) × IsQuietOf slot.sessions.sessions a
+    × IsReading a × (is_timed_out (timeout_of a) late ≡ false) × IsQuietOf slot.sessions.sessions a
     × (new ≡ old) × IsStill slot slot'
 Steps image opening late old slot made.Unfit new slot' =
     (a : Ask) × Makes image (start_of slot) slot.job.run.log a × IsTimely late a
@@ -121,10 +122,10 @@ GoesOnBy old a reply new =
 -- what a job that asks is told by its sessions, or isn't
 abbrev pub Talks : Running → List Named → Ask → Bool → Made → Running → List Named → Type 0
 Talks old xs a late made.Event new xs' =
-    (reply : Reply) × (fits a reply ≡ true) × (reply ≡ replies.Late → is_over (timeout_of a) late ≡ true)
+    (reply : Reply) × (fits a reply ≡ true) × (reply ≡ replies.Late → is_timed_out (timeout_of a) late ≡ true)
     × GoesOnBy old a reply new × (AreTold old.run.log xs → AreTold (old.run.log ++ (a, reply) ∷ []) xs')
     × ((s : Shared) → AreBehind s a xs xs')
-Talks old xs a late made.NotYet new xs' = IsReading a × (is_over (timeout_of a) late ≡ false) × IsQuietOf xs a × (new ≡ old) × (xs' ≡ xs)
+Talks old xs a late made.NotYet new xs' = IsReading a × (is_timed_out (timeout_of a) late ≡ false) × IsQuietOf xs a × (new ≡ old) × (xs' ≡ xs)
 Talks old xs a late made.Unfit new xs' = IsShut xs a × (new ≡ old) × (xs' ≡ xs)
 Talks old xs a late _ new xs' = ⊥
 
@@ -138,15 +139,15 @@ Shares opening old claim job xs a late made.Event new claim' job' xs' =
     × GoesOnBy job a reply job' × (AreTold job.run.log xs → AreTold (job.run.log ++ (a, reply) ∷ []) xs')
     × AreBehind (state_of opening old.history) a xs xs'
 Shares opening old claim job xs a late (made.Busy holder held) new claim' job' xs' =
-    (served (state_of opening old.history) claim.job a late ≡ None) × Keeps (state_of opening old.history) claim.job a holder held
+    (served (state_of opening old.history) claim.job a late ≡ None) × KeepsBusy (state_of opening old.history) claim.job a holder held
     × (new ≡ old) × (claim' ≡ claim) × (job' ≡ job) × (xs' ≡ xs)
 Shares opening old claim job xs a late made.Unfit new claim' job' xs' =
     IsTwice (state_of opening old.history) xs a × (new ≡ old) × (claim' ≡ claim) × (job' ≡ job) × (xs' ≡ xs)
 Shares opening old claim job xs a late _ new claim' job' xs' = ⊥
 
 -- what a job that asks is told, or isn't: by its sessions, or by the system
-abbrev pub Tells : Shared → Recorded → Claimed → Running → List Named → Bool → Made → Recorded → Claimed → Running → List Named → Type 0
-Tells opening old claim job xs late made new claim' job' xs' =
+abbrev pub JobIsTold : Shared → Recorded → Claimed → Running → List Named → Bool → Made → Recorded → Claimed → Running → List Named → Type 0
+JobIsTold opening old claim job xs late made new claim' job' xs' =
     (a : Ask) × (job.run.pending ≡ Some a) × IsTimely late a
     × (((is_shared a ≡ false) × Talks job xs a late made job' xs' × (new ≡ old) × (claim' ≡ claim))
     ⊎ ((is_shared a ≡ true) × Shares opening old claim job xs a late made new claim' job' xs'))
@@ -159,8 +160,8 @@ IsMuted job late _ = ⊥
 
 -- there is room for the session that goes to the job by the ask, with the name for it
 abbrev pub IsPlace : Roomy → Ask → Option (List ℕ) → Type 0
-IsPlace sessions (asks.Open device timeout) None = ⊥
-IsPlace sessions (asks.Open device timeout) (Some name) = (name ≡ device) × (0 < sessions.room) × (session_of device sessions.sessions ≡ None)
+IsPlace sessions (asks.Shared (shared_asks.Open device timeout)) None = ⊥
+IsPlace sessions (asks.Shared (shared_asks.Open device timeout)) (Some name) = (name ≡ device) × (0 < sessions.room) × (session_of device sessions.sessions ≡ None)
 IsPlace sessions _ place = Unit {0}
 
 -- why there is no place for it: a session with that device is there; or memory was refused

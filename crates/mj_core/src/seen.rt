@@ -1,22 +1,6 @@
-// Steps, and what comes of them.
+// What comes of steps.
 
 use mj_sys::Held;
-
-/// How a step goes where the job's ask is busy, or there is nothing to read yet.
-#[derive(Clone, Copy, PartialEq, Eq, Debug)]
-pub enum Way {
-    /// it waits, but for a timeout of 0 or less
-    Go,
-    /// its timeout is over
-    Late,
-}
-
-/// A step: this job goes on to its next ask, which is served.
-#[derive(Clone, Copy, PartialEq, Eq, Debug)]
-pub struct Step {
-    pub job: u32,
-    pub way: Way,
-}
 
 /// What a step comes to.
 #[derive(Drop)]
@@ -49,19 +33,4 @@ pub enum Ready<R> {
     Ran,
     /// it has halted
     Ended,
-}
-
-/// Why a step isn't made.
-#[derive(Clone, Copy, PartialEq, Eq, Debug)]
-pub enum Refusal {
-    /// C1: there is no such job
-    NoJob,
-    /// C2: the step is late, and what the job asks has no timeout
-    NotTimed,
-    /// C3: that the job has ended was seen before
-    Ended,
-    /// C4: the history is full
-    Full,
-    /// an allocation was refused
-    Memory,
 }

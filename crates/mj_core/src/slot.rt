@@ -8,15 +8,15 @@ ghost use Rattle.mj_load.specs.Image.{routines_of};
 ghost use Rattle.mj_sys.specs.History.{state_of};
 ghost use Rattle.mj_sys.specs.System.{history_limit};
 ghost use Rattle.mj_sys.specs.Told.{IsTurn};
-ghost use Rattle.mj_core.specs.Gives.{IsRefused};
-ghost use Rattle.mj_core.specs.Ties.{IsPlaced, start_of, Steps, IsStill, Tells, Talks, Shares, IsMuted, IsPlace, IsUnplaced};
+ghost use Rattle.mj_core.specs.Gives.{IsStepRefused};
+ghost use Rattle.mj_core.specs.Ties.{IsPlaced, start_of, Steps, IsStill, JobIsTold, Talks, Shares, IsMuted, IsPlace, IsUnplaced};
 
-use crate::seen::Refusal;
-use mj_ask::{Ask, Reply};
+use mj_ask::{Ask, Reply, SharedAsk};
 use mj_dev::Device;
 use mj_jobvm::{Job, Turn};
 use mj_load::Image;
 use mj_sessions::{Answer, Sessions};
+use mj_steps::Refusal;
 use mj_sys::{Claim, Held, Opening, Refused, Served, System};
 use mj_text::Text;
 use std::marker::Model;
@@ -62,7 +62,7 @@ pub fn step_slot<D: Device, O: Opening>(
     requires live { IsLive (state_of O.opening system.old.history).rows slot.old.claim.job }
     requires room { length system.old.history < history_limit }
     ensures gives { IfOk result (λ made. Steps (routines_of image.now) O.opening late system.old slot.old made system.new slot.new) }
-    ensures refused { IfErr result (λ why. IsRefused (routines_of image.now) (start_of slot.old) slot.old.job.run.log late why) }
+    ensures refused { IfErr result (λ why. IsStepRefused (routines_of image.now) (start_of slot.old) slot.old.job.run.log late why) }
     ensures kept { OnErr result ((system.new ≡ system.old) × IsStill slot.old slot.new) }
     ensures tied { IsPlaced image.now O.opening system.new slot.new }
     ensures claim { (slot.new.claim.job ≡ slot.old.claim.job) × (slot.new.claim.start ≡ slot.old.claim.start) }
@@ -92,7 +92,8 @@ fn ask<D: Device, O: Opening>(
     requires asks { IsSome job.old.run.pending }
     requires turn { IsTurn O.opening system.old claim.old }
     requires room { length system.old.history < history_limit }
-    ensures ok { IfOk result (λ made. Tells O.opening system.old claim.old job.old sessions.old.sessions late made system.new claim.new job.new sessions.new.sessions) }
+    ensures ok { IfOk result
+        (λ made. JobIsTold O.opening system.old claim.old job.old sessions.old.sessions late made system.new claim.new job.new sessions.new.sessions) }
     ensures refused { IfErr result (λ why. IsMuted job.old late why) }
     ensures kept { OnErr result ((system.new ≡ system.old) × (claim.new ≡ claim.old) × (job.new ≡ job.old) × (sessions.new.sessions ≡ sessions.old.sessions)) }
 {
@@ -112,7 +113,8 @@ fn ask<D: Device, O: Opening>(
 // Lets a job's own sessions serve what it asks, and tells it.
 fn talk<D: Device>(job: &mut Job, sessions: &mut Sessions<D>, late: bool) -> Result<Made, Refusal>
     requires asks { (a : asks.Ask) × (job.old.run.pending ≡ Some a) × (is_shared a ≡ false) }
-    ensures ok { IfOk result (λ made. (a : asks.Ask) × (job.old.run.pending ≡ Some a) × Talks job.old sessions.old.sessions a late made job.new sessions.new.sessions) }
+    ensures ok { IfOk result
+        (λ made. (a : asks.Ask) × (job.old.run.pending ≡ Some a) × Talks job.old sessions.old.sessions a late made job.new sessions.new.sessions) }
     ensures err { IfErr result (λ why. (why ≡ Refusal.Memory) × (job.new ≡ job.old) × (sessions.new.sessions ≡ sessions.old.sessions)) }
 {
     let Some(ask) = job.ask() else {
@@ -192,7 +194,7 @@ fn place_for<D: Device>(
     if !takes {
         return Ok(None);
     }
-    let Ask::Open(name, _) = ask else {
+    let Ask::Shared(SharedAsk::Open(name, _)) = ask else {
         return Ok(None);
     };
     if sessions.has(name) {

@@ -11,24 +11,25 @@ ghost use Rattle.mj_sys.specs.History.{state_of, log_of};
 ghost use Rattle.mj_sys.specs.Opening.{opening_of};
 ghost use Rattle.mj_sys.specs.Shared.{are_global};
 ghost use Rattle.mj_sys.specs.System.{Claimed, history_limit};
-ghost use Rattle.mj_events.specs.Woven.{woven};
+ghost use Rattle.mj_core.specs.Woven.{woven};
 ghost use Rattle.mj_core.specs.Runs.{IsRun, start_in, out_of};
-ghost use Rattle.mj_core.specs.Gives.{Gives, Made as StepGives, Readies, RunGives, GivesReady};
+ghost use Rattle.mj_core.specs.Gives.{CoreStepGives, Made as StepGives, Readies, RunGives, GivesReady};
 ghost use Rattle.mj_core.specs.Asking.{turn_of, IfAsks, IsAtAsk};
 ghost use Rattle.mj_core.specs.Kept.{AreKept, logs_of, turns_of, claim_of, shown, shown_event};
 ghost use Rattle.std.specs.Fn.{FnOnceReturnsAt};
 
-use crate::seen::{Ready, Refusal, Seen, Step, Way};
+use crate::happened::Happened;
+use crate::seen::{Ready, Seen};
 use crate::slot::{FUEL, Made, Slot, step_slot};
 use mj_ask::{Ask, Reply, Start};
 use mj_dev::{Device, Pool, Session};
-use mj_events::Happened;
 use mj_globs::Globals;
 use mj_jobs::ROWS_LIMIT;
 use mj_jobvm::{Job, Turn};
 use mj_load::Image;
 use mj_locktab::LockTable;
 use mj_sessions::{Sessions, output};
+use mj_steps::{Refusal, Step, Way};
 use mj_sys::{Claim, HISTORY_LIMIT, Opening, System, Unmade};
 use mj_text::Text;
 use std::alloc::{AllocError, Global};
@@ -56,7 +57,7 @@ impl<D: Device, O: Opening> Model for Core<D, O> {
     ghost use Rattle.mj_ast.specs.contracts.routine.Routine as routine;
     ghost use Rattle.mj_pcode.specs.contracts.instr.Unit as unit;
     ghost use Rattle.mj_dev.specs.Heard.{IsNew};
-    ghost use Rattle.mj_events.specs.Woven.{woven};
+    ghost use Rattle.mj_core.specs.Woven.{woven};
     ghost use Rattle.mj_core.specs.Shown.{Shown};
     ghost use Rattle.mj_core.specs.Kept.{AreKept, logs_of, turns_of, claim_of};
 
@@ -118,7 +119,7 @@ impl<D: Device, O: Opening> Core<D, O> {
 
     /// Makes a step: the job goes on for at most 10,000 turns to its next ask, which is served. Where it isn't made, nothing is asked or told.
     pub fn step(&mut self, step: Step) -> Result<Seen, Refusal>
-        ensures { Gives O.opening self.old step result self.new }
+        ensures { CoreStepGives O.opening self.old step result self.new }
     {
         let Some(at) = self.place(step.job) else {
             return Err(Refusal::NoJob);
@@ -205,7 +206,8 @@ impl<D: Device, O: Opening> Core<D, O> {
     ) -> Result<Ready<R>, Refusal>
         requires { F.IsAlwaysCallable look }
         ensures gives { GivesReady O.opening self.old job (turn_of result) self.new }
-        ensures looked { IfAsks result (λ seen. (found : _) × IsAtAsk self.old.image O.opening self.old.history job found × FnOnceReturnsAt F.FnOnce look found seen) }
+        ensures looked { IfAsks result
+            (λ seen. (found : _) × IsAtAsk self.old.image O.opening self.old.history job found × FnOnceReturnsAt F.FnOnce look found seen) }
     {
         let Some(at) = self.place(job) else {
             return Err(Refusal::NoJob);
@@ -290,7 +292,9 @@ impl<D: Device, O: Opening> Core<D, O> {
     pub fn job(&self, job: u32) -> Option<&Job>
         ensures none { IfNone result (log_of job self.now.history ≡ []) }
         ensures log { IfSome result (λ found. found.now.run.log ≡ log_of job self.now.history) }
-        ensures run { IfSome result (λ found. (row : Row) × (row_at (state_of O.opening self.now.history).rows job ≡ Some row) × IsRunOf self.now.image (start_in job row.start) found.now) }
+        ensures run { IfSome result
+            (λ found. (row : Row) × (row_at (state_of O.opening self.now.history).rows job ≡ Some row)
+            × IsRunOf self.now.image (start_in job row.start) found.now) }
     {
         match (job as usize).checked_sub(1) {
             None => None,
@@ -434,7 +438,8 @@ fn go<D: Device, O: Opening>(
     ensures kept { (waiting : Option Claimed) → AreKept image.now O.opening system.old slots.old waiting order.old.items
         → AreKept image.now O.opening system.new slots.new waiting order.new.items }
     ensures made { (row : Row) → row_at (state_of O.opening (woven (logs_of slots.old) order.old.items)).rows (suc at) ≡ Some row
-        → StepGives O.opening (shown image.now slots.old order.old.items over.old 255) (suc at) row late result (shown image.now slots.new order.new.items over.new 255) }
+        → StepGives O.opening (shown image.now slots.old order.old.items over.old 255) (suc at) row late result
+        (shown image.now slots.new order.new.items over.new 255) }
 {
     let slot = &mut slots[at];
     let happened = Happened {
@@ -471,7 +476,8 @@ fn go_ready<D: Device, O: Opening, R, F: FnOnce(&Job) -> R + Drop>(
     requires there { at < length slots.old }
     requires kept { (waiting : Option Claimed) × AreKept image.now O.opening system.now slots.old waiting order.now }
     requires callable { F.IsAlwaysCallable look }
-    ensures kept { (waiting : Option Claimed) → AreKept image.now O.opening system.now slots.old waiting order.now → AreKept image.now O.opening system.now slots.new waiting order.now }
+    ensures kept { (waiting : Option Claimed) → AreKept image.now O.opening system.now slots.old waiting order.now
+        → AreKept image.now O.opening system.now slots.new waiting order.now }
     ensures readies { (over : List Bool) → (row : Row) → row_at (state_of O.opening (woven (logs_of slots.old) order.now)).rows (suc at) ≡ Some row
         → Readies O.opening (shown image.now slots.old order.now over 255) (suc at) row (turn_of result) (shown image.now slots.new order.now over 255) }
     ensures looked { IfAsks result (λ seen. (found : _) × IsAtAsk image.now O.opening (woven (logs_of slots.old) order.now) (suc at) found

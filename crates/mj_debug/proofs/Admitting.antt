@@ -5,7 +5,7 @@ use Rattle.mj_semantics.specs.Job.{Start}
 use Rattle.mj_semantics.specs.State.{places}
 use Rattle.mj_load.specs.Image.{Loaded, routines_of}
 use Rattle.mj_jobs.specs.Rows.{Row, row_at}
-use Rattle.mj_core.specs.Jobs.{Running, opened, IsRunOf, IsRunOfAfter}
+use Rattle.mj_jobvm.specs.Jobs.{Running, opened, IsRunOf, IsRunOfAfter}
 use Rattle.mj_sys.specs.Shared.{Shared}
 use Rattle.mj_sys.specs.History.{History, state_of}
 use Rattle.mj_sys.specs.System.{Recorded, Claimed}

@@ -11,10 +11,10 @@ use Rattle.mj_semantics.specs.Outcome.{Needs, Ended, More}
 use Rattle.mj_semantics.specs.Job.{Start, next}
 use Rattle.mj_semantics.proofs.Depth.{one_answer}
 use Rattle.mj_load.specs.Image.{Loaded, routines_of}
-use Rattle.mj_core.specs.Turn.TheVariants as turns
-use Rattle.mj_core.specs.Run.{Log, replies_of, IsTrace, begins, goes_on, GoesOn, HasEnded}
-use Rattle.mj_core.specs.Jobs.{Running}
-use Rattle.mj_core.specs.Told.{Told}
+use Rattle.mj_jobvm.specs.declared.job.Turn.TheVariants as turns
+use Rattle.mj_jobvm.specs.Run.{Log, replies_of, IsTrace, begins, goes_on, GoesOn, HasEnded}
+use Rattle.mj_jobvm.specs.Jobs.{Running}
+use Rattle.mj_jobvm.specs.Told.{AdvanceTells}
 use Rattle.mj_debug.specs.Replays.{turns_limit}
 use Rattle.mj_debug.specs.Playing.{AsksIt}
 
@@ -84,7 +84,8 @@ module _ (image : List Routine) (start : Start) (log : Log) (a : Ask) (r : Reply
     m : Makes image start log a r
     m = last_made image start (log ++ (a, r) ∷ []) trace log a r refl
 
-    by : (next image start ended.0 (replies_of log) ≡ More) ⊎ ((next image start m.turns (replies_of log) ≡ More) ⊎ (next image start ended.0 (replies_of log) ≡ next image start m.turns (replies_of log))) → ⊥
+    by : (next image start ended.0 (replies_of log) ≡ More) ⊎ ((next image start m.turns (replies_of log) ≡ More)
+        ⊎ (next image start ended.0 (replies_of log) ≡ next image start m.turns (replies_of log))) → ⊥
     by (inl e) = more_ended (sym e ∙ ended.1)
     by (inr (inl e)) = more_needs a m.locals m.at (sym e ∙ m.needs)
     by (inr (inr e)) = ended_needs a m.locals m.at (sym ended.1 ∙ e ∙ m.needs)
@@ -102,19 +103,19 @@ module _ (image : List Routine) (start : Start) (log : Log) (a : Ask) (r : Reply
 
 module _ (image : Loaded) (start : Start) (old new : Running) (a : Ask) (r : Reply) (log : new.run.log ≡ old.run.log) where
   -- the job ran for all turns that it was let
-  pub ran_long : new.run.spent ≡ min (old.run.spent + 10000000000) (2 ^ 63) → Told (routines_of image) start turns.Ran new.run → AsksIt image start old a r false new
+  pub ran_long : new.run.spent ≡ min (old.run.spent + 10000000000) (2 ^ 63) → AdvanceTells (routines_of image) start turns.Ran new.run → AsksIt image start old a r false new
   ran_long spent told =
       let P : Log → Type 0 = λ l. GoesOn (routines_of image) start l new.run.spent in
       inl (new.run.spent, (let long : turns_limit ≤ new.run.spent = omega (arith, spent) in long), subst P log told)
 
-  pub ended_asks : Told (routines_of image) start turns.Ended new.run → AsksIt image start old a r false new
+  pub ended_asks : AdvanceTells (routines_of image) start turns.Ended new.run → AsksIt image start old a r false new
   ended_asks told =
       let P : Log → Type 0 = λ l. HasEnded (routines_of image) start l in
       inr (over_asks_nothing (routines_of image) start old.run.log a r (subst P log told))
 
   -- it asks, and that is compared
   pub asks_so : (test fit : Bool) → (IsTrue test → new.run.pending ≡ Some a) → (new.run.pending ≡ Some a → IsTrue test) → fits a r ≡ fit
-      → Told (routines_of image) start turns.Asks new.run → AsksIt image start old a r (test && fit) new
+      → AdvanceTells (routines_of image) start turns.Asks new.run → AsksIt image start old a r (test && fit) new
   asks_so true true is only fitting told =
       let pending = is refl in
       let same : told.0 ≡ a = same_Some told.0 a (sym told.1 ∙ pending) in (

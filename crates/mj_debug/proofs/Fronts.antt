@@ -4,15 +4,15 @@ use Rattle.std.proofs.Common.{◌≡◌, List, [], ◌∷◌, ◌++◌, Some, re
 use Rattle.mj_ast.specs.Syntax.{Routine}
 use Rattle.mj_semantics.specs.Job.{Start}
 use Rattle.mj_jobs.specs.Rows.{row_at}
-use Rattle.mj_core.specs.Run.{Log, IsTrace, begins, goes_on}
-use Rattle.mj_dev.specs.Talk.{Exchange, Stand, beginning}
+use Rattle.mj_jobvm.specs.Run.{Log, IsTrace, begins, goes_on}
+use Rattle.mj_dev.specs.Talk.{Exchange, TalkStand, beginning}
 use Rattle.mj_sessions.specs.Events.{talk_on}
-use Rattle.mj_sessions.specs.Follow.{behind, Follow}
+use Rattle.mj_sessions.specs.Follow.{stand_behind, Follow}
 use Rattle.mj_sessions.proofs.Telling.{talk_more}
 use Rattle.mj_sys.specs.Shared.{Shared}
 use Rattle.mj_sys.specs.History.{History, after, state_of, log_of}
 use Rattle.mj_sys.proofs.Rows.{rows_kept, state_of_append, log_of_append}
-use Rattle.mj_events.specs.Happen.{AllHappen}
+use Rattle.mj_core.specs.Happen.{AllHappen}
 use Rattle.mj_core.specs.Runs.{start_in}
 use Rattle.mj_debug.specs.Laws.{AreFrontsRuns}
 
@@ -45,10 +45,10 @@ trace_front image start _ (goes_on log a r n locals at trace needs fit) front ba
         subst P (e ∙ ap (λ l. front ++ l) none ∙ append-nil front) (goes_on log a r n locals at trace needs fit)
     by earlier (inr more) = earlier more.0 more.1
 
-follow_front : (old : Stand) (talk more : List Exchange) (last : Stand) → Follow old (talk ++ more) last → (mid : Stand) × Follow old talk mid
+follow_front : (old : TalkStand) (talk more : List Exchange) (last : TalkStand) → Follow old (talk ++ more) last → (mid : TalkStand) × Follow old talk mid
 follow_front old [] more last f = (old, refl)
 follow_front old (x ∷ talk) more last f =
-    let rest = follow_front (behind x f.0) talk more last f.2 in
+    let rest = follow_front (stand_behind x f.0) talk more last f.2 in
     (rest.0, (f.0, f.1, rest.1))
 
 happen_front : (s : Shared) (history more : History) → AllHappen s (history ++ more) → AllHappen s history

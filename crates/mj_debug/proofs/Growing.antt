@@ -4,18 +4,18 @@ use Rattle.std.proofs.Common.{◌≡◌, ℕ, ◌<◌, ◌≤◌, [], ◌∷◌,
 use Rattle.std.proofs.lemmas.List.{take-append-le}
 use Rattle.mj_load.specs.Image.{Loaded}
 use Rattle.mj_jobs.specs.Rows.{Row}
-use Rattle.mj_core.specs.Turn.{Turn}
-use Rattle.mj_core.specs.Turn.TheVariants as turns
+use Rattle.mj_jobvm.specs.declared.job.Turn.{Turn}
+use Rattle.mj_jobvm.specs.declared.job.Turn.TheVariants as turns
 use Rattle.mj_sys.specs.declared.event.Event.{Event}
 use Rattle.mj_sys.specs.Shared.{Shared}
 use Rattle.mj_sys.specs.History.{History}
 use Rattle.mj_sys.specs.System.{history_limit}
 use Rattle.mj_core.specs.declared.seen.Seen.{Seen}
 use Rattle.mj_core.specs.declared.seen.Seen.TheVariants as seen
-use Rattle.mj_core.specs.declared.seen.Refusal.{Refusal}
-use Rattle.mj_core.specs.declared.seen.Step.{Step}
+use Rattle.mj_steps.specs.declared.step.Refusal.{Refusal}
+use Rattle.mj_steps.specs.declared.step.Step.{Step}
 use Rattle.mj_core.specs.Shown.{Shown}
-use Rattle.mj_core.specs.Gives.{is_late, Gives, Made, GivesReady, Readies}
+use Rattle.mj_core.specs.Gives.{is_late, CoreStepGives, Made, GivesReady, Readies}
 use Rattle.mj_debug.specs.Playing.{AreStaged}
 use Rattle.mj_debug.specs.Replicas.{Replayed, IsReplica}
 
@@ -67,7 +67,7 @@ module _ (opening : Shared) (old new : Shown) (room : length old.history < histo
   made_grows (Err why) made = same old new made.1
 
 -- by a step
-pub step_grows : (opening : Shared) (old new : Shown) (step : Step) (answer : Result Seen Refusal) → Gives opening old step answer new → Grows old new
+pub step_grows : (opening : Shared) (old new : Shown) (step : Step) (answer : Result Seen Refusal) → CoreStepGives opening old step answer new → Grows old new
 step_grows opening old new step answer (inl none) = same old new none.2
 step_grows opening old new step answer (inr (row, is, inl over)) = same old new over.2
 step_grows opening old new step answer (inr (row, is, inr (inl full))) = same old new full.3

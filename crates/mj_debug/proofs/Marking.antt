@@ -9,7 +9,7 @@ use Rattle.std.proofs.lemmas.List.Sums.{fails_before_first, prefix_len-le-length
 use Rattle.std.proofs.Common.{◌≡◌, ℕ, zero, suc, ◌<◌, ◌≤◌, List, [], ◌∷◌, ◌++◌, length, Bool, true, false, Option, Some, None, cond, nat_lt, refl, sym, ap, ◌∙◌, arith}
 use Rattle.mj_semantics.specs.State.{Place}
 use Rattle.mj_load.specs.Image.{Loaded}
-use Rattle.mj_debug.specs.declared.breaks.Mark.{Mark}
+use Rattle.mj_debug.specs.declared.breaks.BreakMark.{BreakMark}
 use Rattle.mj_debug.specs.Breaks.{is_same, line_of, is_breakpoint}
 
 -- lines that are one are equal
@@ -41,7 +41,7 @@ module _ (image : Loaded) (line : Place) (on : Bool) (other : Place) where
     by false c e f = ap (λ b. if b then was_on else rest) e ∙ is ∙ ap (λ b. now (if b then was_on else was)) (sym e)
 
   -- the mark of the line is changed
-  pub changed : (marks : List Mark) (k : ℕ) (d mark : Mark) → k < length marks → is_same (line_of (slice_index_or marks k d)) line ≡ true
+  pub changed : (marks : List BreakMark) (k : ℕ) (d mark : BreakMark) → k < length marks → is_same (line_of (slice_index_or marks k d)) line ≡ true
       → ((j : ℕ) → j < k → is_same (line_of (slice_index_or marks j d)) line ≡ false)
       → line_of mark ≡ line_of (slice_index_or marks k d) → mark.on ≡ on
       → is_breakpoint image (slice_set marks k mark) other ≡ now (is_breakpoint image marks other)
@@ -66,7 +66,7 @@ module _ (image : Loaded) (line : Place) (on : Bool) (other : Place) where
       (changed marks k d mark (omega (arith, within)) here (λ j below. before (suc j) (omega (arith, below))) same is_on)
 
   -- a line without a mark gets one
-  pub marked : (marks : List Mark) (mark : Mark) → line_of mark ≡ line → mark.on ≡ on → ((j : ℕ) (d : Mark) → j < length marks → is_same (line_of (slice_index_or marks j d)) line ≡ false)
+  pub marked : (marks : List BreakMark) (mark : BreakMark) → line_of mark ≡ line → mark.on ≡ on → ((j : ℕ) (d : BreakMark) → j < length marks → is_same (line_of (slice_index_or marks j d)) line ≡ false)
       → is_breakpoint image (marks ++ mark ∷ []) other ≡ now (is_breakpoint image marks other)
   marked [] mark new is_on none =
       ap (λ p. if is_same p other then mark.on else is_breakpoint image [] other) new ∙ ap (λ b. if is_same line other then b else is_breakpoint image [] other) is_on
@@ -82,8 +82,8 @@ ends p xs none = by (nat_lt (position_or_len p xs) (length xs)) refl none where
   by false e q = let at_most : position_or_len p xs ≤ length xs = prefix_len-le-length _ xs in omega (arith, ltb-false, e, at_most)
 
 -- a line that isn't found has no mark
-pub unmarked : (line : Place) (marks : List Mark) → position (λ m. is_same (line_of m) line) marks ≡ None
-    → (j : ℕ) (d : Mark) → j < length marks → is_same (line_of (slice_index_or marks j d)) line ≡ false
+pub unmarked : (line : Place) (marks : List BreakMark) → position (λ m. is_same (line_of m) line) marks ≡ None
+    → (j : ℕ) (d : BreakMark) → j < length marks → is_same (line_of (slice_index_or marks j d)) line ≡ false
 unmarked line marks none j d below =
     let end = ends (λ m. is_same (line_of m) line) marks none in
     fails_before_first (λ m. is_same (line_of m) line) marks j d (omega (arith, end, below))

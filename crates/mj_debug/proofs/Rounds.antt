@@ -8,7 +8,7 @@ use Rattle.mj_ask.specs.declared.ask.Ask.{Ask}
 use Rattle.mj_ask.specs.declared.ask.Reply.{Reply}
 use Rattle.mj_ask.specs.Fits.{is_shared}
 use Rattle.mj_jobs.specs.Rows.{Row, IsLive}
-use Rattle.mj_events.specs.Happen.{shared_of}
+use Rattle.mj_core.specs.Happen.{shared_of}
 use Rattle.mj_load.specs.Image.{Loaded, routines_of}
 use Rattle.mj_sys.specs.declared.event.Event.{Event}
 use Rattle.mj_sys.specs.Shared.{Shared}
@@ -154,7 +154,8 @@ is_long image opening history at e is run (inl not) = absurd (not (
     fronts (routines_of image) opening (take at history ++ e ∷ []) (drop (at + 1) history) (subst P whole run)))
 
 -- an event that is recorded and wasn't made
-pub play_off : (image image' : Loaded) (opening : Shared) (history : History) (at : ℕ) (e : Event) (made : Bool) (new : Recorded) (jobs' : List Playing) → image' ≡ image → slice_get history at ≡ Some e
+pub play_off : (image image' : Loaded) (opening : Shared) (history : History) (at : ℕ) (e : Event) (made : Bool) (new : Recorded) (jobs' : List Playing) → image' ≡ image
+    → slice_get history at ≡ Some e
     → IsRun (routines_of image) opening history → made ≡ false → Stages image' opening (take at history) e made new jobs' → IsLongAt image opening history at
 play_off image image' opening history at e made new jobs' same there run off stages =
     let P : Loaded → Type 0 = λ i. Stages i opening (take at history) e made new jobs' in

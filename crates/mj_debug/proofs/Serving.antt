@@ -4,6 +4,8 @@ use Rattle.std.specs.Str.{bytes_eq}
 use Rattle.std.proofs.Common.{◌≡◌, ℕ, ◌+◌, List, [], ◌∷◌, ◌++◌, Bool, true, false, cond, Option, Some, None, refl, sym, ap, ◌∙◌, subst}
 use Rattle.mj_ask.specs.declared.ask.Ask.{Ask}
 use Rattle.mj_ask.specs.declared.ask.Ask.TheVariants as asks
+use Rattle.mj_ask.specs.declared.ask.SharedAsk.{SharedAsk}
+use Rattle.mj_ask.specs.declared.ask.SharedAsk.TheVariants as shared_asks
 use Rattle.mj_ask.specs.declared.ask.Reply.{Reply}
 use Rattle.mj_ask.specs.declared.ask.Reply.TheVariants as replies
 use Rattle.mj_ask.specs.Fits.{is_shared}
@@ -15,7 +17,7 @@ use Rattle.mj_locktab.specs.Locks.{Locks}
 use Rattle.mj_locktab.specs.Tries.{outcome_of, after_try}
 use Rattle.mj_subs.specs.Name.{Name}
 use Rattle.mj_sys.specs.Devices.{Device, device_at}
-use Rattle.mj_sys.specs.Shared.{Shared, busy, tried, open_free, open_known, served}
+use Rattle.mj_sys.specs.Shared.{Shared, busy, tried, open_free, open_known, answered, served}
 use Rattle.mj_sys.specs.History.{state_of, after, IsServed}
 use Rattle.mj_sys.specs.System.{Recorded, Claimed}
 use Rattle.mj_sys.proofs.Replays.{left}
@@ -60,24 +62,14 @@ module _ (s : Shared) (reply : Reply) (t : Shared) where
   named_late job name timeout true e = e
   named_late job name timeout false e = found_late job name timeout (device_at s.devices name) e
 
+  shared_late : (job : ℕ) (ask : SharedAsk) → Told (answered s job ask false) → Told (answered s job ask true)
+  shared_late job (shared_asks.Try names timeout) e = tried_late job names timeout (outcome_of s.locks job names) (after_try s.locks job names) e
+  shared_late job (shared_asks.Open name timeout) e = named_late job name timeout (bytes_eq name principal) e
+  shared_late job _ e = e
+
   ask_late : (job : ℕ) (ask : Ask) → Told (served s job ask false) → Told (served s job ask true)
-  ask_late job (asks.Access a) e = e
-  ask_late job (asks.Try names timeout) e = tried_late job names timeout (outcome_of s.locks job names) (after_try s.locks job names) e
-  ask_late job (asks.Unlock names) e = e
-  ask_late job asks.UnlockAll e = e
-  ask_late job (asks.Open name timeout) e = named_late job name timeout (bytes_eq name principal) e
-  ask_late job (asks.Close name) e = e
-  ask_late job (asks.Start start timeout) e = e
-  ask_late job (asks.Halt fault) e = e
-  ask_late job (asks.Begin kind) e = e
-  ask_late job asks.Commit e = e
-  ask_late job asks.Rollback e = e
-  ask_late job (asks.DeviceBegin device) e = e
-  ask_late job (asks.DeviceWrite device bytes) e = e
-  ask_late job (asks.DeviceLine device timeout) e = e
-  ask_late job (asks.DeviceByte device timeout) e = e
-  ask_late job (asks.DeviceEnd device) e = e
-  ask_late job (asks.Rest time) e = e
+  ask_late job (asks.Shared ask) e = shared_late job ask e
+  ask_late job _ e = e
 
   pub always_late : (job : ℕ) (ask : Ask) (late : Bool) → Told (served s job ask late) → Told (served s job ask true)
   always_late job ask true e = e
@@ -115,7 +107,8 @@ module _ (opening : Shared) (old new : Recorded) (claim claim' : Claimed) (ask :
 
 -- what isn't served by this reply doesn't happen
 pub not_served : (s : Shared) (job : ℕ) (ask : Ask) (reply : Reply) → ((t : Shared) → served s job ask true ≡ Some (reply, t) → ⊥) → IsServed s (record { job = job; ask = ask; reply = reply }) → ⊥
-not_served s job ask reply not is = not (after s (record { job = job; ask = ask; reply = reply })) (always_late s reply (after s (record { job = job; ask = ask; reply = reply })) job ask is.2.0 is.2.1)
+not_served s job ask reply not is =
+    not (after s (record { job = job; ask = ask; reply = reply })) (always_late s reply (after s (record { job = job; ask = ask; reply = reply })) job ask is.2.0 is.2.1)
 
 -- what is served by it does
 pub is_served : (s t : Shared) (job : ℕ) (ask : Ask) (reply : Reply) → IsLive s.rows job → is_shared ask ≡ true → served s job ask true ≡ Some (reply, t)

@@ -11,8 +11,8 @@ use Rattle.mj_semantics.specs.State.{places}
 use Rattle.mj_semantics.specs.Job.{Start}
 use Rattle.mj_load.specs.Image.{Loaded, routines_of}
 use Rattle.mj_jobs.specs.Rows.{Row, row_at, IsLive}
-use Rattle.mj_core.specs.Run.{Log, IsTrace, begins, GoesOn}
-use Rattle.mj_core.specs.Jobs.{Running, IsRunOf}
+use Rattle.mj_jobvm.specs.Run.{Log, IsTrace, begins, GoesOn}
+use Rattle.mj_jobvm.specs.Jobs.{Running, IsRunOf}
 use Rattle.mj_sessions.specs.Follow.{AreTalks}
 use Rattle.mj_sys.specs.declared.event.Event.{Event}
 use Rattle.mj_sys.specs.Shared.{Shared}
@@ -21,15 +21,15 @@ use Rattle.mj_sys.specs.System.{Recorded, Claimed}
 use Rattle.mj_sys.specs.Told.{recorded}
 use Rattle.mj_sys.proofs.Replays.{no_events}
 use Rattle.mj_sys.proofs.Rows.{rows_kept, state_of_append, log_of_append, events_of_append}
-use Rattle.mj_events.specs.Happen.{AllHappen, Happens, shared_of}
-use Rattle.mj_events.proofs.Happen.{shared_append, happen_more, shared_leaves}
-use Rattle.mj_events.proofs.Logs.{log_own, log_other, shared_silent}
+use Rattle.mj_core.specs.Happen.{AllHappen, Happens, shared_of}
+use Rattle.mj_core.proofs.Happen.{shared_append, happen_more, shared_leaves}
+use Rattle.mj_core.proofs.Logs.{log_own, log_other, shared_silent}
 use Rattle.mj_expect.specs.Heeds.{Heeds, AreHeeds, Heard}
 use Rattle.mj_expect.proofs.Hearing.{heard_shared, heard_talks}
 use Rattle.mj_core.specs.Runs.{IsRun, start_in}
 use Rattle.mj_debug.specs.Replays.{IsUnmade}
 use Rattle.mj_debug.specs.Shows.{Stood}
-use Rattle.mj_debug.specs.Playing.{Playing, start_of, IsPlaying, AsksIt, ServesIt, Plays, IsAt, AreStaged}
+use Rattle.mj_debug.specs.Playing.{Playing, start_of, IsPlaying, AsksIt, ServesIt, Plays, IsPlayingOf, AreStaged}
 use Rattle.mj_debug.proofs.Serving.{not_served, is_served}
 
 -- an element of a list with one that was changed
@@ -222,7 +222,7 @@ module _ (image : Loaded) (opening : Shared) (history : History) (system : Recor
     abbrev own : Event
     own = record { job = suc k; ask = ask; reply = reply }
 
-    at : IsAt image opening system history (suc k) played
+    at : IsPlayingOf image opening system history (suc k) played
     at = staged.tied k played here
 
     log_on : log_of (suc k) (history ++ own ∷ []) ≡ played.job.run.log ++ (ask, reply) ∷ []
@@ -284,10 +284,10 @@ module _ (image : Loaded) (opening : Shared) (history : History) (system : Recor
           let Q : Event → Type 0 = λ e. Happens (state_of opening system.history) e in
           subst P (sym same_state) (subst Q same_event made.0)
 
-      its_own : IsAt image opening new history' (suc k) played'
+      its_own : IsPlayingOf image opening new history' (suc k) played'
       its_own = record { numbered = made.2 ∙ at.numbered; placed = made.1; logged = log_on ∙ sym made.3 }
 
-      other : (j : ℕ) (p : Playing) → (j ≡ k → ⊥) → slice_get jobs j ≡ Some p → IsAt image opening new history' (suc j) p
+      other : (j : ℕ) (p : Playing) → (j ≡ k → ⊥) → slice_get jobs j ≡ Some p → IsPlayingOf image opening new history' (suc j) p
       other j p apart there =
           let before = staged.tied j p there in
           let not_it : suc k ≡ suc j → ⊥ = λ is. apart (let i : suc k ≡ suc j = is in omega (arith, i)) in
@@ -303,12 +303,12 @@ module _ (image : Loaded) (opening : Shared) (history : History) (system : Recor
                 ∙ append-nil (log_of (suc j) history) ∙ before.logged;
           }
 
-      tied_on : (j : ℕ) (p : Playing) → slice_get jobs' j ≡ Some p → IsAt image opening new history' (suc j) p
+      tied_on : (j : ℕ) (p : Playing) → slice_get jobs' j ≡ Some p → IsPlayingOf image opening new history' (suc j) p
       tied_on j p there = by (get_set jobs k j played' p there) where
-        by : ((j ≡ k) × (p ≡ played')) ⊎ ((j ≡ k → ⊥) × (slice_get jobs j ≡ Some p)) → IsAt image opening new history' (suc j) p
+        by : ((j ≡ k) × (p ≡ played')) ⊎ ((j ≡ k → ⊥) × (slice_get jobs j ≡ Some p)) → IsPlayingOf image opening new history' (suc j) p
         by (inl is) =
-            let P : ℕ → Type 0 = λ i. IsAt image opening new history' (suc i) played' in
-            let Q : Playing → Type 0 = λ q. IsAt image opening new history' (suc j) q in
+            let P : ℕ → Type 0 = λ i. IsPlayingOf image opening new history' (suc i) played' in
+            let Q : Playing → Type 0 = λ q. IsPlayingOf image opening new history' (suc j) q in
             subst Q (sym is.1) (subst P (sym is.0) its_own)
         by (inr is) = other j p is.0 is.1
 
@@ -352,7 +352,7 @@ module _ (image : Loaded) (opening : Shared) (history : History) (system : Recor
     silent_first : log_of (suc (length jobs)) history ≡ []
     silent_first = staged.none (suc (length jobs)) (omega arith)
 
-    its_first : IsAt image opening new history (suc (length jobs)) begun
+    its_first : IsPlayingOf image opening new history (suc (length jobs)) begun
     its_first =
         let silent : log_of claim.job system.history ≡ [] =
         ap (λ j. log_of j system.history) its_number ∙ ap (log_of (suc (length jobs))) (sym staged.shared) ∙ shared_silent (suc (length jobs)) history silent_first in
@@ -371,12 +371,12 @@ module _ (image : Loaded) (opening : Shared) (history : History) (system : Recor
           logged = silent_first ∙ sym first;
         }
 
-    tied_more : (j : ℕ) (p : Playing) → slice_get more j ≡ Some p → IsAt image opening new history (suc j) p
+    tied_more : (j : ℕ) (p : Playing) → slice_get more j ≡ Some p → IsPlayingOf image opening new history (suc j) p
     tied_more j p there = by (get_end jobs j begun p there) where
-      by : ((j ≡ length jobs) × (p ≡ begun)) ⊎ (slice_get jobs j ≡ Some p) → IsAt image opening new history (suc j) p
+      by : ((j ≡ length jobs) × (p ≡ begun)) ⊎ (slice_get jobs j ≡ Some p) → IsPlayingOf image opening new history (suc j) p
       by (inl e) =
-          let P : ℕ → Type 0 = λ i. IsAt image opening new history (suc i) begun in
-          let Q : Playing → Type 0 = λ q. IsAt image opening new history (suc j) q in
+          let P : ℕ → Type 0 = λ i. IsPlayingOf image opening new history (suc i) begun in
+          let Q : Playing → Type 0 = λ q. IsPlayingOf image opening new history (suc j) q in
           subst Q (sym e.1) (subst P (sym e.0) its_first)
       by (inr e) =
           let before = staged.tied j p e in

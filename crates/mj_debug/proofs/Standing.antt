@@ -7,8 +7,8 @@ use Rattle.mj_semantics.specs.State.{places}
 use Rattle.mj_semantics.specs.Job.{Start}
 use Rattle.mj_load.specs.Image.{Loaded, routines_of}
 use Rattle.mj_jobs.specs.Rows.{row_at}
-use Rattle.mj_core.specs.Run.{Log}
-use Rattle.mj_core.specs.Jobs.{Running}
+use Rattle.mj_jobvm.specs.Run.{Log}
+use Rattle.mj_jobvm.specs.Jobs.{Running}
 use Rattle.mj_sys.specs.Shared.{Shared}
 use Rattle.mj_sys.specs.History.{History, state_of, log_of}
 use Rattle.mj_core.specs.Runs.{start_in}

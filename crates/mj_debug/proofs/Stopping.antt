@@ -4,13 +4,13 @@ use Rattle.std.proofs.Common.{◌≡◌, ℕ, List, [], ◌∷◌, length, map, 
 use Rattle.std.proofs.lemmas.Option.{none-some, same_Some}
 use Rattle.mj_semantics.specs.State.{State, Frame, Place, places, place_of}
 use Rattle.mj_load.specs.Image.{routines_of}
-use Rattle.mj_core.specs.Jobs.{Running}
+use Rattle.mj_jobvm.specs.Jobs.{Running}
 use Rattle.mj_sys.specs.Shared.{Shared}
 use Rattle.mj_sys.specs.History.{History}
 use Rattle.mj_core.specs.Asking.{IsAtAsk}
 use Rattle.mj_debug.specs.Breaks.{stops, is_breakpoint, is_there}
 use Rattle.mj_debug.specs.Shows.{HasStood}
-use Rattle.mj_debug.specs.Goes.{innermost, Comes, IsStop}
+use Rattle.mj_debug.specs.Goes.{innermost, ComesToAsk, IsStop}
 use Rattle.mj_debug.specs.Walks.{Walk}
 
 -- the innermost of a state's lines is its place
@@ -37,7 +37,7 @@ front_whole history place end = ap (λ n. take n history) end ∙ take_whole his
 
 module _ (opening : Shared) (w : Walk) (job : ℕ) (found : Running) (asks : IsAtAsk w.core.image opening w.core.history job found) where
   -- a job that stands at its ask comes to its next ask there
-  pub comes : Comes (routines_of w.core.image) opening w.core job (places found.run.at.state)
+  pub comes : ComesToAsk (routines_of w.core.image) opening w.core job (places found.run.at.state)
   comes = (asks.row, asks.there, (asks.needs.0, asks.ask, found.run.at.state.locals, asks.needs.1))
 
   -- and whether that is one to stop at

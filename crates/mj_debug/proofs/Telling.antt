@@ -8,7 +8,7 @@ use Rattle.mj_semantics.specs.State.{State, places}
 use Rattle.mj_semantics.specs.Outcome.{Needs}
 use Rattle.mj_load.specs.Image.{Loaded, routines_of}
 use Rattle.mj_jobs.specs.Rows.{IsLive}
-use Rattle.mj_core.specs.Jobs.{Running, IsRunOf}
+use Rattle.mj_jobvm.specs.Jobs.{Running, IsRunOf}
 use Rattle.mj_sys.specs.Shared.{Shared}
 use Rattle.mj_sys.specs.History.{state_of}
 use Rattle.mj_sys.specs.System.{Recorded, Claimed}
@@ -50,7 +50,8 @@ module _ (image : Loaded) (opening : Shared) (old : Recorded) (claim : Claimed) 
 
     -- it is served, and told
     pub is_served_on : {E : Type 0} (b : Bool) → b ≡ true → is_shared ask ≡ true → (new : Recorded) (claim' : Claimed) → ServesIt opening old claim ask reply b new claim'
-        → (result : Result Bool E) → IfOk result (λ made. (made ≡ true) × IsToldOn mid ask reply job') → IfOk result (λ made. Plays image opening old claim job heeds ask reply made new claim' job' heeds)
+        → (result : Result Bool E) → IfOk result (λ made. (made ≡ true) × IsToldOn mid ask reply job')
+        → IfOk result (λ made. Plays image opening old claim job heeds ask reply made new claim' job' heeds)
     is_served_on b is shared new claim' serves (Ok made) told =
         let P : Bool → Type 0 = λ x. ServesIt opening old claim ask reply x new claim' in
         let Q : Bool → Type 0 = λ x. Plays image opening old claim job heeds ask reply x new claim' job' heeds in
@@ -59,7 +60,8 @@ module _ (image : Loaded) (opening : Shared) (old : Recorded) (claim : Claimed) 
 
     -- it is heard, and told
     pub is_heard_on : {E : Type 0} (b : Bool) → b ≡ true → is_shared ask ≡ false → (heeds' : Heeds) → Heard job.run.log ask reply b heeds'
-        → (result : Result Bool E) → IfOk result (λ made. (made ≡ true) × IsToldOn mid ask reply job') → IfOk result (λ made. Plays image opening old claim job heeds ask reply made old claim job' heeds')
+        → (result : Result Bool E) → IfOk result (λ made. (made ≡ true) × IsToldOn mid ask reply job')
+        → IfOk result (λ made. Plays image opening old claim job heeds ask reply made old claim job' heeds')
     is_heard_on b is unshared heeds' all (Ok made) told =
         let P : Bool → Type 0 = λ x. Heard job.run.log ask reply x heeds' in
         let Q : Bool → Type 0 = λ x. Plays image opening old claim job heeds ask reply x old claim job' heeds' in

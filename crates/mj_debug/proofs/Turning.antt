@@ -2,11 +2,11 @@
 use Rattle.std.specs.Prelude.{◌⊎◌, Result, Ok}
 use Rattle.std.proofs.Common.{◌≡◌, ℕ, arith, List, ◌∷◌, length, Bool, true, false, refl, sym, ap, ◌∙◌, subst, inl, inr}
 use Rattle.mj_semantics.specs.State.{Place}
-use Rattle.mj_core.specs.Turn.{Turn}
-use Rattle.mj_core.specs.Turn.TheVariants as turns
+use Rattle.mj_jobvm.specs.declared.job.Turn.{Turn}
+use Rattle.mj_jobvm.specs.declared.job.Turn.TheVariants as turns
 use Rattle.mj_sys.specs.Shared.{Shared}
 use Rattle.mj_sys.specs.History.{state_of}
-use Rattle.mj_core.specs.declared.seen.Refusal.{Refusal}
+use Rattle.mj_steps.specs.declared.step.Refusal.{Refusal}
 use Rattle.mj_core.specs.Shown.{Shown}
 use Rattle.mj_core.specs.Gives.{GivesReady}
 use Rattle.mj_debug.specs.declared.debugger.Gone.{Gone}

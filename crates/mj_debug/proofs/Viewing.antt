@@ -9,14 +9,14 @@ use Rattle.mj_semantics.specs.State.{Frame, Locals, Place}
 use Rattle.mj_store.specs.Questions.{Content}
 use Rattle.mj_load.specs.Image.{Loaded, routines_of}
 use Rattle.mj_jobs.specs.Rows.{row_at}
-use Rattle.mj_core.specs.Jobs.{Running}
+use Rattle.mj_jobvm.specs.Jobs.{Running}
 use Rattle.mj_core.specs.Shown.{Shown}
 use Rattle.mj_sys.specs.Shared.{Shared}
 use Rattle.mj_sys.specs.History.{History, state_of}
-use Rattle.mj_views.specs.Views.{Stand, Viewed, Window, job_in, view_at, frames_seen, locals_seen}
+use Rattle.mj_views.specs.Views.{JobView, Viewed, Window, job_in, view_at, frames_seen, locals_seen}
 use Rattle.mj_debug.specs.Playing.{Playing}
 use Rattle.mj_sys.specs.System.{history_limit}
-use Rattle.mj_debug.specs.Replicas.{Keeping, Begins, Replayed, job_of, IsReplica, IsFull}
+use Rattle.mj_debug.specs.Replicas.{Keeping, BeginsRun, Replayed, job_of, IsReplica, IsFull}
 use Rattle.mj_debug.specs.Shows.{HasStood}
 use Rattle.mj_debug.specs.Views.{stand_of_played, view_of, IsView, AreViews, AreBefore, IsPutOrGone, is_ready}
 use Rattle.mj_debug.proofs.Growing.{Grows}
@@ -25,7 +25,7 @@ use Rattle.mj_debug.proofs.Standing.{shared_there, no_row, stands}
 -- ---- a view of a run that is played again
 
 -- a job as it stands
-abbrev pub standing : Running → Stand
+abbrev pub standing : Running → JobView
 standing job = record { frames = job.run.at.state.frames; locals = job.run.at.state.locals }
 
 pub job_there : (opening : Shared) (replica : Replayed) (job : ℕ) → job_in (view_of opening replica) job ≡ option_map standing (job_of replica job)
@@ -61,7 +61,7 @@ unmapped : (job : Option Running) → option_map standing job ≡ None → job �
 unmapped None e = refl
 unmapped (Some job) e = absurd (none-some (standing job) (sym e))
 
-mapped : (job : Option Running) (stand : Stand) → option_map standing job ≡ Some stand → (found : Running) × (job ≡ Some found) × (standing found ≡ stand)
+mapped : (job : Option Running) (stand : JobView) → option_map standing job ≡ Some stand → (found : Running) × (job ≡ Some found) × (standing found ≡ stand)
 mapped None stand e = absurd (none-some stand e)
 mapped (Some job) stand e = (job, refl, same_Some (standing job) stand e)
 
@@ -76,7 +76,7 @@ is_view image opening history replica is full place at =
       none = λ job missing. no_row image opening history replica is place at full job (unmapped (job_of replica job) (sym (job_there opening replica job) ∙ missing));
       some = λ job stand found. (
           let its = mapped (job_of replica job) stand (sym (job_there opening replica job) ∙ found) in
-          let P : Stand → Type 0 = λ s. HasStood (routines_of image) opening (take place history) job s.locals (map (λ (f : Frame). f.place) s.frames) in
+          let P : JobView → Type 0 = λ s. HasStood (routines_of image) opening (take place history) job s.locals (map (λ (f : Frame). f.place) s.frames) in
           subst P its.2 (stands image opening history replica is place at job its.0 its.1));
     }
 
@@ -86,11 +86,11 @@ module _ (image : Loaded) (opening : Shared) (front : History) (view : Viewed) (
   abbrev NoRow : Type 0
   NoRow = row_at (state_of opening front).rows job ≡ None
 
-  no_frames : (stand : Option Stand) → None ≡ frames_seen stand → stand ≡ None
+  no_frames : (stand : Option JobView) → None ≡ frames_seen stand → stand ≡ None
   no_frames None e = refl
   no_frames (Some stand) e = absurd (none-some stand.frames e)
 
-  no_locals : (stand : Option Stand) → None ≡ locals_seen stand → stand ≡ None
+  no_locals : (stand : Option JobView) → None ≡ locals_seen stand → stand ≡ None
   no_locals None e = refl
   no_locals (Some stand) e = absurd (none-some stand.locals e)
 
@@ -106,7 +106,7 @@ module _ (image : Loaded) (opening : Shared) (front : History) (view : Viewed) (
       → IfSome shown (λ x. (locals : Locals) × HasStood (routines_of image) opening front job locals (map (λ (f : Frame). f.place) (f x)))
   frames_some f None e = tt
   frames_some f (Some x) e = by (job_in view job) refl e where
-    by : (stand : Option Stand) → job_in view job ≡ stand → Some (f x) ≡ frames_seen stand
+    by : (stand : Option JobView) → job_in view job ≡ stand → Some (f x) ≡ frames_seen stand
         → (locals : Locals) × HasStood (routines_of image) opening front job locals (map (λ (f : Frame). f.place) (f x))
     by None here e = absurd (none-some (f x) (sym e))
     by (Some stand) here e =
@@ -117,7 +117,7 @@ module _ (image : Loaded) (opening : Shared) (front : History) (view : Viewed) (
       → IfSome shown (λ x. (places : List Place) × HasStood (routines_of image) opening front job (f x) places)
   locals_some f None e = tt
   locals_some f (Some x) e = by (job_in view job) refl e where
-    by : (stand : Option Stand) → job_in view job ≡ stand → Some (f x) ≡ locals_seen stand
+    by : (stand : Option JobView) → job_in view job ≡ stand → Some (f x) ≡ locals_seen stand
         → (places : List Place) × HasStood (routines_of image) opening front job (f x) places
     by None here e = absurd (none-some (f x) (sym e))
     by (Some stand) here e =
@@ -260,8 +260,8 @@ pub keeps_on : (opening : Shared) (kept : Keeping) (place place' : ℕ) (old new
     → place' ≤ length new.history → length new.history ≤ history_limit
     → ((r : Replayed) → IsReplica old.image opening old.history r → IsReplica new.image opening new.history r)
     → ((w : Window) → AreViews old.image opening old.history w → AreViews new.image opening new.history w)
-    → Begins opening kept × (place ≤ length old.history) × (length old.history ≤ history_limit)
+    → BeginsRun opening kept × (place ≤ length old.history) × (length old.history ≤ history_limit)
     × IfSome replica (λ r. IsReplica old.image opening old.history r × IsFull opening r) × AreViews old.image opening old.history views
-    → Begins opening kept × (place' ≤ length new.history) × (length new.history ≤ history_limit)
+    → BeginsRun opening kept × (place' ≤ length new.history) × (length new.history ≤ history_limit)
     × IfSome replica (λ r. IsReplica new.image opening new.history r × IsFull opening r) × AreViews new.image opening new.history views
 keeps_on opening kept place place' old new replica views within short on still is = (is.0, within, short, run_on opening old new replica on is.3, still views is.4)

@@ -32,6 +32,7 @@ counts_say (shelf ∷ shelves) whole = λ i. its i ∷ counts_say shelves whole.
 pub counts_some : (shelves : List Shelf) → AreWhole shelves → All (λ (count : List ℕ × ℕ). 1 ≤ count.1) (map count_of shelves)
 counts_some [] whole = λ k d within. absurd (omega (arith, within))
 counts_some (shelf ∷ shelves) whole = λ k d within. by (counts_some shelves whole.2) k d within where
-  by : All (λ (count : List ℕ × ℕ). 1 ≤ count.1) (map count_of shelves) → (k : ℕ) (d : List ℕ × ℕ) → k < length (map count_of (shelf ∷ shelves)) → 1 ≤ (slice_index_or (map count_of (shelf ∷ shelves)) k d).1
+  by : All (λ (count : List ℕ × ℕ). 1 ≤ count.1) (map count_of shelves) → (k : ℕ) (d : List ℕ × ℕ) → k < length (map count_of (shelf ∷ shelves))
+      → 1 ≤ (slice_index_or (map count_of (shelf ∷ shelves)) k d).1
   by rest zero d within = (let some = whole.0 in omega (arith, some))
   by rest (suc k) d within = rest k d (omega (arith, within))

@@ -7,18 +7,18 @@ use Rattle.mj_semantics.specs.Outcome as outcomes
 use Rattle.mj_semantics.specs.Job.{next}
 use Rattle.mj_load.specs.Image.{routines_of}
 use Rattle.mj_jobs.specs.Rows.{Row, row_at, IsLive}
-use Rattle.mj_core.specs.Turn.{Turn}
-use Rattle.mj_core.specs.Turn.TheVariants as turns
-use Rattle.mj_core.specs.Run.{replies_of}
+use Rattle.mj_jobvm.specs.declared.job.Turn.{Turn}
+use Rattle.mj_jobvm.specs.declared.job.Turn.TheVariants as turns
+use Rattle.mj_jobvm.specs.Run.{replies_of}
 use Rattle.mj_sys.specs.Shared.{Shared}
 use Rattle.mj_sys.specs.History.{state_of, log_of}
 use Rattle.mj_core.specs.declared.seen.Seen.{Seen}
 use Rattle.mj_core.specs.declared.seen.Seen.TheVariants as seen
-use Rattle.mj_core.specs.declared.seen.Refusal.{Refusal}
-use Rattle.mj_core.specs.declared.seen.Way.TheVariants as ways
+use Rattle.mj_steps.specs.declared.step.Refusal.{Refusal}
+use Rattle.mj_steps.specs.declared.step.Way.TheVariants as ways
 use Rattle.mj_core.specs.Runs.{start_in}
 use Rattle.mj_core.specs.Shown.{Shown}
-use Rattle.mj_core.specs.Gives.{Gives, GivesReady}
+use Rattle.mj_core.specs.Gives.{CoreStepGives, GivesReady}
 use Rattle.mj_debug.specs.declared.debugger.Gone.{Gone}
 use Rattle.mj_debug.specs.declared.debugger.Gone.TheVariants as gones
 use Rattle.mj_debug.specs.Breaks.{stops}
@@ -38,8 +38,8 @@ abbrev pub IsTurnOf : List Row → ℕ → ℕ → Type 0
 IsTurnOf rows turn job = IsLowest rows turn job ⊎ (AreOver rows turn × IsLowest rows 0 job)
 
 -- with its frames at these lines, the innermost first, the job comes to its next ask
-abbrev pub Comes : List Routine → Shared → Shown → ℕ → List Place → Type 0
-Comes image opening old job places =
+abbrev pub ComesToAsk : List Routine → Shared → Shown → ℕ → List Place → Type 0
+ComesToAsk image opening old job places =
     (row : Row) × (row_at (state_of opening old.history).rows job ≡ Some row)
     × ((n : ℕ) × (a : Ask) × (locals : Locals) × (next image (start_in job row.start) n (replies_of (log_of job old.history)) ≡ outcomes.Needs a locals places))
 
@@ -57,7 +57,7 @@ abbrev pub IsStop : Shared → Walk → ℕ → List Place → Bool → Type 0
 IsStop opening old job places stop =
     (before : List Place) × (locals : Locals)
     × HasStood (routines_of old.core.image) opening old.core.history job locals before
-    × Comes (routines_of old.core.image) opening old.core job places
+    × ComesToAsk (routines_of old.core.image) opening old.core job places
     × (stops old.core.image old.marks (innermost before) (innermost places) ≡ stop)
 
 -- what a step comes to in which the job doesn't come to its next ask
@@ -70,9 +70,9 @@ IsUnasked (Err why) answer = answer ≡ Err why
 -- What the job whose turn it is does: it makes a step; but the first one of a `go` apart, only where its next ask is none to stop at, and where it
 -- doesn't come to one, that it was let go on is its step.
 abbrev pub Passes : Shared → Walk → Bool → ℕ → Result Seen Refusal → Shown → Type 0
-Passes opening old true job answer new = Gives opening old.core (record { job = job; way = ways.Go }) answer new
+Passes opening old true job answer new = CoreStepGives opening old.core (record { job = job; way = ways.Go }) answer new
 Passes opening old false job answer new =
-    ((places : List Place) × IsStop opening old job places false × Gives opening old.core (record { job = job; way = ways.Go }) answer new)
+    ((places : List Place) × IsStop opening old job places false × CoreStepGives opening old.core (record { job = job; way = ways.Go }) answer new)
     ⊎ ((turn : Result Turn Refusal) × IsUnasked turn answer × GivesReady opening old.core job turn new)
 
 -- What comes of the next step of a `go`: that the place isn't the record's end; that all jobs have ended; that the job whose turn it is stops at a
@@ -92,5 +92,5 @@ GoGives opening old first (gones.Step job answer) new =
 -- a job was stepped by Go at the record's end, and it is the next job's turn
 abbrev pub IsPassed : Shared → Walk → ℕ → Gone → Walk → Type 0
 IsPassed opening old job gone new =
-    (answer : Result Seen Refusal) × (gone ≡ gones.Step job answer) × Gives opening old.core (record { job = job; way = ways.Go }) answer new.core
+    (answer : Result Seen Refusal) × (gone ≡ gones.Step job answer) × CoreStepGives opening old.core (record { job = job; way = ways.Go }) answer new.core
     × (new ≡ record old { core = new.core; place = length new.core.history; ready = new.ready; turn = suc job })

@@ -8,15 +8,15 @@ use Rattle.mj_semantics.specs.Outcome as outcomes
 use Rattle.mj_semantics.specs.Job.{Start, next}
 use Rattle.mj_load.specs.Image.{Loaded, routines_of}
 use Rattle.mj_jobs.specs.Rows.{Row, row_at}
-use Rattle.mj_core.specs.Run.{replies_of, GoesOn, IsTrace}
-use Rattle.mj_core.specs.Jobs.{Running, IsRunOf}
+use Rattle.mj_jobvm.specs.Run.{replies_of, GoesOn, IsTrace}
+use Rattle.mj_jobvm.specs.Jobs.{Running, IsRunOf}
 use Rattle.mj_sessions.specs.Follow.{AreTalks}
 use Rattle.mj_sys.specs.declared.event.Event.{Event}
 use Rattle.mj_sys.specs.Shared.{Shared, served}
 use Rattle.mj_sys.specs.History.{History, state_of, log_of, events_of}
 use Rattle.mj_sys.specs.System.{Recorded, Claimed}
 use Rattle.mj_sys.specs.Told.{recorded}
-use Rattle.mj_events.specs.Happen.{shared_of, Happens, AllHappen}
+use Rattle.mj_core.specs.Happen.{shared_of, Happens, AllHappen}
 use Rattle.mj_expect.specs.Heeds.{Heeds, AreHeeds}
 use Rattle.mj_core.specs.Runs.{start_in}
 use Rattle.mj_debug.specs.Replays.{turns_limit, IsUnmade}
@@ -83,7 +83,7 @@ Plays image opening old claim job heeds ask reply false new claim' job' heeds' =
 -- ---- all jobs
 
 -- a job is that of this number, and the history has its log
-pub record IsAt (image : Loaded) (opening : Shared) (system : Recorded) (history : History) (job : ℕ) (played : Playing) : Type 0 where
+pub record IsPlayingOf (image : Loaded) (opening : Shared) (system : Recorded) (history : History) (job : ℕ) (played : Playing) : Type 0 where
   pub numbered : played.claim.job ≡ job
   pub placed : IsPlaying image opening system played.claim played.job played.heeds
   pub logged : log_of job history ≡ played.job.run.log
@@ -94,7 +94,7 @@ pub record AreStaged (image : Loaded) (opening : Shared) (history : History) (sy
   pub shared : shared_of history ≡ system.history
   pub happen : AllHappen opening history
   pub claimed : system.claimed ≡ length jobs
-  pub tied : (k : ℕ) (played : Playing) → slice_get jobs k ≡ Some played → IsAt image opening system history (suc k) played
+  pub tied : (k : ℕ) (played : Playing) → slice_get jobs k ≡ Some played → IsPlayingOf image opening system history (suc k) played
   pub none : (job : ℕ) → length jobs < job → log_of job history ≡ []
   pub zero : log_of 0 history ≡ []
 

@@ -5,7 +5,7 @@ use Rattle.mj_store.specs.Questions.{Content}
 use Rattle.mj_dev.specs.Shelves.{Shelf, AreRising, principal, left_of}
 use Rattle.mj_jobs.specs.Rows.{rows_limit}
 use Rattle.mj_load.specs.Image.{Loaded, routines_of}
-use Rattle.mj_core.specs.Jobs.{Running}
+use Rattle.mj_jobvm.specs.Jobs.{Running}
 use Rattle.mj_sys.specs.declared.event.Event.{Event}
 use Rattle.mj_sys.specs.Opening.{opening_of}
 use Rattle.mj_sys.specs.Shared.{Shared, are_global}
@@ -30,7 +30,7 @@ abbrev pub shelves_of : Keeping → List Shelf
 shelves_of kept = map shelf_of kept.counts
 
 -- from what is kept a run begins with this opening
-pub record Begins (opening : Shared) (kept : Keeping) : Type 0 where
+pub record BeginsRun (opening : Shared) (kept : Keeping) : Type 0 where
   pub same : opening_of kept.globals (shelves_of kept) kept.starts ≡ opening
   pub global : are_global kept.globals ≡ true
   pub some : 1 ≤ length kept.starts

@@ -7,7 +7,7 @@ use Rattle.mj_semantics.specs.State.{Locals, Place}
 use Rattle.mj_semantics.specs.Outcome as outcomes
 use Rattle.mj_semantics.specs.Job.{Start, next}
 use Rattle.mj_jobs.specs.Rows.{Row, row_at}
-use Rattle.mj_core.specs.Run.{Log, replies_of}
+use Rattle.mj_jobvm.specs.Run.{Log, replies_of}
 use Rattle.mj_sys.specs.Shared.{Shared}
 use Rattle.mj_sys.specs.History.{History, state_of, log_of}
 use Rattle.mj_core.specs.Runs.{start_in}

@@ -4,13 +4,13 @@ use Rattle.mj_load.specs.Image.{Loaded, routines_of}
 use Rattle.mj_jobs.specs.Rows.{row_at}
 use Rattle.mj_sys.specs.Shared.{Shared}
 use Rattle.mj_sys.specs.History.{History, state_of}
-use Rattle.mj_views.specs.Views.{Stand, Viewed, Window, job_in, view_at}
+use Rattle.mj_views.specs.Views.{JobView, Viewed, Window, job_in, view_at}
 use Rattle.mj_debug.specs.Playing.{Playing}
 use Rattle.mj_debug.specs.Replicas.{Replayed, is_at}
 use Rattle.mj_debug.specs.Shows.{HasStood}
 
 -- a job as it stands in a run that is played again
-abbrev pub stand_of_played : Playing → Stand
+abbrev pub stand_of_played : Playing → JobView
 stand_of_played played = record { frames = played.job.run.at.state.frames; locals = played.job.run.at.state.locals }
 
 -- what a run that is played again has to show
@@ -27,7 +27,7 @@ pub record IsView (image : Loaded) (opening : Shared) (front : History) (view : 
   pub globals : view.globals ≡ (state_of opening front).globals
   pub locks : view.locks ≡ (state_of opening front).locks
   pub none : (job : ℕ) → job_in view job ≡ None → row_at (state_of opening front).rows job ≡ None
-  pub some : (job : ℕ) (stand : Stand) → job_in view job ≡ Some stand → HasStood (routines_of image) opening front job stand.locals (map (λ f. f.place) stand.frames)
+  pub some : (job : ℕ) (stand : JobView) → job_in view job ≡ Some stand → HasStood (routines_of image) opening front job stand.locals (map (λ f. f.place) stand.frames)
 
 -- each view is of a place before the history's end, and shows what the events before its place leave
 abbrev pub AreViews : Loaded → Shared → History → Window → Type 0

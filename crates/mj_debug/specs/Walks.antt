@@ -4,13 +4,13 @@ use Rattle.mj_dev.specs.Shelves.{Shelf}
 use Rattle.mj_sys.specs.Shared.{Shared}
 use Rattle.mj_sys.specs.History.{History}
 use Rattle.mj_core.specs.declared.seen.Seen.{Seen}
-use Rattle.mj_core.specs.declared.seen.Refusal.{Refusal}
-use Rattle.mj_core.specs.declared.seen.Step.{Step}
+use Rattle.mj_steps.specs.declared.step.Refusal.{Refusal}
+use Rattle.mj_steps.specs.declared.step.Step.{Step}
 use Rattle.mj_core.specs.Shown.{Shown}
-use Rattle.mj_core.specs.Gives.{Gives}
-use Rattle.mj_debug.specs.declared.breaks.Mark.{Mark}
-use Rattle.mj_debug.specs.declared.debugger.Refused.{Refused}
-use Rattle.mj_debug.specs.declared.debugger.Refused.TheVariants as refusals
+use Rattle.mj_core.specs.Gives.{CoreStepGives}
+use Rattle.mj_debug.specs.declared.breaks.BreakMark.{BreakMark}
+use Rattle.mj_debug.specs.declared.debugger.WalkRefusal.{WalkRefusal}
+use Rattle.mj_debug.specs.declared.debugger.WalkRefusal.TheVariants as refusals
 
 -- What is seen of a debugger: the jobs with the record so far; the place in the record; whether what stands there is at hand; the marks of
 -- lines; and the job with whose turn a `go` begins.
@@ -18,7 +18,7 @@ pub record Walk : Type 0 where
   pub core : Shown
   pub place : ℕ
   pub ready : Bool
-  pub marks : List Mark
+  pub marks : List BreakMark
   pub turn : ℕ
 
 -- the events before the place
@@ -31,31 +31,31 @@ AreWhole [] = Unit {0}
 AreWhole (shelf ∷ shelves) = (1 ≤ shelf.left) × (shelf.taken ≡ 0) × AreWhole shelves
 
 -- what a step of the jobs answers, as an answer of the debugger
-abbrev pub told : Result Seen Refusal → Result Seen Refused
-told (Ok seen) = Ok seen
-told (Err why) = Err (refusals.Step why)
+abbrev pub walk_answer : Result Seen Refusal → Result Seen WalkRefusal
+walk_answer (Ok seen) = Ok seen
+walk_answer (Err why) = Err (refusals.Step why)
 
 -- the jobs went on, and the place is the record's end again
 abbrev pub IsOn : Walk → Walk → Type 0
 IsOn old new = new ≡ record old { core = new.core; place = length new.core.history; ready = new.ready }
 
 -- What a step gives: elsewhere than at the record's end it isn't made; there it gives what a step of the jobs gives.
-abbrev pub StepGives : Shared → Walk → Step → Result Seen Refused → Walk → Type 0
+abbrev pub StepGives : Shared → Walk → Step → Result Seen WalkRefusal → Walk → Type 0
 StepGives opening old step answer new =
     ((old.place < length old.core.history) × (answer ≡ Err refusals.NotAtEnd) × (new ≡ old))
     ⊎ ((old.place ≡ length old.core.history)
-    × ((seen : Result Seen Refusal) × (answer ≡ told seen) × Gives opening old.core step seen new.core × IsOn old new))
+    × ((seen : Result Seen Refusal) × (answer ≡ walk_answer seen) × CoreStepGives opening old.core step seen new.core × IsOn old new))
 
 -- the place is another
-abbrev pub IsAt : ℕ → Walk → Walk → Type 0
-IsAt place old new = new ≡ record old { place = place; ready = new.ready }
+abbrev pub MovesTo : ℕ → Walk → Walk → Type 0
+MovesTo place old new = new ≡ record old { place = place; ready = new.ready }
 
 -- one event back, which is told; none is before the first
 abbrev pub GoesBack : Walk → Option ℕ → Walk → Type 0
 GoesBack old None new = (old.place ≡ 0) × (new ≡ old)
-GoesBack old (Some at) new = (old.place ≡ suc at) × IsAt at old new
+GoesBack old (Some at) new = (old.place ≡ suc at) × MovesTo at old new
 
 -- one event on, which is told; none is behind the last
 abbrev pub GoesForth : Walk → Option ℕ → Walk → Type 0
 GoesForth old None new = (old.place ≡ length old.core.history) × (new ≡ old)
-GoesForth old (Some at) new = (old.place ≡ at) × (at < length old.core.history) × IsAt (suc at) old new
+GoesForth old (Some at) new = (old.place ≡ at) × (at < length old.core.history) × MovesTo (suc at) old new

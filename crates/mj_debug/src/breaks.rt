@@ -11,14 +11,14 @@ use std::alloc::AllocError;
 
 // That a line is a breakpoint, or none.
 #[derive(Drop)]
-pub struct Mark {
+pub struct BreakMark {
     pub routine: Text,
     pub line: u32,
     pub on: bool,
 }
 
 // Whether a line is a breakpoint.
-pub fn is_breakpoint(image: &Image, marks: &[Mark], routine: &Text, line: u32) -> bool
+pub fn is_breakpoint(image: &Image, marks: &[BreakMark], routine: &Text, line: u32) -> bool
     ensures { result ≡ is_breakpoint image.now marks.now (record { routine = routine.now; line = line }) }
 {
     for mark in marks {
@@ -31,7 +31,7 @@ pub fn is_breakpoint(image: &Image, marks: &[Mark], routine: &Text, line: u32) -
 
 // Says of a line whether it is a breakpoint from now on.
 pub fn put_mark(
-    marks: &mut Vec<Mark>,
+    marks: &mut Vec<BreakMark>,
     routine: &Text,
     line: u32,
     on: bool,
@@ -47,21 +47,21 @@ pub fn put_mark(
         None => {
             marks.reserve(1)?;
             let routine = routine.try_clone()?;
-            marks.push_reserved(Mark { routine, line, on });
+            marks.push_reserved(BreakMark { routine, line, on });
             Ok(())
         }
     }
 }
 
 // Where the mark of a line stands.
-fn place_of(marks: &[Mark], routine: &Text, line: u32) -> Option<usize>
+fn place_of(marks: &[BreakMark], routine: &Text, line: u32) -> Option<usize>
     ensures { result ≡ position (λ m. is_same (line_of m) (record { routine = routine.now; line = line })) marks.now }
 {
     marks.iter().position(|mark| is_of(mark, routine, line))
 }
 
 // Whether a mark is of this line.
-fn is_of(mark: &Mark, routine: &Text, line: u32) -> bool
+fn is_of(mark: &BreakMark, routine: &Text, line: u32) -> bool
     ensures { result ≡ is_same (line_of mark.now) (record { routine = routine.now; line = line }) }
 {
     mark.routine == *routine && mark.line == line

@@ -5,7 +5,7 @@ ghost use Rattle.mj_dev.specs.Shelves.{principal, left_of};
 ghost use Rattle.mj_frames.specs.Frames.{frames_of, place_at};
 ghost use Rattle.mj_jobs.specs.Rows.{row_at, rows_limit};
 ghost use Rattle.mj_core.specs.Asking.{IsAtAsk, IfAsks, turn_of};
-ghost use Rattle.mj_core.specs.Jobs.{Running};
+ghost use Rattle.mj_jobvm.specs.Jobs.{Running};
 ghost use Rattle.mj_core.specs.declared.seen.Ready.TheVariants as readies;
 ghost use Rattle.mj_load.specs.Image.{routines_of};
 ghost use Rattle.mj_semantics.specs.State as states;
@@ -14,7 +14,7 @@ ghost use Rattle.mj_sys.specs.History.{state_of};
 ghost use Rattle.mj_sys.specs.Opening.{opening_of};
 ghost use Rattle.mj_sys.specs.Shared.{are_global};
 ghost use Rattle.mj_sys.specs.System.{history_limit};
-ghost use Rattle.mj_core.specs.Gives.{Gives, GivesReady};
+ghost use Rattle.mj_core.specs.Gives.{CoreStepGives, GivesReady};
 ghost use Rattle.mj_debug.specs.Breaks.{AreMarked, is_there};
 ghost use Rattle.mj_debug.specs.Goes.{GoGives, IsTurnOf, IsStop, IsUnasked, IsPassed, line_in};
 ghost use Rattle.mj_debug.specs.Replicas.{Replayed, IsReplica, IsFull, IsUnshown};
@@ -23,14 +23,14 @@ ghost use Rattle.mj_debug.specs.Views.{view_of, IsView, AreViews};
 ghost use Rattle.mj_debug.specs.Walks.{front, AreWhole, StepGives, IsOn, GoesBack, GoesForth};
 ghost use Rattle.mj_views.specs.Views.{Window};
 
-use crate::breaks::{Mark, is_breakpoint, put_mark};
+use crate::breaks::{BreakMark, is_breakpoint, put_mark};
 use crate::replica::{Kept, Replica, Unshown, bring, keep};
 use mj_ask::Start;
-use mj_core::jobvm::Job;
 use mj_core::{Core, Ready, Refusal, Seen, Step, Way};
 use mj_dev::{Device, Pool};
 use mj_frames::Frame;
 use mj_globs::Globals;
+use mj_jobvm::Job;
 use mj_load::Image;
 use mj_locals::Locals;
 use mj_locktab::LockTable;
@@ -42,7 +42,7 @@ use std::marker::Model;
 
 /// Why a step isn't made.
 #[derive(Clone, Copy, PartialEq, Eq, Debug)]
-pub enum Refused {
+pub enum WalkRefusal {
     /// the place isn't the record's end
     NotAtEnd,
     /// the job isn't stepped there
@@ -85,7 +85,7 @@ pub struct Debugger<D: Device, O: Opening> {
     replica: Option<Replica<O>>,
     // of places before one that was shown behind a step back
     views: Views,
-    marks: Vec<Mark>,
+    marks: Vec<BreakMark>,
     turn: u32,
 }
 
@@ -95,7 +95,7 @@ impl<D: Device, O: Opening> Model for Debugger<D, O> {
     ghost use Rattle.mj_ast.specs.contracts.routine.Routine as routine;
     ghost use Rattle.mj_pcode.specs.contracts.instr.Unit as unit;
     ghost use Rattle.mj_sys.specs.System.{history_limit};
-    ghost use Rattle.mj_debug.specs.Replicas.{Begins, IsReplica, IsFull};
+    ghost use Rattle.mj_debug.specs.Replicas.{BeginsRun, IsReplica, IsFull};
     ghost use Rattle.mj_debug.specs.Views.{AreViews, is_ready};
     ghost use Rattle.mj_debug.specs.Walks.{Walk};
 
@@ -112,7 +112,7 @@ impl<D: Device, O: Opening> Model for Debugger<D, O> {
     } };
 
     ghost invariant = { λ d.
-        Begins O.opening d.kept
+        BeginsRun O.opening d.kept
         × (d.place ≤ length d.core.history)
         × (length d.core.history ≤ history_limit)
         × IfSome d.replica (λ r. IsReplica d.core.image O.opening d.core.history r × IsFull O.opening r)
@@ -181,15 +181,15 @@ impl<D: Device, O: Opening> Debugger<D, O> {
     }
 
     /// Makes a step as `Core::step` does, where the place is the record's end, and goes with it.
-    pub fn step(&mut self, step: Step) -> Result<Seen, Refused>
+    pub fn step(&mut self, step: Step) -> Result<Seen, WalkRefusal>
         ensures { StepGives O.opening self.old step result self.new }
     {
         if self.place < self.core.len() {
-            return Err(Refused::NotAtEnd);
+            return Err(WalkRefusal::NotAtEnd);
         }
         match self.make(step) {
             Ok(seen) => Ok(seen),
-            Err(why) => Err(Refused::Step(why)),
+            Err(why) => Err(WalkRefusal::Step(why)),
         }
     }
 
@@ -368,7 +368,7 @@ impl<D: Device, O: Opening> Debugger<D, O> {
     // Makes a step at the record's end, and goes with it.
     fn make(&mut self, step: Step) -> Result<Seen, Refusal>
         requires { self.old.place ≡ length self.old.core.history }
-        ensures gives { Gives O.opening self.old.core step result self.new.core }
+        ensures gives { CoreStepGives O.opening self.old.core step result self.new.core }
         ensures rest { IsOn self.old self.new }
     {
         let answer = step_on(&mut self.core, step);
@@ -381,8 +381,10 @@ impl<D: Device, O: Opening> Debugger<D, O> {
     fn stop(&self, job: u32, line: Option<(Text, u32)>) -> Option<(Text, u32)>
         requires end { self.now.place ≡ length self.now.core.history }
         requires ready { self.now.ready ≡ true }
-        requires asks { (found : Running) × IsAtAsk self.now.core.image O.opening self.now.core.history job found × (line_in line ≡ place_of found.run.at.state) }
-        ensures some { IfSome result (λ line. (outer : List states.Place) × IsStop O.opening self.now job (record { routine = line.0; line = line.1 } ∷ outer) true) }
+        requires asks { (found : Running) × IsAtAsk self.now.core.image O.opening self.now.core.history job found
+            × (line_in line ≡ place_of found.run.at.state) }
+        ensures some { IfSome result
+            (λ line. (outer : List states.Place) × IsStop O.opening self.now job (record { routine = line.0; line = line.1 } ∷ outer) true) }
         ensures none { IfNone result ((places : List states.Place) × IsStop O.opening self.now job places false) }
     {
         let Some(then) = self.played().job(job) else {
@@ -441,9 +443,10 @@ fn at_hand<O: Opening>(replica: &Option<Replica<O>>) -> &Replica<O>
 // Makes a step. What was played of the record stays played, and views of it are views of it still.
 fn step_on<D: Device, O: Opening>(core: &mut Core<D, O>, step: Step) -> Result<Seen, Refusal>
     requires { length core.old.history ≤ history_limit }
-    ensures gives { Gives O.opening core.old step result core.new }
+    ensures gives { CoreStepGives O.opening core.old step result core.new }
     ensures short { length core.new.history ≤ history_limit }
-    ensures replica { (replica : Replayed) → IsReplica core.old.image O.opening core.old.history replica → IsReplica core.new.image O.opening core.new.history replica }
+    ensures replica { (replica : Replayed) → IsReplica core.old.image O.opening core.old.history replica
+        → IsReplica core.new.image O.opening core.new.history replica }
     ensures views { (views : Window) → AreViews core.old.image O.opening core.old.history views → AreViews core.new.image O.opening core.new.history views }
 {
     core.step(step)
@@ -460,7 +463,8 @@ fn ready_on<D: Device, O: Opening>(
         × IsAtAsk core.old.image O.opening core.old.history job found × (line_in line ≡ place_of found.run.at.state))) }
     ensures image { core.new.image ≡ core.old.image }
     ensures history { core.new.history ≡ core.old.history }
-    ensures replica { (replica : Replayed) → IsReplica core.old.image O.opening core.old.history replica → IsReplica core.new.image O.opening core.new.history replica }
+    ensures replica { (replica : Replayed) → IsReplica core.old.image O.opening core.old.history replica
+        → IsReplica core.new.image O.opening core.new.history replica }
     ensures views { (views : Window) → AreViews core.old.image O.opening core.old.history views → AreViews core.new.image O.opening core.new.history views }
 {
     core.ready_job(job, line_of)

@@ -11,7 +11,7 @@ use mj_dev::Device;
 use mj_subs::Subs;
 use mj_sys::Opening;
 use mj_text::Text;
-use mj_tree::{Sink, Stop};
+use mj_tree::{Sink, SinkStop};
 use mj_views::Views;
 use std::alloc::Global;
 
@@ -148,9 +148,9 @@ impl Sink for Left {
         _word: &[u8],
         _subscripts: &Subs,
         _text: &Text,
-    ) -> Result<(), Stop> {
+    ) -> Result<(), SinkStop> {
         match self.nodes.checked_sub(1) {
-            None => Err(Stop::Closed),
+            None => Err(SinkStop::Closed),
             Some(left) => {
                 self.nodes = left;
                 Ok(())

@@ -4,16 +4,16 @@ ghost use Rattle.std.specs.Prelude.{◌≡◌, ◌<◌, ◌↔◌, length, true,
 ghost use Rattle.mj_ask.specs.Fits.{fits, is_shared};
 ghost use Rattle.mj_jobs.specs.Rows.{IsLive};
 ghost use Rattle.mj_semantics.specs.Job.{Start as Starts};
-ghost use Rattle.mj_core.specs.Jobs.{IsRunOf, IsIn};
+ghost use Rattle.mj_jobvm.specs.Jobs.{IsRunOf, IsIn};
 ghost use Rattle.mj_sys.specs.History.{state_of};
 ghost use Rattle.mj_sys.specs.System.{history_limit};
 ghost use Rattle.mj_sys.specs.Told.{IsTurn};
 ghost use Rattle.mj_debug.specs.Playing.{IsPlaying, AsksIt, ServesIt, IsToldOn, Plays};
 
 use mj_ask::{Ask, Reply};
-use mj_core::jobvm::{Job, Turn};
 use mj_dev::Device;
 use mj_expect::{Heeds, is_same_ask, is_same_reply};
+use mj_jobvm::{Job, Turn};
 use mj_load::Image;
 use mj_sys::{Claim, Opening, Refused, Served, System};
 use std::alloc::AllocError;
@@ -51,7 +51,8 @@ pub fn play<D: Device, O: Opening>(
     requires tied { IsPlaying image.now O.opening system.old claim.old job.old heeds.old }
     requires live { IsLive (state_of O.opening system.old.history).rows claim.old.job }
     requires room { length system.old.history < history_limit }
-    ensures { IfOk result (λ made. Plays image.now O.opening system.old claim.old job.old heeds.old ask.now reply.now made system.new claim.new job.new heeds.new) }
+    ensures { IfOk result
+        (λ made. Plays image.now O.opening system.old claim.old job.old heeds.old ask.now reply.now made system.new claim.new job.new heeds.new) }
 {
     if !asks_it(image, job, ask, reply)? {
         return Ok(false);

@@ -15,10 +15,10 @@ ghost use Rattle.mj_debug.specs.Playing.{AreStaged, Stages};
 
 use crate::playing::{Played, play};
 use mj_ask::{Ask, Reply, Start};
-use mj_core::jobvm::Job;
 use mj_dev::{Device, Pool};
 use mj_expect::Heeds;
 use mj_globs::Globals;
+use mj_jobvm::Job;
 use mj_load::Image;
 use mj_sys::{Opening, System};
 use std::alloc::{AllocError, Global};
@@ -130,7 +130,9 @@ pub fn admit<D: Device, O: Opening>(
 ) -> Result<(), AllocError>
     requires staged { (history : History) × AreStaged image.now O.opening history system.old jobs.old.items }
     requires row { job ≤ length (state_of O.opening system.old.history).rows }
-    ensures staged { OnOk result ((history : History) → AreStaged image.now O.opening history system.old jobs.old.items → AreStaged image.now O.opening history system.new jobs.new.items) }
+    ensures staged { OnOk result
+        ((history : History) → AreStaged image.now O.opening history system.old jobs.old.items
+        → AreStaged image.now O.opening history system.new jobs.new.items) }
     ensures history { system.new.history ≡ system.old.history }
     ensures there { OnOk result (job ≤ length jobs.new.items) }
 {
@@ -149,7 +151,9 @@ fn start_next<D: Device, O: Opening>(
 ) -> Result<(), AllocError>
     requires staged { (history : History) × AreStaged image.now O.opening history system.old jobs.old.items }
     requires row { length jobs.old.items < length (state_of O.opening system.old.history).rows }
-    ensures staged { OnOk result ((history : History) → AreStaged image.now O.opening history system.old jobs.old.items → AreStaged image.now O.opening history system.new jobs.new.items) }
+    ensures staged { OnOk result
+        ((history : History) → AreStaged image.now O.opening history system.old jobs.old.items
+        → AreStaged image.now O.opening history system.new jobs.new.items) }
     ensures history { system.new.history ≡ system.old.history }
     ensures more { OnOk result (length jobs.new.items ≡ suc (length jobs.old.items)) }
 {

@@ -7,7 +7,7 @@ ghost use Rattle.mj_jobs.specs.Rows.{rows_limit};
 ghost use Rattle.mj_sys.specs.History.{History, state_of};
 ghost use Rattle.mj_sys.specs.System.{history_limit};
 ghost use Rattle.mj_debug.specs.Goes.{IsTurnOf, IsLowest, AreOver};
-ghost use Rattle.mj_debug.specs.Replicas.{Begins, shelf_of, shelves_of, job_of, IsReplica, IsFull, IsUnshown};
+ghost use Rattle.mj_debug.specs.Replicas.{BeginsRun, shelf_of, shelves_of, job_of, IsReplica, IsFull, IsUnshown};
 ghost use Rattle.mj_debug.specs.Views.{view_of, AreViews};
 ghost use Rattle.mj_debug.specs.Walks.{AreWhole};
 ghost use Rattle.mj_views.specs.Views.{frames_seen, locals_seen, job_in, view_at};
@@ -17,10 +17,10 @@ use crate::playing::Played;
 use crate::replaying::{admit, make_event};
 use mj_ask::Start;
 use mj_core::Core;
-use mj_core::jobvm::Job;
 use mj_dev::{Device, Memory, Pool};
 use mj_frames::Frame;
 use mj_globs::Globals;
+use mj_jobvm::Job;
 use mj_load::Image;
 use mj_locals::Locals;
 use mj_locktab::LockTable;
@@ -74,7 +74,7 @@ impl<O: Opening> Model for Replica<O> {
 impl<O: Opening> Replica<O> {
     // A run of which no event was played yet.
     fn begin(alloc: Global, kept: &Kept) -> Result<Replica<O>, AllocError>
-        requires { Begins O.opening kept.now }
+        requires { BeginsRun O.opening kept.now }
         ensures { IfOk result (λ replica. replica ≡ record { system = record { history = []; claimed = 0 }; jobs = []; made = 0 }) }
     {
         let globals = kept.globals.try_clone()?;
@@ -258,7 +258,7 @@ pub fn bring<D: Device, O: Opening>(
     replica: Option<Replica<O>>,
     place: usize,
 ) -> Result<Replica<O>, Unshown>
-    requires kept { Begins O.opening kept.now }
+    requires kept { BeginsRun O.opening kept.now }
     requires views { AreViews core.now.image O.opening core.now.history views.old }
     requires unseen { view_at views.old place ≡ None }
     requires replica { IfSome replica (λ r. IsReplica core.now.image O.opening core.now.history r) }
@@ -324,7 +324,7 @@ fn again<D: Device, O: Opening>(
     place: usize,
     most: usize,
 ) -> Result<Replica<O>, Unshown>
-    requires kept { Begins O.opening kept.now }
+    requires kept { BeginsRun O.opening kept.now }
     requires within { place ≤ length core.now.history }
     requires short { length core.now.history ≤ history_limit }
     ensures ok { IfOk result (λ r. IsReplica core.now.image O.opening core.now.history r) }

@@ -40,40 +40,47 @@ find-at p (x ∷ xs) zero d within here before = ap (λ b. cond b (Some x) (find
 find-at p (x ∷ xs) (suc i) d within here before =
     ap (λ b. cond b (Some x) (find p xs)) (before 0 (omega arith)) ∙ find-at p xs i d (omega arith) here (λ k below. before (suc k) (omega arith))
 
-pub with_first-at : {X : Type 0} (p : X → Bool) (f : X → X) (xs : List X) (i : ℕ) (d : X) → i < length xs → p (get_or xs i d) ≡ true → ((k : ℕ) → k < i → p (get_or xs k d) ≡ false) → with_first p f xs ≡ set xs i (f (get_or xs i d))
+pub with_first-at : {X : Type 0} (p : X → Bool) (f : X → X) (xs : List X) (i : ℕ) (d : X) → i < length xs → p (get_or xs i d) ≡ true → ((k : ℕ) → k < i → p (get_or xs k d) ≡ false)
+    → with_first p f xs ≡ set xs i (f (get_or xs i d))
 with_first-at p f [] i d within here before = absurd (omega arith)
 with_first-at p f (x ∷ xs) zero d within here before = ap (λ b. cond b (f x ∷ xs) (x ∷ with_first p f xs)) here
 with_first-at p f (x ∷ xs) (suc i) d within here before =
     ap (λ b. cond b (f x ∷ xs) (x ∷ with_first p f xs)) (before 0 (omega arith)) ∙ ap (λ ys. x ∷ ys) (with_first-at p f xs i d (omega arith) here (λ k below. before (suc k) (omega arith)))
 
 -- a device more of a name that is there, at the place that the search for it gives
-pub added-same : (name : List ℕ) (shelves : List Shelf) (i : ℕ) (d : Shelf) → i ≡ place_for name shelves → i < length shelves → bytes_eq (get_or shelves i d).name name ≡ true → added name shelves ≡ set shelves i (one_more (get_or shelves i d))
+pub added-same : (name : List ℕ) (shelves : List Shelf) (i : ℕ) (d : Shelf) → i ≡ place_for name shelves → i < length shelves → bytes_eq (get_or shelves i d).name name ≡ true
+    → added name shelves ≡ set shelves i (one_more (get_or shelves i d))
 added-same name [] i d at within named = absurd (omega arith)
 added-same name (s ∷ ss) zero d at within named =
-    elim (slice_cmp nat_cmp s.name name) as (λ r. slice_cmp nat_cmp s.name name ≡ r → 0 ≡ cond (not (not (is_lt r))) (1 + place_for name ss) 0 → match_ordering r (s ∷ added name ss) (one_more s ∷ ss) (new_shelf name ∷ s ∷ ss) ≡ one_more s ∷ ss) [
+    elim (slice_cmp nat_cmp s.name name) as (λ r. slice_cmp nat_cmp s.name name ≡ r → 0 ≡ cond (not (not (is_lt r))) (1 + place_for name ss) 0
+    → match_ordering r (s ∷ added name ss) (one_more s ∷ ss) (new_shelf name ∷ s ∷ ss) ≡ one_more s ∷ ss) [
       | Less ↦ λ r e. absurd (omega arith)
       | Equal ↦ λ r e. refl
       | Greater ↦ λ r e. absurd (other_name s.name name named (ap is_eq r))
     ] refl at
 added-same name (s ∷ ss) (suc i) d at within named =
-    elim (slice_cmp nat_cmp s.name name) as (λ r. slice_cmp nat_cmp s.name name ≡ r → suc i ≡ cond (not (not (is_lt r))) (1 + place_for name ss) 0 → match_ordering r (s ∷ added name ss) (one_more s ∷ ss) (new_shelf name ∷ s ∷ ss) ≡ s ∷ set ss i (one_more (get_or ss i d))) [
+    elim (slice_cmp nat_cmp s.name name) as (λ r. slice_cmp nat_cmp s.name name ≡ r → suc i ≡ cond (not (not (is_lt r))) (1 + place_for name ss) 0
+    → match_ordering r (s ∷ added name ss) (one_more s ∷ ss) (new_shelf name ∷ s ∷ ss) ≡ s ∷ set ss i (one_more (get_or ss i d))) [
       | Less ↦ λ r e. ap (λ ys. s ∷ ys) (added-same name ss i d (omega arith) (omega arith) named)
       | Equal ↦ λ r e. absurd (omega arith)
       | Greater ↦ λ r e. absurd (omega arith)
     ] refl at
 
 -- the first device of a name, at the place that the search for it gives
-pub added-new : (name : List ℕ) (shelves : List Shelf) (i : ℕ) (d : Shelf) → i ≡ place_for name shelves → (i < length shelves → bytes_eq (get_or shelves i d).name name ≡ false) → added name shelves ≡ insert shelves i (new_shelf name)
+pub added-new : (name : List ℕ) (shelves : List Shelf) (i : ℕ) (d : Shelf) → i ≡ place_for name shelves → (i < length shelves → bytes_eq (get_or shelves i d).name name ≡ false)
+    → added name shelves ≡ insert shelves i (new_shelf name)
 added-new name [] zero d at other = refl
 added-new name [] (suc i) d at other = absurd (omega arith)
 added-new name (s ∷ ss) zero d at other =
-    elim (slice_cmp nat_cmp s.name name) as (λ r. slice_cmp nat_cmp s.name name ≡ r → 0 ≡ cond (not (not (is_lt r))) (1 + place_for name ss) 0 → match_ordering r (s ∷ added name ss) (one_more s ∷ ss) (new_shelf name ∷ s ∷ ss) ≡ new_shelf name ∷ s ∷ ss) [
+    elim (slice_cmp nat_cmp s.name name) as (λ r. slice_cmp nat_cmp s.name name ≡ r → 0 ≡ cond (not (not (is_lt r))) (1 + place_for name ss) 0
+    → match_ordering r (s ∷ added name ss) (one_more s ∷ ss) (new_shelf name ∷ s ∷ ss) ≡ new_shelf name ∷ s ∷ ss) [
       | Less ↦ λ r e. absurd (omega arith)
       | Equal ↦ λ r e. absurd (same_name s.name name (other (omega arith)) (ap is_eq r))
       | Greater ↦ λ r e. refl
     ] refl at
 added-new name (s ∷ ss) (suc i) d at other =
-    elim (slice_cmp nat_cmp s.name name) as (λ r. slice_cmp nat_cmp s.name name ≡ r → suc i ≡ cond (not (not (is_lt r))) (1 + place_for name ss) 0 → match_ordering r (s ∷ added name ss) (one_more s ∷ ss) (new_shelf name ∷ s ∷ ss) ≡ s ∷ insert ss i (new_shelf name)) [
+    elim (slice_cmp nat_cmp s.name name) as (λ r. slice_cmp nat_cmp s.name name ≡ r → suc i ≡ cond (not (not (is_lt r))) (1 + place_for name ss) 0
+    → match_ordering r (s ∷ added name ss) (one_more s ∷ ss) (new_shelf name ∷ s ∷ ss) ≡ s ∷ insert ss i (new_shelf name)) [
       | Less ↦ λ r e. ap (λ ys. s ∷ ys) (added-new name ss i d (omega arith) (λ below. other (omega arith)))
       | Equal ↦ λ r e. absurd (omega arith)
       | Greater ↦ λ r e. absurd (omega arith)
@@ -117,14 +124,16 @@ AreRising-taken name (s ∷ ss) rising =
 
 -- ---- what the calls of a pool use
 
-pub found-there : (name : List ℕ) (shelves : List Shelf) (i : ℕ) (shelf : Shelf) → position (is_behind name) shelves ≡ Some i → shelf ≡ get_or shelves i shelf → is_named name shelf ≡ true → IsThere name shelves i
+pub found-there : (name : List ℕ) (shelves : List Shelf) (i : ℕ) (shelf : Shelf) → position (is_behind name) shelves ≡ Some i → shelf ≡ get_or shelves i shelf → is_named name shelf ≡ true
+    → IsThere name shelves i
 found-there name shelves i shelf found at named = record {
   within = (position-Some (is_behind name) shelves i shelf found).0;
   changes = λ d. added-same name shelves i d (sym (position_or_len-some (is_behind name) shelves i found)) (position-Some (is_behind name) shelves i shelf found).0
       (ap (λ (s : Shelf). is_named name s) (get_or_default shelves i d shelf (position-Some (is_behind name) shelves i shelf found).0 ∙ sym at) ∙ named);
 }
 
-pub found-gap : (name : List ℕ) (shelves : List Shelf) (i : ℕ) (shelf : Shelf) → position (is_behind name) shelves ≡ Some i → shelf ≡ get_or shelves i shelf → is_named name shelf ≡ false → Belongs name shelves i
+pub found-gap : (name : List ℕ) (shelves : List Shelf) (i : ℕ) (shelf : Shelf) → position (is_behind name) shelves ≡ Some i → shelf ≡ get_or shelves i shelf → is_named name shelf ≡ false
+    → Belongs name shelves i
 found-gap name shelves i shelf found at other =
     let within : i < length shelves = (position-Some (is_behind name) shelves i shelf found).0 in
     record {
@@ -182,13 +191,15 @@ pub err_along : {A B P Q : Type 0} (r : Result A B) → (P → Q) → OnErr r P 
 err_along (Ok a) f p = tt
 err_along (Err e) f p = f p
 
-pub rising-taken : {A : Type 0} (r : Option A) (name : List ℕ) (shelves : List Shelf) (i : ℕ) (shelf new : Shelf) → IsFound name shelves i shelf → shelf ≡ get_or shelves i shelf → IfNone r (new ≡ shelf) → IfSome r (λ _. new ≡ one_taken shelf) → AreRising shelves → AreRising (set shelves i new)
+pub rising-taken : {A : Type 0} (r : Option A) (name : List ℕ) (shelves : List Shelf) (i : ℕ) (shelf new : Shelf) → IsFound name shelves i shelf → shelf ≡ get_or shelves i shelf
+    → IfNone r (new ≡ shelf) → IfSome r (λ _. new ≡ one_taken shelf) → AreRising shelves → AreRising (set shelves i new)
 rising-taken None name shelves i shelf new found at kept taken rising =
     rw (ap (λ (s : Shelf). set shelves i s) (kept ∙ at) ∙ set-get_or shelves i shelf) rising
 rising-taken (Some a) name shelves i shelf new found at kept taken rising =
     rw (ap (λ (s : Shelf). set shelves i s) taken ∙ sym found.changes) (AreRising-taken name shelves rising)
 
-pub rising-added : {A B : Type 0} (r : Result A B) (name : List ℕ) (shelves : List Shelf) (i : ℕ) (shelf new : Shelf) → IsThere name shelves i → shelf ≡ get_or shelves i shelf → OnOk r (new ≡ one_more shelf) → OnErr r (new ≡ shelf) → AreRising shelves → AreRising (set shelves i new)
+pub rising-added : {A B : Type 0} (r : Result A B) (name : List ℕ) (shelves : List Shelf) (i : ℕ) (shelf new : Shelf) → IsThere name shelves i → shelf ≡ get_or shelves i shelf
+    → OnOk r (new ≡ one_more shelf) → OnErr r (new ≡ shelf) → AreRising shelves → AreRising (set shelves i new)
 rising-added (Ok a) name shelves i shelf new there at more kept rising =
     rw (ap (λ (s : Shelf). set shelves i s) (more ∙ ap one_more at) ∙ sym (there.changes shelf)) (AreRising-added name shelves rising)
 rising-added (Err e) name shelves i shelf new there at more kept rising =

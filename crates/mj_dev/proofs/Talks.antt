@@ -11,7 +11,7 @@ use Rattle.mj_dev.specs.declared.talk.Code.TheVariants as codes
 use Rattle.mj_dev.specs.Did.{IsAnswered}
 use Rattle.mj_dev.specs.Rest.{TakesOne}
 use Rattle.mj_dev.specs.Heard.{Heard, Lines, Bytes, Firsts, IsNew, IsFew, after_line}
-use Rattle.mj_dev.specs.Talk.{Exchange, Begun, Written, LineRead, ByteRead, Ended, written_by, output_of, Exchanges, Talks, Stand, stand_of, AllowsOpen, AllowsLine, AllowsByte, Allows, Goes, beginning, BeginsOnce, IsTalk}
+use Rattle.mj_dev.specs.Talk.{Exchange, Begun, Written, LineRead, ByteRead, Ended, written_by, output_of, Exchanges, Talks, TalkStand, stand_of, AllowsOpen, AllowsLine, AllowsByte, Allows, FollowsProtocol, beginning, BeginsOnce, IsTalk}
 
 -- reading a line writes nothing
 Lines-taken : (old new : Heard) (rest : Option (List ℕ)) (read : Input) → Lines old rest read new → new.taken ≡ old.taken
@@ -107,7 +107,7 @@ Exchanges-allowed old new exchange usable e =
     subst P (sym usable) (Exchanges-open old new exchange e)
 
 -- so is a whole talk
-pub Talks-go : (old new : Heard) (talk : List Exchange) → Talks old talk new → Goes (stand_of old) talk (stand_of new)
+pub Talks-go : (old new : Heard) (talk : List Exchange) → Talks old talk new → FollowsProtocol (stand_of old) talk (stand_of new)
 Talks-go old new [] e = ap stand_of e
 Talks-go old new (exchange ∷ talk) e = (stand_of e.0, Exchanges-allowed old e.0 exchange e.1 e.2, Talks-go e.0 new talk e.3)
 
@@ -122,18 +122,19 @@ pub Talks-append : (old between new : Heard) (talk later : List Exchange) → Ta
 Talks-append old between new [] later e f = let P : Heard → Type 0 = λ session. Talks session later new in subst P e f
 Talks-append old between new (exchange ∷ talk) later e f = (e.0, e.1, e.2, Talks-append e.0 between new talk later e.3 f)
 
-pub Goes-append : (old between new : Stand) (talk later : List Exchange) → Goes old talk between → Goes between later new → Goes old (talk ++ later) new
-Goes-append old between new [] later e f = let P : Stand → Type 0 = λ stand. Goes stand later new in subst P e f
+pub Goes-append : (old between new : TalkStand) (talk later : List Exchange) → FollowsProtocol old talk between → FollowsProtocol between later new → FollowsProtocol old (talk ++ later) new
+Goes-append old between new [] later e f = let P : TalkStand → Type 0 = λ stand. FollowsProtocol stand later new in subst P e f
 Goes-append old between new (exchange ∷ talk) later e f = (e.0, e.1, Goes-append e.0 between new talk later e.2 f)
 
 -- an end may follow wherever a session stands
-end-allowed : (stand : Stand) (state : State) (failures : ℕ) (answer : Did) → IsFew state failures → IsAnswered answer → Allows stand state (Ended answer) (record stand { state = states.Ended })
+end-allowed : (stand : TalkStand) (state : State) (failures : ℕ) (answer : Did) → IsFew state failures → IsAnswered answer → Allows stand state (Ended answer) (record stand { state = states.Ended })
 end-allowed stand states.Open failures answer few answered = (answered, refl)
 end-allowed stand states.Failed failures answer few answered = (answered, refl)
 end-allowed stand states.Ended failures answer few answered = absurd few
 
 -- a session's whole talk, with its end
-pub Talks-end : (old new : Heard) (talk : List Exchange) (answer : Did) → IsFew new.state new.failures → IsAnswered answer → Talks old talk new → Goes (stand_of old) (talk ++ Ended answer ∷ []) (record { rest = new.rest; state = states.Ended })
+pub Talks-end : (old new : Heard) (talk : List Exchange) (answer : Did) → IsFew new.state new.failures → IsAnswered answer → Talks old talk new
+    → FollowsProtocol (stand_of old) (talk ++ Ended answer ∷ []) (record { rest = new.rest; state = states.Ended })
 Talks-end old new talk answer few answered e =
     Goes-append (stand_of old) (stand_of new) (record { rest = new.rest; state = states.Ended }) talk (Ended answer ∷ []) (Talks-go old new talk e)
     (record { rest = new.rest; state = states.Ended }, end-allowed (stand_of new) new.state new.failures answer few answered, refl)
@@ -141,8 +142,8 @@ Talks-end old new talk answer few answered e =
 -- a new session's talk obeys the protocol, if its device is begun first and once
 pub Talks-obey : (old new : Heard) (talk : List Exchange) → IsNew old → BeginsOnce talk → Talks old talk new → IsTalk talk
 Talks-obey old new talk fresh begins e =
-    let with_rest : Option (List ℕ) → Stand = λ rest. record { rest = rest; state = old.state } in
-    let with_state : State → Stand = λ state. record { rest = None; state = state } in
+    let with_rest : Option (List ℕ) → TalkStand = λ rest. record { rest = rest; state = old.state } in
+    let with_state : State → TalkStand = λ state. record { rest = None; state = state } in
     let from : stand_of old ≡ beginning = ap with_rest fresh.rest ∙ ap with_state fresh.state in
-    let P : Stand → Type 0 = λ stand. Goes stand talk (stand_of new) in
+    let P : TalkStand → Type 0 = λ stand. FollowsProtocol stand talk (stand_of new) in
     (begins, stand_of new, subst P from (Talks-go old new talk e))

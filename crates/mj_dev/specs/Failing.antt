@@ -27,7 +27,7 @@ Fails old did.Done new = (¬ (old ≡ Some 0)) × (new ≡ one_later old)
 Fails old did.Failed new = (old ≡ Some 0) × (new ≡ None)
 Fails old did.Memory new = new ≡ old
 
--- the same of a reading, which gives no line
+-- a reading of a device that has no more lines fails exactly where no call is before the one that fails
 abbrev pub FailsReading : Option ℕ → Input → Option ℕ → Type 0
 FailsReading old (input.Line line) new = ⊥
 FailsReading old input.End new = (¬ (old ≡ Some 0)) × (new ≡ one_later old)

@@ -51,10 +51,10 @@ abbrev pub after_bytes : Heard → List ℕ → Heard
 after_bytes old bytes = record old { taken = old.taken ++ bytes; cursor = cursor_behind old.cursor bytes }
 
 -- the device begins
-abbrev pub Begins : Heard → Did → Heard → Type 0
-Begins old did.Done new = new ≡ old
-Begins old did.Failed new = new ≡ after_failure old
-Begins old did.Memory new = new ≡ old
+abbrev pub DeviceBegins : Heard → Did → Heard → Type 0
+DeviceBegins old did.Done new = new ≡ old
+DeviceBegins old did.Failed new = new ≡ after_failure old
+DeviceBegins old did.Memory new = new ≡ old
 
 -- some bytes are written
 abbrev pub Writes : Heard → List ℕ → Did → Heard → Type 0
@@ -63,12 +63,12 @@ Writes old bytes did.Failed new = new ≡ after_failure old
 Writes old bytes did.Memory new = new ≡ old
 
 -- the device gives its next line, or says why there is none
-abbrev pub Reads : Heard → Input → Heard → Type 0
-Reads old (input.Line line) new = new ≡ after_line old line
-Reads old input.End new = new ≡ old
-Reads old input.NotYet new = new ≡ old
-Reads old input.Failed new = new ≡ after_failure old
-Reads old input.Memory new = new ≡ old
+abbrev pub DeviceReads : Heard → Input → Heard → Type 0
+DeviceReads old (input.Line line) new = new ≡ after_line old line
+DeviceReads old input.End new = new ≡ old
+DeviceReads old input.NotYet new = new ≡ old
+DeviceReads old input.Failed new = new ≡ after_failure old
+DeviceReads old input.Memory new = new ≡ old
 
 -- the rest of a line is given and is no rest any more, or memory is refused
 abbrev pub Rests : Heard → List ℕ → Input → Heard → Type 0
@@ -80,7 +80,7 @@ Rests old rest input.Memory new = new ≡ old
 
 -- a line is read: the rest of one that was begun, else the device's next
 abbrev pub Lines : Heard → Option (List ℕ) → Input → Heard → Type 0
-Lines old None read new = Reads old read new
+Lines old None read new = DeviceReads old read new
 Lines old (Some rest) read new = Rests old rest read new
 
 -- the first byte's code of what is left of a line, or 10 at its end, behind which nothing is left of it
@@ -102,7 +102,7 @@ Bytes old None code new = Codes old code new
 Bytes old (Some rest) code new = Firsts old rest code new
 
 -- the device of a session ends: it is left with the counts that follow
-pub record Ends (old : Heard) (result : Did) (failures : ℕ) (taken : List ℕ) (given : List (List ℕ)) : Type 0 where
+pub record DeviceEnds (old : Heard) (result : Did) (failures : ℕ) (taken : List ℕ) (given : List (List ℕ)) : Type 0 where
   pub counted : failures ≡ old.failures + failures_of result
   pub nothing_taken : taken ≡ old.taken
   pub nothing_given : given ≡ old.given
@@ -114,7 +114,7 @@ IsFew states.Failed failures = failures ≤ 2 ^ 32
 IsFew states.Ended failures = ⊥
 
 -- what the type of a session keeps: few failures, and no more columns and rows than bytes were taken
-pub record IsKept (session : Heard) : Type 0 where
+pub record IsSession (session : Heard) : Type 0 where
   pub few : IsFew session.state session.failures
   pub columns : session.cursor.column ≤ length session.taken
   pub rows : session.cursor.row ≤ length session.taken

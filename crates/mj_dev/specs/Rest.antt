@@ -11,9 +11,9 @@ rest_of None start = None
 rest_of (Some line) start = Some (drop start line)
 
 -- the place is one of the line, whose length is known
-abbrev pub IsWithin : Option (List ℕ) → ℕ → ℕ → Type 0
-IsWithin None start end = Unit {0}
-IsWithin (Some line) start end = (start ≤ end) × (end ≡ length line)
+abbrev pub IsWithinLine : Option (List ℕ) → ℕ → ℕ → Type 0
+IsWithinLine None start end = Unit {0}
+IsWithinLine (Some line) start end = (start ≤ end) × (end ≡ length line)
 
 -- the first byte's code is taken off a list, or 10 where it is empty
 abbrev pub TakesOne : List ℕ → Code → Option (List ℕ) → Type 0

@@ -11,7 +11,7 @@ use Rattle.mj_dev.specs.declared.talk.Code.{Code}
 use Rattle.mj_dev.specs.declared.talk.Code.TheVariants as codes
 use Rattle.mj_dev.specs.Did.{bytes_of, IsAnswered}
 use Rattle.mj_dev.specs.Rest.{TakesOne, TakesRest}
-use Rattle.mj_dev.specs.Heard.{Heard, Begins, Writes, Lines, Bytes}
+use Rattle.mj_dev.specs.Heard.{Heard, DeviceBegins, Writes, Lines, Bytes}
 
 -- a call to a session, with its answer
 pub data Exchange : Type 0 where
@@ -36,7 +36,7 @@ output_of (exchange ∷ talk) = written_by exchange ++ output_of talk
 
 -- what one call does to a session; what is ended is no session any more
 abbrev pub Exchanges : Heard → Exchange → Heard → Type 0
-Exchanges old (Begun answer) new = Begins old answer new
+Exchanges old (Begun answer) new = DeviceBegins old answer new
 Exchanges old (Written bytes answer) new = Writes old bytes answer new
 Exchanges old (LineRead read) new = Lines old old.rest read new
 Exchanges old (ByteRead code) new = Bytes old old.rest code new
@@ -49,22 +49,22 @@ Talks old (exchange ∷ talk) new =
     (between : Heard) × (old.state ≡ states.Open) × Exchanges old exchange between × Talks between talk new
 
 -- where a talk stands, as the protocol knows it: the rest of a line that was begun, and whether the session may be used
-pub record Stand : Type 0 where
+pub record TalkStand : Type 0 where
   pub rest : Option (List ℕ)
   pub state : State
 
 -- where a session stands
-abbrev pub stand_of : Heard → Stand
+abbrev pub stand_of : Heard → TalkStand
 stand_of session = record { rest = session.rest; state = session.state }
 
 -- where a talk stands behind an answer that reads nothing
-abbrev pub stand_after : Stand → Did → Stand
+abbrev pub stand_after : TalkStand → Did → TalkStand
 stand_after stand did.Done = stand
 stand_after stand did.Failed = record stand { state = states.Failed }
 stand_after stand did.Memory = stand
 
 -- a line is read where no other was begun: any line may come
-abbrev pub AllowsAnyLine : Stand → Input → Stand → Type 0
+abbrev pub AllowsAnyLine : TalkStand → Input → TalkStand → Type 0
 AllowsAnyLine old (input.Line line) new = new ≡ old
 AllowsAnyLine old input.End new = new ≡ old
 AllowsAnyLine old input.NotYet new = new ≡ old
@@ -72,7 +72,7 @@ AllowsAnyLine old input.Failed new = new ≡ record old { state = states.Failed 
 AllowsAnyLine old input.Memory new = new ≡ old
 
 -- a byte's code is read where no line was begun: that of any line's first byte, which the rest of that line follows
-abbrev pub AllowsAnyByte : Stand → Code → Stand → Type 0
+abbrev pub AllowsAnyByte : TalkStand → Code → TalkStand → Type 0
 AllowsAnyByte old (codes.Byte byte) new =
     (line : List ℕ) × (length line ≤ TEXT_LIMIT) × TakesOne line (codes.Byte byte) new.rest × (new.state ≡ old.state)
 AllowsAnyByte old codes.End new = new ≡ old
@@ -81,17 +81,17 @@ AllowsAnyByte old codes.Failed new = new ≡ record old { state = states.Failed 
 AllowsAnyByte old codes.Memory new = new ≡ old
 
 -- a line is read: the rest of one that was begun, else any
-abbrev pub AllowsLine : Stand → Option (List ℕ) → Input → Stand → Type 0
+abbrev pub AllowsLine : TalkStand → Option (List ℕ) → Input → TalkStand → Type 0
 AllowsLine old None read new = AllowsAnyLine old read new
 AllowsLine old (Some rest) read new = TakesRest rest read new.rest × (new.state ≡ old.state)
 
 -- a byte's code is read: of a line that was begun, else of any
-abbrev pub AllowsByte : Stand → Option (List ℕ) → Code → Stand → Type 0
+abbrev pub AllowsByte : TalkStand → Option (List ℕ) → Code → TalkStand → Type 0
 AllowsByte old None code new = AllowsAnyByte old code new
 AllowsByte old (Some rest) code new = TakesOne rest code new.rest × (new.state ≡ old.state)
 
 -- a call to a session that may be used
-abbrev pub AllowsOpen : Stand → Exchange → Stand → Type 0
+abbrev pub AllowsOpen : TalkStand → Exchange → TalkStand → Type 0
 AllowsOpen old (Begun answer) new = new ≡ stand_after old answer
 AllowsOpen old (Written bytes answer) new = new ≡ stand_after old answer
 AllowsOpen old (LineRead read) new = AllowsLine old old.rest read new
@@ -99,7 +99,7 @@ AllowsOpen old (ByteRead code) new = AllowsByte old old.rest code new
 AllowsOpen old (Ended answer) new = IsAnswered answer × (new ≡ record old { state = states.Ended })
 
 -- a call to a session that failed: its end alone
-abbrev pub AllowsFailed : Stand → Exchange → Stand → Type 0
+abbrev pub AllowsFailed : TalkStand → Exchange → TalkStand → Type 0
 AllowsFailed old (Begun answer) new = ⊥
 AllowsFailed old (Written bytes answer) new = ⊥
 AllowsFailed old (LineRead read) new = ⊥
@@ -107,18 +107,24 @@ AllowsFailed old (ByteRead code) new = ⊥
 AllowsFailed old (Ended answer) new = IsAnswered answer × (new ≡ record old { state = states.Ended })
 
 -- a call by the state of the session: behind its end there is none
-abbrev pub Allows : Stand → State → Exchange → Stand → Type 0
+abbrev pub Allows : TalkStand → State → Exchange → TalkStand → Type 0
 Allows old states.Open exchange new = AllowsOpen old exchange new
 Allows old states.Failed exchange new = AllowsFailed old exchange new
 Allows old states.Ended exchange new = ⊥
 
 -- the device protocol: from where a talk stands to where it stands behind some more exchanges
-abbrev pub Goes : Stand → List Exchange → Stand → Type 0
-Goes old [] new = new ≡ old
-Goes old (exchange ∷ talk) new = (between : Stand) × Allows old old.state exchange between × Goes between talk new
+abbrev pub FollowsProtocol : TalkStand → List Exchange → TalkStand → Type 0
+FollowsProtocol old [] new = new ≡ old
+FollowsProtocol old (exchange ∷ talk) new = (between : TalkStand) × Allows old old.state exchange between × FollowsProtocol between talk new
+
+-- each talk that led to this session goes on, by its end with this answer, to where the protocol ends
+abbrev pub GoesToEnd : Heard → Did → Type 0
+GoesToEnd session answer =
+    (old : Heard) → (talk : List Exchange) → Talks old talk session
+    → FollowsProtocol (stand_of old) (talk ++ Ended answer ∷ []) (record { rest = session.rest; state = states.Ended })
 
 -- where each talk begins
-abbrev pub beginning : Stand
+abbrev pub beginning : TalkStand
 beginning = record { rest = None; state = states.Open }
 
 -- the device isn't begun once more
@@ -143,4 +149,4 @@ BeginsOnce (Ended answer ∷ talk) = HasNoBegin talk
 
 -- a talk that obeys the device protocol: begun first, behind a failure only its end, behind its end nothing
 abbrev pub IsTalk : List Exchange → Type 0
-IsTalk talk = BeginsOnce talk × (last : Stand) × Goes beginning talk last
+IsTalk talk = BeginsOnce talk × (last : TalkStand) × FollowsProtocol beginning talk last

@@ -9,11 +9,11 @@ use Rattle.mj_dev.specs.declared.talk.Code.{Code}
 use Rattle.mj_dev.specs.declared.talk.Code.TheVariants as codes
 
 -- a call to a device, with its answer
-pub data Told : Type 0 where
-  Begun : Did → Told
-  Wrote : List ℕ → Did → Told
-  Gave : Input → Told
-  Over : Did → Told
+pub data DeviceCall : Type 0 where
+  Begun : Did → DeviceCall
+  Wrote : List ℕ → Did → DeviceCall
+  Gave : Input → DeviceCall
+  Over : Did → DeviceCall
 
 -- the code that is read where a device was asked for a line: the first byte's, or 10 where it is empty, and else why there is no line
 abbrev pub IsCodeOf : Input → Code → Type 0
@@ -30,5 +30,10 @@ pub record AreOf (session : Heard) (failures : ℕ) (taken : List ℕ) (given : 
   pub of_given : given ≡ session.given
 
 -- some device with a session's counts, whose members these are, was told so
-abbrev pub IsToldBy : {D : Type 0} → (D → ℕ) → (D → List ℕ) → (D → List (List ℕ)) → (D → Told → Type 0) → Heard → Told → Type 0
+abbrev pub IsToldBy : {D : Type 0} → (D → ℕ) → (D → List ℕ) → (D → List (List ℕ)) → (D → DeviceCall → Type 0) → Heard → DeviceCall → Type 0
 IsToldBy {D} failures taken given is_told heard told = (device : D) × AreOf heard (failures device) (taken device) (given device) × is_told device told
+
+-- some such device was asked for a line, of which this is the code that is read
+abbrev pub IsToldCodeBy : {D : Type 0} → (D → ℕ) → (D → List ℕ) → (D → List (List ℕ)) → (D → DeviceCall → Type 0) → Heard → Code → Type 0
+IsToldCodeBy {D} failures taken given is_told heard code =
+    (device : D) × AreOf heard (failures device) (taken device) (given device) × ((read : Input) × IsCodeOf read code × is_told device (Gave read))

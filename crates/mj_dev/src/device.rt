@@ -33,7 +33,7 @@ pub trait Device: Drop {
     ghost use Rattle.std.specs.Prelude.{◌≡◌, ◌+◌, ◌<◌, ◌-◌, ◌^◌, ◌++◌, ℕ, List};
     ghost use Rattle.mj_dev.specs.Did.{failures_of, bytes_of, IsAnswered};
     ghost use Rattle.mj_dev.specs.Input.{failures_of_reading, lines_of};
-    ghost use Rattle.mj_dev.specs.Told.{Told};
+    ghost use Rattle.mj_dev.specs.Told.{DeviceCall};
 
     /// how many calls failed
     ghost failures: { Self → ℕ };
@@ -45,7 +45,7 @@ pub trait Device: Drop {
     ghost given: { Self → List (List ℕ) };
 
     /// this was its last call, and so it was answered. Of any device, of which nothing else is known, it is known by such a call alone.
-    ghost IsTold: { Self → Told → Type 0 };
+    ghost IsTold: { Self → DeviceCall → Type 0 };
 
     /// The first call to a device.
     fn begin(&mut self) -> Did
@@ -53,7 +53,7 @@ pub trait Device: Drop {
         ensures failures { failures self.new ≡ failures self.old + failures_of result }
         ensures taken { taken self.new ≡ taken self.old }
         ensures given { given self.new ≡ given self.old }
-        ensures told { IsTold self.new (Told.Begun result) };
+        ensures told { IsTold self.new (DeviceCall.Begun result) };
 
     /// Writes some bytes, all or none.
     fn write(&mut self, bytes: &[u8]) -> Did
@@ -61,7 +61,7 @@ pub trait Device: Drop {
         ensures failures { failures self.new ≡ failures self.old + failures_of result }
         ensures taken { taken self.new ≡ taken self.old ++ bytes_of result bytes.now }
         ensures given { given self.new ≡ given self.old }
-        ensures told { IsTold self.new (Told.Wrote bytes.now result) };
+        ensures told { IsTold self.new (DeviceCall.Wrote bytes.now result) };
 
     /// Reads the next line. It is without what ends it.
     fn read(&mut self) -> Input
@@ -69,7 +69,7 @@ pub trait Device: Drop {
         ensures failures { failures self.new ≡ failures self.old + failures_of_reading result }
         ensures taken { taken self.new ≡ taken self.old }
         ensures given { given self.new ≡ given self.old ++ lines_of result }
-        ensures told { IsTold self.new (Told.Gave result) };
+        ensures told { IsTold self.new (DeviceCall.Gave result) };
 
     /// The last call to a device. It takes no memory.
     fn end(&mut self) -> Did
@@ -78,7 +78,7 @@ pub trait Device: Drop {
         ensures taken { taken self.new ≡ taken self.old }
         ensures given { given self.new ≡ given self.old }
         ensures answered { IsAnswered result }
-        ensures told { IsTold self.new (Told.Over result) };
+        ensures told { IsTold self.new (DeviceCall.Over result) };
 
     /// How many calls failed.
     fn failures(&self) -> u64

@@ -19,7 +19,7 @@ mod talk;
 pub use counted::Counted;
 pub use device::{Device, Did, Input};
 pub use fail::Fail;
-pub use memory::Memory;
+pub use memory::{Memory, line_end};
 pub use pool::Pool;
 pub use session::Session;
 pub use talk::{Code, Cursor, State};

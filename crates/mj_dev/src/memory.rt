@@ -127,8 +127,8 @@ impl Device for Memory {
     }
 }
 
-// Where the first line of some bytes ends.
-fn line_end(bytes: &[u8]) -> usize
+/// Where the first line of some bytes ends.
+pub fn line_end(bytes: &[u8]) -> usize
     ensures { result ≡ position_or_len is_line_end bytes.now }
 {
     match found_end(bytes) {

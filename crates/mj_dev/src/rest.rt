@@ -21,11 +21,11 @@ impl Model for Rest {
 
     ghost Value = { Option (List ℕ) };
 
-    ghost use Rattle.mj_dev.specs.Rest.{rest_of, IsWithin};
+    ghost use Rattle.mj_dev.specs.Rest.{rest_of, IsWithinLine};
 
     ghost view = { λ r. rest_of r.line r.start };
 
-    ghost invariant = { λ r. IsWithin r.line r.start r.end };
+    ghost invariant = { λ r. IsWithinLine r.line r.start r.end };
 }
 
 impl Rest {

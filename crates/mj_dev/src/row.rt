@@ -12,7 +12,7 @@ use std::collections::VecDeque;
 use std::marker::Model;
 
 // The most devices that a name may have, all together.
-const DEVICES_LIMIT: u32 = u32::MAX;
+const ROW_LIMIT: u32 = u32::MAX;
 
 // A name, its devices that no session has yet in order of adding, and how many were taken.
 #[derive(Drop)]
@@ -71,7 +71,7 @@ impl<D: Device> Row<D> {
         ensures kept { OnErr result (self.new ≡ self.old) }
         ensures back { IfErr result (λ d. d ≡ device) }
     {
-        if self.count() == DEVICES_LIMIT || self.waiting.reserve(1).is_err() {
+        if self.count() == ROW_LIMIT || self.waiting.reserve(1).is_err() {
             return Err(device);
         }
         self.waiting.push_back_reserved(device);

@@ -1,10 +1,10 @@
 // A session with a device.
 
-ghost use Rattle.std.specs.Prelude.{◌≡◌, ◌++◌, ◌∷◌, [], List, None};
+ghost use Rattle.std.specs.Prelude.{◌≡◌, List, None};
 ghost use Rattle.mj_dev.specs.Did.{IsAnswered};
-ghost use Rattle.mj_dev.specs.Heard.{Heard, IsNew, IsFresh, Begins, Writes, Lines, Bytes, Ends};
-ghost use Rattle.mj_dev.specs.Told.{Told, AreOf, IsCodeOf};
-ghost use Rattle.mj_dev.specs.Talk.{Exchange, Ended, Talks, Goes, BeginsOnce, IsTalk, output_of, stand_of};
+ghost use Rattle.mj_dev.specs.Heard.{Heard, IsNew, IsFresh, DeviceBegins, Writes, Lines, Bytes, DeviceEnds};
+ghost use Rattle.mj_dev.specs.Told.{DeviceCall, IsToldBy, IsToldCodeBy};
+ghost use Rattle.mj_dev.specs.Talk.{Exchange, Talks, FollowsProtocol, GoesToEnd, BeginsOnce, IsTalk, output_of, stand_of};
 
 use crate::device::{Device, Did, Input};
 use crate::rest::Rest;
@@ -21,7 +21,7 @@ pub struct Session<D: Device> {
 }
 
 impl<D: Device> Model for Session<D> {
-    ghost use Rattle.mj_dev.specs.Heard.{Heard, IsKept};
+    ghost use Rattle.mj_dev.specs.Heard.{Heard, IsSession};
 
     ghost Value = { Heard };
 
@@ -34,7 +34,7 @@ impl<D: Device> Model for Session<D> {
       given = D.given s.device;
     } };
 
-    ghost invariant = { λ s. IsKept (record {
+    ghost invariant = { λ s. IsSession (record {
       rest = s.rest;
       state = s.state;
       cursor = s.cursor;
@@ -62,7 +62,7 @@ impl<D: Device> Session<D> {
     /// Whether the session may be used: it may until its device fails.
     pub fn state(&self) -> State
         ensures state { result ≡ self.now.state }
-        ensures protocol { (old : Heard) → (talk : List Exchange) → Talks old talk self.now → Goes (stand_of old) talk (stand_of self.now) }
+        ensures protocol { (old : Heard) → (talk : List Exchange) → Talks old talk self.now → FollowsProtocol (stand_of old) talk (stand_of self.now) }
         ensures talk { (old : Heard) → (talk : List Exchange) → IsNew old → BeginsOnce talk → Talks old talk self.now → IsTalk talk }
     {
         self.state
@@ -83,11 +83,11 @@ impl<D: Device> Session<D> {
         self.device.taken()
     }
 
-    /// Begins.
+    /// Begins the device.
     pub fn begin(&mut self) -> Did
         requires { self.old.state ≡ State.Open }
-        ensures heard { Begins self.old result self.new }
-        ensures told { (device : D) × AreOf self.new (D.failures device) (D.taken device) (D.given device) × D.IsTold device (Told.Begun result) }
+        ensures heard { DeviceBegins self.old result self.new }
+        ensures told { IsToldBy D.failures D.taken D.given D.IsTold self.new (DeviceCall.Begun result) }
     {
         let did = self.device.begin();
         if did == Did::Failed {
@@ -100,12 +100,12 @@ impl<D: Device> Session<D> {
     pub fn write(&mut self, bytes: &[u8]) -> Did
         requires { self.old.state ≡ State.Open }
         ensures heard { Writes self.old bytes.now result self.new }
-        ensures told { (device : D) × AreOf self.new (D.failures device) (D.taken device) (D.given device) × D.IsTold device (Told.Wrote bytes.now result) }
+        ensures told { IsToldBy D.failures D.taken D.given D.IsTold self.new (DeviceCall.Wrote bytes.now result) }
     {
         match self.device.write(bytes) {
             Did::Done => {
                 // there are no more rows and columns than bytes that were taken, which lie in memory: so none of the two overflows
-                let _bytes_taken = self.device.taken().len();
+                let _bytes_taken = self.device.taken().len(); // for the proof
                 self.cursor = self.cursor.behind(bytes);
                 Did::Done
             }
@@ -121,7 +121,7 @@ impl<D: Device> Session<D> {
     pub fn line(&mut self) -> Input
         requires { self.old.state ≡ State.Open }
         ensures heard { Lines self.old self.old.rest result self.new }
-        ensures told { self.old.rest ≡ None → (device : D) × AreOf self.new (D.failures device) (D.taken device) (D.given device) × D.IsTold device (Told.Gave result) }
+        ensures told { self.old.rest ≡ None → IsToldBy D.failures D.taken D.given D.IsTold self.new (DeviceCall.Gave result) }
     {
         if self.rest.is_begun() {
             return self.rest.take_line();
@@ -137,7 +137,7 @@ impl<D: Device> Session<D> {
     pub fn byte(&mut self) -> Code
         requires { self.old.state ≡ State.Open }
         ensures heard { Bytes self.old self.old.rest result self.new }
-        ensures told { self.old.rest ≡ None → (device : D) × AreOf self.new (D.failures device) (D.taken device) (D.given device) × ((input : Input) × IsCodeOf input result × D.IsTold device (Told.Gave input)) }
+        ensures told { self.old.rest ≡ None → IsToldCodeBy D.failures D.taken D.given D.IsTold self.new result }
     {
         if !self.rest.is_begun() {
             match self.device.read() {
@@ -159,8 +159,8 @@ impl<D: Device> Session<D> {
     /// Ends and drops the device, which has one failure more exactly where the end failed.
     pub fn end(self) -> Did
         ensures answered { IsAnswered result }
-        ensures protocol { (old : Heard) → (talk : List Exchange) → Talks old talk self → Goes (stand_of old) (talk ++ Ended result ∷ []) (record { rest = self.rest; state = State.Ended }) }
-        ensures device { (last : D) × Ends self result (D.failures last) (D.taken last) (D.given last) × D.IsTold last (Told.Over result) }
+        ensures protocol { GoesToEnd self result }
+        ensures device { (last : D) × DeviceEnds self result (D.failures last) (D.taken last) (D.given last) × D.IsTold last (DeviceCall.Over result) }
     {
         let Session { mut device, .. } = self;
         device.end()

@@ -6,10 +6,10 @@ use Rattle.mj_sys.specs.Shared.{Shared}
 use Rattle.mj_debug.specs.declared.replica.Unshown.{Unshown}
 use Rattle.mj_debug.specs.declared.replica.Unshown.TheVariants as unshown
 use Rattle.mj_debug.specs.Walks.{Walk}
-use Rattle.mj_commands.specs.declared.command.Command.{Command}
+use Rattle.mj_dialogue.specs.declared.command.Command.{Command}
 use Rattle.mj_dialogue.specs.declared.answering.Trouble.{Trouble}
 use Rattle.mj_dialogue.specs.declared.answering.Trouble.TheVariants as troubles
-use Rattle.mj_dialogue.specs.Fails.{Fails, IsHidden, IsCut, IsDone, IsUnanswered, IsWritten, is_show, trouble_of}
+use Rattle.mj_dialogue.specs.Fails.{Fails, IsHidden, IsCut, IsDone, IsUnanswered, IsOutputWritten, is_show, trouble_of}
 use Rattle.mj_dialogue.proofs.Going.{appends_none}
 
 -- what holds of an error holds of what the exit of a `?` gives
@@ -23,7 +23,7 @@ at_any_err (Ok x) holds = tt
 at_any_err (Err e) holds = holds
 
 -- where this was written, so it was whatever isn't answered then
-pub written : (why : Trouble) (old new : Option (List ℕ)) (bytes : List ℕ) → Appends old new bytes → IsWritten why old new bytes
+pub written : (why : Trouble) (old new : Option (List ℕ)) (bytes : List ℕ) → Appends old new bytes → IsOutputWritten why old new bytes
 written troubles.Memory old new bytes so = so
 written troubles.Long old new bytes so = so
 written troubles.Unwritten old new bytes so = tt
@@ -42,17 +42,17 @@ cut opening old new first unshown.Long hides = hides
 -- a command of which nothing was told
 pub untold : (opening : Shared) (old new : Walk) (given command : Command) (why : Trouble) (r : Result Bool Trouble) (out : Option (List ℕ))
     → given ≡ command → Fails opening old command [] why new → IsErrAnd r (λ e. e ≡ why)
-    → IfErr r (λ e. (bytes : List ℕ) × Fails opening old given bytes e new × IsWritten e out out bytes)
+    → IfErr r (λ e. (bytes : List ℕ) × Fails opening old given bytes e new × IsOutputWritten e out out bytes)
 untold opening old new given command why r out is fails err =
-    let P : Trouble → Type 0 = λ e. (bytes : List ℕ) × Fails opening old given bytes e new × IsWritten e out out bytes in
+    let P : Trouble → Type 0 = λ e. (bytes : List ℕ) × Fails opening old given bytes e new × IsOutputWritten e out out bytes in
     let C : Command → Type 0 = λ command. Fails opening old command [] why new in
     at_err r why P ([], subst C (sym is) fails, written why out out [] (appends_none out)) err
 
 -- a command whose answer isn't written
 pub unwritten : (opening : Shared) (old new : Walk) (given command : Command) (r : Result Bool Trouble) (before after : Option (List ℕ))
     → given ≡ command → Fails opening old command [] troubles.Unwritten new → IfErr r (λ e. e ≡ troubles.Unwritten)
-    → IfErr r (λ e. (bytes : List ℕ) × Fails opening old given bytes e new × IsWritten e before after bytes)
+    → IfErr r (λ e. (bytes : List ℕ) × Fails opening old given bytes e new × IsOutputWritten e before after bytes)
 unwritten opening old new given command r before after is fails err =
-    let P : Trouble → Type 0 = λ e. (bytes : List ℕ) × Fails opening old given bytes e new × IsWritten e before after bytes in
+    let P : Trouble → Type 0 = λ e. (bytes : List ℕ) × Fails opening old given bytes e new × IsOutputWritten e before after bytes in
     let C : Command → Type 0 = λ command. Fails opening old command [] troubles.Unwritten new in
     IfErr-weaker r (λ e. e ≡ troubles.Unwritten) P (λ e same. subst P (sym same) ([], subst C (sym is) fails, tt)) err

@@ -3,10 +3,10 @@ use Rattle.std.proofs.Common.{◌≡◌, ℕ, Bool, List, Option, Result, IfOk, 
 use Rattle.std.proofs.lemmas.Result.{IfOk-weaker}
 use Rattle.std.specs.Io.KnownBytes.{Appends}
 use Rattle.mj_debug.specs.Walks.{Walk}
-use Rattle.mj_dialogue.specs.Says.{IsKept}
+use Rattle.mj_dialogue.specs.Says.{ChangesNothing}
 
 -- whether what is shown is at hand afterwards or not, nothing else changes
-pub kept : (old new : Walk) (ready : Bool) → new ≡ record old { ready = ready } → IsKept old new
+pub kept : (old new : Walk) (ready : Bool) → new ≡ record old { ready = ready } → ChangesNothing old new
 kept old new ready e = e ∙ ap (λ (r : Bool). record old { ready = r }) (sym (ap (λ (w : Walk). w.ready) e))
 
 -- what holds of an answer holds of what is written

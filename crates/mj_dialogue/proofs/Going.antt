@@ -4,7 +4,7 @@ use Rattle.std.specs.Io.KnownBytes.{Appends}
 use Rattle.mj_sys.specs.Shared.{Shared}
 use Rattle.mj_debug.specs.declared.debugger.Gone.{Gone}
 use Rattle.mj_debug.specs.Walks.{Walk}
-use Rattle.mj_dialogue.specs.Says.{Goes, GoTells, AreMade, is_full_at, is_made}
+use Rattle.mj_dialogue.specs.Says.{AnswersGo, GoTells, AreMade, is_full_at, is_made}
 
 -- ---- what is written
 
@@ -31,13 +31,13 @@ made_more opening made old mid new told line gone before tells on =
 
 -- all were made
 pub goes_all : (opening : Shared) (made count : ℕ) (old new : Walk) (told : List ℕ)
-    → AreMade opening made old told new → made ≡ count → Goes opening count old told false new
+    → AreMade opening made old told new → made ≡ count → AnswersGo opening count old told false new
 goes_all opening made count old new told before all =
     inl (subst (λ (n : ℕ). AreMade opening n old told new) all before, refl)
 
 -- one that isn't made is the last
 pub goes_last : (opening : Shared) (made count : ℕ) (old mid new : Walk) (told line : List ℕ) (gone : Gone) (full : Bool)
     → AreMade opening made old told mid → made < count → GoTells opening mid (made == 0) gone line new → is_made gone ≡ false → full ≡ is_full_at gone
-    → Goes opening count old (told ++ line) full new
+    → AnswersGo opening count old (told ++ line) full new
 goes_last opening made count old mid new told line gone full before fewer tells off is =
     inr (made, fewer, (mid, told, before, (gone, line, tells, off, refl, is)))

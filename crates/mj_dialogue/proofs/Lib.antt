@@ -1,3 +1,5 @@
+pub mod Numbers
+pub mod Spots
 pub mod Failing
 pub mod Giving
 pub mod Going

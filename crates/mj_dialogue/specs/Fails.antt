@@ -3,8 +3,8 @@ use Rattle.std.specs.Prelude.{◌≡◌, ◌==◌, ℕ, ◌<◌, List, [], Bool,
 use Rattle.std.specs.Io.KnownBytes.{Appends}
 use Rattle.mj_semantics.specs.State.{Place}
 use Rattle.mj_sys.specs.Shared.{Shared}
-use Rattle.mj_debug.specs.Seen.{Seen}
-use Rattle.mj_debug.specs.declared.debugger.Refused.{Refused}
+use Rattle.mj_core.specs.declared.seen.Seen.{Seen}
+use Rattle.mj_debug.specs.declared.debugger.WalkRefusal.{WalkRefusal}
 use Rattle.mj_debug.specs.declared.debugger.Gone.{Gone}
 use Rattle.mj_debug.specs.declared.replica.Unshown.{Unshown}
 use Rattle.mj_debug.specs.declared.replica.Unshown.TheVariants as unshown
@@ -12,11 +12,11 @@ use Rattle.mj_debug.specs.Breaks.{AreMarked}
 use Rattle.mj_debug.specs.Goes.{GoGives}
 use Rattle.mj_debug.specs.Replicas.{IsUnshown}
 use Rattle.mj_debug.specs.Walks.{Walk, StepGives, GoesBack, GoesForth}
-use Rattle.mj_commands.specs.declared.command.Command.{Command}
-use Rattle.mj_commands.specs.declared.command.Command.TheVariants as commands
+use Rattle.mj_dialogue.specs.declared.command.Command.{Command}
+use Rattle.mj_dialogue.specs.declared.command.Command.TheVariants as commands
 use Rattle.mj_dialogue.specs.declared.answering.Trouble.{Trouble}
 use Rattle.mj_dialogue.specs.declared.answering.Trouble.TheVariants as troubles
-use Rattle.mj_dialogue.specs.Says.{Says, IsKept, GoTells, AreMade, step_of}
+use Rattle.mj_dialogue.specs.Says.{Says, ChangesNothing, GoTells, AreMade}
 
 -- the same reason, as a trouble
 abbrev pub trouble_of : Unshown → Trouble
@@ -26,12 +26,12 @@ trouble_of unshown.Long = troubles.Long
 -- What stands at the place isn't shown: memory was wanting, or a job went on for too long before one of the events there. Nothing changes but what
 -- is at hand.
 abbrev pub IsHidden : Shared → Walk → Unshown → Walk → Type 0
-IsHidden opening old why new = IsKept old new × IsUnshown old.core.image opening old.core.history old.place why
+IsHidden opening old why new = ChangesNothing old new × IsUnshown old.core.image opening old.core.history old.place why
 
 -- The next of many steps in turn isn't told, or not written: memory was wanting, before the step or behind it; what stands at the place isn't shown,
 -- and no step is made; or what is told of it isn't written.
 abbrev pub IsCut : Shared → Walk → Bool → Trouble → Walk → Type 0
-IsCut opening old first troubles.Memory new = IsKept old new ⊎ ((gone : Gone) × GoGives opening old first gone new)
+IsCut opening old first troubles.Memory new = ChangesNothing old new ⊎ ((gone : Gone) × GoGives opening old first gone new)
 IsCut opening old first troubles.Long new = IsHidden opening old unshown.Long new
 IsCut opening old first troubles.Unwritten new = (gone : Gone) × (line : List ℕ) × GoTells opening old first gone line new
 
@@ -43,16 +43,16 @@ MayMark old line on new =
 -- What is left where memory was wanting for the answer to a command other than `go`: what it does was done, but for marks, which may be those that
 -- were. `q` always has an answer.
 abbrev pub IsDone : Shared → Walk → Command → Walk → Type 0
-IsDone opening old (commands.Step step) new = (answer : Result Seen Refused) × StepGives opening old (step_of step) answer new
+IsDone opening old (commands.Step step) new = (answer : Result Seen WalkRefusal) × StepGives opening old step answer new
 IsDone opening old (commands.Go count) new = ⊥
 IsDone opening old (commands.Set routine line) new = MayMark old (record { routine = routine; line = line }) true new
 IsDone opening old (commands.Clear routine line) new = MayMark old (record { routine = routine; line = line }) false new
 IsDone opening old commands.Back new = (at : Option ℕ) × GoesBack old at new
 IsDone opening old commands.Forward new = (at : Option ℕ) × GoesForth old at new
-IsDone opening old (commands.Frames job) new = IsKept old new
-IsDone opening old (commands.Locals job) new = IsKept old new
-IsDone opening old commands.Locks new = IsKept old new
-IsDone opening old commands.Globals new = IsKept old new
+IsDone opening old (commands.Frames job) new = ChangesNothing old new
+IsDone opening old (commands.Locals job) new = ChangesNothing old new
+IsDone opening old commands.Locks new = ChangesNothing old new
+IsDone opening old commands.Globals new = ChangesNothing old new
 IsDone opening old commands.Quit new = ⊥
 
 -- whether a command shows what stands at the place
@@ -78,6 +78,6 @@ Fails opening old commands.Quit bytes why new = ⊥
 Fails opening old command bytes why new = (bytes ≡ []) × IsUnanswered opening old command why new
 
 -- What was told before was written, and nothing else; but where the output fails, how much it took isn't known.
-abbrev pub IsWritten : Trouble → Option (List ℕ) → Option (List ℕ) → List ℕ → Type 0
-IsWritten troubles.Unwritten old new bytes = Unit {0}
-IsWritten why old new bytes = Appends old new bytes
+abbrev pub IsOutputWritten : Trouble → Option (List ℕ) → Option (List ℕ) → List ℕ → Type 0
+IsOutputWritten troubles.Unwritten old new bytes = Unit {0}
+IsOutputWritten why old new bytes = Appends old new bytes

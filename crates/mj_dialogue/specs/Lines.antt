@@ -9,10 +9,10 @@ use Rattle.mj_sys.specs.declared.event.Event.{Event}
 use Rattle.mj_sys.specs.declared.served.Held.{Held}
 use Rattle.mj_sys.specs.declared.served.Held.TheVariants as helds
 use Rattle.mj_sys.specs.History.{History}
-use Rattle.mj_debug.specs.Seen.{Seen}
-use Rattle.mj_debug.specs.Seen.TheVariants as seen
-use Rattle.mj_debug.specs.Refusal.{Refusal}
-use Rattle.mj_debug.specs.Refusal.TheVariants as refusals
+use Rattle.mj_core.specs.declared.seen.Seen.{Seen}
+use Rattle.mj_core.specs.declared.seen.Seen.TheVariants as seen
+use Rattle.mj_steps.specs.declared.step.Refusal.{Refusal}
+use Rattle.mj_steps.specs.declared.step.Refusal.TheVariants as refusals
 
 -- these bytes, and a line's end
 abbrev pub lined : List ℕ → List ℕ

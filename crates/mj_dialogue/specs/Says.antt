@@ -7,42 +7,29 @@ use Rattle.mj_jobs.specs.Rows.{row_at}
 use Rattle.mj_sys.specs.Shared.{Shared}
 use Rattle.mj_sys.specs.History.{History, state_of}
 use Rattle.mj_steps.specs.declared.step.Step.{Step}
-use Rattle.mj_steps.specs.declared.step.Way.{Way}
-use Rattle.mj_steps.specs.declared.step.Way.TheVariants as ways
-use Rattle.mj_debug.specs.Seen.{Seen}
-use Rattle.mj_debug.specs.Refusal.{Refusal}
-use Rattle.mj_debug.specs.Refusal.TheVariants as refusals
-use Rattle.mj_debug.specs.Step.{Step as CoreStep}
-use Rattle.mj_debug.specs.Way.{Way as CoreWay}
-use Rattle.mj_debug.specs.Way.TheVariants as core_ways
-use Rattle.mj_debug.specs.declared.debugger.Refused.{Refused}
-use Rattle.mj_debug.specs.declared.debugger.Refused.TheVariants as refused
+use Rattle.mj_core.specs.declared.seen.Seen.{Seen}
+use Rattle.mj_steps.specs.declared.step.Refusal.{Refusal}
+use Rattle.mj_steps.specs.declared.step.Refusal.TheVariants as refusals
+use Rattle.mj_debug.specs.declared.debugger.WalkRefusal.{WalkRefusal}
+use Rattle.mj_debug.specs.declared.debugger.WalkRefusal.TheVariants as refused
 use Rattle.mj_debug.specs.declared.debugger.Gone.{Gone}
 use Rattle.mj_debug.specs.declared.debugger.Gone.TheVariants as gones
 use Rattle.mj_debug.specs.Breaks.{AreMarked}
 use Rattle.mj_debug.specs.Goes.{GoGives}
 use Rattle.mj_debug.specs.Shows.{HasStood}
-use Rattle.mj_debug.specs.Walks.{Walk, front, told, StepGives, GoesBack, GoesForth}
-use Rattle.mj_commands.specs.declared.command.Command.{Command}
-use Rattle.mj_commands.specs.declared.command.Command.TheVariants as commands
+use Rattle.mj_debug.specs.Walks.{Walk, front, walk_answer, StepGives, GoesBack, GoesForth}
+use Rattle.mj_dialogue.specs.declared.command.Command.{Command}
+use Rattle.mj_dialogue.specs.declared.command.Command.TheVariants as commands
 use Rattle.mj_dialogue.specs.Lines.{lined, event_line, seen_line, TellsRefusal, stop_line, spot_lines, held_lines}
 
--- the same way and the same step, of a core
-abbrev pub way_of : Way → CoreWay
-way_of ways.Go = core_ways.Go
-way_of ways.Late = core_ways.Late
-
-abbrev pub step_of : Step → CoreStep
-step_of step = record { job = step.job; way = way_of step.way }
-
 -- what is told of a step: what came of it; why it isn't made; or that the place isn't the record's end
-abbrev pub Tells : History → Result Seen Refused → List ℕ → Type 0
-Tells history (Ok seen) bytes = bytes ≡ seen_line history seen
-Tells history (Err (refused.Step why)) bytes = TellsRefusal why bytes
-Tells history (Err refused.NotAtEnd) bytes = bytes ≡ lined (codes "not at end")
+abbrev pub TellsStep : History → Result Seen WalkRefusal → List ℕ → Type 0
+TellsStep history (Ok seen) bytes = bytes ≡ seen_line history seen
+TellsStep history (Err (refused.Step why)) bytes = TellsRefusal why bytes
+TellsStep history (Err refused.NotAtEnd) bytes = bytes ≡ lined (codes "not at end")
 
 -- whether a step isn't made since the record is full
-abbrev pub is_full : Result Seen Refused → Bool
+abbrev pub is_full : Result Seen WalkRefusal → Bool
 is_full (Err (refused.Step refusals.Full)) = true
 is_full _ = false
 
@@ -51,11 +38,11 @@ abbrev pub TellsGone : History → Gone → List ℕ → Type 0
 TellsGone history gones.NotAtEnd bytes = bytes ≡ lined (codes "not at end")
 TellsGone history gones.Over bytes = bytes ≡ []
 TellsGone history (gones.At job routine line) bytes = bytes ≡ stop_line job routine line
-TellsGone history (gones.Step job answer) bytes = Tells history (told answer) bytes
+TellsGone history (gones.Step job answer) bytes = TellsStep history (walk_answer answer) bytes
 
 -- whether it isn't made since the record is full
 abbrev pub is_full_at : Gone → Bool
-is_full_at (gones.Step job answer) = is_full (told answer)
+is_full_at (gones.Step job answer) = is_full (walk_answer answer)
 is_full_at _ = false
 
 -- whether it was made, so that others follow it
@@ -75,8 +62,8 @@ AreMade opening (suc made) old bytes new =
     × ((gone : Gone) × (line : List ℕ) × GoTells opening mid (made == 0) gone line new × (is_made gone ≡ true) × (bytes ≡ told ++ line))
 
 -- Up to so many steps in turn: all were made; or fewer were, and the next one isn't made, which is told behind them.
-abbrev pub Goes : Shared → ℕ → Walk → List ℕ → Bool → Walk → Type 0
-Goes opening count old bytes full new =
+abbrev pub AnswersGo : Shared → ℕ → Walk → List ℕ → Bool → Walk → Type 0
+AnswersGo opening count old bytes full new =
     (AreMade opening count old bytes new × (full ≡ false))
     ⊎ ((made : ℕ) × (made < count)
     × ((mid : Walk) × (told : List ℕ) × AreMade opening made old told mid
@@ -105,14 +92,14 @@ ShowsLocals opening walk job bytes =
     ⊎ ((locals : Locals) × (places : List Place) × HasStood (routines_of walk.core.image) opening (front walk) job locals places × (bytes ≡ listed_lines locals))
 
 -- nothing changes but what is at hand
-abbrev pub IsKept : Walk → Walk → Type 0
-IsKept old new = new ≡ record old { ready = new.ready }
+abbrev pub ChangesNothing : Walk → Walk → Type 0
+ChangesNothing old new = new ≡ record old { ready = new.ready }
 
 -- What is answered to a command, whether it is told that the record is full, and what is left then.
 abbrev pub Says : Shared → Walk → Command → List ℕ → Bool → Walk → Type 0
 Says opening old (commands.Step step) bytes full new =
-    (answer : Result Seen Refused) × StepGives opening old (step_of step) answer new × Tells new.core.history answer bytes × (full ≡ is_full answer)
-Says opening old (commands.Go count) bytes full new = Goes opening count old bytes full new
+    (answer : Result Seen WalkRefusal) × StepGives opening old step answer new × TellsStep new.core.history answer bytes × (full ≡ is_full answer)
+Says opening old (commands.Go count) bytes full new = AnswersGo opening count old bytes full new
 Says opening old (commands.Set routine line) bytes full new =
     AreMarked old.core.image (record { routine = routine; line = line }) true old.marks new.marks
     × (new ≡ record old { marks = new.marks }) × (bytes ≡ lined (codes "ok")) × (full ≡ false)
@@ -121,8 +108,8 @@ Says opening old (commands.Clear routine line) bytes full new =
     × (new ≡ record old { marks = new.marks }) × (bytes ≡ lined (codes "ok")) × (full ≡ false)
 Says opening old commands.Back bytes full new = (at : Option ℕ) × GoesBack old at new × (bytes ≡ walked_line old.core.history at) × (full ≡ false)
 Says opening old commands.Forward bytes full new = (at : Option ℕ) × GoesForth old at new × (bytes ≡ walked_line old.core.history at) × (full ≡ false)
-Says opening old (commands.Frames job) bytes full new = IsKept old new × ShowsFrames opening old job bytes × (full ≡ false)
-Says opening old (commands.Locals job) bytes full new = IsKept old new × ShowsLocals opening old job bytes × (full ≡ false)
-Says opening old commands.Locks bytes full new = IsKept old new × (bytes ≡ held_lines (state_of opening (front old)).locks) × (full ≡ false)
-Says opening old commands.Globals bytes full new = IsKept old new × (bytes ≡ listed_lines (state_of opening (front old)).globals) × (full ≡ false)
+Says opening old (commands.Frames job) bytes full new = ChangesNothing old new × ShowsFrames opening old job bytes × (full ≡ false)
+Says opening old (commands.Locals job) bytes full new = ChangesNothing old new × ShowsLocals opening old job bytes × (full ≡ false)
+Says opening old commands.Locks bytes full new = ChangesNothing old new × (bytes ≡ held_lines (state_of opening (front old)).locks) × (full ≡ false)
+Says opening old commands.Globals bytes full new = ChangesNothing old new × (bytes ≡ listed_lines (state_of opening (front old)).globals) × (full ≡ false)
 Says opening old commands.Quit bytes full new = (new ≡ old) × (bytes ≡ []) × (full ≡ false)

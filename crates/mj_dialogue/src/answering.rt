@@ -2,14 +2,14 @@
 
 ghost use Rattle.std.specs.Prelude.{◌≡◌, Bool, List, ℕ, IfOk, IfErr, OnOk, true, false};
 ghost use Rattle.std.specs.Io.KnownBytes.{Appends};
-ghost use Rattle.mj_commands.specs.declared.command.Command.TheVariants as commands;
+ghost use Rattle.mj_dialogue.specs.declared.command.Command.TheVariants as commands;
 ghost use Rattle.mj_dialogue.specs.declared.answering.Trouble.TheVariants as troubles;
-ghost use Rattle.mj_dialogue.specs.Fails.{Fails, IsWritten};
-ghost use Rattle.mj_dialogue.specs.Says.{Says, Goes};
+ghost use Rattle.mj_dialogue.specs.Fails.{Fails, IsOutputWritten};
+ghost use Rattle.mj_dialogue.specs.Says.{Says, AnswersGo};
 
+use crate::command::Command;
 use crate::doing::{back, clear, forward, frames, globals, locals, locks, set};
 use crate::steps::{pass, step};
-use mj_commands::Command;
 use mj_debug::{Debugger, Unshown};
 use mj_dev::Device;
 use mj_sys::Opening;
@@ -52,8 +52,8 @@ impl From<Unshown> for Trouble {
     }
 }
 
-/// Does what a command asks for, and writes what is answered. Whether it is answered that the record is full. Each step of a `go` is written as soon as it is made;
-/// the first that isn't made ends it.
+/// Does what a command asks for, and writes what is answered. Whether it is answered that the record is full. Each step of a `go` is
+/// written as soon as it is made; the first that isn't made ends it.
 pub fn answer<D: Device, O: Opening, W: Write>(
     alloc: Global,
     debugger: &mut Debugger<D, O>,
@@ -63,7 +63,7 @@ pub fn answer<D: Device, O: Opening, W: Write>(
     ensures ok { IfOk result (λ full. (bytes : List ℕ) × Says O.opening debugger.old command.now bytes full debugger.new
         × Appends (W.contents out.old) (W.contents out.new) bytes) }
     ensures err { IfErr result (λ why. (bytes : List ℕ) × Fails O.opening debugger.old command.now bytes why debugger.new
-        × IsWritten why (W.contents out.old) (W.contents out.new) bytes) }
+        × IsOutputWritten why (W.contents out.old) (W.contents out.new) bytes) }
 {
     match command {
         Command::Go(count) => go(alloc, debugger, *count, out),
@@ -101,10 +101,10 @@ fn go<D: Device, O: Opening, W: Write>(
     count: u32,
     out: &mut W,
 ) -> Result<bool, Trouble>
-    ensures ok { IfOk result (λ full. (bytes : List ℕ) × Goes O.opening count debugger.old bytes full debugger.new
+    ensures ok { IfOk result (λ full. (bytes : List ℕ) × AnswersGo O.opening count debugger.old bytes full debugger.new
         × Appends (W.contents out.old) (W.contents out.new) bytes) }
     ensures err { IfErr result (λ why. (bytes : List ℕ) × Fails O.opening debugger.old (commands.Go count) bytes why debugger.new
-        × IsWritten why (W.contents out.old) (W.contents out.new) bytes) }
+        × IsOutputWritten why (W.contents out.old) (W.contents out.new) bytes) }
 {
     for made in 0..count {
         let passed = pass(alloc, debugger, made == 0)?;

@@ -1,7 +1,7 @@
 // What each command does that makes no step, and its lines.
 
 ghost use Rattle.std.specs.Prelude.{◌≡◌, IfOk, IfErr, OnErr, false};
-ghost use Rattle.mj_commands.specs.declared.command.Command.TheVariants as commands;
+ghost use Rattle.mj_dialogue.specs.declared.command.Command.TheVariants as commands;
 ghost use Rattle.mj_dialogue.specs.Fails.{IsDone, IsHidden};
 ghost use Rattle.mj_dialogue.specs.Says.{Says, walked_line};
 

@@ -1,21 +1,21 @@
 // Steps, and what is answered of them.
 
 ghost use Rattle.std.specs.Prelude.{◌≡◌, Result, Ok, Err, IfOk, IfErr, OnErr, false};
-ghost use Rattle.mj_debug.specs.Seen.{Seen as SeenOf};
-ghost use Rattle.mj_debug.specs.declared.debugger.Refused.{Refused as RefusedOf};
-ghost use Rattle.mj_debug.specs.declared.debugger.Refused.TheVariants as refused;
+ghost use Rattle.mj_core.specs.declared.seen.Seen.{Seen as SeenOf};
+ghost use Rattle.mj_debug.specs.declared.debugger.WalkRefusal.{WalkRefusal as RefusedOf};
+ghost use Rattle.mj_debug.specs.declared.debugger.WalkRefusal.TheVariants as refused;
 ghost use Rattle.mj_debug.specs.declared.debugger.Gone.{Gone as GoneOf};
-ghost use Rattle.mj_debug.specs.Walks.{StepGives, told as as_told};
-ghost use Rattle.mj_commands.specs.declared.command.Command.TheVariants as commands;
+ghost use Rattle.mj_debug.specs.Walks.{StepGives, walk_answer as as_told};
+ghost use Rattle.mj_dialogue.specs.declared.command.Command.TheVariants as commands;
 ghost use Rattle.mj_dialogue.specs.Fails.{trouble_of, IsDone, IsCut};
 ghost use Rattle.mj_dialogue.specs.Lines.{seen_line, TellsRefusal};
-ghost use Rattle.mj_dialogue.specs.Says.{step_of, is_full, is_full_at, is_made, Tells, TellsGone, GoTells};
+ghost use Rattle.mj_dialogue.specs.Says.{is_full, is_full_at, is_made, TellsStep, TellsGone, GoTells};
 
 use crate::tell::{busy, event, line, refusal, stop};
-use mj_debug::cores::{Core, Refusal, Seen};
-use mj_debug::{Debugger, Gone, Refused, Unshown};
+use mj_core::{Core, Seen};
+use mj_debug::{Debugger, Gone, Unshown, WalkRefusal};
 use mj_dev::Device;
-use mj_steps::{Step, Way};
+use mj_steps::{Refusal, Step};
 use mj_sys::Opening;
 use std::alloc::{AllocError, Global};
 
@@ -32,39 +32,26 @@ pub fn step<D: Device, O: Opening>(
     debugger: &mut Debugger<D, O>,
     step: Step,
 ) -> Result<Told, AllocError>
-    ensures ok { IfOk result (λ told. (answer : Result SeenOf RefusedOf) × StepGives O.opening debugger.old (step_of step) answer debugger.new
-        × Tells debugger.new.core.history answer told.bytes.items × (told.full ≡ is_full answer)) }
+    ensures ok { IfOk result (λ told. (answer : Result SeenOf RefusedOf) × StepGives O.opening debugger.old step answer debugger.new
+        × TellsStep debugger.new.core.history answer told.bytes.items × (told.full ≡ is_full answer)) }
     ensures err { OnErr result (IsDone O.opening debugger.old (commands.Step step) debugger.new) }
 {
-    let answer = debugger.step(core_step(step));
+    let answer = debugger.step(step);
     tell(alloc, debugger.core(), &answer)
-}
-
-// The same step, of a core.
-fn core_step(step: Step) -> mj_debug::cores::Step
-    ensures { result ≡ step_of step }
-{
-    mj_debug::cores::Step {
-        job: step.job,
-        way: match step.way {
-            Way::Go => mj_debug::cores::Way::Go,
-            Way::Late => mj_debug::cores::Way::Late,
-        },
-    }
 }
 
 // What is told of a step.
 fn tell<D: Device, O: Opening>(
     alloc: Global,
     core: &Core<D, O>,
-    answer: &Result<Seen, Refused>,
+    answer: &Result<Seen, WalkRefusal>,
 ) -> Result<Told, AllocError>
-    ensures { IfOk result (λ told. Tells core.now.history answer.now told.bytes.items × (told.full ≡ is_full answer.now)) }
+    ensures { IfOk result (λ told. TellsStep core.now.history answer.now told.bytes.items × (told.full ≡ is_full answer.now)) }
 {
     match answer {
         Ok(seen) => tell_seen(alloc, core, seen),
-        Err(Refused::Step(why)) => tell_refusal(alloc, *why),
-        Err(Refused::NotAtEnd) => {
+        Err(WalkRefusal::Step(why)) => tell_refusal(alloc, *why),
+        Err(WalkRefusal::NotAtEnd) => {
             let bytes = line(alloc, b"not at end")?;
             Ok(Told { bytes, full: false })
         }
@@ -154,7 +141,7 @@ fn tell_made<D: Device, O: Opening>(
     core: &Core<D, O>,
     answer: &Result<Seen, Refusal>,
 ) -> Result<Told, AllocError>
-    ensures { IfOk result (λ told. Tells core.now.history (as_told answer.now) told.bytes.items × (told.full ≡ is_full (as_told answer.now))) }
+    ensures { IfOk result (λ told. TellsStep core.now.history (as_told answer.now) told.bytes.items × (told.full ≡ is_full (as_told answer.now))) }
 {
     match answer {
         Ok(seen) => tell_seen(alloc, core, seen),

@@ -4,7 +4,7 @@ ghost use Rattle.std.specs.Prelude.{◌≡◌, ◌++◌, ◌∷◌, [], IfOk, On
 ghost use Rattle.mj_dialogue.specs.Lines.{event_line, held_text, busy_line, spot_line, stop_line, TellsRefusal};
 
 use itoa::Buffer;
-use mj_debug::cores::{Core, Refusal};
+use mj_core::{Core, Refusal};
 use mj_dev::Device;
 use mj_gfile::{put_name, put_text};
 use mj_sys::{Held, Opening};

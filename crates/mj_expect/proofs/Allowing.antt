@@ -12,19 +12,19 @@ use Rattle.mj_dev.specs.declared.talk.State.{State}
 use Rattle.mj_dev.specs.declared.talk.State.TheVariants as states
 use Rattle.mj_dev.specs.Did.{IsAnswered}
 use Rattle.mj_dev.specs.Rest.{TakesOne}
-use Rattle.mj_dev.specs.Talk.{Exchange, Begun, Written, LineRead, ByteRead, Ended, Stand, beginning, Allows, AllowsOpen, AllowsFailed, AllowsLine, AllowsByte, stand_after}
-use Rattle.mj_sessions.specs.Follow.{behind, Follow}
+use Rattle.mj_dev.specs.Talk.{Exchange, Begun, Written, LineRead, ByteRead, Ended, TalkStand, beginning, Allows, AllowsOpen, AllowsFailed, AllowsLine, AllowsByte, stand_after}
+use Rattle.mj_sessions.specs.Follow.{stand_behind, Follow}
 use Rattle.mj_sessions.proofs.Telling.{follow_on}
 use Rattle.mj_expect.specs.declared.heed.Heed.{Heed}
 use Rattle.mj_expect.specs.declared.heed.Heed.TheVariants as heeds
 use Rattle.mj_expect.specs.Heeds.{IsLeft, MayStand, called, after_call, after_end, new_line, rest_line, new_byte, rest_byte, heed_after, AllFollow, IsHeed}
 
 -- a talk may stand so, where the call was allowed
-abbrev MayBe : Option Heed → Stand → Type 0
+abbrev MayBe : Option Heed → TalkStand → Type 0
 MayBe None s = ⊥
 MayBe (Some h) s = MayStand h s
 
-abbrev at_rest : Option (List ℕ) → Stand
+abbrev at_rest : Option (List ℕ) → TalkStand
 at_rest rest = record { rest = rest; state = states.Open }
 
 -- ---- where a call leads
@@ -44,32 +44,32 @@ left_one (byte ∷ bytes) read code rest le t =
 left_first : (line : List ℕ) (read code : ℕ) (rest : Option (List ℕ)) → length line + read ≤ TEXT_LIMIT → TakesOne line (codes.Byte code) rest → IsLeft 1 (code == 10) rest
 left_first line read code rest le t = left_one line 0 code rest (omega (arith, le)) t
 
-same_at : (h : Heed) (s b : Stand) → b ≡ s → MayStand h s → MayStand h b
+same_at : (h : Heed) (s b : TalkStand) → b ≡ s → MayStand h s → MayStand h b
 same_at h s b is m =
-    let P : Stand → Type 0 = λ x. MayStand h x in
+    let P : TalkStand → Type 0 = λ x. MayStand h x in
     subst P (sym is) m
 
-failed_at : (s b : Stand) → b ≡ record s { state = states.Failed } → MayStand heeds.Failed b
-failed_at s b is = ap (λ (x : Stand). x.state) is
+failed_at : (s b : TalkStand) → b ≡ record s { state = states.Failed } → MayStand heeds.Failed b
+failed_at s b is = ap (λ (x : TalkStand). x.state) is
 
-only_called : (h : Heed) (s b : Stand) (answer : Did) → MayStand h s → b ≡ stand_after s answer → MayBe (called h answer) b
+only_called : (h : Heed) (s b : TalkStand) (answer : Did) → MayStand h s → b ≡ stand_after s answer → MayBe (called h answer) b
 only_called h s b did.Done m is = same_at h s b is m
 only_called h s b did.Failed m is = failed_at s b is
 only_called h s b did.Memory m is = same_at h s b is m
 
-only_end : (answer : Did) (b : Stand) → IsAnswered answer → MayBe (after_end answer) beginning
+only_end : (answer : Did) (b : TalkStand) → IsAnswered answer → MayBe (after_end answer) beginning
 only_end did.Done b a = (refl, refl)
 only_end did.Failed b a = (refl, refl)
 only_end did.Memory b a = absurd a
 
-only_new_line : (read : Input) (b : Stand) → AllowsLine beginning None read b → MayBe (new_line read) b
+only_new_line : (read : Input) (b : TalkStand) → AllowsLine beginning None read b → MayBe (new_line read) b
 only_new_line (input.Line line) b is = same_at heeds.Quiet beginning b is (refl, refl)
 only_new_line input.End b is = same_at heeds.Quiet beginning b is (refl, refl)
 only_new_line input.NotYet b is = same_at heeds.Quiet beginning b is (refl, refl)
 only_new_line input.Failed b is = failed_at beginning b is
 only_new_line input.Memory b is = same_at heeds.Quiet beginning b is (refl, refl)
 
-only_new_byte : (code : Code) (b : Stand) → AllowsByte beginning None code b → MayBe (new_byte code) b
+only_new_byte : (code : Code) (b : TalkStand) → AllowsByte beginning None code b → MayBe (new_byte code) b
 only_new_byte (codes.Byte code) b a = (a.3, left_one a.0 0 code b.rest (let le = a.1 in omega (arith, le)) a.2)
 only_new_byte codes.End b is = same_at heeds.Quiet beginning b is (refl, refl)
 only_new_byte codes.NotYet b is = same_at heeds.Quiet beginning b is (refl, refl)
@@ -77,7 +77,7 @@ only_new_byte codes.Failed b is = failed_at beginning b is
 only_new_byte codes.Memory b is = same_at heeds.Quiet beginning b is (refl, refl)
 
 -- a line was begun, and may be over
-only_over_line : (n : ℕ) (read : Input) (b : Stand) → AllowsLine beginning None read b → MayBe (rest_line n true read) b
+only_over_line : (n : ℕ) (read : Input) (b : TalkStand) → AllowsLine beginning None read b → MayBe (rest_line n true read) b
 only_over_line n (input.Line line) b is = same_at heeds.Quiet beginning b is (refl, refl)
 only_over_line n input.End b is = same_at heeds.Quiet beginning b is (refl, refl)
 only_over_line n input.NotYet b is = same_at heeds.Quiet beginning b is (refl, refl)
@@ -91,7 +91,7 @@ fits_line false line rest n is le =
     let few : length line + n ≤ TEXT_LIMIT = (let same : length line ≡ length rest = ap (λ l. length l) is in omega (arith, same, le)) in
     grind (arith, few)
 
-only_rest_line : (n : ℕ) (over : Bool) (rest : List ℕ) (read : Input) (b : Stand) → length rest + n ≤ TEXT_LIMIT
+only_rest_line : (n : ℕ) (over : Bool) (rest : List ℕ) (read : Input) (b : TalkStand) → length rest + n ≤ TEXT_LIMIT
     → AllowsLine (at_rest (Some rest)) (Some rest) read b → MayBe (rest_line n over read) b
 only_rest_line n over rest (input.Line line) b le a =
     let fits = fits_line over line rest n a.0.0 le in
@@ -108,7 +108,7 @@ no_code [] code r not t = not 10 t.0
 no_code (byte ∷ bytes) code r not t = not byte t.0
 
 -- where all bytes of a text were read, nothing is left but the end
-only_one_more : (n code : ℕ) (rest : List ℕ) (b : Stand) (below : Bool) → nat_lt n TEXT_LIMIT ≡ below → length rest + n ≤ TEXT_LIMIT
+only_one_more : (n code : ℕ) (rest : List ℕ) (b : TalkStand) (below : Bool) → nat_lt n TEXT_LIMIT ≡ below → length rest + n ≤ TEXT_LIMIT
     → TakesOne rest (codes.Byte code) b.rest → b.state ≡ states.Open
     → MayBe (if below then Some (heeds.Rest (n + 1) (code == 10)) else (if code == 10 then Some heeds.Quiet else None)) b
 only_one_more n code rest b true is le t usable = (usable, left_one rest n code b.rest le t)
@@ -119,7 +119,7 @@ only_one_more n code (byte ∷ bytes) b false is le t usable =
     let above : TEXT_LIMIT ≤ n = grind (arith, is) in
     absurd (omega (arith, le, above))
 
-only_rest_byte : (n : ℕ) (over : Bool) (rest : List ℕ) (code : Code) (b : Stand) → length rest + n ≤ TEXT_LIMIT
+only_rest_byte : (n : ℕ) (over : Bool) (rest : List ℕ) (code : Code) (b : TalkStand) → length rest + n ≤ TEXT_LIMIT
     → AllowsByte (at_rest (Some rest)) (Some rest) code b → MayBe (rest_byte n over code) b
 only_rest_byte n true rest (codes.Byte code) b le a = (a.1, left_first rest n code b.rest le a.0)
 only_rest_byte n false rest (codes.Byte code) b le a = only_one_more n code rest b (nat_lt n TEXT_LIMIT) refl le a.0 a.1
@@ -129,7 +129,7 @@ only_rest_byte n over rest codes.Failed b le a = absurd (no_code rest codes.Fail
 only_rest_byte n over rest codes.Memory b le a = absurd (no_code rest codes.Memory b.rest (λ byte e. cc) a.0)
 
 -- a session that may be used
-only_open : (h : Heed) (x : Exchange) (rest : Option (List ℕ)) (b : Stand) → MayStand h (at_rest rest) → AllowsOpen (at_rest rest) x b → MayBe (heed_after h x) (behind x b)
+only_open : (h : Heed) (x : Exchange) (rest : Option (List ℕ)) (b : TalkStand) → MayStand h (at_rest rest) → AllowsOpen (at_rest rest) x b → MayBe (heed_after h x) (stand_behind x b)
 only_open heeds.Quiet (Begun answer) rest b m a = only_called heeds.Quiet (at_rest rest) b answer m a
 only_open heeds.Quiet (Written bytes answer) rest b m a = only_called heeds.Quiet (at_rest rest) b answer m a
 only_open heeds.Quiet (LineRead read) None b m a = only_new_line read b a
@@ -148,16 +148,16 @@ only_open (heeds.Rest n over) (ByteRead code) (Some rest) b m a = only_rest_byte
 only_open (heeds.Rest n over) (Ended answer) rest b m a = only_end answer b a.0
 only_open heeds.Failed x rest b m a = absurd (let no : states.Open ≡ states.Failed = m in cc)
 
-only_failed : (h : Heed) (x : Exchange) (rest : Option (List ℕ)) (b : Stand) → MayStand h (record { rest = rest; state = states.Failed })
-    → AllowsFailed (record { rest = rest; state = states.Failed }) x b → MayBe (heed_after h x) (behind x b)
+only_failed : (h : Heed) (x : Exchange) (rest : Option (List ℕ)) (b : TalkStand) → MayStand h (record { rest = rest; state = states.Failed })
+    → AllowsFailed (record { rest = rest; state = states.Failed }) x b → MayBe (heed_after h x) (stand_behind x b)
 only_failed h (Begun answer) rest b m a = absurd a
 only_failed h (Written bytes answer) rest b m a = absurd a
 only_failed h (LineRead read) rest b m a = absurd a
 only_failed h (ByteRead code) rest b m a = absurd a
 only_failed h (Ended answer) rest b m a = only_end answer b a.0
 
-only_step : (h : Heed) (x : Exchange) (rest : Option (List ℕ)) (state : State) (b : Stand) → MayStand h (record { rest = rest; state = state })
-    → Allows (record { rest = rest; state = state }) state x b → MayBe (heed_after h x) (behind x b)
+only_step : (h : Heed) (x : Exchange) (rest : Option (List ℕ)) (state : State) (b : TalkStand) → MayStand h (record { rest = rest; state = state })
+    → Allows (record { rest = rest; state = state }) state x b → MayBe (heed_after h x) (stand_behind x b)
 only_step h x rest states.Open b m a = only_open h x rest b m a
 only_step h x rest states.Failed b m a = only_failed h x rest b m a
 only_step h x rest states.Ended b m a = absurd a
@@ -165,81 +165,81 @@ only_step h x rest states.Ended b m a = absurd a
 -- ---- and each place to which it may lead
 
 -- the talk behind one call more, by what stood before
-pub follow_back : (old new : Stand) (talk : List Exchange) (x : Exchange) → Follow old (talk ++ x ∷ []) new
-    → (mid : Stand) × Follow old talk mid × ((between : Stand) × Allows mid mid.state x between × (new ≡ behind x between))
+pub follow_back : (old new : TalkStand) (talk : List Exchange) (x : Exchange) → Follow old (talk ++ x ∷ []) new
+    → (mid : TalkStand) × Follow old talk mid × ((between : TalkStand) × Allows mid mid.state x between × (new ≡ stand_behind x between))
 follow_back old new [] x f = (old, refl, (f.0, f.1, f.2))
 follow_back old new (y ∷ talk) x f =
-    let rest = follow_back (behind y f.0) new talk x f.2 in
+    let rest = follow_back (stand_behind y f.0) new talk x f.2 in
     (rest.0, (f.0, f.1, rest.1), rest.2)
 
 module _ (h : Heed) (talk : List Exchange) (x : Exchange) (is : IsHeed h talk) where
   abbrev more : List Exchange
   more = talk ++ x ∷ []
 
-  abbrev Reached : Stand → Type 0
+  abbrev Reached : TalkStand → Type 0
   Reached s = Follow beginning more s
 
-  only_more : (s : Stand) → Reached s → MayBe (heed_after h x) s
+  only_more : (s : TalkStand) → Reached s → MayBe (heed_after h x) s
   only_more s f =
       let back = follow_back beginning s talk x f in
-      let P : Stand → Type 0 = λ t. MayBe (heed_after h x) t in
+      let P : TalkStand → Type 0 = λ t. MayBe (heed_after h x) t in
       subst P (sym back.2.2) (only_step h x back.0.rest back.0.state back.2.0 (is.only back.0 back.1) back.2.1)
 
   -- where no device may have answered so, the protocol doesn't allow it
-  pub not_allowed : heed_after h x ≡ None → (s : Stand) → Reached s → ⊥
+  pub not_allowed : heed_after h x ≡ None → (s : TalkStand) → Reached s → ⊥
   not_allowed none s f =
       let P : Option Heed → Type 0 = λ o. MayBe o s in
       subst P none (only_more s f)
 
-  only_so : (h' : Heed) → heed_after h x ≡ Some h' → (s : Stand) → Reached s → MayStand h' s
+  only_so : (h' : Heed) → heed_after h x ≡ Some h' → (s : TalkStand) → Reached s → MayStand h' s
   only_so h' some s f =
       let P : Option Heed → Type 0 = λ o. MayBe o s in
       subst P some (only_more s f)
 
 -- where a talk stands that is open and quiet
-pub is_beginning : (s : Stand) → MayStand heeds.Quiet s → s ≡ beginning
+pub is_beginning : (s : TalkStand) → MayStand heeds.Quiet s → s ≡ beginning
 is_beginning s m =
-    let of : Option (List ℕ) → State → Stand = λ rest state. record { rest = rest; state = state } in
+    let of : Option (List ℕ) → State → TalkStand = λ rest state. record { rest = rest; state = state } in
     ap (λ r. of r s.state) m.1 ∙ ap (of None) m.0
 
-is_open : (s : Stand) (r : Option (List ℕ)) → s.state ≡ states.Open → s.rest ≡ r → s ≡ at_rest r
+is_open : (s : TalkStand) (r : Option (List ℕ)) → s.state ≡ states.Open → s.rest ≡ r → s ≡ at_rest r
 is_open s r usable rest =
-    let of : Option (List ℕ) → State → Stand = λ rest state. record { rest = rest; state = state } in
+    let of : Option (List ℕ) → State → TalkStand = λ rest state. record { rest = rest; state = state } in
     ap (λ x. of x s.state) rest ∙ ap (of r) usable
 
 -- ---- each heed with what is reached by it
 
 module _ (talk : List Exchange) where
-  abbrev Stood : Stand → Type 0
+  abbrev Stood : TalkStand → Type 0
   Stood s = Follow beginning talk s
 
-  abbrev Next : Exchange → Stand → Type 0
+  abbrev Next : Exchange → TalkStand → Type 0
   Next x s = Follow beginning (talk ++ x ∷ []) s
 
   -- one step of an usable session
-  go : (x : Exchange) (rest : Option (List ℕ)) (b t : Stand) → Stood (at_rest rest) → AllowsOpen (at_rest rest) x b → t ≡ behind x b → Next x t
+  go : (x : Exchange) (rest : Option (List ℕ)) (b t : TalkStand) → Stood (at_rest rest) → AllowsOpen (at_rest rest) x b → t ≡ stand_behind x b → Next x t
   go x rest b t f a same =
-      let P : Stand → Type 0 = λ y. Next x y in
+      let P : TalkStand → Type 0 = λ y. Next x y in
       subst P (sym same) (follow_on beginning (at_rest rest) b talk x f a)
 
   -- what is reached: some stand, and all where it may stand
   abbrev Reach : Option Heed → Exchange → Type 0
   Reach None x = ⊤
-  Reach (Some h) x = ((s : Stand) × Next x s) × AllFollow h (talk ++ x ∷ [])
+  Reach (Some h) x = ((s : TalkStand) × Next x s) × AllFollow h (talk ++ x ∷ [])
 
   quiet_by : (x : Exchange) → Next x beginning → Reach (Some heeds.Quiet) x
-  quiet_by x f = ((beginning, f), (λ s m. (let P : Stand → Type 0 = λ y. Next x y in subst P (sym (is_beginning s m)) f)))
+  quiet_by x f = ((beginning, f), (λ s m. (let P : TalkStand → Type 0 = λ y. Next x y in subst P (sym (is_beginning s m)) f)))
 
-  failed_by : (x : Exchange) (s : Stand) → Next x s → Reach (Some heeds.Failed) x
+  failed_by : (x : Exchange) (s : TalkStand) → Next x s → Reach (Some heeds.Failed) x
   failed_by x s f = ((s, f), tt)
 
   -- an ended session
-  reach_end : (answer : Did) (s : Stand) → Stood s → (IsAnswered answer → Allows s s.state (Ended answer) (record s { state = states.Ended })) → Reach (after_end answer) (Ended answer)
+  reach_end : (answer : Did) (s : TalkStand) → Stood s → (IsAnswered answer → Allows s s.state (Ended answer) (record s { state = states.Ended })) → Reach (after_end answer) (Ended answer)
   reach_end did.Done s f a = quiet_by (Ended did.Done) (follow_on beginning s (record s { state = states.Ended }) talk (Ended did.Done) f (a tt))
   reach_end did.Failed s f a = quiet_by (Ended did.Failed) (follow_on beginning s (record s { state = states.Ended }) talk (Ended did.Failed) f (a tt))
   reach_end did.Memory s f a = tt
 
-  ends : (answer : Did) (s : Stand) (state : State) → (state ≡ states.Open) ⊎ (state ≡ states.Failed) → IsAnswered answer → Allows s state (Ended answer) (record s { state = states.Ended })
+  ends : (answer : Did) (s : TalkStand) (state : State) → (state ≡ states.Open) ⊎ (state ≡ states.Failed) → IsAnswered answer → Allows s state (Ended answer) (record s { state = states.Ended })
   ends answer s states.Open is a = (a, refl)
   ends answer s states.Failed is a = (a, refl)
   ends answer s states.Ended (inl is) a = absurd (let no : states.Ended ≡ states.Open = is in cc)
@@ -264,7 +264,7 @@ module _ (talk : List Exchange) where
 
   all_rest : (x : Exchange) (n : ℕ) (over : Bool) → ((rest : Option (List ℕ)) → IsLeft n over rest → Next x (at_rest rest)) → AllFollow (heeds.Rest n over) (talk ++ x ∷ [])
   all_rest x n over by s m =
-      let P : Stand → Type 0 = λ y. Next x y in
+      let P : TalkStand → Type 0 = λ y. Next x y in
       subst P (sym (is_open s s.rest m.0 refl)) (by s.rest m.1)
 
   reach_new_byte : (code : Code) → Stood beginning → Reach (new_byte code) (ByteRead code)
@@ -278,20 +278,20 @@ module _ (talk : List Exchange) where
   reach_new_byte codes.Memory f = quiet_by (ByteRead codes.Memory) (go (ByteRead codes.Memory) None beginning beginning f refl refl)
 
   -- where a stand that is usable was reached
-  stood_open : (s : Stand) → Stood s → s.state ≡ states.Open → Stood (at_rest s.rest)
+  stood_open : (s : TalkStand) → Stood s → s.state ≡ states.Open → Stood (at_rest s.rest)
   stood_open s f usable =
-      let P : Stand → Type 0 = λ y. Stood y in
+      let P : TalkStand → Type 0 = λ y. Stood y in
       subst P (is_open s s.rest usable refl) f
 
   -- a call that reads nothing
-  module _ (x : Exchange) (answer : Did) (allowed : (s b : Stand) → s.state ≡ states.Open → b ≡ stand_after s answer → Allows s s.state x b)
-      (still : (b : Stand) → behind x b ≡ b) where
-    step : (s b : Stand) → Stood s → s.state ≡ states.Open → b ≡ stand_after s answer → Next x b
+  module _ (x : Exchange) (answer : Did) (allowed : (s b : TalkStand) → s.state ≡ states.Open → b ≡ stand_after s answer → Allows s s.state x b)
+      (still : (b : TalkStand) → stand_behind x b ≡ b) where
+    step : (s b : TalkStand) → Stood s → s.state ≡ states.Open → b ≡ stand_after s answer → Next x b
     step s b f usable e =
-        let P : Stand → Type 0 = λ y. Next x y in
+        let P : TalkStand → Type 0 = λ y. Next x y in
         subst P (still b) (follow_on beginning s b talk x f (allowed s b usable e))
 
-  reach_call : (x : Exchange) (answer : Did) → ((s b : Stand) → s.state ≡ states.Open → b ≡ stand_after s answer → Allows s s.state x b) → ((b : Stand) → behind x b ≡ b)
+  reach_call : (x : Exchange) (answer : Did) → ((s b : TalkStand) → s.state ≡ states.Open → b ≡ stand_after s answer → Allows s s.state x b) → ((b : TalkStand) → stand_behind x b ≡ b)
       → (h : Heed) → IsHeed h talk → Reach (after_call h answer) x
   reach_call x did.Done allowed still heeds.Quiet is = quiet_by x (step x did.Done allowed still beginning beginning (is.all beginning (refl, refl)) refl refl)
   reach_call x did.Failed allowed still heeds.Quiet is =
@@ -383,12 +383,12 @@ module _ (talk : List Exchange) where
     reach_rest_byte codes.Failed false e = tt
     reach_rest_byte codes.Memory false e = tt
 
-  opened : (s : Stand) (x : Exchange) (b : Stand) → s.state ≡ states.Open → AllowsOpen s x b → Allows s s.state x b
+  opened : (s : TalkStand) (x : Exchange) (b : TalkStand) → s.state ≡ states.Open → AllowsOpen s x b → Allows s s.state x b
   opened s x b usable a =
       let A : State → Type 0 = λ state. Allows s state x b in
       subst A (sym usable) a
 
-  may_end : (h : Heed) (s : Stand) → MayStand h s → (s.state ≡ states.Open) ⊎ (s.state ≡ states.Failed)
+  may_end : (h : Heed) (s : TalkStand) → MayStand h s → (s.state ≡ states.Open) ⊎ (s.state ≡ states.Failed)
   may_end heeds.Quiet s m = inl m.0
   may_end (heeds.Rest n over) s m = inl m.0
   may_end heeds.Failed s m = inr m

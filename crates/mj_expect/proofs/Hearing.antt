@@ -6,15 +6,16 @@ use Rattle.std.proofs.Common.{ℕ, Bool, true, false, cond, List, [], ◌∷◌,
 use Rattle.std.proofs.lemmas.Slice.Eq.{bytes_eq-Decides}
 use Rattle.mj_ask.specs.declared.ask.Ask.{Ask}
 use Rattle.mj_ask.specs.declared.ask.Ask.TheVariants as asks
+use Rattle.mj_ask.specs.declared.ask.DeviceAsk.{DeviceAsk}
 use Rattle.mj_ask.specs.declared.ask.Reply.{Reply}
 use Rattle.mj_ask.specs.Fits.{is_shared}
-use Rattle.mj_dev.specs.Talk.{Exchange, Begun, Written, LineRead, ByteRead, Ended, Stand, beginning}
-use Rattle.mj_sessions.specs.Events.{Log, did_of, input_of, code_of, exchange_on, talk_on}
+use Rattle.mj_dev.specs.Talk.{Exchange, TalkStand, beginning}
+use Rattle.mj_sessions.specs.Events.{Log, exchange_of, exchange_on, talk_on}
 use Rattle.mj_sessions.specs.Follow.{Follow, AreTalks}
 use Rattle.mj_sessions.proofs.Telling.{talk_more}
 use Rattle.mj_expect.specs.declared.heed.Heed.{Heed}
 use Rattle.mj_expect.specs.declared.heed.Heed.TheVariants as heeds
-use Rattle.mj_expect.specs.Heeds.{heed_after, heed_by, Heeds, heed_of, kept_of, is_other, with_heed, MayStand, IsHeed, AreHeeds, Heard, TakesOn, Takes}
+use Rattle.mj_expect.specs.Heeds.{heed_by, Heeds, heed_of, kept_of, is_other, with_heed, MayStand, IsHeed, AreHeeds, Heard, TakesOn, TakesIn}
 use Rattle.mj_expect.proofs.Allowing.{is_beginning, not_allowed, heed_on}
 
 -- ---- what is found by a name
@@ -48,7 +49,8 @@ other_found name m h (e ∷ es) apart = by (bytes_eq e.0 name) refl (other_found
   by false is rest = ap (λ (x : Heed). if bytes_eq e.0 m then e.1 else x) rest
 
 -- what is known of a device is put in the place of what was
-pub put_so : (device : List ℕ) (h : Heed) (es inside left new k : Heeds) → left ≡ filter (is_other device) inside → inside ≡ es → kept_of device h ≡ k → new ≡ left ++ k
+pub put_so : (device : List ℕ) (h : Heed) (es inside left new k : Heeds) → left ≡ filter (is_other device) inside
+    → inside ≡ es → kept_of device h ≡ k → new ≡ left ++ k
     → new ≡ with_heed device h es
 put_so device h es inside left new k is view kept on =
     on ∙ ap (λ l. l ++ k) is ∙ ap (λ l. filter (is_other device) inside ++ l) (sym kept) ∙ ap (λ (l : Heeds). filter (is_other device) l ++ kept_of device h) view
@@ -72,29 +74,15 @@ loud name log ask reply x some =
     ∙ ap (λ (o : Option Exchange). talk_on name log ++ elim o as (λ _. List Exchange) [ None ↦ [] | Some y ↦ y ∷ [] ]) some
 
 -- what is no call to a session changes nothing
-still : (log : Log) (es : Heeds) (ask : Ask) (reply : Reply) → ((name : List ℕ) → exchange_on name ask reply ≡ None) → AreHeeds log es → AreHeeds (log ++ (ask, reply) ∷ []) es
+still : (log : Log) (es : Heeds) (ask : Ask) (reply : Reply) → ((name : List ℕ) → exchange_on name ask reply ≡ None) → AreHeeds log es
+    → AreHeeds (log ++ (ask, reply) ∷ []) es
 still log es ask reply none all name =
     let P : List Exchange → Type 0 = λ t. IsHeed (heed_of name es) t in
     subst P (sym (quiet name log ask reply (none name))) (all name)
 
 no_exchange : (ask : Ask) (reply : Reply) → is_shared ask ≡ true → (name : List ℕ) → exchange_on name ask reply ≡ None
-no_exchange (asks.Access a) reply h name = refl
-no_exchange (asks.Try names timeout) reply h name = refl
-no_exchange (asks.Unlock names) reply h name = refl
-no_exchange asks.UnlockAll reply h name = refl
-no_exchange (asks.Begin kind) reply h name = refl
-no_exchange asks.Commit reply h name = refl
-no_exchange asks.Rollback reply h name = refl
-no_exchange (asks.Open device timeout) reply h name = refl
-no_exchange (asks.Close device) reply h name = refl
-no_exchange (asks.Start start timeout) reply h name = refl
-no_exchange (asks.Halt fault) reply h name = refl
-no_exchange (asks.DeviceBegin device) reply h name = absurd (let no : false ≡ true = h in cc)
-no_exchange (asks.DeviceWrite device bytes) reply h name = absurd (let no : false ≡ true = h in cc)
-no_exchange (asks.DeviceLine device timeout) reply h name = absurd (let no : false ≡ true = h in cc)
-no_exchange (asks.DeviceByte device timeout) reply h name = absurd (let no : false ≡ true = h in cc)
-no_exchange (asks.DeviceEnd device) reply h name = absurd (let no : false ≡ true = h in cc)
-no_exchange (asks.Rest time) reply h name = absurd (let no : false ≡ true = h in cc)
+no_exchange (asks.Shared ask) reply h name = refl
+no_exchange _ reply h name = absurd (let no : false ≡ true = h in cc)
 
 -- what the shared state serves changes nothing of the talks
 pub heard_shared : (log : Log) (es : Heeds) (ask : Ask) (reply : Reply) → is_shared ask ≡ true → AreHeeds log es → AreHeeds (log ++ (ask, reply) ∷ []) es
@@ -108,7 +96,7 @@ heard_rest log es time reply all = still log es (asks.Rest time) reply (λ name.
 pub heard_nothing : AreHeeds [] []
 heard_nothing name = record {
   some = (beginning, refl);
-  only = λ s f. (let P : Stand → Type 0 = λ x. MayStand heeds.Quiet x in subst P (sym f) (refl, refl));
+  only = λ s f. (let P : TalkStand → Type 0 = λ x. MayStand heeds.Quiet x in subst P (sym f) (refl, refl));
   all = λ s m. (let back : s ≡ beginning = is_beginning s m in back);
 }
 
@@ -116,44 +104,49 @@ heard_nothing name = record {
 pub heard_talks : (log : Log) (es : Heeds) → AreHeeds log es → AreTalks log
 heard_talks log es all name = (all name).some
 
-module _ (log : Log) (es : Heeds) (all : AreHeeds log es) (device : List ℕ) (ask : Ask) (reply : Reply) (x : Exchange)
-    (on : (name : List ℕ) → exchange_on name ask reply ≡ (if bytes_eq device name then Some x else None)) where
-  own : exchange_on device ask reply ≡ Some x
-  own = on device ∙ ap (λ b. if b then Some x else None) ((bytes_eq-Decides device device).1 refl)
+module _ (log : Log) (es : Heeds) (all : AreHeeds log es) (device : List ℕ) (ask : DeviceAsk) (reply : Reply) where
+  abbrev call : Exchange
+  call = exchange_of ask reply
+
+  abbrev more : Log
+  more = log ++ (asks.Device device ask, reply) ∷ []
+
+  own : talk_on device more ≡ talk_on device log ++ call ∷ []
+  own = loud device log (asks.Device device ask) reply call (ap (λ b. if b then Some call else None) ((bytes_eq-Decides device device).1 refl))
 
   -- a call that the protocol allows
-  pub heard_yes : (h : Heed) → heed_after (heed_of device es) x ≡ Some h → AreHeeds (log ++ (ask, reply) ∷ []) (with_heed device h es)
+  pub heard_yes : (h : Heed) → heed_by (heed_of device es) ask reply ≡ Some h → AreHeeds more (with_heed device h es)
   heard_yes h some name = at (bytes_eq device name) refl where
-    at : (b : Bool) → bytes_eq device name ≡ b → IsHeed (heed_of name (with_heed device h es)) (talk_on name (log ++ (ask, reply) ∷ []))
+    at : (b : Bool) → bytes_eq device name ≡ b → IsHeed (heed_of name (with_heed device h es)) (talk_on name more)
     at true same =
         let to : device ≡ name = (bytes_eq-Decides device name).0 same in
-        let P : List ℕ → Type 0 = λ n. IsHeed (heed_of n (with_heed device h es)) (talk_on n (log ++ (ask, reply) ∷ [])) in
-        let Q : Heed → Type 0 = λ k. IsHeed k (talk_on device (log ++ (ask, reply) ∷ [])) in
+        let P : List ℕ → Type 0 = λ n. IsHeed (heed_of n (with_heed device h es)) (talk_on n more) in
+        let Q : Heed → Type 0 = λ k. IsHeed k (talk_on device more) in
         let R : List Exchange → Type 0 = λ t. IsHeed h t in
-        subst P to (subst Q (sym (own_found device h es)) (subst R (sym (loud device log ask reply x own)) (heed_on (talk_on device log) (heed_of device es) x (all device) h some)))
+        subst P to (subst Q (sym (own_found device h es)) (subst R (sym own) (heed_on (talk_on device log) (heed_of device es) call (all device) h some)))
     at false apart =
-        let Q : Heed → Type 0 = λ k. IsHeed k (talk_on name (log ++ (ask, reply) ∷ [])) in
+        let Q : Heed → Type 0 = λ k. IsHeed k (talk_on name more) in
         let R : List Exchange → Type 0 = λ t. IsHeed (heed_of name es) t in
         subst Q (sym (other_found device name h es apart))
-        (subst R (sym (quiet name log ask reply (on name ∙ ap (λ b. if b then Some x else None) apart))) (all name))
+        (subst R (sym (quiet name log (asks.Device device ask) reply (ap (λ b. if b then Some call else None) apart))) (all name))
 
   -- one that it doesn't
-  pub heard_no : heed_after (heed_of device es) x ≡ None → AreTalks (log ++ (ask, reply) ∷ []) → ⊥
+  pub heard_no : heed_by (heed_of device es) ask reply ≡ None → AreTalks more → ⊥
   heard_no none talks =
-      let P : List Exchange → Type 0 = λ t. (last : Stand) × Follow beginning t last in
-      let f = subst P (loud device log ask reply x own) (talks device) in
-      not_allowed (heed_of device es) (talk_on device log) x (all device) none f.0 f.1
+      let P : List Exchange → Type 0 = λ t. (last : TalkStand) × Follow beginning t last in
+      let f = subst P own (talks device) in
+      not_allowed (heed_of device es) (talk_on device log) call (all device) none f.0 f.1
 
 module _ (log : Log) (es : Heeds) (all : AreHeeds log es) where
   -- a call to a session
-  by_call : (device : List ℕ) (ask : Ask) (reply : Reply) (x : Exchange) → ((name : List ℕ) → exchange_on name ask reply ≡ (if bytes_eq device name then Some x else None))
-      → (found : Option Heed) → heed_after (heed_of device es) x ≡ found → (heard : Bool) (new : Heeds) → TakesOn device es found heard new → Heard log ask reply heard new
-  by_call device ask reply x on None is true new takes = absurd (let no : true ≡ false = takes in cc)
-  by_call device ask reply x on None is false new takes = heard_no log es all device ask reply x on is
-  by_call device ask reply x on (Some h) is true new takes =
-      let P : Heeds → Type 0 = λ l. AreHeeds (log ++ (ask, reply) ∷ []) l in
-      subst P (sym takes.1) (heard_yes log es all device ask reply x on h is)
-  by_call device ask reply x on (Some h) is false new takes = absurd (let no : false ≡ true = takes.0 in cc)
+  by_call : (device : List ℕ) (ask : DeviceAsk) (reply : Reply) (found : Option Heed) → heed_by (heed_of device es) ask reply ≡ found
+      → (heard : Bool) (new : Heeds) → TakesOn device es found heard new → Heard log (asks.Device device ask) reply heard new
+  by_call device ask reply None is true new takes = absurd (let no : true ≡ false = takes in cc)
+  by_call device ask reply None is false new takes = heard_no log es all device ask reply is
+  by_call device ask reply (Some h) is true new takes =
+      let P : Heeds → Type 0 = λ l. AreHeeds (log ++ (asks.Device device ask, reply) ∷ []) l in
+      subst P (sym takes.1) (heard_yes log es all device ask reply h is)
+  by_call device ask reply (Some h) is false new takes = absurd (let no : false ≡ true = takes.0 in cc)
 
   by_rest : (time : _) (reply : Reply) (heard : Bool) (new : Heeds) → (heard ≡ true) × (new ≡ es) → Heard log (asks.Rest time) reply heard new
   by_rest time reply true new is =
@@ -162,29 +155,13 @@ module _ (log : Log) (es : Heeds) (all : AreHeeds log es) where
   by_rest time reply false new is = absurd (let no : false ≡ true = is.0 in cc)
 
   -- what isn't shared is taken in where the protocol allows it
-  pub takes_heard : (ask : Ask) (reply : Reply) → is_shared ask ≡ false → (heard : Bool) (new : Heeds) → Takes es ask reply heard new → Heard log ask reply heard new
-  takes_heard (asks.DeviceBegin d) reply h heard new t = by_call d (asks.DeviceBegin d) reply (Begun (did_of reply)) (λ n. refl) (heed_by (heed_of d es) (asks.DeviceBegin d) reply) refl heard new t
-  takes_heard (asks.DeviceWrite d bytes) reply h heard new t =
-      by_call d (asks.DeviceWrite d bytes) reply (Written bytes (did_of reply)) (λ n. refl) (heed_by (heed_of d es) (asks.DeviceWrite d bytes) reply) refl heard new t
-  takes_heard (asks.DeviceLine d time) reply h heard new t =
-      by_call d (asks.DeviceLine d time) reply (LineRead (input_of reply)) (λ n. refl) (heed_by (heed_of d es) (asks.DeviceLine d time) reply) refl heard new t
-  takes_heard (asks.DeviceByte d time) reply h heard new t =
-      by_call d (asks.DeviceByte d time) reply (ByteRead (code_of reply)) (λ n. refl) (heed_by (heed_of d es) (asks.DeviceByte d time) reply) refl heard new t
-  takes_heard (asks.DeviceEnd d) reply h heard new t = by_call d (asks.DeviceEnd d) reply (Ended (did_of reply)) (λ n. refl) (heed_by (heed_of d es) (asks.DeviceEnd d) reply) refl heard new t
+  pub takes_heard : (ask : Ask) (reply : Reply) → is_shared ask ≡ false → (heard : Bool) (new : Heeds) → TakesIn es ask reply heard new
+      → Heard log ask reply heard new
+  takes_heard (asks.Device d ask) reply h heard new t = by_call d ask reply (heed_by (heed_of d es) ask reply) refl heard new t
   takes_heard (asks.Rest time) reply h heard new t = by_rest time reply heard new t
-  takes_heard (asks.Access x) reply h heard new t = absurd (let no : true ≡ false = h in cc)
-  takes_heard (asks.Try names time) reply h heard new t = absurd (let no : true ≡ false = h in cc)
-  takes_heard (asks.Unlock names) reply h heard new t = absurd (let no : true ≡ false = h in cc)
-  takes_heard asks.UnlockAll reply h heard new t = absurd (let no : true ≡ false = h in cc)
-  takes_heard (asks.Begin kind) reply h heard new t = absurd (let no : true ≡ false = h in cc)
-  takes_heard asks.Commit reply h heard new t = absurd (let no : true ≡ false = h in cc)
-  takes_heard asks.Rollback reply h heard new t = absurd (let no : true ≡ false = h in cc)
-  takes_heard (asks.Open d time) reply h heard new t = absurd (let no : true ≡ false = h in cc)
-  takes_heard (asks.Close d) reply h heard new t = absurd (let no : true ≡ false = h in cc)
-  takes_heard (asks.Start start time) reply h heard new t = absurd (let no : true ≡ false = h in cc)
-  takes_heard (asks.Halt fault) reply h heard new t = absurd (let no : true ≡ false = h in cc)
+  takes_heard (asks.Shared ask) reply h heard new t = absurd (let no : true ≡ false = h in cc)
 
   pub heard_so : {E : Type 0} (ask : Ask) (reply : Reply) → is_shared ask ≡ false → (new : Heeds) (result : Result Bool E)
-      → IfOk result (λ heard. Takes es ask reply heard new) → IfOk result (λ heard. Heard log ask reply heard new)
+      → IfOk result (λ heard. TakesIn es ask reply heard new) → IfOk result (λ heard. Heard log ask reply heard new)
   heard_so ask reply h new (Ok heard) t = takes_heard ask reply h heard new t
   heard_so ask reply h new (Err e) t = tt

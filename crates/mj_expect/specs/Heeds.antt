@@ -5,6 +5,8 @@ use Rattle.std.specs.List.{filter}
 use Rattle.std.specs.Str.{bytes_eq}
 use Rattle.mj_text.specs.declared.text.TheConstants.{TEXT_LIMIT}
 use Rattle.mj_ask.specs.declared.ask.Ask.{Ask}
+use Rattle.mj_ask.specs.declared.ask.Ask.TheVariants as asks
+use Rattle.mj_ask.specs.declared.ask.DeviceAsk.{DeviceAsk}
 use Rattle.mj_ask.specs.declared.ask.Reply.{Reply}
 use Rattle.mj_dev.specs.declared.device.Did.{Did}
 use Rattle.mj_dev.specs.declared.device.Did.TheVariants as did
@@ -13,8 +15,8 @@ use Rattle.mj_dev.specs.declared.device.Input.TheVariants as input
 use Rattle.mj_dev.specs.declared.talk.Code.{Code}
 use Rattle.mj_dev.specs.declared.talk.Code.TheVariants as codes
 use Rattle.mj_dev.specs.declared.talk.State.TheVariants as states
-use Rattle.mj_dev.specs.Talk.{Exchange, Begun, Written, LineRead, ByteRead, Ended, Stand, beginning}
-use Rattle.mj_sessions.specs.Events.{Log, device_of, exchange_of, talk_on}
+use Rattle.mj_dev.specs.Talk.{Exchange, Begun, Written, LineRead, ByteRead, Ended, TalkStand, beginning}
+use Rattle.mj_sessions.specs.Events.{Log, exchange_of, talk_on}
 use Rattle.mj_sessions.specs.Follow.{Follow, AreTalks}
 use Rattle.mj_expect.specs.declared.heed.Heed.{Heed}
 use Rattle.mj_expect.specs.declared.heed.Heed.TheVariants as heeds
@@ -25,7 +27,7 @@ IsLeft read over None = over ≡ true
 IsLeft read over (Some rest) = length rest + read ≤ TEXT_LIMIT
 
 -- where a talk may stand
-abbrev pub MayStand : Heed → Stand → Type 0
+abbrev pub MayStand : Heed → TalkStand → Type 0
 MayStand heeds.Quiet stand = (stand.state ≡ states.Open) × (stand.rest ≡ None)
 MayStand (heeds.Rest read over) stand = (stand.state ≡ states.Open) × IsLeft read over stand.rest
 MayStand heeds.Failed stand = stand.state ≡ states.Failed
@@ -103,9 +105,9 @@ heed_after h (LineRead read) = after_line h read
 heed_after h (ByteRead code) = after_byte h code
 heed_after h (Ended answer) = after_end answer
 
--- the same for an ask with its reply
-abbrev pub heed_by : Heed → Ask → Reply → Option Heed
-heed_by h ask reply = elim (exchange_of ask reply) [ None ↦ Some h | Some exchange ↦ heed_after h exchange ]
+-- the same for an ask of the device with its reply
+abbrev pub heed_by : Heed → DeviceAsk → Reply → Option Heed
+heed_by h ask reply = heed_after h (exchange_of ask reply)
 
 -- ---- all devices of a job
 
@@ -133,14 +135,14 @@ with_heed name h es = filter (is_other name) es ++ kept_of name h
 
 -- each stand where the talk may be is one to which it may have gone
 abbrev pub AllFollow : Heed → List Exchange → Type 0
-AllFollow heeds.Quiet talk = (stand : Stand) → MayStand heeds.Quiet stand → Follow beginning talk stand
-AllFollow (heeds.Rest read over) talk = (stand : Stand) → MayStand (heeds.Rest read over) stand → Follow beginning talk stand
+AllFollow heeds.Quiet talk = (stand : TalkStand) → MayStand heeds.Quiet stand → Follow beginning talk stand
+AllFollow (heeds.Rest read over) talk = (stand : TalkStand) → MayStand (heeds.Rest read over) stand → Follow beginning talk stand
 AllFollow heeds.Failed talk = ⊤
 
 -- where the talk may stand, which obeys the protocol
 pub record IsHeed (h : Heed) (talk : List Exchange) : Type 0 where
-  pub some : (stand : Stand) × Follow beginning talk stand
-  pub only : (stand : Stand) → Follow beginning talk stand → MayStand h stand
+  pub some : (stand : TalkStand) × Follow beginning talk stand
+  pub only : (stand : TalkStand) → Follow beginning talk stand → MayStand h stand
   pub all : AllFollow h talk
 
 -- the same of the talks with all devices of which a log tells
@@ -158,6 +160,6 @@ TakesOn device es None heard new = heard ≡ false
 TakesOn device es (Some h) heard new = (heard ≡ true) × (new ≡ with_heed device h es)
 
 -- what an ask that a session serves takes in with its reply; any other nothing
-abbrev pub Takes : Heeds → Ask → Reply → Bool → Heeds → Type 0
-Takes es ask reply heard new =
-    elim (device_of ask) [ None ↦ (heard ≡ true) × (new ≡ es) | Some device ↦ TakesOn device es (heed_by (heed_of device es) ask reply) heard new ]
+abbrev pub TakesIn : Heeds → Ask → Reply → Bool → Heeds → Type 0
+TakesIn es (asks.Device device ask) reply heard new = TakesOn device es (heed_by (heed_of device es) ask reply) heard new
+TakesIn es _ reply heard new = (heard ≡ true) × (new ≡ es)

@@ -1,11 +1,11 @@
 // What a job's device sessions may be told.
 
-ghost use Rattle.std.specs.Prelude.{◌≡◌, ◌++◌, ◌∷◌, [], false, IfOk, OnOk, option_copied};
+ghost use Rattle.std.specs.Prelude.{◌≡◌, ◌++◌, ◌∷◌, [], false, IfOk, OnOk};
 ghost use Rattle.mj_ask.specs.Fits.{is_shared};
-ghost use Rattle.mj_sessions.specs.Events.{Log, device_of, did_of, input_of, code_of};
-ghost use Rattle.mj_expect.specs.Heeds.{heed_of, with_heed, heed_by, after_call, after_end, after_line, rest_line, after_byte, one_more, AreHeeds, Heard, Takes};
+ghost use Rattle.mj_sessions.specs.Events.{Log, did_of, input_of, code_of};
+ghost use Rattle.mj_expect.specs.Heeds.{heed_of, with_heed, heed_by, after_call, after_end, after_line, rest_line, after_byte, one_more, AreHeeds, Heard, TakesIn};
 
-use mj_ask::{Ask, Reply};
+use mj_ask::{Ask, DeviceAsk, Reply};
 use mj_text::{TEXT_LIMIT, Text};
 use std::alloc::{AllocError, Global};
 use std::marker::Model;
@@ -36,7 +36,7 @@ impl Model for Heeds {
 }
 
 impl Heeds {
-    /// Nothing was told yet.
+    /// Makes what is known before anything was told.
     pub fn new(alloc: Global) -> Heeds
         ensures { AreHeeds [] result }
     {
@@ -45,7 +45,7 @@ impl Heeds {
         }
     }
 
-    /// A copy.
+    /// Copies it.
     pub fn try_clone(&self) -> Result<Heeds, AllocError>
         ensures { IfOk result (λ copy. copy ≡ self.now) }
     {
@@ -66,9 +66,9 @@ impl Heeds {
 
     // Takes in what a job's session was told, if it is that.
     fn take(&mut self, ask: &Ask, reply: &Reply) -> Result<bool, AllocError>
-        ensures { IfOk result (λ heard. Takes self.old ask.now reply.now heard self.new) }
+        ensures { IfOk result (λ heard. TakesIn self.old ask.now reply.now heard self.new) }
     {
-        let Some(device) = device_of(ask) else {
+        let Ask::Device(device, ask) = ask else {
             return Ok(true);
         };
         match after(self.of(device), ask, reply) {
@@ -92,7 +92,7 @@ impl Heeds {
         Heed::Quiet
     }
 
-    // The talk with a device may stand so now.
+    // Sets where the talk with a device may stand.
     fn put(&mut self, device: &Text, heed: Heed) -> Result<(), AllocError>
         ensures { OnOk result (self.new ≡ with_heed device.now heed self.old) }
     {
@@ -104,7 +104,7 @@ impl Heeds {
         }
     }
 
-    // One more device of which more is known.
+    // Adds a device of which more is known.
     fn keep(&mut self, device: &Text, heed: Heed) -> Result<(), AllocError>
         ensures { OnOk result (self.new ≡ self.old ++ (device.now, heed) ∷ []) }
     {
@@ -114,30 +114,15 @@ impl Heeds {
     }
 }
 
-// The device whose session serves the ask, if one does.
-fn device_of(ask: &Ask) -> Option<&Text>
-    ensures { option_copied result ≡ device_of ask.now }
-{
-    match ask {
-        Ask::DeviceBegin(device)
-        | Ask::DeviceWrite(device, _)
-        | Ask::DeviceLine(device, _)
-        | Ask::DeviceByte(device, _)
-        | Ask::DeviceEnd(device) => Some(device),
-        _ => None,
-    }
-}
-
-// Where a talk may stand behind one ask more with its reply; none where no device may have answered so.
-fn after(heed: Heed, ask: &Ask, reply: &Reply) -> Option<Heed>
+// Where the talk with a device may stand behind one ask more with its reply; none where no device may have answered so.
+fn after(heed: Heed, ask: &DeviceAsk, reply: &Reply) -> Option<Heed>
     ensures { result ≡ heed_by heed ask.now reply.now }
 {
     match ask {
-        Ask::DeviceBegin(_) | Ask::DeviceWrite(_, _) => after_call(heed, reply),
-        Ask::DeviceLine(_, _) => after_line(heed, reply),
-        Ask::DeviceByte(_, _) => after_byte(heed, reply),
-        Ask::DeviceEnd(_) => after_end(reply),
-        _ => Some(heed),
+        DeviceAsk::Begin | DeviceAsk::Write(_) => after_call(heed, reply),
+        DeviceAsk::Line(_) => after_line(heed, reply),
+        DeviceAsk::Byte(_) => after_byte(heed, reply),
+        DeviceAsk::End => after_end(reply),
     }
 }
 

@@ -2,9 +2,9 @@
 
 ghost use Rattle.std.specs.Prelude.{◌≡◌, ◌↔◌, IsTrue};
 
-use mj_ask::{Ask, Clash, Entry, Kept, Reply, Start};
-use mj_store::{Access, Answer};
-use mj_subs::{Name, Subs};
+use mj_ask::{Ask, Clash, DeviceAsk, Entry, Kept, Reply, SharedAsk, Start};
+use mj_store::{Access, are_same_nodes, is_same_answer};
+use mj_subs::Name;
 use mj_text::Text;
 
 // Whether the asks are the same.
@@ -12,23 +12,44 @@ pub fn is_same_ask(one: &Ask, other: &Ask) -> bool
     ensures { IsTrue result ↔ (one.now ≡ other.now) }
 {
     match (one, other) {
-        (Ask::DeviceBegin(a), Ask::DeviceBegin(b)) => a == b,
-        (Ask::DeviceWrite(a, c), Ask::DeviceWrite(b, d)) => a == b && c == d,
-        (Ask::DeviceLine(a, c), Ask::DeviceLine(b, d)) => a == b && c == d,
-        (Ask::DeviceByte(a, c), Ask::DeviceByte(b, d)) => a == b && c == d,
-        (Ask::DeviceEnd(a), Ask::DeviceEnd(b)) => a == b,
-        (Ask::Access(a), Ask::Access(b)) => is_same_access(a, b),
-        (Ask::Try(a, c), Ask::Try(b, d)) => { are_same_names(a.as_slice(), b.as_slice()) && c == d }
-        (Ask::Unlock(a), Ask::Unlock(b)) => are_same_names(a.as_slice(), b.as_slice()),
-        (Ask::UnlockAll, Ask::UnlockAll)
-        | (Ask::Commit, Ask::Commit)
-        | (Ask::Rollback, Ask::Rollback) => true,
-        (Ask::Begin(a), Ask::Begin(b)) => a == b,
-        (Ask::Open(a, c), Ask::Open(b, d)) => a == b && c == d,
-        (Ask::Close(a), Ask::Close(b)) => a == b,
-        (Ask::Start(a, c), Ask::Start(b, d)) => is_same_start(a, b) && c == d,
+        (Ask::Shared(a), Ask::Shared(b)) => is_same_shared_ask(a, b),
+        (Ask::Device(a, c), Ask::Device(b, d)) => a == b && is_same_device_ask(c, d),
         (Ask::Rest(a), Ask::Rest(b)) => a == b,
-        (Ask::Halt(a), Ask::Halt(b)) => a == b,
+        _ => false,
+    }
+}
+
+// Whether the asks of what all jobs share are the same.
+fn is_same_shared_ask(one: &SharedAsk, other: &SharedAsk) -> bool
+    ensures { IsTrue result ↔ (one.now ≡ other.now) }
+{
+    match (one, other) {
+        (SharedAsk::Access(a), SharedAsk::Access(b)) => is_same_access(a, b),
+        (SharedAsk::Try(a, c), SharedAsk::Try(b, d)) => {
+            are_same_names(a.as_slice(), b.as_slice()) && c == d
+        }
+        (SharedAsk::Unlock(a), SharedAsk::Unlock(b)) => are_same_names(a.as_slice(), b.as_slice()),
+        (SharedAsk::UnlockAll, SharedAsk::UnlockAll)
+        | (SharedAsk::Commit, SharedAsk::Commit)
+        | (SharedAsk::Rollback, SharedAsk::Rollback) => true,
+        (SharedAsk::Begin(a), SharedAsk::Begin(b)) => a == b,
+        (SharedAsk::Open(a, c), SharedAsk::Open(b, d)) => a == b && c == d,
+        (SharedAsk::Close(a), SharedAsk::Close(b)) => a == b,
+        (SharedAsk::Start(a, c), SharedAsk::Start(b, d)) => is_same_start(a, b) && c == d,
+        (SharedAsk::Halt(a), SharedAsk::Halt(b)) => a == b,
+        _ => false,
+    }
+}
+
+// Whether the asks of a device are the same.
+fn is_same_device_ask(one: &DeviceAsk, other: &DeviceAsk) -> bool
+    ensures { IsTrue result ↔ (one.now ≡ other.now) }
+{
+    match (one, other) {
+        (DeviceAsk::Write(a), DeviceAsk::Write(b)) => a == b,
+        (DeviceAsk::Line(a), DeviceAsk::Line(b)) => a == b,
+        (DeviceAsk::Byte(a), DeviceAsk::Byte(b)) => a == b,
+        (DeviceAsk::Begin, DeviceAsk::Begin) | (DeviceAsk::End, DeviceAsk::End) => true,
         _ => false,
     }
 }
@@ -50,22 +71,6 @@ pub fn is_same_reply(one: &Reply, other: &Reply) -> bool
         | (Reply::NoSession, Reply::NoSession)
         | (Reply::Failed, Reply::Failed)
         | (Reply::End, Reply::End) => true,
-        _ => false,
-    }
-}
-
-// Whether the answers are the same.
-fn is_same_answer(one: &Answer, other: &Answer) -> bool
-    ensures { IsTrue result ↔ (one.now ≡ other.now) }
-{
-    match (one, other) {
-        (Answer::Value(a), Answer::Value(b)) => a == b,
-        (Answer::Data(a), Answer::Data(b)) => a == b,
-        (Answer::Order(a), Answer::Order(b)) => a == b,
-        (Answer::Query(None), Answer::Query(None)) => true,
-        (Answer::Query(Some(a)), Answer::Query(Some(b))) => is_same_name(a, b),
-        (Answer::Subtree(a), Answer::Subtree(b)) => are_same_nodes(a.as_slice(), b.as_slice()),
-        (Answer::Done, Answer::Done) | (Answer::Limit, Answer::Limit) => true,
         _ => false,
     }
 }
@@ -165,28 +170,6 @@ fn are_same_names(one: &[Name], other: &[Name]) -> bool
         }
     }
     true
-}
-
-// Whether the nodes are the same.
-fn are_same_nodes(one: &[(Subs, Text)], other: &[(Subs, Text)]) -> bool
-    ensures { IsTrue result ↔ (one.now ≡ other.now) }
-{
-    if one.len() != other.len() {
-        return false;
-    }
-    for (i, node) in one.iter().enumerate() {
-        if !is_same_node(node, &other[i]) {
-            return false;
-        }
-    }
-    true
-}
-
-// Whether the two nodes are the same.
-fn is_same_node(one: &(Subs, Text), other: &(Subs, Text)) -> bool
-    ensures { IsTrue result ↔ (one.now ≡ other.now) }
-{
-    one.0 == other.0 && one.1 == other.1
 }
 
 // Whether the names are the same.

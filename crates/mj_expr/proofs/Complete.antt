@@ -18,7 +18,8 @@ use Rattle.mj_ast.specs.Expressions.{Symbol, Name, Mark, scoped, unary_sign, tru
 use Rattle.mj_expr.specs.Machine.{Outer, Alone, InGroup, InList, InOther, InCondition, InChoice, Owner, Subscripts, Arguments, Within, Front, Right, Under, Place, AsOperand, AsNamed, AsTarget, Pairs, NoPairs, and_pair, before_choices, Wanted, Sought, Named, Behind, Held, Limits, Phrase, Whole, Target, Accept, and_then, and_more, filled, placed, closed, held, outer_depth, owner_depth, depth_of, place_depth, least_of, most_of, is_limited, run, turn, Go, Deep, Stuck, Long, unary_of, binary_of, want_sign, hold_sign}
 use Rattle.mj_expr.specs.Reads.{HasNoOpen, HasNoBinary}
 use Rattle.mj_expr.proofs.Steps.{named_ends, less_true, most_true, open_goes, call_opens, call_goes, colon_goes, choice_goes, choice_closes, before_pair, about_closes, about_goes, other_closes, joined_more, joined_last, whole_done, target_done}
-use Rattle.mj_expr.proofs.Zipper.{Kind, AnExpression, AVariable, Fits, phrase_symbols, start, count-more, joined, least_some, others_few}
+use Rattle.mj_expr.proofs.Zipper.{Kind, AnExpression, AVariable, phrase_symbols, start, count-more, joined, least_some, others_few}
+use Rattle.mj_expr.proofs.Room.{Fits}
 
 unary_again : (op : UnaryOp) → unary_of (unary_sign op) ≡ Some op
 unary_again unary.Plus = refl
@@ -61,10 +62,13 @@ group_closes : (m : Limits) (ks : List Symbol) (e : Expr) (c : Within) → run m
 group_closes m ks (Chain x r) c = refl
 
 list_closes : (m : Limits) (ks : List Symbol) (u : Owner) (es : Exprs) (e : Expr) → least_of u ≤ count es + 1 → run m (Mark Close ∷ ks) (held e (InList u es)) ≡ run m ks (closed u (and_more es e))
-list_closes m ks u es (Chain x r) h = ap (λ (b : Bool). turn m ks (Held x r (InList u es)) (Mark Close) (cond b (Go (closed u (and_more es (Chain x r)))) Stuck)) (most_true (least_of u) (count es + 1) h)
+list_closes m ks u es (Chain x r) h = ap (λ (b : Bool). turn m ks (Held x r (InList u es)) (Mark Close)
+    (cond b (Go (closed u (and_more es (Chain x r)))) Stuck)) (most_true (least_of u) (count es + 1) h)
 
-list_goes : (m : Limits) (ks : List Symbol) (u : Owner) (es : Exprs) (e : Expr) → count es + 1 < most_of m u → run m (Mark Comma ∷ ks) (held e (InList u es)) ≡ run m ks (Wanted (Front (InList u (and_more es e))))
-list_goes m ks u es (Chain x r) h = ap (λ (b : Bool). turn m ks (Held x r (InList u es)) (Mark Comma) (cond b (Go (Wanted (Front (InList u (and_more es (Chain x r)))))) (cond (is_limited u) Long Stuck))) (less_true (count es + 1) (most_of m u) h)
+list_goes : (m : Limits) (ks : List Symbol) (u : Owner) (es : Exprs) (e : Expr) → count es + 1 < most_of m u →
+    run m (Mark Comma ∷ ks) (held e (InList u es)) ≡ run m ks (Wanted (Front (InList u (and_more es e))))
+list_goes m ks u es (Chain x r) h = ap (λ (b : Bool). turn m ks (Held x r (InList u es)) (Mark Comma)
+    (cond b (Go (Wanted (Front (InList u (and_more es (Chain x r)))))) (cond (is_limited u) Long Stuck))) (less_true (count es + 1) (most_of m u) h)
 
 -- a variable at the front
 wanted_variable : (m : Limits) (v : Variable) (ks : List Symbol) (c : Within) → run m (variable_symbols v ++ ks) (Wanted c) ≡ run m (variable_symbols v ++ ks) (Sought (AsOperand c))
@@ -138,7 +142,8 @@ mutual
       ∙ complete_operand x m (Front o) (tails_symbols r ++ ks) (omega arith) (omega arith) (omega arith) (tails_no_open r ks h)
       ∙ complete_tails r m x Done o ks (omega arith) (omega arith) (omega arith) h
 
-  complete_tails : (r : Tails) (m : Limits) (x : Operand) (q : Tails) (o : Outer) (ks : List Symbol) → tails_nesting r + outer_depth o ≤ m.depth → tails_width r ≤ m.width → tails_misfits r ≡ 0 → HasNoOpen ks →
+  complete_tails : (r : Tails) (m : Limits) (x : Operand) (q : Tails) (o : Outer) (ks : List Symbol) → tails_nesting r + outer_depth o ≤ m.depth →
+      tails_width r ≤ m.width → tails_misfits r ≡ 0 → HasNoOpen ks →
       run m (tails_symbols r ++ ks) (Held x q o) ≡ run m ks (Held x (tails_joined q r) o)
   complete_tails Done m x q o ks n w f h = ap (λ (t : Tails). run m ks (Held x t o)) (sym (tails_joined-done q))
   complete_tails (Then op y r) m x q o ks n w f h =
@@ -181,7 +186,8 @@ mutual
       ∙ call_opens m (choices_symbols choices ++ ks) callee.Select c
       ∙ complete_choices choices m NoPairs c ks (omega arith) w f
 
-  complete_others : (others : Exprs) (m : Limits) (g : NameFunction) (v : Variable) (c : Within) (ks : List Symbol) → exprs_nesting others + depth_of c + 1 ≤ m.depth → exprs_width others ≤ m.width → exprs_misfits others ≡ 0 →
+  complete_others : (others : Exprs) (m : Limits) (g : NameFunction) (v : Variable) (c : Within) (ks : List Symbol) →
+      exprs_nesting others + depth_of c + 1 ≤ m.depth → exprs_width others ≤ m.width → exprs_misfits others ≡ 0 →
       least_subscripts g ≤ subscript_count v → count others ≤ most_others g → run m (more_symbols others ++ ks) (Behind g v c) ≡ run m ks (filled (About g v others) c)
   complete_others No m g v c ks n w f s t = about_closes m ks g v c s
   complete_others (More e No) m g v c ks n w f s t =
@@ -210,13 +216,15 @@ mutual
       ∙ complete_choices x m (and_pair ps a e) c ks (omega arith) (omega arith) (omega arith)
       ∙ ap (λ (y : Choices). run m ks (filled (Select y) c)) (before_pair ps a e x)
 
-  pub complete_variable : (v : Variable) (m : Limits) (p : Place) (ks : List Symbol) → variable_nesting v + place_depth p ≤ m.depth → variable_width v ≤ m.width → variable_misfits v ≡ 0 → HasNoOpen ks →
+  pub complete_variable : (v : Variable) (m : Limits) (p : Place) (ks : List Symbol) → variable_nesting v + place_depth p ≤ m.depth →
+      variable_width v ≤ m.width → variable_misfits v ≡ 0 → HasNoOpen ks →
       run m (variable_symbols v ++ ks) (Sought p) ≡ run m ks (placed v p)
   complete_variable (Var scope word es) m p ks n w f h =
       sought_name m scope word (list_symbols es) ks p
       ∙ complete_list es m scope word p ks n w f h
 
-  complete_list : (es : Exprs) (m : Limits) (scope : Scope) (word : List ℕ) (p : Place) (ks : List Symbol) → list_nesting es + place_depth p ≤ m.depth → max (count es) (exprs_width es) ≤ m.width → exprs_misfits es ≡ 0 → HasNoOpen ks →
+  complete_list : (es : Exprs) (m : Limits) (scope : Scope) (word : List ℕ) (p : Place) (ks : List Symbol) → list_nesting es + place_depth p ≤ m.depth →
+      max (count es) (exprs_width es) ≤ m.width → exprs_misfits es ≡ 0 → HasNoOpen ks →
       run m (list_symbols es ++ ks) (Named scope word p) ≡ run m ks (placed (Var scope word es) p)
   complete_list No m scope word p ks n w f h = named_ends m scope word p ks h
   complete_list (More e r) m scope word p ks n w f h =
@@ -225,7 +233,8 @@ mutual
       ∙ complete_expr e m (InList (Subscripts scope word p) No) (more_symbols r ++ ks) (omega arith) (omega arith) (omega arith) (more_no_open r ks)
       ∙ complete_more r m (Subscripts scope word p) No e ks (omega arith) (omega arith) (omega arith) (omega arith) (omega arith)
 
-  complete_more : (r : Exprs) (m : Limits) (u : Owner) (done : Exprs) (e : Expr) (ks : List Symbol) → exprs_nesting r + owner_depth u + 1 ≤ m.depth → exprs_width r ≤ m.width → exprs_misfits r ≡ 0 → count done + 1 + count r ≤ most_of m u → least_of u ≤ count done + 1 + count r →
+  complete_more : (r : Exprs) (m : Limits) (u : Owner) (done : Exprs) (e : Expr) (ks : List Symbol) → exprs_nesting r + owner_depth u + 1 ≤ m.depth →
+      exprs_width r ≤ m.width → exprs_misfits r ≡ 0 → count done + 1 + count r ≤ most_of m u → least_of u ≤ count done + 1 + count r →
       run m (more_symbols r ++ ks) (held e (InList u done)) ≡ run m ks (closed u (joined done (More e r)))
   complete_more No m u done e ks n w f t l =
       list_closes m ks u done e (omega arith) ∙ ap (λ (es : Exprs). run m ks (closed u es)) (sym (joined_last done e))

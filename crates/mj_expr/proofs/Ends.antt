@@ -3,7 +3,8 @@ use Rattle.std.proofs.Common.{◌≡◌, ℕ, ◌≤◌, List, [], ◌∷◌, �
 use Rattle.mj_ast.specs.Syntax.{Chain, Var, No}
 use Rattle.mj_ast.specs.Expressions.{Symbol, Constant, Inherent, Name, Applied, Overlong, Mark, Other}
 use Rattle.mj_expr.specs.Machine.{Alone, InGroup, InList, InOther, InCondition, InChoice, State, Wanted, Sought, Marked, Named, Calling, Behind, Held, Got, placed, Limits, Next, Go, Stuck, Deep, Long, Whole, Target, Outcome, Accept, StuckAt, DeepAt, TooLong, refused, ends, finish, step, run, turn}
-use Rattle.mj_expr.proofs.Zipper.{Kind, HasRead}
+use Rattle.mj_expr.proofs.Zipper.{Kind}
+use Rattle.mj_expr.proofs.Room.{HasRead}
 use Rattle.mj_expr.proofs.Facts.{IsMore, deeper, Facts, LongFacts}
 use Rattle.mj_expr.proofs.States.{step_facts}
 
@@ -67,7 +68,8 @@ along_none K m s = record {
   runs = λ l x i. refl;
 }
 
-along_step : (K : Kind) (m : Limits) (s e f : State) (k : Symbol) (ks : List Symbol) → ((x : List Symbol) → HasRead K m s x → HasRead K m e (x ++ k ∷ [])) → ((l : Limits) → IsMore m l → step l s k ≡ Go e) → Along K m e ks f → Along K m s (k ∷ ks) f
+along_step : (K : Kind) (m : Limits) (s e f : State) (k : Symbol) (ks : List Symbol) → ((x : List Symbol) → HasRead K m s x → HasRead K m e (x ++ k ∷ [])) →
+    ((l : Limits) → IsMore m l → step l s k ≡ Go e) → Along K m e ks f → Along K m s (k ∷ ks) f
 along_step K m s e f k ks r g a = record {
   reads = λ pre h. let P : List Symbol → Type 0 = λ x. HasRead K m f x in subst P (append_assoc pre (k ∷ []) ks) (a.reads (pre ++ k ∷ []) (r pre h));
   runs = λ l x i. ap (turn l (ks ++ x) s k) (g l i) ∙ a.runs l x i;
@@ -117,20 +119,56 @@ halts_as K m s ks (StuckAt n) g h = halts K m s ks (StuckAt n) g h
 halts_as K m s ks (DeepAt n) g h = absurd (finish_deep s ks n g)
 halts_as K m s ks TooLong g h = inl (halts K m s ks TooLong g h)
 
-further : (K : Kind) (m : Limits) (s e : State) (k : Symbol) (ks : List Symbol) (o : Outcome) → ((x : List Symbol) → HasRead K m s x → HasRead K m e (x ++ k ∷ [])) → ((l : Limits) → IsMore m l → step l s k ≡ Go e) → Halts K m e ks o → Halts K m s (k ∷ ks) o
-further K m s e k ks o r g h = record { front = k ∷ h.front; back = h.back; end = h.end; cut = ap (λ (x : List Symbol). k ∷ x) h.cut; along = along_step K m s e h.end k h.front r g h.along; stops = h.stops; gives = h.gives }
+further : (K : Kind) (m : Limits) (s e : State) (k : Symbol) (ks : List Symbol) (o : Outcome) →
+    ((x : List Symbol) → HasRead K m s x → HasRead K m e (x ++ k ∷ [])) → ((l : Limits) → IsMore m l → step l s k ≡ Go e) → Halts K m e ks o →
+    Halts K m s (k ∷ ks) o
+further K m s e k ks o r g h = record {
+  front = k ∷ h.front;
+  back = h.back;
+  end = h.end;
+  cut = ap (λ (x : List Symbol). k ∷ x) h.cut;
+  along =
+      along_step K m s e h.end k h.front r g h.along;
+  stops = h.stops;
+  gives = h.gives;
+}
 
-further_long : (K : Kind) (m : Limits) (s e : State) (k : Symbol) (ks : List Symbol) → ((x : List Symbol) → HasRead K m s x → HasRead K m e (x ++ k ∷ [])) → ((l : Limits) → IsMore m l → step l s k ≡ Go e) → Halts K m e ks TooLong ⊎ EndsLong K m e ks → Halts K m s (k ∷ ks) TooLong ⊎ EndsLong K m s (k ∷ ks)
+further_long : (K : Kind) (m : Limits) (s e : State) (k : Symbol) (ks : List Symbol) → ((x : List Symbol) → HasRead K m s x → HasRead K m e (x ++ k ∷ [])) →
+    ((l : Limits) → IsMore m l → step l s k ≡ Go e) → Halts K m e ks TooLong ⊎ EndsLong K m e ks → Halts K m s (k ∷ ks) TooLong ⊎ EndsLong K m s (k ∷ ks)
 further_long K m s e k ks r g (inl h) = inl (further K m s e k ks TooLong r g h)
-further_long K m s e k ks r g (inr h) = inr (record { front = k ∷ h.front; token = h.token; back = h.back; end = h.end; cut = ap (λ (x : List Symbol). k ∷ x) h.cut; along = along_step K m s e h.end k h.front r g h.along; long = h.long })
+further_long K m s e k ks r g (inr h) = inr (record {
+  front = k ∷ h.front;
+  token = h.token;
+  back = h.back;
+  end = h.end;
+  cut =
+      ap (λ (x : List Symbol). k ∷ x) h.cut;
+  along = along_step K m s e h.end k h.front r g h.along;
+  long = h.long;
+})
 
-ends_after : (K : Kind) (m : Limits) (s e : State) (k : Symbol) (ks : List Symbol) (o : Outcome) → ((x : List Symbol) → HasRead K m s x → HasRead K m e (x ++ k ∷ [])) → ((l : Limits) → IsMore m l → step l s k ≡ Go e) → EndsAs K m e ks o → EndsAs K m s (k ∷ ks) o
+ends_after : (K : Kind) (m : Limits) (s e : State) (k : Symbol) (ks : List Symbol) (o : Outcome) →
+    ((x : List Symbol) → HasRead K m s x → HasRead K m e (x ++ k ∷ [])) → ((l : Limits) → IsMore m l → step l s k ≡ Go e) → EndsAs K m e ks o →
+    EndsAs K m s (k ∷ ks) o
 ends_after K m s e k ks (Accept p rest) r g h = further K m s e k ks (Accept p rest) r g h
 ends_after K m s e k ks (StuckAt n) r g h = further K m s e k ks (StuckAt n) r g h
-ends_after K m s e k ks (DeepAt n) r g h = record { front = k ∷ h.front; token = h.token; back = h.back; end = h.end; over = h.over; cut = ap (λ (x : List Symbol). k ∷ x) h.cut; left = h.left; along = along_step K m s e h.end k h.front r g h.along; steps = h.steps; opened = h.opened }
+ends_after K m s e k ks (DeepAt n) r g h = record {
+  front = k ∷ h.front;
+  token = h.token;
+  back = h.back;
+  end = h.end;
+  over = h.over;
+  cut =
+      ap (λ (x : List Symbol). k ∷ x) h.cut;
+  left = h.left;
+  along = along_step K m s e h.end k h.front r g h.along;
+  steps = h.steps;
+  opened = h.opened;
+}
 ends_after K m s e k ks TooLong r g h = further_long K m s e k ks r g h
 
-next_ends : (K : Kind) (ks : List Symbol) (m : Limits) (s : State) (k : Symbol) (x : Next) → ((e : State) → EndsAs K m e ks (run m ks e)) → step m s k ≡ x → Facts K m (HasRead K m s) (LongFacts K m (HasRead K m s) s k) (λ l. step l s k) k x → EndsAs K m s (k ∷ ks) (turn m ks s k x)
+next_ends : (K : Kind) (ks : List Symbol) (m : Limits) (s : State) (k : Symbol) (x : Next) → ((e : State) → EndsAs K m e ks (run m ks e)) → step m s k ≡ x →
+    Facts K m (HasRead K m s) (LongFacts K m (HasRead K m s) s k) (λ l. step l s k) k x → EndsAs K m s (k ∷ ks) (turn m ks s k x)
 next_ends K ks m s k (Go e) h i f = ends_after K m s e k ks (run m ks e) f.0 f.1 (h e)
 next_ends K ks m s k Stuck h i f = halts_as K m s (k ∷ ks) (finish s (k ∷ ks)) refl f
 next_ends K ks m s k Deep h i f = record { front = []; token = k; back = ks; end = s; over = f.0; cut = refl; left = refl; along = along_none K m s; steps = i; opened = f.1 }

@@ -33,7 +33,8 @@ left_row : run (levels 1) (map symbol (a ∷ Signed Plus ∷ a ∷ Signed Star �
 left_row = refl
 
 truth_row : run (levels 1) (map symbol (Signed Apostrophe ∷ a ∷ Signed CloseBrackets ∷ a ∷ Signed (Negated truth.Equal) ∷ a ∷ [])) (Wanted (Front Alone))
-    ≡ Accept (Whole (Chain (Unary unary.Not (Value (Var Local (65 ∷ []) No))) (Then (binary.Is truth.SortsAfter) (Value (Var Local (65 ∷ []) No)) (Then (binary.IsNot truth.Equal) (Value (Var Local (65 ∷ []) No)) Done)))) []
+    ≡ Accept (Whole (Chain (Unary unary.Not (Value (Var Local (65 ∷ []) No)))
+    (Then (binary.Is truth.SortsAfter) (Value (Var Local (65 ∷ []) No)) (Then (binary.IsNot truth.Equal) (Value (Var Local (65 ∷ []) No)) Done)))) []
 truth_row = refl
 
 -- `'=` and `'` behind an operand are stuck there
@@ -161,7 +162,8 @@ special_row : run (levels 1) (map symbol (Special (116 ∷ []) ∷ Signed (Negat
 special_row = refl
 
 -- `$j` and `$JOB`
-job_row : run (levels 1) (map symbol (Special (106 ∷ []) ∷ Signed Plus ∷ Special (74 ∷ 79 ∷ 66 ∷ []) ∷ [])) (Wanted (Front Alone)) ≡ Accept (Whole (Chain (Intrinsic Job) (Then binary.Add (Intrinsic Job) Done))) []
+job_row : run (levels 1) (map symbol (Special (106 ∷ []) ∷ Signed Plus ∷ Special (74 ∷ 79 ∷ 66 ∷ []) ∷ [])) (Wanted (Front Alone)) ≡
+    Accept (Whole (Chain (Intrinsic Job) (Then binary.Add (Intrinsic Job) Done))) []
 job_row = refl
 
 -- `$io`, `$x` and `$Y`

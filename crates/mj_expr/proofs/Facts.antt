@@ -14,10 +14,11 @@ use Rattle.mj_ast.specs.Syntax.{Expr, Chain, Tails, Done, Operand, Literal, Intr
 use Rattle.mj_ast.specs.Tokens.{Token}
 use Rattle.mj_ast.specs.Expressions.{Symbol, Constant, Inherent, Name, Applied, Overlong, Mark, Other, symbol, unary_sign, binary_sign, expr_symbols, variable_symbols, count, subscript_count, least_subscripts, most_others, levels, levels_of}
 use Rattle.mj_ast.specs.Lines.{Filler, no_filler}
-use Rattle.mj_expr.specs.Machine.{Outer, Alone, InGroup, InList, InOther, InCondition, InChoice, Owner, Subscripts, Arguments, Within, Front, Right, Under, Place, AsOperand, AsNamed, AsTarget, Pairs, and_pair, before_choices, State, Wanted, Calling, Behind, Held, Limits, Next, Go, Stuck, Deep, Long, TooLong, refused_in, and_then, and_more, filled, closed, least_of, most_of, is_limited, outer_of, run, turn, step, depth_of, opens, opens_call, suffices, behind, unary_of, binary_of, hold_sign, hold_other, comma, close, is_full}
+use Rattle.mj_expr.specs.Machine.{Outer, Alone, InGroup, InList, InOther, InCondition, InChoice, Owner, Subscripts, Arguments, Within, Front, Right, Under, Place, AsOperand, AsNamed, AsTarget, Pairs, and_pair, before_choices, State, Wanted, Calling, Behind, Held, Limits, Next, Go, Stuck, Deep, Long, TooLong, refused_in, and_then, and_more, filled, closed, least_of, most_of, is_limited, outer_of, run, turn, step, depth_of, opens, opens_call, suffices, after_variable, unary_of, binary_of, hold_sign, hold_other, comma, close, is_full}
 use Rattle.mj_expr.specs.Reads.{BeginsNone}
 use Rattle.mj_expr.proofs.Steps.{less_true, less_false, most_true}
-use Rattle.mj_expr.proofs.Zipper.{Kind, HasRead, Good, OuterGood, OwnerGood, PlaceGood, good_depth, filled_read, closed_read, outer_before, owner_before, before, listed, listed-more, list_symbols-more, exprs_nesting-more, exprs_width-more, exprs_misfits-more, count-more, list_nesting-more, pairs_symbols, pairs_symbols-and, pairs_nesting-and, pairs_width-and, pairs_misfits-and, choices_symbols-before, choices_nesting-before, choices_width-before, choices_misfits-before}
+use Rattle.mj_expr.proofs.Zipper.{Kind, outer_before, owner_before, before, listed, listed-more, list_symbols-more, exprs_nesting-more, exprs_width-more, exprs_misfits-more, count-more, list_nesting-more, pairs_symbols, pairs_symbols-and, pairs_nesting-and, pairs_width-and, pairs_misfits-and, choices_symbols-before, choices_nesting-before, choices_width-before, choices_misfits-before}
+use Rattle.mj_expr.proofs.Room.{HasRead, Good, OuterGood, OwnerGood, PlaceGood, good_depth, filled_read, closed_read}
 
 -- ---- limits
 
@@ -47,10 +48,26 @@ mutual
   pub outer_good_more : (o : Outer) (K : Kind) (m l : Limits) → IsMore m l → OuterGood K m o → OuterGood K l o
   outer_good_more Alone K m l i g = g
   outer_good_more (InGroup c) K m l i g = (good_more c K m l i g.0, omega (arith, g.1, i.depth))
-  outer_good_more (InList u es) K m l i g = (owner_good_more u K m l i g.0, omega (arith, g.1, i.depth), omega (arith, g.2, i.depth), omega (arith, g.3, i.width), omega (arith, g.4, most_more u m l i), g.5)
+  outer_good_more (InList u es) K m l i g = (
+    owner_good_more u K m l i g.0,
+    omega (arith, g.1, i.depth),
+    omega (arith, g.2, i.depth),
+    omega (arith, g.3, i.width),
+    omega (arith, g.4, most_more u m l i),
+    g.5,
+  )
   outer_good_more (InOther f v c) K m l i g = (good_more c K m l i g.0, omega (arith, g.1, i.depth), omega (arith, g.2, i.depth), omega (arith, g.3, i.width), g.4, g.5, g.6)
   outer_good_more (InCondition ps c) K m l i g = (good_more c K m l i g.0, omega (arith, g.1, i.depth), omega (arith, g.2, i.depth), omega (arith, g.3, i.width), g.4)
-  outer_good_more (InChoice ps a c) K m l i g = (good_more c K m l i g.0, omega (arith, g.1, i.depth), omega (arith, g.2, i.depth), omega (arith, g.3, i.width), g.4, omega (arith, g.5, i.depth), omega (arith, g.6, i.width), g.7)
+  outer_good_more (InChoice ps a c) K m l i g = (
+    good_more c K m l i g.0,
+    omega (arith, g.1, i.depth),
+    omega (arith, g.2, i.depth),
+    omega (arith, g.3, i.width),
+    g.4,
+    omega (arith, g.5, i.depth),
+    omega (arith, g.6, i.width),
+    g.7,
+  )
 
   pub owner_good_more : (u : Owner) (K : Kind) (m l : Limits) → IsMore m l → OwnerGood K m u → OwnerGood K l u
   owner_good_more (Subscripts scope word p) K m l i g = place_good_more p K m l i g
@@ -110,7 +127,7 @@ pub record LongFacts (K : Kind) (m : Limits) (R : List Symbol → Type 0) (s : S
   pub opened : (ks : List Symbol) → R ks → HasRead K (wider m) over (ks ++ (map symbol filler ++ k ∷ []))
   pub local : (l : Limits) (y : List Symbol) → m.depth ≤ l.depth → l.width ≡ m.width → run l (map symbol filler ++ k ∷ y) s ≡ TooLong
 
--- the same behind an expression
+-- where a list is too long with a comma behind an expression
 pub record HeldLong (K : Kind) (m : Limits) (R : List Symbol → Type 0) (at : Limits → Next) (k : Symbol) : Type 0 where
   pub comma : k ≡ Mark Comma
   pub over : State
@@ -155,7 +172,8 @@ pub comma_read : (K : Kind) (m l : Limits) (u : Owner) (es : Exprs) (x : Operand
     HasRead K m (Held x r (InList u es)) ks → HasRead K l (Wanted (Front (InList u (and_more es (Chain x r))))) (ks ++ Mark Comma ∷ [])
 comma_read K m l u es x r ks i w h =
     let e : Expr = Chain x r in
-    let same : owner_before u ++ Mark Open ∷ (listed es ++ (expr_symbols e ++ Mark Comma ∷ [])) ≡ ((owner_before u ++ Mark Open ∷ listed es) ++ expr_symbols e) ++ Mark Comma ∷ [] = simp append_assoc in
+    let same : owner_before u ++ Mark Open ∷ (listed es ++ (expr_symbols e ++ Mark Comma ∷ [])) ≡
+    ((owner_before u ++ Mark Open ∷ listed es) ++ expr_symbols e) ++ Mark Comma ∷ [] = simp append_assoc in
     record {
       good =
           let g = h.good in (
@@ -194,7 +212,8 @@ comma_as : (K : Kind) (m : Limits) (u : Owner) (es : Exprs) (x : Operand) (r : T
 comma_as K m u es x r true e =
     let n : count es + 1 < most_of m u = grind (arith, nat_tests) in (
       λ ks h. comma_read K m m u es x r ks (record { depth = omega arith; width = omega arith }) (omega arith) h,
-      λ l i. ap (λ (b : Bool). cond b (Go (Wanted (Front (InList u (and_more es (Chain x r)))))) (cond (is_limited u) Long Stuck)) (less_true (count es + 1) (most_of l u) (omega (arith, most_more u m l i))),
+      λ l i. ap (λ (b : Bool). cond b (Go (Wanted (Front (InList u (and_more es (Chain x r)))))) (cond (is_limited u) Long Stuck))
+          (less_true (count es + 1) (most_of l u) (omega (arith, most_more u m l i))),
     )
 comma_as K m u es x r false e =
     let n : most_of m u ≤ count es + 1 = grind (arith, nat_tests) in
@@ -242,7 +261,8 @@ colon_read K m ps c x r ks h =
       read = same ∙ ap (λ (zs : List Symbol). zs ++ Mark Colon ∷ []) h.read;
     }
 
-group_closed : (K : Kind) (m : Limits) (c : Within) (x : Operand) (r : Tails) (ks : List Symbol) → HasRead K m (Held x r (InGroup c)) ks → HasRead K m (filled (Group (Chain x r)) c) (ks ++ Mark Close ∷ [])
+group_closed : (K : Kind) (m : Limits) (c : Within) (x : Operand) (r : Tails) (ks : List Symbol) → HasRead K m (Held x r (InGroup c)) ks →
+    HasRead K m (filled (Group (Chain x r)) c) (ks ++ Mark Close ∷ [])
 group_closed K m c x r ks h =
     filled_read c K m (Group (Chain x r)) _ h.good.0.0 (let n = h.good.1 in omega arith) h.good.2 h.good.3
     (sym (simp append_assoc) ∙ ap (λ (zs : List Symbol). zs ++ Mark Close ∷ []) h.read)
@@ -263,7 +283,8 @@ list_closed : (K : Kind) (m : Limits) (u : Owner) (es : Exprs) (x : Operand) (r 
 list_closed K m u es x r ks f h =
     let g = h.good in
     let e : Expr = Chain x r in
-    let same : owner_before u ++ Mark Open ∷ (listed es ++ (expr_symbols e ++ Mark Close ∷ [])) ≡ ((owner_before u ++ Mark Open ∷ listed es) ++ expr_symbols e) ++ Mark Close ∷ [] = simp append_assoc in
+    let same : owner_before u ++ Mark Open ∷ (listed es ++ (expr_symbols e ++ Mark Close ∷ [])) ≡
+    ((owner_before u ++ Mark Open ∷ listed es) ++ expr_symbols e) ++ Mark Close ∷ [] = simp append_assoc in
     closed_read u K m (and_more es e) _ g.0.0
     (omega (arith, list_nesting-more es e, g.0.2, g.1))
     (omega (arith, exprs_width-more es e, g.0.3, g.2))
@@ -364,7 +385,7 @@ abbrev ReadBehind : Kind → Limits → (List Symbol → Type 0) → NameFunctio
 ReadBehind K m R f v c = (ks : List Symbol) → least_subscripts f ≤ subscript_count v → R ks → HasRead K m (Behind f v c) ks
 
 about_as : (K : Kind) (m : Limits) (R : List Symbol → Type 0) (L : Type 0) (f : NameFunction) (v : Variable) (c : Within) (b : Bool) → suffices f v ≡ b → ReadBehind K m R f v c →
-    Facts K m R L (λ l. behind f v c (Mark Close)) (Mark Close) (cond b (Go (filled (About f v No) c)) Stuck)
+    Facts K m R L (λ l. after_variable f v c (Mark Close)) (Mark Close) (cond b (Go (filled (About f v No) c)) Stuck)
 about_as K m R L f v c true e g =
     let n : least_subscripts f ≤ subscript_count v = grind (arith, nat_tests) in
     (λ ks h. about_read K m f v c ks (g ks n h), λ l i. ap (λ (b : Bool). cond b (Go (filled (About f v No) c)) Stuck) e)
@@ -373,8 +394,9 @@ about_as K m R L f v c false e g = λ l i. ap (λ (b : Bool). cond b (Go (filled
 abbrev another : NameFunction → Variable → Within → Bool → Bool → Next
 another f v c b d = cond b (cond d (Go (Wanted (Front (InOther f v c)))) Stuck) Stuck
 
-other_as : (K : Kind) (m : Limits) (R : List Symbol → Type 0) (L : Type 0) (f : NameFunction) (v : Variable) (c : Within) (b d : Bool) → suffices f v ≡ b → nat_lt 0 (most_others f) ≡ d → ReadBehind K m R f v c →
-    Facts K m R L (λ l. behind f v c (Mark Comma)) (Mark Comma) (another f v c b d)
+other_as : (K : Kind) (m : Limits) (R : List Symbol → Type 0) (L : Type 0) (f : NameFunction) (v : Variable) (c : Within) (b d : Bool) → suffices f v ≡ b →
+    nat_lt 0 (most_others f) ≡ d → ReadBehind K m R f v c →
+    Facts K m R L (λ l. after_variable f v c (Mark Comma)) (Mark Comma) (another f v c b d)
 other_as K m R L f v c true true e i g =
     let n : least_subscripts f ≤ subscript_count v = grind (arith, nat_tests) in
     let o : 0 < most_others f = grind (arith, nat_tests) in
@@ -382,12 +404,14 @@ other_as K m R L f v c true true e i g =
 other_as K m R L f v c true false e i g = λ l j. ap (λ (b : Bool). another f v c b (nat_lt 0 (most_others f))) e ∙ ap (λ (d : Bool). another f v c true d) i
 other_as K m R L f v c false d e i g = λ l j. ap (λ (b : Bool). another f v c b (nat_lt 0 (most_others f))) e
 
-behind_sign : (K : Kind) (m : Limits) (R : List Symbol → Type 0) (L : Type 0) (f : NameFunction) (v : Variable) (c : Within) (s : Sign) → ReadBehind K m R f v c → Facts K m R L (λ l. behind f v c (Mark s)) (Mark s) (behind f v c (Mark s))
+behind_sign : (K : Kind) (m : Limits) (R : List Symbol → Type 0) (L : Type 0) (f : NameFunction) (v : Variable) (c : Within) (s : Sign) →
+    ReadBehind K m R f v c → Facts K m R L (λ l. after_variable f v c (Mark s)) (Mark s) (after_variable f v c (Mark s))
 behind_sign K m R L f v c Close g = about_as K m R L f v c (suffices f v) refl g
 behind_sign K m R L f v c Comma g = other_as K m R L f v c (suffices f v) (nat_lt 0 (most_others f)) refl refl g
 behind_sign K m R L f v c s g = λ l i. refl
 
-pub behind_facts : (K : Kind) (m : Limits) (R : List Symbol → Type 0) (L : Type 0) (f : NameFunction) (v : Variable) (c : Within) (k : Symbol) → ReadBehind K m R f v c → Facts K m R L (λ l. behind f v c k) k (behind f v c k)
+pub behind_facts : (K : Kind) (m : Limits) (R : List Symbol → Type 0) (L : Type 0) (f : NameFunction) (v : Variable) (c : Within) (k : Symbol) →
+    ReadBehind K m R f v c → Facts K m R L (λ l. after_variable f v c k) k (after_variable f v c k)
 behind_facts K m R L f v c (Mark s) g = behind_sign K m R L f v c s g
 behind_facts K m R L f v c (Constant value) g = λ l i. refl
 behind_facts K m R L f v c (Inherent value) g = λ l i. refl
@@ -398,7 +422,8 @@ behind_facts K m R L f v c Other g = λ l i. refl
 
 -- ---- other facts from these
 
-pub weaken : (K : Kind) (m : Limits) (R S : List Symbol → Type 0) (L M : Type 0) (at : Limits → Next) (k : Symbol) (x : Next) → ((ks : List Symbol) → S ks → R ks) → (L → M) → Facts K m R L at k x → Facts K m S M at k x
+pub weaken : (K : Kind) (m : Limits) (R S : List Symbol → Type 0) (L M : Type 0) (at : Limits → Next) (k : Symbol) (x : Next) →
+    ((ks : List Symbol) → S ks → R ks) → (L → M) → Facts K m R L at k x → Facts K m S M at k x
 weaken K m R S L M at k (Go s) g t f = (λ ks h. f.0 ks (g ks h), f.1)
 weaken K m R S L M at k Stuck g t f = f
 weaken K m R S L M at k Deep g t f = (f.0, λ ks h. f.1 ks (g ks h))
@@ -477,10 +502,12 @@ full_comma l y x r (InList (Subscripts scope word p) es) e = full_as (nat_lt (co
   where
     full_as : (b : Bool) → nat_lt (count es + 1) l.width ≡ b → run l (Mark Comma ∷ y) (Held x r (InList (Subscripts scope word p) es)) ≡ TooLong
     full_as true f = absurd (let h : not (nat_lt (count es + 1) l.width) ≡ true = e in let g : not true ≡ true = sym (ap not f) ∙ h in let z : false ≡ true = g in cc)
-    full_as false f = ap (λ (b : Bool). turn l y (Held x r (InList (Subscripts scope word p) es)) (Mark Comma) (cond b (Go (Wanted (Front (InList (Subscripts scope word p) (and_more es (Chain x r)))))) Long)) f
+    full_as false f = ap (λ (b : Bool). turn l y (Held x r (InList (Subscripts scope word p) es)) (Mark Comma)
+        (cond b (Go (Wanted (Front (InList (Subscripts scope word p) (and_more es (Chain x r)))))) Long)) f
 
 -- with one more subscript, where the list is full
-pub full_opened : (K : Kind) (m : Limits) (x : Operand) (r : Tails) (o : Outer) → is_full m o ≡ true → (s : State) × ((ks : List Symbol) → HasRead K m (Held x r o) ks → HasRead K (wider m) s (ks ++ Mark Comma ∷ []))
+pub full_opened : (K : Kind) (m : Limits) (x : Operand) (r : Tails) (o : Outer) → is_full m o ≡ true →
+    (s : State) × ((ks : List Symbol) → HasRead K m (Held x r o) ks → HasRead K (wider m) s (ks ++ Mark Comma ∷ []))
 full_opened K m x r Alone e = absurd (let h : false ≡ true = e in cc)
 full_opened K m x r (InGroup c) e = absurd (let h : false ≡ true = e in cc)
 full_opened K m x r (InOther f v c) e = absurd (let h : false ≡ true = e in cc)
@@ -491,7 +518,8 @@ full_opened K m x r (InList (Subscripts scope word p) es) e =
     (Wanted (Front (InList (Subscripts scope word p) (and_more es (Chain x r)))), λ ks h. comma_read K m (wider m) (Subscripts scope word p) es x r ks (more_wider m) (omega (arith, h.good.0.4)) h)
 
 -- where an operand is wanted, and none begins
-pub none_refuses : (m l : Limits) (c : Within) (k : Symbol) (ks : List Symbol) (full : Bool) → l.width ≡ m.width → is_full l (outer_of c) ≡ full → BeginsNone k → run m (k ∷ ks) (Wanted c) ≡ refused_in full (k ∷ ks)
+pub none_refuses : (m l : Limits) (c : Within) (k : Symbol) (ks : List Symbol) (full : Bool) → l.width ≡ m.width → is_full l (outer_of c) ≡ full →
+    BeginsNone k → run m (k ∷ ks) (Wanted c) ≡ refused_in full (k ∷ ks)
 none_refuses m l c (Constant v) ks full w e h = absurd h
 none_refuses m l c (Inherent v) ks full w e h = absurd h
 none_refuses m l c (Name v) ks full w e h = absurd h

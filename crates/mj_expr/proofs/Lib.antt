@@ -1,6 +1,7 @@
 pub mod Made
 pub mod Steps
 pub mod Zipper
+pub mod Room
 pub mod Complete
 pub mod Facts
 pub mod States

@@ -36,7 +36,8 @@ expr_made first rest =
     ap (λ (ts : Tails). Chain (operand_of first) ts) (tail_row_items row.0 row.1 ∙ ap tails_of (expr.items_hidden-the_row-Tail-1 rest))
 
 -- a variable of its parts
-pub variable_made : (scope : Scope) (word : List ℕ) (es : Vec expr.Expr Global) → variable_of (variable.roll-Variable (record { scope = scope; word = word; subscripts = es })) ≡ Var scope word (exprs_of es.items)
+pub variable_made : (scope : Scope) (word : List ℕ) (es : Vec expr.Expr Global) →
+    variable_of (variable.roll-Variable (record { scope = scope; word = word; subscripts = es })) ≡ Var scope word (exprs_of es.items)
 unfolding variable.roll-Variable denote.Hole.Carrier.roll
 variable_made scope word es =
     let row = list_in (variable.roll-Variable (record { scope = scope; word = word; subscripts = es })) in
@@ -51,7 +52,8 @@ pub others_made : (es : Vec expr.Expr Global) → expr_row (operand.TheBlock.hid
 others_made es = expr_row_items _ (operand.TheBlock.hidden-the_row-Expr-0 es) ∙ ap exprs_of (variable.items_hidden-the_row-Expr-0 es)
 
 -- a choice before others
-pub choice_made : (a e : expr.Expr) (others : Box choice.Choice Global) → choice_of (choice.roll-Choice (record { condition = a; value = e; others = Some others })) ≡ Before (expr_of a) (expr_of e) (choice_of others.value)
+pub choice_made : (a e : expr.Expr) (others : Box choice.Choice Global) →
+    choice_of (choice.roll-Choice (record { condition = a; value = e; others = Some others })) ≡ Before (expr_of a) (expr_of e) (choice_of others.value)
 unfolding choice.roll-Choice denote.Hole.Carrier.roll
 choice_made a e others = refl
 

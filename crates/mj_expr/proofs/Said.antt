@@ -14,15 +14,16 @@ use Rattle.mj_ast.specs.Syntax.{Chain, Var, No}
 use Rattle.mj_ast.specs.Tokens.{Token, Word, Called, Special, Digits, Quoted, Signed, Blank, Comment, Unclosed, Stray}
 use Rattle.mj_ast.specs.declared.function.Callee.{Callee}
 use Rattle.mj_ast.specs.declared.function.Special as special
-use Rattle.mj_ast.specs.Expressions.{Symbol, Constant, Inherent, Name, Applied, Overlong, Mark, Other, symbol, constant_of, function_symbol, callee_of, special_symbol, special_of, levels_of, width_limit, Phrases, Spells, Begins, BeginsWithin}
+use Rattle.mj_ast.specs.Expressions.{Symbol, Constant, Inherent, Name, Applied, Overlong, Mark, Other, symbol, constant_of, function_symbol, callee_of, special_symbol, special_of, levels_of, width_limit, Phrases, Spells, BeginsPhrase, BeginsWithin}
 use Rattle.mj_expr.specs.Machine.{Alone, InGroup, InList, InOther, InCondition, InChoice, State, Wanted, Sought, Marked, Named, Calling, Behind, Held, Got, placed, Limits, Stuck, Phrase, Whole, Target, Outcome, Accept, StuckAt, DeepAt, TooLong, refused, ends, finish, step, run, turn}
-use Rattle.mj_expr.specs.Phrases.{IsRead, IsShort, IsStuck, IsDeep, IsOverlong, IsLong, IsRefused}
+use Rattle.mj_expr.specs.Phrases.{IsRead, IsShort, IsStuck, IsDeep, IsOverlong, IsLong, IsPhraseRefused}
 use Rattle.mj_expr.specs.Reads.{limits, symbols_seen, Refuses}
-use Rattle.mj_expr.specs.declared.stop.Stop.{Stop}
-use Rattle.mj_expr.specs.declared.stop.Stop.TheVariants as stop
+use Rattle.mj_expr.specs.declared.stop.ParseError.{ParseError}
+use Rattle.mj_expr.specs.declared.stop.ParseError.TheVariants as stop
 use Rattle.mj_lex.specs.Seen.{token_seen, tokens_seen}
 use Rattle.mj_lex.specs.declared.token.Lexeme.{Lexeme}
-use Rattle.mj_expr.proofs.Zipper.{Kind, AnExpression, AVariable, HasRead, phrase_symbols, phrase_nesting, phrase_width, phrase_misfits, start}
+use Rattle.mj_expr.proofs.Zipper.{Kind, AnExpression, AVariable, phrase_symbols, phrase_nesting, phrase_width, phrase_misfits, start}
+use Rattle.mj_expr.proofs.Room.{HasRead}
 use Rattle.mj_expr.proofs.Complete.{Ceases, complete_phrase}
 use Rattle.mj_expr.proofs.Facts.{IsMore, deeper, wider}
 use Rattle.mj_expr.proofs.Ends.{Stops, Halts, EndsDeep, EndsLong, EndsAs, run_ends}
@@ -289,18 +290,21 @@ module _ {T : Type 0} (K : Kind) (P : Phrases T) (W : Wraps K P) where
   stops_at m back s k y e h = let Q : List Symbol → Type 0 = λ z. Stops m z s in subst Q e h
 
   -- with the token at which it halts, nothing begins a phrase
-  halts_none : (m : Limits) (ks : List Symbol) (o : Outcome) (h : Halts K m (start K) ks o) (front : List Token) (k : Token) (y : List Symbol) → map symbol front ≡ h.front → h.back ≡ symbol k ∷ y → Begins P (front ++ k ∷ []) → ⊥
+  halts_none : (m : Limits) (ks : List Symbol) (o : Outcome) (h : Halts K m (start K) ks o) (front : List Token) (k : Token) (y : List Symbol) →
+      map symbol front ≡ h.front → h.back ≡ symbol k ∷ y → BeginsPhrase P (front ++ k ∷ []) → ⊥
   halts_none m ks o h front k y e f b =
       let l = bigger m b.tree in
       let rest = map symbol b.rest in
-      let whole : run l (h.front ++ symbol k ∷ rest) (start K) ≡ Accept (W.wrap b.tree) [] = accepted l (h.front ++ symbol k ∷ rest) b.tree (sym (spelled_at front k b.rest h.front e) ∙ b.spells.0) (omega arith) (omega arith) b.spells.1 in
+      let whole : run l (h.front ++ symbol k ∷ rest) (start K) ≡ Accept (W.wrap b.tree) [] =
+      accepted l (h.front ++ symbol k ∷ rest) b.tree (sym (spelled_at front k b.rest h.front e) ∙ b.spells.0) (omega arith) (omega arith) b.spells.1 in
       let there : run l (h.front ++ symbol k ∷ rest) (start K) ≡ finish h.end (symbol k ∷ rest) =
       h.along.runs l (symbol k ∷ rest) (more_bigger m b.tree) ∙ ap (turn l rest h.end (symbol k)) (stops_at m h.back h.end (symbol k) y f h.stops l (more_bigger m b.tree)) in
       let a = accepts K m h.end (symbol k ∷ rest) (W.wrap b.tree) [] h.front (h.along.reads [] (start_read K m)) (sym there ∙ whole) in
       cons_nil (symbol k) rest a.rest
 
   -- where it halts and accepts nothing, the front is no phrase
-  halts_whole : (m : Limits) (ks : List Symbol) (o : Outcome) (h : Halts K m (start K) ks o) (front : List Token) → map symbol front ≡ h.front → ((p : Phrase) (r : List Symbol) → Accept p r ≡ o → ⊥) → (t : T) → Spells P front t → ⊥
+  halts_whole : (m : Limits) (ks : List Symbol) (o : Outcome) (h : Halts K m (start K) ks o) (front : List Token) → map symbol front ≡ h.front →
+      ((p : Phrase) (r : List Symbol) → Accept p r ≡ o → ⊥) → (t : T) → Spells P front t → ⊥
   halts_whole m ks o h front e never t s =
       let l = bigger m t in
       let whole : run l (h.front ++ []) (start K) ≡ Accept (W.wrap t) [] = accepted l (h.front ++ []) t (append-nil h.front ∙ sym e ∙ s.0) (omega arith) (omega arith) s.1 in
@@ -369,7 +373,9 @@ module _ {T : Type 0} (K : Kind) (P : Phrases T) (W : Wraps K P) where
             (map-append symbol s.front (c.token ∷ []) ∙ ap (λ (v : List Symbol). v ++ symbol c.token ∷ []) s.first ∙ ap (λ (v : Symbol). h.front ++ v ∷ []) c.head) (h.opened h.front read));
         beyond = λ b.
             let rest = map symbol b.rest in
-            let whole : run (limits d) (h.front ++ symbol c.token ∷ rest) (start K) ≡ Accept (W.wrap b.tree) [] = accepted (limits d) (h.front ++ symbol c.token ∷ rest) b.tree (sym (spelled_at s.front c.token b.rest h.front s.first) ∙ b.spells.0) b.within.nests b.within.lists b.spells.1 in
+            let whole : run (limits d) (h.front ++ symbol c.token ∷ rest) (start K) ≡ Accept (W.wrap b.tree) [] =
+            accepted (limits d) (h.front ++ symbol c.token ∷ rest) b.tree (sym (spelled_at s.front c.token b.rest h.front s.first) ∙
+            b.spells.0) b.within.nests b.within.lists b.spells.1 in
             let there : run (limits d) (h.front ++ symbol c.token ∷ rest) (start K) ≡ DeepAt (length (symbol c.token ∷ rest)) =
             h.along.runs (limits d) (symbol c.token ∷ rest) (record { depth = omega arith; width = omega arith })
             ∙ ap (λ (v : Symbol). run (limits d) (v ∷ rest) h.end) c.head
@@ -379,7 +385,7 @@ module _ {T : Type 0} (K : Kind) (P : Phrases T) (W : Wraps K P) where
       }
 
   -- LONG
-  overlong_at : (front : List Token) (k : Token) → symbol k ≡ Overlong → ((t : T) → Spells P front t → ⊥) → (Begins P (front ++ k ∷ []) → ⊥) → IsOverlong P front k
+  overlong_at : (front : List Token) (k : Token) → symbol k ≡ Overlong → ((t : T) → Spells P front t → ⊥) → (BeginsPhrase P (front ++ k ∷ []) → ⊥) → IsOverlong P front k
   overlong_at front (Word w) e g h = record { long = word_long w (Name w) (nat_le (length w) 31) refl (name_overlong w) e; whole = g; at = h }
   overlong_at front (Called w) e g h = record { long = word_long w (function_symbol (callee_of w)) (nat_le (length w) 31) refl (function_overlong (callee_of w)) e; whole = g; at = h }
   overlong_at front (Special w) e g h = record { long = word_long w (special_symbol (special_of w)) (nat_le (length w) 31) refl (special_overlong (special_of w)) e; whole = g; at = h }
@@ -468,15 +474,16 @@ module _ {T : Type 0} (K : Kind) (P : Phrases T) (W : Wraps K P) where
       ap (λ (v : List Token). map symbol v) (drop_back s.front s.back ks (length r) s.cut (sym (length-map s.back symbol) ∙ ap length (s.last ∙ a.rest))) ∙ s.last ∙ a.rest
 
   -- what a refusal says
-  pub said_refused : (d : ℕ) (ks : List Token) (x : Stop) → Refuses x (run (limits d) (map symbol ks) (start K)) → IsRefused P d ks x
+  pub said_refused : (d : ℕ) (ks : List Token) (x : ParseError) → Refuses x (run (limits d) (map symbol ks) (start K)) → IsPhraseRefused P d ks x
   said_refused d ks stop.Memory e = tt
   said_refused d ks (stop.Stuck n) e = said_stuck d ks n e
   said_refused d ks (stop.Deep n) e = said_deep d ks n e
   said_refused d ks stop.Long e = said_long d ks e
 
-  pub refused_as : {X : Type 0} (d : ℕ) (ks : List Token) (r : Result X Stop) (x : Stop) → IsErrAnd r (λ e. e ≡ x) → Refuses x (run (limits d) (map symbol ks) (start K)) → IfErr r (λ e. IsRefused P d ks e)
+  pub refused_as : {X : Type 0} (d : ℕ) (ks : List Token) (r : Result X ParseError) (x : ParseError) → IsErrAnd r (λ e. e ≡ x) →
+      Refuses x (run (limits d) (map symbol ks) (start K)) → IfErr r (λ e. IsPhraseRefused P d ks e)
   refused_as d ks (Ok y) x e h = tt
-  refused_as d ks (Err y) x e h = let Q : Stop → Type 0 = λ v. IsRefused P d ks v in subst Q (sym e) (said_refused d ks x h)
+  refused_as d ks (Err y) x e h = let Q : ParseError → Type 0 = λ v. IsPhraseRefused P d ks v in subst Q (sym e) (said_refused d ks x h)
 
 -- ---- the tokens that the program keeps
 
@@ -488,12 +495,16 @@ pub tokens_end : (ls rest : List Lexeme) → tokens_seen (end_of ls rest) ≡ dr
 tokens_end ls rest =
     let n = length ls - length rest in
     let all : take (length ls - n) (drop n ls) ≡ drop n ls = ap (λ (i : ℕ). take i (drop n ls)) (sym (length-drop n ls)) ∙ take-length (drop n ls) in
-    let same : length (tokens_seen ls) - length (symbols_seen rest) ≡ n = omega (arith, length-map ls (λ l. token_seen l.token), length-map rest (λ l. token_seen l.token), length-map (tokens_seen rest) symbol) in
+    let same : length (tokens_seen ls) - length (symbols_seen rest) ≡ n =
+    omega (arith, length-map ls (λ l. token_seen l.token), length-map rest (λ l. token_seen l.token), length-map (tokens_seen rest) symbol) in
     ap tokens_seen all ∙ sym (drop-map (λ l. token_seen l.token) n ls) ∙ ap (λ (i : ℕ). drop i (tokens_seen ls)) (sym same)
 
-pub read_end : {T : Type 0} (K : Kind) (P : Phrases T) (W : Wraps K P) (d : ℕ) (ls rest : List Lexeme) (t : T) → run (limits d) (symbols_seen ls) (start K) ≡ Accept (W.wrap t) (symbols_seen rest) → IsRead P d (tokens_seen ls) t (tokens_seen (end_of ls rest))
+pub read_end : {T : Type 0} (K : Kind) (P : Phrases T) (W : Wraps K P) (d : ℕ) (ls rest : List Lexeme) (t : T) →
+    run (limits d) (symbols_seen ls) (start K) ≡ Accept (W.wrap t) (symbols_seen rest) → IsRead P d (tokens_seen ls) t (tokens_seen (end_of ls rest))
 read_end K P W d ls rest t e = let Q : List Token → Type 0 = λ v. IsRead P d (tokens_seen ls) t v in subst Q (sym (tokens_end ls rest)) (said_read K P W d (tokens_seen ls) t (symbols_seen rest) e)
 
-pub runs_end : {T : Type 0} (K : Kind) (P : Phrases T) (W : Wraps K P) (d : ℕ) (ls rest : List Lexeme) (p : Phrase) → run (limits d) (symbols_seen ls) (start K) ≡ Accept p (symbols_seen rest) → run (limits d) (symbols_seen ls) (start K) ≡ Accept p (symbols_seen (end_of ls rest))
+pub runs_end : {T : Type 0} (K : Kind) (P : Phrases T) (W : Wraps K P) (d : ℕ) (ls rest : List Lexeme) (p : Phrase) →
+    run (limits d) (symbols_seen ls) (start K) ≡ Accept p (symbols_seen rest) →
+    run (limits d) (symbols_seen ls) (start K) ≡ Accept p (symbols_seen (end_of ls rest))
 runs_end K P W d ls rest p e =
     e ∙ ap (λ (v : List Symbol). Accept p v) (sym (said_rest K P W d (tokens_seen ls) p (symbols_seen rest) e) ∙ ap (λ (v : List Token). map symbol v) (sym (tokens_end ls rest)))

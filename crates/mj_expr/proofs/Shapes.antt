@@ -13,17 +13,17 @@ use Rattle.mj_ast.specs.Syntax.{Expr, Chain, Operand, Literal, Value, Intrinsic,
 use Rattle.mj_ast.specs.Tokens.{Token}
 use Rattle.mj_ast.specs.Expressions.{Symbol, Constant, Inherent, Name, Applied, Overlong, Mark, Other, count, subscript_count, least_subscripts, most_others, levels}
 use Rattle.mj_lex.specs.declared.token.Lexeme.{Lexeme}
-use Rattle.mj_expr.specs.Machine.{Outer, Alone, InGroup, InList, InOther, InCondition, InChoice, Owner, Subscripts, Arguments, Within, Front, Right, Under, Place, AsOperand, AsNamed, AsTarget, State, Wanted, Sought, Marked, Named, Calling, Behind, Held, Got, filled, placed, closed, outer_of, outer_depth, owner_depth, depth_of, place_depth, Limits, Next, Go, Stuck, Deep, Long, opens, opens_call, suffices, behind, is_full, most_of, comma, close, want_other, want_sign, hold_other, hold_sign, hold, on, step, unary_of, binary_of, and_more, before_choices, Phrase, Whole, Target, Outcome, Accept, TooLong, ends, finish, run, goes}
+use Rattle.mj_expr.specs.Machine.{Outer, Alone, InGroup, InList, InOther, InCondition, InChoice, Owner, Subscripts, Arguments, Within, Front, Right, Under, Place, AsOperand, AsNamed, AsTarget, State, Wanted, Sought, Marked, Named, Calling, Behind, Held, Got, filled, placed, closed, outer_of, outer_depth, owner_depth, depth_of, place_depth, Limits, Next, Go, Stuck, Deep, Long, opens, opens_call, suffices, after_variable, is_full, most_of, comma, close, want_other, want_sign, hold_other, hold_sign, hold, on, step, unary_of, binary_of, and_more, before_choices, Phrase, Whole, Target, Outcome, Accept, TooLong, ends, finish, run, goes}
 use Rattle.mj_expr.specs.Reads.{symbols_seen, kind_of, least_in, most_in, limited_in}
-use Rattle.mj_expr.specs.declared.stop.Stop.{Stop}
-use Rattle.mj_expr.specs.declared.stop.Stop.TheVariants as stop
+use Rattle.mj_expr.specs.declared.stop.ParseError.{ParseError}
+use Rattle.mj_expr.specs.declared.stop.ParseError.TheVariants as stop
 use Rattle.mj_expr.specs.declared.beyond.Around.{Around}
 use Rattle.mj_expr.specs.declared.beyond.Around.TheVariants as around
 use Rattle.mj_expr.specs.declared.beyond.Stage.{Stage}
 use Rattle.mj_expr.specs.declared.beyond.Stage.TheVariants as stage
 use Rattle.mj_expr.specs.declared.beyond.Turn.{Turn}
 use Rattle.mj_expr.specs.declared.beyond.Turn.TheVariants as turn
-use Rattle.mj_expr.specs.Shapes.{Shape, outer_shape, owner_shape, shape_of, place_shape, state_shape, stage_of, sort_of, stray_turn, behind_sign, behind_turn, bare_goes, other_turn, operand_other, operand_sign, turn_at, Passed, Passes, Halts, ended, Led, To, Nowhere, Beyond, led, on_from, pass, PassesAs, IsEndOf, Ends}
+use Rattle.mj_expr.specs.Shapes.{Shape, outer_shape, owner_shape, shape_of, place_shape, state_shape, stage_of, sort_of, stray_turn, behind_sign, behind_turn, bare_goes, other_turn, operand_other, operand_sign, turn_at, Passed, Passes, Halts, ended, Led, To, Nowhere, Beyond, led, on_from, pass, PassesAs, IsEndOf, MachineEnds}
 use Rattle.mj_expr.proofs.Steps.{less_true, most_true, kind_least, kind_limited}
 use Rattle.mj_expr.proofs.Zipper.{count-more, least_at, least_at_few, levels_few}
 use Rattle.mj_expr.proofs.Facts.{filled_outer}
@@ -198,26 +198,36 @@ target_stuck Overlong = refl
 target_stuck Other = refl
 
 -- behind an expression
-comma_by : (d : ℕ) (whole : Bool) (t : State) (a : Around) (others : List Around) (u : Turn) (b f : Bool) → Follows d whole (Go t) (led a others u) → Follows d whole (cond b (Go t) (cond f Long Stuck)) (led a others (cond b u (cond f turn.Long turn.Stuck)))
+comma_by : (d : ℕ) (whole : Bool) (t : State) (a : Around) (others : List Around) (u : Turn) (b f : Bool) → Follows d whole (Go t) (led a others u) →
+    Follows d whole (cond b (Go t) (cond f Long Stuck)) (led a others (cond b u (cond f turn.Long turn.Stuck)))
 comma_by d whole t a others u true f h = h
 comma_by d whole t a others u false true h = refl
 comma_by d whole t a others u false false h = refl
 
-list_comma : (m : Limits) (e : Expr) (w : Owner) (before : Exprs) → m.width ≡ 31 → Follows (owner_depth w + 1) (owner_whole w) (comma m e (InList w before)) (led (around.List (kind_of w) (count before + 1)) ((owner_shape w).around ∷ (owner_shape w).others) (other_turn (around.List (kind_of w) (count before + 1)) Comma))
+list_comma : (m : Limits) (e : Expr) (w : Owner) (before : Exprs) → m.width ≡ 31 →
+    Follows (owner_depth w + 1) (owner_whole w) (comma m e (InList w before))
+    (led (around.List (kind_of w) (count before + 1)) ((owner_shape w).around ∷
+    (owner_shape w).others) (other_turn (around.List (kind_of w) (count before + 1)) Comma))
 list_comma m e w before i =
     let n = count before + 1 in
     let s = owner_shape w in
     let t = Wanted (Front (InList w (and_more before e))) in
     let P : Next → Type 0 = λ x. Follows (owner_depth w + 1) (owner_whole w) x (led (around.List (kind_of w) n) (s.around ∷ s.others) (other_turn (around.List (kind_of w) n) Comma)) in
-    subst P (ap (λ (k : ℕ). cond (nat_lt n k) (Go t) (cond (limited_in (kind_of w)) Long Stuck)) (sym (most_same m w i)) ∙ ap (λ (b : Bool). cond (nat_lt n (most_of m w)) (Go t) (cond b Long Stuck)) (kind_limited w))
-    (comma_by (owner_depth w + 1) (owner_whole w) t (around.List (kind_of w) n) (s.around ∷ s.others) (turn.Goes stage.Operand (around.List (kind_of w) (n + 1))) (nat_lt n (most_in (kind_of w))) (limited_in (kind_of w))
+    subst P (ap (λ (k : ℕ). cond (nat_lt n k) (Go t) (cond (limited_in (kind_of w)) Long Stuck)) (sym (most_same m w i)) ∙
+    ap (λ (b : Bool). cond (nat_lt n (most_of m w)) (Go t) (cond b Long Stuck)) (kind_limited w))
+    (comma_by (owner_depth w + 1) (owner_whole w) t (around.List (kind_of w) n) (s.around ∷
+    s.others) (turn.Goes stage.Operand (around.List (kind_of w) (n + 1))) (nat_lt n (most_in (kind_of w))) (limited_in (kind_of w))
     (ap (λ (k : ℕ). To stage.Operand (around.List (kind_of w) (k + 1)) (s.around ∷ s.others)) (sym (count-more before e)), omega arith, refl, tt))
 
-close_by : (d : ℕ) (whole : Bool) (t : State) (a : Around) (others : List Around) (b : Bool) → Follows d whole (Go t) (led a others turn.Closes) → Follows d whole (cond b (Go t) Stuck) (led a others (cond b turn.Closes turn.Stuck))
+close_by : (d : ℕ) (whole : Bool) (t : State) (a : Around) (others : List Around) (b : Bool) → Follows d whole (Go t) (led a others turn.Closes) →
+    Follows d whole (cond b (Go t) Stuck) (led a others (cond b turn.Closes turn.Stuck))
 close_by d whole t a others true h = h
 close_by d whole t a others false h = refl
 
-list_close : (m : Limits) (e : Expr) (w : Owner) (before : Exprs) → Follows (owner_depth w + 1) (owner_whole w) (close e (InList w before)) (led (around.List (kind_of w) (count before + 1)) ((owner_shape w).around ∷ (owner_shape w).others) (other_turn (around.List (kind_of w) (count before + 1)) Close))
+list_close : (m : Limits) (e : Expr) (w : Owner) (before : Exprs) →
+    Follows (owner_depth w + 1) (owner_whole w) (close e (InList w before))
+    (led (around.List (kind_of w) (count before + 1)) ((owner_shape w).around ∷
+    (owner_shape w).others) (other_turn (around.List (kind_of w) (count before + 1)) Close))
 list_close m e w before =
     let n = count before + 1 in
     let s = owner_shape w in
@@ -227,7 +237,9 @@ list_close m e w before =
     (close_by (owner_depth w + 1) (owner_whole w) t (around.List (kind_of w) n) (s.around ∷ s.others) (nat_le (least_in (kind_of w)) n)
     (goes_at t stage.Behind s (owner_depth w) (owner_depth w + 1) (owner_whole w) (closed_at w (and_more before e) (omega (arith, count-more before e))) (omega arith)))
 
-other_follows : (m : Limits) (x : Operand) (r : Tails) (o : Outer) (s : Sign) → m.width ≡ 31 → Follows (outer_depth o) (outer_whole o) (hold_other m (Chain x r) o s) (led (outer_shape o).around (outer_shape o).others (other_turn (outer_shape o).around s))
+other_follows : (m : Limits) (x : Operand) (r : Tails) (o : Outer) (s : Sign) → m.width ≡ 31 →
+    Follows (outer_depth o) (outer_whole o) (hold_other m (Chain x r) o s)
+    (led (outer_shape o).around (outer_shape o).others (other_turn (outer_shape o).around s))
 other_follows m x r Alone Close e = refl
 other_follows m x r (InGroup c) Close e = goes_at (filled (Group (Chain x r)) c) stage.Behind (shape_of c) (depth_of c) (depth_of c + 1) (whole_of c) (filled_at (Group (Chain x r)) c) (omega arith)
 other_follows m x r (InList w before) Close e = list_close m (Chain x r) w before
@@ -252,7 +264,8 @@ other_follows m x r (InCondition before c) Colon e = (refl, omega arith, refl, t
 other_follows m x r (InChoice before a c) Colon e = refl
 other_follows m x r o s e = refl
 
-sign_follows : (m : Limits) (x : Operand) (r : Tails) (o : Outer) (s : Sign) (q : Option Op) → m.width ≡ 31 → Follows (outer_depth o) (outer_whole o) (hold_sign m x r o s q) (led (outer_shape o).around (outer_shape o).others (behind_sign (outer_shape o).around s q))
+sign_follows : (m : Limits) (x : Operand) (r : Tails) (o : Outer) (s : Sign) (q : Option Op) → m.width ≡ 31 →
+    Follows (outer_depth o) (outer_whole o) (hold_sign m x r o s q) (led (outer_shape o).around (outer_shape o).others (behind_sign (outer_shape o).around s q))
 sign_follows m x r Alone s (Some op) e = (refl, omega arith, refl, tt)
 sign_follows m x r (InGroup c) s (Some op) e = (refl, omega arith, refl, tt)
 sign_follows m x r (InList w before) s (Some op) e = (refl, omega arith, refl, tt)
@@ -261,7 +274,9 @@ sign_follows m x r (InCondition before c) s (Some op) e = (refl, omega arith, re
 sign_follows m x r (InChoice before a c) s (Some op) e = (refl, omega arith, refl, tt)
 sign_follows m x r o s None e = other_follows m x r o s e
 
-held_follows : (m : Limits) (x : Operand) (r : Tails) (o : Outer) (k : Symbol) → m.width ≡ 31 → Follows (outer_depth o) (outer_whole o) (hold m x r o k) (led (outer_shape o).around (outer_shape o).others (behind_turn (outer_shape o).around (sort_of k)))
+held_follows : (m : Limits) (x : Operand) (r : Tails) (o : Outer) (k : Symbol) → m.width ≡ 31 →
+    Follows (outer_depth o) (outer_whole o) (hold m x r o k) (led (outer_shape o).around (outer_shape o).others
+    (behind_turn (outer_shape o).around (sort_of k)))
 held_follows m x r o (Mark s) e = sign_follows m x r o s (binary_of s) e
 held_follows m x r o (Constant v) e = refl
 held_follows m x r o (Inherent v) e = refl
@@ -295,13 +310,15 @@ about_comma f v c true false = refl
 about_comma f v c false d = refl
 
 about_sign : (f : NameFunction) (v : Variable) (c : Within) (s : Sign) →
-    Follows (depth_of c + 1) (whole_of c) (behind f v c (Mark s)) (led (around.About f) ((shape_of c).around ∷ (shape_of c).others) (cond (suffices f v) (behind_turn (around.About f) (sort_of (Mark s))) turn.Stuck))
+    Follows (depth_of c + 1) (whole_of c) (after_variable f v c (Mark s)) (led (around.About f) ((shape_of c).around ∷
+    (shape_of c).others) (cond (suffices f v) (behind_turn (around.About f) (sort_of (Mark s))) turn.Stuck))
 about_sign f v c Close = about_close f v c (suffices f v)
 about_sign f v c Comma = about_comma f v c (suffices f v) (nat_lt 0 (most_others f))
 about_sign f v c s = about_stuck (around.About f) ((shape_of c).around ∷ (shape_of c).others) (suffices f v)
 
 about_follows : (f : NameFunction) (v : Variable) (c : Within) (k : Symbol) →
-    Follows (depth_of c + 1) (whole_of c) (behind f v c k) (led (around.About f) ((shape_of c).around ∷ (shape_of c).others) (cond (suffices f v) (behind_turn (around.About f) (sort_of k)) turn.Stuck))
+    Follows (depth_of c + 1) (whole_of c) (after_variable f v c k) (led (around.About f) ((shape_of c).around ∷
+    (shape_of c).others) (cond (suffices f v) (behind_turn (around.About f) (sort_of k)) turn.Stuck))
 about_follows f v c (Mark s) = about_sign f v c s
 about_follows f v c (Constant u) = about_stuck (around.About f) ((shape_of c).around ∷ (shape_of c).others) (suffices f v)
 about_follows f v c (Inherent u) = about_stuck (around.About f) ((shape_of c).around ∷ (shape_of c).others) (suffices f v)
@@ -328,7 +345,8 @@ within_goes (Under op c) = within_goes c
 abbrev bare_led : Shape → Symbol → Bool → Led
 bare_led a k b = led a.around a.others (cond b (behind_turn a.around (sort_of k)) turn.Stuck)
 
-named_follows : (m : Limits) (scope : Scope) (word : List ℕ) (p : Place) (k : Symbol) → m.width ≡ 31 → Follows (place_depth p) (place_whole p) (on m (placed (Var scope word No) p) k) (bare_led (place_shape p) k (bare_goes (place_shape p).around))
+named_follows : (m : Limits) (scope : Scope) (word : List ℕ) (p : Place) (k : Symbol) → m.width ≡ 31 →
+    Follows (place_depth p) (place_whole p) (on m (placed (Var scope word No) p) k) (bare_led (place_shape p) k (bare_goes (place_shape p).around))
 named_follows m scope word (AsOperand c) k e =
     let v = Var scope word No in
     let f = filled_outer (Value v) c in
@@ -336,7 +354,8 @@ named_follows m scope word (AsOperand c) k e =
     let P : State → Type 0 = λ s. Follows (depth_of c) (whole_of c) (on m s k) (led (shape_of c).around (shape_of c).others (behind_turn (shape_of c).around (sort_of k))) in
     let Q : Shape → Type 0 = λ a. Follows (depth_of c) (whole_of c) (hold m f.0 f.1 o k) (led a.around a.others (behind_turn a.around (sort_of k))) in
     let R : Bool → Type 0 = λ b. Follows (depth_of c) (whole_of c) (on m (filled (Value v) c) k) (bare_led (shape_of c) k b) in
-    subst R (sym (within_goes c)) (subst P (sym f.2) (subst Q (sym (outer_same c)) (follows_more (outer_depth o) (depth_of c) (outer_whole o) (whole_of c) _ _ (outer_less c) (outer_kept c) (held_follows m f.0 f.1 o k e))))
+    subst R (sym (within_goes c)) (subst P (sym f.2) (subst Q (sym (outer_same c))
+    (follows_more (outer_depth o) (depth_of c) (outer_whole o) (whole_of c) _ _ (outer_less c) (outer_kept c) (held_follows m f.0 f.1 o k e))))
 named_follows m scope word (AsNamed f c) k e = about_follows f (Var scope word No) c k
 named_follows m scope word AsTarget k e = ap (led around.Target []) (target_stuck k)
 
@@ -344,13 +363,15 @@ named_follows m scope word AsTarget k e = ap (led around.Target []) (target_stuc
 call_follows : (m : Limits) (f : Callee) (c : Within) (d : ℕ) (whole : Bool) (l : Led) → depth_of c + levels f ≤ m.depth → Follows d whole (Go (Calling f c)) l → Follows d whole (opens_call m f c) l
 call_follows m f c d whole l i h = let P : Bool → Type 0 = λ b. Follows d whole (cond b (Go (Calling f c)) Deep) l in subst P (sym (most_true (depth_of c + levels f) m.depth i)) h
 
-want_other_follows : (m : Limits) (c : Within) (s : Sign) → m.width ≡ 31 → depth_of c < m.depth → Follows (depth_of c) (whole_of c) (want_other m c s) (led (shape_of c).around (shape_of c).others (operand_other (shape_of c).around s))
+want_other_follows : (m : Limits) (c : Within) (s : Sign) → m.width ≡ 31 → depth_of c < m.depth →
+    Follows (depth_of c) (whole_of c) (want_other m c s) (led (shape_of c).around (shape_of c).others (operand_other (shape_of c).around s))
 want_other_follows m c Caret e i = (refl, omega arith, refl, tt)
 want_other_follows m c Open e i = opens_follow m (depth_of c) (depth_of c) (whole_of c) (Wanted (Front (InGroup c))) _ i (refl, omega arith, refl, tt)
 want_other_follows m c Comma e i = stray_follows m (depth_of c) (whole_of c) (shape_of c).around (shape_of c).others (is_full m (outer_of c)) (within_full m c e)
 want_other_follows m c s e i = refl
 
-want_sign_follows : (m : Limits) (c : Within) (s : Sign) (q : Option UnaryOp) → m.width ≡ 31 → depth_of c < m.depth → Follows (depth_of c) (whole_of c) (want_sign m c s q) (led (shape_of c).around (shape_of c).others (operand_sign (shape_of c).around s q))
+want_sign_follows : (m : Limits) (c : Within) (s : Sign) (q : Option UnaryOp) → m.width ≡ 31 → depth_of c < m.depth →
+    Follows (depth_of c) (whole_of c) (want_sign m c s q) (led (shape_of c).around (shape_of c).others (operand_sign (shape_of c).around s q))
 want_sign_follows m c s (Some op) e i = opens_follow m (depth_of c) (depth_of c) (whole_of c) (Wanted (Under op c)) _ i (refl, omega arith, refl, tt)
 want_sign_follows m c s None e i = want_other_follows m c s e i
 
@@ -384,7 +405,8 @@ follows m (Marked p) (Inherent v) e i g = refl
 follows m (Marked p) (Applied f) e i g = refl
 follows m (Marked p) Overlong e i g = refl
 follows m (Marked p) Other e i g = refl
-follows m (Named scope word p) (Mark Open) e i g = opens_follow m (place_depth p) (place_depth p) (place_whole p) (Wanted (Front (InList (Subscripts scope word p) No))) _ (omega arith) (refl, omega arith, refl, tt)
+follows m (Named scope word p) (Mark Open) e i g = opens_follow m (place_depth p) (place_depth p) (place_whole p)
+    (Wanted (Front (InList (Subscripts scope word p) No))) _ (omega arith) (refl, omega arith, refl, tt)
 follows m (Named scope word p) k e i g = named_follows m scope word p k e
 follows m (Calling (callee.Texts f) c) (Mark Open) e i g = (refl, omega arith, refl, tt)
 follows m (Calling (callee.Names f) c) (Mark Open) e i g = (refl, omega arith, refl, tt)
@@ -397,7 +419,8 @@ follows m (Calling f c) (Applied h) e i g = refl
 follows m (Calling f c) Overlong e i g = refl
 follows m (Calling f c) Other e i g = refl
 follows m (Behind f v c) k e i g =
-    let P : Bool → Type 0 = λ b. Follows (depth_of c + 1) (whole_of c) (behind f v c k) (led (around.About f) ((shape_of c).around ∷ (shape_of c).others) (cond b (behind_turn (around.About f) (sort_of k)) turn.Stuck)) in
+    let P : Bool → Type 0 = λ b. Follows (depth_of c + 1) (whole_of c) (after_variable f v c k)
+    (led (around.About f) ((shape_of c).around ∷ (shape_of c).others) (cond b (behind_turn (around.About f) (sort_of k)) turn.Stuck)) in
     subst P (most_true (least_subscripts f) (subscript_count v) g) (about_follows f v c k)
 follows m (Held x r o) k e i g = held_follows m x r o k e
 follows m (Got v) k e i g = ap (led around.Target []) (target_stuck k)
@@ -449,7 +472,8 @@ abbrev pub passed_from : State → List Symbol → Passed
 passed_from s ks = pass ks (stage_of s) (state_shape s).around (state_shape s).others
 
 goes_as : (m : Limits) (ks : List Symbol) (d left : ℕ) (whole : Bool) (out : Outcome) (end : Passed) (n : Next) (l : Led) → Agrees whole end out →
-    ((t : State) → state_depth t ≤ d + 1 → IsSound t → Agrees (state_whole t) (passed_from t ks) (run m ks t)) → Follows d whole n l → Agrees whole (on_from (pass ks) end l) (goes (run m ks) out left n)
+    ((t : State) → state_depth t ≤ d + 1 → IsSound t → Agrees (state_whole t) (passed_from t ks) (run m ks t)) → Follows d whole n l →
+    Agrees whole (on_from (pass ks) end l) (goes (run m ks) out left n)
 goes_as m ks d left whole out end (Go t) l a h f =
     let P : Led → Type 0 = λ x. Agrees whole (on_from (pass ks) end x) (run m ks t) in
     let Q : Bool → Type 0 = λ b. Agrees b (passed_from t ks) (run m ks t) in
@@ -466,7 +490,7 @@ passed (k ∷ ks) m s e i g =
 
 -- ---- what a call returns
 
-whole_ends : {X : Type 0} (rest : X → List Lexeme) (r : Result X Stop) (p : Passed) (o : Outcome) → PassesAs rest r p → Agrees true p o → Ends Whole rest r o
+whole_ends : {X : Type 0} (rest : X → List Lexeme) (r : Result X ParseError) (p : Passed) (o : Outcome) → PassesAs rest r p → Agrees true p o → MachineEnds Whole rest r o
 whole_ends rest (Ok x) p o h a = let P : Passed → Type 0 = λ q. Agrees true q o in of_whole (subst P h a)
   where
     of_whole : {ks : List Symbol} → Agrees true (Passes ks) o → (e : Expr) × (o ≡ Accept (Whole e) ks)
@@ -477,7 +501,7 @@ whole_ends rest (Err (stop.Stuck n)) p o h a = let P : Passed → Type 0 = λ q.
 whole_ends rest (Err (stop.Deep n)) p o h a = absurd h
 whole_ends rest (Err stop.Long) p o h a = let P : Passed → Type 0 = λ q. Agrees true q o in subst P h a
 
-target_ends : {X : Type 0} (rest : X → List Lexeme) (r : Result X Stop) (p : Passed) (o : Outcome) → PassesAs rest r p → Agrees false p o → Ends Target rest r o
+target_ends : {X : Type 0} (rest : X → List Lexeme) (r : Result X ParseError) (p : Passed) (o : Outcome) → PassesAs rest r p → Agrees false p o → MachineEnds Target rest r o
 target_ends rest (Ok x) p o h a = let P : Passed → Type 0 = λ q. Agrees false q o in of_target (subst P h a)
   where
     of_target : {ks : List Symbol} → Agrees false (Passes ks) o → (v : Variable) × (o ≡ Accept (Target v) ks)
@@ -499,13 +523,15 @@ seen_length : (ls : List Lexeme) → length (symbols_seen ls) ≡ length ls
 seen_length [] = refl
 seen_length (l ∷ ls) = let h = seen_length ls in omega arith
 
-pub ends_whole : {X : Type 0} (rest : X → List Lexeme) (r : Result X Stop) (ls : List Lexeme) (m : Limits) → m.width ≡ 31 → length ls < m.depth → PassesAs rest r (pass (symbols_seen ls) stage.Operand around.Alone []) → Ends Whole rest r (run m (symbols_seen ls) (Wanted (Front Alone)))
+pub ends_whole : {X : Type 0} (rest : X → List Lexeme) (r : Result X ParseError) (ls : List Lexeme) (m : Limits) → m.width ≡ 31 → length ls < m.depth →
+    PassesAs rest r (pass (symbols_seen ls) stage.Operand around.Alone []) → MachineEnds Whole rest r (run m (symbols_seen ls) (Wanted (Front Alone)))
 ends_whole rest r ls m e i h =
     let ks = symbols_seen ls in
     let n = seen_length ls in
     whole_ends rest r (pass ks stage.Operand around.Alone []) (run m ks (Wanted (Front Alone))) h (passed ks m (Wanted (Front Alone)) e (omega arith) tt)
 
-pub ends_target : {X : Type 0} (rest : X → List Lexeme) (r : Result X Stop) (ls : List Lexeme) (m : Limits) → m.width ≡ 31 → length ls < m.depth → PassesAs rest r (pass (symbols_seen ls) stage.Variable around.Target []) → Ends Target rest r (run m (symbols_seen ls) (Sought AsTarget))
+pub ends_target : {X : Type 0} (rest : X → List Lexeme) (r : Result X ParseError) (ls : List Lexeme) (m : Limits) → m.width ≡ 31 → length ls < m.depth →
+    PassesAs rest r (pass (symbols_seen ls) stage.Variable around.Target []) → MachineEnds Target rest r (run m (symbols_seen ls) (Sought AsTarget))
 ends_target rest r ls m e i h =
     let ks = symbols_seen ls in
     let n = seen_length ls in

@@ -12,8 +12,9 @@ use Rattle.mj_ast.specs.declared.function.Callee.{Callee}
 use Rattle.mj_ast.specs.declared.function.Callee.TheVariants as callee
 use Rattle.mj_ast.specs.Expressions.{Symbol, Constant, Inherent, Name, Applied, Overlong, Mark, Other}
 use Rattle.mj_ast.specs.Lines.{digits_filler, word_filler}
-use Rattle.mj_expr.specs.Machine.{InGroup, InList, Subscripts, Within, Front, Under, Place, AsOperand, AsNamed, AsTarget, State, Wanted, Sought, Marked, Named, Calling, Behind, Held, Got, Limits, Next, Go, Stuck, Deep, Long, TooLong, filled, placed, outer_of, depth_of, place_depth, run, step, behind, unary_of, want_sign, want_other, stray_comma, is_full, on, inside}
-use Rattle.mj_expr.proofs.Zipper.{Kind, HasRead, Good, good_depth, place_good_depth, placed_read, before, place_before, zero_text, least_some, least_most, least_at, levels_few}
+use Rattle.mj_expr.specs.Machine.{InGroup, InList, Subscripts, Within, Front, Under, Place, AsOperand, AsNamed, AsTarget, State, Wanted, Sought, Marked, Named, Calling, Behind, Held, Got, Limits, Next, Go, Stuck, Deep, Long, TooLong, filled, placed, outer_of, depth_of, place_depth, run, step, after_variable, unary_of, want_sign, want_other, stray_comma, is_full, on, inside}
+use Rattle.mj_expr.proofs.Zipper.{Kind, before, place_before, zero_text, least_some, least_most, least_at, levels_few}
+use Rattle.mj_expr.proofs.Room.{HasRead, Good, good_depth, place_good_depth, placed_read}
 use Rattle.mj_expr.proofs.Facts.{IsMore, deeper, wider, more_deeper, good_more, place_good_more, unary_back, Facts, LongFacts, opens_facts, call_facts, behind_facts, from_held, filled_outer, constant_read, inherent_read, full_same, room_stays, full_comma, full_opened}
 
 abbrev pub FactsAt : Kind → Limits → State → Symbol → Type 0
@@ -32,7 +33,8 @@ stray_long K m c e =
       fills = digits_filler;
       over = o.0;
       opened = λ ks h.
-          let r : HasRead K m (Held f.0 f.1 (outer_of c)) (ks ++ Constant zero_text ∷ []) = let P : State → Type 0 = λ s. HasRead K m s (ks ++ Constant zero_text ∷ []) in subst P f.2 (constant_read K m c zero_text ks h) in
+          let r : HasRead K m (Held f.0 f.1 (outer_of c)) (ks ++ Constant zero_text ∷ []) = let P : State → Type 0 =
+          λ s. HasRead K m s (ks ++ Constant zero_text ∷ []) in subst P f.2 (constant_read K m c zero_text ks h) in
           let Q : List Symbol → Type 0 = λ zs. HasRead K (wider m) o.0 zs in
           subst Q (append_assoc ks (Constant zero_text ∷ []) (Mark Comma ∷ [])) (o.1 (ks ++ Constant zero_text ∷ []) r);
       local = λ l y d w. ap (λ (s : State). run l (Mark Comma ∷ y) s) f.2 ∙ full_comma l y f.0 f.1 (outer_of c) (full_same m l (outer_of c) w ∙ e);
@@ -43,7 +45,8 @@ stray_as : (K : Kind) (m : Limits) (c : Within) (b : Bool) → is_full m (outer_
 stray_as K m c true e = stray_long K m c e
 stray_as K m c false e = λ l i. ap (λ (b : Bool). cond b Long Stuck) (room_stays m l (outer_of c) e i)
 
-frame_read : (K : Kind) (m l : Limits) (c d : Within) (s : Sign) (ks : List Symbol) → before d ≡ before c ++ Mark s ∷ [] → Good K l d → HasRead K m (Wanted c) ks → HasRead K l (Wanted d) (ks ++ Mark s ∷ [])
+frame_read : (K : Kind) (m l : Limits) (c d : Within) (s : Sign) (ks : List Symbol) → before d ≡ before c ++ Mark s ∷ [] → Good K l d →
+    HasRead K m (Wanted c) ks → HasRead K l (Wanted d) (ks ++ Mark s ∷ [])
 frame_read K m l c d s ks e g h = record { good = g; read = e ∙ ap (λ (zs : List Symbol). zs ++ Mark s ∷ []) h.read }
 
 want_other_facts : (K : Kind) (m : Limits) (c : Within) (s : Sign) →
@@ -52,7 +55,8 @@ want_other_facts K m c Caret = (λ ks h. record { good = h.good; read = ap (λ (
 want_other_facts K m c Open =
     opens_facts K m (HasRead K m (Wanted c)) (LongFacts K m (HasRead K m (Wanted c)) (Wanted c) (Mark Open)) (Mark Open) (depth_of c) (Wanted (Front (InGroup c)))
     (λ d ks h. frame_read K m m c (Front (InGroup c)) Open ks refl (h.good, omega arith) h)
-    (λ ks h. frame_read K m (deeper (Mark Open) m) c (Front (InGroup c)) Open ks refl (good_more c K m (deeper (Mark Open) m) (more_deeper (Mark Open) m) h.good, omega (arith, good_depth K m c h.good)) h)
+    (λ ks h. frame_read K m (deeper (Mark Open) m) c (Front (InGroup c)) Open ks refl
+    (good_more c K m (deeper (Mark Open) m) (more_deeper (Mark Open) m) h.good, omega (arith, good_depth K m c h.good)) h)
 want_other_facts K m c Comma = stray_as K m c (is_full m (outer_of c)) refl
 want_other_facts K m c s = λ l i. refl
 
@@ -95,7 +99,8 @@ marked_read K m p word ks h = record {
 }
 
 -- a variable is what was read of a name
-pub variable_read : (K : Kind) (m : Limits) (scope : Scope) (word : List ℕ) (p : Place) (ks : List Symbol) → least_at p ≤ 0 → HasRead K m (Named scope word p) ks → HasRead K m (placed (Var scope word No) p) ks
+pub variable_read : (K : Kind) (m : Limits) (scope : Scope) (word : List ℕ) (p : Place) (ks : List Symbol) → least_at p ≤ 0 →
+    HasRead K m (Named scope word p) ks → HasRead K m (placed (Var scope word No) p) ks
 variable_read K m scope word p ks s h = placed_read p K m (Var scope word No) ks h.good (omega (arith, place_good_depth K m p h.good)) (omega arith) refl s h.read
 
 caret_long : (K : Kind) (m : Limits) (c : Within) → is_full m (outer_of c) ≡ true → LongFacts K m (HasRead K m (Marked (AsOperand c))) (Marked (AsOperand c)) (Mark Comma)
@@ -116,11 +121,13 @@ caret_long K m c e =
       local = λ l y d w. named_comma l y f.0 f.1 f.2 (full_same m l (outer_of c) w ∙ e);
     }
   where
-    named_comma : (l : Limits) (y : List Symbol) (x : Operand) (r : Tails) → filled (Value (Var Global (65 ∷ []) No)) c ≡ Held x r (outer_of c) → is_full l (outer_of c) ≡ true → run l (Mark Comma ∷ y) (Named Global (65 ∷ []) (AsOperand c)) ≡ TooLong
+    named_comma : (l : Limits) (y : List Symbol) (x : Operand) (r : Tails) → filled (Value (Var Global (65 ∷ []) No)) c ≡ Held x r (outer_of c) →
+        is_full l (outer_of c) ≡ true → run l (Mark Comma ∷ y) (Named Global (65 ∷ []) (AsOperand c)) ≡ TooLong
     named_comma l y x r e f = rw e (full_comma l y x r (outer_of c) f)
 
 caret_as : (K : Kind) (m : Limits) (c : Within) (b : Bool) → is_full m (outer_of c) ≡ b →
-    Facts K m (HasRead K m (Marked (AsOperand c))) (LongFacts K m (HasRead K m (Marked (AsOperand c))) (Marked (AsOperand c)) (Mark Comma)) (λ l. cond (is_full l (outer_of c)) Long Stuck) (Mark Comma) (cond b Long Stuck)
+    Facts K m (HasRead K m (Marked (AsOperand c))) (LongFacts K m (HasRead K m (Marked (AsOperand c))) (Marked (AsOperand c)) (Mark Comma))
+    (λ l. cond (is_full l (outer_of c)) Long Stuck) (Mark Comma) (cond b Long Stuck)
 caret_as K m c true e = caret_long K m c e
 caret_as K m c false e = λ l i. ap (λ (b : Bool). cond b Long Stuck) (room_stays m l (outer_of c) e i)
 
@@ -141,7 +148,8 @@ list_opened K m l scope word p ks i w d h = record {
 }
 
 -- what isn't an opening parenthesis
-behind_variable : (K : Kind) (m : Limits) (scope : Scope) (word : List ℕ) (p : Place) (k : Symbol) → ((l : Limits) → step l (Named scope word p) k ≡ step l (placed (Var scope word No) p) k) → FactsAt K m (Named scope word p) k
+behind_variable : (K : Kind) (m : Limits) (scope : Scope) (word : List ℕ) (p : Place) (k : Symbol) →
+    ((l : Limits) → step l (Named scope word p) k ≡ step l (placed (Var scope word No) p) k) → FactsAt K m (Named scope word p) k
 behind_variable K m scope word (AsOperand c) k same =
     let f = filled_outer (Value (Var scope word No)) c in
     let g : (l : Limits) → step l (Named scope word (AsOperand c)) k ≡ step l (Held f.0 f.1 (outer_of c)) k = λ l. same l ∙ ap (λ (s : State). step l s k) f.2 in
@@ -153,7 +161,8 @@ behind_variable K m scope word (AsOperand c) k same =
         Facts K m R (LongFacts K m R t k) at k (at m) → Facts K m R (LongFacts K m R t k) (λ l. step l t k) k (step m t k)
     as_held K m R t k at e g f = at_first K m R (LongFacts K m R t k) k at (λ l. step l t k) (step m t k) g (let P : Next → Type 0 = λ x. Facts K m R (LongFacts K m R t k) at k x in subst P (sym e) f)
       where
-        at_first : (K : Kind) (m : Limits) (R : List Symbol → Type 0) (L : Type 0) (k : Symbol) (at bt : Limits → Next) (x : Next) → ((l : Limits) → bt l ≡ at l) → Facts K m R L at k x → Facts K m R L bt k x
+        at_first : (K : Kind) (m : Limits) (R : List Symbol → Type 0) (L : Type 0) (k : Symbol) (at bt : Limits → Next) (x : Next) →
+            ((l : Limits) → bt l ≡ at l) → Facts K m R L at k x → Facts K m R L bt k x
         at_first K m R L k at bt (Go s) g f = (f.0, λ l i. g l ∙ f.1 l i)
         at_first K m R L k at bt Stuck g f = λ l i. g l ∙ f l i
         at_first K m R L k at bt Deep g f = f
@@ -164,18 +173,23 @@ behind_variable K m scope word (AsNamed f c) k same =
     as_behind R L (step m (Named scope word (AsNamed f c)) k) (same m)
     (behind_facts K m R L f (Var scope word No) c k (λ ks s h. variable_read K m scope word (AsNamed f c) ks s h))
   where
-    as_first : (R : List Symbol → Type 0) (L : Type 0) (x : Next) → Facts K m R L (λ l. behind f (Var scope word No) c k) k x → Facts K m R L (λ l. step l (Named scope word (AsNamed f c)) k) k x
+    as_first : (R : List Symbol → Type 0) (L : Type 0) (x : Next) → Facts K m R L (λ l. after_variable f (Var scope word No) c k) k x → Facts K m R L (λ l. step l (Named scope word (AsNamed f c)) k) k x
     as_first R L (Go s) h = (h.0, λ l i. same l ∙ h.1 l i)
     as_first R L Stuck h = λ l i. same l ∙ h l i
     as_first R L Deep h = h
     as_first R L Long h = h
 
-    as_behind : (R : List Symbol → Type 0) (L : Type 0) (x : Next) → x ≡ behind f (Var scope word No) c k → Facts K m R L (λ l. behind f (Var scope word No) c k) k (behind f (Var scope word No) c k) → Facts K m R L (λ l. step l (Named scope word (AsNamed f c)) k) k x
-    as_behind R L x e h = let P : Next → Type 0 = λ z. Facts K m R L (λ l. behind f (Var scope word No) c k) k z in as_first R L x (subst P (sym e) h)
+    as_behind : (R : List Symbol → Type 0) (L : Type 0) (x : Next) → x ≡ after_variable f (Var scope word No) c k →
+        Facts K m R L (λ l. after_variable f (Var scope word No) c k) k (after_variable f (Var scope word No) c k) →
+        Facts K m R L (λ l. step l (Named scope word (AsNamed f c)) k) k x
+    as_behind R L x e h = let P : Next → Type 0 = λ z. Facts K m R L (λ l. after_variable f (Var scope word No) c k) k z in as_first R L x (subst P (sym e) h)
 behind_variable K m scope word AsTarget k same = target_stuck (step m (Named scope word AsTarget) k) (same m)
   where
-    target_stuck : (x : Next) → x ≡ Stuck → Facts K m (HasRead K m (Named scope word AsTarget)) (LongFacts K m (HasRead K m (Named scope word AsTarget)) (Named scope word AsTarget) k) (λ l. step l (Named scope word AsTarget) k) k x
-    target_stuck x e = let P : Next → Type 0 = λ z. Facts K m (HasRead K m (Named scope word AsTarget)) (LongFacts K m (HasRead K m (Named scope word AsTarget)) (Named scope word AsTarget) k) (λ l. step l (Named scope word AsTarget) k) k z in subst P (sym e) (λ l i. same l)
+    target_stuck : (x : Next) → x ≡ Stuck → Facts K m (HasRead K m (Named scope word AsTarget))
+        (LongFacts K m (HasRead K m (Named scope word AsTarget)) (Named scope word AsTarget) k) (λ l. step l (Named scope word AsTarget) k) k x
+    target_stuck x e = let P : Next → Type 0 = λ z. Facts K m (HasRead K m (Named scope word AsTarget))
+        (LongFacts K m (HasRead K m (Named scope word AsTarget)) (Named scope word AsTarget) k) (λ l. step l (Named scope word AsTarget) k) k z in
+        subst P (sym e) (λ l i. same l)
 
 on_is : (l : Limits) (v : Variable) (p : Place) (k : Symbol) → on l (placed v p) k ≡ step l (placed v p) k
 on_is l v (AsOperand c) k = let f = filled_outer (Value v) c in ap (λ (s : State). on l s k) f.2 ∙ sym (ap (λ (s : State). step l s k) f.2)
@@ -184,7 +198,8 @@ on_is l v AsTarget k = refl
 
 named_facts : (K : Kind) (m : Limits) (scope : Scope) (word : List ℕ) (p : Place) (k : Symbol) → 1 ≤ m.width → FactsAt K m (Named scope word p) k
 named_facts K m scope word p (Mark Open) w =
-    opens_facts K m (HasRead K m (Named scope word p)) (LongFacts K m (HasRead K m (Named scope word p)) (Named scope word p) (Mark Open)) (Mark Open) (place_depth p) (Wanted (Front (InList (Subscripts scope word p) No)))
+    opens_facts K m (HasRead K m (Named scope word p)) (LongFacts K m (HasRead K m (Named scope word p)) (Named scope word p) (Mark Open)) (Mark Open)
+    (place_depth p) (Wanted (Front (InList (Subscripts scope word p) No)))
     (λ d ks h. list_opened K m m scope word p ks (record { depth = omega arith; width = omega arith }) w (omega arith) h)
     (λ ks h. list_opened K m (deeper (Mark Open) m) scope word p ks (more_deeper (Mark Open) m) w (omega (arith, place_good_depth K m p h.good)) h)
 named_facts K m scope word p k w = behind_variable K m scope word p k (λ l. on_is l (Var scope word No) p k)

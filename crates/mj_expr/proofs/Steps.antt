@@ -11,11 +11,11 @@ use Rattle.mj_ast.specs.declared.function.Callee.{Callee}
 use Rattle.mj_ast.specs.Syntax.{Expr, Chain, Tails, Done, Operand, Value, Unary, About, Select, Variable, Var, Exprs, No, More, Choices, Last, Before}
 use Rattle.mj_ast.specs.Expressions.{Symbol, Constant, Inherent, Name, Applied, Overlong, Mark, Other, count, subscript_count, least_subscripts, most_others, levels, constant_of, function_symbol}
 use Rattle.mj_expr.specs.Machine.{Outer, Alone, InList, InOther, InCondition, InChoice, Owner, Subscripts, Arguments, Within, Front, Right, Under, Place, AsOperand, AsNamed, AsTarget, Pairs, NoPairs, Pair, and_pair, before_choices, State, Wanted, Named, Calling, Behind, Held, Got, filled, placed, closed, held, Limits, Next, Go, Stuck, Deep, Long, Outcome, Accept, StuckAt, DeepAt, Whole, Target, run, turn, refused_in, and_more, and_then, hold_sign, depth_of, place_depth, inside, suffices, least_of, most_of, is_limited}
-use Rattle.mj_expr.specs.Reads.{limits, symbols_seen, Reads, Refuses, HasNoBinary, HasNoOpen, HasNoComma, HasNoColon, HasNoClose, StartsBinary, kind_of, least_in, most_in, limited_in}
+use Rattle.mj_expr.specs.Reads.{limits, symbols_seen, ReadsSymbols, Refuses, HasNoBinary, HasNoOpen, HasNoComma, HasNoColon, HasNoClose, StartsBinary, kind_of, least_in, most_in, limited_in}
 use Rattle.mj_expr.specs.Lists.{behind_from, behind_list}
 use Rattle.mj_expr.specs.declared.token.ListKind.{ListKind}
-use Rattle.mj_expr.specs.declared.stop.Stop.{Stop}
-use Rattle.mj_expr.specs.declared.stop.Stop.TheVariants as stop
+use Rattle.mj_expr.specs.declared.stop.ParseError.{ParseError}
+use Rattle.mj_expr.specs.declared.stop.ParseError.TheVariants as stop
 use Rattle.mj_text.specs.declared.fault.Fault.{Fault}
 use Rattle.mj_lex.specs.declared.token.Lexeme.{Lexeme}
 use Rattle.mj_expr.proofs.Zipper.{joined}
@@ -29,7 +29,8 @@ filled_holds x (Front o) = (x, Done, o, refl)
 filled_holds x (Right first rest op o) = (first, and_then rest op x, o, refl)
 filled_holds x (Under op c) = filled_holds (Unary op x) c
 
-named_as : (m : Limits) (scope : Scope) (word : List ℕ) (p : Place) (ks : List Symbol) (y : Operand) (r : Tails) (o : Outer) → placed (Var scope word No) p ≡ Held y r o → HasNoOpen ks → run m ks (Named scope word p) ≡ run m ks (placed (Var scope word No) p)
+named_as : (m : Limits) (scope : Scope) (word : List ℕ) (p : Place) (ks : List Symbol) (y : Operand) (r : Tails) (o : Outer) →
+    placed (Var scope word No) p ≡ Held y r o → HasNoOpen ks → run m ks (Named scope word p) ≡ run m ks (placed (Var scope word No) p)
 named_as m scope word p [] y r o e h = rw e refl
 named_as m scope word p (Mark Open ∷ ks) y r o e h = absurd h
 named_as m scope word p (k ∷ ks) y r o e h = rw e refl
@@ -39,7 +40,8 @@ named_alone m scope word [] h = refl
 named_alone m scope word (Mark Open ∷ ks) h = absurd h
 named_alone m scope word (k ∷ ks) h = refl
 
-named_about : (m : Limits) (scope : Scope) (word : List ℕ) (f : NameFunction) (c : Within) (ks : List Symbol) → HasNoOpen ks → run m ks (Named scope word (AsNamed f c)) ≡ run m ks (Behind f (Var scope word No) c)
+named_about : (m : Limits) (scope : Scope) (word : List ℕ) (f : NameFunction) (c : Within) (ks : List Symbol) → HasNoOpen ks →
+    run m ks (Named scope word (AsNamed f c)) ≡ run m ks (Behind f (Var scope word No) c)
 named_about m scope word f c [] h = refl
 named_about m scope word f c (Mark Open ∷ ks) h = absurd h
 named_about m scope word f c (k ∷ ks) h = refl
@@ -103,7 +105,8 @@ less_false m n h = grind arith
 
 held_comma : (m : Limits) (ks : List Symbol) (w : Owner) (before : Exprs) (last : Expr) → nat_lt (count before + 1) (most_of m w) ≡ true →
     run m (Mark Comma ∷ ks) (held last (InList w before)) ≡ run m ks (Wanted (Front (InList w (and_more before last))))
-held_comma m ks w before (Chain x r) e = ap (λ (v : Bool). turn m ks (Held x r (InList w before)) (Mark Comma) (cond v (Go (Wanted (Front (InList w (and_more before (Chain x r)))))) (cond (is_limited w) Long Stuck))) e
+held_comma m ks w before (Chain x r) e = ap (λ (v : Bool). turn m ks (Held x r (InList w before)) (Mark Comma)
+    (cond v (Go (Wanted (Front (InList w (and_more before (Chain x r)))))) (cond (is_limited w) Long Stuck))) e
 
 over_as : (m : Limits) (ks : List Symbol) (w : Owner) (before : Exprs) (x : Operand) (r : Tails) (b : Bool) →
     turn m ks (Held x r (InList w before)) (Mark Comma) (cond b Long Stuck) ≡ refused_in b (Mark Comma ∷ ks)
@@ -233,10 +236,12 @@ before_pair (Pair c e ps) a b x = ap (λ (y : Choices). Before c e y) (before_pa
 pub colon_goes : (m : Limits) (ks : List Symbol) (ps : Pairs) (e : Expr) (c : Within) → run m (Mark Colon ∷ ks) (held e (InCondition ps c)) ≡ run m ks (Wanted (Front (InChoice ps e c)))
 colon_goes m ks ps (Chain x r) c = refl
 
-pub choice_goes : (m : Limits) (ks : List Symbol) (ps : Pairs) (a e : Expr) (c : Within) → run m (Mark Comma ∷ ks) (held e (InChoice ps a c)) ≡ run m ks (Wanted (Front (InCondition (and_pair ps a e) c)))
+pub choice_goes : (m : Limits) (ks : List Symbol) (ps : Pairs) (a e : Expr) (c : Within) →
+    run m (Mark Comma ∷ ks) (held e (InChoice ps a c)) ≡ run m ks (Wanted (Front (InCondition (and_pair ps a e) c)))
 choice_goes m ks ps a (Chain x r) c = refl
 
-pub choice_closes : (m : Limits) (ks : List Symbol) (ps : Pairs) (a e : Expr) (c : Within) → run m (Mark Close ∷ ks) (held e (InChoice ps a c)) ≡ run m ks (filled (Select (before_choices ps (Last a e))) c)
+pub choice_closes : (m : Limits) (ks : List Symbol) (ps : Pairs) (a e : Expr) (c : Within) →
+    run m (Mark Close ∷ ks) (held e (InChoice ps a c)) ≡ run m ks (filled (Select (before_choices ps (Last a e))) c)
 choice_closes m ks ps a (Chain x r) c = refl
 
 pub condition_refuses : (m : Limits) (ks : List Symbol) (ps : Pairs) (e : Expr) (c : Within) → HasNoBinary ks → HasNoColon ks → run m ks (held e (InCondition ps c)) ≡ refused_in false ks
@@ -278,7 +283,8 @@ choice_refuses m (Mark NegatedQuestion ∷ ks) ps a (Chain x r) c b d f = refl
 choice_refuses m (Mark s ∷ ks) ps a (Chain x r) c b d f = absurd (some_none _ b)
 
 -- a condition and its value
-pub value_read : (m : Limits) (ks k1 k2 k3 : List Symbol) (ps : Pairs) (a e : Expr) (c : Within) → run m ks (Wanted (Front (InCondition ps c))) ≡ run m k1 (held a (InCondition ps c)) → k1 ≡ Mark Colon ∷ k2 →
+pub value_read : (m : Limits) (ks k1 k2 k3 : List Symbol) (ps : Pairs) (a e : Expr) (c : Within) →
+    run m ks (Wanted (Front (InCondition ps c))) ≡ run m k1 (held a (InCondition ps c)) → k1 ≡ Mark Colon ∷ k2 →
     run m k2 (Wanted (Front (InChoice ps a c))) ≡ run m k3 (held e (InChoice ps a c)) → run m ks (Wanted (Front (InCondition ps c))) ≡ run m k3 (held e (InChoice ps a c))
 value_read m ks k1 k2 k3 ps a e c h i j = h ∙ ap (λ (zs : List Symbol). run m zs (held a (InCondition ps c))) i ∙ colon_goes m k2 ps a c ∙ j
 
@@ -303,10 +309,12 @@ call_refuses m (k ∷ ks) f c h = refl
 abbrev another : NameFunction → Variable → Within → Bool → Bool → Next
 another f v c b d = cond b (cond d (Go (Wanted (Front (InOther f v c)))) Stuck) Stuck
 
-pub about_closes : (m : Limits) (ks : List Symbol) (f : NameFunction) (v : Variable) (c : Within) → least_subscripts f ≤ subscript_count v → run m (Mark Close ∷ ks) (Behind f v c) ≡ run m ks (filled (About f v No) c)
+pub about_closes : (m : Limits) (ks : List Symbol) (f : NameFunction) (v : Variable) (c : Within) → least_subscripts f ≤ subscript_count v →
+    run m (Mark Close ∷ ks) (Behind f v c) ≡ run m ks (filled (About f v No) c)
 about_closes m ks f v c h = ap (λ (b : Bool). turn m ks (Behind f v c) (Mark Close) (cond b (Go (filled (About f v No) c)) Stuck)) (most_true (least_subscripts f) (subscript_count v) h)
 
-pub about_goes : (m : Limits) (ks : List Symbol) (f : NameFunction) (v : Variable) (c : Within) → least_subscripts f ≤ subscript_count v → 0 < most_others f → run m (Mark Comma ∷ ks) (Behind f v c) ≡ run m ks (Wanted (Front (InOther f v c)))
+pub about_goes : (m : Limits) (ks : List Symbol) (f : NameFunction) (v : Variable) (c : Within) → least_subscripts f ≤ subscript_count v → 0 < most_others f →
+    run m (Mark Comma ∷ ks) (Behind f v c) ≡ run m ks (Wanted (Front (InOther f v c)))
 about_goes m ks f v c h i =
     ap (λ (b : Bool). turn m ks (Behind f v c) (Mark Comma) (another f v c b (nat_lt 0 (most_others f)))) (most_true (least_subscripts f) (subscript_count v) h)
     ∙ ap (λ (d : Bool). turn m ks (Behind f v c) (Mark Comma) (another f v c true d)) (less_true 0 (most_others f) i)
@@ -356,7 +364,8 @@ about_full m (Mark Comma ∷ ks) f v c h i =
     full_by false = refl
 about_full m (Mark s ∷ ks) f v c h i = refl
 
-pub other_closes : (m : Limits) (ks : List Symbol) (f : NameFunction) (v : Variable) (e : Expr) (c : Within) → run m (Mark Close ∷ ks) (held e (InOther f v c)) ≡ run m ks (filled (About f v (More e No)) c)
+pub other_closes : (m : Limits) (ks : List Symbol) (f : NameFunction) (v : Variable) (e : Expr) (c : Within) →
+    run m (Mark Close ∷ ks) (held e (InOther f v c)) ≡ run m ks (filled (About f v (More e No)) c)
 other_closes m ks f v (Chain x r) c = refl
 
 pub other_refuses : (m : Limits) (ks : List Symbol) (f : NameFunction) (v : Variable) (e : Expr) (c : Within) → HasNoBinary ks → HasNoClose ks → run m ks (held e (InOther f v c)) ≡ refused_in false ks
@@ -381,7 +390,8 @@ other_refuses m (Mark s ∷ ks) f v (Chain x r) c b d = absurd (some_none _ b)
 -- ---- refusals by tokens
 
 -- within its limit a word refuses as any other symbol, past it it is too long
-pub word_refuses : (b : Bool) (k : Symbol) (ks : List Symbol) (full : Bool) (left : ℕ) → length ks + 1 ≡ left → refused_in full (k ∷ ks) ≡ StuckAt (length (k ∷ ks)) → Refuses (cond b (stop.Stuck left) stop.Long) (refused_in full (cond b k Overlong ∷ ks))
+pub word_refuses : (b : Bool) (k : Symbol) (ks : List Symbol) (full : Bool) (left : ℕ) → length ks + 1 ≡ left →
+    refused_in full (k ∷ ks) ≡ StuckAt (length (k ∷ ks)) → Refuses (cond b (stop.Stuck left) stop.Long) (refused_in full (cond b k Overlong ∷ ks))
 word_refuses true k ks full left e h = let n : length (k ∷ ks) ≡ left = omega arith in h ∙ ap StuckAt n
 word_refuses false k ks full left e h = refl
 
@@ -397,18 +407,18 @@ pub quoted_plain : (b : Bool) (v : List ℕ) (ks : List Symbol) (full : Bool) �
 quoted_plain true v ks full = refl
 quoted_plain false v ks full = refl
 
-pub refuses_from : (x : Stop) (o q : Outcome) → o ≡ q → Refuses x q → Refuses x o
+pub refuses_from : (x : ParseError) (o q : Outcome) → o ≡ q → Refuses x q → Refuses x o
 refuses_from x o q e h = let P : Outcome → Type 0 = λ v. Refuses x v in subst P (sym e) h
 
 -- a refusal that is passed on
-pub reads_err : {X T : Type 0} (tree : X → T) (rest : X → List Lexeme) (r : Result X Stop) (x : Stop) (d : ℕ) (ls : List Lexeme) (s : State) (holding : T → State) →
-    IsErrAnd r (λ e. e ≡ x) → Refuses x (run (limits d) (symbols_seen ls) s) → Reads tree rest r d ls s holding
+pub reads_err : {X T : Type 0} (tree : X → T) (rest : X → List Lexeme) (r : Result X ParseError) (x : ParseError) (d : ℕ) (ls : List Lexeme) (s : State) (holding : T → State) →
+    IsErrAnd r (λ e. e ≡ x) → Refuses x (run (limits d) (symbols_seen ls) s) → ReadsSymbols tree rest r d ls s holding
 reads_err tree rest (Ok y) x d ls s holding e h = absurd e
-reads_err tree rest (Err y) x d ls s holding e h = let P : Stop → Type 0 = λ v. Refuses v (run (limits d) (symbols_seen ls) s) in subst P (sym e) h
+reads_err tree rest (Err y) x d ls s holding e h = let P : ParseError → Type 0 = λ v. Refuses v (run (limits d) (symbols_seen ls) s) in subst P (sym e) h
 
 -- what is read on from one state to another
-pub reads_from : {X T : Type 0} (tree : X → T) (rest : X → List Lexeme) (r : Result X Stop) (d : ℕ) (ls ms : List Lexeme) (s u : State) (holding : T → State) →
-    run (limits d) (symbols_seen ls) s ≡ run (limits d) (symbols_seen ms) u → Reads tree rest r d ms u holding → Reads tree rest r d ls s holding
+pub reads_from : {X T : Type 0} (tree : X → T) (rest : X → List Lexeme) (r : Result X ParseError) (d : ℕ) (ls ms : List Lexeme) (s u : State) (holding : T → State) →
+    run (limits d) (symbols_seen ls) s ≡ run (limits d) (symbols_seen ms) u → ReadsSymbols tree rest r d ms u holding → ReadsSymbols tree rest r d ls s holding
 reads_from tree rest (Ok x) d ls ms s u holding e h = e ∙ h
 reads_from tree rest (Err x) d ls ms s u holding e h = refuses_from x _ _ e h
 
@@ -422,7 +432,8 @@ binary_goes m ks rest op x r o h =
 -- a list of subscripts opens
 pub open_goes : (m : Limits) (ks : List Symbol) (scope : Scope) (word : List ℕ) (p : Place) → place_depth p < m.depth →
     run m (Mark Open ∷ ks) (Named scope word p) ≡ run m ks (Wanted (Front (InList (Subscripts scope word p) No)))
-open_goes m ks scope word p h = ap (λ (b : Bool). turn m ks (Named scope word p) (Mark Open) (cond b (Go (Wanted (Front (InList (Subscripts scope word p) No)))) Deep)) (less_true (place_depth p) m.depth h)
+open_goes m ks scope word p h = ap (λ (b : Bool). turn m ks (Named scope word p) (Mark Open)
+    (cond b (Go (Wanted (Front (InList (Subscripts scope word p) No)))) Deep)) (less_true (place_depth p) m.depth h)
 
 -- a list with one more is full
 pub full_is : (n k most : ℕ) (limited : Bool) → n ≡ k → (limited && not (nat_lt (n + 1) most)) ≡ (limited && nat_le most (k + 1))

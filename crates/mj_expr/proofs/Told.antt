@@ -11,7 +11,8 @@ use Rattle.mj_ast.specs.Syntax.{Expr, Chain, Operand, Literal, Value, Call, Abou
 use Rattle.mj_ast.specs.Tokens.{Token, Word, Digits, Signed}
 use Rattle.mj_ast.specs.Expressions.{Symbol, Constant, Inherent, Name, Applied, Overlong, Mark, Other, symbol, Phrases, expressions, variables, expr_symbols, variable_symbols, operand_symbols, scoped, list_symbols, more_symbols, count, least, least_subscripts, expr_nesting, variable_nesting, expr_width, variable_width, expr_misfits, variable_misfits}
 use Rattle.mj_expr.specs.Machine.{Outer, Alone, InGroup, InList, InOther, InCondition, InChoice, Owner, Subscripts, Arguments, Within, Front, Right, Under, Place, AsOperand, AsNamed, AsTarget, State, Wanted, Sought, Marked, Named, Calling, Behind, Held, Got, Limits, least_of, Phrase, Whole, Target, Accept, refused, ends, finish}
-use Rattle.mj_expr.proofs.Zipper.{Kind, AnExpression, AVariable, IsKind, Fits, HasRead, good_depth, plug, outer_plug, place_plug, plug_symbols, outer_plug_symbols, place_plug_symbols, plug_fits, outer_plug_fits, place_plug_fits, before, outer_before, place_before, after, outer_after, owner_after, place_after, phrase_symbols, phrase_nesting, phrase_width, phrase_misfits, start, ForExpression, ForVariable, zero_expr, pad, pad_count, pad_nesting, pad_list, pad_width, pad_misfits, list_nesting-some, scoped-append, least_most, least_at, place_good_room, place_good_width}
+use Rattle.mj_expr.proofs.Zipper.{Kind, AnExpression, AVariable, IsKind, plug, outer_plug, place_plug, plug_symbols, outer_plug_symbols, place_plug_symbols, before, outer_before, place_before, after, outer_after, owner_after, place_after, phrase_symbols, phrase_nesting, phrase_width, phrase_misfits, start, ForExpression, ForVariable, zero_expr, pad, pad_count, pad_nesting, pad_list, pad_width, pad_misfits, list_nesting-some, scoped-append, least_most, least_at}
+use Rattle.mj_expr.proofs.Room.{Fits, HasRead, good_depth, plug_fits, outer_plug_fits, place_plug_fits, place_good_room, place_good_width}
 use Rattle.mj_expr.proofs.Facts.{filled_outer}
 use Rattle.mj_expr.proofs.States.{variable_read}
 
@@ -91,7 +92,8 @@ pub record GoesOn (K : Kind) (m : Limits) (ks : List Symbol) : Type 0 where
   pub spelled : ks ++ map symbol more ≡ phrase_symbols phrase
   pub fits : Fits K m phrase
 
-goes_on : (K : Kind) (m : Limits) (p : Phrase) (xs ys zs ks : List Symbol) (tokens closing : List Token) → Fits K m p → phrase_symbols p ≡ xs ++ (ys ++ zs) → map symbol closing ≡ zs → xs ++ ys ≡ ks ++ map symbol tokens → GoesOn K m ks
+goes_on : (K : Kind) (m : Limits) (p : Phrase) (xs ys zs ks : List Symbol) (tokens closing : List Token) → Fits K m p → phrase_symbols p ≡ xs ++ (ys ++ zs) →
+    map symbol closing ≡ zs → xs ++ ys ≡ ks ++ map symbol tokens → GoesOn K m ks
 goes_on K m p xs ys zs ks tokens closing f e g h = record {
   more = tokens ++ closing;
   phrase = p;
@@ -112,7 +114,8 @@ read_goes K m (Sought p) ks h =
     let v : Variable = Var Local (65 ∷ []) (pad n) in
     let k = list_pads n in
     goes_on K m (place_plug p v) (place_before p) (variable_symbols v) (place_after p) ks (Word (65 ∷ []) ∷ k.0) (place_closers p).0
-    (place_plug_fits p K m v h.good (omega (arith, place_good_room K m p h.good, pad_list n)) (omega (arith, place_good_width K m p h.good, pad_count n, pad_width n)) (pad_misfits n) (omega (arith, pad_count n)))
+    (place_plug_fits p K m v h.good (omega (arith, place_good_room K m p h.good, pad_list n))
+    (omega (arith, place_good_width K m p h.good, pad_count n, pad_width n)) (pad_misfits n) (omega (arith, pad_count n)))
     (place_plug_symbols p v) (place_closers p).1
     (ap (λ (u : List Symbol). u ++ Name (65 ∷ []) ∷ list_symbols (pad n)) h.read ∙ ap (λ (u : List Symbol). ks ++ Name (65 ∷ []) ∷ u) (sym k.1))
 read_goes K m (Marked p) ks h =
@@ -120,24 +123,31 @@ read_goes K m (Marked p) ks h =
     let v : Variable = Var Global (65 ∷ []) (pad n) in
     let k = list_pads n in
     goes_on K m (place_plug p v) (place_before p) (variable_symbols v) (place_after p) ks (Word (65 ∷ []) ∷ k.0) (place_closers p).0
-    (place_plug_fits p K m v h.good (omega (arith, place_good_room K m p h.good, pad_list n)) (omega (arith, place_good_width K m p h.good, pad_count n, pad_width n)) (pad_misfits n) (omega (arith, pad_count n)))
+    (place_plug_fits p K m v h.good (omega (arith, place_good_room K m p h.good, pad_list n))
+    (omega (arith, place_good_width K m p h.good, pad_count n, pad_width n)) (pad_misfits n) (omega (arith, pad_count n)))
     (place_plug_symbols p v) (place_closers p).1
-    (sym (append_assoc (place_before p) (Mark Caret ∷ []) (Name (65 ∷ []) ∷ list_symbols (pad n))) ∙ ap (λ (u : List Symbol). u ++ Name (65 ∷ []) ∷ list_symbols (pad n)) h.read ∙ ap (λ (u : List Symbol). ks ++ Name (65 ∷ []) ∷ u) (sym k.1))
+    (sym (append_assoc (place_before p) (Mark Caret ∷ []) (Name (65 ∷ []) ∷ list_symbols (pad n))) ∙
+    ap (λ (u : List Symbol). u ++ Name (65 ∷ []) ∷ list_symbols (pad n)) h.read ∙ ap (λ (u : List Symbol). ks ++ Name (65 ∷ []) ∷ u) (sym k.1))
 read_goes K m (Named scope word p) ks h =
     let n = least_at p in
     let v : Variable = Var scope word (pad n) in
     let k = list_pads n in
     goes_on K m (place_plug p v) (place_before p) (variable_symbols v) (place_after p) ks k.0 (place_closers p).0
-    (place_plug_fits p K m v h.good (omega (arith, place_good_room K m p h.good, pad_list n)) (omega (arith, place_good_width K m p h.good, pad_count n, pad_width n)) (pad_misfits n) (omega (arith, pad_count n)))
+    (place_plug_fits p K m v h.good (omega (arith, place_good_room K m p h.good, pad_list n))
+    (omega (arith, place_good_width K m p h.good, pad_count n, pad_width n)) (pad_misfits n) (omega (arith, pad_count n)))
     (place_plug_symbols p v) (place_closers p).1
-    (ap (λ (u : List Symbol). place_before p ++ u) (sym (scoped-append scope (Name word ∷ []) (list_symbols (pad n)))) ∙ sym (append_assoc (place_before p) (scoped scope (Name word ∷ [])) (list_symbols (pad n))) ∙ ap (λ (u : List Symbol). u ++ list_symbols (pad n)) h.read ∙ ap (λ (u : List Symbol). ks ++ u) (sym k.1))
+    (ap (λ (u : List Symbol). place_before p ++ u) (sym (scoped-append scope (Name word ∷ []) (list_symbols (pad n)))) ∙
+    sym (append_assoc (place_before p) (scoped scope (Name word ∷ [])) (list_symbols (pad n))) ∙
+    ap (λ (u : List Symbol). u ++ list_symbols (pad n)) h.read ∙ ap (λ (u : List Symbol). ks ++ u) (sym k.1))
 read_goes K m (Calling (callee.Names f) c) ks h =
     let n = least_subscripts f in
     let v : Variable = Var Local (65 ∷ []) (pad n) in
     let t : Operand = About f v No in
     let k = list_pads n in
     let more : List Symbol = Mark Open ∷ ((Name (65 ∷ []) ∷ list_symbols (pad n)) ++ Mark Close ∷ []) in
-    let spelled : map symbol (Signed Open ∷ Word (65 ∷ []) ∷ (k.0 ++ Signed Close ∷ [])) ≡ more = ap (λ (u : List Symbol). Mark Open ∷ Name (65 ∷ []) ∷ u) (map-append symbol k.0 (Signed Close ∷ []) ∙ ap (λ (u : List Symbol). u ++ Mark Close ∷ []) k.1) in
+    let spelled : map symbol (Signed Open ∷ Word (65 ∷ []) ∷ (k.0 ++ Signed Close ∷ [])) ≡ more =
+    ap (λ (u : List Symbol). Mark Open ∷ Name (65 ∷ []) ∷ u) (map-append symbol k.0 (Signed Close ∷ []) ∙
+    ap (λ (u : List Symbol). u ++ Mark Close ∷ []) k.1) in
     goes_on K m (plug c t) (before c) (operand_symbols t) (after c) ks (Signed Open ∷ Word (65 ∷ []) ∷ (k.0 ++ Signed Close ∷ [])) (closers c).0
     (plug_fits c K m t h.good.0 (omega (arith, h.good.1, pad_list n)) (omega (arith, h.good.2, pad_count n, pad_width n)) (omega (arith, pad_count n, pad_misfits n))) (plug_symbols c t) (closers c).1
     (sym (append_assoc (before c) (Applied (callee.Names f) ∷ []) more) ∙ ap (λ (u : List Symbol). u ++ more) h.read ∙ ap (λ (u : List Symbol). ks ++ u) (sym spelled))
@@ -157,13 +167,20 @@ read_goes K m (Calling (callee.Texts f) c) ks h =
     let t : Operand = Call f (pad n) in
     let k = list_pads n in
     goes_on K m (plug c t) (before c) (operand_symbols t) (after c) ks k.0 (closers c).0
-    (plug_fits c K m t h.good.0 (omega (arith, list_nesting-some (pad n), pad_nesting n, h.good.1)) (omega (arith, pad_width n)) (omega (arith, pad_misfits n, pad_count n, least_most f))) (plug_symbols c t) (closers c).1
+    (plug_fits c K m t h.good.0 (omega (arith, list_nesting-some (pad n), pad_nesting n, h.good.1)) (omega (arith, pad_width n))
+    (omega (arith, pad_misfits n, pad_count n, least_most f))) (plug_symbols c t) (closers c).1
     (sym (append_assoc (before c) (Applied (callee.Texts f) ∷ []) (list_symbols (pad n))) ∙ ap (λ (v : List Symbol). v ++ list_symbols (pad n)) h.read ∙ ap (λ (v : List Symbol). ks ++ v) (sym k.1))
 read_goes K m (Held x r o) ks h =
     goes_on K m (outer_plug o (Chain x r)) (outer_before o) (expr_symbols (Chain x r)) (outer_after o) ks [] (outer_closers o).0
     (outer_plug_fits o K m (Chain x r) h.good.0 h.good.1 h.good.2 h.good.3) (outer_plug_symbols o (Chain x r)) (outer_closers o).1
     (h.read ∙ sym (append-nil ks))
-read_goes K m (Got v) ks h = record { more = []; phrase = Target v; spelled = append-nil ks ∙ sym h.read; fits = place_plug_fits AsTarget K m v h.good.0 (omega (arith, h.good.1)) h.good.2 h.good.3 (omega arith) }
+read_goes K m (Got v) ks h = record {
+  more = [];
+  phrase = Target v;
+  spelled = append-nil ks ∙ sym h.read;
+  fits =
+      place_plug_fits AsTarget K m v h.good.0 (omega (arith, h.good.1)) h.good.2 h.good.3 (omega arith);
+}
 
 pub start_read : (K : Kind) (m : Limits) → HasRead K m (start K) []
 start_read AnExpression m = record { good = tt; read = refl }
@@ -194,19 +211,24 @@ accept_rest p q r t e = cc
 pub accept_phrase : (p q : Phrase) (r t : List Symbol) → Accept p r ≡ Accept q t → p ≡ q
 accept_phrase p q r t e = cc
 
-whole_accepts : (K : Kind) (m : Limits) (e : Expr) (s : State) (ks : List Symbol) (p : Phrase) (r front : List Symbol) → ((ls : List Symbol) → finish s ls ≡ Accept (Whole e) ls) → ForExpression K → expr_nesting e + 0 ≤ m.depth → expr_width e ≤ m.width → expr_misfits e ≡ 0 → expr_symbols e ≡ front → finish s ks ≡ Accept p r → Accepts K m s ks p r front
+whole_accepts : (K : Kind) (m : Limits) (e : Expr) (s : State) (ks : List Symbol) (p : Phrase) (r front : List Symbol) →
+    ((ls : List Symbol) → finish s ls ≡ Accept (Whole e) ls) → ForExpression K → expr_nesting e + 0 ≤ m.depth → expr_width e ≤ m.width → expr_misfits e ≡ 0 →
+    expr_symbols e ≡ front → finish s ks ≡ Accept p r → Accepts K m s ks p r front
 whole_accepts K m e s ks p r front again k n w f read h =
     let same : Whole e ≡ p = accept_phrase (Whole e) p ks r (sym (again ks) ∙ h) in
     let P : Phrase → Type 0 = λ q. Accepts K m s ks q r front in
     subst P same (record { rest = accept_rest (Whole e) p ks r (sym (again ks) ∙ h); again = again; fits = outer_plug_fits Alone K m e k n w f; spelled = read })
 
-target_accepts : (K : Kind) (m : Limits) (v : Variable) (s : State) (ks : List Symbol) (p : Phrase) (r front : List Symbol) → ((ls : List Symbol) → finish s ls ≡ Accept (Target v) ls) → ForVariable K → variable_nesting v ≤ m.depth → variable_width v ≤ m.width → variable_misfits v ≡ 0 → variable_symbols v ≡ front → finish s ks ≡ Accept p r → Accepts K m s ks p r front
+target_accepts : (K : Kind) (m : Limits) (v : Variable) (s : State) (ks : List Symbol) (p : Phrase) (r front : List Symbol) →
+    ((ls : List Symbol) → finish s ls ≡ Accept (Target v) ls) → ForVariable K → variable_nesting v ≤ m.depth → variable_width v ≤ m.width →
+    variable_misfits v ≡ 0 → variable_symbols v ≡ front → finish s ks ≡ Accept p r → Accepts K m s ks p r front
 target_accepts K m v s ks p r front again k n w f read h =
     let same : Target v ≡ p = accept_phrase (Target v) p ks r (sym (again ks) ∙ h) in
     let P : Phrase → Type 0 = λ q. Accepts K m s ks q r front in
     subst P same (record { rest = accept_rest (Target v) p ks r (sym (again ks) ∙ h); again = again; fits = place_plug_fits AsTarget K m v k (omega arith) w f (omega arith); spelled = read })
 
-held_accepts : (K : Kind) (m : Limits) (x : Operand) (t : Tails) (o : Outer) (s : State) (ks : List Symbol) (p : Phrase) (r front : List Symbol) → ((ls : List Symbol) → finish s ls ≡ ends (Held x t o) ls) → HasRead K m (Held x t o) front → finish s ks ≡ Accept p r → Accepts K m s ks p r front
+held_accepts : (K : Kind) (m : Limits) (x : Operand) (t : Tails) (o : Outer) (s : State) (ks : List Symbol) (p : Phrase) (r front : List Symbol) →
+    ((ls : List Symbol) → finish s ls ≡ ends (Held x t o) ls) → HasRead K m (Held x t o) front → finish s ks ≡ Accept p r → Accepts K m s ks p r front
 held_accepts K m x t Alone s ks p r front again h e = whole_accepts K m (Chain x t) s ks p r front again h.good.0 h.good.1 h.good.2 h.good.3 h.read e
 held_accepts K m x t (InGroup c) s ks p r front again h e = absurd (refused_accept ks p r (sym (again ks) ∙ e))
 held_accepts K m x t (InList u es) s ks p r front again h e = absurd (refused_accept ks p r (sym (again ks) ∙ e))
@@ -214,11 +236,13 @@ held_accepts K m x t (InOther f v c) s ks p r front again h e = absurd (refused_
 held_accepts K m x t (InCondition ps c) s ks p r front again h e = absurd (refused_accept ks p r (sym (again ks) ∙ e))
 held_accepts K m x t (InChoice ps a c) s ks p r front again h e = absurd (refused_accept ks p r (sym (again ks) ∙ e))
 
-named_accepts : (K : Kind) (m : Limits) (scope : Scope) (word : List ℕ) (q : Place) (ks : List Symbol) (p : Phrase) (r front : List Symbol) → HasRead K m (Named scope word q) front → finish (Named scope word q) ks ≡ Accept p r → Accepts K m (Named scope word q) ks p r front
+named_accepts : (K : Kind) (m : Limits) (scope : Scope) (word : List ℕ) (q : Place) (ks : List Symbol) (p : Phrase) (r front : List Symbol) →
+    HasRead K m (Named scope word q) front → finish (Named scope word q) ks ≡ Accept p r → Accepts K m (Named scope word q) ks p r front
 named_accepts K m scope word (AsOperand c) ks p r front h e =
     let f = filled_outer (Value (Var scope word No)) c in
     let P : State → Type 0 = λ s. HasRead K m s front in
-    held_accepts K m f.0 f.1 _ (Named scope word (AsOperand c)) ks p r front (λ ls. ap (λ (s : State). ends s ls) f.2) (subst P f.2 (variable_read K m scope word (AsOperand c) front (omega arith) h)) e
+    held_accepts K m f.0 f.1 _ (Named scope word (AsOperand c)) ks p r front (λ ls. ap (λ (s : State). ends s ls) f.2)
+    (subst P f.2 (variable_read K m scope word (AsOperand c) front (omega arith) h)) e
 named_accepts K m scope word (AsNamed f c) ks p r front h e = absurd (refused_accept ks p r e)
 named_accepts K m scope word AsTarget ks p r front h e =
     let g = variable_read K m scope word AsTarget front (omega arith) h in

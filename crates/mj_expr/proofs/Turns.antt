@@ -11,7 +11,7 @@ use Rattle.mj_ast.specs.declared.function.NameFunction.{NameFunction}
 use Rattle.mj_ast.specs.declared.function.Callee.{Callee}
 use Rattle.mj_ast.specs.declared.function.Callee.TheVariants as callee
 use Rattle.mj_ast.specs.Expressions.{Symbol, Constant, Inherent, Name, Applied, Overlong, Mark, Other, count, most_others, levels}
-use Rattle.mj_expr.specs.Machine.{Outer, Alone, InGroup, InList, InOther, InCondition, InChoice, Owner, Subscripts, Arguments, before_choices, least_of, most_of, is_limited, Within, Place, AsOperand, AsNamed, AsTarget, State, Wanted, Sought, Marked, Named, Calling, Behind, Held, Got, filled, placed, closed, outer_of, Limits, Next, Go, Stuck, Deep, Long, opens, opens_call, depth_of, suffices, behind, inside, is_full, is_full_in, stray_comma, want_other, want_sign, hold_other, hold_sign, hold, on, step, unary_of, binary_of, Phrase, Whole, Target, Accept, DeepAt, TooLong, refused, ends, finish, run, turn, and_more}
+use Rattle.mj_expr.specs.Machine.{Outer, Alone, InGroup, InList, InOther, InCondition, InChoice, Owner, Subscripts, Arguments, before_choices, least_of, most_of, is_limited, Within, Place, AsOperand, AsNamed, AsTarget, State, Wanted, Sought, Marked, Named, Calling, Behind, Held, Got, filled, placed, closed, outer_of, Limits, Next, Go, Stuck, Deep, Long, opens, opens_call, depth_of, suffices, after_variable, inside, is_full, is_full_in, stray_comma, want_other, want_sign, hold_other, hold_sign, hold, on, step, unary_of, binary_of, Phrase, Whole, Target, Accept, DeepAt, TooLong, refused, ends, finish, run, turn, and_more}
 use Rattle.mj_expr.proofs.Facts.{filled_outer}
 use Rattle.mj_expr.proofs.Told.{accept_rest, accept_phrase}
 
@@ -63,7 +63,8 @@ finish_again (Behind f v c) ks p r e = again_as (Behind f v c) ks p r (ends_agai
 finish_again (Held x t o) ks p r e = again_as (Held x t o) ks p r (ends_again (Held x t o) ks p r e) (λ ls. refl)
 finish_again (Got v) ks p r e = again_as (Got v) ks p r (ends_again (Got v) ks p r e) (λ ls. refl)
 
-length_as : (m : Limits) (k : Symbol) (ks : List Symbol) (s : State) (p : Phrase) (r : List Symbol) (x : Next) → ((t : State) → run m ks t ≡ Accept p r → length r ≤ length ks) → turn m ks s k x ≡ Accept p r → length r ≤ length (k ∷ ks)
+length_as : (m : Limits) (k : Symbol) (ks : List Symbol) (s : State) (p : Phrase) (r : List Symbol) (x : Next) →
+    ((t : State) → run m ks t ≡ Accept p r → length r ≤ length ks) → turn m ks s k x ≡ Accept p r → length r ≤ length (k ∷ ks)
 length_as m k ks s p r (Go t) h f = let g = h t f in omega arith
 length_as m k ks s p r Stuck h f = let g = ap (length {A = Symbol}) (finish_again s (k ∷ ks) p r f).rest in omega arith
 length_as m k ks s p r Deep h f = absurd (let g : DeepAt (length (k ∷ ks)) ≡ Accept p r = f in cc)
@@ -161,7 +162,7 @@ another_reached : (s : State) (b d : Bool) → IsReached s → NextReached (cond
 another_reached s true d h = close_reached s d h
 another_reached s false d h = tt
 
-behind_reached : (f : NameFunction) (v : Variable) (c : Within) (k : Symbol) → NextReached (behind f v c k)
+behind_reached : (f : NameFunction) (v : Variable) (c : Within) (k : Symbol) → NextReached (after_variable f v c k)
 behind_reached f v c (Mark Close) = close_reached _ (suffices f v) (filled_reached (About f v No) c)
 behind_reached f v c (Mark Comma) = another_reached _ (suffices f v) (nat_lt 0 (most_others f)) tt
 behind_reached f v c k = tt
@@ -218,7 +219,8 @@ IsEasy Stuck = Unit {0}
 IsEasy Deep = ⊥
 IsEasy Long = ⊥
 
-on_stuck : (m : Limits) (v : Variable) (p : Place) (k : Symbol) → ((x : Operand) (r : Tails) (o : Outer) → hold m x r o k ≡ Stuck) → ((f : NameFunction) (c : Within) → behind f v c k ≡ Stuck) → on m (placed v p) k ≡ Stuck
+on_stuck : (m : Limits) (v : Variable) (p : Place) (k : Symbol) → ((x : Operand) (r : Tails) (o : Outer) → hold m x r o k ≡ Stuck) →
+    ((f : NameFunction) (c : Within) → after_variable f v c k ≡ Stuck) → on m (placed v p) k ≡ Stuck
 on_stuck m v (AsNamed f c) k h i = i f c
 on_stuck m v (AsOperand c) k h i = let f = filled_outer (Value v) c in ap (λ (s : State). on m s k) f.2 ∙ h f.0 f.1 (outer_of c)
 on_stuck m v AsTarget k h i = refl
@@ -295,7 +297,7 @@ level_another : (s : State) (b d : Bool) → IsNoLevel (cond b (cond d (Go s) St
 level_another s true d = level_close s d
 level_another s false d = tt
 
-behind_level : (f : NameFunction) (v : Variable) (c : Within) (k : Symbol) → IsNoLevel (behind f v c k)
+behind_level : (f : NameFunction) (v : Variable) (c : Within) (k : Symbol) → IsNoLevel (after_variable f v c k)
 behind_level f v c (Mark Close) = level_close _ (suffices f v)
 behind_level f v c (Mark Comma) = level_another _ (suffices f v) (nat_lt 0 (most_others f))
 behind_level f v c k = tt
@@ -355,7 +357,7 @@ another_long s true true e = go_long s e
 another_long s true false e = stuck_long e
 another_long s false d e = stuck_long e
 
-behind_long : (f : NameFunction) (v : Variable) (c : Within) → behind f v c (Mark Comma) ≡ Long → ⊥
+behind_long : (f : NameFunction) (v : Variable) (c : Within) → after_variable f v c (Mark Comma) ≡ Long → ⊥
 behind_long f v c e = another_long _ (suffices f v) (nat_lt 0 (most_others f)) e
 
 after_as : (m : Limits) (s : State) (n : Next) → n ≡ Stuck → CommaAfter m s n
@@ -377,8 +379,10 @@ comma_after m (Marked p) (Inherent v) i h = tt
 comma_after m (Marked (AsOperand c)) (Name w) i h = λ e. ap (λ (b : Bool). cond b Long Stuck) (on_full m (Var Global w No) c e)
 comma_after m (Marked (AsNamed f c)) (Name w) i h = λ e. absurd (behind_long f (Var Global w No) c e)
 comma_after m (Marked AsTarget) (Name w) i h = λ e. absurd (stuck_long e)
-comma_after m (Named scope word p) (Constant v) i h = after_as m (Named scope word p) (step m (Named scope word p) (Constant v)) (on_stuck m (Var scope word No) p (Constant v) (λ x r o. refl) (λ f c. refl))
-comma_after m (Named scope word p) (Inherent v) i h = after_as m (Named scope word p) (step m (Named scope word p) (Inherent v)) (on_stuck m (Var scope word No) p (Inherent v) (λ x r o. refl) (λ f c. refl))
+comma_after m (Named scope word p) (Constant v) i h = after_as m (Named scope word p) (step m (Named scope word p) (Constant v))
+    (on_stuck m (Var scope word No) p (Constant v) (λ x r o. refl) (λ f c. refl))
+comma_after m (Named scope word p) (Inherent v) i h = after_as m (Named scope word p) (step m (Named scope word p) (Inherent v))
+    (on_stuck m (Var scope word No) p (Inherent v) (λ x r o. refl) (λ f c. refl))
 comma_after m (Named scope word p) (Name w) i h = after_as m (Named scope word p) (step m (Named scope word p) (Name w)) (on_stuck m (Var scope word No) p (Name w) (λ x r o. refl) (λ f c. refl))
 comma_after m (Held x r o) (Constant v) i h = tt
 comma_after m (Held x r o) (Inherent v) i h = tt

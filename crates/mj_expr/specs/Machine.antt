@@ -291,15 +291,15 @@ abbrev pub suffices : NameFunction → Variable → Bool
 suffices f v = nat_le (least_subscripts f) (subscript_count v)
 
 -- behind the variable of a function
-abbrev pub behind : NameFunction → Variable → Within → Symbol → Next
-behind f v c (Mark Close) = if suffices f v then Go (filled (About f v No) c) else Stuck
-behind f v c (Mark Comma) = if suffices f v then (if nat_lt 0 (most_others f) then Go (Wanted (Front (InOther f v c))) else Stuck) else Stuck
-behind f v c _ = Stuck
+abbrev pub after_variable : NameFunction → Variable → Within → Symbol → Next
+after_variable f v c (Mark Close) = if suffices f v then Go (filled (About f v No) c) else Stuck
+after_variable f v c (Mark Comma) = if suffices f v then (if nat_lt 0 (most_others f) then Go (Wanted (Front (InOther f v c))) else Stuck) else Stuck
+after_variable f v c _ = Stuck
 
 -- at a state behind an expression or a variable
 abbrev pub on : Limits → State → Symbol → Next
 on m (Held x r o) k = hold m x r o k
-on m (Behind f v c) k = behind f v c k
+on m (Behind f v c) k = after_variable f v c k
 on m _ k = Stuck
 
 abbrev pub after_name : Limits → Scope → List ℕ → Place → Symbol → Next
@@ -322,7 +322,7 @@ step m (Sought p) k = seek p k
 step m (Marked p) k = after_caret m p k
 step m (Named scope word p) k = after_name m scope word p k
 step m (Calling callee c) k = after_function m callee c k
-step m (Behind f v c) k = behind f v c k
+step m (Behind f v c) k = after_variable f v c k
 step m (Held x r o) k = hold m x r o k
 step m (Got v) k = Stuck
 
@@ -348,7 +348,7 @@ refused [] = StuckAt 0
 refused (Overlong ∷ ks) = TooLong
 refused (k ∷ ks) = StuckAt (length (k ∷ ks))
 
--- the same where an operand is wanted, in a list that is full or isn't
+-- no phrase goes on here, where an operand is wanted: in a list that is full, or in none
 abbrev pub refused_in : Bool → List Symbol → Outcome
 refused_in full (Mark Comma ∷ ks) = if full then TooLong else StuckAt (length (Mark Comma ∷ ks))
 refused_in full ks = refused ks

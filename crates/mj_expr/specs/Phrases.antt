@@ -3,18 +3,18 @@ use Rattle.std.specs.Prelude.{ℕ, ◌≡◌, ◌+◌, ◌<◌, ◌≤◌, List,
 use Rattle.mj_ast.specs.declared.sign.Sign.TheVariants.{Comma}
 use Rattle.mj_ast.specs.Tokens.{Token, Word, Called, Special, Signed}
 use Rattle.mj_ast.specs.Lines.{Filler}
-use Rattle.mj_ast.specs.Expressions.{Phrases, Spells, IsWithin, Begins, BeginsWithin, symbol, levels_of, name_limit, width_limit}
-use Rattle.mj_expr.specs.declared.stop.Stop.{Stop}
-use Rattle.mj_expr.specs.declared.stop.Stop.TheVariants.{Stuck, Deep, Long, Memory}
+use Rattle.mj_ast.specs.Expressions.{Phrases, Spells, NestsWithin, BeginsPhrase, BeginsWithin, symbol, levels_of, name_limit, width_limit}
+use Rattle.mj_expr.specs.declared.stop.ParseError.{ParseError}
+use Rattle.mj_expr.specs.declared.stop.ParseError.TheVariants.{Stuck, Deep, Long, Memory}
 
 -- The tokens up to the rest spell the tree, within the limits, and no other tree. With the next token they begin no phrase.
 pub record IsRead {T : Type 0} (P : Phrases T) (depth : ℕ) (ks : List Token) (t : T) (rest : List Token) : Type 0 where
   pub front : List Token
   pub cut : ks ≡ front ++ rest
   pub spells : Spells P front t
-  pub within : IsWithin P depth width_limit t
+  pub within : NestsWithin P depth width_limit t
   pub only : (u : T) → Spells P front u → u ≡ t
-  pub ends : (k : Token) (more : List Token) → rest ≡ k ∷ more → Begins P (front ++ k ∷ []) → ⊥
+  pub ends : (k : Token) (more : List Token) → rest ≡ k ∷ more → BeginsPhrase P (front ++ k ∷ []) → ⊥
 
 -- the token is no word over its limit, with a `$` or without
 abbrev pub IsShort : Token → Type 0
@@ -32,7 +32,7 @@ pub record IsStuck {T : Type 0} (P : Phrases T) (depth : ℕ) (ks : List Token) 
   pub place : length rest ≡ left
   pub before : BeginsWithin P depth width_limit front
   pub whole : (t : T) → Spells P front t → ⊥
-  pub at : (k : Token) (more : List Token) → rest ≡ k ∷ more → Begins P (front ++ k ∷ []) → ⊥
+  pub at : (k : Token) (more : List Token) → rest ≡ k ∷ more → BeginsPhrase P (front ++ k ∷ []) → ⊥
   pub short : (k : Token) (more : List Token) → rest ≡ k ∷ more → IsShort k
 
 -- The tokens up to those that are left begin a phrase within the limits. With the next one they begin one that nests deeper
@@ -52,14 +52,14 @@ pub record IsDeep {T : Type 0} (P : Phrases T) (depth : ℕ) (ks : List Token) (
 pub record IsLastComma {T : Type 0} (P : Phrases T) (ks : List Token) : Type 0 where
   pub filler : List Token
   pub fills : Filler filler
-  pub begins : Begins P (ks ++ (filler ++ Signed Comma ∷ []))
+  pub begins : BeginsPhrase P (ks ++ (filler ++ Signed Comma ∷ []))
   pub too_long : (depth : ℕ) → BeginsWithin P depth width_limit (ks ++ (filler ++ Signed Comma ∷ [])) → ⊥
 
 -- a word, with a `$` or without, that no phrase goes on with and that is over its limit, where no phrase ends before it
 pub record IsLongWord {T : Type 0} (P : Phrases T) (front : List Token) (k : Token) (word : List ℕ) : Type 0 where
   pub long : name_limit < length word
   pub whole : (t : T) → Spells P front t → ⊥
-  pub at : Begins P (front ++ k ∷ []) → ⊥
+  pub at : BeginsPhrase P (front ++ k ∷ []) → ⊥
 
 -- a word over its limit, or a comma with which a list has too many
 abbrev pub IsOverlong : {T : Type 0} → Phrases T → List Token → Token → Type 0
@@ -80,8 +80,8 @@ pub record IsLong {T : Type 0} (P : Phrases T) (depth : ℕ) (ks : List Token) :
   pub overlong : IsOverlong P front token
 
 -- what a refusal says; want of memory says nothing of the tokens
-abbrev pub IsRefused : {T : Type 0} → Phrases T → ℕ → List Token → Stop → Type 0
-IsRefused P depth ks (Stuck left) = IsStuck P depth ks left
-IsRefused P depth ks (Deep left) = IsDeep P depth ks left
-IsRefused P depth ks Long = IsLong P depth ks
-IsRefused P depth ks Memory = Unit {0}
+abbrev pub IsPhraseRefused : {T : Type 0} → Phrases T → ℕ → List Token → ParseError → Type 0
+IsPhraseRefused P depth ks (Stuck left) = IsStuck P depth ks left
+IsPhraseRefused P depth ks (Deep left) = IsDeep P depth ks left
+IsPhraseRefused P depth ks Long = IsLong P depth ks
+IsPhraseRefused P depth ks Memory = Unit {0}

@@ -1,14 +1,14 @@
 -- What a function that reads a part of a line returns.
-use Rattle.std.specs.Prelude.{ℕ, ◌≡◌, ◌≤◌, List, ◌∷◌, length, map, Bool, true, false, Result, Ok, Err, Some, None}
+use Rattle.std.specs.Prelude.{ℕ, ◌≡◌, ◌<◌, ◌≤◌, List, ◌∷◌, length, map, Bool, true, false, Result, Ok, Err, Some, None}
 use Rattle.mj_ast.specs.declared.sign.Sign.TheVariants.{Caret, Open, Comma, Colon, Close}
 use Rattle.mj_ast.specs.declared.sign.Sign.{Sign}
 use Rattle.mj_oper.specs.declared.op.Op.{Op}
-use Rattle.mj_ast.specs.Expressions.{Symbol, Constant, Inherent, Name, Applied, Mark, symbol, width_limit, least, most}
+use Rattle.mj_ast.specs.Expressions.{Symbol, Constant, Inherent, Name, Applied, Mark, symbol, name_limit, width_limit, least, most}
 use Rattle.mj_lex.specs.declared.token.Lexeme.{Lexeme}
 use Rattle.mj_lex.specs.Seen.{tokens_seen}
 use Rattle.mj_expr.specs.Machine.{Owner, Subscripts, Arguments, Limits, State, Phrase, Outcome, Accept, StuckAt, DeepAt, TooLong, run, unary_of, binary_of}
-use Rattle.mj_expr.specs.declared.stop.Stop.{Stop}
-use Rattle.mj_expr.specs.declared.stop.Stop.TheVariants.{Stuck, Deep, Long, Memory}
+use Rattle.mj_expr.specs.declared.stop.ParseError.{ParseError}
+use Rattle.mj_expr.specs.declared.stop.ParseError.TheVariants.{Stuck, Deep, Long, Memory}
 use Rattle.mj_expr.specs.declared.token.ListKind.{ListKind}
 use Rattle.mj_expr.specs.declared.token.ListKind.TheVariants as kind
 use Rattle.mj_expr.specs.declared.token.Head.{Head}
@@ -21,21 +21,25 @@ symbols_seen ls = map symbol (tokens_seen ls)
 abbrev pub limits : ℕ → Limits
 limits depth = record { depth = depth; width = width_limit }
 
-abbrev pub Refuses : Stop → Outcome → Type 0
+abbrev pub Refuses : ParseError → Outcome → Type 0
 Refuses Memory o = Unit {0}
 Refuses (Stuck left) o = o ≡ StuckAt left
 Refuses (Deep left) o = o ≡ DeepAt left
 Refuses Long o = o ≡ TooLong
 
 -- The symbols are read on from the state: up to the rest with the state that holds the tree, or up to the refusal.
-abbrev pub Reads : {X T : Type 0} → (X → T) → (X → List Lexeme) → Result X Stop → ℕ → List Lexeme → State → (T → State) → Type 0
-Reads tree rest (Ok x) d ls s holding = run (limits d) (symbols_seen ls) s ≡ run (limits d) (symbols_seen (rest x)) (holding (tree x))
-Reads tree rest (Err e) d ls s holding = Refuses e (run (limits d) (symbols_seen ls) s)
+abbrev pub ReadsSymbols : {X T : Type 0} → (X → T) → (X → List Lexeme) → Result X ParseError → ℕ → List Lexeme → State → (T → State) → Type 0
+ReadsSymbols tree rest (Ok x) d ls s holding = run (limits d) (symbols_seen ls) s ≡ run (limits d) (symbols_seen (rest x)) (holding (tree x))
+ReadsSymbols tree rest (Err e) d ls s holding = Refuses e (run (limits d) (symbols_seen ls) s)
 
 -- what a whole run gives
-abbrev pub Gives : {X : Type 0} → (X → Phrase) → (X → List Lexeme) → Result X Stop → Outcome → Type 0
-Gives phrase rest (Ok x) o = o ≡ Accept (phrase x) (symbols_seen (rest x))
-Gives phrase rest (Err e) o = Refuses e o
+abbrev pub MachineGives : {X : Type 0} → (X → Phrase) → (X → List Lexeme) → Result X ParseError → Outcome → Type 0
+MachineGives phrase rest (Ok x) o = o ≡ Accept (phrase x) (symbols_seen (rest x))
+MachineGives phrase rest (Err e) o = Refuses e o
+
+-- what a run over these tokens gives from the state, where so many levels may be opened
+abbrev pub RunGives : {X : Type 0} → (X → Phrase) → (X → List Lexeme) → Result X ParseError → ℕ → List Lexeme → State → Type 0
+RunGives phrase rest r d ls s = MachineGives phrase rest r (run (limits d) (symbols_seen ls) s)
 
 -- the kind of a list, by what it stands behind
 abbrev pub kind_of : Owner → ListKind
@@ -82,6 +86,18 @@ pub record StartsBinary (op : Op) (ks rest : List Symbol) : Type 0 where
   pub sign : Sign
   pub starts : ks ≡ Mark sign ∷ rest
   pub means : binary_of sign ≡ Some op
+
+-- the symbol stands in front of the tokens, and the rest behind it
+abbrev pub StartsWith : Symbol → List Lexeme → List Lexeme → Type 0
+StartsWith k ls rest = (symbols_seen ls ≡ k ∷ symbols_seen rest) × (length rest < length ls)
+
+-- a binary operator stands there
+abbrev pub StartsWithBinary : Op → List Lexeme → List Lexeme → Type 0
+StartsWithBinary op ls rest = StartsBinary op (symbols_seen ls) (symbols_seen rest) × (length rest < length ls)
+
+-- a name that is no longer than a name may be stands there
+abbrev pub StartsWithName : List ℕ → List Lexeme → List Lexeme → Type 0
+StartsWithName word ls rest = (symbols_seen ls ≡ Name word ∷ symbols_seen rest) × (length rest < length ls) × (length word ≤ name_limit)
 
 -- no binary operator stands in front
 abbrev pub HasNoBinary : List Symbol → Type 0

@@ -1,5 +1,5 @@
 -- What is open around a place, and what may come there, without trees: enough to say where a phrase ends that nests however deep.
-use Rattle.std.specs.Prelude.{◌≡◌, ◌+◌, nat_lt, nat_le, Bool, true, false, not, ◌&&◌, if◌then◌else◌, List, [], ◌∷◌, ◌++◌, Option, Some, None, Result, Ok, Err, reverse}
+use Rattle.std.specs.Prelude.{◌≡◌, ◌+◌, ◌<◌, nat_lt, nat_le, Bool, true, false, not, ◌&&◌, if◌then◌else◌, List, [], ◌∷◌, ◌++◌, Option, Some, None, Result, Ok, Err, reverse, length}
 use Rattle.mj_ast.specs.declared.sign.Sign.{Sign}
 use Rattle.mj_ast.specs.declared.sign.Sign.TheVariants.{Caret, Open, Close, Comma, Colon}
 use Rattle.mj_oper.specs.declared.op.UnaryOp.{UnaryOp}
@@ -7,13 +7,13 @@ use Rattle.mj_oper.specs.declared.op.Op.{Op}
 use Rattle.mj_ast.specs.declared.function.Callee.{Callee}
 use Rattle.mj_ast.specs.declared.function.Callee.TheVariants as callee
 use Rattle.mj_ast.specs.Tokens.{Token}
-use Rattle.mj_ast.specs.Expressions.{Symbol, Constant, Inherent, Name, Applied, Overlong, Mark, Other, count, least_subscripts, most_others}
+use Rattle.mj_ast.specs.Expressions.{Symbol, Constant, Inherent, Name, Applied, Overlong, Mark, Other, count, width_limit, least_subscripts, most_others}
 use Rattle.mj_lex.specs.declared.token.Lexeme.{Lexeme}
 use Rattle.mj_expr.specs.Machine as machine
-use Rattle.mj_expr.specs.Machine.{unary_of, binary_of, Phrase, Outcome, Accept, StuckAt, TooLong, refused}
+use Rattle.mj_expr.specs.Machine.{unary_of, binary_of, Limits, State, run, Phrase, Outcome, Accept, StuckAt, TooLong, refused}
 use Rattle.mj_expr.specs.Reads.{kind_of, least_in, most_in, limited_in, symbols_seen}
-use Rattle.mj_expr.specs.declared.stop.Stop.{Stop}
-use Rattle.mj_expr.specs.declared.stop.Stop.TheVariants.{Stuck, Deep, Long, Memory}
+use Rattle.mj_expr.specs.declared.stop.ParseError.{ParseError}
+use Rattle.mj_expr.specs.declared.stop.ParseError.TheVariants.{Stuck, Deep, Long, Memory}
 use Rattle.mj_expr.specs.declared.token.ListKind.TheVariants as kind
 use Rattle.mj_expr.specs.declared.beyond.Around.{Around}
 use Rattle.mj_expr.specs.declared.beyond.Around.TheVariants as around
@@ -253,7 +253,7 @@ pass (k ∷ ks) s a others = on_from (pass ks) (ended s a (k ∷ ks)) (led a oth
 -- ---- what a call returns
 
 -- where the turn leads; the list that the program keeps has the innermost last
-abbrev pub IsLed : Result (Option (Stage × Around)) Stop → List Around → Led → Type 0
+abbrev pub IsLed : Result (Option (Stage × Around)) ParseError → List Around → Led → Type 0
 IsLed (Ok (Some to)) others l = l ≡ To to.0 to.1 (reverse others)
 IsLed (Ok None) others l = l ≡ Nowhere
 IsLed (Err Memory) others l = Unit {0}
@@ -262,7 +262,7 @@ IsLed (Err (Deep left)) others l = ⊥
 IsLed (Err Long) others l = l ≡ Beyond
 
 -- one place on, or where no phrase goes on
-abbrev pub IsAdvanced : {X : Type 0} → (X → List Lexeme) → Result (Option (Stage × Around × X)) Stop → List Symbol → List Around → Passed → Stage → Around → Type 0
+abbrev pub IsAdvanced : {X : Type 0} → (X → List Lexeme) → Result (Option (Stage × Around × X)) ParseError → List Symbol → List Around → Passed → Stage → Around → Type 0
 IsAdvanced rest (Ok (Some to)) ks others p s a = p ≡ pass (symbols_seen (rest to.2)) to.0 to.1 (reverse others)
 IsAdvanced rest (Ok None) ks others p s a = p ≡ ended s a ks
 IsAdvanced rest (Err Memory) ks others p s a = Unit {0}
@@ -270,8 +270,12 @@ IsAdvanced rest (Err (Stuck left)) ks others p s a = ⊥
 IsAdvanced rest (Err (Deep left)) ks others p s a = ⊥
 IsAdvanced rest (Err Long) ks others p s a = p ≡ Halts TooLong
 
+-- one place on from here, by a token in front, or where no phrase goes on
+abbrev pub AdvancesFrom : {X : Type 0} → (X → List Lexeme) → Result (Option (Stage × Around × X)) ParseError → List Symbol → List Around → List Around → Stage → Around → Type 0
+AdvancesFrom rest r ks old new s a = IsAdvanced rest r ks new (pass ks s a (reverse old)) s a
+
 -- as shapes go
-abbrev pub PassesAs : {X : Type 0} → (X → List Lexeme) → Result X Stop → Passed → Type 0
+abbrev pub PassesAs : {X : Type 0} → (X → List Lexeme) → Result X ParseError → Passed → Type 0
 PassesAs rest (Ok x) p = p ≡ Passes (symbols_seen (rest x))
 PassesAs rest (Err Memory) p = Unit {0}
 PassesAs rest (Err (Stuck left)) p = p ≡ Halts (StuckAt left)
@@ -283,9 +287,13 @@ abbrev pub IsEndOf : List Token → List Token → Type 0
 IsEndOf ks rest = (front : List Token) × (ks ≡ front ++ rest)
 
 -- as the machine goes, where no level is too deep
-abbrev pub Ends : {X T : Type 0} → (T → Phrase) → (X → List Lexeme) → Result X Stop → Outcome → Type 0
-Ends {T = T} phrase rest (Ok x) o = (t : T) × (o ≡ Accept (phrase t) (symbols_seen (rest x)))
-Ends phrase rest (Err Memory) o = Unit {0}
-Ends phrase rest (Err (Stuck left)) o = o ≡ StuckAt left
-Ends phrase rest (Err (Deep left)) o = ⊥
-Ends phrase rest (Err Long) o = o ≡ TooLong
+abbrev pub MachineEnds : {X T : Type 0} → (T → Phrase) → (X → List Lexeme) → Result X ParseError → Outcome → Type 0
+MachineEnds {T = T} phrase rest (Ok x) o = (t : T) × (o ≡ Accept (phrase t) (symbols_seen (rest x)))
+MachineEnds phrase rest (Err Memory) o = Unit {0}
+MachineEnds phrase rest (Err (Stuck left)) o = o ≡ StuckAt left
+MachineEnds phrase rest (Err (Deep left)) o = ⊥
+MachineEnds phrase rest (Err Long) o = o ≡ TooLong
+
+-- as the machine goes from the state, under every limit on levels that these tokens can't reach
+abbrev pub EndsFrom : {X T : Type 0} → (T → Phrase) → (X → List Lexeme) → Result X ParseError → List Lexeme → State → Type 0
+EndsFrom phrase rest r ls s = (m : Limits) → m.width ≡ width_limit → length ls < m.depth → MachineEnds phrase rest r (run m (symbols_seen ls) s)

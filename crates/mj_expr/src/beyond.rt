@@ -1,14 +1,14 @@
 // Where a phrase ends whose depth doesn't matter: without its tree, and without recursion.
 
 ghost use Rattle.std.specs.Prelude.{◌≡◌, ◌∷◌, ◌<◌, ◌≤◌, ◌&&◌, [], IfOk, IfSome, length, reverse};
-ghost use Rattle.mj_ast.specs.Expressions.{symbol, width_limit};
+ghost use Rattle.mj_ast.specs.Expressions.{symbol};
 ghost use Rattle.mj_ast.specs.Tokens.{Token as SpelledToken};
-ghost use Rattle.mj_expr.specs.Machine.{Limits, Whole, Target, Wanted, Sought, Front, AsTarget, Alone, unary_of, binary_of, run};
+ghost use Rattle.mj_expr.specs.Machine.{Whole, Target, Wanted, Sought, Front, AsTarget, Alone, unary_of, binary_of};
 ghost use Rattle.mj_expr.specs.Reads.{symbols_seen, BeginsNone};
-ghost use Rattle.mj_expr.specs.Shapes.{Ends, IsEndOf, PassesAs, sort_of as the_sort, stray_turn, comma_turn, close_turn, colon_turn, behind_turn, bare_goes as the_bare, operand_turn, variable_turn, name_turn, arguments_turn, subscripts_turn, inside as the_inside, turn_at, may_end, is_last, ended as the_end, led as the_lead, IsLed, IsAdvanced, pass};
+ghost use Rattle.mj_expr.specs.Shapes.{IsEndOf, PassesAs, sort_of as the_sort, stray_turn, comma_turn, close_turn, colon_turn, behind_turn, bare_goes as the_bare, operand_turn, variable_turn, name_turn, arguments_turn, subscripts_turn, inside as the_inside, turn_at, may_end, is_last, ended as the_end, led as the_lead, IsLed, pass, AdvancesFrom, EndsFrom};
 ghost use Rattle.mj_lex.specs.Seen.{token_seen, tokens_seen};
 
-use crate::stop::Stop;
+use crate::stop::ParseError;
 use crate::token::{
     Head, ListKind, binary, head_of, is_limited, least, least_subscripts, most, most_others,
     refusal, unary,
@@ -76,7 +76,7 @@ pub(crate) enum Turn {
     Long,
 }
 
-/// What a token is with which no operand begins.
+/// Says what a token is with which no operand begins.
 fn other_sort(token: Token<'_>) -> Sort
     requires { BeginsNone (symbol (token_seen token)) }
     ensures { result ≡ the_sort (symbol (token_seen token.entry)) }
@@ -95,7 +95,7 @@ fn other_sort(token: Token<'_>) -> Sort
     }
 }
 
-/// What the token is.
+/// Says what the token is.
 fn sort_of(alloc: Global, token: Token<'_>) -> Result<Sort, AllocError>
     ensures { IfOk result (λ s. s ≡ the_sort (symbol (token_seen token.entry))) }
 {
@@ -111,7 +111,7 @@ fn sort_of(alloc: Global, token: Token<'_>) -> Result<Sort, AllocError>
     }
 }
 
-/// A comma where an operand is wanted: it can't stand there, and may be one too many.
+/// Says what a comma does where an operand is wanted: it can't stand there, and may be one too many.
 fn stray(around: Around) -> Turn
     ensures { result ≡ stray_turn around }
 {
@@ -132,7 +132,7 @@ fn stray(around: Around) -> Turn
     }
 }
 
-/// A comma behind an expression, or behind the variable of a function.
+/// Says what a comma does behind an expression, or behind the variable of a function.
 fn comma(around: Around) -> Turn
     ensures { result ≡ comma_turn around }
 {
@@ -158,7 +158,7 @@ fn comma(around: Around) -> Turn
     }
 }
 
-/// A closing parenthesis there.
+/// Says what a closing parenthesis does there.
 fn close(around: Around) -> Turn
     ensures { result ≡ close_turn around }
 {
@@ -175,7 +175,7 @@ fn close(around: Around) -> Turn
     }
 }
 
-/// A colon behind an expression.
+/// Says what a colon does behind an expression.
 fn colon(around: Around) -> Turn
     ensures { result ≡ colon_turn around }
 {
@@ -185,7 +185,7 @@ fn colon(around: Around) -> Turn
     }
 }
 
-/// Behind an operand. A variable that is wanted alone or by a function goes on with no operator.
+/// Says what a token does behind an operand. A variable that is wanted alone or by a function goes on with no operator.
 fn behind(around: Around, sort: Sort) -> Turn
     ensures { result ≡ behind_turn around sort }
 {
@@ -206,7 +206,7 @@ fn behind(around: Around, sort: Sort) -> Turn
     }
 }
 
-/// Where an operand is wanted.
+/// Says what a token does where an operand is wanted.
 fn operand(around: Around, sort: Sort) -> Turn
     ensures { result ≡ operand_turn around sort }
 {
@@ -227,7 +227,7 @@ fn operand(around: Around, sort: Sort) -> Turn
     }
 }
 
-/// Where a variable is wanted.
+/// Says what a token does where a variable is wanted.
 fn variable(around: Around, sort: Sort) -> Turn
     ensures { result ≡ variable_turn around sort }
 {
@@ -238,7 +238,7 @@ fn variable(around: Around, sort: Sort) -> Turn
     }
 }
 
-/// Behind a `^`.
+/// Says what a token does behind a `^`.
 fn name(around: Around, sort: Sort) -> Turn
     ensures { result ≡ name_turn around sort }
 {
@@ -249,7 +249,7 @@ fn name(around: Around, sort: Sort) -> Turn
     }
 }
 
-/// What opens behind a function.
+/// Says what opens behind a function.
 fn inside(callee: Callee) -> Turn
     ensures { result ≡ the_inside callee }
 {
@@ -263,7 +263,7 @@ fn inside(callee: Callee) -> Turn
     }
 }
 
-/// Behind a function.
+/// Says what a token does behind a function.
 fn arguments(callee: Callee, sort: Sort) -> Turn
     ensures { result ≡ arguments_turn callee sort }
 {
@@ -288,7 +288,7 @@ fn bare_goes(around: Around) -> bool
     }
 }
 
-/// Behind a name.
+/// Says what a token does behind a name.
 fn subscripts(around: Around, sort: Sort) -> Turn
     ensures { result ≡ subscripts_turn around sort }
 {
@@ -307,7 +307,7 @@ fn subscripts(around: Around, sort: Sort) -> Turn
     }
 }
 
-/// What the token does at the place.
+/// Says what the token does at the place.
 fn turn_of(stage: Stage, around: Around, sort: Sort) -> Turn
     ensures { result ≡ turn_at stage around sort }
 {
@@ -334,7 +334,7 @@ fn ended<'a, 't>(
     stage: Stage,
     around: Around,
     tokens: &'t [Lexeme<'a>],
-) -> Result<&'t [Lexeme<'a>], Stop>
+) -> Result<&'t [Lexeme<'a>], ParseError>
     ensures same { IfOk result (λ x. x.now ≡ tokens.now) }
     ensures passes { PassesAs (λ x. x.now) result (the_end stage around (symbols_seen tokens.now)) }
 {
@@ -344,12 +344,12 @@ fn ended<'a, 't>(
     Err(refusal(tokens, false))
 }
 
-/// Where the turn leads, if it leads somewhere. `others` is what is open around `around`.
+/// Says where the turn leads, if it leads somewhere. `others` is what is open around `around`.
 fn led(
     others: &mut Vec<Around>,
     around: Around,
     turn: Turn,
-) -> Result<Option<(Stage, Around)>, Stop>
+) -> Result<Option<(Stage, Around)>, ParseError>
     ensures { IsLed result others.new.items (the_lead around (reverse others.old.items) turn) }
 {
     match turn {
@@ -363,21 +363,21 @@ fn led(
             None => Ok(None),
         },
         Turn::Stuck => Ok(None),
-        Turn::Long => Err(Stop::Long),
+        Turn::Long => Err(ParseError::Long),
     }
 }
 
-/// The place behind the token in front, if a phrase goes on with it, and the tokens there.
+/// Takes the token in front, if a phrase goes on with it, and gives the place behind it and the tokens there.
 fn advanced<'a, 't>(
     alloc: Global,
     others: &mut Vec<Around>,
     stage: Stage,
     around: Around,
     tokens: &'t [Lexeme<'a>],
-) -> Result<Option<(Stage, Around, &'t [Lexeme<'a>])>, Stop>
+) -> Result<Option<(Stage, Around, &'t [Lexeme<'a>])>, ParseError>
     ensures shorter { IfOk result (λ x. IfSome x (λ y. length y.2.now < length tokens.now)) }
     ensures next { IfOk result (λ x. IfSome x (λ y. (k : SpelledToken) × (tokens_seen tokens.now ≡ k ∷ tokens_seen y.2.now))) }
-    ensures goes { IsAdvanced (λ x. x.now) result (symbols_seen tokens.now) others.new.items (pass (symbols_seen tokens.now) stage around (reverse others.old.items)) stage around }
+    ensures goes { AdvancesFrom (λ x. x.now) result (symbols_seen tokens.now) others.old.items others.new.items stage around }
 {
     let Some((token, rest)) = next(tokens) else {
         return Ok(None);
@@ -396,7 +396,7 @@ fn beyond<'a, 't>(
     tokens: &'t [Lexeme<'a>],
     stage: Stage,
     around: Around,
-) -> Result<&'t [Lexeme<'a>], Stop>
+) -> Result<&'t [Lexeme<'a>], ParseError>
     ensures shorter { IfOk result (λ x. length x.now ≤ length tokens.now) }
     ensures back { IfOk result (λ x. IsEndOf (tokens_seen tokens.now) (tokens_seen x.now)) }
     ensures passes { PassesAs (λ x. x.now) result (pass (symbols_seen tokens.now) stage around []) }
@@ -428,22 +428,22 @@ fn beyond<'a, 't>(
 pub fn behind_expression<'a, 't>(
     alloc: Global,
     tokens: &'t [Lexeme<'a>],
-) -> Result<&'t [Lexeme<'a>], Stop>
+) -> Result<&'t [Lexeme<'a>], ParseError>
     ensures shorter { IfOk result (λ x. length x.now ≤ length tokens.now) }
     ensures back { IfOk result (λ x. IsEndOf (tokens_seen tokens.now) (tokens_seen x.now)) }
-    ensures ends { (m : Limits) → m.width ≡ width_limit → length tokens.now < m.depth → Ends Whole (λ x. x.now) result (run m (symbols_seen tokens.now) (Wanted (Front Alone))) }
+    ensures ends { EndsFrom Whole (λ x. x.now) result tokens.now (Wanted (Front Alone)) }
 {
     beyond(alloc, tokens, Stage::Operand, Around::Alone)
 }
 
-/// What follows the variable in front, likewise.
+/// What follows the variable in front, however deep it nests.
 pub fn behind_variable<'a, 't>(
     alloc: Global,
     tokens: &'t [Lexeme<'a>],
-) -> Result<&'t [Lexeme<'a>], Stop>
+) -> Result<&'t [Lexeme<'a>], ParseError>
     ensures shorter { IfOk result (λ x. length x.now ≤ length tokens.now) }
     ensures back { IfOk result (λ x. IsEndOf (tokens_seen tokens.now) (tokens_seen x.now)) }
-    ensures ends { (m : Limits) → m.width ≡ width_limit → length tokens.now < m.depth → Ends Target (λ x. x.now) result (run m (symbols_seen tokens.now) (Sought AsTarget)) }
+    ensures ends { EndsFrom Target (λ x. x.now) result tokens.now (Sought AsTarget) }
 {
     beyond(alloc, tokens, Stage::Variable, Around::Target)
 }

@@ -13,6 +13,6 @@ mod token;
 
 pub use beyond::{behind_expression, behind_variable};
 pub use list::added;
-pub use phrase::{DEPTH_LIMIT, expression, variable};
-pub use stop::Stop;
+pub use phrase::{expression, variable};
+pub use stop::ParseError;
 pub use token::{ListKind, callee, least, most};

@@ -1,16 +1,14 @@
 // The parts of expressions, each read from the front of the tokens.
 
-ghost use Rattle.std.specs.Prelude.{◌≡◌, ◌<◌, ◌≤◌, ◌+◌, ℕ, List, false, length, IfOk};
+ghost use Rattle.std.specs.Prelude.{◌<◌, ◌≤◌, List, false, length, IfOk};
 ghost use Rattle.mj_ast.specs.declared.expr.Scope.{Scope};
-ghost use Rattle.mj_ast.specs.declared.function.NameFunction.{NameFunction as NameFunctionOf};
-ghost use Rattle.mj_ast.specs.Syntax.{No, More, Group, About, Select, Variable as VariableOf, Expr as ExprOf};
 ghost use Rattle.mj_ast.specs.Trees.{operand_of, expr_of, variable_of, exprs_of, choice_of};
-ghost use Rattle.mj_expr.specs.Machine.{Outer, Owner, Within, Place, Pairs, AsNamed, Front, InGroup, InList, InOther, InCondition, InChoice, Wanted, Sought, Marked, Named, Calling, before_choices, filled, placed, closed, held, outer_depth, owner_depth, depth_of, place_depth, outer_of, is_full, is_full_in};
 ghost use Rattle.mj_expr.specs.Lists.{choices_of};
-ghost use Rattle.mj_expr.specs.Reads.{symbols_seen, limits, Reads, HasNoBinary, kind_of};
+ghost use Rattle.mj_expr.specs.Reads.{symbols_seen, HasNoBinary};
+ghost use Rattle.mj_expr.specs.Readers.{ReadsOperand, ReadsGroup, ReadsOther, ReadsCall, ReadsAbout, ReadsChoices, ReadsChosen, ReadsOthers, ReadsGlobal, ReadsNamed, ReadsSought, ReadsExpr, ReadsList};
 
 use crate::list::added;
-use crate::stop::Stop;
+use crate::stop::ParseError;
 use crate::token::{
     Head, ListKind, behind_binary, behind_caret, behind_close, behind_colon, behind_comma,
     behind_name, behind_open, fills, front, head_of, is_limited, least, least_subscripts, levels,
@@ -20,17 +18,17 @@ use mj_ast::{Callee, Choice, Expr, NameFunction, Operand, Scope, Tail, Variable}
 use mj_lex::Lexeme;
 use std::alloc::Global;
 
-/// The operand in front and the tokens behind it. `room` is how many levels may be opened, and `full` says that the list of
-/// subscripts that it stands in has no room for another.
+/// Reads the operand in front and the tokens behind it. `room` is how many levels may be opened, and `full` says that the list
+/// of subscripts that it stands in has no room for another.
 #[cycle(parse)]
 fn operand<'a, 't>(
     alloc: Global,
     tokens: &'t [Lexeme<'a>],
     room: usize,
     full: bool,
-) -> Result<(Operand, &'t [Lexeme<'a>]), Stop>
+) -> Result<(Operand, &'t [Lexeme<'a>]), ParseError>
     ensures shorter { IfOk result (λ x. length x.1.now < length tokens.now) }
-    ensures reads { (c : Within) → (d : ℕ) → depth_of c + room ≡ d → is_full (limits 0) (outer_of c) ≡ full → Reads (λ x. operand_of x.0) (λ x. x.1.now) result d tokens.now (Wanted c) (λ x. filled x c) }
+    ensures reads { ReadsOperand (λ x. operand_of x.0) (λ x. x.1.now) result room full tokens.now }
 {
     let Some((token, rest)) = front(tokens) else {
         return Err(refusal(tokens, full));
@@ -44,7 +42,7 @@ fn operand<'a, 't>(
         }
         Head::Callee(callee) => {
             if room < levels(callee) {
-                return Err(Stop::Deep(tokens.len()));
+                return Err(ParseError::Deep(tokens.len()));
             }
             call(alloc, callee, rest, room - 1)
         }
@@ -54,14 +52,14 @@ fn operand<'a, 't>(
         }
         Head::Open => {
             if room == 0 {
-                return Err(Stop::Deep(tokens.len()));
+                return Err(ParseError::Deep(tokens.len()));
             }
             let (inner, rest) = group(alloc, rest, room - 1)?;
             Ok((Operand::Group(Box::new(alloc, inner)?), rest))
         }
         Head::Unary(_, op) => {
             if room == 0 {
-                return Err(Stop::Deep(tokens.len()));
+                return Err(ParseError::Deep(tokens.len()));
             }
             let (inner, rest) = operand(alloc, rest, room - 1, full)?;
             Ok((Operand::Unary(op, Box::new(alloc, inner)?), rest))
@@ -70,16 +68,16 @@ fn operand<'a, 't>(
     }
 }
 
-/// The expression in front, which a parenthesis closes, and the tokens behind that.
+/// Reads the expression in front, which a parenthesis closes, and the tokens behind that.
 #[cycle(parse)]
 fn group<'a, 't>(
     alloc: Global,
     tokens: &'t [Lexeme<'a>],
     room: usize,
-) -> Result<(Expr, &'t [Lexeme<'a>]), Stop>
+) -> Result<(Expr, &'t [Lexeme<'a>]), ParseError>
     ensures shorter { IfOk result (λ x. length x.1.now < length tokens.now) }
-    ensures reads { (c : Within) → (d : ℕ) → depth_of c + 1 + room ≡ d → Reads (λ x. expr_of x.0) (λ x. x.1.now) result d tokens.now (Wanted (Front (InGroup c))) (λ e. filled (Group e) c) }
-    ensures other { (f : NameFunctionOf) → (v : VariableOf) → (c : Within) → (d : ℕ) → depth_of c + 1 + room ≡ d → Reads (λ x. expr_of x.0) (λ x. x.1.now) result d tokens.now (Wanted (Front (InOther f v c))) (λ e. filled (About f v (More e No)) c) }
+    ensures reads { ReadsGroup (λ x. expr_of x.0) (λ x. x.1.now) result room tokens.now }
+    ensures other { ReadsOther (λ x. expr_of x.0) (λ x. x.1.now) result room tokens.now }
 {
     let (inner, rest) = expr(alloc, tokens, room, false)?;
     match behind_close(rest) {
@@ -88,16 +86,16 @@ fn group<'a, 't>(
     }
 }
 
-/// The call of a function whose word was read, which opened a level.
+/// Reads the call of a function whose word was read, which opened a level.
 #[cycle(parse)]
 fn call<'a, 't>(
     alloc: Global,
     callee: Callee,
     tokens: &'t [Lexeme<'a>],
     room: usize,
-) -> Result<(Operand, &'t [Lexeme<'a>]), Stop>
+) -> Result<(Operand, &'t [Lexeme<'a>]), ParseError>
     ensures shorter { IfOk result (λ x. length x.1.now < length tokens.now) }
-    ensures reads { (c : Within) → (d : ℕ) → depth_of c + 1 + room ≡ d → Reads (λ x. operand_of x.0) (λ x. x.1.now) result d tokens.now (Calling callee c) (λ x. filled x c) }
+    ensures reads { ReadsCall (λ x. operand_of x.0) (λ x. x.1.now) result callee room tokens.now }
 {
     let Some(rest) = behind_open(tokens) else {
         return Err(refusal(tokens, false));
@@ -115,16 +113,16 @@ fn call<'a, 't>(
     }
 }
 
-/// The call of a function of a variable behind the opening parenthesis, and the tokens behind the closing one.
+/// Reads the call of a function of a variable behind the opening parenthesis, and the tokens behind the closing one.
 #[cycle(parse)]
 fn about<'a, 't>(
     alloc: Global,
     function: NameFunction,
     tokens: &'t [Lexeme<'a>],
     room: usize,
-) -> Result<(Operand, &'t [Lexeme<'a>]), Stop>
+) -> Result<(Operand, &'t [Lexeme<'a>]), ParseError>
     ensures shorter { IfOk result (λ x. length x.1.now < length tokens.now) }
-    ensures reads { (c : Within) → (d : ℕ) → depth_of c + 1 + room ≡ d → Reads (λ x. operand_of x.0) (λ x. x.1.now) result d tokens.now (Sought (AsNamed function c)) (λ x. filled x c) }
+    ensures reads { ReadsAbout (λ x. operand_of x.0) (λ x. x.1.now) result function room tokens.now }
 {
     let (variable, rest) = sought(alloc, tokens, room)?;
     if variable.subscripts.len() < least_subscripts(function) {
@@ -145,15 +143,15 @@ fn about<'a, 't>(
     Ok((Operand::About(function, variable, others), rest))
 }
 
-/// The choices of `$SELECT` behind the opening parenthesis, and the tokens behind the closing one.
+/// Reads the choices of `$SELECT` behind the opening parenthesis, and the tokens behind the closing one.
 #[cycle(parse)]
 fn choices<'a, 't>(
     alloc: Global,
     tokens: &'t [Lexeme<'a>],
     room: usize,
-) -> Result<(Choice, &'t [Lexeme<'a>]), Stop>
+) -> Result<(Choice, &'t [Lexeme<'a>]), ParseError>
     ensures shorter { IfOk result (λ x. length x.1.now < length tokens.now) }
-    ensures reads { (before : Pairs) → (c : Within) → (d : ℕ) → depth_of c + 1 + room ≡ d → Reads (λ x. choice_of x.0) (λ x. x.1.now) result d tokens.now (Wanted (Front (InCondition before c))) (λ x. filled (Select (before_choices before x)) c) }
+    ensures reads { ReadsChoices (λ x. choice_of x.0) (λ x. x.1.now) result room tokens.now }
 {
     let (condition, rest) = expr(alloc, tokens, room, false)?;
     match chosen(alloc, rest, room) {
@@ -166,22 +164,22 @@ fn choices<'a, 't>(
             rest,
         )),
         Err(stop) => {
-            drop(condition);
+            drop(condition); // for the proof
             Err(stop)
         }
     }
 }
 
-/// The value behind a condition and the choices behind that, and the tokens behind the closing parenthesis.
+/// Reads the value behind a condition and the choices behind that, and the tokens behind the closing parenthesis.
 #[cycle(parse)]
 fn chosen<'a, 't>(
     alloc: Global,
     tokens: &'t [Lexeme<'a>],
     room: usize,
-) -> Result<(Expr, Option<Box<Choice>>, &'t [Lexeme<'a>]), Stop>
+) -> Result<(Expr, Option<Box<Choice>>, &'t [Lexeme<'a>]), ParseError>
     requires { HasNoBinary (symbols_seen tokens.now) }
     ensures shorter { IfOk result (λ x. length x.2.now < length tokens.now) }
-    ensures reads { (before : Pairs) → (a : ExprOf) → (c : Within) → (d : ℕ) → depth_of c + 1 + room ≡ d → Reads (λ x. choices_of a (expr_of x.0) x.1) (λ x. x.2.now) result d tokens.now (held a (InCondition before c)) (λ x. filled (Select (before_choices before x)) c) }
+    ensures reads { ReadsChosen (λ a x. choices_of a (expr_of x.0) x.1) (λ x. x.2.now) result room tokens.now }
 {
     let Some(rest) = behind_colon(tokens) else {
         return Err(refusal(tokens, false));
@@ -190,22 +188,22 @@ fn chosen<'a, 't>(
     match others(alloc, rest, room) {
         Ok((others, rest)) => Ok((value, others, rest)),
         Err(stop) => {
-            drop(value);
+            drop(value); // for the proof
             Err(stop)
         }
     }
 }
 
-/// The choices behind a condition and its value, if there are any, and the tokens behind the closing parenthesis.
+/// Reads the choices behind a condition and its value, if there are any, and the tokens behind the closing parenthesis.
 #[cycle(parse)]
 fn others<'a, 't>(
     alloc: Global,
     tokens: &'t [Lexeme<'a>],
     room: usize,
-) -> Result<(Option<Box<Choice>>, &'t [Lexeme<'a>]), Stop>
+) -> Result<(Option<Box<Choice>>, &'t [Lexeme<'a>]), ParseError>
     requires { HasNoBinary (symbols_seen tokens.now) }
     ensures shorter { IfOk result (λ x. length x.1.now < length tokens.now) }
-    ensures reads { (before : Pairs) → (a v : ExprOf) → (c : Within) → (d : ℕ) → depth_of c + 1 + room ≡ d → Reads (λ x. choices_of a v x.0) (λ x. x.1.now) result d tokens.now (held v (InChoice before a c)) (λ x. filled (Select (before_choices before x)) c) }
+    ensures reads { ReadsOthers (λ a v x. choices_of a v x.0) (λ x. x.1.now) result room tokens.now }
 {
     if let Some(behind) = behind_comma(tokens) {
         let (others, rest) = choices(alloc, behind, room)?;
@@ -217,16 +215,16 @@ fn others<'a, 't>(
     }
 }
 
-/// The variable behind a `^`.
+/// Reads the variable behind a `^`.
 #[cycle(parse)]
 fn global<'a, 't>(
     alloc: Global,
     tokens: &'t [Lexeme<'a>],
     room: usize,
     full: bool,
-) -> Result<(Variable, &'t [Lexeme<'a>]), Stop>
+) -> Result<(Variable, &'t [Lexeme<'a>]), ParseError>
     ensures shorter { IfOk result (λ x. length x.1.now < length tokens.now) }
-    ensures reads { (p : Place) → (d : ℕ) → place_depth p + room ≡ d → is_full_in (limits 0) p ≡ full → Reads (λ x. variable_of x.0) (λ x. x.1.now) result d tokens.now (Marked p) (λ v. placed v p) }
+    ensures reads { ReadsGlobal (λ x. variable_of x.0) (λ x. x.1.now) result room full tokens.now }
 {
     match behind_name(tokens) {
         Some((word, rest)) => named(alloc, Scope::Global, word, rest, room),
@@ -234,7 +232,7 @@ fn global<'a, 't>(
     }
 }
 
-/// The variable whose name was read.
+/// Reads the variable whose name was read.
 #[cycle(parse)]
 fn named<'a, 't>(
     alloc: Global,
@@ -242,16 +240,16 @@ fn named<'a, 't>(
     word: &[u8],
     tokens: &'t [Lexeme<'a>],
     room: usize,
-) -> Result<(Variable, &'t [Lexeme<'a>]), Stop>
+) -> Result<(Variable, &'t [Lexeme<'a>]), ParseError>
     requires { length word.now ≤ 31 }
     ensures shorter { IfOk result (λ x. length x.1.now ≤ length tokens.now) }
-    ensures reads { (p : Place) → (d : ℕ) → place_depth p + room ≡ d → Reads (λ x. variable_of x.0) (λ x. x.1.now) result d tokens.now (Named scope word.now p) (λ v. placed v p) }
+    ensures reads { ReadsNamed (λ x. variable_of x.0) (λ x. x.1.now) result scope word.now room tokens.now }
 {
     let word = name_text(alloc, word)?;
     match behind_open(tokens) {
         Some(rest) => {
             if room == 0 {
-                return Err(Stop::Deep(tokens.len()));
+                return Err(ParseError::Deep(tokens.len()));
             }
             let (subscripts, rest) = list(alloc, ListKind::Subscripts, rest, room - 1)?;
             Ok((
@@ -274,17 +272,17 @@ fn named<'a, 't>(
     }
 }
 
-/// The expression in front and the tokens behind it, where it can't go on.
+/// Reads the expression in front and the tokens behind it, where it can't go on.
 #[cycle(parse)]
 pub(crate) fn expr<'a, 't>(
     alloc: Global,
     tokens: &'t [Lexeme<'a>],
     room: usize,
     full: bool,
-) -> Result<(Expr, &'t [Lexeme<'a>]), Stop>
+) -> Result<(Expr, &'t [Lexeme<'a>]), ParseError>
     ensures shorter { IfOk result (λ x. length x.1.now < length tokens.now) }
     ensures stops { IfOk result (λ x. HasNoBinary (symbols_seen x.1.now)) }
-    ensures reads { (o : Outer) → (d : ℕ) → outer_depth o + room ≡ d → is_full (limits 0) o ≡ full → Reads (λ x. expr_of x.0) (λ x. x.1.now) result d tokens.now (Wanted (Front o)) (λ e. held e o) }
+    ensures reads { ReadsExpr (λ x. expr_of x.0) (λ x. x.1.now) result room full tokens.now }
 {
     let (first, mut rest) = operand(alloc, tokens, room, full)?;
     let mut tails = Vec::new(alloc);
@@ -296,16 +294,16 @@ pub(crate) fn expr<'a, 't>(
     Ok((Expr { first, rest: tails }, rest))
 }
 
-/// The expressions of a list behind its opening parenthesis, and the tokens behind the closing one.
+/// Reads the expressions of a list behind its opening parenthesis, and the tokens behind the closing one.
 #[cycle(parse)]
 fn list<'a, 't>(
     alloc: Global,
     kind: ListKind,
     tokens: &'t [Lexeme<'a>],
     room: usize,
-) -> Result<(Vec<Expr>, &'t [Lexeme<'a>]), Stop>
+) -> Result<(Vec<Expr>, &'t [Lexeme<'a>]), ParseError>
     ensures shorter { IfOk result (λ x. length x.1.now < length tokens.now) }
-    ensures reads { (w : Owner) → (d : ℕ) → owner_depth w + 1 + room ≡ d → kind_of w ≡ kind → Reads (λ x. exprs_of x.0.items) (λ x. x.1.now) result d tokens.now (Wanted (Front (InList w No))) (λ es. closed w es) }
+    ensures reads { ReadsList (λ x. exprs_of x.0.items) (λ x. x.1.now) result kind room tokens.now }
 {
     let (first, mut rest) = expr(alloc, tokens, room, false)?;
     let mut items = Vec::new(alloc);
@@ -328,15 +326,15 @@ fn list<'a, 't>(
     }
 }
 
-/// The variable in front and the tokens behind it, where it can't go on.
+/// Reads the variable in front and the tokens behind it, where it can't go on.
 #[cycle(parse)]
 pub(crate) fn sought<'a, 't>(
     alloc: Global,
     tokens: &'t [Lexeme<'a>],
     room: usize,
-) -> Result<(Variable, &'t [Lexeme<'a>]), Stop>
+) -> Result<(Variable, &'t [Lexeme<'a>]), ParseError>
     ensures shorter { IfOk result (λ x. length x.1.now < length tokens.now) }
-    ensures reads { (p : Place) → (d : ℕ) → place_depth p + room ≡ d → is_full_in (limits 0) p ≡ false → Reads (λ x. variable_of x.0) (λ x. x.1.now) result d tokens.now (Sought p) (λ v. placed v p) }
+    ensures reads { ReadsSought (λ x. variable_of x.0) (λ x. x.1.now) result room tokens.now }
 {
     match behind_name(tokens) {
         Some((word, rest)) => named(alloc, Scope::Local, word, rest, room),

@@ -4,7 +4,7 @@ use std::alloc::{AllocError, AllocFailed};
 
 /// Why no tree is given. A place is how many tokens are left there, of those that were given.
 #[derive(Clone, Copy, PartialEq, Eq, Debug)]
-pub enum Stop {
+pub enum ParseError {
     /// the token at which no phrase goes on so, or the end
     Stuck(usize),
     /// the token that opens a level too many
@@ -15,24 +15,24 @@ pub enum Stop {
     Memory,
 }
 
-impl From<AllocError> for Stop {
+impl From<AllocError> for ParseError {
     ghost use Rattle.std.specs.Prelude.{◌≡◌};
-    ghost use Rattle.mj_expr.specs.declared.stop.Stop.TheVariants.{Memory};
+    ghost use Rattle.mj_expr.specs.declared.stop.ParseError.TheVariants.{Memory};
 
     ghost from_gives = { λ _ e. e ≡ Memory };
 
-    fn from(_e: AllocError) -> Stop {
-        Stop::Memory
+    fn from(_e: AllocError) -> ParseError {
+        ParseError::Memory
     }
 }
 
-impl<T: Drop> From<AllocFailed<T>> for Stop {
+impl<T: Drop> From<AllocFailed<T>> for ParseError {
     ghost use Rattle.std.specs.Prelude.{◌≡◌};
-    ghost use Rattle.mj_expr.specs.declared.stop.Stop.TheVariants.{Memory};
+    ghost use Rattle.mj_expr.specs.declared.stop.ParseError.TheVariants.{Memory};
 
     ghost from_gives = { λ _ e. e ≡ Memory };
 
-    fn from(_e: AllocFailed<T>) -> Stop {
-        Stop::Memory
+    fn from(_e: AllocFailed<T>) -> ParseError {
+        ParseError::Memory
     }
 }

@@ -1,16 +1,16 @@
 // What a token is to an expression.
 
 ghost use Rattle.std.specs.Prelude.{◌≡◌, ◌+◌, List, ◌∷◌, ◌<◌, ◌≤◌, [], length, nat_le, ◌&&◌, if◌then◌else◌, IfOk, MatchOption};
-ghost use Rattle.mj_expr.specs.declared.stop.Stop.TheVariants.{Stuck, Long};
+ghost use Rattle.mj_expr.specs.declared.stop.ParseError.TheVariants.{Stuck, Long};
 ghost use Rattle.std.specs.Str.{str_eq_ignore_ascii_case};
 ghost use Rattle.mj_ast.specs.Expressions.{Symbol, symbol, constant_of, Constant, Name, Mark, Other, callee_of, special_of, is_named, least as least_of_function, most as most_of_function, least_subscripts as least_subscripts_of, most_others as most_others_of, levels as levels_of_callee};
 ghost use Rattle.mj_ast.specs.declared.sign.Sign.TheVariants.{Caret, Open, Close, Comma, Colon};
 ghost use Rattle.mj_expr.specs.Machine.{unary_of, binary_of, refused_in};
-ghost use Rattle.mj_expr.specs.Reads.{symbols_seen, Refuses, IsHead, StartsBinary, HasNoBinary, HasNoOpen, HasNoComma, HasNoColon, HasNoClose, HasNoCaret, HasNoName, least_in, most_in, limited_in};
+ghost use Rattle.mj_expr.specs.Reads.{symbols_seen, Refuses, IsHead, HasNoBinary, HasNoOpen, HasNoComma, HasNoColon, HasNoClose, HasNoCaret, HasNoName, least_in, most_in, limited_in, StartsWith, StartsWithBinary, StartsWithName};
 ghost use Rattle.mj_num.specs.Number.{reading};
 ghost use Rattle.mj_lex.specs.Seen.{token_seen};
 
-use crate::stop::Stop;
+use crate::stop::ParseError;
 use mj_ast::{Callee, Function, NameFunction, Sign, Special};
 use mj_lex::{Lexeme, Token, next, unquoted};
 use mj_num::Num;
@@ -311,7 +311,7 @@ pub(crate) fn head_of<'a>(alloc: Global, token: &Token<'a>) -> Result<Head<'a>, 
 
 /// The token in front, where it lies, and the tokens behind it.
 pub(crate) fn front<'a, 't>(tokens: &'t [Lexeme<'a>]) -> Option<(&'t Token<'a>, &'t [Lexeme<'a>])>
-    ensures { MatchOption result (symbols_seen tokens.now ≡ []) (λ x. (symbols_seen tokens.now ≡ symbol (token_seen x.0.now) ∷ symbols_seen x.1.now) × (length x.1.now < length tokens.now)) }
+    ensures { MatchOption result (symbols_seen tokens.now ≡ []) (λ x. StartsWith (symbol (token_seen x.0.now)) tokens.now x.1.now) }
 {
     match tokens {
         [] => None,
@@ -321,14 +321,14 @@ pub(crate) fn front<'a, 't>(tokens: &'t [Lexeme<'a>]) -> Option<(&'t Token<'a>, 
 
 /// The token in front and the tokens behind it.
 pub(crate) fn taken<'a, 't>(tokens: &'t [Lexeme<'a>]) -> Option<(Token<'a>, &'t [Lexeme<'a>])>
-    ensures { MatchOption result (symbols_seen tokens.now ≡ []) (λ x. (symbols_seen tokens.now ≡ symbol (token_seen x.0) ∷ symbols_seen x.1.now) × (length x.1.now < length tokens.now)) }
+    ensures { MatchOption result (symbols_seen tokens.now ≡ []) (λ x. StartsWith (symbol (token_seen x.0)) tokens.now x.1.now) }
 {
     next(tokens)
 }
 
 /// The binary operator in front and the tokens behind it.
 pub(crate) fn behind_binary<'a, 't>(tokens: &'t [Lexeme<'a>]) -> Option<(Op, &'t [Lexeme<'a>])>
-    ensures { MatchOption result (HasNoBinary (symbols_seen tokens.now)) (λ x. StartsBinary x.0 (symbols_seen tokens.now) (symbols_seen x.1.now) × (length x.1.now < length tokens.now)) }
+    ensures { MatchOption result (HasNoBinary (symbols_seen tokens.now)) (λ x. StartsWithBinary x.0 tokens.now x.1.now) }
 {
     match taken(tokens) {
         Some((Token::Sign(sign), rest)) => match binary(sign) {
@@ -339,9 +339,9 @@ pub(crate) fn behind_binary<'a, 't>(tokens: &'t [Lexeme<'a>]) -> Option<(Op, &'t
     }
 }
 
-/// The tokens behind a sign in front.
+/// The tokens behind a `(` in front.
 pub(crate) fn behind_open<'a, 't>(tokens: &'t [Lexeme<'a>]) -> Option<&'t [Lexeme<'a>]>
-    ensures { MatchOption result (HasNoOpen (symbols_seen tokens.now)) (λ x. (symbols_seen tokens.now ≡ Mark Open ∷ symbols_seen x.now) × (length x.now < length tokens.now)) }
+    ensures { MatchOption result (HasNoOpen (symbols_seen tokens.now)) (λ x. StartsWith (Mark Open) tokens.now x.now) }
 {
     match taken(tokens) {
         Some((Token::Sign(Sign::Open), rest)) => Some(rest),
@@ -351,7 +351,7 @@ pub(crate) fn behind_open<'a, 't>(tokens: &'t [Lexeme<'a>]) -> Option<&'t [Lexem
 
 /// The tokens behind a `^` in front.
 pub(crate) fn behind_caret<'a, 't>(tokens: &'t [Lexeme<'a>]) -> Option<&'t [Lexeme<'a>]>
-    ensures { MatchOption result (HasNoCaret (symbols_seen tokens.now)) (λ x. (symbols_seen tokens.now ≡ Mark Caret ∷ symbols_seen x.now) × (length x.now < length tokens.now)) }
+    ensures { MatchOption result (HasNoCaret (symbols_seen tokens.now)) (λ x. StartsWith (Mark Caret) tokens.now x.now) }
 {
     match taken(tokens) {
         Some((Token::Sign(Sign::Caret), rest)) => Some(rest),
@@ -361,7 +361,7 @@ pub(crate) fn behind_caret<'a, 't>(tokens: &'t [Lexeme<'a>]) -> Option<&'t [Lexe
 
 /// The tokens behind a comma in front.
 pub(crate) fn behind_comma<'a, 't>(tokens: &'t [Lexeme<'a>]) -> Option<&'t [Lexeme<'a>]>
-    ensures { MatchOption result (HasNoComma (symbols_seen tokens.now)) (λ x. (symbols_seen tokens.now ≡ Mark Comma ∷ symbols_seen x.now) × (length x.now < length tokens.now)) }
+    ensures { MatchOption result (HasNoComma (symbols_seen tokens.now)) (λ x. StartsWith (Mark Comma) tokens.now x.now) }
 {
     match taken(tokens) {
         Some((Token::Sign(Sign::Comma), rest)) => Some(rest),
@@ -371,7 +371,7 @@ pub(crate) fn behind_comma<'a, 't>(tokens: &'t [Lexeme<'a>]) -> Option<&'t [Lexe
 
 /// The tokens behind a colon in front.
 pub(crate) fn behind_colon<'a, 't>(tokens: &'t [Lexeme<'a>]) -> Option<&'t [Lexeme<'a>]>
-    ensures { MatchOption result (HasNoColon (symbols_seen tokens.now)) (λ x. (symbols_seen tokens.now ≡ Mark Colon ∷ symbols_seen x.now) × (length x.now < length tokens.now)) }
+    ensures { MatchOption result (HasNoColon (symbols_seen tokens.now)) (λ x. StartsWith (Mark Colon) tokens.now x.now) }
 {
     match taken(tokens) {
         Some((Token::Sign(Sign::Colon), rest)) => Some(rest),
@@ -381,7 +381,7 @@ pub(crate) fn behind_colon<'a, 't>(tokens: &'t [Lexeme<'a>]) -> Option<&'t [Lexe
 
 /// The tokens behind a closing parenthesis in front.
 pub(crate) fn behind_close<'a, 't>(tokens: &'t [Lexeme<'a>]) -> Option<&'t [Lexeme<'a>]>
-    ensures { MatchOption result (HasNoClose (symbols_seen tokens.now)) (λ x. (symbols_seen tokens.now ≡ Mark Close ∷ symbols_seen x.now) × (length x.now < length tokens.now)) }
+    ensures { MatchOption result (HasNoClose (symbols_seen tokens.now)) (λ x. StartsWith (Mark Close) tokens.now x.now) }
 {
     match taken(tokens) {
         Some((Token::Sign(Sign::Close), rest)) => Some(rest),
@@ -391,7 +391,7 @@ pub(crate) fn behind_close<'a, 't>(tokens: &'t [Lexeme<'a>]) -> Option<&'t [Lexe
 
 /// The name in front and the tokens behind it.
 pub(crate) fn behind_name<'a, 't>(tokens: &'t [Lexeme<'a>]) -> Option<(&'a [u8], &'t [Lexeme<'a>])>
-    ensures { MatchOption result (HasNoName (symbols_seen tokens.now)) (λ x. (symbols_seen tokens.now ≡ Name x.0.now ∷ symbols_seen x.1.now) × (length x.1.now < length tokens.now) × (length x.0.now ≤ 31)) }
+    ensures { MatchOption result (HasNoName (symbols_seen tokens.now)) (λ x. StartsWithName x.0.now tokens.now x.1.now) }
 {
     match taken(tokens) {
         Some((Token::Word(word), rest)) => {
@@ -405,7 +405,7 @@ pub(crate) fn behind_name<'a, 't>(tokens: &'t [Lexeme<'a>]) -> Option<(&'a [u8],
     }
 }
 
-/// A name as a text.
+/// Makes a text of a name.
 pub(crate) fn name_text(alloc: Global, word: &[u8]) -> Result<Text, AllocError>
     requires { length word.now ≤ 31 }
     ensures { IfOk result (λ t. t ≡ word.now) }
@@ -416,19 +416,19 @@ pub(crate) fn name_text(alloc: Global, word: &[u8]) -> Result<Text, AllocError>
     }
 }
 
-/// Why nothing is given where a word stands with which no phrase goes on.
-fn refused_word(word: &[u8], left: usize) -> Stop
+/// Says why nothing is given where a word stands with which no phrase goes on.
+fn refused_word(word: &[u8], left: usize) -> ParseError
     ensures { result ≡ (if nat_le (length word.now) 31 then Stuck left else Long) }
 {
     if word.len() <= NAME_LIMIT {
-        Stop::Stuck(left)
+        ParseError::Stuck(left)
     } else {
-        Stop::Long
+        ParseError::Long
     }
 }
 
-/// The same where this token stands before others, `left` with it.
-fn refused_at(token: Token<'_>, left: usize, full: bool) -> Stop
+/// Says why nothing is given where no phrase goes on with this token, which stands before others: `left` are left with it.
+fn refused_at(token: Token<'_>, left: usize, full: bool) -> ParseError
     ensures { (ks : List Symbol) → length ks + 1 ≡ left → Refuses result (refused_in full (symbol (token_seen token.entry) ∷ ks)) }
 {
     match token {
@@ -436,31 +436,37 @@ fn refused_at(token: Token<'_>, left: usize, full: bool) -> Stop
         Token::Called(word) => refused_word(word, left),
         Token::Special(word) => refused_word(word, left),
         Token::Sign(sign) => refused_sign(sign, left, full),
-        Token::Digits(_) => Stop::Stuck(left),
-        Token::Quoted(_) => Stop::Stuck(left),
-        Token::Blank => Stop::Stuck(left),
-        Token::Comment(_) => Stop::Stuck(left),
-        Token::Unclosed(_) => Stop::Stuck(left),
-        Token::Stray(_) => Stop::Stuck(left),
+        Token::Digits(_) => ParseError::Stuck(left),
+        Token::Quoted(_) => ParseError::Stuck(left),
+        Token::Blank => ParseError::Stuck(left),
+        Token::Comment(_) => ParseError::Stuck(left),
+        Token::Unclosed(_) => ParseError::Stuck(left),
+        Token::Stray(_) => ParseError::Stuck(left),
     }
 }
 
-/// The same where it is a sign.
-fn refused_sign(sign: Sign, left: usize, full: bool) -> Stop
+/// Says why nothing is given where no phrase goes on with this sign.
+fn refused_sign(sign: Sign, left: usize, full: bool) -> ParseError
     ensures { (ks : List Symbol) → length ks + 1 ≡ left → Refuses result (refused_in full (Mark sign ∷ ks)) }
 {
     match sign {
-        Sign::Comma => { if full { Stop::Long } else { Stop::Stuck(left) } }
-        _ => Stop::Stuck(left),
+        Sign::Comma => {
+            if full {
+                ParseError::Long
+            } else {
+                ParseError::Stuck(left)
+            }
+        }
+        _ => ParseError::Stuck(left),
     }
 }
 
-/// Why nothing is given where no phrase goes on. A comma in a list that is full is too long.
-pub(crate) fn refusal(tokens: &[Lexeme<'_>], full: bool) -> Stop
+/// Says why nothing is given where no phrase goes on. A comma in a list that is full is too long.
+pub(crate) fn refusal(tokens: &[Lexeme<'_>], full: bool) -> ParseError
     ensures { Refuses result (refused_in full (symbols_seen tokens.now)) }
 {
     match taken(tokens) {
-        None => Stop::Stuck(0),
+        None => ParseError::Stuck(0),
         Some((token, _)) => refused_at(token, tokens.len(), full),
     }
 }

@@ -60,12 +60,12 @@ abbrev pub HasFile : Bool → Bool → Type 0
 HasFile reads_file writes_file = (reads_file || writes_file) ≡ true
 
 -- The device begins: its file is read, or open. It fails only where it has a file.
-abbrev pub Begins : Ported → Did → Ported → Type 0
-Begins old did.Done new =
+abbrev pub PortBegins : Ported → Did → Ported → Type 0
+PortBegins old did.Done new =
     (new ≡ record old { ahead = new.ahead; file = new.file })
     × AreSupplied old.reads_file old.ahead new.ahead × IsOpened old.writes_file old.file new.file
-Begins old did.Failed new = (new ≡ after_failure old) × HasFile old.reads_file old.writes_file
-Begins old did.Memory new = (new ≡ old) × HasFile old.reads_file old.writes_file
+PortBegins old did.Failed new = (new ≡ after_failure old) × HasFile old.reads_file old.writes_file
+PortBegins old did.Memory new = (new ≡ old) × HasFile old.reads_file old.writes_file
 
 -- the file gets just these bytes behind those that it holds, as far as they are known; where there is none, nothing does
 abbrev pub Gets : Bool → List ℕ → Option (Option (List ℕ)) → Option (Option (List ℕ)) → Type 0
@@ -83,7 +83,7 @@ Writes old bytes did.Failed new =
 Writes old bytes did.Memory new = new ≡ old
 
 -- a line is read of those that it has
-abbrev pub Reads : Ported → Input → Ported → Type 0
-Reads old r new =
+abbrev pub PortReads : Ported → Input → Ported → Type 0
+PortReads old r new =
     (new ≡ record old { ahead = new.ahead; failures = old.failures + failures_of_reading r; given = old.given ++ lines_of r })
     × ReadsAhead old.ahead r new.ahead

@@ -112,7 +112,7 @@ fn put<D: Device>(pool: &mut Pool<D>, name: &Text, device: D) -> Result<(), Allo
     match pool.add(name, device) {
         Ok(()) => Ok(()),
         Err(device) => {
-            drop(device);
+            drop(device); // for the proof
             Err(AllocError)
         }
     }

@@ -1,10 +1,8 @@
 // The lines of some bytes.
 
-ghost use Rattle.std.specs.Prelude.{◌≡◌, [], position};
-ghost use Rattle.std.specs.List.{position_or_len};
-ghost use Rattle.mj_dev.specs.Supply.{is_line_end};
+ghost use Rattle.std.specs.Prelude.{◌≡◌, []};
 
-use mj_dev::Input;
+use mj_dev::{Input, line_end};
 use mj_text::{TEXT_LIMIT, Text};
 use std::alloc::{AllocError, Global};
 use std::marker::Model;
@@ -98,21 +96,4 @@ impl Lines {
         }
         Ok(())
     }
-}
-
-// Where the first line of some bytes ends.
-fn line_end(bytes: &[u8]) -> usize
-    ensures { result ≡ position_or_len is_line_end bytes.now }
-{
-    match found_end(bytes) {
-        Some(end) => end,
-        None => bytes.len(),
-    }
-}
-
-// The place of the first byte that ends a line.
-fn found_end(bytes: &[u8]) -> Option<usize>
-    ensures { result ≡ position is_line_end bytes.now }
-{
-    bytes.iter().position(|byte| *byte == 10)
 }

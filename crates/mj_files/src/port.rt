@@ -2,7 +2,7 @@
 
 ghost use Rattle.std.specs.Prelude.{◌≡◌, [], true, false, OnOk, OnErr, IfOk, IsTrue};
 ghost use Rattle.std.specs.Option.{is_some};
-ghost use Rattle.mj_files.specs.Ported.{untouched, HasFile, Begins, Gets};
+ghost use Rattle.mj_files.specs.Ported.{untouched, HasFile, PortBegins, Gets};
 
 use crate::bytes::{Trouble, whole};
 use crate::lines::Lines;
@@ -118,7 +118,7 @@ impl<R: Files + Drop> Port<R> {
 
     // Opens its files. Lines that were begun are not begun again.
     fn open(&mut self) -> Result<(), Trouble>
-        ensures ok { OnOk result (Begins self.old Did.Done self.new) }
+        ensures ok { OnOk result (PortBegins self.old Did.Done self.new) }
         ensures err { OnErr result ((self.new ≡ self.old) × HasFile self.old.reads_file self.old.writes_file) }
     {
         let input = self.input()?;
@@ -154,7 +154,7 @@ impl<R: Files + Drop> Device for Port<R> {
     ghost use Rattle.std.specs.Prelude.{◌≡◌, ◌+◌, ◌<◌, ◌-◌, ◌^◌, ◌++◌};
     ghost use Rattle.mj_dev.specs.Did.{failures_of, bytes_of, IsAnswered};
     ghost use Rattle.mj_dev.specs.Input.{failures_of_reading, lines_of};
-    ghost use Rattle.mj_files.specs.Ported.{Begins, Writes, Reads};
+    ghost use Rattle.mj_files.specs.Ported.{PortBegins, Writes, PortReads};
 
     ghost failures = { λ p. p.failures };
 
@@ -169,7 +169,7 @@ impl<R: Files + Drop> Device for Port<R> {
         ensures failures { self.new.failures ≡ self.old.failures + failures_of result }
         ensures taken { self.new.taken ≡ self.old.taken }
         ensures given { self.new.given ≡ self.old.given }
-        ensures begins { Begins self.old result self.new }
+        ensures begins { PortBegins self.old result self.new }
     {
         match self.open() {
             Ok(()) => Did::Done,
@@ -205,7 +205,7 @@ impl<R: Files + Drop> Device for Port<R> {
         ensures failures { self.new.failures ≡ self.old.failures + failures_of_reading result }
         ensures taken { self.new.taken ≡ self.old.taken }
         ensures given { self.new.given ≡ self.old.given ++ lines_of result }
-        ensures reads { Reads self.old result self.new }
+        ensures reads { PortReads self.old result self.new }
     {
         let input = self.lines.read();
         if let Input::Failed = &input {

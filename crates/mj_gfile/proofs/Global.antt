@@ -8,6 +8,7 @@ use Rattle.mj_store.specs.Questions.{Content}
 use Rattle.mj_gfile.specs.declared.error.ReadError.{ReadError}
 use Rattle.mj_gfile.specs.Spelling.{listing_of}
 use Rattle.mj_gfile.specs.Listing.{is_node, is_subscript, AreGlobals}
+use Rattle.mj_subs.specs.declared.subs.TheConstants.{SUBSCRIPTS_LIMIT}
 
 first_true : (a b : Bool) → (a && b) ≡ true → a ≡ true
 first_true true b e = refl
@@ -24,7 +25,7 @@ node_global : (e : Name × List ℕ) → is_node e ≡ true → e.0.global ≡ t
 node_global e h =
     let kind = e.0.global in
     let word = is_word e.0.word in
-    let few = nat_le (length e.0.subscripts) 31 in
+    let few = nat_le (length e.0.subscripts) SUBSCRIPTS_LIMIT in
     let filled = list_all is_subscript e.0.subscripts in
     let a = first_true (((kind && word) && few) && filled) _ h in
     let b = first_true ((kind && word) && few) filled a in

@@ -51,7 +51,8 @@ joined_listed vs s (Some p) = ap (λ ss. Some (ss, p.1)) (sym (append_assoc vs (
 -- ---- lists of subscripts
 
 -- what is read of an item is an item, by whether it is within its limit
-pub item_inverted : (f : Field (List ℕ)) (more : Bool) (rest : List ℕ) (o : Option (List ℕ × Bool × List ℕ)) → Some (f, more, rest) ≡ item_field o → (s : List ℕ) × ((o ≡ Some (s, more, rest)) × (f ≡ limited (is_short s) s))
+pub item_inverted : (f : Field (List ℕ)) (more : Bool) (rest : List ℕ) (o : Option (List ℕ × Bool × List ℕ)) → Some (f, more, rest) ≡ item_field o
+    → (s : List ℕ) × ((o ≡ Some (s, more, rest)) × (f ≡ limited (is_short s) s))
 item_inverted f more rest None e = absurd cc
 item_inverted f more rest (Some p) e =
     let same : ◌≡◌ {A = Field (List ℕ) × Bool × List ℕ} (f, more, rest) (limited (is_short p.0) p.0, p.1, p.2) = cc in
@@ -66,7 +67,8 @@ marked_read : (f : Field (List ℕ)) (s : List ℕ) (m : Option (Bool × List �
 marked_read f s None e = refl
 marked_read f s (Some q) e = ap (λ x. Some (x, q.0, q.1)) e
 
-pub item_read : (f : Field (List ℕ)) (tail : List ℕ) (o : Option (List ℕ × List ℕ)) (m : Option (Bool × List ℕ)) → Some (f, tail) ≡ text_field o → m ≡ mark_at tail → option_map (λ q. (f, q.0, q.1)) m ≡ item_field (with_mark o)
+pub item_read : (f : Field (List ℕ)) (tail : List ℕ) (o : Option (List ℕ × List ℕ)) (m : Option (Bool × List ℕ)) → Some (f, tail) ≡ text_field o → m ≡ mark_at tail
+    → option_map (λ q. (f, q.0, q.1)) m ≡ item_field (with_mark o)
 item_read f tail None m e k = absurd cc
 item_read f tail (Some p) m e k =
     let same : ◌≡◌ {A = Field (List ℕ) × List ℕ} (f, tail) (limited (is_short p.0) p.0, p.1) = cc in
@@ -87,7 +89,8 @@ module _ (vs : List (List ℕ)) (k n : ℕ) (bs : List ℕ) (total : Option (Lis
   no_item e = ap subscripts_field (sym (at_item None (none_inverted (item_at bs) e)))
 
   -- it is the last
-  pub last_item : (s rest : List ℕ) → item_at bs ≡ Some (s, false, rest) → (ss : Field (List (List ℕ))) → ss ≡ limited (are_small (vs ++ s ∷ [])) (vs ++ s ∷ []) → Some (ss, rest) ≡ subscripts_field total
+  pub last_item : (s rest : List ℕ) → item_at bs ≡ Some (s, false, rest) → (ss : Field (List (List ℕ))) → ss ≡ limited (are_small (vs ++ s ∷ [])) (vs ++ s ∷ [])
+      → Some (ss, rest) ≡ subscripts_field total
   last_item s rest e ss is = ap (λ x. Some (x, rest)) is ∙ ap subscripts_field (sym (at_item (Some (s, false, rest)) e))
 
   -- more follow

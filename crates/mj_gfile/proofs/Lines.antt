@@ -27,7 +27,7 @@ no_end [] none = refl
 no_end (c ∷ []) none = begun c [] (none 0 (omega arith))
 no_end (c ∷ d ∷ cs) none = begun c (d ∷ cs) (none 0 (omega arith)) ∙ ap (begun_by c) (no_end (d ∷ cs) (later c (d ∷ cs) (length (d ∷ cs)) none))
 
--- the same of a slice
+-- what is behind a place of a list, as a slice has it
 module _ (bs : List ℕ) (i : ℕ) (h : i < length bs) where
   rest_whole : take (length bs - (i + 1)) (drop (i + 1) bs) ≡ drop (i + 1) bs
   rest_whole = take_all (length bs - (i + 1)) (drop (i + 1) bs) (omega (arith, length-drop (i + 1) bs))

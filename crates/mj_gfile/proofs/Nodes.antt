@@ -4,7 +4,7 @@ use Rattle.mj_subs.specs.Name.{Name}
 use Rattle.mj_gfile.specs.declared.field.Field.{Field}
 use Rattle.mj_gfile.specs.declared.field.Field.TheVariants.{Within, Over}
 use Rattle.mj_gfile.specs.declared.error.ReadError.TheVariants as error
-use Rattle.mj_gfile.specs.Reading.{text_at, name_in, whole_only, behind, assigned, value_of, with_value, valued, globally, line_of}
+use Rattle.mj_gfile.specs.Reading.{text_at, name_in, whole_only, past_byte, assigned, value_of, with_value, valued, globally, line_of}
 use Rattle.mj_gfile.specs.Listing.{limited, is_short, is_small, is_small_node, text_field, name_field, value_field, node_field, is_after, judged}
 
 -- ---- the text behind `=`
@@ -27,7 +27,7 @@ read_none None e = refl
 read_none (Some p) e = absurd cc
 
 -- the bytes behind a name, behind whose `=` the bytes cs stand
-module _ (bs cs : List ℕ) (at : Some cs ≡ behind 61 bs) where
+module _ (bs cs : List ℕ) (at : Some cs ≡ past_byte 61 bs) where
   pub value_read : (f : Field (List ℕ)) (rest : List ℕ) → Some (f, rest) ≡ text_field (text_at cs) → rest ≡ [] → Some f ≡ value_field (value_of bs)
   value_read f rest e none = read_whole f rest (text_at cs) e none ∙ ap (λ o. value_field (assigned o)) at
 
@@ -37,7 +37,7 @@ module _ (bs cs : List ℕ) (at : Some cs ≡ behind 61 bs) where
   pub no_text : None ≡ text_field (text_at cs) → None ≡ value_field (value_of bs)
   no_text e = read_none (text_at cs) e ∙ ap (λ o. value_field (assigned o)) at
 
-pub no_value : (bs : List ℕ) → None ≡ behind 61 bs → None ≡ value_field (value_of bs)
+pub no_value : (bs : List ℕ) → None ≡ past_byte 61 bs → None ≡ value_field (value_of bs)
 no_value bs e = ap (λ o. value_field (assigned o)) e
 
 -- ---- the name
@@ -60,8 +60,9 @@ nothing_valued n None e = refl
 nothing_valued n (Some t) e = absurd cc
 
 -- a line, behind whose `^` the bytes cs stand
-module _ (bs cs : List ℕ) (at : Some cs ≡ behind 94 bs) where
-  pub line_read : (n : Name) (rest t : List ℕ) → name_in true cs ≡ Some (n, rest) → value_of rest ≡ Some t → (r : Field (Name × List ℕ)) → r ≡ limited (is_small_node (n, t)) (n, t) → Some r ≡ node_field (line_of bs)
+module _ (bs cs : List ℕ) (at : Some cs ≡ past_byte 94 bs) where
+  pub line_read : (n : Name) (rest t : List ℕ) → name_in true cs ≡ Some (n, rest) → value_of rest ≡ Some t → (r : Field (Name × List ℕ)) → r ≡ limited (is_small_node (n, t)) (n, t)
+      → Some r ≡ node_field (line_of bs)
   line_read n rest t named is r so = ap Some so ∙ sym (ap node_field (ap globally (sym at) ∙ ap valued named ∙ ap (with_value n) is))
 
   pub no_name : None ≡ name_field (name_in true cs) → None ≡ node_field (line_of bs)
@@ -70,7 +71,7 @@ module _ (bs cs : List ℕ) (at : Some cs ≡ behind 94 bs) where
   pub no_value_there : (n : Name) (rest : List ℕ) → name_in true cs ≡ Some (n, rest) → None ≡ value_field (value_of rest) → None ≡ node_field (line_of bs)
   no_value_there n rest named e = nothing_valued n (value_of rest) e ∙ sym (ap node_field (ap globally (sym at) ∙ ap valued named))
 
-pub no_line : (bs : List ℕ) → None ≡ behind 94 bs → None ≡ node_field (line_of bs)
+pub no_line : (bs : List ℕ) → None ≡ past_byte 94 bs → None ≡ node_field (line_of bs)
 no_line bs e = ap (λ o. node_field (globally o)) e
 
 -- ---- what is said of the line
@@ -88,7 +89,8 @@ module _ (last : Option Name) (k : ℕ) where
   judged_over None e = absurd cc
   judged_over (Some p) e = by_limit p (is_small_node p) cc
 
-  by_place : (e d : Name × List ℕ) (b : Bool) → Within d ≡ limited b e → cond b (cond (is_after last e.0) (Ok e) (Err (error.Order k))) (Err (error.Limit k)) ≡ cond (is_after last d.0) (Ok d) (Err (error.Order k))
+  by_place : (e d : Name × List ℕ) (b : Bool) → Within d ≡ limited b e → cond b (cond (is_after last e.0) (Ok e) (Err (error.Order k))) (Err (error.Limit k))
+      ≡ cond (is_after last d.0) (Ok d) (Err (error.Order k))
   by_place e d true h = let same : d ≡ e = cc in ap (λ x. cond (is_after last x.0) (Ok x) (Err (error.Order k))) (sym same)
   by_place e d false h = absurd cc
 

@@ -2,6 +2,6 @@
 use Rattle.std.specs.Prelude.{◌≡◌, ℕ, List, ◌++◌}
 
 -- the second list begins with the first
-pub record Begins (front all : List ℕ) : Type 0 where
+pub record HasFront (front all : List ℕ) : Type 0 where
   pub rest : List ℕ
   pub is : all ≡ front ++ rest

@@ -16,6 +16,8 @@ use Rattle.mj_gfile.specs.declared.error.ReadError.{ReadError}
 use Rattle.mj_gfile.specs.declared.error.ReadError.TheVariants as error
 use Rattle.mj_gfile.specs.Spelling.{header, listing_of}
 use Rattle.mj_gfile.specs.Reading.{line_of}
+use Rattle.mj_subs.specs.declared.subs.TheConstants.{SUBSCRIPTS_LIMIT}
+use Rattle.mj_subs.specs.declared.word.TheConstants.{WORD_LIMIT}
 
 -- ---- limits
 
@@ -25,7 +27,7 @@ is_short t = nat_le (length t) TEXT_LIMIT
 
 -- a list of subscripts is within its limit, and each of them is
 abbrev pub are_small : List (List ℕ) → Bool
-are_small ss = nat_le (length ss) 31 && list_all is_short ss
+are_small ss = nat_le (length ss) SUBSCRIPTS_LIMIT && list_all is_short ss
 
 -- the name of this kind with this word and these subscripts
 abbrev pub name : Bool → List ℕ → List (List ℕ) → Name
@@ -33,7 +35,7 @@ name g w ss = record { global = g; word = w; subscripts = ss }
 
 -- a name is within the limits: its word is, and its subscripts are
 abbrev pub is_small : Name → Bool
-is_small n = nat_le (length n.word) 31 && are_small n.subscripts
+is_small n = nat_le (length n.word) WORD_LIMIT && are_small n.subscripts
 
 -- a name and its text are within the limits
 abbrev pub is_small_node : Name × List ℕ → Bool
@@ -139,7 +141,7 @@ is_subscript s = is_filled s && is_text s
 
 -- the name of a global, within the limits, and a text
 abbrev pub is_node : Name × List ℕ → Bool
-is_node e = e.0.global && is_word e.0.word && nat_le (length e.0.subscripts) 31 && list_all is_subscript e.0.subscripts && is_text e.1
+is_node e = e.0.global && is_word e.0.word && nat_le (length e.0.subscripts) SUBSCRIPTS_LIMIT && list_all is_subscript e.0.subscripts && is_text e.1
 
 -- globals: names of them that rise, each with its text
 pub record AreGlobals (content : Content) : Type 0 where

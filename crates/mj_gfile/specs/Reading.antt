@@ -173,9 +173,9 @@ whole_only None = None
 whole_only (Some p) = whole p.0 p.1
 
 -- what follows the byte b at the front
-abbrev pub behind : ℕ → List ℕ → Option (List ℕ)
-behind b [] = None
-behind b (c ∷ cs) = if c == b then Some cs else None
+abbrev pub past_byte : ℕ → List ℕ → Option (List ℕ)
+past_byte b [] = None
+past_byte b (c ∷ cs) = if c == b then Some cs else None
 
 abbrev pub assigned : Option (List ℕ) → Option (List ℕ)
 assigned None = None
@@ -183,7 +183,7 @@ assigned (Some cs) = whole_only (text_at cs)
 
 -- the text in listing quotes that stands behind `=` and is followed by nothing, where the bytes behind a name are given
 abbrev pub value_of : List ℕ → Option (List ℕ)
-value_of bs = assigned (behind 61 bs)
+value_of bs = assigned (past_byte 61 bs)
 
 -- the name n with its text
 abbrev pub with_value : Name → Option (List ℕ) → Option (Name × List ℕ)
@@ -201,4 +201,4 @@ globally (Some cs) = valued (name_in true cs)
 -- the name of a global, which begins with `^`, and the text that a line spells, of any size. A line is given without the byte 10 that
 -- ends it
 abbrev pub line_of : List ℕ → Option (Name × List ℕ)
-line_of bs = globally (behind 94 bs)
+line_of bs = globally (past_byte 94 bs)

@@ -51,6 +51,10 @@ listed_name n = word_text n.global n.word ++ listed_subscripts n.subscripts
 abbrev pub listed_line : Name × List ℕ → List ℕ
 listed_line e = listed_name e.0 ++ 61 ∷ listed_text e.1
 
+-- the line of a name that is given by its parts, and of its text, with the byte 10 that ends it
+abbrev pub ended_line : Bool → List ℕ → List (List ℕ) → List ℕ → List ℕ
+ended_line global word subscripts text = listed_line (record { global = global; word = word; subscripts = subscripts }, text) ++ 10 ∷ []
+
 -- the lines of names and their texts, in order
 abbrev pub listed_lines : Content → List ℕ
 listed_lines [] = []

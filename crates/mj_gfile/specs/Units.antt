@@ -17,7 +17,7 @@ pub record IsUnit (read : Option (List ℕ × List ℕ)) (bs : List ℕ) (u : Op
   pub reads : read ≡ unit_of u
   pub shorter : IsShorter bs u
 
--- the same, where there may be none
+-- what is read of the bytes bs is what the unit says, where there is one
 abbrev pub IsUnitOf : Option (List ℕ × List ℕ) → List ℕ → Option (Option ℕ × List ℕ) → Type 0
 IsUnitOf read bs None = read ≡ None
 IsUnitOf read bs (Some u) = IsUnit read bs u

@@ -1,8 +1,8 @@
 // Listings of globals: a text of lines, one for each name that has a text, by which globals come in and go out.
 //
-// There is one listing for each set of globals: `write` gives it, and `write_to` writes it part by part, `listing_of` of `specs/Spelling.antt`, and `read` reads it back. What
-// else it is given it refuses, by the first line that is none: `reading_of` of `specs/Listing.antt`. The fields of a line, names and texts
-// in listing quotes, are read and written by calls of their own.
+// There is one listing for each set of globals, `listing_of` of `specs/Spelling.antt`: `write` gives it, `write_to` writes it part by part, and
+// `read` reads it back. What else it is given it refuses, by the first line that is none: `reading_of` of `specs/Listing.antt`. The fields of a
+// line, names and texts in listing quotes, are read and written by calls of their own.
 #![tactic(auto)]
 
 mod error;

@@ -4,7 +4,7 @@ ghost use Rattle.std.specs.Prelude.{◌≡◌, ◌∷◌, ◌+◌, ◌⊎◌, tr
 ghost use Rattle.std.specs.Option.{option_copied, option_map};
 ghost use Rattle.mj_subs.specs.Name.{Name as SeenName};
 ghost use Rattle.mj_gfile.specs.declared.error.ReadError.TheVariants as error;
-ghost use Rattle.mj_gfile.specs.Reading.{behind, value_of, line_of};
+ghost use Rattle.mj_gfile.specs.Reading.{past_byte, value_of, line_of};
 ghost use Rattle.mj_gfile.specs.Listing.{limited, is_small, is_short, is_small_node, value_field, node_field, lines_of, unended, is_after, judged};
 
 use crate::error::ReadError;
@@ -106,7 +106,7 @@ fn read_value(alloc: Global, bytes: &[u8]) -> Result<Option<Field<Text>>, AllocE
 
 // What follows a byte at the front, if that stands there.
 fn behind(bytes: &[u8], byte: u8) -> Option<&[u8]>
-    ensures { option_map (λ rest. rest.now) result ≡ behind byte bytes.now }
+    ensures { option_map (λ rest. rest.now) result ≡ past_byte byte bytes.now }
 {
     let [first, rest @ ..] = bytes else {
         return None;

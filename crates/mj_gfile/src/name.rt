@@ -10,7 +10,7 @@ ghost use Rattle.mj_gfile.specs.Listing.{limited, is_short, are_small, is_small,
 use crate::field::Field;
 use crate::quoted::{read_quoted, short_text, text_of};
 use mj_num::is_canonic_bytes;
-use mj_subs::{Name, SUBSCRIPT_LIMIT, Sub, Subs, WORD_LIMIT};
+use mj_subs::{Name, SUBSCRIPTS_LIMIT, Sub, Subs, WORD_LIMIT};
 use mj_text::Text;
 use std::alloc::{AllocError, Global};
 
@@ -27,7 +27,7 @@ pub fn read_name<'a>(
     }
 }
 
-/// The same of a name of this kind, behind its `^`.
+/// The name of this kind at the front of some bytes, behind its `^`, and what follows it, or none where none stands there.
 pub(crate) fn read_name_in<'a>(
     alloc: Global,
     global: bool,
@@ -108,7 +108,7 @@ fn with_one_more(subs: Field<Subs>, sub: Field<Sub>) -> Result<Field<Subs>, Allo
     let Field::Within(sub) = sub else {
         return Ok(Field::Over);
     };
-    if list.len() == SUBSCRIPT_LIMIT {
+    if list.len() == SUBSCRIPTS_LIMIT {
         return Ok(Field::Over);
     }
     match list.push(sub) {

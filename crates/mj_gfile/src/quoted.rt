@@ -62,7 +62,7 @@ fn read_unit(bytes: &[u8]) -> Option<(Option<u8>, &[u8])>
     }
 }
 
-// The same behind a quote: a second one spells a quote.
+// What a quote begins, by what stands behind it: a second one spells a quote, and else it closes the text.
 fn read_behind_quote(bytes: &[u8]) -> (Option<u8>, &[u8])
     ensures { IsUnit (quoted_at Quote bytes.now) bytes.now (result.0, result.1.now) }
 {
@@ -72,7 +72,7 @@ fn read_behind_quote(bytes: &[u8]) -> (Option<u8>, &[u8])
     }
 }
 
-// The same behind a backslash: a second one spells a backslash, and two digits a byte without a sign.
+// What a backslash begins, by what stands behind it: a second one spells a backslash, and two digits a byte without a sign.
 fn read_behind_slash(bytes: &[u8]) -> Option<(Option<u8>, &[u8])>
     ensures { IsUnitOf (quoted_at Slash bytes.now) bytes.now (option_map (λ p. (p.0, p.1.now)) result) }
 {
@@ -85,7 +85,7 @@ fn read_behind_slash(bytes: &[u8]) -> Option<(Option<u8>, &[u8])>
     read_behind_digit(digit_value(*first)?, rest)
 }
 
-// The same behind a backslash and a digit of this value.
+// What a backslash and a digit of this value begin: with a second digit they spell a byte without a sign.
 fn read_behind_digit(high: u8, bytes: &[u8]) -> Option<(Option<u8>, &[u8])>
     requires { high < 16 }
     ensures { (digit : ℕ) → high ≡ digit_value digit → IsUnitOf (quoted_at (Digit digit) bytes.now) bytes.now (option_map (λ p. (p.0, p.1.now)) result) }

@@ -51,17 +51,17 @@ fn read_nodes(alloc: Global, bytes: &[u8]) -> Result<Globals, ReadError>
     let mut globals = Globals::new(alloc);
     let mut last = None;
     let read = put_nodes(alloc, bytes, &mut globals, &mut last);
-    drop(last);
+    drop(last); // for the proof
     match read {
         Ok(()) => Ok(globals),
         Err(error) => {
-            drop(globals);
+            drop(globals); // for the proof
             Err(error)
         }
     }
 }
 
-// What these lines list is put to the globals, where there is nothing yet; `last` is the name in the last line that was read.
+// Puts what these lines list to the globals, where there is nothing yet; `last` is the name in the last line that was read.
 fn put_nodes(
     alloc: Global,
     bytes: &[u8],
@@ -88,7 +88,7 @@ fn put_nodes(
     }
 }
 
-// What one line more lists is put to the globals, and its name is the last one.
+// Puts what one line more lists to the globals, and makes its name the last one.
 fn put_node(
     alloc: Global,
     line: &[u8],
@@ -101,14 +101,14 @@ fn put_node(
 {
     let (name, text) = read_node(alloc, line, number, last.as_ref())?;
     let put = globals.set(&name, &text);
-    drop(text);
+    drop(text); // for the proof
     match put {
         Ok(()) => {
             drop(last.replace(name));
             Ok(())
         }
         Err(_) => {
-            drop(name);
+            drop(name); // for the proof
             Err(ReadError::Memory)
         }
     }

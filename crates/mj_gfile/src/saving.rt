@@ -9,7 +9,7 @@ use crate::writing::add_line;
 use mj_globs::Globals;
 use mj_subs::Subs;
 use mj_text::Text;
-use mj_tree::{Sink, Stop};
+use mj_tree::{Sink, SinkStop};
 use std::alloc::{AllocError, Global};
 use std::io::{ErrorKind, Write};
 
@@ -28,7 +28,7 @@ pub fn write(alloc: Global, globals: &Globals) -> Result<Vec<u8>, AllocError>
 
 /// Writes the listing of a store to a writer, a part at a time, and gives the writer back. Beside a part and a line it takes no memory. After a refusal
 /// a front of the listing may have been written.
-pub fn write_to<W: Write + Drop>(alloc: Global, globals: &Globals, out: W) -> Result<W, Stop>
+pub fn write_to<W: Write + Drop>(alloc: Global, globals: &Globals, out: W) -> Result<W, SinkStop>
     ensures { IfOk result (λ given. Appends (W.contents out) (W.contents given) (listing_of globals.now)) }
 {
     let mut lines = Lines {
@@ -67,7 +67,9 @@ impl<W: Write> Sink for Lines<W> {
 
     ghost nothing = { λ s. appends_none (with_waiting (W.contents s.out) s.bytes.items) };
 
-    ghost more = { λ r s t xs ys one two. lines_more (with_waiting (W.contents r.out) r.bytes.items) (with_waiting (W.contents s.out) s.bytes.items) (with_waiting (W.contents t.out) t.bytes.items) xs ys one two };
+    ghost more = { λ r s t xs ys one two.
+        lines_more (with_waiting (W.contents r.out) r.bytes.items) (with_waiting (W.contents s.out) s.bytes.items)
+        (with_waiting (W.contents t.out) t.bytes.items) xs ys one two };
 
     fn take(
         &mut self,
@@ -75,7 +77,7 @@ impl<W: Write> Sink for Lines<W> {
         word: &[u8],
         subscripts: &Subs,
         text: &Text,
-    ) -> Result<(), Stop> {
+    ) -> Result<(), SinkStop> {
         add_line(&mut self.bytes, global, word, subscripts.as_slice(), text)?;
         if self.bytes.len() < PART {
             return Ok(());
@@ -84,8 +86,8 @@ impl<W: Write> Sink for Lines<W> {
     }
 }
 
-// Writes these bytes, which are gone then.
-fn pour<W: Write>(bytes: &mut Vec<u8>, out: &mut W) -> Result<(), Stop>
+// Writes these bytes and empties them.
+fn pour<W: Write>(bytes: &mut Vec<u8>, out: &mut W) -> Result<(), SinkStop>
     ensures gone { OnOk result (bytes.new.items ≡ []) }
     ensures written { OnOk result (Appends (W.contents out.old) (W.contents out.new) bytes.old.items) }
 {
@@ -94,7 +96,7 @@ fn pour<W: Write>(bytes: &mut Vec<u8>, out: &mut W) -> Result<(), Stop>
             bytes.clear();
             Ok(())
         }
-        Err(error) if error.kind() == ErrorKind::OutOfMemory => Err(Stop::Memory),
-        Err(_) => Err(Stop::Closed),
+        Err(error) if error.kind() == ErrorKind::OutOfMemory => Err(SinkStop::Memory),
+        Err(_) => Err(SinkStop::Closed),
     }
 }

@@ -1,8 +1,8 @@
 // Lines of listings, and their fields, are put to the end of bytes.
 
 ghost use Rattle.std.specs.Prelude.{◌≡◌, ◌<◌, ◌++◌, ◌∷◌, [], if◌then◌else◌, is_ok, IfOk, OnOk};
-ghost use Rattle.mj_gfile.specs.Begins.{Begins};
-ghost use Rattle.mj_gfile.specs.Spelling.{digit_byte, is_shown, quoted_byte, quoted_bytes, listed_text, listed_subscript, listed_rest, listed_subscripts, listed_name, listed_line, listed_lines};
+ghost use Rattle.mj_gfile.specs.Begins.{HasFront};
+ghost use Rattle.mj_gfile.specs.Spelling.{digit_byte, is_shown, quoted_byte, quoted_bytes, listed_text, listed_subscript, listed_rest, listed_subscripts, listed_name, listed_line, listed_lines, ended_line};
 
 use mj_num::is_canonic_bytes;
 use mj_subs::{Name, Sub};
@@ -21,11 +21,11 @@ pub fn put_nodes(bytes: &mut Vec<u8>, nodes: &[(Name, Text)]) -> Result<(), Allo
     added
 }
 
-// The same, but that after want of memory a part may stand there.
+// Puts the lines of names and their texts to the end; after want of memory a part may stand there.
 #[tactic(auto, using(crate::proofs::Longer::begins_same, crate::proofs::Longer::begins_more, crate::proofs::Longer::begins_trans))]
 fn add_nodes(bytes: &mut Vec<u8>, nodes: &[(Name, Text)]) -> Result<(), AllocError>
     ensures ok { OnOk result (bytes.new.items ≡ bytes.old.items ++ listed_lines nodes.now) }
-    ensures kept { Begins bytes.old.items bytes.new.items }
+    ensures kept { HasFront bytes.old.items bytes.new.items }
 {
     for (name, text) in nodes {
         add_node(bytes, name, text)?;
@@ -37,13 +37,13 @@ fn add_nodes(bytes: &mut Vec<u8>, nodes: &[(Name, Text)]) -> Result<(), AllocErr
 #[tactic(auto, using(crate::proofs::Longer::begins_same, crate::proofs::Longer::begins_more, crate::proofs::Longer::begins_trans))]
 fn add_node(bytes: &mut Vec<u8>, name: &Name, text: &Text) -> Result<(), AllocError>
     ensures ok { OnOk result (bytes.new.items ≡ bytes.old.items ++ (listed_line (name.now, text.now) ++ 10 ∷ [])) }
-    ensures kept { Begins bytes.old.items bytes.new.items }
+    ensures kept { HasFront bytes.old.items bytes.new.items }
 {
     add_name(bytes, name)?;
     add_value(bytes, text)
 }
 
-// The same, where the name is given by its parts.
+// Puts the line of a name that is given by its parts, and of its text, to the end, and byte 10.
 #[tactic(auto, using(crate::proofs::Longer::begins_same, crate::proofs::Longer::begins_more, crate::proofs::Longer::begins_trans))]
 pub(crate) fn add_line(
     bytes: &mut Vec<u8>,
@@ -52,8 +52,8 @@ pub(crate) fn add_line(
     subs: &[Sub],
     text: &Text,
 ) -> Result<(), AllocError>
-    ensures ok { OnOk result (bytes.new.items ≡ bytes.old.items ++ (listed_line (record { global = global; word = word.now; subscripts = subs.now }, text.now) ++ 10 ∷ [])) }
-    ensures kept { Begins bytes.old.items bytes.new.items }
+    ensures ok { OnOk result (bytes.new.items ≡ bytes.old.items ++ ended_line global word.now subs.now text.now) }
+    ensures kept { HasFront bytes.old.items bytes.new.items }
 {
     add_parts(bytes, global, word, subs)?;
     add_value(bytes, text)
@@ -63,7 +63,7 @@ pub(crate) fn add_line(
 #[tactic(auto, using(crate::proofs::Longer::begins_same, crate::proofs::Longer::begins_more, crate::proofs::Longer::begins_trans))]
 fn add_value(bytes: &mut Vec<u8>, text: &Text) -> Result<(), AllocError>
     ensures ok { OnOk result (bytes.new.items ≡ bytes.old.items ++ (61 ∷ (listed_text text.now ++ 10 ∷ []))) }
-    ensures kept { Begins bytes.old.items bytes.new.items }
+    ensures kept { HasFront bytes.old.items bytes.new.items }
 {
     bytes.push(b'=')?;
     add_text(bytes, text)?;
@@ -83,22 +83,22 @@ pub fn put_name(bytes: &mut Vec<u8>, name: &Name) -> Result<(), AllocError>
     added
 }
 
-// The same, but that after want of memory a part may stand there.
+// Puts a name to the end; after want of memory a part may stand there.
 #[tactic(auto, using(crate::proofs::Longer::begins_same, crate::proofs::Longer::begins_more, crate::proofs::Longer::begins_trans))]
 fn add_name(bytes: &mut Vec<u8>, name: &Name) -> Result<(), AllocError>
     ensures ok { OnOk result (bytes.new.items ≡ bytes.old.items ++ listed_name name.now) }
-    ensures kept { Begins bytes.old.items bytes.new.items }
+    ensures kept { HasFront bytes.old.items bytes.new.items }
 {
     let mut digits = Digits::new();
     let word = name.word().bytes(&mut digits);
     add_parts(bytes, name.is_global(), word, name.subscripts().as_slice())
 }
 
-// The same, where the name is given by its parts.
+// Puts a name that is given by its parts to the end; after want of memory a part may stand there.
 #[tactic(auto, using(crate::proofs::Longer::begins_same, crate::proofs::Longer::begins_more, crate::proofs::Longer::begins_trans))]
 fn add_parts(bytes: &mut Vec<u8>, global: bool, word: &[u8], subs: &[Sub]) -> Result<(), AllocError>
     ensures ok { OnOk result (bytes.new.items ≡ bytes.old.items ++ listed_name (record { global = global; word = word.now; subscripts = subs.now })) }
-    ensures kept { Begins bytes.old.items bytes.new.items }
+    ensures kept { HasFront bytes.old.items bytes.new.items }
 {
     if global {
         bytes.push(b'^')?;
@@ -119,11 +119,11 @@ pub fn put_subscripts(bytes: &mut Vec<u8>, subs: &[Sub]) -> Result<(), AllocErro
     added
 }
 
-// The same, but that after want of memory a part may stand there.
+// Puts a list of subscripts to the end; after want of memory a part may stand there.
 #[tactic(auto, using(crate::proofs::Longer::begins_same, crate::proofs::Longer::begins_more, crate::proofs::Longer::begins_trans))]
 fn add_subscripts(bytes: &mut Vec<u8>, subs: &[Sub]) -> Result<(), AllocError>
     ensures ok { OnOk result (bytes.new.items ≡ bytes.old.items ++ listed_subscripts subs.now) }
-    ensures kept { Begins bytes.old.items bytes.new.items }
+    ensures kept { HasFront bytes.old.items bytes.new.items }
 {
     let [first, rest @ ..] = subs else {
         return Ok(());
@@ -150,11 +150,11 @@ pub fn put_subscript(bytes: &mut Vec<u8>, sub: &Sub) -> Result<(), AllocError>
     added
 }
 
-// The same, but that after want of memory a part may stand there.
+// Puts a subscript to the end; after want of memory a part may stand there.
 #[tactic(auto, using(crate::proofs::Longer::begins_same, crate::proofs::Longer::begins_more, crate::proofs::Longer::begins_trans))]
 fn add_subscript(bytes: &mut Vec<u8>, sub: &Sub) -> Result<(), AllocError>
     ensures ok { OnOk result (bytes.new.items ≡ bytes.old.items ++ listed_subscript sub.now) }
-    ensures kept { Begins bytes.old.items bytes.new.items }
+    ensures kept { HasFront bytes.old.items bytes.new.items }
 {
     if sub.number().is_none() {
         return add_text(bytes, sub.text());
@@ -176,11 +176,11 @@ pub fn put_text(bytes: &mut Vec<u8>, text: &Text) -> Result<(), AllocError>
     added
 }
 
-// The same, but that after want of memory a part may stand there.
+// Puts a text in listing quotes to the end; after want of memory a part may stand there.
 #[tactic(auto, using(crate::proofs::Longer::begins_same, crate::proofs::Longer::begins_more, crate::proofs::Longer::begins_trans))]
 fn add_text(bytes: &mut Vec<u8>, text: &Text) -> Result<(), AllocError>
     ensures ok { OnOk result (bytes.new.items ≡ bytes.old.items ++ listed_text text.now) }
-    ensures kept { Begins bytes.old.items bytes.new.items }
+    ensures kept { HasFront bytes.old.items bytes.new.items }
 {
     let mut digits = Digits::new();
     bytes.push(b'"')?;
@@ -192,7 +192,7 @@ fn add_text(bytes: &mut Vec<u8>, text: &Text) -> Result<(), AllocError>
 #[tactic(auto, using(crate::proofs::Longer::begins_same, crate::proofs::Longer::begins_more, crate::proofs::Longer::begins_trans))]
 fn add_quoted(bytes: &mut Vec<u8>, text: &[u8]) -> Result<(), AllocError>
     ensures ok { OnOk result (bytes.new.items ≡ bytes.old.items ++ quoted_bytes text.now) }
-    ensures kept { Begins bytes.old.items bytes.new.items }
+    ensures kept { HasFront bytes.old.items bytes.new.items }
 {
     for byte in text {
         add_byte(bytes, *byte)?;

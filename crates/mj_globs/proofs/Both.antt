@@ -85,7 +85,8 @@ module _ (w : List ℕ) (p : List (List ℕ)) where
   set_global : (v : List ℕ) (xs : Content) (ls : Words) → after_set (xs ++ of_kind false ls) (name true w p) v ≡ after_set xs (name true w p) v ++ of_kind false ls
   set_global v [] ls = set_before v ls
   set_global v (x ∷ xs) ls =
-      elim (name_cmp (name true w p) x.0) as (λ r. by_order r ((name true w p, v) ∷ x ∷ (xs ++ of_kind false ls)) ((x.0, v) ∷ (xs ++ of_kind false ls)) (x ∷ after_set (xs ++ of_kind false ls) (name true w p) v) ≡ by_order r ((name true w p, v) ∷ x ∷ xs) ((x.0, v) ∷ xs) (x ∷ after_set xs (name true w p) v) ++ of_kind false ls) [
+      elim (name_cmp (name true w p) x.0) as (λ r. by_order r ((name true w p, v) ∷ x ∷ (xs ++ of_kind false ls)) ((x.0, v) ∷ (xs ++ of_kind false ls))
+      (x ∷ after_set (xs ++ of_kind false ls) (name true w p) v) ≡ by_order r ((name true w p, v) ∷ x ∷ xs) ((x.0, v) ∷ xs) (x ∷ after_set xs (name true w p) v) ++ of_kind false ls) [
         | Less ↦ refl
         | Equal ↦ refl
         | Greater ↦ ap (λ (r : Content). x ∷ r) (set_global v xs ls)
@@ -103,11 +104,13 @@ module _ (w : List ℕ) (p : List (List ℕ)) where
       ∙ ap (λ (r : Content). of_word true k.0 k.1 ++ r) (set_local v ks rest)
       ∙ sym (joined (of_word true k.0 k.1) (of_kind true ks) (after_set rest (name false w p) v))
 
-put_global : (w : List ℕ) (p : List (List ℕ)) (more : Subtree) (xs : Content) (ls : Words) → after_put (xs ++ of_kind false ls) (name true w p) more ≡ after_put xs (name true w p) more ++ of_kind false ls
+put_global : (w : List ℕ) (p : List (List ℕ)) (more : Subtree) (xs : Content) (ls : Words)
+    → after_put (xs ++ of_kind false ls) (name true w p) more ≡ after_put xs (name true w p) more ++ of_kind false ls
 put_global w p [] xs ls = refl
 put_global w p (e ∷ es) xs ls = ap (λ (c : Content). after_put c (name true w p) es) (set_global w (p ++ e.0) e.1 xs ls) ∙ put_global w p es (after_set xs (name true w (p ++ e.0)) e.1) ls
 
-put_local : (w : List ℕ) (p : List (List ℕ)) (more : Subtree) (gs : Words) (rest : Content) → after_put (of_kind true gs ++ rest) (name false w p) more ≡ of_kind true gs ++ after_put rest (name false w p) more
+put_local : (w : List ℕ) (p : List (List ℕ)) (more : Subtree) (gs : Words) (rest : Content)
+    → after_put (of_kind true gs ++ rest) (name false w p) more ≡ of_kind true gs ++ after_put rest (name false w p) more
 put_local w p [] gs rest = refl
 put_local w p (e ∷ es) gs rest = ap (λ (c : Content). after_put c (name false w p) es) (set_local w (p ++ e.0) e.1 gs rest) ∙ put_local w p es gs (after_set rest (name false w (p ++ e.0)) e.1)
 
@@ -145,19 +148,25 @@ module _ (gs ls : Words) (n : Name) where
 
   pub kill_globals : (hs : Words) → true ≡ n.global → ((g : Bool) → of_kind g hs ≡ after_kill (of_kind g gs) (name g n.word n.subscripts)) → of_both hs ls ≡ after_kill (of_both gs ls) n
   kill_globals hs is changed =
-      (λ i. changed true i ++ sym (kept_locals n.word n.subscripts ls) i) ∙ sym (kill-append (name true n.word n.subscripts) (of_kind true gs) (of_kind false ls)) ∙ ap (λ g. after_kill (of_both gs ls) (name g n.word n.subscripts)) is
+      (λ i. changed true i ++ sym (kept_locals n.word n.subscripts ls) i) ∙ sym (kill-append (name true n.word n.subscripts) (of_kind true gs) (of_kind false ls))
+      ∙ ap (λ g. after_kill (of_both gs ls) (name g n.word n.subscripts)) is
 
   pub kill_locals : (ms : Words) → false ≡ n.global → ((g : Bool) → of_kind g ms ≡ after_kill (of_kind g ls) (name g n.word n.subscripts)) → of_both gs ms ≡ after_kill (of_both gs ls) n
   kill_locals ms is changed =
-      (λ i. sym (kept_globals n.word n.subscripts gs) i ++ changed false i) ∙ sym (kill-append (name false n.word n.subscripts) (of_kind true gs) (of_kind false ls)) ∙ ap (λ g. after_kill (of_both gs ls) (name g n.word n.subscripts)) is
+      (λ i. sym (kept_globals n.word n.subscripts gs) i ++ changed false i) ∙ sym (kill-append (name false n.word n.subscripts) (of_kind true gs) (of_kind false ls))
+      ∙ ap (λ g. after_kill (of_both gs ls) (name g n.word n.subscripts)) is
 
-  pub put_globals : (more : Subtree) (hs : Words) → true ≡ n.global → ((g : Bool) → of_kind g hs ≡ after_put (of_kind g gs) (name g n.word n.subscripts) more) → of_both hs ls ≡ after_put (of_both gs ls) n more
+  pub put_globals : (more : Subtree) (hs : Words) → true ≡ n.global → ((g : Bool) → of_kind g hs ≡ after_put (of_kind g gs) (name g n.word n.subscripts) more)
+      → of_both hs ls ≡ after_put (of_both gs ls) n more
   put_globals more hs is changed =
-      ap (λ (xs : Content). xs ++ of_kind false ls) (changed true) ∙ sym (put_global n.word n.subscripts more (of_kind true gs) ls) ∙ ap (λ g. after_put (of_both gs ls) (name g n.word n.subscripts) more) is
+      ap (λ (xs : Content). xs ++ of_kind false ls) (changed true) ∙ sym (put_global n.word n.subscripts more (of_kind true gs) ls)
+      ∙ ap (λ g. after_put (of_both gs ls) (name g n.word n.subscripts) more) is
 
-  pub put_locals : (more : Subtree) (ms : Words) → false ≡ n.global → ((g : Bool) → of_kind g ms ≡ after_put (of_kind g ls) (name g n.word n.subscripts) more) → of_both gs ms ≡ after_put (of_both gs ls) n more
+  pub put_locals : (more : Subtree) (ms : Words) → false ≡ n.global → ((g : Bool) → of_kind g ms ≡ after_put (of_kind g ls) (name g n.word n.subscripts) more)
+      → of_both gs ms ≡ after_put (of_both gs ls) n more
   put_locals more ms is changed =
-      ap (λ (xs : Content). of_kind true gs ++ xs) (changed false) ∙ sym (put_local n.word n.subscripts more gs (of_kind false ls)) ∙ ap (λ g. after_put (of_both gs ls) (name g n.word n.subscripts) more) is
+      ap (λ (xs : Content). of_kind true gs ++ xs) (changed false) ∙ sym (put_local n.word n.subscripts more gs (of_kind false ls))
+      ∙ ap (λ g. after_put (of_both gs ls) (name g n.word n.subscripts) more) is
 
 -- the names still rise after each change
 
@@ -172,7 +181,8 @@ rises_put es n [] h = h
 rises_put es n (e ∷ more) h = rises_put (after_set es (followed_by n e.0) e.1) n more (rises_set es (followed_by n e.0) e.1 h)
 
 -- also where a change may fail, and then leaves all as it was
-pub rises_either : {A E : Type 0} (r : Result A E) (old new changed : Content) → OnOk r (new ≡ changed) → OnErr r (new ≡ old) → T (is_sorted name_cmp old) → T (is_sorted name_cmp changed) → T (is_sorted name_cmp new)
+pub rises_either : {A E : Type 0} (r : Result A E) (old new changed : Content) → OnOk r (new ≡ changed) → OnErr r (new ≡ old) → T (is_sorted name_cmp old) → T (is_sorted name_cmp changed)
+    → T (is_sorted name_cmp new)
 rises_either (Ok x) old new changed ok err h k = subst (λ (es : Content). T (is_sorted name_cmp es)) (sym ok) k
 rises_either (Err e) old new changed ok err h k = subst (λ (es : Content). T (is_sorted name_cmp es)) (sym err) h
 
@@ -181,6 +191,7 @@ subtree_whole [] = refl
 subtree_whole (e ∷ es) = ap (λ (r : Subtree). e ∷ r) (subtree_whole es)
 
 -- the next name is that of the next list in the word
-pub query_of : (content : Content) (n : Name) (p : List (List ℕ)) (nodes : Subtree) (next : Option (List (List ℕ))) → next ≡ next_after subscript_cmp p nodes → p ≡ n.subscripts → subtree_at content (with_subscripts n []) ≡ subtree subscript_cmp [] nodes → option_map (with_subscripts n) next ≡ query_at content n
+pub query_of : (content : Content) (n : Name) (p : List (List ℕ)) (nodes : Subtree) (next : Option (List (List ℕ))) → next ≡ next_after subscript_cmp p nodes → p ≡ n.subscripts
+    → subtree_at content (with_subscripts n []) ≡ subtree subscript_cmp [] nodes → option_map (with_subscripts n) next ≡ query_at content n
 query_of content n p nodes next is same own =
     ap (option_map (with_subscripts n)) (is ∙ (λ i. next_after subscript_cmp (same i) (sym (own ∙ subtree_whole nodes) i)))

@@ -15,7 +15,8 @@ use Rattle.mj_globs.proofs.Groups.{W, S, set_kind, kill_none, kill_some, kind_re
 use Rattle.mj_globs.proofs.Spelled.{lookup_spelled, set_spelled}
 
 -- a word that is there
-module _ (es fs : List (Vec ℕ Global × Subtree)) (key word : List ℕ) (same : key ≡ word) (p : List (List ℕ)) (c w : Subtree) (there : lookup (is_at (λ (k : Vec ℕ Global). W key k.items)) es ≡ Some c) (written : fs ≡ set_value (is_at (λ (k : Vec ℕ Global). W key k.items)) es w) (h : T (is_sorted W (spelled es))) where
+module _ (es fs : List (Vec ℕ Global × Subtree)) (key word : List ℕ) (same : key ≡ word) (p : List (List ℕ)) (c w : Subtree) (there : lookup (is_at (λ (k : Vec ℕ Global). W key k.items)) es ≡ Some c)
+    (written : fs ≡ set_value (is_at (λ (k : Vec ℕ Global). W key k.items)) es w) (h : T (is_sorted W (spelled es))) where
   here : lookup (is_at (W word)) (spelled es) ≡ Some c
   here = ap (λ (s : List ℕ). lookup (is_at (W s)) (spelled es)) (sym same) ∙ sym (lookup_spelled (W key) es) ∙ there
 
@@ -30,7 +31,8 @@ module _ (es fs : List (Vec ℕ Global × Subtree)) (key word : List ℕ) (same 
 
   pub set_there : (v : List ℕ) → w ≡ put S p v c → (g : Bool) → of_kind g (spelled fs) ≡ after_set (of_kind g (spelled es)) (name g word p) v
   set_there v is g =
-      ap (of_kind g) (after ∙ ap (set_value (is_at (W word)) (spelled es)) is ∙ sym (insert-set_value W nat_list_cmp_total (spelled es) word c (put S p v c) h here) ∙ ap (λ (l : Option Subtree). insert_entry W (spelled es) word (put S p v (nodes_of l))) (sym here))
+      ap (of_kind g) (after ∙ ap (set_value (is_at (W word)) (spelled es)) is ∙ sym (insert-set_value W nat_list_cmp_total (spelled es) word c (put S p v c) h here)
+      ∙ ap (λ (l : Option Subtree). insert_entry W (spelled es) word (put S p v (nodes_of l))) (sym here))
       ∙ sym (set_kind g word p v (spelled es) h)
 
   pub kill_there : w ≡ without subscript_cmp p c → (g : Bool) → of_kind g (spelled fs) ≡ after_kill (of_kind g (spelled es)) (name g word p)
@@ -46,11 +48,13 @@ module _ (es fs : List (Vec ℕ Global × Subtree)) (key word : List ℕ) (same 
     pub kill_removed : w ≡ without subscript_cmp p c → w ≡ [] → (g : Bool) → of_kind g (spelled gs) ≡ after_kill (of_kind g (spelled es)) (name g word p)
     kill_removed is gone g =
         ap (of_kind g) removed
-        ∙ kind_removed g (spelled fs) key (ap (λ (s : List ℕ). lookup (is_at (W s)) (spelled fs)) same ∙ ap (lookup (is_at (W word))) after ∙ lookup_written W (spelled es) word c w here ∙ ap (λ (n : Subtree). Some n) gone)
+        ∙ kind_removed g (spelled fs) key (ap (λ (s : List ℕ). lookup (is_at (W s)) (spelled fs)) same ∙ ap (lookup (is_at (W word))) after ∙ lookup_written W (spelled es) word c w here
+        ∙ ap (λ (n : Subtree). Some n) gone)
         ∙ kill_there is g
 
 -- a word that isn't there
-module _ (es fs : List (Vec ℕ Global × Subtree)) (key word : List ℕ) (same : key ≡ word) (p : List (List ℕ)) (absent : lookup (is_at (λ (k : Vec ℕ Global). W key k.items)) es ≡ None) (kept : spelled fs ≡ spelled es) (h : T (is_sorted W (spelled es))) where
+module _ (es fs : List (Vec ℕ Global × Subtree)) (key word : List ℕ) (same : key ≡ word) (p : List (List ℕ)) (absent : lookup (is_at (λ (k : Vec ℕ Global). W key k.items)) es ≡ None)
+    (kept : spelled fs ≡ spelled es) (h : T (is_sorted W (spelled es))) where
   nowhere : lookup (is_at (W word)) (spelled es) ≡ None
   nowhere = ap (λ (s : List ℕ). lookup (is_at (W s)) (spelled es)) (sym same) ∙ sym (lookup_spelled (W key) es) ∙ absent
 
@@ -67,7 +71,8 @@ module _ (es fs : List (Vec ℕ Global × Subtree)) (key word : List ℕ) (same 
         ap (of_kind g) (added ∙ (λ i. insert_entry W (kept i) (same i) (is i)) ∙ ap (λ (l : Option Subtree). insert_entry W (spelled es) word (put S p v (nodes_of l))) (sym nowhere))
         ∙ sym (set_kind g word p v (spelled es) h)
 
-    pub put_absent : (more : Subtree) → w ≡ put_behind subscript_cmp p more [] → spelled gs ≡ insert_entry W (spelled fs) key w → (g : Bool) → of_kind g (spelled gs) ≡ after_put (of_kind g (spelled es)) (name g word p) more
+    pub put_absent : (more : Subtree) → w ≡ put_behind subscript_cmp p more [] → spelled gs ≡ insert_entry W (spelled fs) key w → (g : Bool)
+        → of_kind g (spelled gs) ≡ after_put (of_kind g (spelled es)) (name g word p) more
     put_absent more is added g =
         ap (of_kind g) (added ∙ (λ i. insert_entry W (kept i) (same i) (is i)))
         ∙ sym (put_none g word p more (spelled es) h nowhere)

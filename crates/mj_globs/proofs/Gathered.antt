@@ -12,7 +12,9 @@ whole_subtree [] = refl
 whole_subtree (e ∷ es) = ap (λ (r : Subtree). e ∷ r) (whole_subtree es)
 
 -- all nodes of a word are gathered
-pub word_whole : (g : Bool) (word : List ℕ) (front : List (List ℕ)) (tree below items : Subtree) (start after : Content) (i : ℕ) → after ++ of_word g word (drop i items) ≡ start ++ of_word g word items → length items ≤ i → items ≡ below → below ≡ subtree subscript_cmp front tree → front ≡ [] → after ≡ start ++ of_word g word tree
+pub word_whole : (g : Bool) (word : List ℕ) (front : List (List ℕ)) (tree below items : Subtree) (start after : Content) (i : ℕ)
+    → after ++ of_word g word (drop i items) ≡ start ++ of_word g word items → length items ≤ i → items ≡ below → below ≡ subtree subscript_cmp front tree → front ≡ []
+    → after ≡ start ++ of_word g word tree
 word_whole g word front tree below items start after i so past is has none =
     sym (append-nil after)
     ∙ ap (λ (xs : Subtree). after ++ of_word g word xs) (sym (drop_all i items past))

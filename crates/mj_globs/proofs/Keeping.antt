@@ -34,7 +34,8 @@ module _ (list : List (List ℕ)) where
   kind_kept g [] = refl
   kind_kept g (k ∷ ks) = by (kind_kept g ks) (is_kept k.0) refl ∙ sym (filter-append (λ e. is_kept e.0.word) (of_word g k.0 k.1) (of_kind g ks))
     where
-      by : of_kind g (filter (λ j. is_kept j.0) ks) ≡ keeping list (of_kind g ks) → (b : Bool) → is_kept k.0 ≡ b → of_kind g (cond (is_kept k.0) (k ∷ filter (λ j. is_kept j.0) ks) (filter (λ j. is_kept j.0) ks)) ≡ keeping list (of_word g k.0 k.1) ++ keeping list (of_kind g ks)
+      by : of_kind g (filter (λ j. is_kept j.0) ks) ≡ keeping list (of_kind g ks) → (b : Bool) → is_kept k.0 ≡ b
+          → of_kind g (cond (is_kept k.0) (k ∷ filter (λ j. is_kept j.0) ks) (filter (λ j. is_kept j.0) ks)) ≡ keeping list (of_word g k.0 k.1) ++ keeping list (of_kind g ks)
       by r true h =
           ap (λ b. of_kind g (cond b (k ∷ filter (λ j. is_kept j.0) ks) (filter (λ j. is_kept j.0) ks))) h
           ∙ ap (λ l. of_word g k.0 k.1 ++ l) r ∙ ap (λ l. l ++ keeping list (of_kind g ks)) (sym (word_stays g k.0 h k.1))
@@ -46,7 +47,9 @@ module _ (list : List (List ℕ)) where
   spelled_kept [] = refl
   spelled_kept (e ∷ es) = by (spelled_kept es) (is_kept e.0.items)
     where
-      by : spelled (filter (λ k. is_kept k.0.items) es) ≡ filter (λ k. is_kept k.0) (spelled es) → (b : Bool) → spelled (cond b (e ∷ filter (λ k. is_kept k.0.items) es) (filter (λ k. is_kept k.0.items) es)) ≡ cond b ((e.0.items, e.1) ∷ filter (λ k. is_kept k.0) (spelled es)) (filter (λ k. is_kept k.0) (spelled es))
+      by : spelled (filter (λ k. is_kept k.0.items) es) ≡ filter (λ k. is_kept k.0) (spelled es) → (b : Bool)
+          → spelled (cond b (e ∷ filter (λ k. is_kept k.0.items) es) (filter (λ k. is_kept k.0.items) es))
+          ≡ cond b ((e.0.items, e.1) ∷ filter (λ k. is_kept k.0) (spelled es)) (filter (λ k. is_kept k.0) (spelled es))
       by r true = ap (λ l. (e.0.items, e.1) ∷ l) r
       by r false = r
 

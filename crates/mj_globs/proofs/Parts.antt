@@ -71,19 +71,26 @@ module _ (m : Name) where
   find_taken c (change.Kill n ∷ xs) =
       find_taken (after_kill c n) xs
       ∙ ap (λ (t : Option (List ℕ)). cond (goes xs) None t) (find_killed c n)
-      ∙ elim (rest_of n m) as (λ r. cond {A = Option (List ℕ)} (goes xs) None (cond (is_none r) (find name_cmp m c) None) ≡ cond {A = Option (List ℕ)} (is_some r || goes xs) None (find name_cmp m c)) [
+      ∙ elim (rest_of n m) as (λ r. cond {A = Option (List ℕ)} (goes xs) None (cond (is_none r) (find name_cmp m c) None)
+      ≡ cond {A = Option (List ℕ)} (is_some r || goes xs) None (find name_cmp m c)) [
         | None ↦ refl
         | Some l ↦ elim (goes xs) as (λ b. cond {A = Option (List ℕ)} b None None ≡ None) [ true ↦ refl | false ↦ refl ]
       ]
 
-  found_as_given : (c f : Content) (n : Name) (xs : List Change) → ((d : Content) → find name_cmp m (after_changes d xs) ≡ cond (goes xs) (find name_cmp m (after_changes d xs)) (find name_cmp m (all_given d xs))) → (r : Option (List (List ℕ))) → rest_of n m ≡ r → cond (goes xs) (find name_cmp m (after_changes (after_kill f n) xs)) (find name_cmp m (all_given (after_kill c n) xs)) ≡ cond (is_some r || goes xs) (find name_cmp m (after_changes (after_kill f n) xs)) (find name_cmp m (all_given c xs))
+  found_as_given : (c f : Content) (n : Name) (xs : List Change) → ((d : Content)
+      → find name_cmp m (after_changes d xs) ≡ cond (goes xs) (find name_cmp m (after_changes d xs)) (find name_cmp m (all_given d xs))) → (r : Option (List (List ℕ))) → rest_of n m ≡ r
+      → cond (goes xs) (find name_cmp m (after_changes (after_kill f n) xs)) (find name_cmp m (all_given (after_kill c n) xs))
+      ≡ cond (is_some r || goes xs) (find name_cmp m (after_changes (after_kill f n) xs)) (find name_cmp m (all_given c xs))
   found_as_given c f n xs each None e =
-      ap (cond (goes xs) (find name_cmp m (after_changes (after_kill f n) xs))) (same_given (after_kill c n) c xs (find_killed c n ∙ ap (λ (r : Option (List (List ℕ))). cond (is_none r) (find name_cmp m c) None) e))
+      ap (cond (goes xs) (find name_cmp m (after_changes (after_kill f n) xs))) (same_given (after_kill c n) c xs
+      (find_killed c n ∙ ap (λ (r : Option (List (List ℕ))). cond (is_none r) (find name_cmp m c) None) e))
   found_as_given c f n xs each (Some l) e =
-      elim (goes xs) as (λ b. goes xs ≡ b → cond b (find name_cmp m (after_changes (after_kill f n) xs)) (find name_cmp m (all_given (after_kill c n) xs)) ≡ find name_cmp m (after_changes (after_kill f n) xs)) [
+      elim (goes xs) as (λ b. goes xs ≡ b → cond b (find name_cmp m (after_changes (after_kill f n) xs)) (find name_cmp m (all_given (after_kill c n) xs))
+      ≡ find name_cmp m (after_changes (after_kill f n) xs)) [
         | true ↦ λ q. refl
         | false ↦ λ q.
-            same_given (after_kill c n) (after_kill f n) xs (find_killed c n ∙ ap (λ (r : Option (List (List ℕ))). cond (is_none r) (find name_cmp m c) None) e ∙ sym (find_killed f n ∙ ap (λ (r : Option (List (List ℕ))). cond (is_none r) (find name_cmp m f) None) e))
+            same_given (after_kill c n) (after_kill f n) xs (find_killed c n ∙ ap (λ (r : Option (List (List ℕ))). cond (is_none r) (find name_cmp m c) None) e
+            ∙ sym (find_killed f n ∙ ap (λ (r : Option (List (List ℕ))). cond (is_none r) (find name_cmp m f) None) e))
             ∙ sym (each (after_kill f n) ∙ ap (λ b. cond b (find name_cmp m (after_changes (after_kill f n) xs)) (find name_cmp m (all_given (after_kill f n) xs))) q)
       ] refl
 
@@ -129,12 +136,15 @@ module _ (m : Name) where
       ] refl none
 
 -- the texts first, and then the names that go
-pub in_two : (old : Content) (xs : List Change) (alone mid new : Content) → T (is_sorted name_cmp old) → alone ≡ after_changes [] xs → false ≡ list_any (is_rewritten alone) xs → mid ≡ all_given old xs → new ≡ all_taken mid xs → new ≡ after_changes old xs
+pub in_two : (old : Content) (xs : List Change) (alone mid new : Content) → T (is_sorted name_cmp old) → alone ≡ after_changes [] xs → false ≡ list_any (is_rewritten alone) xs → mid ≡ all_given old xs
+    → new ≡ all_taken mid xs → new ≡ after_changes old xs
 in_two old xs alone mid new h by none first then =
     then ∙ ap (λ (es : Content). all_taken es xs) first
-    ∙ same_entries name_cmp name_cmp_total name_cmp-IsAntisymmetric (all_taken (all_given old xs) xs) (after_changes old xs) (rises_taken (all_given old xs) xs (rises_given old xs h)) (rises_changes old xs h) (λ m.
+    ∙ same_entries name_cmp name_cmp_total name_cmp-IsAntisymmetric (all_taken (all_given old xs) xs) (after_changes old xs) (rises_taken (all_given old xs) xs (rises_given old xs h))
+    (rises_changes old xs h) (λ m.
     find_taken m (all_given old xs) xs
-    ∙ elim (list_any (takes m) xs) as (λ b. list_any (takes m) xs ≡ b → cond b None (find name_cmp m (all_given old xs)) ≡ cond b (find name_cmp m (after_changes [] xs)) (find name_cmp m (all_given old xs))) [
+    ∙ elim (list_any (takes m) xs) as (λ b. list_any (takes m) xs ≡ b → cond b None (find name_cmp m (all_given old xs))
+    ≡ cond b (find name_cmp m (after_changes [] xs)) (find name_cmp m (all_given old xs))) [
       | true ↦ λ q. sym (gone m (after_changes [] xs) xs (ap (λ (c : Content). list_any (is_rewritten c) xs) (sym by) ∙ sym none) q)
       | false ↦ λ q. refl
     ] refl

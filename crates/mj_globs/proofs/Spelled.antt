@@ -19,7 +19,8 @@ module _ (f : List ℕ → Ordering) where
   pub set_spelled : (es : List (Vec ℕ Global × Subtree)) (w : Subtree) → spelled (set_value (is_at (λ (k : Vec ℕ Global). f k.items)) es w) ≡ set_value (is_at f) (spelled es) w
   set_spelled [] w = refl
   set_spelled (e ∷ es) w =
-      elim (is_eq (f e.0.items)) as (λ b. spelled (cond b ((e.0, w) ∷ es) (e ∷ set_value (is_at (λ (k : Vec ℕ Global). f k.items)) es w)) ≡ cond b ((e.0.items, w) ∷ spelled es) ((e.0.items, e.1) ∷ set_value (is_at f) (spelled es) w)) [
+      elim (is_eq (f e.0.items)) as (λ b. spelled (cond b ((e.0, w) ∷ es) (e ∷ set_value (is_at (λ (k : Vec ℕ Global). f k.items)) es w))
+      ≡ cond b ((e.0.items, w) ∷ spelled es) ((e.0.items, e.1) ∷ set_value (is_at f) (spelled es) w)) [
         | true ↦ refl
         | false ↦ ap (λ (r : Words). (e.0.items, e.1) ∷ r) (set_spelled es w)
       ]
@@ -27,15 +28,18 @@ module _ (f : List ℕ → Ordering) where
   pub remove_spelled : (es : List (Vec ℕ Global × Subtree)) → spelled (remove_entry (is_at (λ (k : Vec ℕ Global). f k.items)) es) ≡ remove_entry (is_at f) (spelled es)
   remove_spelled [] = refl
   remove_spelled (e ∷ es) =
-      elim (is_eq (f e.0.items)) as (λ b. spelled (cond b es (e ∷ remove_entry (is_at (λ (k : Vec ℕ Global). f k.items)) es)) ≡ cond b (spelled es) ((e.0.items, e.1) ∷ remove_entry (is_at f) (spelled es))) [
+      elim (is_eq (f e.0.items)) as (λ b. spelled (cond b es (e ∷ remove_entry (is_at (λ (k : Vec ℕ Global). f k.items)) es))
+      ≡ cond b (spelled es) ((e.0.items, e.1) ∷ remove_entry (is_at f) (spelled es))) [
         | true ↦ refl
         | false ↦ ap (λ (r : Words). (e.0.items, e.1) ∷ r) (remove_spelled es)
       ]
 
-pub insert_spelled : (es : List (Vec ℕ Global × Subtree)) (k : Vec ℕ Global) (w : Subtree) → spelled (insert_entry (λ (x y : Vec ℕ Global). W x.items y.items) es k w) ≡ insert_entry W (spelled es) k.items w
+pub insert_spelled : (es : List (Vec ℕ Global × Subtree)) (k : Vec ℕ Global) (w : Subtree)
+    → spelled (insert_entry (λ (x y : Vec ℕ Global). W x.items y.items) es k w) ≡ insert_entry W (spelled es) k.items w
 insert_spelled [] k w = refl
 insert_spelled (e ∷ es) k w =
-    elim (W k.items e.0.items) as (λ r. spelled (match_ordering r ((k, w) ∷ e ∷ es) ((e.0, w) ∷ es) (e ∷ insert_entry (λ (x y : Vec ℕ Global). W x.items y.items) es k w)) ≡ match_ordering r ((k.items, w) ∷ (e.0.items, e.1) ∷ spelled es) ((e.0.items, w) ∷ spelled es) ((e.0.items, e.1) ∷ insert_entry W (spelled es) k.items w)) [
+    elim (W k.items e.0.items) as (λ r. spelled (match_ordering r ((k, w) ∷ e ∷ es) ((e.0, w) ∷ es) (e ∷ insert_entry (λ (x y : Vec ℕ Global). W x.items y.items) es k w))
+    ≡ match_ordering r ((k.items, w) ∷ (e.0.items, e.1) ∷ spelled es) ((e.0.items, w) ∷ spelled es) ((e.0.items, e.1) ∷ insert_entry W (spelled es) k.items w)) [
       | Less ↦ refl
       | Equal ↦ refl
       | Greater ↦ ap (λ (r : Words). (e.0.items, e.1) ∷ r) (insert_spelled es k w)
@@ -48,7 +52,8 @@ same_items (x ∷ xs) [] h = absurd h
 same_items (x ∷ xs) (y ∷ ys) h = (λ i. h.0 i ∷ same_items xs ys h.1 i)
 
 -- a copy of each word and of its tree spells the same
-pub copy_spelled : (es fs : List (Vec ℕ Global × Subtree)) → AllZip (λ (p q : Vec ℕ Global × Subtree). (AllZip (λ (x y : ℕ). y ≡ x) p.0.items q.0.items × (vec_len q.0 ≡ vec_len p.0)) × (q.1 ≡ p.1)) es fs → spelled fs ≡ spelled es
+pub copy_spelled : (es fs : List (Vec ℕ Global × Subtree)) → AllZip (λ (p q : Vec ℕ Global × Subtree). (AllZip (λ (x y : ℕ). y ≡ x) p.0.items q.0.items × (vec_len q.0 ≡ vec_len p.0)) × (q.1 ≡ p.1)) es
+    fs → spelled fs ≡ spelled es
 copy_spelled [] [] h = refl
 copy_spelled [] (f ∷ fs) h = absurd h
 copy_spelled (e ∷ es) [] h = absurd h

@@ -9,6 +9,7 @@ module _ {A : Type 0} (takes : A → Content → A → Type 0) (more : (r s t : 
   Leads s left first all = (t : A) → takes s left t → takes first all t
 
   -- one word more was walked
-  pub past_word : (g : Bool) (w : List ℕ) (nodes : Subtree) (ks rest : Words) (first s now : A) (all : Content) → Leads s (of_kind g ks) first all → ks ≡ (w, nodes) ∷ rest → takes s (of_word g w nodes) now → Leads now (of_kind g rest) first all
+  pub past_word : (g : Bool) (w : List ℕ) (nodes : Subtree) (ks rest : Words) (first s now : A) (all : Content) → Leads s (of_kind g ks) first all → ks ≡ (w, nodes) ∷ rest
+      → takes s (of_word g w nodes) now → Leads now (of_kind g rest) first all
   past_word g w nodes ks rest first s now all leads next took = λ t left.
       leads t (subst (λ (xs : Content). takes s xs t) (ap (of_kind g) (sym next)) (more s now t _ _ took left))

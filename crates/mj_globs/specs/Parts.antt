@@ -9,10 +9,10 @@ use Rattle.mj_globs.specs.declared.change.Change.{Change}
 use Rattle.mj_globs.specs.declared.change.Change.TheVariants as change
 
 -- what a change leaves that takes no name
-abbrev pub given : Content → Change → Content
-given content (change.Set n text) = after_set content n text
-given content (change.Kill n) = content
-given content (change.Put n nodes) = after_put content n nodes
+abbrev pub changed_without_name : Content → Change → Content
+changed_without_name content (change.Set n text) = after_set content n text
+changed_without_name content (change.Kill n) = content
+changed_without_name content (change.Put n nodes) = after_put content n nodes
 
 -- what a change leaves that gives no text
 abbrev pub taken : Content → Change → Content
@@ -21,7 +21,7 @@ taken content (change.Kill n) = after_kill content n
 taken content (change.Put n nodes) = content
 
 abbrev pub all_given : Content → List Change → Content
-all_given content changes = fold given content changes
+all_given content changes = fold changed_without_name content changes
 
 abbrev pub all_taken : Content → List Change → Content
 all_taken content changes = fold taken content changes

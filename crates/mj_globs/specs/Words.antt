@@ -30,6 +30,10 @@ abbrev pub of_kind : Bool → Words → Content
 of_kind g [] = []
 of_kind g (k ∷ ks) = of_word g k.0 k.1 ++ of_kind g ks
 
+-- the nodes of all words of a kind, where the words are told by their bytes
+abbrev pub spelled_of : Bool → List (Vec ℕ Global × Subtree) → Content
+spelled_of g es = of_kind g (spelled es)
+
 -- globals stand before locals
 abbrev pub of_both : Words → Words → Content
 of_both globals locals = of_kind true globals ++ of_kind false locals

@@ -11,7 +11,7 @@ ghost use Rattle.mj_store.specs.Questions.{value_at};
 ghost use Rattle.mj_store.specs.Changes.{after_set, after_put, followed_by};
 ghost use Rattle.mj_tree.specs.Undo.{undone};
 ghost use Rattle.mj_globs.specs.Changes.{after_changes};
-ghost use Rattle.mj_globs.specs.Parts.{given, all_given, all_taken, is_rewritten};
+ghost use Rattle.mj_globs.specs.Parts.{changed_without_name, all_given, all_taken, is_rewritten};
 
 use crate::change::Change;
 use crate::globals::{Globals, with};
@@ -107,7 +107,7 @@ fn give_all(globals: &mut Globals, changes: &[Change], log: &mut Log) -> Result<
 
 // Gives the texts that a change gives, and logs what was there.
 fn give(globals: &mut Globals, change: &Change, log: &mut Log) -> Result<(), AllocError>
-    ensures ok { OnOk result (globals.new ≡ given globals.old change.now) }
+    ensures ok { OnOk result (globals.new ≡ changed_without_name globals.old change.now) }
     ensures before { undone name_cmp log.new.items globals.new ≡ undone name_cmp log.old.items globals.old }
 {
     match change {

@@ -5,7 +5,6 @@ ghost use Rattle.std.specs.List.{list_any};
 ghost use Rattle.std.specs.FinMap.{find};
 ghost use Rattle.std.specs.Cmp.Lexicographic.{slice_cmp};
 ghost use Rattle.mj_subs.specs.Collation.{subscript_cmp, name_cmp};
-ghost use Rattle.mj_store.specs.Changes.{is_too_deep as too_deep};
 ghost use Rattle.mj_store.specs.Nodes.{subtree};
 ghost use Rattle.mj_store.specs.Questions.{with_subscripts, value_at, subtree_at};
 ghost use Rattle.mj_tree.specs.Nest.{nodes_of};
@@ -18,10 +17,10 @@ use crate::all::make_all;
 use crate::change::Change;
 use crate::keep::keep;
 use crate::words::{self, Words};
-use mj_store::{Direction, Nodes, Store};
-use mj_subs::{Name, SUBSCRIPT_LIMIT, Sub, Subs};
+use mj_store::{Direction, Nodes, Store, is_too_deep};
+use mj_subs::{Name, Sub, Subs};
 use mj_text::{Failure, Fault, Text};
-use mj_tree::{Sink, Stop, Tree};
+use mj_tree::{Sink, SinkStop, Tree};
 use std::alloc::{AllocError, Global};
 use std::collections::BTreeMap;
 use std::marker::Model;
@@ -67,7 +66,7 @@ impl Globals {
         self.alloc
     }
 
-    /// The same store once more.
+    /// A copy.
     pub fn try_clone(&self) -> Result<Globals, AllocError>
         ensures { IfOk result (λ g. g ≡ self.now) }
     {
@@ -90,7 +89,7 @@ impl Globals {
 
     /// Has a sink take its names in their order, each with its text. What the sink keeps is all the memory that it takes, but for the subscripts of one
     /// name.
-    pub fn walk<S: Sink>(&self, sink: &mut S) -> Result<(), Stop>
+    pub fn walk<S: Sink>(&self, sink: &mut S) -> Result<(), SinkStop>
         ensures { OnOk result (S.takes sink.old self.now sink.new) }
     {
         words::walk(&self.globals, true, sink)?;
@@ -121,7 +120,7 @@ impl Globals {
         }
     }
 
-    /// All names go but those whose word is one of these.
+    /// Takes all names out but those whose word is one of these.
     pub fn keep_words(&mut self, list: &[Text])
         ensures { self.new ≡ keeping list.now self.old }
     {
@@ -176,7 +175,7 @@ impl Store for Globals {
     ghost contents = { λ g. g };
 
     fn rises(&self) {
-        let _globals = &self.globals;
+        let _globals = &self.globals; // for the proof
     }
 
     fn value(&self, name: &Name) -> Option<&Text> {
@@ -285,14 +284,4 @@ fn goes_too_deep(change: &Change) -> bool
         Change::Put(name, nodes) => is_too_deep(name, nodes.as_slice()),
         Change::Set(_, _) | Change::Kill(_) => false,
     }
-}
-
-// Whether a list would follow the name with more subscripts than a name can have.
-fn is_too_deep(name: &Name, nodes: &[(Subs, Text)]) -> bool
-    ensures { result ≡ too_deep name.now nodes.now }
-{
-    let above = name.subscripts().len();
-    nodes
-        .iter()
-        .any(|node| SUBSCRIPT_LIMIT < above + node.0.len())
 }

@@ -13,7 +13,7 @@ use crate::words::Words;
 use mj_text::{Digits, Text};
 use mj_tree::Tree;
 
-/// All words go but those of a list.
+/// Takes all words out but those of a list.
 pub fn keep(words: &mut Words, list: &[Text])
     requires { T (is_sorted (slice_cmp nat_cmp) (spelled words.now.entries)) }
     ensures rises { T (is_sorted (slice_cmp nat_cmp) (spelled words.new.entries)) }

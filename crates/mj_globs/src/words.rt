@@ -10,14 +10,14 @@ ghost use Rattle.mj_subs.specs.Collation.{subscript_cmp, name_cmp};
 ghost use Rattle.mj_store.specs.Changes.{after_set, after_kill, after_put};
 ghost use Rattle.mj_tree.specs.Nest.{nodes_of, is_too_long};
 ghost use Rattle.mj_tree.specs.Undo.{restored};
-ghost use Rattle.mj_globs.specs.Words.{spelled, name, of_kind, of_word};
+ghost use Rattle.mj_globs.specs.Words.{spelled, spelled_of, name, of_kind, of_word};
 ghost use Rattle.mj_text.specs.declared.fault.Failure.TheVariants as failure;
 ghost use Rattle.mj_text.specs.declared.fault.Fault.TheVariants as fault;
 
 use mj_store::Nodes;
 use mj_subs::{Name, Subs};
 use mj_text::{Digits, Failure, Text};
-use mj_tree::{Sink, Stop, Tree};
+use mj_tree::{Sink, SinkStop, Tree};
 use std::alloc::{AllocError, Global};
 use std::collections::BTreeMap;
 
@@ -42,7 +42,7 @@ pub fn set(
 ) -> Result<(), AllocError>
     requires { T (is_sorted (slice_cmp nat_cmp) (spelled words.now.entries)) }
     ensures rises { T (is_sorted (slice_cmp nat_cmp) (spelled words.new.entries)) }
-    ensures ok { OnOk result ((g : Bool) → of_kind g (spelled words.new.entries) ≡ after_set (of_kind g (spelled words.old.entries)) (name g word.now path.now) text.now) }
+    ensures ok { OnOk result ((g : Bool) → spelled_of g words.new.entries ≡ after_set (spelled_of g words.old.entries) (name g word.now path.now) text.now) }
     ensures err { OnErr result (spelled words.new.entries ≡ spelled words.old.entries) }
 {
     let mut digits = Digits::new();
@@ -61,7 +61,7 @@ pub fn set(
 pub fn kill(words: &mut Words, word: &Text, path: &Subs)
     requires { T (is_sorted (slice_cmp nat_cmp) (spelled words.now.entries)) }
     ensures rises { T (is_sorted (slice_cmp nat_cmp) (spelled words.new.entries)) }
-    ensures content { (g : Bool) → of_kind g (spelled words.new.entries) ≡ after_kill (of_kind g (spelled words.old.entries)) (name g word.now path.now) }
+    ensures content { (g : Bool) → spelled_of g words.new.entries ≡ after_kill (spelled_of g words.old.entries) (name g word.now path.now) }
 {
     let mut digits = Digits::new();
     let key = word.bytes(&mut digits);
@@ -84,7 +84,7 @@ pub fn put(
 ) -> Result<(), Failure>
     requires { T (is_sorted (slice_cmp nat_cmp) (spelled words.now.entries)) }
     ensures rises { T (is_sorted (slice_cmp nat_cmp) (spelled words.new.entries)) }
-    ensures ok { OnOk result ((g : Bool) → of_kind g (spelled words.new.entries) ≡ after_put (of_kind g (spelled words.old.entries)) (name g word.now path.now) nodes.now) }
+    ensures ok { OnOk result ((g : Bool) → spelled_of g words.new.entries ≡ after_put (spelled_of g words.old.entries) (name g word.now path.now) nodes.now) }
     ensures limit { (result ≡ Err (failure.Fault fault.Limit)) ↔ IsTrue (is_too_long path.now nodes.now) }
     ensures error { IfErr result (λ e. e ≡ (if is_too_long path.now nodes.now then failure.Fault fault.Limit else failure.Memory)) }
     ensures err { OnErr result (spelled words.new.entries ≡ spelled words.old.entries) }
@@ -108,7 +108,7 @@ pub fn put(
 pub fn restore(words: &mut Words, word: &Text, path: &Subs, text: Option<Text>)
     requires { T (is_sorted (slice_cmp nat_cmp) (spelled words.now.entries)) }
     ensures rises { T (is_sorted (slice_cmp nat_cmp) (spelled words.new.entries)) }
-    ensures content { (g : Bool) → of_kind g (spelled words.new.entries) ≡ restored name_cmp (name g word.now path.now) text (of_kind g (spelled words.old.entries)) }
+    ensures content { (g : Bool) → spelled_of g words.new.entries ≡ restored name_cmp (name g word.now path.now) text (spelled_of g words.old.entries) }
 {
     let mut digits = Digits::new();
     let key = word.bytes(&mut digits);
@@ -121,7 +121,7 @@ pub fn restore(words: &mut Words, word: &Text, path: &Subs, text: Option<Text>)
     }
 }
 
-/// The same words once more.
+/// A copy.
 pub fn copy(words: &Words) -> Result<Words, AllocError>
     ensures { IfOk result (λ w. spelled w.entries ≡ spelled words.now.entries) }
 {
@@ -178,7 +178,7 @@ fn name_of(word: &[u8], alloc: Global, global: bool, subscripts: Subs) -> Result
 }
 
 /// Has a sink take the names of a kind with these words, in order, each with its text.
-pub fn walk<S: Sink>(words: &Words, global: bool, sink: &mut S) -> Result<(), Stop>
+pub fn walk<S: Sink>(words: &Words, global: bool, sink: &mut S) -> Result<(), SinkStop>
     ensures { OnOk result (S.takes sink.old (of_kind global (spelled words.now.entries)) sink.new) }
 {
     for (word, tree) in words {
@@ -187,7 +187,7 @@ pub fn walk<S: Sink>(words: &Words, global: bool, sink: &mut S) -> Result<(), St
     Ok(())
 }
 
-/// One word more, or another tree in place of that of the word.
+/// Adds a word, or puts another tree in place of that of the word.
 pub fn add(words: &mut Words, alloc: Global, word: &[u8], tree: Tree) -> Result<(), AllocError>
     ensures ok { OnOk result (spelled words.new.entries ≡ insert_entry (slice_cmp nat_cmp) (spelled words.old.entries) word.now tree) }
     ensures err { OnErr result (spelled words.new.entries ≡ spelled words.old.entries) }
@@ -196,7 +196,7 @@ pub fn add(words: &mut Words, alloc: Global, word: &[u8], tree: Tree) -> Result<
     Ok(())
 }
 
-// The word goes, if it is there.
+// Takes the word out, if it is there.
 fn remove(words: &mut Words, word: &[u8])
     ensures { spelled words.new.entries ≡ remove_entry (is_at (slice_cmp nat_cmp word.now)) (spelled words.old.entries) }
 {

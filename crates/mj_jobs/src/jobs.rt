@@ -101,7 +101,8 @@ impl Jobs {
     /// One more row, for a job that starts so. The start comes back where memory is refused.
     pub fn add(&mut self, start: Start) -> Result<u32, (AllocError, Start)>
         requires { length self.old.rows < rows_limit }
-        ensures ok { IfOk result (λ job. (job ≡ length self.old.rows + 1) × (self.new ≡ record { rows = self.old.rows ++ opened start ∷ []; claimed = self.old.claimed })) }
+        ensures ok { IfOk result
+            (λ job. (job ≡ length self.old.rows + 1) × (self.new ≡ record { rows = self.old.rows ++ opened start ∷ []; claimed = self.old.claimed })) }
         ensures err { IfErr result (λ back. (back.1 ≡ start) × (self.new ≡ self.old)) }
     {
         if let Err(error) = self.rows.reserve(1) {
@@ -115,7 +116,9 @@ impl Jobs {
     /// for that, no row is claimed.
     pub fn claim(&mut self) -> Result<Option<Claimed>, AllocError>
         ensures rows { self.new.rows ≡ self.old.rows }
-        ensures some { IfOk result (λ r. IfSome r (λ c. (c.job ≡ self.old.claimed + 1) × (self.new.claimed ≡ self.old.claimed + 1) × ((row : Row) × (row_at self.old.rows c.job ≡ Some row) × (row.start ≡ c.start)))) }
+        ensures some { IfOk result
+            (λ r. IfSome r (λ c. (c.job ≡ self.old.claimed + 1) × (self.new.claimed ≡ self.old.claimed + 1)
+            × ((row : Row) × (row_at self.old.rows c.job ≡ Some row) × (row.start ≡ c.start)))) }
         ensures none { IfOk result (λ r. IfNone r ((self.new ≡ self.old) × (self.old.claimed ≡ length self.old.rows))) }
         ensures err { OnErr result (self.new ≡ self.old) }
     {

@@ -11,11 +11,11 @@ use Rattle.mj_jobvm.specs.declared.job.Went.{Went}
 use Rattle.mj_jobvm.specs.declared.job.Went.TheVariants as wents
 use Rattle.mj_machine.specs.declared.machine.Machine.{Machine}
 use Rattle.mj_machine.specs.Standing.{Standing, Code, Steps}
-use Rattle.mj_segment.specs.Sound.{IsSound}
+use Rattle.mj_turn.specs.Sound.{IsSound}
 use Rattle.mj_machine.specs.Kept.{standing}
 use Rattle.mj_jobvm.specs.Run.{Log, IsRunAfter}
 use Rattle.mj_jobvm.specs.Jobs.{running, given_of, code_in, IsRunOfAfter}
-use Rattle.mj_jobvm.specs.Told.{Told, told_of}
+use Rattle.mj_jobvm.specs.Told.{AdvanceTells, told_of}
 use Rattle.mj_segment.specs.Segments.{StepsBy, Runs}
 use Rattle.mj_jobvm.proofs.Jobs.{run, turned, turned_by, asking, fewer, told_ended}
 
@@ -73,5 +73,5 @@ module _ (image : Loaded) (start from : Start) (turns : ℕ) (units : List Unit)
       let P : Standing → Type 0 = λ x. IsRunAfter (routines_of image) start code turns (run log None spent x) in
       subst P (sym s.0) r
 
-  pub told_over : went ≡ wents.Over → (pending : Option Ask) (counted : ℕ) → Told (routines_of image) start reports.Ended (run log pending counted after)
+  pub told_over : went ≡ wents.Over → (pending : Option Ask) (counted : ℕ) → AdvanceTells (routines_of image) start reports.Ended (run log pending counted after)
   told_over e pending counted = told_ended (routines_of image) start code log None spent before ((steps_as wents.Over e).1) (turns, r)

@@ -10,7 +10,7 @@ use Rattle.mj_load.specs.Image.{Loaded, routines_of}
 use Rattle.mj_machine.specs.declared.machine.Machine.{Machine}
 use Rattle.mj_machine.specs.Kept.{standing}
 use Rattle.mj_jobvm.specs.Run.{Log, IsRunAfter}
-use Rattle.mj_jobvm.specs.Jobs.{Fits, running, given_of, last_reply, code_in, IsRunOf}
+use Rattle.mj_jobvm.specs.Jobs.{FitsPending, running, given_of, last_reply, code_in, IsRunOf}
 use Rattle.mj_jobvm.proofs.Jobs.{run, answered}
 
 last_with : (log : Log) (a : Ask) (r : Reply) → last_reply (log ++ (a, r) ∷ []) ≡ Some r
@@ -21,14 +21,14 @@ last_with log a r =
 same_ask : (a b : Ask) → Some a ≡ Some b → a ≡ b
 same_ask a b e = cc
 
-fits_it : (pending : Option Ask) (ask : Ask) (reply : Reply) → pending ≡ Some ask → Fits pending reply → IsTrue (fits ask reply)
+fits_it : (pending : Option Ask) (ask : Ask) (reply : Reply) → pending ≡ Some ask → FitsPending pending reply → IsTrue (fits ask reply)
 fits_it pending ask reply e f =
     let P : Ask → Type 0 = λ a. IsTrue (fits a reply) in
     subst P (same_ask f.0 ask (sym f.1 ∙ e)) f.2
 
 pub answered_by : (image : Loaded) (start : Start) (from : Start) (machine : Machine) (log now : Log) (given : Bool) (pending left : Option Ask)
     (spent : ℕ) (ask : Ask) (reply : Reply)
-    → pending ≡ Some ask → Fits pending reply → now ≡ log ++ (ask, reply) ∷ [] → left ≡ None
+    → pending ≡ Some ask → FitsPending pending reply → now ≡ log ++ (ask, reply) ∷ [] → left ≡ None
     → IsRunOf image start (running from machine log given pending spent) → IsRunOf image start (running from machine now true left 0)
 answered_by image start from machine log now given pending left spent ask reply e f is none (turns, r) =
     let routines = routines_of image in

@@ -4,6 +4,8 @@ use Rattle.mj_text.specs.declared.fault.Fault.TheVariants.{Steps}
 use Rattle.mj_subs.specs.Name.{Name}
 use Rattle.mj_store.specs.declared.access.Access.TheVariants.{Value}
 use Rattle.mj_ask.specs.declared.ask.Ask.TheVariants as asks
+use Rattle.mj_ask.specs.declared.ask.SharedAsk.TheVariants as shared_asks
+use Rattle.mj_ask.specs.declared.ask.DeviceAsk.TheVariants as device_asks
 use Rattle.mj_ask.specs.declared.ask.Reply.TheVariants.{Done}
 use Rattle.mj_ask.specs.declared.entry.Entry.{Entry}
 use Rattle.mj_ast.specs.Syntax.{Routine, Quit}
@@ -17,27 +19,27 @@ abbrev name : Name
 name = record { global = true; word = codes "A"; subscripts = [] }
 
 -- the one that makes 1,000,000
-last_access : IsAllowed 999999 (asks.Access (Value name))
+last_access : IsAllowed 999999 (asks.Shared (shared_asks.Access (Value name)))
 last_access = inl (omega arith)
 
 -- one more isn't
-one_more : IsAllowed 1000000 (asks.Access (Value name)) → ⊥
+one_more : IsAllowed 1000000 (asks.Shared (shared_asks.Access (Value name))) → ⊥
 one_more (inl lt) = absurd (omega (arith, lt))
 one_more (inr e) = e
 
 -- but the ending is: the fault's line, the end of the session, and the job's
-fault_line : (s : State) → IsAllowed 1000000 (asks.DeviceWrite principal (fault_bytes Steps s))
+fault_line : (s : State) → IsAllowed 1000000 (asks.Device principal (device_asks.Write (fault_bytes Steps s)))
 fault_line s = inr (omega arith, refl, (Steps, s, refl))
 
 -- 17 sessions at most
-session_end : IsAllowed 1000017 (asks.DeviceEnd principal)
+session_end : IsAllowed 1000017 (asks.Device principal device_asks.End)
 session_end = inr (omega arith)
 
-job_end : IsAllowed 1000018 (asks.Halt (Some Steps))
+job_end : IsAllowed 1000018 (asks.Shared (shared_asks.Halt (Some Steps)))
 job_end = inr (omega arith)
 
 -- and nothing after it
-nothing_after : IsAllowed 1000019 (asks.Halt None) → ⊥
+nothing_after : IsAllowed 1000019 (asks.Shared (shared_asks.Halt None)) → ⊥
 nothing_after (inl lt) = absurd (omega (arith, lt))
 nothing_after (inr le) = absurd (omega (arith, le))
 
@@ -55,10 +57,10 @@ abbrev start : Start
 start = record { job = 1; entry = entry; values = [] }
 
 abbrev log : Log
-log = (asks.DeviceBegin principal, Done) ∷ []
+log = (asks.Device principal device_asks.Begin, Done) ∷ []
 
 goes_on_for_five : next routines start 5 (replies_of log) ≡ More
 goes_on_for_five = refl
 
-asks_in_the_sixth : next routines start 6 (replies_of log) ≡ Needs (asks.DeviceEnd principal) [] (record { routine = codes "R"; line = 1 } ∷ [])
+asks_in_the_sixth : next routines start 6 (replies_of log) ≡ Needs (asks.Device principal device_asks.End) [] (record { routine = codes "R"; line = 1 } ∷ [])
 asks_in_the_sixth = refl

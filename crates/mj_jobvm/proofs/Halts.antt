@@ -6,19 +6,20 @@ use Rattle.mj_text.specs.declared.fault.Fault.{Fault}
 use Rattle.mj_text.specs.declared.fault.Fault.TheVariants as faults
 use Rattle.mj_ask.specs.declared.ask.Ask.{Ask}
 use Rattle.mj_ask.specs.declared.ask.Ask.TheVariants as asks
+use Rattle.mj_ask.specs.declared.ask.SharedAsk.TheVariants as shared_asks
 use Rattle.mj_ask.specs.declared.ask.Reply.{Reply}
 use Rattle.mj_ast.specs.Syntax.{Routine}
-use Rattle.mj_semantics.specs.State.{State, Locals, Place, Words, principal, devices_limit, has_failed, ending_order, is_open, with_device, counted, places, marked, raised, lowered, settled, can_restart, is_serial, restarted}
-use Rattle.mj_semantics.specs.Outcome.{Outcome, Needs, More, Ended, Handler, Timed, turn, look, change, asking, no_restart, until, restartable, go_back, over, halt, ends, end, fault_bytes, fault, steps_limit, ask}
-use Rattle.mj_semantics.specs.Devices.{is_got, has_no_session, obtained, obtain}
+use Rattle.mj_semantics.specs.State.{State, Locals, Place, Words, principal, devices_limit, has_failed, ending_order, is_open, with_device, counted, places, marked, raised, lowered, settled, can_restart, restarted}
+use Rattle.mj_semantics.specs.Outcome.{Outcome, Needs, More, Ended, Handler, Timed, turn, look, change, asking, no_restart, until, restartable, go_back, over, halt, ends, end, fault, steps_limit, ask}
+use Rattle.mj_semantics.specs.Devices.{is_got, has_no_session, obtained, request_device}
 use Rattle.mj_semantics.specs.Sharing.{in_time as test_in_time}
-use Rattle.mj_semantics.specs.Transactions.{levels_limit, kind_of, begin_transaction, in_transaction, is_clash, commit, roll_back, give_back, begin_again}
+use Rattle.mj_semantics.specs.Transactions.{levels_limit, kind_of, begin_transaction, in_transaction, is_clash, commit, roll_back, roll_back_for_restart, begin_restart}
 use Rattle.mj_semantics.specs.Job.{Start, opening, start as starts, next}
 use Rattle.mj_semantics.proofs.Depth.{one_answer}
 use Rattle.mj_jobvm.specs.Run.{Log, replies_of, IsTrace, begins, goes_on, HasEnded}
 use Rattle.mj_jobvm.specs.Halted.{Halted, EndsByHalt, EndsInHalt}
 use Rattle.mj_jobvm.proofs.Rows as rows
-use Rattle.mj_jobvm.proofs.Rows.{Rule, IsLess}
+use Rattle.mj_jobvm.proofs.Rows.{Rule}
 
 -- what a restart goes on with is over only so
 record Goes (h : Handler) : Type 0 where
@@ -147,8 +148,8 @@ within_replied_to x t k = record { by = at }
 
 faulted : (f : Fault) → Halts (fault f)
 faulted f =
-    turned _ (looked _ (λ s. chosen (has_failed principal s) (end (Some f)) (asking (asks.DeviceWrite principal (fault_bytes f s)) (λ r. end (Some f)))
-    (ended (Some f)) (replied_to (asks.DeviceWrite principal (fault_bytes f s)) (λ r. end (Some f)) (λ r. ended (Some f)))))
+    turned _ (looked _ (λ s. chosen (has_failed principal s) (end (Some f)) _
+    (ended (Some f)) (replied_to _ (λ r. end (Some f)) (λ r. ended (Some f)))))
 
 asked : (x : Ask) (t : Reply → Timed) → ((r : Reply) → Halts (t r)) → Halts (ask x t)
 asked x t k =
@@ -169,16 +170,16 @@ timed timeout b t k = leveled (test_in_time timeout b) t (same timeout) k
     same None s = refl
     same (Some n) s = refl
 
-obtains : (name : List ℕ) (timeout : Option ℤ) (late got : Timed) → Halts late → Halts got → Halts (obtain name timeout late got)
+obtains : (name : List ℕ) (timeout : Option ℤ) (late got : Timed) → Halts late → Halts got → Halts (request_device name timeout late got)
 obtains name timeout late got l k =
     let opened : Timed = change (with_device name) got in
     let in_time : Timed = change (test_in_time timeout true) opened in
     let too_late : Timed = change (test_in_time timeout false) late in
-    let asks_for : Timed = ask (asks.Open name timeout) (λ r. obtained name timeout r late got) in
+    let asks_for : Timed = ask (asks.Shared (shared_asks.Open name timeout)) (λ r. obtained name timeout r late got) in
     looked _ (λ s. chosen (is_open name s) (change (test_in_time timeout true) late) (if nat_lt devices_limit (length s.devices) then fault faults.Limit else asks_for)
     (timed timeout true late l)
     (chosen (nat_lt devices_limit (length s.devices)) (fault faults.Limit) asks_for (faulted faults.Limit)
-    (asked (asks.Open name timeout) _ (λ r. chosen (has_no_session r) (fault faults.NoDevice) (if is_got r then in_time else too_late) (faulted faults.NoDevice)
+    (asked _ _ (λ r. chosen (has_no_session r) (fault faults.NoDevice) (if is_got r then in_time else too_late) (faulted faults.NoDevice)
     (chosen (is_got r) in_time too_late (timed timeout true opened (leveled (with_device name) got (λ q. refl) k)) (timed timeout false late l))))))
 
 -- Transactions.
@@ -192,7 +193,7 @@ begun : (restored : Option Words) (serial : Bool) (inner outermost : Timed) → 
 begun restored serial inner outermost k l = record { by = λ n h s replies w e. at (nat_eq s.level 0) n h s replies refl w e }
   where
     outer_one : Timed
-    outer_one = ask (asks.Begin (kind_of serial)) (λ r. change (marked restored serial) outermost)
+    outer_one = ask (asks.Shared (shared_asks.Begin (kind_of serial))) (λ r. change (marked restored serial) outermost)
 
     one_more : State → Timed
     one_more s = if nat_lt s.level levels_limit then change raised inner else fault faults.Limit
@@ -205,7 +206,7 @@ begun restored serial inner outermost k l = record { by = λ n h s replies w e. 
 
     at : (b : Bool) (n : ℕ) (h : Handler) (s : State) (replies : List Reply) → nat_eq s.level 0 ≡ b → IsReady h s
         → (if b then outer_one else one_more s) n h s replies ≡ Ended → Halted ((if b then outer_one else one_more s) n h s) replies
-    at true n h s replies b w e = (asked (asks.Begin (kind_of serial)) _ (λ r. is_marked)).by n h s replies w e
+    at true n h s replies b w e = (asked _ _ (λ r. is_marked)).by n h s replies w e
     at false n h s replies b w e = (is_raised s).by n h s replies (in_level h s w b) e
 
 in_it : (t : Timed) → Within t → Halts (in_transaction t)
@@ -219,23 +220,22 @@ in_it t k = record { by = λ n h s replies w e. at (nat_eq s.level 0) n h s repl
 goes_back : Within go_back
 goes_back = record { by = λ n h s replies g e. g.by n s replies e }
 
-begins_again : Within begin_again
-begins_again = within_looked _ (λ s. within_asked (asks.Begin (kind_of (is_serial s))) _ (λ r. within_changed restarted go_back goes_back))
+begins_again : Within begin_restart
+begins_again = within_looked _ (λ s. within_asked _ _ (λ r. within_changed restarted go_back goes_back))
 
-commits : (done : Timed) → Halts done → Halts (commit (turn begin_again) done)
+commits : (done : Timed) → Halts done → Halts (commit (turn begin_restart) done)
 commits done k =
-    let committed : Timed = ask asks.Commit (λ r. if is_clash r then turn begin_again else change settled done) in
-    in_it _ (within_looked _ (λ s. within_chosen (nat_lt 1 s.level) (change lowered done) committed (within_changed lowered done (inside done k))
-    (within_asked asks.Commit _ (λ r. within_chosen (is_clash r) (turn begin_again) (change settled done) (within_turned begin_again begins_again)
+    in_it _ (within_looked _ (λ s. within_chosen (nat_lt 1 s.level) (change lowered done) _ (within_changed lowered done (inside done k))
+    (within_asked _ _ (λ r. within_chosen (is_clash r) (turn begin_restart) (change settled done) (within_turned begin_restart begins_again)
     (within_changed settled done (inside done k))))))
 
 rolls_back : (rest : Timed) → Halts rest → Halts (roll_back rest)
-rolls_back rest k = in_it _ (within_asked asks.Rollback _ (λ r. within_changed settled rest (inside rest k)))
+rolls_back rest k = in_it _ (within_asked _ _ (λ r. within_changed settled rest (inside rest k)))
 
-gives_back : Halts (give_back (turn begin_again))
+gives_back : Halts (roll_back_for_restart (turn begin_restart))
 gives_back =
-    in_it _ (within_looked _ (λ s. within_chosen (can_restart s) (ask asks.Rollback (λ r. turn begin_again)) (fault faults.NoRestart)
-    (within_asked asks.Rollback _ (λ r. within_turned begin_again begins_again)) (inside _ (faulted faults.NoRestart))))
+    in_it _ (within_looked _ (λ s. within_chosen (can_restart s) _ (fault faults.NoRestart)
+    (within_asked _ _ (λ r. within_turned begin_restart begins_again)) (inside _ (faulted faults.NoRestart))))
 
 restarts : (again rest : Timed) → Apart again → Halts rest → Apart (restartable again rest)
 restarts again rest l k = record { by = λ n h s replies e. k.by n (until n again) s replies (inr (goes n)) e }
@@ -324,8 +324,8 @@ module _ (image : List Routine) (start : Start) where
     where
       by : ((replies_of log ≡ k.told) × (r ≡ k.last)) ⊎ ((vs : List Reply) × (replies_of log ≡ k.told ++ k.last ∷ vs)) → EndsInHalt (log ++ (a, r) ∷ [])
       by (inl p) =
-          let here : next image start n (replies_of log) ≡ Needs (asks.Halt k.fault) k.locals k.at = ap (next image start n) p.0 ∙ k.asked in
-          let same : a ≡ asks.Halt k.fault = asks_one image start m n (replies_of log) a (asks.Halt k.fault) locals k.locals at k.at needs here in
+          let here : next image start n (replies_of log) ≡ Needs (asks.Shared (shared_asks.Halt k.fault)) k.locals k.at = ap (next image start n) p.0 ∙ k.asked in
+          let same : a ≡ asks.Shared (shared_asks.Halt k.fault) = asks_one image start m n (replies_of log) a (asks.Shared (shared_asks.Halt k.fault)) locals k.locals at k.at needs here in
           (log, k.fault, r, ap (λ x. log ++ (x, r) ∷ []) same)
       by (inr p) = absurd (not_over image start n m (replies_of log) a locals at (ap (next image start n) p.1 ∙ k.over p.0) needs)
 

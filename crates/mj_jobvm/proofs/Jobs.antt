@@ -20,9 +20,9 @@ use Rattle.mj_machine.specs.declared.control.Control.TheVariants as controls
 use Rattle.mj_jobvm.specs.declared.job.Turn.TheVariants as reports
 use Rattle.mj_machine.specs.Standing.{Standing, Code, left, given_first, onward, Steps}
 use Rattle.mj_machine.specs.Standing as turns_are
-use Rattle.mj_segment.specs.Sound.{IsSound}
-use Rattle.mj_jobvm.specs.Run.{Log, Run, replies_of, TurnsBefore, begins, goes_on, IsRun, IsRunAfter}
-use Rattle.mj_jobvm.specs.Told.{Told}
+use Rattle.mj_turn.specs.Sound.{IsSound}
+use Rattle.mj_jobvm.specs.Run.{Log, Run, replies_of, TurnsBefore, begins, goes_on, IsJobRun, IsRunAfter}
+use Rattle.mj_jobvm.specs.Told.{AdvanceTells}
 
 abbrev pub run : Log → Option Ask → ℕ → Standing → Run
 run log pending spent at = record { log = log; pending = pending; spent = spent; at = at }
@@ -199,19 +199,19 @@ module _ (routines : List Routine) (start : Start) (code : Code) where
       → (n : ℕ) → n ≤ r.before + turns → next routines start n (replies_of log) ≡ More
   still log pending spent turns at r n le = ap (next routines start n) (sym (append-nil (replies_of log))) ∙ r.going n le []
 
-  pub told_asks : (log : Log) (spent : ℕ) (a : Ask) (at : Standing) → IsRun routines start code (run log (Some a) spent at)
-      → Told routines start reports.Asks (run log (Some a) spent at)
+  pub told_asks : (log : Log) (spent : ℕ) (a : Ask) (at : Standing) → IsJobRun routines start code (run log (Some a) spent at)
+      → AdvanceTells routines start reports.Asks (run log (Some a) spent at)
   told_asks log spent a at (turns, r) = (a, refl, (r.before + turns + 1, needs log spent turns a at r 0))
 
   -- what is told again while an ask is pending
-  pub told_again : (job : Run) (a : Ask) → job.pending ≡ Some a → IsRun routines start code job → Told routines start reports.Asks job
+  pub told_again : (job : Run) (a : Ask) → job.pending ≡ Some a → IsJobRun routines start code job → AdvanceTells routines start reports.Asks job
   told_again job a e (turns, r) =
       let P : Option Ask → Type 0 = λ p. IsRunAfter routines start code turns (run job.log p job.spent job.at) in
       let pending : IsRunAfter routines start code turns (run job.log (Some a) job.spent job.at) = subst P e r in
       (a, e, (pending.before + turns + 1, needs job.log job.spent turns a job.at pending 0))
 
-  pub told_ran : (log : Log) (pending : Option Ask) (spent : ℕ) (at : Standing) → IsRun routines start code (run log pending spent at)
-      → Told routines start reports.Ran (run log pending spent at)
+  pub told_ran : (log : Log) (pending : Option Ask) (spent : ℕ) (at : Standing) → IsJobRun routines start code (run log pending spent at)
+      → AdvanceTells routines start reports.Ran (run log pending spent at)
   told_ran log pending spent at (turns, r) = (
     r.before,
     r.counted,
@@ -221,7 +221,7 @@ module _ (routines : List Routine) (start : Start) (code : Code) where
 
   pub told_ended : (log : Log) (pending : Option Ask) (spent : ℕ) (at : Standing)
       → ((n : ℕ) (replies : List Reply) → onward code (suc n) at replies ≡ outcomes.Ended)
-      → IsRun routines start code (run log pending spent at) → Told routines start reports.Ended (run log pending spent at)
+      → IsJobRun routines start code (run log pending spent at) → AdvanceTells routines start reports.Ended (run log pending spent at)
   told_ended log pending spent at h (turns, r) = (r.before + turns + 1, sym (now log pending spent turns 1 at r) ∙ h 0 [])
 
   replies_more : (log : Log) (a : Ask) (r : Reply) (replies : List Reply) → replies_of log ++ r ∷ replies ≡ replies_of (log ++ (a, r) ∷ []) ++ replies

@@ -3,6 +3,8 @@ use Rattle.std.proofs.Common.{◌≡◌, ℕ, suc, ◌+◌, ◌≤◌, List, [],
 use Rattle.std.proofs.lemmas.List.{length-map}
 use Rattle.mj_ask.specs.declared.ask.Ask.{Ask}
 use Rattle.mj_ask.specs.declared.ask.Ask.TheVariants as asks
+use Rattle.mj_ask.specs.declared.ask.SharedAsk.TheVariants as shared_asks
+use Rattle.mj_ask.specs.declared.ask.DeviceAsk.TheVariants as device_asks
 use Rattle.mj_ask.specs.declared.ask.Reply.{Reply}
 use Rattle.mj_ast.specs.Syntax.{Routine}
 use Rattle.mj_semantics.specs.State.{Locals, Place, devices_limit}
@@ -32,23 +34,10 @@ allowed_with k (x ∷ log) a r all this =
 -- an ask of the ending has its place
 in_time : (k : ℕ) (a : Ask) → IsAllowed k a → k ≤ steps_limit + 2 + devices_limit
 in_time k a (inl lt) = omega (arith, lt)
-in_time k (asks.DeviceBegin device) (inr e) = absurd e
-in_time k (asks.DeviceWrite device bytes) (inr e) = let le = e.0 in omega (arith, le)
-in_time k (asks.DeviceEnd device) (inr e) = omega (arith, e)
-in_time k (asks.DeviceLine device timeout) (inr e) = absurd e
-in_time k (asks.DeviceByte device timeout) (inr e) = absurd e
-in_time k (asks.Access x) (inr e) = absurd e
-in_time k (asks.Try names timeout) (inr e) = absurd e
-in_time k (asks.Unlock names) (inr e) = absurd e
-in_time k asks.UnlockAll (inr e) = absurd e
-in_time k (asks.Begin kind) (inr e) = absurd e
-in_time k asks.Commit (inr e) = absurd e
-in_time k asks.Rollback (inr e) = absurd e
-in_time k (asks.Open device timeout) (inr e) = absurd e
-in_time k (asks.Close device) (inr e) = absurd e
-in_time k (asks.Start start timeout) (inr e) = absurd e
-in_time k (asks.Rest time) (inr e) = absurd e
-in_time k (asks.Halt fault) (inr e) = e
+in_time k (asks.Device device (device_asks.Write bytes)) (inr e) = let le = e.0 in omega (arith, le)
+in_time k (asks.Device device device_asks.End) (inr e) = omega (arith, e)
+in_time k (asks.Shared (shared_asks.Halt fault)) (inr e) = e
+in_time k _ (inr e) = absurd e
 
 module _ (image : List Routine) (start : Start) where
   pub trace_is_limited : (log : Log) → IsTrace image start log → IsLimited log

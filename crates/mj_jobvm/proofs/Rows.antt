@@ -12,6 +12,8 @@ use Rattle.mj_store.specs.declared.access.Access.TheVariants as accesses
 use Rattle.mj_store.specs.declared.access.Answer.{Answer}
 use Rattle.mj_ask.specs.declared.ask.Ask.{Ask}
 use Rattle.mj_ask.specs.declared.ask.Ask.TheVariants as asks
+use Rattle.mj_ask.specs.declared.ask.DeviceAsk.{DeviceAsk}
+use Rattle.mj_ask.specs.declared.ask.DeviceAsk.TheVariants as device_asks
 use Rattle.mj_ask.specs.declared.ask.Reply.{Reply}
 use Rattle.mj_ask.specs.declared.entry.Entry.{Entry}
 use Rattle.mj_ask.specs.Fits.{is_late}
@@ -19,23 +21,23 @@ use Rattle.mj_ast.specs.declared.routine.ReadMode.{ReadMode}
 use Rattle.mj_ast.specs.declared.routine.LockMode.{LockMode}
 use Rattle.mj_ast.specs.declared.routine.LockMode.TheVariants as mode
 use Rattle.mj_num.specs.Number.{reading, sum_of, canonic_text}
-use Rattle.mj_semantics.specs.State.{State, Words, Frame, OpenDevice, principal, on_device, broke, used, dropped, is_open, may_close, accessed, popped, is_at_mark, moved, column_at, Only, AllBut, wrote, newed, set_test, special_value, level_of, may_go, pushed, passed, at_place, spare, hold}
+use Rattle.mj_semantics.specs.State.{State, Words, Frame, OpenDevice, principal, on_device, broke, used, dropped, is_open, may_close, accessed, popped, is_at_mark, moved, column_at, Only, AllBut, wrote, newed, set_test, special_value, level_of, may_go, pushed, passed, at_place, kill_except, hold}
 use Rattle.mj_ast.specs.declared.function.NameFunction.{NameFunction}
-use Rattle.mj_semantics.specs.Names.{spelled, asks as asks_some, question, told}
-use Rattle.mj_semantics.specs.Outcome.{More, Timed, turn, turns, look, change, restartable, end, fault, ask, tell, is_failed, to_device, need, given}
+use Rattle.mj_semantics.specs.Names.{spelled, asks as asks_some, question, function_told}
+use Rattle.mj_semantics.specs.Outcome.{More, Timed, turn, turns, look, change, restartable, end, fault, ask, is_failed, to_device, need, given}
 use Rattle.mj_semantics.specs.Accesses.{answer_told, answered, access, value_told, nodes_told}
 use Rattle.mj_semantics.specs.Evaluation.{read, about, ev, ev_tails, ev_operand, ev_choices, ev_name, ev_named, ev_all, ev_actuals, ev_local, name_of, named_for, when}
 use Rattle.mj_semantics.specs.Points.{Loop, Once, Always, By, Leave, Ways, Point, AtLine, Called, Jumped, Pass, Started, Points}
-use Rattle.mj_semantics.specs.Devices.{obtain, begin_session, open_device, use_device, give_up, close, is_input, input_ask, input_told, read_input}
+use Rattle.mj_semantics.specs.Devices.{request_device, begin_session, open_device, use_device, give_up, close, is_input, input_told, read_input}
 use Rattle.mj_semantics.specs.Sharing.{is_limit, in_time as test_in_time, served, out_of_transaction, hang, start_job, unlock_all, take_names, give_names, lock}
-use Rattle.mj_semantics.specs.Transactions.{begin_transaction, commit, roll_back, give_back, begin_again, restored_by, listed_by, serial_by}
-use Rattle.mj_semantics.specs.Commands.{store, deeper, frames_limit, is_within, stepped, again, first, Aim, Whole, Part, ev_destination, ev_destinations, or_empty, renewed, renew, put, put_all, assign_to, assign, assign_all, named, remove, kill, kill_list, kill_all, take_nodes, put_these, put_nodes, merge, merge_all, write, mark_byte, tab_bytes, tab, coded, write_code, arrange, output, output_all, open_all, use_all, close_all, receive, input, read_all, ev_timeout, hang_all, start_all, ev_names, ev_lock_names, lock_list, lock_all, renewal, new_list, new_all, quit_frame, ifs, if_test, if_all, start_transaction, ranges, calls, block, do_all, jumps, obey, obey_all}
+use Rattle.mj_semantics.specs.Transactions.{begin_transaction, commit, roll_back, roll_back_for_restart, begin_restart, restored_by, listed_by, serial_by}
+use Rattle.mj_semantics.specs.Commands.{store, deeper, frames_limit, is_within, stepped, for_again, first, Aim, Whole, Part, ev_destination, ev_destinations, or_empty, renewed, assign_piece, put, put_all, assign_to, assign, assign_all, named, remove, kill, kill_list, kill_all, take_nodes, put_these, put_nodes, merge, merge_all, write, mark_byte, tab_bytes, tab, coded, write_code, arrange, output, output_all, open_all, use_all, close_all, receive, input, read_all, ev_timeout, hang_all, start_all, ev_names, ev_lock_names, lock_list, lock_all, renewal, new_list, new_all, quit_frame, ifs, if_test, if_all, start_transaction, ranges, calls, block, do_all, jumps, obey, obey_all}
 use Rattle.mj_text.specs.declared.text.TheConstants.{TEXT_LIMIT}
 use Rattle.mj_store.specs.Questions.{Subtree}
 use Rattle.mj_strfn.specs.Functions.{assigned_pieces, set_piece_value}
-use Rattle.mj_ast.specs.declared.routine.Mark.{Mark as FormatMark}
+use Rattle.mj_ast.specs.declared.routine.FormatMark.{FormatMark}
 use Rattle.mj_oper.specs.Operators.{binary_value, unary_value, truth_value}
-use Rattle.mj_ast.specs.Syntax.{Expr, Chain, Tails, Done, Then, Operand, Literal, Value, Intrinsic, Unary, Group, Call, About, Select, Variable, Var, Exprs, No, More as Another, Choices, Last, Before, Destination, Plain, Pieces, Targets, One, Several, Assignment, Killed, Gone, Spared, Merged, Output, Shown, Format, Coded, Opened, Received, Input, Prompted, Arranged, Into, Called as CalledOf, Jumped as JumpedOf, Started as StartedOf, LockNames, Lone, Together, Locked, Range, Single, Endless, UpTo, Renewed, Fresh, Kept, Command, Set, Write, Halt, Hang, Job, Lock, OpenDevice as OpenOf, UseDevice, CloseDevice, Read, Kill, Merge, If, Else, For, Forever, Do, Goto, Quit, New, Restartable, TStart, TCommit, TRestart, TRollback, Break, Step, Line, Routine}
+use Rattle.mj_ast.specs.Syntax.{Expr, Chain, Tails, Done, Then, Operand, Literal, Value, Intrinsic, Unary, Group, Call, About, Select, Variable, Var, Exprs, No, More as Another, Choices, Last, Before, Destination, Plain, Pieces, Targets, One, Several, Assignment, Killed, Gone, Spared, Merged, Output, Shown, Format, Coded, Opened, Received, Input, Prompted, Arranged, Into, Called as CalledOf, Jumped as JumpedOf, Started as StartedOf, LockNames, Lone, Together, Locked, Range, Single, Endless, UpTo, Renewed, Fresh, Kept, Command, Set, Write, Halt, Hang, Job, Lock, OpenDevice as OpenOf, UseDevice, CloseDevice, Read, Kill, Merge, If, Else, For, Forever, Do, Goto, Quit, New, Restartable, TStart, TCommit, TRestart, TRollback, Break, LineCommand, Line, Routine}
 use Rattle.mj_ast.specs.declared.expr.Scope.TheVariants.{Local}
 use Rattle.mj_semantics.specs.Functions.{call_value, needed, optional}
 use Rattle.mj_semantics.specs.Lines.{Here, place_at, next_line, line_before, line_at, levels_of, entry_of, entered}
@@ -62,11 +64,11 @@ pub record Rule (K Apart : Timed → Type 0) : Type 0 where
   pub ended : (f : Option Fault) → K (end f)
   pub faulted : (f : Fault) → K (fault f)
   pub spent : K (λ n h s replies. More)
-  pub obtained : (name : List ℕ) (timeout : Option ℤ) (late got : Timed) → K late → K got → K (obtain name timeout late got)
+  pub obtained : (name : List ℕ) (timeout : Option ℤ) (late got : Timed) → K late → K got → K (request_device name timeout late got)
   pub begun : (restored : Option Words) (serial : Bool) (inner outermost : Timed) → K inner → Apart outermost → K (begin_transaction restored serial inner outermost)
-  pub committed : (done : Timed) → K done → K (commit (turn begin_again) done)
+  pub committed : (done : Timed) → K done → K (commit (turn begin_restart) done)
   pub rolled_back : (rest : Timed) → K rest → K (roll_back rest)
-  pub given_back : K (give_back (turn begin_again))
+  pub given_back : K (roll_back_for_restart (turn begin_restart))
   pub started : (again rest : Timed) → Apart again → K rest → Apart (restartable again rest)
   pub apart_turned : (t : Timed) → Apart t → Apart (turn t)
   pub apart_spent : Apart (λ n h s replies. More)
@@ -144,7 +146,7 @@ module _ (K Apart : Timed → Type 0) (rule : Rule K Apart) where
   if_keeps true t u k l = k
   if_keeps false t u k l = l
 
-  obtain_keeps : (name : List ℕ) (timeout : Option ℤ) (late got : Timed) → K late → K got → K (obtain name timeout late got)
+  obtain_keeps : (name : List ℕ) (timeout : Option ℤ) (late got : Timed) → K late → K got → K (request_device name timeout late got)
   obtain_keeps name timeout late got l k = rule.obtained name timeout late got l k
 
   -- what a point comes to
@@ -155,9 +157,9 @@ module _ (K Apart : Timed → Type 0) (rule : Rule K Apart) where
   IsReached (Jumped entry leave) t = K t
   IsReached (Pass here loop body after ways) t = K t
 
-  to_device_keeps : (name : List ℕ) (x : Ask) (rest : Reply → Timed) → ((r : Reply) → K (rest r)) → K (to_device name x rest)
+  to_device_keeps : (name : List ℕ) (x : DeviceAsk) (rest : Reply → Timed) → ((r : Reply) → K (rest r)) → K (to_device name x rest)
   to_device_keeps name x rest k =
-      ask_keeps x _ (λ r. if_keeps (is_failed r) (change (broke name) (fault faults.Device)) (rest r)
+      ask_keeps (asks.Device name x) _ (λ r. if_keeps (is_failed r) (change (broke name) (fault faults.Device)) (rest r)
       (change_keeps (fault faults.Device) (fault_keeps faults.Device) (broke name) (λ s. (refl, device_length name (λ d. record d { failed = true }) s.devices, refl))) (k r))
 
   given_keeps : {A : Type 0} (r : Result A Fault) (rest : A → Timed) → ((v : A) → K (rest v)) → K (given r rest)
@@ -170,9 +172,8 @@ module _ (K Apart : Timed → Type 0) (rule : Rule K Apart) where
 
   access_keeps : (x : Access) (rest : Answer → Timed) → ((v : Answer) → K (rest v)) → K (access x rest)
   access_keeps x rest k =
-      if_keeps (name_in x).global (ask (asks.Access x) (λ r. given (answered (answer_told r)) rest))
-      (look (λ s. change (accessed x) (given (answered (answer_of x s.locals)) rest)))
-      (ask_keeps (asks.Access x) _ (λ r. given_keeps (answered (answer_told r)) rest k))
+      if_keeps (name_in x).global _ (look (λ s. change (accessed x) (given (answered (answer_of x s.locals)) rest)))
+      (ask_keeps _ _ (λ r. given_keeps (answered (answer_told r)) rest k))
       (look_keeps _ (λ s. change_keeps (given (answered (answer_of x s.locals)) rest) (given_keeps (answered (answer_of x s.locals)) rest k) (accessed x) (λ q. (refl, refl, refl))))
 
   -- Expressions.
@@ -182,8 +183,8 @@ module _ (K Apart : Timed → Type 0) (rule : Rule K Apart) where
 
   about_keeps : (f : NameFunction) (x : Name) (o : Option (List ℕ)) (rest : List ℕ → Timed) → ((v : List ℕ) → K (rest v)) → K (about f x o rest)
   about_keeps f x o rest k =
-      if_keeps (asks_some f) (given (question f x o) (λ a. access a (λ r. given (told f o r) rest))) (given (spelled x) rest)
-      (given_keeps (question f x o) _ (λ a. access_keeps a _ (λ r. given_keeps (told f o r) rest k)))
+      if_keeps (asks_some f) (given (question f x o) (λ a. access a (λ r. given (function_told f o r) rest))) (given (spelled x) rest)
+      (given_keeps (question f x o) _ (λ a. access_keeps a _ (λ r. given_keeps (function_told f o r) rest k)))
       (given_keeps (spelled x) rest k)
 
   store_keeps : (x : Name) (v : List ℕ) (rest : Timed) → K rest → K (store x v rest)
@@ -194,7 +195,7 @@ module _ (K Apart : Timed → Type 0) (rule : Rule K Apart) where
   stepped_keeps x step (Some end) i after pass a k =
       if_keeps (is_within step end (i +ℤ step)) (store x (canonic_text (i +ℤ step)) pass) after (store_keeps x (canonic_text (i +ℤ step)) pass k) a
 
-  again_keeps : (l : Loop) (after pass : Timed) → K after → K pass → K (again l after pass)
+  again_keeps : (l : Loop) (after pass : Timed) → K after → K pass → K (for_again l after pass)
   again_keeps Once after pass a k = a
   again_keeps Always after pass a k = k
   again_keeps (By x step end) after pass a k =
@@ -222,23 +223,22 @@ module _ (K Apart : Timed → Type 0) (rule : Rule K Apart) where
   asks_served x timeout rest k = ask_keeps x (λ r. served timeout r rest) (λ r. served_keeps timeout r rest k)
 
   hang_keeps : (v : List ℕ) (rest : Timed) → K rest → K (hang v rest)
-  hang_keeps v rest k = given_keeps (reading v) _ (λ n. if_keeps (int_lt (pos 0) n) (tell (asks.Rest n) rest) rest (ask_keeps (asks.Rest n) (λ r. rest) (λ r. k)) k)
+  hang_keeps v rest k = given_keeps (reading v) _ (λ n. if_keeps (int_lt (pos 0) n) _ rest (ask_keeps _ (λ r. rest) (λ r. k)) k)
 
   start_job_keeps : (entry : Entry) (vs : List (Option (List ℕ))) (timeout : Option ℤ) (rest : Timed) → K rest → K (start_job entry vs timeout rest)
   start_job_keeps entry vs timeout rest k =
-      let x : Ask = asks.Start (record { entry = entry; values = vs }) timeout in
-      out_keeps (ask x (λ r. served timeout r rest)) (asks_served x timeout rest k)
+      out_keeps _ (asks_served _ timeout rest k)
 
   unlock_all_keeps : (rest : Timed) → K rest → K (unlock_all rest)
-  unlock_all_keeps rest k = out_keeps (ask asks.UnlockAll (λ r. served None r rest)) (asks_served asks.UnlockAll None rest k)
+  unlock_all_keeps rest k = out_keeps _ (asks_served _ None rest k)
 
   take_names_keep : (xs : List Name) (timeout : Option ℤ) (rest : Timed) → K rest → K (take_names xs timeout rest)
   take_names_keep [] timeout rest k = k
-  take_names_keep (x ∷ xs) timeout rest k = asks_served (asks.Try (x ∷ xs) timeout) timeout rest k
+  take_names_keep (x ∷ xs) timeout rest k = asks_served _ timeout rest k
 
   give_names_keep : (xs : List Name) (timeout : Option ℤ) (rest : Timed) → K rest → K (give_names xs timeout rest)
   give_names_keep [] timeout rest k = k
-  give_names_keep (x ∷ xs) timeout rest k = asks_served (asks.Unlock (x ∷ xs)) timeout rest k
+  give_names_keep (x ∷ xs) timeout rest k = asks_served _ timeout rest k
 
   lock_keeps : (m : LockMode) (xs : List Name) (timeout : Option ℤ) (rest : Timed) → K rest → K (lock m xs timeout rest)
   lock_keeps mode.Whole xs timeout rest k =
@@ -248,29 +248,29 @@ module _ (K Apart : Timed → Type 0) (rule : Rule K Apart) where
 
   open_keeps : (name : List ℕ) (timeout : Option ℤ) (rest : Timed) → K rest → K (open_device name timeout rest)
   open_keeps name timeout rest k =
-      obtain_keeps name timeout rest (turn (begin_session name rest)) k (turn_keeps (begin_session name rest) (to_device_keeps name (asks.DeviceBegin name) (λ r. rest) (λ r. k)))
+      obtain_keeps name timeout rest (turn (begin_session name rest)) k (turn_keeps (begin_session name rest) (to_device_keeps name _ (λ r. rest) (λ r. k)))
 
   use_keeps : (name : List ℕ) (rest : Timed) → K rest → K (use_device name rest)
   use_keeps name rest k =
       look_keeps _ (λ s. if_keeps (is_open name s) (change (used name) rest) (fault faults.NoDevice) (change_keeps rest k (used name) (λ t. (refl, refl, refl))) (fault_keeps faults.NoDevice))
 
   give_up_keeps : (name : List ℕ) (rest : Timed) → K rest → K (give_up name rest)
-  give_up_keeps name rest k = ask_keeps (asks.Close name) (λ r. rest) (λ r. k)
+  give_up_keeps name rest k = ask_keeps _ (λ r. rest) (λ r. k)
 
   close_keeps : (name : List ℕ) (rest : Timed) → K rest → K (close name rest)
   close_keeps name rest k =
       let badly : Timed = turn (give_up name (fault faults.Device)) in
       let well : Timed = turn (give_up name rest) in
       let behind : Reply → Timed = λ r. change (dropped name) (if is_failed r then badly else well) in
-      look_keeps _ (λ s. if_keeps (may_close name s) (ask (asks.DeviceEnd name) behind) rest
-      (ask_keeps (asks.DeviceEnd name) behind (λ r. fewer_keeps (if is_failed r then badly else well)
+      look_keeps _ (λ s. if_keeps (may_close name s) _ rest
+      (ask_keeps _ behind (λ r. fewer_keeps (if is_failed r then badly else well)
       (if_keeps (is_failed r) badly well (turn_keeps _ (give_up_keeps name (fault faults.Device) (fault_keeps faults.Device))) (turn_keeps _ (give_up_keeps name rest k)))
       (dropped name) (dropped_fewer name)))
       k)
 
   read_input_keeps : (m : ReadMode) (timeout : Option ℤ) (rest : List ℕ → Timed) → ((v : List ℕ) → K (rest v)) → K (read_input m timeout rest)
   read_input_keeps m timeout rest k =
-      look_keeps _ (λ s. to_device_keeps s.current (input_ask m s.current timeout) (λ r. change (test_in_time timeout (is_input r)) (rest (input_told m r)))
+      look_keeps _ (λ s. to_device_keeps s.current _ (λ r. change (test_in_time timeout (is_input r)) (rest (input_told m r)))
       (λ r. change_keeps (rest (input_told m r)) (k (input_told m r)) (test_in_time timeout (is_input r)) (tests_same timeout (is_input r))))
 
   -- the QUIT of a frame
@@ -339,7 +339,7 @@ module _ (K Apart : Timed → Type 0) (rule : Rule K Apart) where
     range_keeps None x separator e skipped rest k l = k
     range_keeps (Some r) x separator e skipped rest k l = access_keeps (accesses.Value x) _ (λ a. given_keeps (set_piece_value (or_empty (value_told a)) separator r e) rest l)
 
-    renew_keeps : (x : Name) (ts : List (List ℕ)) (e : List ℕ) (skipped : Timed) (rest : List ℕ → Timed) → K skipped → ((v : List ℕ) → K (rest v)) → K (renew x ts e skipped rest)
+    renew_keeps : (x : Name) (ts : List (List ℕ)) (e : List ℕ) (skipped : Timed) (rest : List ℕ → Timed) → K skipped → ((v : List ℕ) → K (rest v)) → K (assign_piece x ts e skipped rest)
     renew_keeps x ts e skipped rest k l = given_keeps (assigned_pieces (needed 0 ts) (optional 1 ts) (optional 2 ts)) _ (λ range. range_keeps range x (needed 0 ts) e skipped rest k l)
 
     put_keeps : (t : Aim) (v : List ℕ) (rest : Timed) → K rest → K (put t v rest)
@@ -365,10 +365,10 @@ module _ (K Apart : Timed → Type 0) (rule : Rule K Apart) where
     write_keeps [] rest k = k
     write_keeps (b ∷ bytes) rest k =
         let all : List ℕ = b ∷ bytes in
-        let sent : State → Timed = λ s. to_device s.current (asks.DeviceWrite s.current all) (λ r. change (wrote all) rest) in
+        let sent : State → Timed = λ s. to_device s.current (device_asks.Write all) (λ r. change (wrote all) rest) in
         if_keeps (nat_lt TEXT_LIMIT (length all)) (fault faults.Length) (look sent)
         (fault_keeps faults.Length)
-        (look_keeps sent (λ s. to_device_keeps s.current (asks.DeviceWrite s.current all) (λ r. change (wrote all) rest)
+        (look_keeps sent (λ s. to_device_keeps s.current _ (λ r. change (wrote all) rest)
         (λ r. change_keeps rest k (wrote all) (λ t. (refl, device_length t.current (moved all) t.devices, refl)))))
 
     tab_keeps : (marks : List FormatMark) (v : List ℕ) (rest : Timed) → K rest → K (tab marks v rest)
@@ -394,8 +394,8 @@ module _ (K Apart : Timed → Type 0) (rule : Rule K Apart) where
     names_keep [] rest k = k
     names_keep (word ∷ words) rest k = turn_keeps (named words rest) (names_keep words rest k)
 
-    spare_keeps : (words : List (List ℕ)) (rest : Timed) → K rest → K (turn (change (spare words) rest))
-    spare_keeps words rest k = turn_keeps (change (spare words) rest) (change_keeps rest k (spare words) (λ q. (refl, refl, refl)))
+    spare_keeps : (words : List (List ℕ)) (rest : Timed) → K rest → K (turn (change (kill_except words) rest))
+    spare_keeps words rest k = turn_keeps (change (kill_except words) rest) (change_keeps rest k (kill_except words) (λ q. (refl, refl, refl)))
 
     kill_keeps : (x : Killed) (rest : Timed) → K rest → K (kill points here x rest)
     kill_keeps (Gone v) rest k = name_keeps v _ (λ x. turn_keeps (remove x rest) (access_keeps (accesses.Kill x) (λ a. rest) (λ a. k)))
@@ -529,7 +529,7 @@ module _ (K Apart : Timed → Type 0) (rule : Rule K Apart) where
 
     -- Frames.
 
-    ranges_keep : (x : Name) (rs : List Range) (body : List Step) (ways : Ways) → KeepsWays K ways → K (ranges points here x rs body ways)
+    ranges_keep : (x : Name) (rs : List Range) (body : List LineCommand) (ways : Ways) → KeepsWays K ways → K (ranges points here x rs body ways)
     ranges_keep x [] body ways k = turn_keeps ways.line_end k.line_end
     ranges_keep x (Single a ∷ rs) body ways k =
         let later = ranges_keep x rs body ways k in
@@ -572,7 +572,7 @@ module _ (K Apart : Timed → Type 0) (rule : Rule K Apart) where
     starts_transaction_keeps o rest k =
         names_keep (listed_by o) _ (turn_keeps _ (rule.begun (restored_by o) (serial_by o) rest (turn (points (Started rest))) k (rule.apart_turned _ (all (Started rest) k))))
 
-    obey_keeps : (command : Command) (c : Option Expr) (steps : List Step) (ways : Ways) (rest : Timed) → KeepsWays K ways → K rest → K (obey points here command c steps ways rest)
+    obey_keeps : (command : Command) (c : Option Expr) (steps : List LineCommand) (ways : Ways) (rest : Timed) → KeepsWays K ways → K rest → K (obey points here command c steps ways rest)
     obey_keeps (Set list) c steps ways rest w k = when_keeps c _ rest (assign_all_keeps list rest k) k
     obey_keeps (Write list) c steps ways rest w k = when_keeps c _ rest (output_all_keeps list rest k) k
     obey_keeps Halt c steps ways rest w k = when_keeps c _ rest (turn_keeps (end None) (end_keeps None)) k
@@ -600,7 +600,7 @@ module _ (K Apart : Timed → Type 0) (rule : Rule K Apart) where
     obey_keeps TRollback c steps ways rest w k = when_keeps c _ rest (turn_keeps _ (rule.rolled_back rest k)) k
     obey_keeps Break c steps ways rest w k = when_keeps c _ rest (turn_keeps rest k) k
 
-    obey_all_keeps : (steps : List Step) (ways : Ways) → KeepsWays K ways → K (obey_all points here steps ways)
+    obey_all_keeps : (steps : List LineCommand) (ways : Ways) → KeepsWays K ways → K (obey_all points here steps ways)
     obey_all_keeps [] ways w = w.line_end
     obey_all_keeps (step ∷ steps) ways w = obey_keeps step.command step.condition steps ways (obey_all points here steps ways) w (obey_all_keeps steps ways w)
 
@@ -660,7 +660,7 @@ module _ (K Apart : Timed → Type 0) (rule : Rule K Apart) where
         let keeps : K pass = points_keep d (Pass here loop body after ways) k in
         obey_all_keeps (points_of image d) (points_keep d) here body (in_pass loop after pass ways)
         (record {
-          line_end = turn_keeps (again loop after pass) (again_keeps loop after pass k.0 keeps);
+          line_end = turn_keeps (for_again loop after pass) (again_keeps loop after pass k.0 keeps);
           for_quit = λ t e. quits_for t (turn ways.line_end) (turn_keeps ways.line_end k.1.line_end) e;
           leave = k.1.leave;
         })
@@ -670,5 +670,5 @@ module _ (K Apart : Timed → Type 0) (rule : Rule K Apart) where
     -- a job from its start
     pub job_keeps : (start : Start) (n : ℕ) → K (starts image start n)
     job_keeps start n =
-        turn_keeps _ (to_device_keeps principal (asks.DeviceBegin principal) (λ r. points_of image n (Called false start.entry start.values (λ v. end None)))
+        turn_keeps _ (to_device_keeps principal _ (λ r. points_of image n (Called false start.entry start.values (λ v. end None)))
         (λ r. points_keep n (Called false start.entry start.values (λ v. end None)) (λ v. end_keeps None)))

@@ -6,7 +6,7 @@ use Rattle.mj_load.specs.Image.{Loaded, IsImage}
 use Rattle.mj_load.specs.Image as images
 use Rattle.mj_pcode.specs.Checked.{IsChecked}
 use Rattle.mj_pcode.specs.Sound.{AreChecked}
-use Rattle.mj_segment.specs.Units.{AreSmall}
+use Rattle.mj_turn.specs.Units.{AreSmall}
 
 pub are_small : (image : Loaded) → IsImage image → AreSmall image.units
 are_small image is i u at =

@@ -7,13 +7,15 @@ use Rattle.mj_text.specs.declared.fault.Fault.{Fault}
 use Rattle.mj_text.specs.declared.fault.Fault.TheVariants as faults
 use Rattle.mj_ask.specs.declared.ask.Ask.{Ask}
 use Rattle.mj_ask.specs.declared.ask.Ask.TheVariants as asks
+use Rattle.mj_ask.specs.declared.ask.SharedAsk.TheVariants as shared_asks
+use Rattle.mj_ask.specs.declared.ask.DeviceAsk.TheVariants as device_asks
 use Rattle.mj_ask.specs.declared.ask.Reply.{Reply}
-use Rattle.mj_semantics.specs.State.{State, Locals, Words, Mark, Place, OpenDevice, principal, devices_limit, has_failed, ending_order, with_device, is_open, counted, marked, raised, lowered, settled, can_restart, is_serial, back_at, restarted}
+use Rattle.mj_semantics.specs.State.{State, Locals, Words, TransactionMark, Place, OpenDevice, principal, devices_limit, has_failed, ending_order, with_device, is_open, counted, marked, raised, lowered, settled, can_restart, back_at, restarted}
 use Rattle.mj_semantics.specs.Outcome.{Needs, More, Handler, Timed, turn, turns, look, change, asking, no_restart, until, restartable, go_back, over, halt, ends, end, fault_bytes, fault, steps_limit, ask}
-use Rattle.mj_semantics.specs.Devices.{is_got, has_no_session, obtained, obtain}
+use Rattle.mj_semantics.specs.Devices.{is_got, has_no_session, obtained, request_device}
 use Rattle.mj_semantics.specs.Sharing.{in_time as test_in_time}
-use Rattle.mj_semantics.specs.Transactions.{levels_limit, kind_of, begin_transaction, in_transaction, is_clash, commit, roll_back, give_back, begin_again}
-use Rattle.mj_semantics.specs.Commands.{again}
+use Rattle.mj_semantics.specs.Transactions.{levels_limit, begin_transaction, in_transaction, is_clash, commit, roll_back, roll_back_for_restart, begin_restart}
+use Rattle.mj_semantics.specs.Commands.{for_again}
 use Rattle.mj_jobvm.specs.Limit.{IsAllowed}
 use Rattle.mj_jobvm.proofs.Rows.{Rule}
 
@@ -87,7 +89,7 @@ halt_keeps : (f : Option Fault) (n k : ℕ) (h : Handler) (s : State) (replies :
     → k ≤ steps_limit + 2 + devices_limit → halt f n h s replies ≡ Needs a locals at → IsAllowed (k + length replies) a
 halt_keeps f zero k h s replies a locals at le e = cc
 halt_keeps f (suc n) k h s [] a locals at le e =
-    allowed_as (asks.Halt f) a (k + 0) s.locals locals _ at e (inr (let l : k + 0 ≤ steps_limit + 2 + devices_limit = omega (arith, le) in l))
+    allowed_as _ a (k + 0) s.locals locals _ at e (inr (let l : k + 0 ≤ steps_limit + 2 + devices_limit = omega (arith, le) in l))
 halt_keeps f (suc n) k h s (r ∷ replies) a locals at le e = absurd (over_asks n h s replies a locals at e)
 
 -- the ends of sessions before it
@@ -96,7 +98,7 @@ ends_within : (names : List (List ℕ)) (f : Option Fault) (n k : ℕ) (h : Hand
 ends_within [] f n k h s replies a locals at le e = halt_keeps f n k h s replies a locals at (omega (arith, le)) e
 ends_within (name ∷ names) f zero k h s replies a locals at le e = cc
 ends_within (name ∷ names) f (suc n) k h s [] a locals at le e =
-    allowed_as (asks.DeviceEnd name) a (k + 0) s.locals locals _ at e (inr (let l : k + 0 ≤ steps_limit + 1 + devices_limit = omega (arith, le) in l))
+    allowed_as _ a (k + 0) s.locals locals _ at e (inr (let l : k + 0 ≤ steps_limit + 1 + devices_limit = omega (arith, le) in l))
 ends_within (name ∷ names) f (suc n) k h s (r ∷ replies) a locals at le e =
     let g : k + 1 + length names ≤ steps_limit + 2 + devices_limit = omega (arith, le) in
     let is : k + 1 + length replies ≡ k + length (r ∷ replies) = omega arith in
@@ -121,12 +123,12 @@ end_keeps f = record {
 
 -- a fault writes its line first, unless the principal device failed
 abbrev telling : Fault → State → Timed
-telling f s = asking (asks.DeviceWrite principal (fault_bytes f s)) (λ r. end (Some f))
+telling f s = asking (asks.Device principal (device_asks.Write (fault_bytes f s))) (λ r. end (Some f))
 
 telling_keeps : (f : Fault) (n : ℕ) (h : Handler) (s : State) (replies : List Reply) (a : Ask) (locals : Locals) (at : List Place)
     → IsFair s → telling f s n h s replies ≡ Needs a locals at → IsAllowed (s.replied + length replies) a
 telling_keeps f n h s [] a locals places le e =
-    allowed_as (asks.DeviceWrite principal (fault_bytes f s)) a (s.replied + 0) s.locals locals _ places e
+    allowed_as _ a (s.replied + 0) s.locals locals _ places e
     (inr (let l : s.replied + 0 ≤ steps_limit = omega (arith, le.0) in l, refl, (f, s, refl)))
 telling_keeps f n h s (r ∷ replies) a locals places le e =
     let g : s.replied + 1 ≤ steps_limit + 1 = omega (arith, le.0) in
@@ -225,11 +227,11 @@ obtained_keeps name timeout r late got l k =
     (room_change (test_in_time timeout true) (change (with_device name) got) (tests_same timeout true) (added_keeps name got k))
     (with_room _ (change_keeps late l (test_in_time timeout false) (tests_same timeout false))))
 
-obtain_keeps : (name : List ℕ) (timeout : Option ℤ) (late got : Timed) → Keeps late → Keeps got → Keeps (obtain name timeout late got)
+obtain_keeps : (name : List ℕ) (timeout : Option ℤ) (late got : Timed) → Keeps late → Keeps got → Keeps (request_device name timeout late got)
 obtain_keeps name timeout late got l k = record { by = λ n h back s replies a locals at le e. at_state (is_open name s) (nat_lt devices_limit (length s.devices)) n h back s replies a locals at refl le e }
   where
     asks_for : Timed
-    asks_for = ask (asks.Open name timeout) (λ r. obtained name timeout r late got)
+    asks_for = ask (asks.Shared (shared_asks.Open name timeout)) (λ r. obtained name timeout r late got)
 
     at_state : (b full : Bool) (n : ℕ) (h : Handler) (back : Goes h) (s : State) (replies : List Reply) (a : Ask) (locals : Locals) (at : List Place)
         → nat_lt devices_limit (length s.devices) ≡ full → IsFair s
@@ -238,7 +240,7 @@ obtain_keeps name timeout late got l k = record { by = λ n h back s replies a l
     at_state true full n h back s replies a locals at q le e = (change_keeps late l (test_in_time timeout true) (tests_same timeout true)).by n h back s replies a locals at le e
     at_state false true n h back s replies a locals at q le e = (fault_keeps faults.Limit).by n h back s replies a locals at le e
     at_state false false n h back s replies a locals at q le e =
-        room_by (asks.Open name timeout) (λ r. obtained name timeout r late got) (λ r. obtained_keeps name timeout r late got l k) (nat_lt s.replied steps_limit)
+        room_by _ (λ r. obtained name timeout r late got) (λ r. obtained_keeps name timeout r late got l k) (nat_lt s.replied steps_limit)
         n h back s replies a locals at refl le (ltb-false devices_limit (length s.devices) q) e
 
 -- Transactions.
@@ -268,10 +270,9 @@ go_back_keeps = record { by = λ n h back s replies a locals at le e. back.by n 
 
 pub begin_transaction_keeps : (restored : Option Words) (serial : Bool) (inner outermost : Timed) → Keeps inner → Keeps outermost → Keeps (begin_transaction restored serial inner outermost)
 begin_transaction_keeps restored serial inner outermost k l =
-    let begun : Timed = ask (asks.Begin (kind_of serial)) (λ r. change (marked restored serial) outermost) in
     let one_more : Timed = change raised inner in
-    look_keeps _ (λ s. if_keeps (nat_eq s.level 0) begun (if nat_lt s.level levels_limit then one_more else fault faults.Limit)
-    (ask_keeps (asks.Begin (kind_of serial)) _ (λ r. change_keeps outermost l (marked restored serial) (λ q. (refl, refl))))
+    look_keeps _ (λ s. if_keeps (nat_eq s.level 0) _ (if nat_lt s.level levels_limit then one_more else fault faults.Limit)
+    (ask_keeps _ _ (λ r. change_keeps outermost l (marked restored serial) (λ q. (refl, refl))))
     (if_keeps (nat_lt s.level levels_limit) one_more (fault faults.Limit) (change_keeps inner k raised (λ q. (refl, refl))) (fault_keeps faults.Limit)))
 
 in_transaction_keeps : (rest : Timed) → Keeps rest → Keeps (in_transaction rest)
@@ -279,27 +280,26 @@ in_transaction_keeps rest k = look_keeps _ (λ s. if_keeps (nat_eq s.level 0) (f
 
 pub commit_keeps : (clashed done : Timed) → Keeps clashed → Keeps done → Keeps (commit clashed done)
 commit_keeps clashed done k l =
-    let committed : Timed = ask asks.Commit (λ r. if is_clash r then clashed else change settled done) in
-    in_transaction_keeps _ (look_keeps _ (λ s. if_keeps (nat_lt 1 s.level) (change lowered done) committed (change_keeps done l lowered (λ q. (refl, refl)))
-    (ask_keeps asks.Commit _ (λ r. if_keeps (is_clash r) clashed (change settled done) k (change_keeps done l settled (λ q. (refl, refl)))))))
+    in_transaction_keeps _ (look_keeps _ (λ s. if_keeps (nat_lt 1 s.level) (change lowered done) _ (change_keeps done l lowered (λ q. (refl, refl)))
+    (ask_keeps _ _ (λ r. if_keeps (is_clash r) clashed (change settled done) k (change_keeps done l settled (λ q. (refl, refl)))))))
 
 pub roll_back_keeps : (rest : Timed) → Keeps rest → Keeps (roll_back rest)
-roll_back_keeps rest k = in_transaction_keeps _ (ask_keeps asks.Rollback _ (λ r. change_keeps rest k settled (λ q. (refl, refl))))
+roll_back_keeps rest k = in_transaction_keeps _ (ask_keeps _ _ (λ r. change_keeps rest k settled (λ q. (refl, refl))))
 
-pub give_back_keeps : (rest : Timed) → Keeps rest → Keeps (give_back rest)
+pub give_back_keeps : (rest : Timed) → Keeps rest → Keeps (roll_back_for_restart rest)
 give_back_keeps rest k =
-    in_transaction_keeps _ (look_keeps _ (λ s. if_keeps (can_restart s) (ask asks.Rollback (λ r. rest)) (fault faults.NoRestart)
-    (ask_keeps asks.Rollback (λ r. rest) (λ r. k)) (fault_keeps faults.NoRestart)))
+    in_transaction_keeps _ (look_keeps _ (λ s. if_keeps (can_restart s) _ (fault faults.NoRestart)
+    (ask_keeps _ (λ r. rest) (λ r. k)) (fault_keeps faults.NoRestart)))
 
 restarted_same : (s : State) → IsLike s (restarted s)
 restarted_same s = by s.mark
   where
-    by : (o : Option Mark) → IsLike s (elim o [ None ↦ s | Some m ↦ back_at m s ])
+    by : (o : Option TransactionMark) → IsLike s (elim o [ None ↦ s | Some m ↦ back_at m s ])
     by None = (refl, refl)
     by (Some m) = (refl, refl)
 
-pub begin_again_keeps : Keeps begin_again
-begin_again_keeps = look_keeps _ (λ s. ask_keeps (asks.Begin (kind_of (is_serial s))) _ (λ r. change_keeps go_back go_back_keeps restarted restarted_same))
+pub begin_again_keeps : Keeps begin_restart
+begin_again_keeps = look_keeps _ (λ s. ask_keeps _ _ (λ r. change_keeps go_back go_back_keeps restarted restarted_same))
 
 -- so what holds of a word holds of each row
 pub limited : Rule Keeps Keeps
@@ -313,9 +313,9 @@ limited = record {
   spent = record { by = λ n h back s replies a locals at le e. cc };
   obtained = obtain_keeps;
   begun = begin_transaction_keeps;
-  committed = λ done k. commit_keeps (turn begin_again) done (turn_keeps begin_again begin_again_keeps) k;
+  committed = λ done k. commit_keeps (turn begin_restart) done (turn_keeps begin_restart begin_again_keeps) k;
   rolled_back = roll_back_keeps;
-  given_back = give_back_keeps (turn begin_again) (turn_keeps begin_again begin_again_keeps);
+  given_back = give_back_keeps (turn begin_restart) (turn_keeps begin_restart begin_again_keeps);
   started = restartable_keeps;
   apart_turned = turn_keeps;
   apart_spent = record { by = λ n h back s replies a locals at le e. cc };

@@ -1,7 +1,8 @@
 -- That a run which is over has asked its halt last.
 use Rattle.std.specs.Prelude.{◌≡◌, ℕ, List, [], ◌∷◌, ◌++◌, Option}
 use Rattle.mj_text.specs.declared.fault.Fault.{Fault}
-use Rattle.mj_ask.specs.declared.ask.Ask.TheVariants.{Halt}
+use Rattle.mj_ask.specs.declared.ask.Ask.TheVariants as asks
+use Rattle.mj_ask.specs.declared.ask.SharedAsk.TheVariants as shared_asks
 use Rattle.mj_ask.specs.declared.ask.Reply.{Reply}
 use Rattle.mj_ast.specs.Syntax.{Routine}
 use Rattle.mj_semantics.specs.State.{Locals, Place}
@@ -18,7 +19,7 @@ pub record Halted (run : List Reply → Outcome) (replies : List Reply) : Type 0
   pub locals : Locals
   pub at : List Place
   pub are : replies ≡ told ++ last ∷ more
-  pub asked : run told ≡ Needs (Halt fault) locals at
+  pub asked : run told ≡ Needs (asks.Shared (shared_asks.Halt fault)) locals at
   pub over : (behind : List Reply) → run (told ++ last ∷ behind) ≡ Ended
 
 -- a run is over only so: no restart and nothing else ends it
@@ -29,7 +30,7 @@ EndsByHalt =
 
 -- the last entry of a log is the halt
 abbrev pub EndsInHalt : Log → Type 0
-EndsInHalt log = (earlier : Log) × (fault : Option Fault) × (r : Reply) × (log ≡ earlier ++ (Halt fault, r) ∷ [])
+EndsInHalt log = (earlier : Log) × (fault : Option Fault) × (r : Reply) × (log ≡ earlier ++ (asks.Shared (shared_asks.Halt fault), r) ∷ [])
 
 -- a log with which the run is over ends in its halt
 abbrev pub IsHaltLast : Type 0

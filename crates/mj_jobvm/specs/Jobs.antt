@@ -10,7 +10,7 @@ use Rattle.mj_machine.specs.declared.machine.Machine.{Machine}
 use Rattle.mj_machine.specs.declared.control.Control.TheVariants.{Begin}
 use Rattle.mj_machine.specs.Standing.{Standing, Code}
 use Rattle.mj_machine.specs.Kept.{standing}
-use Rattle.mj_jobvm.specs.Run.{Log, Run, IsRun, IsRunAfter}
+use Rattle.mj_jobvm.specs.Run.{Log, Run, IsJobRun, IsRunAfter}
 
 -- a job: how it starts, and its run
 pub record Running : Type 0 where
@@ -41,8 +41,8 @@ abbrev pub opened : Start → Running
 opened start = record { start = start; run = record { log = []; pending = None; spent = 0; at = opening_at start.job } }
 
 -- the reply fits what the job asks
-abbrev pub Fits : Option Ask → Reply → Type 0
-Fits pending reply = (a : Ask) × (pending ≡ Some a) × IsTrue (fits a reply)
+abbrev pub FitsPending : Option Ask → Reply → Type 0
+FitsPending pending reply = (a : Ask) × (pending ≡ Some a) × IsTrue (fits a reply)
 
 -- the code that a job runs in an image
 abbrev pub code_in : Loaded → Start → Code
@@ -50,7 +50,7 @@ code_in image start = record { units = image.units; start = start }
 
 -- the job runs the routines of this image, from this start
 abbrev pub IsRunOf : Loaded → Start → Running → Type 0
-IsRunOf image start job = IsRun (routines_of image) start (code_in image job.start) job.run
+IsRunOf image start job = IsJobRun (routines_of image) start (code_in image job.start) job.run
 
 -- so many turns after its last reply
 abbrev pub IsRunOfAfter : Loaded → Start → ℕ → Running → Type 0

@@ -3,6 +3,8 @@ use Rattle.std.specs.Prelude.{◌≡◌, ℕ, ◌+◌, ◌<◌, ◌≤◌, [], �
 use Rattle.mj_text.specs.declared.fault.Fault.{Fault}
 use Rattle.mj_ask.specs.declared.ask.Ask.{Ask}
 use Rattle.mj_ask.specs.declared.ask.Ask.TheVariants as asks
+use Rattle.mj_ask.specs.declared.ask.SharedAsk.TheVariants as shared_asks
+use Rattle.mj_ask.specs.declared.ask.DeviceAsk.TheVariants as device_asks
 use Rattle.mj_semantics.specs.State.{State, principal, devices_limit}
 use Rattle.mj_semantics.specs.Outcome.{fault_bytes, steps_limit}
 use Rattle.mj_jobvm.specs.Run.{Log}
@@ -10,10 +12,10 @@ use Rattle.mj_jobvm.specs.Run.{Log}
 -- an ask of a job's ending, behind so many others: first the line of its fault, if it has one, then the ends of its sessions, the
 -- principal one's among them, and then its own
 abbrev pub IsOfEnding : ℕ → Ask → Type 0
-IsOfEnding k (asks.DeviceWrite device bytes) =
+IsOfEnding k (asks.Device device (device_asks.Write bytes)) =
     (k ≤ steps_limit) × (device ≡ principal) × ((fault : Fault) × (s : State) × (bytes ≡ fault_bytes fault s))
-IsOfEnding k (asks.DeviceEnd device) = k ≤ steps_limit + 1 + devices_limit
-IsOfEnding k (asks.Halt fault) = k ≤ steps_limit + 2 + devices_limit
+IsOfEnding k (asks.Device device device_asks.End) = k ≤ steps_limit + 1 + devices_limit
+IsOfEnding k (asks.Shared (shared_asks.Halt fault)) = k ≤ steps_limit + 2 + devices_limit
 IsOfEnding k _ = ⊥
 
 -- an ask behind so many others is one of the 1,000,000 that a job may make, or it is of its ending

@@ -8,7 +8,7 @@ use Rattle.mj_semantics.specs.State.{Locals, Place, places}
 use Rattle.mj_semantics.specs.Outcome.{Needs, Ended, More}
 use Rattle.mj_semantics.specs.Job.{Start, next}
 use Rattle.mj_machine.specs.Standing.{Standing, Code, onward}
-use Rattle.mj_segment.specs.Sound.{IsSound}
+use Rattle.mj_turn.specs.Sound.{IsSound}
 
 -- the asks of a job and their replies, in order
 abbrev pub Log : Type 0
@@ -72,5 +72,5 @@ pub record IsRunAfter (routines : List Routine) (start : Start) (code : Code) (t
   pub asks : IfSome job.pending (λ a. (job.at.given ≡ None) × ((n : ℕ) → onward code (suc n) job.at [] ≡ Needs a job.at.state.locals (places job.at.state)))
 
 -- the same after any number of turns
-abbrev pub IsRun : List Routine → Start → Code → Run → Type 0
-IsRun routines start code job = (turns : ℕ) × IsRunAfter routines start code turns job
+abbrev pub IsJobRun : List Routine → Start → Code → Run → Type 0
+IsJobRun routines start code job = (turns : ℕ) × IsRunAfter routines start code turns job

@@ -15,11 +15,11 @@ use Rattle.mj_jobvm.specs.Run.{Run, replies_of, GoesOn, HasEnded}
 -- it asks only what the run over its log needs, and its locals and its frames are those that stand beside it; it has ended
 -- only where the run has; and only where the run is still going after the turns before the last reply was taken, and those
 -- that it counted since, it ran as far as it was let
-abbrev pub Told : List Routine → Start → Turn → Run → Type 0
-Told routines start Asks job =
+abbrev pub AdvanceTells : List Routine → Start → Turn → Run → Type 0
+AdvanceTells routines start Asks job =
     (a : Ask) × (job.pending ≡ Some a) × ((n : ℕ) × (next routines start n (replies_of job.log) ≡ outcomes.Needs a job.at.state.locals (places job.at.state)))
-Told routines start Ran job = GoesOn routines start job.log job.spent
-Told routines start Ended job = HasEnded routines start job.log
+AdvanceTells routines start Ran job = GoesOn routines start job.log job.spent
+AdvanceTells routines start Ended job = HasEnded routines start job.log
 
 -- the turns that are counted since the last reply: its fuel, where it ran as far as it was let, up to 2 ^ 63
 abbrev pub spent_after : {E : Type 0} → Result Turn E → ℕ → ℕ → ℕ
@@ -29,7 +29,7 @@ spent_after (Ok Ended) fuel spent = spent
 spent_after (Err e) fuel spent = spent
 
 -- how a turn went, by the name that a run gives it
-abbrev pub told_of : Went → turns.Told
+abbrev pub told_of : Went → turns.TurnKind
 told_of wents.On = turns.Over
 told_of (wents.Asks a) = turns.Asks a.value
 told_of wents.Over = turns.Ends

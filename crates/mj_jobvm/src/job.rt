@@ -4,30 +4,30 @@ ghost use Rattle.std.specs.Prelude.{◌≡◌, ◌++◌, ◌∷◌, [], Some, No
 ghost use Rattle.mj_ask.specs.declared.ask.Ask as asks;
 ghost use Rattle.mj_semantics.specs.State.{place_of};
 ghost use Rattle.mj_semantics.specs.Job.{Start as Starts};
-ghost use Rattle.mj_segment.specs.Starts.{start_of};
+ghost use Rattle.mj_turn.specs.Starts.{start_of};
 ghost use Rattle.mj_load.specs.Image.{Loaded, routines_of};
 ghost use Rattle.mj_frames.specs.Frames.{frames_of, place_at};
-ghost use Rattle.mj_jobvm.specs.Jobs.{Fits, IsRunOf, IsRunOfAfter, GoesForward, IsIn, given_of, opened, opening_at};
+ghost use Rattle.mj_jobvm.specs.Jobs.{FitsPending, IsRunOf, IsRunOfAfter, GoesForward, IsIn, given_of, opened, opening_at};
 ghost use Rattle.mj_pcode.specs.Sound.{AreChecked};
-ghost use Rattle.mj_segment.specs.Sound.{IsSound};
+ghost use Rattle.mj_turn.specs.Sound.{IsSound};
 ghost use Rattle.mj_machine.specs.Standing.{Steps};
 ghost use Rattle.mj_machine.specs.Kept.{standing, replied};
 ghost use Rattle.mj_jobvm.specs.Run.{IsTrace};
 ghost use Rattle.mj_jobvm.specs.Limit.{IsLimited};
-ghost use Rattle.mj_jobvm.specs.Told.{Told, told_of, spent_after};
-ghost use Rattle.mj_segment.specs.Units.{AreSmall};
+ghost use Rattle.mj_jobvm.specs.Told.{AdvanceTells, told_of, spent_after};
+ghost use Rattle.mj_turn.specs.Units.{AreSmall};
 
 use mj_ask::{Ask, Entry, Reply};
 use mj_frames::{Frame, Frames};
 use mj_load::Image;
 use mj_locals::Locals;
-use mj_machine::{Control, Machine, Step};
-use mj_open::Devices;
+use mj_machine::{Control, Machine, TurnOutcome};
+use mj_open_devices::Devices;
 use mj_pcode::Unit;
 use mj_segment::run_segment;
-use mj_segment::turn::{Start, make_turn};
 use mj_store::Nodes;
 use mj_text::Text;
+use mj_turn::{Start, make_turn};
 use std::alloc::{AllocError, Global};
 use std::marker::Model;
 
@@ -69,7 +69,7 @@ pub struct Job {
 
 impl Model for Job {
     ghost use Rattle.std.specs.Prelude.{◌<◌, IsSome};
-    ghost use Rattle.mj_segment.specs.Starts.{start_of};
+    ghost use Rattle.mj_turn.specs.Starts.{start_of};
     ghost use Rattle.mj_jobvm.specs.Jobs.{Running, running};
 
     ghost Value = { Running };
@@ -80,7 +80,7 @@ impl Model for Job {
 }
 
 impl Job {
-    /// A job with this number that starts at this entry, with these values for the formals of its line, before its first turn. Where the
+    /// Makes a job with this number that starts at this entry, with these values for the formals of its line, before its first turn. Where the
     /// image has no such line, it begins all the same, and ends by a fault. It takes no memory.
     pub fn start(
         alloc: Global,
@@ -117,7 +117,7 @@ impl Job {
         requires { IsIn image.now self.old }
         ensures run { (start : Starts) → IsRunOf image.now start self.old → IsRunOf image.now start self.new }
         ensures forward { (start : Starts) → GoesForward image.now start self.old self.new }
-        ensures told { (start : Starts) → IsRunOf image.now start self.old → IfOk result (λ turn. Told (routines_of image.now) start turn self.new.run) }
+        ensures told { (start : Starts) → IsRunOf image.now start self.old → IfOk result (λ turn. AdvanceTells (routines_of image.now) start turn self.new.run) }
         ensures log { self.new.run.log ≡ self.old.run.log }
         ensures spent { self.new.run.spent ≡ spent_after result fuel self.old.run.spent }
         ensures err { OnErr result (self.new.run.pending ≡ self.old.run.pending) }
@@ -167,7 +167,7 @@ impl Job {
 
     /// Replies to what the job asks. It takes no memory.
     pub fn answer(&mut self, reply: Reply)
-        requires { Fits self.old.run.pending reply }
+        requires { FitsPending self.old.run.pending reply }
         ensures run { (image : Loaded) (start : Starts) → IsRunOf image start self.old → IsRunOf image start self.new }
         ensures state { self.new.run.at.state ≡ self.old.run.at.state }
         ensures log { (a : asks.Ask) → self.old.run.pending ≡ Some a → self.new.run.log ≡ self.old.run.log ++ (a, reply) ∷ [] }
@@ -248,14 +248,14 @@ fn opening(alloc: Global, job: u32) -> Machine
     }
 }
 
-// An ask waits for its reply. What waited before, which is nothing, goes to `drop`: an assignment would drop an ask with all its parts here.
+// Keeps an ask until its reply comes. What waited before, which is nothing, goes to `drop`: an assignment would drop an ask with all its parts here.
 fn wait(pending: &mut Option<Ask>, ask: Box<Ask>)
     ensures { pending.new ≡ Some ask.value }
 {
     drop(pending.replace(Box::into_inner(ask)));
 }
 
-// A turn, with the last reply of the log, if it is still to be taken.
+// Makes a turn, with the last reply of the log, if it is still to be taken.
 fn go_on(
     alloc: Global,
     units: &[Unit],
@@ -274,13 +274,13 @@ fn go_on(
 {
     // Matched as it comes: a `?` here would move the room of an ask in each turn.
     match make_turn(alloc, units, start, machine, reply_in(log, *given)) {
-        Ok(Step::Next) => Ok(Went::On),
-        Ok(Step::Took) => {
+        Ok(TurnOutcome::Next) => Ok(Went::On),
+        Ok(TurnOutcome::Took) => {
             *given = false;
             Ok(Went::On)
         }
-        Ok(Step::Asks(ask)) => Ok(Went::Asks(ask)),
-        Ok(Step::Ends) => Ok(Went::Over),
+        Ok(TurnOutcome::Asks(ask)) => Ok(Went::Asks(ask)),
+        Ok(TurnOutcome::Ends) => Ok(Went::Over),
         Err(error) => Err(error),
     }
 }

@@ -84,11 +84,13 @@ two_taken bs q h = ap (λ (k : ℕ). take k (34 ∷ 34 ∷ bs)) (let e : 2 + q.w
     by true = refl
     by false = refl
 
-quote_as : (b : ℕ) (bs : List ℕ) (e : Bool) → (b == 34) ≡ e → QuoteTaken (quotation bs) bs → QuoteTaken (behind_quote bs) (34 ∷ bs) → QuoteTaken (elim e [ true ↦ behind_quote bs | false ↦ with_byte b 1 (quotation bs) ]) (b ∷ bs)
+quote_as : (b : ℕ) (bs : List ℕ) (e : Bool) → (b == 34) ≡ e → QuoteTaken (quotation bs) bs → QuoteTaken (behind_quote bs) (34 ∷ bs) →
+    QuoteTaken (elim e [ true ↦ behind_quote bs | false ↦ with_byte b 1 (quotation bs) ]) (b ∷ bs)
 quote_as b bs true e h i = let P : ℕ → Type 0 = λ x. QuoteTaken (behind_quote bs) (x ∷ bs) in subst P (sym (eqb-true b 34 e)) i
 quote_as b bs false e h i = with_taken b bs (quotation bs) false e refl h
 
-behind_as : (c : ℕ) (cs : List ℕ) (e : Bool) → (c == 34) ≡ e → QuoteTaken (quotation cs) cs → QuoteTaken (elim e [ true ↦ with_byte 34 2 (quotation cs) | false ↦ record { closed = true; content = []; width = 1 } ]) (34 ∷ c ∷ cs)
+behind_as : (c : ℕ) (cs : List ℕ) (e : Bool) → (c == 34) ≡ e → QuoteTaken (quotation cs) cs →
+    QuoteTaken (elim e [ true ↦ with_byte 34 2 (quotation cs) | false ↦ record { closed = true; content = []; width = 1 } ]) (34 ∷ c ∷ cs)
 behind_as c cs true e h = let P : ℕ → Type 0 = λ x. QuoteTaken (with_byte 34 2 (quotation cs)) (34 ∷ x ∷ cs) in subst P (sym (eqb-true c 34 e)) (two_taken cs (quotation cs) h)
 behind_as c cs false e h = refl
 
@@ -101,7 +103,8 @@ mutual
   behind_taken [] = refl
   behind_taken (c ∷ cs) = behind_as c cs (c == 34) refl (quote_taken cs)
 
-quote_front : (b : ℕ) (bs : List ℕ) (q : Quotation) (c : Bool) → b ≡ 34 → take q.width bs ≡ cond c (doubled q.content ++ 34 ∷ []) (doubled q.content) → IsFront b bs (cond c (Quoted q.content) (Unclosed q.content), q.width)
+quote_front : (b : ℕ) (bs : List ℕ) (q : Quotation) (c : Bool) → b ≡ 34 → take q.width bs ≡ cond c (doubled q.content ++ 34 ∷ []) (doubled q.content) →
+    IsFront b bs (cond c (Quoted q.content) (Unclosed q.content), q.width)
 quote_front b bs q true e h = record { spelled = ap (λ (x : ℕ). x ∷ take q.width bs) e ∙ ap (λ (xs : List ℕ). 34 ∷ xs) h; fits = tt }
 quote_front b bs q false e h = record { spelled = ap (λ (x : ℕ). x ∷ take q.width bs) e ∙ ap (λ (xs : List ℕ). 34 ∷ xs) h; fits = tt }
 
@@ -111,14 +114,22 @@ dollar_as b c cs true true e f g =
     let w = take_while continues_word cs in
     let n = one_more (length w) in
     record {
-      spelled = (ap (λ (x : ℕ). x ∷ take (1 + length w) (c ∷ cs)) e ∙ ap (λ (k : ℕ). 36 ∷ take k (c ∷ cs)) n ∙ ap (λ (xs : List ℕ). 36 ∷ c ∷ xs) (front_taken continues_word cs), (f, AllPass-from_list_all continues_word w (while_passes continues_word cs)));
+      spelled = (
+        ap (λ (x : ℕ). x ∷ take (1 + length w) (c ∷ cs)) e ∙ ap (λ (k : ℕ). 36 ∷ take k (c ∷ cs)) n ∙
+            ap (λ (xs : List ℕ). 36 ∷ c ∷ xs) (front_taken continues_word cs),
+        (f, AllPass-from_list_all continues_word w (while_passes continues_word cs)),
+      );
       fits = ap (λ (k : ℕ). opens (drop k (c ∷ cs))) n ∙ g;
     }
 dollar_as b c cs true false e f g =
     let w = take_while continues_word cs in
     let n = one_more (length w) in
     record {
-      spelled = (ap (λ (x : ℕ). x ∷ take (1 + length w) (c ∷ cs)) e ∙ ap (λ (k : ℕ). 36 ∷ take k (c ∷ cs)) n ∙ ap (λ (xs : List ℕ). 36 ∷ c ∷ xs) (front_taken continues_word cs), (f, AllPass-from_list_all continues_word w (while_passes continues_word cs)));
+      spelled = (
+        ap (λ (x : ℕ). x ∷ take (1 + length w) (c ∷ cs)) e ∙ ap (λ (k : ℕ). 36 ∷ take k (c ∷ cs)) n ∙
+            ap (λ (xs : List ℕ). 36 ∷ c ∷ xs) (front_taken continues_word cs),
+        (f, AllPass-from_list_all continues_word w (while_passes continues_word cs)),
+      );
       fits = ap (λ (k : ℕ). opens (drop k (c ∷ cs))) n ∙ g;
     }
 dollar_as b c cs false o e f g = record { spelled = (ap (λ (x : ℕ). x ∷ []) e, inr refl); fits = tt }
@@ -168,7 +179,8 @@ question b (c ∷ cs) e = by (c == 63) refl
     by true f = ap (λ (x : ℕ). x ∷ c ∷ []) e ∙ ap (λ (x : ℕ). 39 ∷ x ∷ []) (eqb-true c 63 f)
     by false f = ap (λ (x : ℕ). x ∷ []) e
 
-apostrophe : (b : ℕ) (bs : List ℕ) (q : Option TruthOp) → b ≡ 39 → TruthTaken bs q → let l : Sign × ℕ = elim q [ None ↦ apostrophe_sign bs | Some op ↦ (Negated op, length (truth_bytes op)) ] in b ∷ take l.1 bs ≡ sign_bytes l.0
+apostrophe : (b : ℕ) (bs : List ℕ) (q : Option TruthOp) → b ≡ 39 → TruthTaken bs q →
+    let l : Sign × ℕ = elim q [ None ↦ apostrophe_sign bs | Some op ↦ (Negated op, length (truth_bytes op)) ] in b ∷ take l.1 bs ≡ sign_bytes l.0
 apostrophe b bs None e h = question b bs e
 apostrophe b bs (Some op) e h = ap (λ (x : ℕ). x ∷ take (length (truth_bytes op)) bs) e ∙ ap (λ (xs : List ℕ). 39 ∷ xs) h
 
@@ -192,10 +204,22 @@ take_whole [] = refl
 take_whole (b ∷ bs) = ap (λ (xs : List ℕ). b ∷ xs) (take_whole bs)
 
 front_as : (b : ℕ) (bs : List ℕ) (c : Class) → class_of b ≡ c → Says b c → IsFront b bs (front_of c b bs)
-front_as b bs AWord e h = record { spelled = (ap (λ (xs : List ℕ). b ∷ xs) (front_taken continues_word bs), (h, AllPass-from_list_all continues_word (take_while continues_word bs) (while_passes continues_word bs))); fits = tt }
+front_as b bs AWord e h = record {
+  spelled = (
+    ap (λ (xs : List ℕ). b ∷ xs) (front_taken continues_word bs),
+    (h, AllPass-from_list_all continues_word (take_while continues_word bs) (while_passes continues_word bs)),
+  );
+  fits = tt;
+}
 front_as b bs ADigit e h =
     let w = take_while is_digit bs in
-    record { spelled = (ap (λ (xs : List ℕ). b ∷ xs) (front_taken is_digit bs), AllPass-from_list_all is_digit (b ∷ w) (and_from (is_digit b) (list_all is_digit w) h (while_passes is_digit bs))); fits = tt }
+    record {
+      spelled = (
+        ap (λ (xs : List ℕ). b ∷ xs) (front_taken is_digit bs),
+        AllPass-from_list_all is_digit (b ∷ w) (and_from (is_digit b) (list_all is_digit w) h (while_passes is_digit bs)),
+      );
+      fits = tt;
+    }
 front_as b bs ABlank e h = record { spelled = blank_spelled b (b == 32) (b == 9) refl refl h; fits = tt }
 front_as b bs AQuote e h = quote_front b bs (quotation bs) (quotation bs).closed h (quote_taken bs)
 front_as b bs AComment e h = record { spelled = ap (λ (x : ℕ). x ∷ take (length bs) bs) h ∙ ap (λ (xs : List ℕ). 59 ∷ xs) (take_whole bs); fits = tt }
@@ -259,10 +283,14 @@ doubled_reach : (content zs : List ℕ) (k : ℕ) → k ≤ (quotation zs).width
 doubled_reach [] zs k h = omega arith
 doubled_reach (x ∷ xs) zs k h = by (x == 34) refl (doubled_reach xs zs k h)
   where
-    by : (e : Bool) → (x == 34) ≡ e → length (doubled xs) + k ≤ (quotation (doubled xs ++ zs)).width → length (cond e (34 ∷ 34 ∷ doubled xs) (x ∷ doubled xs)) + k ≤ (quotation (cond e (34 ∷ 34 ∷ doubled xs) (x ∷ doubled xs) ++ zs)).width
+    by : (e : Bool) → (x == 34) ≡ e → length (doubled xs) + k ≤ (quotation (doubled xs ++ zs)).width →
+        length (cond e (34 ∷ 34 ∷ doubled xs) (x ∷ doubled xs)) + k ≤ (quotation (cond e (34 ∷ 34 ∷ doubled xs) (x ∷ doubled xs) ++ zs)).width
     by true f i = omega arith
     by false f i =
-        let P : Bool → Type 0 = λ b. let q : Quotation = elim b [ true ↦ behind_quote (doubled xs ++ zs) | false ↦ with_byte x 1 (quotation (doubled xs ++ zs)) ] in length (x ∷ doubled xs) + k ≤ q.width in
+        let P : Bool → Type 0 = λ b. let q : Quotation = elim b [
+          | true ↦ behind_quote (doubled xs ++ zs)
+          | false ↦ with_byte x 1 (quotation (doubled xs ++ zs))
+        ] in length (x ∷ doubled xs) + k ≤ q.width in
         subst P (sym f) (omega arith)
 
 negated_reach : (op : TruthOp) (rest : List ℕ) → length (39 ∷ truth_bytes op) ≤ reach (39 ∷ (truth_bytes op ++ rest))

@@ -57,7 +57,11 @@ quoted_through (x ∷ xs) zs = by (x == 34) refl (quoted_through xs zs)
         → let q : Quotation = quotation (cond e (34 ∷ 34 ∷ doubled xs) (x ∷ doubled xs) ++ zs) in let r : Quotation = quotation zs in (q.closed ≡ r.closed) × (q.content ≡ x ∷ (xs ++ r.content))
     by true f i = (i.0, ap (λ (b : ℕ). b ∷ (quotation (doubled xs ++ zs)).content) (sym (eqb-true x 34 f)) ∙ ap (λ (ys : List ℕ). x ∷ ys) i.1)
     by false f i =
-        let P : Bool → Type 0 = λ b. let q : Quotation = elim b [ true ↦ behind_quote (doubled xs ++ zs) | false ↦ with_byte x 1 (quotation (doubled xs ++ zs)) ] in let r : Quotation = quotation zs in (q.closed ≡ r.closed) × (q.content ≡ x ∷ (xs ++ r.content)) in
+        let P : Bool → Type 0 = λ b. let q : Quotation = elim b [
+          | true ↦ behind_quote (doubled xs ++ zs)
+          | false ↦ with_byte x 1 (quotation (doubled xs ++ zs))
+        ] in let r : Quotation = quotation zs in (q.closed ≡ r.closed) ×
+        (q.content ≡ x ∷ (xs ++ r.content)) in
         subst P (sym f) (i.0, ap (λ (ys : List ℕ). x ∷ ys) i.1)
 
 quotation_told : (q : Quotation) (content rest : List ℕ) → q.content ≡ content → (b : Bool) → q.closed ≡ b → fitted (quoted_token q) rest ≡ cond b (Quoted content) (Unclosed content)

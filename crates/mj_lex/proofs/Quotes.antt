@@ -63,16 +63,22 @@ extended_again xs b n k q =
 
 -- nothing is read yet
 pub read_nothing : (bytes : List ℕ) → IsReadTo bytes 0 []
-read_nothing bytes = record { taken = refl; goes = ap (λ (n : ℕ). record { closed = (quotation bytes).closed; content = (quotation bytes).content; width = n }) (let e : (quotation bytes).width ≡ 0 + (quotation bytes).width = omega arith in e) }
+read_nothing bytes = record {
+  taken = refl;
+  goes = ap (λ (n : ℕ). record { closed = (quotation bytes).closed; content = (quotation bytes).content; width = n })
+      (let e : (quotation bytes).width ≡ 0 + (quotation bytes).width = omega arith in e);
+}
 
-other_byte : (bytes : List ℕ) (at : ℕ) (content : List ℕ) (b : ℕ) → drop at bytes ≡ b ∷ drop (suc at) bytes → (b == 34) ≡ false → take (suc at) bytes ≡ take at bytes ++ b ∷ [] → IsReadTo bytes at content → IsReadTo bytes (at + 1) (content ++ b ∷ [])
+other_byte : (bytes : List ℕ) (at : ℕ) (content : List ℕ) (b : ℕ) → drop at bytes ≡ b ∷ drop (suc at) bytes → (b == 34) ≡ false →
+    take (suc at) bytes ≡ take at bytes ++ b ∷ [] → IsReadTo bytes at content → IsReadTo bytes (at + 1) (content ++ b ∷ [])
 other_byte bytes at content b d e t r =
     let one : suc at ≡ at + 1 = omega arith in
     let P : ℕ → Type 0 = λ n. take n bytes ≡ doubled (content ++ b ∷ []) in
     let Q : ℕ → Type 0 = λ n. quotation bytes ≡ extended (content ++ b ∷ []) (at + 1) (quotation (drop n bytes)) in
     record {
       taken = subst P one (t ∙ ap (λ (xs : List ℕ). xs ++ b ∷ []) r.taken ∙ ap (λ (x : Bool). doubled content ++ doubled_on x b []) (sym e) ∙ sym (doubled-append content (b ∷ [])));
-      goes = subst Q one (r.goes ∙ ap (λ (xs : List ℕ). extended content at (quotation xs)) d ∙ ap (λ (x : Bool). extended content at (quotation_on x b (drop (suc at) bytes))) e ∙ extended_again content b at 1 (quotation (drop (suc at) bytes)));
+      goes = subst Q one (r.goes ∙ ap (λ (xs : List ℕ). extended content at (quotation xs)) d ∙
+          ap (λ (x : Bool). extended content at (quotation_on x b (drop (suc at) bytes))) e ∙ extended_again content b at 1 (quotation (drop (suc at) bytes)));
     }
 
 -- a byte that is no quote
@@ -83,7 +89,8 @@ quote_at : (bytes : List ℕ) (at : ℕ) → at < length bytes → get_or bytes 
 quote_at bytes at l h = drop-cons bytes at 0 l ∙ ap (λ (x : ℕ). x ∷ drop (suc at) bytes) h
 
 -- two quotes
-pub read_quotes : (bytes : List ℕ) (at : ℕ) (content : List ℕ) → at + 1 < length bytes → get_or bytes at 0 ≡ 34 → get_or bytes (at + 1) 0 ≡ 34 → IsReadTo bytes at content → IsReadTo bytes (at + 2) (content ++ 34 ∷ [])
+pub read_quotes : (bytes : List ℕ) (at : ℕ) (content : List ℕ) → at + 1 < length bytes → get_or bytes at 0 ≡ 34 → get_or bytes (at + 1) 0 ≡ 34 →
+    IsReadTo bytes at content → IsReadTo bytes (at + 2) (content ++ 34 ∷ [])
 read_quotes bytes at content l h g r =
     let near : at < length bytes = omega arith in
     let next : suc at < length bytes = omega arith in
@@ -107,7 +114,8 @@ read_quotes bytes at content l h g r =
 closed_at : (b : ℕ) (bs : List ℕ) → b ≢ 34 → behind_quote (b ∷ bs) ≡ record { closed = true; content = []; width = 1 }
 closed_at b bs h = ap (λ (x : Bool). behind_on x bs) (ne_eqb b 34 h)
 
-closed_behind : (bytes rest : List ℕ) (at : ℕ) → drop (suc at) bytes ≡ rest → (at + 1 < length bytes → get_or bytes (at + 1) 0 ≢ 34) → behind_quote rest ≡ record { closed = true; content = []; width = 1 }
+closed_behind : (bytes rest : List ℕ) (at : ℕ) → drop (suc at) bytes ≡ rest → (at + 1 < length bytes → get_or bytes (at + 1) 0 ≢ 34) →
+    behind_quote rest ≡ record { closed = true; content = []; width = 1 }
 closed_behind bytes [] at e g = refl
 closed_behind bytes (x ∷ xs) at e g =
     let n : length (drop (suc at) bytes) ≡ suc (length xs) = ap length e in
@@ -118,14 +126,18 @@ closed_behind bytes (x ∷ xs) at e g =
     let same : get_or bytes (suc at) 0 ≡ x = cc in
     closed_at x xs (λ i. let G : ℕ → Type 0 = λ k. get_or bytes k 0 ≡ 34 in g near (subst G one (same ∙ i)))
 
-closed_whole : (bytes : List ℕ) (at : ℕ) (content : List ℕ) → at < length bytes → get_or bytes at 0 ≡ 34 → behind_quote (drop (suc at) bytes) ≡ record { closed = true; content = []; width = 1 } → IsReadTo bytes at content → quotation bytes ≡ record { closed = true; content = content; width = at + 1 }
+closed_whole : (bytes : List ℕ) (at : ℕ) (content : List ℕ) → at < length bytes → get_or bytes at 0 ≡ 34 →
+    behind_quote (drop (suc at) bytes) ≡ record { closed = true; content = []; width = 1 } → IsReadTo bytes at content →
+    quotation bytes ≡ record { closed = true; content = content; width = at + 1 }
 closed_whole bytes at content l h g r =
     r.goes ∙ ap (λ (xs : List ℕ). extended content at (quotation xs)) (quote_at bytes at l h)
     ∙ ap (extended content at) g
     ∙ ap (λ (xs : List ℕ). record { closed = true; content = xs; width = at + 1 }) (append-nil content)
 
 -- a quote, behind which there is no second one, closes it
-pub read_closed : (bytes : List ℕ) (at : ℕ) (content : List ℕ) → at < length bytes → get_or bytes at 0 ≡ 34 → (at + 1 < length bytes → get_or bytes (at + 1) 0 ≢ 34) → IsReadTo bytes at content → quotation bytes ≡ record { closed = true; content = content; width = at + 1 }
+pub read_closed : (bytes : List ℕ) (at : ℕ) (content : List ℕ) → at < length bytes → get_or bytes at 0 ≡ 34 →
+    (at + 1 < length bytes → get_or bytes (at + 1) 0 ≢ 34) → IsReadTo bytes at content →
+    quotation bytes ≡ record { closed = true; content = content; width = at + 1 }
 read_closed bytes at content l h g r = closed_whole bytes at content l h (closed_behind bytes (drop (suc at) bytes) at refl g) r
 
 -- the token of a closed one, and what follows it
@@ -133,10 +145,12 @@ pub closed_token : (bytes : List ℕ) (at : ℕ) (content : List ℕ) → quotat
     → Quoted (undoubled (take at bytes)) ≡ quoted_token (quotation bytes)
 closed_token bytes at content q t = ap (λ (xs : List ℕ). Quoted (undoubled xs)) t ∙ ap Quoted (undoubled-doubled content) ∙ ap quoted_token (sym q)
 
-pub closed_rest : (bytes : List ℕ) (at : ℕ) (content : List ℕ) → quotation bytes ≡ record { closed = true; content = content; width = at + 1 } → drop (at + 1) bytes ≡ drop (quotation bytes).width bytes
+pub closed_rest : (bytes : List ℕ) (at : ℕ) (content : List ℕ) → quotation bytes ≡ record { closed = true; content = content; width = at + 1 } →
+    drop (at + 1) bytes ≡ drop (quotation bytes).width bytes
 closed_rest bytes at content q = ap (λ (x : Quotation). drop x.width bytes) (sym q)
 
-open_whole : (bytes rest : List ℕ) (at : ℕ) (content : List ℕ) → drop at bytes ≡ rest → length bytes ≤ at → IsReadTo bytes at content → quotation bytes ≡ record { closed = false; content = content; width = at + 0 }
+open_whole : (bytes rest : List ℕ) (at : ℕ) (content : List ℕ) → drop at bytes ≡ rest → length bytes ≤ at → IsReadTo bytes at content →
+    quotation bytes ≡ record { closed = false; content = content; width = at + 0 }
 open_whole bytes [] at content e l r =
     r.goes ∙ ap (λ (xs : List ℕ). extended content at (quotation xs)) e ∙ ap (λ (xs : List ℕ). record { closed = false; content = xs; width = at + 0 }) (append-nil content)
 open_whole bytes (x ∷ xs) at content e l r = absurd (let n : length (drop at bytes) ≡ suc (length xs) = ap length e in omega (arith, n, length-drop at bytes))

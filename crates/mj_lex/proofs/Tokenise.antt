@@ -20,7 +20,11 @@ same_tokens (suc n) (suc m) (b ∷ bs) l g =
     ap (λ (ls : List Lexeme). record { token = f.0; slice = b ∷ take f.1 bs } ∷ ls) (same_tokens n m (drop f.1 bs) k j)
 
 -- the first token and those of the rest
-lexemes-cons : (b : ℕ) (bs : List ℕ) → lexemes (b ∷ bs) ≡ record { token = (front_of (class_of b) b bs).0; slice = b ∷ take (front_of (class_of b) b bs).1 bs } ∷ lexemes (drop (front_of (class_of b) b bs).1 bs)
+lexemes-cons : (b : ℕ) (bs : List ℕ) → lexemes (b ∷ bs) ≡ record {
+  token = (front_of (class_of b) b bs).0;
+  slice = b ∷
+      take (front_of (class_of b) b bs).1 bs;
+} ∷ lexemes (drop (front_of (class_of b) b bs).1 bs)
 unfolding lexemes
 lexemes-cons b bs =
     let f : Token × ℕ = front_of (class_of b) b bs in
@@ -39,7 +43,8 @@ width n line b k bs l e =
     omega (arith, l, e, t, s, length-take k bs, length-drop k bs)
 
 placed-cons : (line : List ℕ) (b : ℕ) (bs : List ℕ) → length (b ∷ bs) ≤ length line
-    → placed (length line - length (b ∷ bs)) (lexemes (b ∷ bs)) ≡ ((front_of (class_of b) b bs).0, length line - length (b ∷ bs)) ∷ placed (length line - length (drop (front_of (class_of b) b bs).1 bs)) (lexemes (drop (front_of (class_of b) b bs).1 bs))
+    → placed (length line - length (b ∷ bs)) (lexemes (b ∷ bs)) ≡ ((front_of (class_of b) b bs).0, length line - length (b ∷ bs)) ∷
+    placed (length line - length (drop (front_of (class_of b) b bs).1 bs)) (lexemes (drop (front_of (class_of b) b bs).1 bs))
 placed-cons line b bs l =
     let f : Token × ℕ = front_of (class_of b) b bs in
     let n : ℕ = length line - length (b ∷ bs) in

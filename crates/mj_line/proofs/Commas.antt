@@ -15,9 +15,10 @@ use Rattle.mj_expr.proofs.Turns.{IsReached, step_reached, NextReached, IsPlain, 
 use Rattle.mj_expr.proofs.Said.{Over as OverLimit}
 use Rattle.mj_line.specs.Forms.{Node, Want, AnExpr, AVar, ALocal, part_at, sort_of, takes, first_node}
 use Rattle.mj_line.specs.Sentences.{Sentence}
-use Rattle.mj_line.specs.Machine.{Rest, Spot, Begin, Over, Worded, Asked, Bare, Args, Goal, Condition, Argument, State, At, In, start, wanted, may_begin, level, inside, behind, entry, rested, Next, Go, Stuck, Deep, Long, opened, moved, taken, own, begins, on_rested, first, spot_step, behind_step, phrase_step, in_step, entering, step, Labelled, FormalsOpened, FormalWanted, FormalBehind, FormalsEnd, Indented, is_new}
-use Rattle.mj_line.proofs.Leaves.{NextLeads, spot_leads}
-use Rattle.mj_line.proofs.Facts.{spot_long, spot_called, spot_special, behind_long, start_long}
+use Rattle.mj_line.specs.Machine.{Rest, Spot, Begin, Over, Worded, Asked, Bare, Args, Goal, Condition, Argument, State, At, In, start, wanted, may_begin, level, inside, behind_phrase, entry, rested, Next, Go, Stuck, Deep, Long, opened, moved, taken, own, begins, on_rested, first, spot_step, behind_step, phrase_step, in_step, entering, step, Labelled, FormalsOpened, FormalWanted, FormalBehind, FormalsEnd, Indented, is_new}
+use Rattle.mj_line.proofs.SpotLeaves.{NextLeads, spot_leads}
+use Rattle.mj_line.proofs.Facts.{spot_long, spot_called, spot_special, behind_long}
+use Rattle.mj_line.proofs.SpotFacts.{start_long}
 
 -- ---- a spot neither opens a level nor has too long a list
 
@@ -37,7 +38,7 @@ spot_simple : (p : Spot) (k : Token) → IsSimple (spot_step p k)
 spot_simple p k = leads_simple p k (spot_step p k) (spot_leads p k)
 
 behind_simple : (g : Goal) (o : phrase.Outcome) (k : Token) → IsSimple (behind_step g o k)
-behind_simple g (phrase.Accept p r) k = spot_simple (behind g p) k
+behind_simple g (phrase.Accept p r) k = spot_simple (behind_phrase g p) k
 behind_simple g (phrase.StuckAt n) k = tt
 behind_simple g (phrase.DeepAt n) k = tt
 behind_simple g phrase.TooLong k = tt
@@ -50,7 +51,8 @@ simple_long n h e = subst IsSimple e h
 
 -- ---- a level too many
 
-deep_as : (m l : Limits) (g : Goal) (s : phrase.State) (k : Token) (n : phrase.Next) → l.depth ≡ m.depth → DeepBy (λ i. phrase.step i s (symbol k)) (inside m (level g)) n → phrase_step g s k n ≡ Deep → in_step l g s k ≡ Deep
+deep_as : (m l : Limits) (g : Goal) (s : phrase.State) (k : Token) (n : phrase.Next) → l.depth ≡ m.depth →
+    DeepBy (λ i. phrase.step i s (symbol k)) (inside m (level g)) n → phrase_step g s k n ≡ Deep → in_step l g s k ≡ Deep
 deep_as m l g s k (phrase.Go t) i h e = absurd (let f : Go (In g t) ≡ Deep = e in cc)
 deep_as m l g s k phrase.Stuck i h e = absurd (simple_deep (behind_step g (phrase.finish s []) k) (behind_simple g (phrase.finish s []) k) e)
 deep_as m l g s k phrase.Deep i h e = ap (phrase_step g s k) (h (inside l (level g)) (ap (λ (d : ℕ). d - level g) i))
@@ -183,7 +185,7 @@ spot_spot : (p : Spot) (k : Token) → ToSpot (spot_step p k)
 spot_spot p k = first_spot (own p k) (on_rested (rested p) k) (own_spot p k) (on_spot (rested p) k)
 
 behind_spot : (g : Goal) (o : phrase.Outcome) (k : Token) → ToSpot (behind_step g o k)
-behind_spot g (phrase.Accept p r) k = spot_spot (behind g p) k
+behind_spot g (phrase.Accept p r) k = spot_spot (behind_phrase g p) k
 behind_spot g (phrase.StuckAt n) k = tt
 behind_spot g (phrase.DeepAt n) k = tt
 behind_spot g phrase.TooLong k = tt
@@ -289,13 +291,15 @@ to_spot m s Stuck h = tt
 to_spot m s Deep h = tt
 to_spot m s Long h = tt
 
-phrase_comma : (m : Limits) (t : State) (g : Goal) (s : phrase.State) (k : Token) (n : phrase.Next) → (in_step m g s (Signed Comma) ≡ Long → step m t (Signed Comma) ≡ Long) → CommaAfter (inside m (level g)) s n → LineComma m t (phrase_step g s k n)
+phrase_comma : (m : Limits) (t : State) (g : Goal) (s : phrase.State) (k : Token) (n : phrase.Next) →
+    (in_step m g s (Signed Comma) ≡ Long → step m t (Signed Comma) ≡ Long) → CommaAfter (inside m (level g)) s n → LineComma m t (phrase_step g s k n)
 phrase_comma m t g s k (phrase.Go u) h c = λ e. h (ap (phrase_step g s (Signed Comma)) (c (long_phrase g u (Signed Comma) (phrase.step (inside m (level g)) u (grammar.Mark Comma)) e)))
 phrase_comma m t g s k phrase.Stuck h c = to_spot m t (behind_step g (phrase.finish s []) k) (behind_spot g (phrase.finish s []) k)
 phrase_comma m t g s k phrase.Deep h c = tt
 phrase_comma m t g s k phrase.Long h c = tt
 
-in_comma : (m : Limits) (t : State) (g : Goal) (s : phrase.State) (k : Token) → IsReached s → IsToken k → (in_step m g s (Signed Comma) ≡ Long → step m t (Signed Comma) ≡ Long) → LineComma m t (in_step m g s k)
+in_comma : (m : Limits) (t : State) (g : Goal) (s : phrase.State) (k : Token) → IsReached s → IsToken k →
+    (in_step m g s (Signed Comma) ≡ Long → step m t (Signed Comma) ≡ Long) → LineComma m t (in_step m g s k)
 in_comma m t g s k r i h = phrase_comma m t g s k (phrase.step (inside m (level g)) s (symbol k)) h (comma_after (inside m (level g)) s (symbol k) r (plain_token k i))
 
 want_reached : (w : Want) → IsReached (wanted w)
@@ -314,7 +318,8 @@ begin_comma m t n false h = tt
 entering_comma : (m : Limits) (t : State) (q : Option Goal) (k : Token) → IsToken k → LineComma m t (entering m q k)
 entering_comma m t (Some g) k i =
     begin_comma m t (in_step m g (start g) k) (may_begin g (symbol k))
-    (in_comma m t g (start g) k (start_reached g) i (λ e. absurd (start_long (inside m (level g)) g (symbol (Signed Comma)) (long_phrase g (start g) (Signed Comma) (phrase.step (inside m (level g)) (start g) (symbol (Signed Comma))) e))))
+    (in_comma m t g (start g) k (start_reached g) i (λ e. absurd (start_long (inside m (level g)) g (symbol (Signed Comma))
+    (long_phrase g (start g) (Signed Comma) (phrase.step (inside m (level g)) (start g) (symbol (Signed Comma))) e))))
 entering_comma m t None k i = tt
 
 first_comma : (m : Limits) (t : State) (n o : Next) → LineComma m t n → LineComma m t o → LineComma m t (first n o)

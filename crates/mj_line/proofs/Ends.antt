@@ -7,10 +7,11 @@ use Rattle.mj_expr.specs.Machine.{Limits}
 use Rattle.mj_expr.specs.Machine as phrase
 use Rattle.mj_ast.specs.Expressions.{symbol}
 use Rattle.mj_expr.proofs.Facts.{IsMore, deeper}
-use Rattle.mj_line.specs.Machine.{Rest, Spot, Begin, Labelled, FormalsOpened, FormalWanted, FormalBehind, FormalsEnd, Indented, Behind, Over, Worded, Asked, Bare, Args, Goal, State, At, In, Next, Go, Stuck, Deep, Long, behind, rested, step, Outcome, Accept, StuckAt, DeepAt, TooLong, refused, ended, ended_at, ended_spot, ended_behind, run, turn}
+use Rattle.mj_line.specs.Machine.{Rest, Spot, Begin, Labelled, FormalsOpened, FormalWanted, FormalBehind, FormalsEnd, Indented, Behind, Over, Worded, Asked, Bare, Args, Goal, State, At, In, Next, Go, Stuck, Deep, Long, behind_phrase, rested, step, Outcome, Accept, StuckAt, DeepAt, TooLong, refused, ended, ended_at, ended_spot, ended_behind, run, turn}
 use Rattle.mj_line.proofs.Leaves.{Leads}
 use Rattle.mj_line.proofs.Good.{StateGood}
-use Rattle.mj_line.proofs.Facts.{Facts, LongFacts, step_known, HasRoom}
+use Rattle.mj_line.proofs.Facts.{Facts, LongFacts, HasRoom}
+use Rattle.mj_line.proofs.SpotFacts.{step_known}
 
 -- The machine goes from s along ks to e.
 abbrev pub Along : Limits → State → List Token → State → Type 0
@@ -98,7 +99,7 @@ spot_ends m s (Bare l condition k) e = rest_as m s (rested (Bare l condition k))
 spot_ends m s (Args l condition k done n) e = rest_as m s (rested (Args l condition k done n)) e
 
 behind_ends : (m : Limits) (s : State) (g : Goal) (o : phrase.Outcome) → ended s ≡ ended_behind g o → EndsAs m s [] (ended_behind g o)
-behind_ends m s g (phrase.Accept p r) e = spot_ends m s (behind g p) e
+behind_ends m s g (phrase.Accept p r) e = spot_ends m s (behind_phrase g p) e
 behind_ends m s g (phrase.StuckAt n) e = inl (record { end = s; along = refl; gives = e })
 behind_ends m s g (phrase.DeepAt n) e = inl (record { end = s; along = refl; gives = e })
 behind_ends m s g phrase.TooLong e = inl (record { end = s; along = refl; gives = e })
@@ -107,7 +108,8 @@ ended_ends : (m : Limits) (s : State) → EndsAs m s [] (ended s)
 ended_ends m (At p) = spot_ends m (At p) p refl
 ended_ends m (In g s) = behind_ends m (In g s) g (phrase.finish s []) refl
 
-halts_word : (m : Limits) (s : State) (k : Token) (ks : List Token) (e : ℕ) (b d : Bool) → d ≡ b → refused (k ∷ ks) ≡ cond d (StuckAt e) TooLong → ((l : Limits) → IsMore m l → step l s k ≡ Stuck) → EndsAs m s (k ∷ ks) (cond b (StuckAt e) TooLong)
+halts_word : (m : Limits) (s : State) (k : Token) (ks : List Token) (e : ℕ) (b d : Bool) → d ≡ b → refused (k ∷ ks) ≡ cond d (StuckAt e) TooLong →
+    ((l : Limits) → IsMore m l → step l s k ≡ Stuck) → EndsAs m s (k ∷ ks) (cond b (StuckAt e) TooLong)
 halts_word m s k ks i true d e h f = inr (record { front = []; token = k; back = ks; end = s; cut = refl; along = refl; stuck = f; gives = h ∙ ap (λ (b : Bool). cond b (StuckAt i) TooLong) e })
 halts_word m s k ks i false d e h f = inl (record { front = []; token = k; back = ks; end = s; cut = refl; along = refl; stuck = f; gives = h ∙ ap (λ (b : Bool). cond b (StuckAt i) TooLong) e })
 
@@ -129,17 +131,47 @@ whole_before : (m : Limits) (s t : State) (k : Token) (ks : List Token) (o : Out
 whole_before m s t k ks o f h = record { end = h.end; along = (t, f, h.along); gives = h.gives }
 
 halts_before : (m : Limits) (s t : State) (k : Token) (ks : List Token) (o : Outcome) → Facts m s k (λ l. step l s k) (Go t) → Halts m t ks o → Halts m s (k ∷ ks) o
-halts_before m s t k ks o f h = record { front = k ∷ h.front; token = h.token; back = h.back; end = h.end; cut = ap (λ (zs : List Token). k ∷ zs) h.cut; along = (t, f, h.along); stuck = h.stuck; gives = h.gives }
+halts_before m s t k ks o f h = record {
+  front = k ∷ h.front;
+  token = h.token;
+  back = h.back;
+  end = h.end;
+  cut = ap (λ (zs : List Token). k ∷ zs) h.cut;
+  along =
+      (t, f, h.along);
+  stuck = h.stuck;
+  gives = h.gives;
+}
 
 ends_before : (m : Limits) (s t : State) (k : Token) (ks : List Token) (o : Outcome) → Facts m s k (λ l. step l s k) (Go t) → EndsAs m t ks o → EndsAs m s (k ∷ ks) o
 ends_before m s t k ks (Accept l) f h = whole_before m s t k ks (Accept l) f h
 ends_before m s t k ks (StuckAt n) f (inl h) = inl (whole_before m s t k ks (StuckAt n) f h)
 ends_before m s t k ks (StuckAt n) f (inr h) = inr (halts_before m s t k ks (StuckAt n) f h)
-ends_before m s t k ks (DeepAt n) f h = record { front = k ∷ h.front; token = h.token; back = h.back; end = h.end; cut = ap (λ (zs : List Token). k ∷ zs) h.cut; along = (t, f, h.along); left = h.left; steps = h.steps; opened = h.opened }
+ends_before m s t k ks (DeepAt n) f h = record {
+  front = k ∷ h.front;
+  token = h.token;
+  back = h.back;
+  end = h.end;
+  cut = ap (λ (zs : List Token). k ∷ zs) h.cut;
+  along = (t, f, h.along);
+  left = h.left;
+  steps = h.steps;
+  opened = h.opened;
+}
 ends_before m s t k ks TooLong f (inl h) = inl (halts_before m s t k ks TooLong f h)
-ends_before m s t k ks TooLong f (inr h) = inr (record { front = k ∷ h.front; token = h.token; back = h.back; end = h.end; cut = ap (λ (zs : List Token). k ∷ zs) h.cut; along = (t, f, h.along); long = h.long })
+ends_before m s t k ks TooLong f (inr h) = inr (record {
+  front = k ∷ h.front;
+  token = h.token;
+  back = h.back;
+  end = h.end;
+  cut =
+      ap (λ (zs : List Token). k ∷ zs) h.cut;
+  along = (t, f, h.along);
+  long = h.long;
+})
 
-next_ends : (m : Limits) (s : State) (k : Token) (ks : List Token) (n : Next) → ((t : State) → EndsAs m t ks (run m ks t)) → step m s k ≡ n → Facts m s k (λ l. step l s k) n → EndsAs m s (k ∷ ks) (turn m ks k n)
+next_ends : (m : Limits) (s : State) (k : Token) (ks : List Token) (n : Next) → ((t : State) → EndsAs m t ks (run m ks t)) → step m s k ≡ n →
+    Facts m s k (λ l. step l s k) n → EndsAs m s (k ∷ ks) (turn m ks k n)
 next_ends m s k ks (Go t) h e f = ends_before m s t k ks (run m ks t) f (h t)
 next_ends m s k ks Stuck h e f = halts_as m s k ks f
 next_ends m s k ks Deep h e f = record { front = []; token = k; back = ks; end = s; cut = refl; along = refl; left = refl; steps = e; opened = f }

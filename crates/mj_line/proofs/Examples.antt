@@ -145,6 +145,8 @@ break_has_none : read (codes " B X") ≡ StuckAt 1
 unfolding lexemes
 break_has_none = refl
 
-ends : read (codes " TC  TRO  TRE  B") ≡ Accept (with_clause (with_clause (with_clause (with_clause empty_line (clause None keyword.TCommit [])) (clause None keyword.TRollback [])) (clause None keyword.TRestart [])) (clause None keyword.Break []))
+ends : read (codes " TC  TRO  TRE  B") ≡ Accept (with_clause (with_clause
+    (with_clause (with_clause empty_line (clause None keyword.TCommit [])) (clause None keyword.TRollback [])) (clause None keyword.TRestart []))
+    (clause None keyword.Break []))
 unfolding lexemes
 ends = refl

@@ -4,18 +4,16 @@ use Rattle.std.specs.Prelude.{cond, bytes_eq, codes, ◌&&◌, ◌||◌}
 use Rattle.std.proofs.lemmas.Slice.Eq.{bytes_eq-Decides}
 use Rattle.std.proofs.lemmas.List.{map-append, length-map}
 use Rattle.std.proofs.lemmas.Bool.Decides.{nat_tests}
-use Rattle.mj_ast.specs.declared.sign.Sign.{Sign}
-use Rattle.mj_ast.specs.declared.sign.Sign.TheVariants.{Comma, Caret, Open}
+use Rattle.mj_ast.specs.declared.sign.Sign.TheVariants.{Comma}
 use Rattle.mj_ast.specs.declared.keyword.Verb.{Verb}
 use Rattle.mj_ast.specs.Syntax.{Expr}
 use Rattle.mj_ast.specs.Tokens.{Token, Word, Digits, Quoted, Signed, Blank, Comment, Unclosed, Stray, Called, Special}
-use Rattle.mj_ast.specs.Expressions.{levels_of, Symbol, Constant, Inherent, Name, Applied, Overlong, Mark, symbol, Other, function_symbol, callee_of, special_symbol, special_of}
+use Rattle.mj_ast.specs.Expressions.{levels_of, Symbol, Name, Overlong, symbol, function_symbol, callee_of, special_symbol, special_of}
 use Rattle.mj_ast.specs.Commands.{Part, Named, Label, SerialWord, is_serial_word, verb_of, looked_up, command_words, capital}
 use Rattle.mj_ast.specs.Lines.{Filler}
-use Rattle.mj_oper.specs.declared.op.UnaryOp.{UnaryOp}
 use Rattle.mj_expr.specs.Machine.{Limits}
 use Rattle.mj_expr.specs.Machine as phrase
-use Rattle.mj_expr.proofs.Zipper.{HasRead, sofar, IsGood}
+use Rattle.mj_expr.proofs.Room.{HasRead, sofar, IsGood}
 use Rattle.mj_expr.proofs.Facts.{IsMore, deeper, wider, more_deeper, more_wider}
 use Rattle.mj_expr.proofs.Facts as known
 use Rattle.mj_expr.proofs.States.{step_facts}
@@ -23,13 +21,14 @@ use Rattle.mj_expr.proofs.Told.{accepts}
 use Rattle.mj_expr.proofs.Ends.{finish_deep}
 use Rattle.mj_expr.proofs.Said.{finish_stuck, finish_long, overlong_finish, overlong_word, comma_token, Over as OverLimit}
 use Rattle.mj_expr.proofs.Turns.{finish_again, accept_length}
-use Rattle.mj_line.specs.Forms.{next_of, Node, Want, AnExpr, AVar, ALocal, piece_part, Sort, Names, Labels, Serials, part_at, sort_of, wants}
+use Rattle.mj_line.specs.Forms.{next_of, Want, AnExpr, AVar, ALocal, piece_part, Sort, Names, Labels, Serials, part_at, sort_of, wants}
 use Rattle.mj_line.specs.Sentences.{Sentence}
-use Rattle.mj_line.specs.Machine.{IsClosed, Rest, Spot, Begin, Args, Goal, Condition, Argument, State, At, In, start, wanted, may_want, may_begin, level, inside, behind, behind_want, argument, entry, rested, Next, Go, Stuck, Deep, Long, taken, own, begins, on_rested, first, spot_step, behind_step, phrase_step, in_step, entering, step, StuckAt, DeepAt, TooLong, refused, ended_behind, run, turn, Labelled, FormalsOpened, FormalWanted, FormalBehind}
+use Rattle.mj_line.specs.Machine.{IsClosed, Rest, Spot, Begin, Args, Goal, Condition, Argument, State, At, In, level, inside, behind_phrase, behind_want, argument, entry, rested, Next, Go, Stuck, Deep, Long, taken, own, begins, on_rested, first, spot_step, behind_step, phrase_step, in_step, entering, step, StuckAt, DeepAt, TooLong, refused, ended_behind, run, turn, Labelled, FormalsOpened, FormalWanted, FormalBehind}
 use Rattle.mj_line.proofs.Tables.{none_some}
-use Rattle.mj_line.proofs.Leaves.{Leads, NextLeads, Begun, begun_more, begun_suits, kind, spot_leads, entry_leads, EntryLeads}
+use Rattle.mj_line.proofs.Leaves.{Leads, Begun, begun_more, begun_suits, kind}
+use Rattle.mj_line.proofs.SpotLeaves.{NextLeads, spot_leads}
 use Rattle.mj_line.proofs.Formals.{long_new}
-use Rattle.mj_line.proofs.Good.{StateGood, SpotGood, NextGood, spot_good, behind_good, goal_more, inside_more, level_small, entry_good, EntryGood}
+use Rattle.mj_line.proofs.Good.{StateGood, SpotGood, NextGood, spot_good, behind_good, goal_more, inside_more, level_small}
 
 -- there is room for a level and for a subscript
 pub record HasRoom (m : Limits) : Type 0 where
@@ -69,7 +68,8 @@ and_second : (a b : Bool) → a && b ≡ true → b ≡ true
 and_second true b e = e
 and_second false b e = absurd (let f : false ≡ true = e in cc)
 
-found_short : (w : List ℕ) (row : List ℕ × Verb) (o : Option Verb) (k : Verb) (b : Bool) → bytes_eq w row.0 ≡ b → nat_le (length row.0) 31 ≡ true → (o ≡ Some k → length w ≤ 31) → cond b (Some row.1) o ≡ Some k → length w ≤ 31
+found_short : (w : List ℕ) (row : List ℕ × Verb) (o : Option Verb) (k : Verb) (b : Bool) → bytes_eq w row.0 ≡ b → nat_le (length row.0) 31 ≡ true →
+    (o ≡ Some k → length w ≤ 31) → cond b (Some row.1) o ≡ Some k → length w ≤ 31
 found_short w row o k true e h f g = let same = (bytes_eq-Decides w row.0).0 e in let n = ap (length {A = ℕ}) same in let z : length row.0 ≤ 31 = grind (arith, nat_tests) in omega arith
 found_short w row o k false e h f g = f g
 
@@ -160,7 +160,7 @@ pub spot_special : (p : Spot) (w : List ℕ) → spot_step p (Special w) ≡ Stu
 spot_special p w = ap (λ (n : Next). first n (on_rested (rested p) (Special w))) (own_special p w) ∙ rested_special (rested p) w
 
 behind_as_stuck : (g : Goal) (o : phrase.Outcome) (k : Token) → ((p : Spot) → spot_step p k ≡ Stuck) → behind_step g o k ≡ Stuck
-behind_as_stuck g (phrase.Accept p r) k h = h (behind g p)
+behind_as_stuck g (phrase.Accept p r) k h = h (behind_phrase g p)
 behind_as_stuck g (phrase.StuckAt n) k h = refl
 behind_as_stuck g (phrase.DeepAt n) k h = refl
 behind_as_stuck g phrase.TooLong k h = refl
@@ -184,7 +184,7 @@ behind_long g o k h = absurd h
 -- ---- phrases
 
 -- the rest of a phrase, from these tokens on
-phrase_leads : (g : Goal) (s t : phrase.State) (xs : List Token) → sofar t ≡ sofar s ++ map symbol xs → Leads (In g s) xs (In g t)
+pub phrase_leads : (g : Goal) (s t : phrase.State) (xs : List Token) → sofar t ≡ sofar s ++ map symbol xs → Leads (In g s) xs (In g t)
 phrase_leads g s t xs e = λ rest l h. record {
   phrase = h.phrase;
   front = xs ++ h.front;
@@ -192,7 +192,8 @@ phrase_leads g s t xs e = λ rest l h. record {
   kind_is = h.kind_is;
   suits = h.suits;
   cut = ap (λ (zs : List Token). xs ++ zs) h.cut ∙ sym (append_assoc xs h.front h.rest);
-  spells = ap (λ (zs : List Symbol). sofar s ++ zs) (map-append symbol xs h.front) ∙ sym (append_assoc (sofar s) (map symbol xs) (map symbol h.front)) ∙ ap (λ (zs : List Symbol). zs ++ map symbol h.front) (sym e) ∙ h.spells;
+  spells = ap (λ (zs : List Symbol). sofar s ++ zs) (map-append symbol xs h.front) ∙ sym (append_assoc (sofar s) (map symbol xs) (map symbol h.front)) ∙
+      ap (λ (zs : List Symbol). zs ++ map symbol h.front) (sym e) ∙ h.spells;
   formed = h.formed;
   follows = h.follows;
 }
@@ -202,14 +203,28 @@ has_read : (m : Limits) (g : Goal) (s : phrase.State) → StateGood m (In g s) �
 has_read m g s h = record { good = h.1; read = refl }
 
 -- what follows a phrase may follow its last state
-pub whole_leads : (m : Limits) (g : Goal) (s : phrase.State) (p : phrase.Phrase) → 1 ≤ m.depth → StateGood m (In g s) → phrase.finish s [] ≡ phrase.Accept p [] → Leads (In g s) [] (At (behind g p)) × SpotGood m (behind g p)
+pub whole_leads : (m : Limits) (g : Goal) (s : phrase.State) (p : phrase.Phrase) → 1 ≤ m.depth → StateGood m (In g s) →
+    phrase.finish s [] ≡ phrase.Accept p [] → Leads (In g s) [] (At (behind_phrase g p)) × SpotGood m (behind_phrase g p)
 whole_leads m g s p d h e =
     let a = accepts (kind g) (inside m (level g)) s [] p [] (sofar s) (has_read m g s h) e in (
-      λ rest l f. record { phrase = p; front = []; rest = rest; kind_is = a.fits.kind; suits = begun_suits g p (sofar s) [] h.2 (append-nil (sofar s) ∙ sym a.spelled); cut = refl; spells = append-nil (sofar s) ∙ sym a.spelled; formed = a.fits.formed; follows = f },
+      λ rest l f. record {
+        phrase = p;
+        front = [];
+        rest = rest;
+        kind_is = a.fits.kind;
+        suits =
+            begun_suits g p (sofar s) [] h.2 (append-nil (sofar s) ∙ sym a.spelled);
+        cut = refl;
+        spells = append-nil (sofar s) ∙ sym a.spelled;
+        formed =
+            a.fits.formed;
+        follows = f;
+      },
       behind_good m g p d h.0 a.fits,
     )
 
-behind_as : (m : Limits) (g : Goal) (s : phrase.State) (k : Token) (p : phrase.Phrase) (n : Next) → 1 ≤ m.depth → phrase.finish s [] ≡ phrase.Accept p [] → (at : Limits → Next) → ((l : Limits) → IsMore m l → at l ≡ n) → NextLeads (behind g p) k n → (SpotGood m (behind g p) → NextGood m n) →
+behind_as : (m : Limits) (g : Goal) (s : phrase.State) (k : Token) (p : phrase.Phrase) (n : Next) → 1 ≤ m.depth → phrase.finish s [] ≡ phrase.Accept p [] →
+    (at : Limits → Next) → ((l : Limits) → IsMore m l → at l ≡ n) → NextLeads (behind_phrase g p) k n → (SpotGood m (behind_phrase g p) → NextGood m n) →
     Facts m (In g s) k at n
 behind_as m g s k p (Go t) d e at f h i = (λ j. let w = whole_leads m g s p d j e in (λ rest l x. w.0 (k ∷ rest) l (h rest l x), i w.1), f)
 behind_as m g s k p Stuck d e at f h i = f
@@ -219,9 +234,11 @@ behind_as m g s k p Long d e at f h i = absurd h
 pub accept_nil : (s : phrase.State) (p : phrase.Phrase) (r : List Symbol) → phrase.finish s [] ≡ phrase.Accept p r → phrase.finish s [] ≡ phrase.Accept p []
 accept_nil s p r e = (finish_again s [] p r e).again []
 
-finished_as : (m : Limits) (g : Goal) (s : phrase.State) (k : Token) (o : phrase.Outcome) → 1 ≤ m.depth → phrase.finish s [] ≡ o → (at : Limits → Next) → ((l : Limits) → IsMore m l → at l ≡ behind_step g (phrase.finish s []) k) → Facts m (In g s) k at (behind_step g o k)
+finished_as : (m : Limits) (g : Goal) (s : phrase.State) (k : Token) (o : phrase.Outcome) → 1 ≤ m.depth → phrase.finish s [] ≡ o → (at : Limits → Next) →
+    ((l : Limits) → IsMore m l → at l ≡ behind_step g (phrase.finish s []) k) → Facts m (In g s) k at (behind_step g o k)
 finished_as m g s k (phrase.Accept p r) d e at f =
-    behind_as m g s k p (spot_step (behind g p) k) d (accept_nil s p r e) at (λ l i. f l i ∙ ap (λ (x : phrase.Outcome). behind_step g x k) e) (spot_leads (behind g p) k) (λ h. spot_good m (behind g p) k h)
+    behind_as m g s k p (spot_step (behind_phrase g p) k) d (accept_nil s p r e) at (λ l i. f l i ∙
+    ap (λ (x : phrase.Outcome). behind_step g x k) e) (spot_leads (behind_phrase g p) k) (λ h. spot_good m (behind_phrase g p) k h)
 finished_as m g s k (phrase.StuckAt n) d e at f = λ l i. f l i ∙ ap (λ (x : phrase.Outcome). behind_step g x k) e
 finished_as m g s k (phrase.DeepAt n) d e at f = λ l i. f l i ∙ ap (λ (x : phrase.Outcome). behind_step g x k) e
 finished_as m g s k phrase.TooLong d e at f = λ l i. f l i ∙ ap (λ (x : phrase.Outcome). behind_step g x k) e
@@ -236,7 +253,7 @@ want_closed l condition k done (AnExpr lv next) (phrase.Target v) h = refl
 want_closed l condition k done (AVar lv next) (phrase.Whole e) h = refl
 want_closed l condition k done (ALocal next) (phrase.Whole e) h = refl
 
-closed_entry : (g : Goal) (p : phrase.Phrase) → IsClosed g → entry (behind g p) ≡ None
+closed_entry : (g : Goal) (p : phrase.Phrase) → IsClosed g → entry (behind_phrase g p) ≡ None
 closed_entry (Condition l k) (phrase.Whole e) h = refl
 closed_entry (Condition l k) (phrase.Target v) h = refl
 closed_entry (Argument l condition k done w) p h = want_closed l condition k done w p h
@@ -254,23 +271,31 @@ plain_step m p k e = ap (λ (q : Option Goal). first (spot_step p k) (entering m
 accept_stuck : (p : phrase.Phrase) (r : List Symbol) (n : ℕ) → phrase.Accept p r ≡ phrase.StuckAt n → ⊥
 accept_stuck p r n e = cc
 
-accept_here : (l : Limits) (i : Limits) (g : Goal) (s : phrase.State) (p : phrase.Phrase) (k : Token) (ks : List Token) (n : phrase.Next) → phrase.turn i (map symbol ks) s (symbol k) n ≡ phrase.Accept p (symbol k ∷ map symbol ks) → turn l ks k (phrase_step g s k n) ≡ turn l ks k (spot_step (behind g p) k)
+accept_here : (l : Limits) (i : Limits) (g : Goal) (s : phrase.State) (p : phrase.Phrase) (k : Token) (ks : List Token) (n : phrase.Next) →
+    phrase.turn i (map symbol ks) s (symbol k) n ≡ phrase.Accept p (symbol k ∷ map symbol ks) →
+    turn l ks k (phrase_step g s k n) ≡ turn l ks k (spot_step (behind_phrase g p) k)
 accept_here l i g s p k ks (phrase.Go t) e = absurd (let h = accept_length i (map symbol ks) t p (symbol k ∷ map symbol ks) e in omega arith)
 accept_here l i g s p k ks phrase.Stuck e = ap (λ (o : phrase.Outcome). turn l ks k (behind_step g o k)) ((finish_again s (symbol k ∷ map symbol ks) p (symbol k ∷ map symbol ks) e).again [])
 accept_here l i g s p k ks phrase.Deep e = absurd (let f : phrase.DeepAt (length (symbol k ∷ map symbol ks)) ≡ phrase.Accept p (symbol k ∷ map symbol ks) = e in cc)
 accept_here l i g s p k ks phrase.Long e = absurd (let f : phrase.TooLong ≡ phrase.Accept p (symbol k ∷ map symbol ks) = e in cc)
 
-accept_on : (l : Limits) (i : Limits) (g : Goal) (s : phrase.State) (p : phrase.Phrase) (k : Token) (front rest : List Token) (n : phrase.Next) → ((t : phrase.State) → phrase.run i (map symbol (front ++ rest)) t ≡ phrase.Accept p (map symbol rest) → run l (front ++ rest) (In g t) ≡ run l rest (At (behind g p))) →
-    phrase.turn i (map symbol (front ++ rest)) s (symbol k) n ≡ phrase.Accept p (map symbol rest) → turn l (front ++ rest) k (phrase_step g s k n) ≡ run l rest (At (behind g p))
+accept_on : (l : Limits) (i : Limits) (g : Goal) (s : phrase.State) (p : phrase.Phrase) (k : Token) (front rest : List Token) (n : phrase.Next) →
+    ((t : phrase.State) → phrase.run i (map symbol (front ++ rest)) t ≡ phrase.Accept p (map symbol rest) →
+    run l (front ++ rest) (In g t) ≡ run l rest (At (behind_phrase g p))) →
+    phrase.turn i (map symbol (front ++ rest)) s (symbol k) n ≡ phrase.Accept p (map symbol rest) → turn l (front ++ rest) k (phrase_step g s k n) ≡ run l rest (At (behind_phrase g p))
 accept_on l i g s p k front rest (phrase.Go t) h e = h t e
 accept_on l i g s p k front rest phrase.Stuck h e =
-    absurd (let f = ap (length {A = Symbol}) (finish_again s (symbol k ∷ map symbol (front ++ rest)) p (map symbol rest) e).rest in let a = length-map (front ++ rest) symbol in let b = length-map rest symbol in let c = length-append front rest in omega arith)
+    absurd (let f = ap (length {A = Symbol}) (finish_again s (symbol k ∷ map symbol (front ++ rest)) p (map symbol rest) e).rest in let a =
+    length-map (front ++ rest) symbol in let b = length-map rest symbol in let c = length-append front rest in omega arith)
 accept_on l i g s p k front rest phrase.Deep h e = absurd (let f : phrase.DeepAt (length (symbol k ∷ map symbol (front ++ rest))) ≡ phrase.Accept p (map symbol rest) = e in cc)
 accept_on l i g s p k front rest phrase.Long h e = absurd (let f : phrase.TooLong ≡ phrase.Accept p (map symbol rest) = e in cc)
 
-pub lift_accept : (l : Limits) (front rest : List Token) (g : Goal) (s : phrase.State) (p : phrase.Phrase) → IsClosed g → phrase.run (inside l (level g)) (map symbol (front ++ rest)) s ≡ phrase.Accept p (map symbol rest) → run l (front ++ rest) (In g s) ≡ run l rest (At (behind g p))
+pub lift_accept : (l : Limits) (front rest : List Token) (g : Goal) (s : phrase.State) (p : phrase.Phrase) → IsClosed g →
+    phrase.run (inside l (level g)) (map symbol (front ++ rest)) s ≡ phrase.Accept p (map symbol rest) →
+    run l (front ++ rest) (In g s) ≡ run l rest (At (behind_phrase g p))
 lift_accept l [] [] g s p c e = ap (ended_behind g) e
-lift_accept l [] (k ∷ ks) g s p c e = accept_here l (inside l (level g)) g s p k ks (phrase.step (inside l (level g)) s (symbol k)) e ∙ sym (ap (turn l ks k) (plain_step l (behind g p) k (closed_entry g p c)))
+lift_accept l [] (k ∷ ks) g s p c e = accept_here l (inside l (level g)) g s p k ks (phrase.step (inside l (level g)) s (symbol k)) e ∙
+    sym (ap (turn l ks k) (plain_step l (behind_phrase g p) k (closed_entry g p c)))
 lift_accept l (k ∷ front) rest g s p c e = accept_on l (inside l (level g)) g s p k front rest (phrase.step (inside l (level g)) s (symbol k)) (λ t f. lift_accept l front rest g t p c f) e
 
 -- where the phrase accepts nothing, nothing is behind it
@@ -280,7 +305,8 @@ behind_none g s k ks n (phrase.StuckAt i) e f = refl
 behind_none g s k ks n (phrase.DeepAt i) e f = refl
 behind_none g s k ks n phrase.TooLong e f = refl
 
-refused_word : (s : phrase.State) (k : Symbol) (ks : List Token) (i n : ℕ) (b : Bool) → phrase.finish s (cond b k Overlong ∷ map symbol ks) ≡ phrase.StuckAt n → i ≡ n → cond b (StuckAt i) TooLong ≡ StuckAt n
+refused_word : (s : phrase.State) (k : Symbol) (ks : List Token) (i n : ℕ) (b : Bool) → phrase.finish s (cond b k Overlong ∷ map symbol ks) ≡ phrase.StuckAt n →
+    i ≡ n → cond b (StuckAt i) TooLong ≡ StuckAt n
 refused_word s k ks i n true e h = ap StuckAt h
 refused_word s k ks i n false e h = absurd (overlong_finish s (map symbol ks) n e)
 
@@ -296,7 +322,8 @@ refused_at s (Comment t) ks n e h = ap StuckAt h
 refused_at s (Unclosed t) ks n e h = ap StuckAt h
 refused_at s (Stray b) ks n e h = ap StuckAt h
 
-stuck_on : (l : Limits) (i : Limits) (g : Goal) (s : phrase.State) (k : Token) (ks : List Token) (j : ℕ) (n : phrase.Next) → ((t : phrase.State) → phrase.run i (map symbol ks) t ≡ phrase.StuckAt j → run l ks (In g t) ≡ StuckAt j) →
+stuck_on : (l : Limits) (i : Limits) (g : Goal) (s : phrase.State) (k : Token) (ks : List Token) (j : ℕ) (n : phrase.Next) →
+    ((t : phrase.State) → phrase.run i (map symbol ks) t ≡ phrase.StuckAt j → run l ks (In g t) ≡ StuckAt j) →
     phrase.turn i (map symbol ks) s (symbol k) n ≡ phrase.StuckAt j → turn l ks k (phrase_step g s k n) ≡ StuckAt j
 stuck_on l i g s k ks j (phrase.Go t) h e = h t e
 stuck_on l i g s k ks j phrase.Stuck h e =
@@ -309,11 +336,13 @@ pub lift_stuck : (l : Limits) (ks : List Token) (g : Goal) (s : phrase.State) (n
 lift_stuck l [] g s n e = ap (ended_behind g) e ∙ ap StuckAt (finish_stuck s [] n e)
 lift_stuck l (k ∷ ks) g s n e = stuck_on l (inside l (level g)) g s k ks n (phrase.step (inside l (level g)) s (symbol k)) (λ t f. lift_stuck l ks g t n f) e
 
-deep_on : (l : Limits) (i : Limits) (g : Goal) (s : phrase.State) (k : Token) (ks : List Token) (j : ℕ) (n : phrase.Next) → ((t : phrase.State) → phrase.run i (map symbol ks) t ≡ phrase.DeepAt j → run l ks (In g t) ≡ DeepAt j) →
+deep_on : (l : Limits) (i : Limits) (g : Goal) (s : phrase.State) (k : Token) (ks : List Token) (j : ℕ) (n : phrase.Next) →
+    ((t : phrase.State) → phrase.run i (map symbol ks) t ≡ phrase.DeepAt j → run l ks (In g t) ≡ DeepAt j) →
     phrase.turn i (map symbol ks) s (symbol k) n ≡ phrase.DeepAt j → turn l ks k (phrase_step g s k n) ≡ DeepAt j
 deep_on l i g s k ks j (phrase.Go t) h e = h t e
 deep_on l i g s k ks j phrase.Stuck h e = absurd (finish_deep s (symbol k ∷ map symbol ks) j e)
-deep_on l i g s k ks j phrase.Deep h e = ap DeepAt (let f : phrase.DeepAt (length (symbol k ∷ map symbol ks)) ≡ phrase.DeepAt j = e in let n : length (symbol k ∷ map symbol ks) ≡ j = cc in let b = length-map ks symbol in omega arith)
+deep_on l i g s k ks j phrase.Deep h e = ap DeepAt (let f : phrase.DeepAt (length (symbol k ∷ map symbol ks)) ≡ phrase.DeepAt j = e in
+    let n : length (symbol k ∷ map symbol ks) ≡ j = cc in let b = length-map ks symbol in omega arith)
 deep_on l i g s k ks j phrase.Long h e = absurd (let f : phrase.TooLong ≡ phrase.DeepAt j = e in cc)
 
 pub lift_deep : (l : Limits) (ks : List Token) (g : Goal) (s : phrase.State) (n : ℕ) → phrase.run (inside l (level g)) (map symbol ks) s ≡ phrase.DeepAt n → run l ks (In g s) ≡ DeepAt n
@@ -329,7 +358,8 @@ long_stuck l g o (Called w) ks h = ap (turn l ks (Called w)) (behind_long g o (C
 long_stuck l g o (Special w) ks h = ap (turn l ks (Special w)) (behind_long g o (Special w) h) ∙ refused_special w ks h
 long_stuck l g o k ks h = absurd h
 
-long_on : (l : Limits) (i : Limits) (g : Goal) (s : phrase.State) (k : Token) (ks : List Token) (n : phrase.Next) → ((t : phrase.State) → phrase.run i (map symbol ks) t ≡ phrase.TooLong → run l ks (In g t) ≡ TooLong) →
+long_on : (l : Limits) (i : Limits) (g : Goal) (s : phrase.State) (k : Token) (ks : List Token) (n : phrase.Next) →
+    ((t : phrase.State) → phrase.run i (map symbol ks) t ≡ phrase.TooLong → run l ks (In g t) ≡ TooLong) →
     phrase.turn i (map symbol ks) s (symbol k) n ≡ phrase.TooLong → turn l ks k (phrase_step g s k n) ≡ TooLong
 long_on l i g s k ks (phrase.Go t) h e = h t e
 long_on l i g s k ks phrase.Stuck h e =
@@ -348,7 +378,7 @@ lift_long l (k ∷ ks) g s e = long_on l (inside l (level g)) g s k ks (phrase.s
 -- ---- steps inside phrases
 
 -- a level more outside is one more inside
-inside_deeper : (m : Limits) (k : Symbol) (lv : ℕ) → lv ≤ 1 → 1 ≤ m.depth → deeper k (inside m lv) ≡ inside (deeper k m) lv
+pub inside_deeper : (m : Limits) (k : Symbol) (lv : ℕ) → lv ≤ 1 → 1 ≤ m.depth → deeper k (inside m lv) ≡ inside (deeper k m) lv
 inside_deeper m k lv i d = ap (λ (n : ℕ). let l : Limits = record { depth = n; width = m.width } in l) (let e : (m.depth - lv) + levels_of k ≡ (m.depth + levels_of k) - lv = omega arith in e)
 
 -- what was read on begins as what was read
@@ -356,7 +386,8 @@ begun_on : (g : Goal) (s t : phrase.State) (xs : List Symbol) → sofar t ≡ so
 begun_on g s t xs e h = let P : List Symbol → Type 0 = λ ks. Begun g ks in subst P (sym e) (begun_more g (sofar s) xs h)
 
 in_as : (m : Limits) (g : Goal) (s : phrase.State) (k : Token) (n : phrase.Next) → 1 ≤ m.depth →
-    known.Facts (kind g) (inside m (level g)) (HasRead (kind g) (inside m (level g)) s) (known.LongFacts (kind g) (inside m (level g)) (HasRead (kind g) (inside m (level g)) s) s (symbol k)) (λ l. phrase.step l s (symbol k)) (symbol k) n →
+    known.Facts (kind g) (inside m (level g)) (HasRead (kind g) (inside m (level g)) s)
+    (known.LongFacts (kind g) (inside m (level g)) (HasRead (kind g) (inside m (level g)) s) s (symbol k)) (λ l. phrase.step l s (symbol k)) (symbol k) n →
     Facts m (In g s) k (λ l. in_step l g s k) (phrase_step g s k n)
 in_as m g s k (phrase.Go t) d f = (
   λ i. let r = f.0 (sofar s) (has_read m g s i) in (phrase_leads g s t (k ∷ []) r.read, (i.0, r.good, begun_on g s t (symbol k ∷ []) r.read i.2)),
@@ -365,180 +396,28 @@ in_as m g s k (phrase.Go t) d f = (
 in_as m g s k phrase.Stuck d f = finished_as m g s k (phrase.finish s []) d refl (λ l. in_step l g s k) (λ l i. ap (phrase_step g s k) (f (inside l (level g)) (inside_more m l (level g) i)))
 in_as m g s k phrase.Deep d f = λ i.
     let r = f.1 (sofar s) (has_read m g s i) in
-    let P : Limits → Type 0 = λ l. IsGood (kind g) l f.0 in
-    (In g f.0, phrase_leads g s f.0 (k ∷ []) r.read, (goal_more m (deeper (symbol k) m) g (more_deeper (symbol k) m) i.0, subst P (inside_deeper m (symbol k) (level g) (level_small m g i.0) d) r.good, begun_on g s f.0 (symbol k ∷ []) r.read i.2))
+    let P : Limits → Type 0 = λ l. IsGood (kind g) l f.0 in (
+      In g f.0,
+      phrase_leads g s f.0 (k ∷ []) r.read,
+      (
+        goal_more m (deeper (symbol k) m) g (more_deeper (symbol k) m) i.0,
+        subst P (inside_deeper m (symbol k) (level g) (level_small m g i.0) d) r.good,
+        begun_on g s f.0 (symbol k ∷ []) r.read i.2,
+      ),
+    )
 in_as m g s k phrase.Long d f = record {
   comma = comma_token k f.comma;
   filler = f.filler;
   fills = f.fills;
-  opened = λ i. let r = f.opened (sofar s) (has_read m g s i) in
-      (In g f.over, phrase_leads g s f.over (f.filler ++ k ∷ []) (r.read ∙ ap (λ (zs : List Symbol). sofar s ++ zs) (sym (map-append symbol f.filler (k ∷ [])))), (goal_more m (wider m) g (more_wider m) i.0, r.good, begun_on g s f.over (map symbol f.filler ++ symbol k ∷ []) r.read i.2));
-  local = λ l ks e w. lift_long l (f.filler ++ k ∷ ks) g s (ap (λ (zs : List Symbol). phrase.run (inside l (level g)) zs s) (map-append symbol f.filler (k ∷ ks)) ∙ f.local (inside l (level g)) (map symbol ks) (omega arith) w);
+  opened = λ i. let r = f.opened (sofar s) (has_read m g s i) in (
+    In g f.over,
+    phrase_leads g s f.over (f.filler ++ k ∷ []) (r.read ∙
+        ap (λ (zs : List Symbol). sofar s ++ zs) (sym (map-append symbol f.filler (k ∷ [])))),
+    (goal_more m (wider m) g (more_wider m) i.0, r.good, begun_on g s f.over (map symbol f.filler ++ symbol k ∷ []) r.read i.2),
+  );
+  local = λ l ks e w. lift_long l (f.filler ++ k ∷ ks) g s (ap (λ (zs : List Symbol). phrase.run (inside l (level g)) zs s)
+      (map-append symbol f.filler (k ∷ ks)) ∙ f.local (inside l (level g)) (map symbol ks) (omega arith) w);
 }
 
 pub in_facts : (m : Limits) (g : Goal) (s : phrase.State) (k : Token) → HasRoom m → Facts m (In g s) k (λ l. in_step l g s k) (in_step m g s k)
 in_facts m g s k w = in_as m g s k (phrase.step (inside m (level g)) s (symbol k)) w.depth (step_facts (kind g) (inside m (level g)) s (symbol k) w.width)
-
--- ---- where a phrase begins
-
-go_long : (s : phrase.State) → phrase.Go s ≡ phrase.Long → ⊥
-go_long s e = cc
-
-stuck_long : phrase.Stuck ≡ phrase.Long → ⊥
-stuck_long e = cc
-
-opens_long : (b : Bool) (s : phrase.State) → cond b (phrase.Go s) phrase.Deep ≡ phrase.Long → ⊥
-opens_long true s e = go_long s e
-opens_long false s e = absurd (let f : phrase.Deep ≡ phrase.Long = e in cc)
-
-sign_long : (m : Limits) (s : Sign) → phrase.want_other m (phrase.Front phrase.Alone) s ≡ phrase.Long → ⊥
-sign_long m Caret e = go_long _ e
-sign_long m Open e = opens_long _ _ e
-sign_long m s e = stuck_long e
-
-unary_long : (m : Limits) (s : Sign) (q : Option UnaryOp) → phrase.want_sign m (phrase.Front phrase.Alone) s q ≡ phrase.Long → ⊥
-unary_long m s (Some op) e = opens_long _ _ e
-unary_long m s None e = sign_long m s e
-
--- no list is open there, so that none is too long
-pub wanted_long : (m : Limits) (x : Symbol) → phrase.want m (phrase.Front phrase.Alone) x ≡ phrase.Long → ⊥
-wanted_long m (Constant v) e = go_long _ e
-wanted_long m (Inherent v) e = go_long _ e
-wanted_long m (Name w) e = go_long _ e
-wanted_long m (Applied f) e = opens_long _ _ e
-wanted_long m Overlong e = stuck_long e
-wanted_long m (Mark s) e = unary_long m s (phrase.unary_of s) e
-wanted_long m Other e = stuck_long e
-
-sought_long : (x : Symbol) → phrase.seek phrase.AsTarget x ≡ phrase.Long → ⊥
-sought_long (Name w) e = go_long _ e
-sought_long (Mark Caret) e = go_long _ e
-sought_long x e = stuck_long e
-
-want_long : (m : Limits) (w : Want) (x : Symbol) → phrase.step m (wanted w) x ≡ phrase.Long → ⊥
-want_long m (AnExpr lv next) x e = wanted_long m x e
-want_long m (AVar lv next) x e = sought_long x e
-want_long m (ALocal next) x e = sought_long x e
-
-pub start_long : (m : Limits) (g : Goal) (x : Symbol) → phrase.step m (start g) x ≡ phrase.Long → ⊥
-start_long m (Condition l k) x e = wanted_long m x e
-start_long m (Argument l condition k done w) x e = want_long m w x e
-
-want_finish : (w : Want) → phrase.finish (wanted w) [] ≡ phrase.StuckAt 0
-want_finish (AnExpr lv next) = refl
-want_finish (AVar lv next) = refl
-want_finish (ALocal next) = refl
-
--- where a phrase begins, none is whole
-pub start_finish : (g : Goal) → phrase.finish (start g) [] ≡ phrase.StuckAt 0
-start_finish (Condition l k) = refl
-start_finish (Argument l condition k done w) = want_finish w
-
-pub start_stuck : (g : Goal) (k : Token) → behind_step g (phrase.finish (start g) []) k ≡ Stuck
-start_stuck g k = ap (λ (o : phrase.Outcome). behind_step g o k) (start_finish g)
-
--- ---- spots
-
-want_sofar : (w : Want) → sofar (wanted w) ≡ []
-want_sofar (AnExpr lv next) = refl
-want_sofar (AVar lv next) = refl
-want_sofar (ALocal next) = refl
-
-start_sofar : (g : Goal) → sofar (start g) ≡ []
-start_sofar (Condition l k) = refl
-start_sofar (Argument l condition k done w) = want_sofar w
-
-stuck_go : (t : phrase.State) → phrase.Stuck ≡ phrase.Go t → ⊥
-stuck_go t e = cc
-
-sought_begins : (l : Sentence) (condition : Option Expr) (k : Verb) (done : List Part) (next : Node) (x : Symbol) (t : phrase.State) → may_want (ALocal next) x ≡ true → phrase.seek phrase.AsTarget x ≡ phrase.Go t → Begun (Argument l condition k done (ALocal next)) (x ∷ [])
-sought_begins l condition k done next (Name word) t b e = tt
-sought_begins l condition k done next (Mark Caret) t b e = absurd (let f : false ≡ true = b in cc)
-sought_begins l condition k done next x t b e = absurd (stuck_go t e)
-
-want_begins : (m : Limits) (l : Sentence) (condition : Option Expr) (k : Verb) (done : List Part) (w : Want) (x : Symbol) (t : phrase.State) → may_want w x ≡ true → phrase.step m (wanted w) x ≡ phrase.Go t → Begun (Argument l condition k done w) (x ∷ [])
-want_begins m l condition k done (AnExpr lv next) x t b e = tt
-want_begins m l condition k done (AVar lv next) x t b e = tt
-want_begins m l condition k done (ALocal next) x t b e = sought_begins l condition k done next x t b e
-
--- a phrase for a local begins with a name, where it may begin so
-start_begins : (m : Limits) (g : Goal) (x : Symbol) (t : phrase.State) → may_begin g x ≡ true → phrase.step m (start g) x ≡ phrase.Go t → Begun g (x ∷ [])
-start_begins m (Condition l k) x t b e = tt
-start_begins m (Argument l condition k done w) x t b e = want_begins m l condition k done w x t b e
-
--- the first symbol of a phrase
-start_begun : (m : Limits) (g : Goal) (x : Symbol) (t : phrase.State) → may_begin g x ≡ true → phrase.step m (start g) x ≡ phrase.Go t → sofar t ≡ sofar (start g) ++ x ∷ [] → Begun g (sofar t)
-start_begun m g x t b e h = let P : List Symbol → Type 0 = λ ks. Begun g ks in subst P (sym (h ∙ ap (λ (ks : List Symbol). ks ++ x ∷ []) (start_sofar g))) (start_begins m g x t b e)
-
-stuck_deep : phrase.Stuck ≡ phrase.Deep → ⊥
-stuck_deep e = cc
-
-go_deep : (t : phrase.State) → phrase.Go t ≡ phrase.Deep → ⊥
-go_deep t e = cc
-
-sought_deep : (x : Symbol) → phrase.seek phrase.AsTarget x ≡ phrase.Deep → ⊥
-sought_deep (Name word) e = go_deep _ e
-sought_deep (Mark Caret) e = go_deep _ e
-sought_deep x e = stuck_deep e
-
-want_deep : (m : Limits) (l : Sentence) (condition : Option Expr) (k : Verb) (done : List Part) (w : Want) (x : Symbol) (ks : List Symbol) → phrase.step m (wanted w) x ≡ phrase.Deep → Begun (Argument l condition k done w) ks
-want_deep m l condition k done (AnExpr lv next) x ks e = tt
-want_deep m l condition k done (AVar lv next) x ks e = tt
-want_deep m l condition k done (ALocal next) x ks e = absurd (sought_deep x e)
-
--- no symbol that begins a local opens a level
-start_deep : (m : Limits) (g : Goal) (x : Symbol) (ks : List Symbol) → phrase.step m (start g) x ≡ phrase.Deep → Begun g ks
-start_deep m (Condition l k) x ks e = tt
-start_deep m (Argument l condition k done w) x ks e = want_deep m l condition k done w x ks e
-
-start_read : (m : Limits) (g : Goal) → EntryGood m (Some g) → HasRead (kind g) (inside m (level g)) (start g) (sofar (start g))
-start_read m g h = record { good = h.1; read = refl }
-
--- the step of the beginning of a phrase is that of its spot
-begins_as : (m : Limits) (p : Spot) (g : Goal) (k : Token) (n : phrase.Next) → 1 ≤ m.depth → ((l : Limits) → IsMore m l → step l (At p) k ≡ in_step l g (start g) k) → EntryLeads p (Some g) → (SpotGood m p → EntryGood m (Some g)) → may_begin g (symbol k) ≡ true → phrase.step (inside m (level g)) (start g) (symbol k) ≡ n →
-    known.Facts (kind g) (inside m (level g)) (HasRead (kind g) (inside m (level g)) (start g)) (known.LongFacts (kind g) (inside m (level g)) (HasRead (kind g) (inside m (level g)) (start g)) (start g) (symbol k)) (λ l. phrase.step l (start g) (symbol k)) (symbol k) n →
-    Facts m (At p) k (λ l. step l (At p) k) (phrase_step g (start g) k n)
-begins_as m p g k (phrase.Go t) d e h i b s f = (
-  λ z.
-      let a = i z in
-      let r = f.0 (sofar (start g)) (start_read m g a) in
-      (λ rest l x. h (k ∷ rest) l (phrase_leads g (start g) t (k ∷ []) r.read rest l x), (a.0, r.good, start_begun (inside m (level g)) g (symbol k) t b s r.read)),
-  λ l z. e l z ∙ ap (phrase_step g (start g) k) (f.1 (inside l (level g)) (inside_more m l (level g) z)),
-)
-begins_as m p g k phrase.Stuck d e h i b s f =
-    let P : Next → Type 0 = λ x. Facts m (At p) k (λ l. step l (At p) k) x in
-    subst P (sym (start_stuck g k)) (λ l z. e l z ∙ ap (phrase_step g (start g) k) (f (inside l (level g)) (inside_more m l (level g) z)) ∙ start_stuck g k)
-begins_as m p g k phrase.Deep d e h i b s f = λ z.
-    let a = i z in
-    let r = f.1 (sofar (start g)) (start_read m g a) in
-    let P : Limits → Type 0 = λ l. IsGood (kind g) l f.0 in (
-      In g f.0,
-      λ rest l x. h (k ∷ rest) l (phrase_leads g (start g) f.0 (k ∷ []) r.read rest l x),
-      (goal_more m (deeper (symbol k) m) g (more_deeper (symbol k) m) a.0, subst P (inside_deeper m (symbol k) (level g) (level_small m g a.0) d) r.good, start_deep (inside m (level g)) g (symbol k) (sofar f.0) s),
-    )
-begins_as m p g k phrase.Long d e h i b s f = absurd (start_long (inside m (level g)) g (symbol k) s)
-
--- where a phrase may begin so, or may not
-entered_by : (m : Limits) (p : Spot) (g : Goal) (k : Token) (b : Bool) → may_begin g (symbol k) ≡ b → entry p ≡ Some g → spot_step p k ≡ Stuck → EntryLeads p (Some g) → (SpotGood m p → EntryGood m (Some g)) → HasRoom m → Facts m (At p) k (λ l. step l (At p) k) (cond b (in_step m g (start g) k) Stuck)
-entered_by m p g k true b e s h i w =
-    begins_as m p g k (phrase.step (inside m (level g)) (start g) (symbol k)) w.depth
-    (λ l j. ap (λ (n : Next). first n (entering l (entry p) k)) s ∙ ap (λ (q : Option Goal). entering l q k) e ∙ ap (λ (x : Bool). cond x (in_step l g (start g) k) Stuck) b)
-    h i b refl (step_facts (kind g) (inside m (level g)) (start g) (symbol k) w.width)
-entered_by m p g k false b e s h i w = λ l j. ap (λ (n : Next). first n (entering l (entry p) k)) s ∙ ap (λ (q : Option Goal). entering l q k) e ∙ ap (λ (x : Bool). cond x (in_step l g (start g) k) Stuck) b
-
--- where the spot doesn't go on, a phrase begins or nothing does
-entered : (m : Limits) (p : Spot) (k : Token) (q : Option Goal) → entry p ≡ q → spot_step p k ≡ Stuck → EntryLeads p q → (SpotGood m p → EntryGood m q) → HasRoom m → Facts m (At p) k (λ l. step l (At p) k) (entering m q k)
-entered m p k None e s h i w = λ l j. plain_step l p k e ∙ s
-entered m p k (Some g) e s h i w = entered_by m p g k (may_begin g (symbol k)) refl e s h i w
-
-spot_as : (m : Limits) (p : Spot) (k : Token) (n : Next) → HasRoom m → spot_step p k ≡ n → NextLeads p k n → (SpotGood m p → NextGood m n) → Facts m (At p) k (λ l. step l (At p) k) (first n (entering m (entry p) k))
-spot_as m p k (Go t) w e h g = (λ i. (h, g i), λ l i. ap (λ (n : Next). first n (entering l (entry p) k)) e)
-spot_as m p k Stuck w e h g = entered m p k (entry p) refl e (entry_leads p) (entry_good m p) w
-spot_as m p k Deep w e h g = absurd h
-spot_as m p k Long w e h g = absurd h
-
--- ---- any state
-
-pub step_known : (m : Limits) (s : State) (k : Token) → HasRoom m → FactsAt m s k
-step_known m (At p) k w = spot_as m p k (spot_step p k) w refl (spot_leads p k) (λ h. spot_good m p k h)
-step_known m (In g s) k w = in_facts m g s k w

@@ -10,20 +10,22 @@ use Rattle.mj_ast.specs.Expressions.{symbol, name_limit, expr_nesting, expr_widt
 use Rattle.mj_ast.specs.Commands.{Part, Text, Place, Control, verb_of, bare_of, meant, is_conditional, greatest, part_nesting, part_width, condition_measure}
 use Rattle.mj_expr.specs.Machine.{Limits}
 use Rattle.mj_expr.specs.Machine as phrase
-use Rattle.mj_expr.proofs.Zipper.{Fits, IsGood, sofar}
+use Rattle.mj_expr.proofs.Room.{Fits, IsGood, sofar}
 use Rattle.mj_expr.proofs.Told.{read_goes}
 use Rattle.mj_expr.proofs.Facts.{IsMore}
 use Rattle.mj_line.specs.Forms.{Node, Want, AnExpr, AVar, ALocal, part_at, sort_of, takes, wants, ends, first_node, may_be_bare}
-use Rattle.mj_line.specs.Sentences.{Clause, Sentence, clause_nesting, clause_width, IsWithin}
-use Rattle.mj_line.specs.Machine.{Rest, Spot, Begin, Labelled, FormalsOpened, FormalWanted, FormalBehind, FormalsEnd, Indented, Behind, Over, Worded, Asked, Bare, Args, Goal, Condition, Argument, State, At, In, empty_line, labelled, headed, is_new, clause, with_clause, bare_rest, args_rest, start, wanted, level, level_of, inside, behind, behind_want, bare_rested, rested, argument, entry, Next, Go, Stuck, Deep, Long, opened, moved, taken, own, begins, on, on_rested, first, spot_step}
-use Rattle.mj_line.proofs.Tables.{alone_at, small, token_nesting, token_width, finish, bare_none, none_some, a_zero, zero_spelled}
-use Rattle.mj_line.proofs.Leaves.{Leaves, StateLeaves, Begun, begun_suits, kind, want_kind, rested_leads, RestedLeads, spot_leads}
+use Rattle.mj_line.specs.Sentences.{Clause, Sentence, clause_nesting, clause_width, IsSentenceWithin}
+use Rattle.mj_line.specs.Machine.{Rest, Spot, Begin, Labelled, FormalsOpened, FormalWanted, FormalBehind, FormalsEnd, Indented, Behind, Over, Worded, Asked, Bare, Args, Goal, Condition, Argument, State, At, In, empty_line, labelled, headed, is_new, clause, with_clause, bare_rest, args_rest, start, wanted, level, level_of, inside, behind_phrase, behind_want, bare_rested, rested, argument, entry, Next, Go, Stuck, Deep, Long, opened, moved, taken, own, begins, on, on_rested, first, spot_step}
+use Rattle.mj_line.proofs.Tables.{alone_at, small, token_nesting, token_width, bare_none, none_some}
+use Rattle.mj_line.proofs.Entries.{finish, a_zero, zero_spelled}
+use Rattle.mj_line.proofs.Leaves.{Leaves, StateLeaves, Begun, begun_suits, kind, want_kind}
+use Rattle.mj_line.proofs.SpotLeaves.{rested_leads, RestedLeads, spot_leads}
 use Rattle.mj_line.proofs.Formals.{fresh, fresh_new}
 
 -- ---- limits
 
 pub record IsGoodClause (m : Limits) (l : Sentence) (condition : Option Expr) (done : List Part) : Type 0 where
-  pub line : IsWithin m.depth m.width l
+  pub line : IsSentenceWithin m.depth m.width l
   pub nests : max (condition_measure expr_nesting condition) (greatest part_nesting done) ≤ m.depth
   pub lists : max (condition_measure expr_width condition) (greatest part_width done) ≤ m.width
 
@@ -34,16 +36,16 @@ SpotGood m (FormalsOpened label) = Unit {0}
 SpotGood m (FormalWanted label names) = Unit {0}
 SpotGood m (FormalBehind label names) = Unit {0}
 SpotGood m (FormalsEnd label names) = Unit {0}
-SpotGood m (Indented l) = IsWithin m.depth m.width l
-SpotGood m (Behind r) = IsWithin m.depth m.width r.line
-SpotGood m (Over l) = IsWithin m.depth m.width l
-SpotGood m (Worded l k) = IsWithin m.depth m.width l
-SpotGood m (Asked l k) = IsWithin m.depth m.width l
+SpotGood m (Indented l) = IsSentenceWithin m.depth m.width l
+SpotGood m (Behind r) = IsSentenceWithin m.depth m.width r.line
+SpotGood m (Over l) = IsSentenceWithin m.depth m.width l
+SpotGood m (Worded l k) = IsSentenceWithin m.depth m.width l
+SpotGood m (Asked l k) = IsSentenceWithin m.depth m.width l
 SpotGood m (Bare l condition k) = IsGoodClause m l condition []
 SpotGood m (Args l condition k done n) = IsGoodClause m l condition done
 
 abbrev pub GoalGood : Limits → Goal → Type 0
-GoalGood m (Condition l k) = IsWithin m.depth m.width l
+GoalGood m (Condition l k) = IsSentenceWithin m.depth m.width l
 GoalGood m (Argument l condition k done w) = IsGoodClause m l condition done × (level_of w ≤ 1)
 
 abbrev pub StateGood : Limits → State → Type 0
@@ -64,23 +66,26 @@ level_small m (Argument l condition k done w) h = h.1
 
 -- ---- steps keep the limits
 
-clause_good : (m : Limits) (l : Sentence) (condition : Option Expr) (k : Keyword) (done : List Part) → IsGoodClause m l condition done → IsWithin m.depth m.width (with_clause l (clause condition k done))
+clause_good : (m : Limits) (l : Sentence) (condition : Option Expr) (k : Keyword) (done : List Part) → IsGoodClause m l condition done →
+    IsSentenceWithin m.depth m.width (with_clause l (clause condition k done))
 clause_good m l condition k done g = record {
   nests = let h = greatest_more clause_nesting l.clauses (clause condition k done) in let a = g.line.nests in let b = g.nests in omega arith;
   lists = let h = greatest_more clause_width l.clauses (clause condition k done) in let a = g.line.lists in let b = g.lists in omega arith;
 }
 
-part_good : (m : Limits) (l : Sentence) (condition : Option Expr) (done : List Part) (p : Part) → part_nesting p ≤ m.depth → part_width p ≤ m.width → IsGoodClause m l condition done → IsGoodClause m l condition (done ++ p ∷ [])
+part_good : (m : Limits) (l : Sentence) (condition : Option Expr) (done : List Part) (p : Part) → part_nesting p ≤ m.depth → part_width p ≤ m.width →
+    IsGoodClause m l condition done → IsGoodClause m l condition (done ++ p ∷ [])
 part_good m l condition done p n w g = record {
   line = g.line;
   nests = let h = greatest_more part_nesting done p in let b = g.nests in omega arith;
   lists = let h = greatest_more part_width done p in let b = g.lists in omega arith;
 }
 
-plain_good : (m : Limits) (l : Sentence) → IsWithin m.depth m.width l → IsGoodClause m l None []
+plain_good : (m : Limits) (l : Sentence) → IsSentenceWithin m.depth m.width l → IsGoodClause m l None []
 plain_good m l g = record { line = g; nests = omega arith; lists = omega arith }
 
-want_good : (m : Limits) (l : Sentence) (condition : Option Expr) (k : Verb) (done : List Part) (w : Want) (p : phrase.Phrase) → 1 ≤ m.depth → level_of w ≤ 1 → IsGoodClause m l condition done → Fits (want_kind w) (inside m (level_of w)) p → SpotGood m (behind_want l condition k done w p)
+want_good : (m : Limits) (l : Sentence) (condition : Option Expr) (k : Verb) (done : List Part) (w : Want) (p : phrase.Phrase) → 1 ≤ m.depth → level_of w ≤ 1 →
+    IsGoodClause m l condition done → Fits (want_kind w) (inside m (level_of w)) p → SpotGood m (behind_want l condition k done w p)
 want_good m l condition k done (AnExpr lv next) (phrase.Whole e) d i g f = part_good m l condition done (Text lv e) (let n = f.nests in omega arith) (let n = f.lists in omega arith) g
 want_good m l condition k done (AVar lv next) (phrase.Target v) d i g f = part_good m l condition done (Place lv v) (let n = f.nests in omega arith) (let n = f.lists in omega arith) g
 want_good m l condition k done (ALocal next) (phrase.Target v) d i g f = part_good m l condition done (Control v) (let n = f.nests in omega arith) (let n = f.lists in omega arith) g
@@ -88,16 +93,16 @@ want_good m l condition k done (AnExpr lv next) (phrase.Target v) d i g f = tt
 want_good m l condition k done (AVar lv next) (phrase.Whole e) d i g f = tt
 want_good m l condition k done (ALocal next) (phrase.Whole e) d i g f = tt
 
-pub behind_good : (m : Limits) (g : Goal) (p : phrase.Phrase) → 1 ≤ m.depth → GoalGood m g → Fits (kind g) (inside m (level g)) p → SpotGood m (behind g p)
+pub behind_good : (m : Limits) (g : Goal) (p : phrase.Phrase) → 1 ≤ m.depth → GoalGood m g → Fits (kind g) (inside m (level g)) p → SpotGood m (behind_phrase g p)
 behind_good m (Condition l k) (phrase.Whole e) d h f = record { line = h; nests = let j = f.nests in omega arith; lists = let j = f.lists in omega arith }
 behind_good m (Condition l k) (phrase.Target v) d h f = tt
 behind_good m (Argument l condition k done w) p d h f = want_good m l condition k done w p d h.1 h.0 f
 
 abbrev pub RestGood : Limits → Option Rest → Type 0
-RestGood m (Some r) = IsWithin m.depth m.width r.line
+RestGood m (Some r) = IsSentenceWithin m.depth m.width r.line
 RestGood m None = Unit {0}
 
-bare_good : (m : Limits) (r : Rest) (b : Bool) → IsWithin m.depth m.width r.line → RestGood m (bare_rested b r)
+bare_good : (m : Limits) (r : Rest) (b : Bool) → IsSentenceWithin m.depth m.width r.line → RestGood m (bare_rested b r)
 bare_good m r true g = g
 bare_good m r false g = tt
 
@@ -129,7 +134,8 @@ moved_good : (m : Limits) (l : Sentence) (condition : Option Expr) (k : Verb) (d
 moved_good m l condition k done (Some n) g = g
 moved_good m l condition k done None g = tt
 
-taken_good : (m : Limits) (l : Sentence) (condition : Option Expr) (k : Verb) (done : List Part) (n : Node) (t : Token) (q : Option Part) → part_at (sort_of n) t ≡ q → IsGoodClause m l condition done → NextGood m (taken l condition k done n q)
+taken_good : (m : Limits) (l : Sentence) (condition : Option Expr) (k : Verb) (done : List Part) (n : Node) (t : Token) (q : Option Part) →
+    part_at (sort_of n) t ≡ q → IsGoodClause m l condition done → NextGood m (taken l condition k done n q)
 taken_good m l condition k done n t (Some p) e g =
     let a = alone_at (sort_of n) t p e in
     moved_good m l condition k (done ++ p ∷ []) (takes n p) (part_good m l condition done p (let i = token_nesting p a.token in omega arith) (let i = token_width p a.token in omega arith) g)
@@ -143,7 +149,7 @@ formal_good : (m : Limits) (label : List ℕ) (names : List (List ℕ)) (b : Boo
 formal_good m label names true = tt
 formal_good m label names false = tt
 
-asked_good : (m : Limits) (l : Sentence) (k : Verb) (b : Bool) → IsWithin m.depth m.width l → NextGood m (cond b (Go (At (Asked l k))) Stuck)
+asked_good : (m : Limits) (l : Sentence) (k : Verb) (b : Bool) → IsSentenceWithin m.depth m.width l → NextGood m (cond b (Go (At (Asked l k))) Stuck)
 asked_good m l k true g = g
 asked_good m l k false g = tt
 
@@ -167,19 +173,19 @@ own_good m (Bare l condition k) Blank g = opened_good m l condition k (first_nod
 own_good m (Args l condition k done n) t g = taken_good m l condition k done n t (part_at (sort_of n) t) refl g
 own_good m p k g = tt
 
-comment_good : (m : Limits) (l : Sentence) (b : Bool) → IsWithin m.depth m.width l → NextGood m (cond b (Go (At (Over l))) Stuck)
+comment_good : (m : Limits) (l : Sentence) (b : Bool) → IsSentenceWithin m.depth m.width l → NextGood m (cond b (Go (At (Over l))) Stuck)
 comment_good m l true g = g
 comment_good m l false g = tt
 
-begins_good : (m : Limits) (l : Sentence) (o : Option Verb) → IsWithin m.depth m.width l → NextGood m (begins l o)
+begins_good : (m : Limits) (l : Sentence) (o : Option Verb) → IsSentenceWithin m.depth m.width l → NextGood m (begins l o)
 begins_good m l (Some k) g = g
 begins_good m l None g = tt
 
-word_good : (m : Limits) (l : Sentence) (o : Option Verb) (b : Bool) → IsWithin m.depth m.width l → NextGood m (cond b (begins l o) Stuck)
+word_good : (m : Limits) (l : Sentence) (o : Option Verb) (b : Bool) → IsSentenceWithin m.depth m.width l → NextGood m (cond b (begins l o) Stuck)
 word_good m l o true g = begins_good m l o g
 word_good m l o false g = tt
 
-on_good : (m : Limits) (r : Rest) (k : Token) → IsWithin m.depth m.width r.line → NextGood m (on r k)
+on_good : (m : Limits) (r : Rest) (k : Token) → IsSentenceWithin m.depth m.width r.line → NextGood m (on r k)
 on_good m r Blank g = g
 on_good m r (Comment text) g = comment_good m r.line (r.comment == 0) g
 on_good m r (Word w) g = word_good m r.line (verb_of w) (r.gap == 0) g
@@ -214,7 +220,8 @@ wanted_good m (AnExpr lv next) = tt
 wanted_good m (AVar lv next) = tt
 wanted_good m (ALocal next) = tt
 
-argument_good : (m : Limits) (l : Sentence) (condition : Option Expr) (k : Verb) (done : List Part) (n : Node) (q : Option Want) → wants n ≡ q → IsGoodClause m l condition done → EntryGood m (argument l condition k done q)
+argument_good : (m : Limits) (l : Sentence) (condition : Option Expr) (k : Verb) (done : List Part) (n : Node) (q : Option Want) → wants n ≡ q →
+    IsGoodClause m l condition done → EntryGood m (argument l condition k done q)
 argument_good m l condition k done n (Some w) e g = ((g, small n w e), wanted_good (inside m (level_of w)) w)
 argument_good m l condition k done n None e g = tt
 
@@ -235,7 +242,7 @@ entry_good m (Args l condition k done n) g = argument_good m l condition k done 
 
 -- ---- larger limits
 
-pub line_more : (m n : Limits) (l : Sentence) → IsMore m n → IsWithin m.depth m.width l → IsWithin n.depth n.width l
+pub line_more : (m n : Limits) (l : Sentence) → IsMore m n → IsSentenceWithin m.depth m.width l → IsSentenceWithin n.depth n.width l
 line_more m n l i g = record { nests = let a = g.nests in let b = i.depth in omega arith; lists = let a = g.lists in let b = i.width in omega arith }
 
 clause_more : (m n : Limits) (l : Sentence) (condition : Option Expr) (done : List Part) → IsMore m n → IsGoodClause m l condition done → IsGoodClause n l condition done
@@ -255,7 +262,7 @@ pub record GoesOn (m : Limits) (s : State) : Type 0 where
   pub rest : List Token
   pub line : Sentence
   pub leaves : StateLeaves s rest line
-  pub within : IsWithin m.depth m.width line
+  pub within : IsSentenceWithin m.depth m.width line
 
 -- behind a token that leads on
 behind_token : (m : Limits) (p : Spot) (k : Token) (s : State) → ((rest : List Token) (l : Sentence) → StateLeaves s rest l → Leaves p (k ∷ rest) l) → GoesOn m s → GoesOn m (At p)
@@ -266,7 +273,16 @@ rest_goes : (m : Limits) (p : Spot) (q : Option Rest) (r : Rest) → q ≡ Some 
 rest_goes m p (Some r) x e h w = record {
   rest = [];
   line = r.line;
-  leaves = h [] r.line (record { clauses = []; whole = ap (λ (ss : List Clause). record { label = r.line.label; formals = r.line.formals; level = r.line.level; clauses = ss }) (sym (append-nil r.line.clauses)); spells = inl (0, refl) });
+  leaves = h [] r.line (record {
+    clauses = [];
+    whole = ap (λ (ss : List Clause). record {
+      label = r.line.label;
+      formals = r.line.formals;
+      level = r.line.level;
+      clauses = ss;
+    }) (sym (append-nil r.line.clauses));
+    spells = inl (0, refl);
+  });
   within = w;
 }
 rest_goes m p None x e h w = absurd (none_some x e)
@@ -285,7 +301,16 @@ args_goes m l condition k done n d g =
         cut = sym (append-nil f.tokens);
         fits = f.fits;
         spells = f.spells;
-        follows = record { clauses = []; whole = ap (λ (ss : List Clause). record { label = r.line.label; formals = r.line.formals; level = r.line.level; clauses = ss }) (sym (append-nil r.line.clauses)); spells = inl (0, refl) };
+        follows = record {
+          clauses = [];
+          whole = ap (λ (ss : List Clause). record {
+            label = r.line.label;
+            formals = r.line.formals;
+            level = r.line.level;
+            clauses = ss;
+          }) (sym (append-nil r.line.clauses));
+          spells = inl (0, refl);
+        };
       };
       within = clause_good m l condition (meant k (done ++ f.parts)) (done ++ f.parts) (record {
         line = g.line;
@@ -300,11 +325,13 @@ first_goes m l condition k (Some n) d e g =
     let a = args_goes m l condition k [] n d g in
     record { rest = Blank ∷ a.rest; line = a.line; leaves = inr (record { node = n; rest = a.rest; node_is = e; cut = refl; follows = a.leaves }); within = a.within }
 first_goes m l condition k None d e g =
-    rest_goes m (Bare l condition k) (rested (Bare l condition k)) (bare_rest l condition k) (ap (λ (b : Bool). bare_rested b (bare_rest l condition k)) (bare_none k e)) (rested_leads (Bare l condition k)) (rested_good m (Bare l condition k) g)
+    rest_goes m (Bare l condition k) (rested (Bare l condition k)) (bare_rest l condition k)
+    (ap (λ (b : Bool). bare_rested b (bare_rest l condition k)) (bare_none k e)) (rested_leads (Bare l condition k)) (rested_good m (Bare l condition k) g)
 
 -- behind a label with formals
 end_goes : (m : Limits) (label : List ℕ) (names : List (List ℕ)) → GoesOn m (At (FormalsEnd label names))
-end_goes m label names = rest_goes m (FormalsEnd label names) (rested (FormalsEnd label names)) (record { line = headed label names; gap = 1; comment = 1 }) refl (rested_leads (FormalsEnd label names)) (rested_good m (FormalsEnd label names) tt)
+end_goes m label names = rest_goes m (FormalsEnd label names) (rested (FormalsEnd label names)) (record { line = headed label names; gap = 1; comment = 1 })
+    refl (rested_leads (FormalsEnd label names)) (rested_good m (FormalsEnd label names) tt)
 
 close_goes : (m : Limits) (label : List ℕ) (names : List (List ℕ)) → GoesOn m (At (FormalBehind label names))
 close_goes m label names = behind_token m (FormalBehind label names) (Signed Close) (At (FormalsEnd label names)) (spot_leads (FormalBehind label names) (Signed Close)) (end_goes m label names)
@@ -318,7 +345,8 @@ name_goes m label names =
 
 pub spot_goes : (m : Limits) (p : Spot) → 1 ≤ m.depth → SpotGood m p → GoesOn m (At p)
 spot_goes m Begin d g = rest_goes m Begin (rested Begin) (record { line = empty_line; gap = 1; comment = 0 }) refl (rested_leads Begin) (rested_good m Begin g)
-spot_goes m (Labelled label) d g = rest_goes m (Labelled label) (rested (Labelled label)) (record { line = labelled label; gap = 1; comment = 1 }) refl (rested_leads (Labelled label)) (rested_good m (Labelled label) g)
+spot_goes m (Labelled label) d g = rest_goes m (Labelled label) (rested (Labelled label)) (record { line = labelled label; gap = 1; comment = 1 }) refl
+    (rested_leads (Labelled label)) (rested_good m (Labelled label) g)
 spot_goes m (FormalsOpened label) d g = behind_token m (FormalsOpened label) (Signed Close) (At (FormalsEnd label [])) (spot_leads (FormalsOpened label) (Signed Close)) (end_goes m label [])
 spot_goes m (FormalWanted label names) d g = name_goes m label names
 spot_goes m (FormalBehind label names) d g = close_goes m label names
@@ -332,7 +360,13 @@ spot_goes m (Worded l k) d g =
 spot_goes m (Asked l k) d g =
     let z = a_zero in
     let b = first_goes m l (Some z) k (first_node k) d refl (record { line = g; nests = omega arith; lists = omega arith }) in
-    record { rest = Digits (48 ∷ []) ∷ b.rest; line = b.line; leaves = record { value = z; front = Digits (48 ∷ []) ∷ []; rest = b.rest; cut = refl; spells = zero_spelled; follows = b.leaves }; within = b.within }
+    record {
+      rest = Digits (48 ∷ []) ∷ b.rest;
+      line = b.line;
+      leaves =
+          record { value = z; front = Digits (48 ∷ []) ∷ []; rest = b.rest; cut = refl; spells = zero_spelled; follows = b.leaves };
+      within = b.within;
+    }
 spot_goes m (Bare l condition k) d g = first_goes m l condition k (first_node k) d refl g
 spot_goes m (Args l condition k done n) d g = args_goes m l condition k done n d g
 
@@ -340,11 +374,22 @@ spot_goes m (Args l condition k done n) d g = args_goes m l condition k done n d
 phrase_goes : (m : Limits) (g : Goal) (s : phrase.State) → 1 ≤ m.depth → GoalGood m g → IsGood (kind g) (inside m (level g)) s → Begun g (sofar s) → GoesOn m (In g s)
 phrase_goes m g s d h i b =
     let r = read_goes (kind g) (inside m (level g)) s (sofar s) (record { good = i; read = refl }) in
-    let f = spot_goes m (behind g r.phrase) d (behind_good m g r.phrase d h r.fits) in
+    let f = spot_goes m (behind_phrase g r.phrase) d (behind_good m g r.phrase d h r.fits) in
     record {
       rest = r.more ++ f.rest;
       line = f.line;
-      leaves = record { phrase = r.phrase; front = r.more; rest = f.rest; kind_is = r.fits.kind; suits = begun_suits g r.phrase (sofar s) (map symbol r.more) b r.spelled; cut = refl; spells = r.spelled; formed = r.fits.formed; follows = f.leaves };
+      leaves = record {
+        phrase = r.phrase;
+        front = r.more;
+        rest = f.rest;
+        kind_is = r.fits.kind;
+        suits =
+            begun_suits g r.phrase (sofar s) (map symbol r.more) b r.spelled;
+        cut = refl;
+        spells = r.spelled;
+        formed = r.fits.formed;
+        follows = f.leaves;
+      };
       within = f.within;
     }
 

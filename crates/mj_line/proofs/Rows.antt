@@ -13,14 +13,15 @@ use Rattle.mj_ast.specs.declared.function.Special.TheVariants as special
 use Rattle.mj_ast.specs.Syntax.{Expr, Exprs, Chain, Done, Then, Literal, Value, Intrinsic, Group, Variable, Var, No, More, Pieces, One, Shown, Command, Set, Write, Halt, Do, Everything, TStart, Line}
 use Rattle.mj_ast.specs.Tokens.{Token, Word, Called, Special, Signed, Stray, lexemes, tokens}
 use Rattle.mj_ast.specs.Lines.{SpellsLine, IsStuck, IsDeep, HasOverlong, IsLong, HasLabelOf, plain_line}
-use Rattle.mj_ast.specs.LeftOut.{Fits, MayStand, EndsInCommand}
-use Rattle.mj_ast.specs.Routines.{IsRefused, Long, Twice, StuckAt, LeftOutAt, DeepAt}
+use Rattle.mj_ast.specs.LeftOut.{StandsFor, MayStand, EndsInCommand}
+use Rattle.mj_ast.specs.Routines.{IsRefusalOfLine, Long, Twice, StuckAt, LeftOutAt, DeepAt}
 use Rattle.mj_expr.specs.Reads.{limits}
 use Rattle.mj_line.specs.Sentences.{sentence_of}
 use Rattle.mj_line.specs.Machine.{Begin, At, Accept, run}
 use Rattle.mj_line.specs.Machine as machine
 use Rattle.mj_line.specs.Said.{IsRead}
-use Rattle.mj_line.proofs.Said.{said_read, said_stuck, said_deep, said_long, short_stuck}
+use Rattle.mj_line.proofs.Said.{short_stuck}
+use Rattle.mj_line.proofs.Outcomes.{said_read, said_stuck, said_deep, said_long}
 
 -- ---- what the machine tells
 
@@ -89,11 +90,11 @@ halts = record { label = Some (codes "A"); formals = []; level = 1; steps = reco
 
 -- ---- what is left out where a name, an operand, an operator, an actual, a destination or a command may stand, or behind a label
 
-indirection : Fits construct.Indirection (tokens (codes " W ")) (Stray 64) (tokens (codes "X"))
+indirection : StandsFor construct.Indirection (tokens (codes " W ")) (Stray 64) (tokens (codes "X"))
 unfolding lexemes
 indirection = (refl, inr (stands (tokens (codes " W ")) (Word (codes "A")) [] (of (Write (Shown (Chain (Value (Var Local (codes "A") No)) Done) ∷ []))) refl))
 
-formal : Fits construct.Indirection (tokens (codes "A(")) (Stray 64) (tokens (codes "X)"))
+formal : StandsFor construct.Indirection (tokens (codes "A(")) (Stray 64) (tokens (codes "X)"))
 unfolding lexemes
 formal = (refl, inl refl)
 
@@ -101,37 +102,45 @@ operand : MayStand (tokens (codes " W ")) (Special (codes "T"))
 unfolding lexemes
 operand = stands (tokens (codes " W ")) (Special (codes "T")) [] (of (Write (Shown test ∷ []))) refl
 
-fraction : Fits construct.Fraction (tokens (codes " W ")) (Signed Dot) (tokens (codes "5"))
+fraction : StandsFor construct.Fraction (tokens (codes " W ")) (Signed Dot) (tokens (codes "5"))
 unfolding lexemes
 fraction = (refl, inr (refl, operand))
 
-point : Fits construct.Fraction (tokens (codes " W 1")) (Signed Dot) []
+point : StandsFor construct.Fraction (tokens (codes " W 1")) (Signed Dot) []
 unfolding lexemes
 point = (refl, inl refl)
 
-pattern : Fits construct.Pattern (tokens (codes " W X")) (Signed Question) (tokens (codes "1N"))
+pattern : StandsFor construct.Pattern (tokens (codes " W X")) (Signed Question) (tokens (codes "1N"))
 unfolding lexemes
 pattern = (refl, stands (tokens (codes " W X")) (Signed Underscore) (tokens (codes "X")) (of (Write (Shown (Chain (Value x) (Then binary.Join (Value x) Done)) ∷ []))) refl)
 
-by_reference : Fits construct.ByReference (tokens (codes " D A(")) (Signed Dot) (tokens (codes "X)"))
+by_reference : StandsFor construct.ByReference (tokens (codes " D A(")) (Signed Dot) (tokens (codes "X)"))
 unfolding lexemes
 by_reference = (
   refl,
   (
-    stands (tokens (codes " D A(")) (Special (codes "T")) (tokens (codes ")")) (of (Do (record { target = record { label = Some (codes "A"); routine = None }; actuals = Some test ∷ []; condition = None } ∷ []))) refl,
+    stands (tokens (codes " D A(")) (Special (codes "T")) (tokens (codes ")"))
+        (of (Do (record { target = record { label = Some (codes "A"); routine = None }; actuals = Some test ∷ []; condition = None } ∷ []))) refl,
     stands (tokens (codes " D A(")) (Signed Close) [] (of (Do (record { target = record { label = Some (codes "A"); routine = None }; actuals = None ∷ []; condition = None } ∷ []))) refl,
   ),
 )
 
-entry_offset : Fits construct.EntryOffset (tokens (codes " D A")) (Signed Plus) (tokens (codes "1"))
+entry_offset : StandsFor construct.EntryOffset (tokens (codes " D A")) (Signed Plus) (tokens (codes "1"))
 unfolding lexemes
-entry_offset = (refl, (refl, stands (tokens (codes " D A")) (Signed Caret) (tokens (codes "R")) (of (Do (record { target = record { label = Some (codes "A"); routine = Some (codes "R") }; actuals = []; condition = None } ∷ []))) refl))
+entry_offset = (
+  refl,
+  (
+    refl,
+    stands (tokens (codes " D A")) (Signed Caret) (tokens (codes "R"))
+        (of (Do (record { target = record { label = Some (codes "A"); routine = Some (codes "R") }; actuals = []; condition = None } ∷ []))) refl,
+  ),
+)
 
-set_extract : Fits construct.SetExtract (tokens (codes " S ")) (Called (codes "E")) (tokens (codes "(X)=1"))
+set_extract : StandsFor construct.SetExtract (tokens (codes " S ")) (Called (codes "E")) (tokens (codes "(X)=1"))
 unfolding lexemes
 set_extract = (refl, stands (tokens (codes " S ")) (Called (codes "P")) (tokens (codes "(X,X)=X")) (of (Set (record { targets = One (Pieces x (More ex No)); value = ex } ∷ []))) refl)
 
-command : Fits construct.Command (tokens (codes " ")) (Word (codes "ABC")) []
+command : StandsFor construct.Command (tokens (codes " ")) (Word (codes "ABC")) []
 unfolding lexemes
 command = (refl, (refl, stands (tokens (codes " ")) (Word (codes "W")) (tokens (codes " X")) (of (Write (Shown ex ∷ []))) refl))
 
@@ -147,23 +156,23 @@ restored =
     let c = TStart (Some (record { restored = Everything; serial = serial.No })) in
     record { single = refl; line = of c; spells = (read (tokens (codes " TS *")) (of c) refl).spells; last = refl }
 
-bare_serial : Fits construct.BareSerial (tokens (codes " TS ")) (Signed Colon) (tokens (codes "S"))
+bare_serial : StandsFor construct.BareSerial (tokens (codes " TS ")) (Signed Colon) (tokens (codes "S"))
 unfolding lexemes
 bare_serial = (refl, ((tokens (codes " TS"), refl, begun), stands (tokens (codes " TS ")) (Signed Star) [] (of (TStart (Some (record { restored = Everything; serial = serial.No })))) refl))
 
-transaction_id : Fits construct.TransactionId (tokens (codes " TS *:")) (Word (codes "t")) (tokens (codes "=X"))
+transaction_id : StandsFor construct.TransactionId (tokens (codes " TS *:")) (Word (codes "t")) (tokens (codes "=X"))
 unfolding lexemes
 transaction_id = (refl, (tokens (codes " TS *"), inl refl, restored))
 
-enclosed_id : Fits construct.TransactionId (tokens (codes " TS *:(")) (Word (codes "TRANSACTIONID")) (tokens (codes "=X)"))
+enclosed_id : StandsFor construct.TransactionId (tokens (codes " TS *:(")) (Word (codes "TRANSACTIONID")) (tokens (codes "=X)"))
 unfolding lexemes
 enclosed_id = (refl, (tokens (codes " TS *"), inr refl, restored))
 
 -- no colon begins such an argument where a comma stands, and no word but one with a `T`
-not_bare_serial : Fits construct.BareSerial (tokens (codes " TS ")) (Signed Comma) [] → ⊥
+not_bare_serial : StandsFor construct.BareSerial (tokens (codes " TS ")) (Signed Comma) [] → ⊥
 not_bare_serial h = wrong h.0
 
-not_transaction_id : Fits construct.TransactionId (tokens (codes " TS *:")) (Word (codes "SERIALS")) [] → ⊥
+not_transaction_id : StandsFor construct.TransactionId (tokens (codes " TS *:")) (Word (codes "SERIALS")) [] → ⊥
 not_transaction_id h = wrong h.0
 
 -- ---- too deep: the 65th parenthesis, and not the 64th
@@ -174,7 +183,8 @@ too_deep = deep_at (tokens (codes " W " ++ replicate 65 40)) 1 67 refl refl
 
 deep_enough : (k : ℕ) → IsDeep (tokens (codes " W " ++ (replicate 64 40 ++ 49 ∷ replicate 64 41))) k → ⊥
 unfolding lexemes digits
-deep_enough = not_deep (tokens (codes " W " ++ (replicate 64 40 ++ 49 ∷ replicate 64 41))) _ (read (tokens (codes " W " ++ (replicate 64 40 ++ 49 ∷ replicate 64 41))) (of (Write (Shown (nested 64) ∷ []))) refl)
+deep_enough = not_deep (tokens (codes " W " ++ (replicate 64 40 ++ 49 ∷ replicate 64 41))) _
+    (read (tokens (codes " W " ++ (replicate 64 40 ++ 49 ∷ replicate 64 41))) (of (Write (Shown (nested 64) ∷ []))) refl)
 
 -- ---- over a limit: a word of 32 bytes, and not of 31; the 31st comma of a list, and not the 30th
 
@@ -209,21 +219,21 @@ read_halts : IsRead (tokens (codes "A H")) halts
 unfolding lexemes
 read_halts = read (tokens (codes "A H")) halts refl
 
-refused_long : IsRefused [] (codes " W ABCDEFGHIJKLMNOPQRSTUVWXYZ012345") Long
+refused_long : IsRefusalOfLine [] (codes " W ABCDEFGHIJKLMNOPQRSTUVWXYZ012345") Long
 refused_long = inr long_word
 
-not_refused_long : IsRefused [] (codes "A H") Long → ⊥
+not_refused_long : IsRefusalOfLine [] (codes "A H") Long → ⊥
 not_refused_long = not_long (codes "A H") (lit≤ tt) read_halts.short
 
-refused_twice : IsRefused (codes "B" ∷ codes "A" ∷ []) (codes "A H") Twice
+refused_twice : IsRefusalOfLine (codes "B" ∷ codes "A" ∷ []) (codes "A H") Twice
 unfolding lexemes
 refused_twice = (not_long (codes "A H") (lit≤ tt) read_halts.short, (codes "A", refl, (1, lit≤ tt, refl)))
 
-not_refused_twice : IsRefused [] (codes "A H") Twice → ⊥
+not_refused_twice : IsRefusalOfLine [] (codes "A H") Twice → ⊥
 not_refused_twice h = no_label (tokens (codes "A H")) h.1
 
 -- ` W 1+` is stuck at its end, where nothing stands
-refused_stuck : IsRefused [] (codes " W 1+") (StuckAt 6)
+refused_stuck : IsRefusalOfLine [] (codes " W 1+") (StuckAt 6)
 unfolding lexemes digits
 refused_stuck = (
   not_long (codes " W 1+") (lit≤ tt) (said_stuck (tokens (codes " W 1+")) 0 refl).short,
@@ -231,11 +241,11 @@ refused_stuck = (
   (record { place = 5; stuck = stuck_at (tokens (codes " W 1+")) 0 5 refl refl; column_is = refl }, refl),
 )
 
-not_refused_stuck : (c : ℕ) → IsRefused [] (codes "A H") (StuckAt c) → ⊥
+not_refused_stuck : (c : ℕ) → IsRefusalOfLine [] (codes "A H") (StuckAt c) → ⊥
 not_refused_stuck c h = h.2.0.stuck.whole halts read_halts.spells
 
 -- ` W X?1N` is stuck at the `?`, which stands for a pattern
-refused_left_out : IsRefused [] (codes " W X?1N") (LeftOutAt 5 construct.Pattern)
+refused_left_out : IsRefusalOfLine [] (codes " W X?1N") (LeftOutAt 5 construct.Pattern)
 unfolding lexemes
 refused_left_out = (
   not_long (codes " W X?1N") (lit≤ tt) (said_stuck (tokens (codes " W X?1N")) 3 refl).short,
@@ -246,11 +256,11 @@ refused_left_out = (
   ),
 )
 
-not_refused_left_out : (c : ℕ) → IsRefused [] (codes "A H") (LeftOutAt c construct.Pattern) → ⊥
+not_refused_left_out : (c : ℕ) → IsRefusalOfLine [] (codes "A H") (LeftOutAt c construct.Pattern) → ⊥
 not_refused_left_out c h = h.2.0.stuck.whole halts read_halts.spells
 
 -- with more levels allowed the line would only end too early, so no limit but that of the levels is met
-refused_deep : IsRefused [] (codes " W " ++ replicate 65 40) (DeepAt 68)
+refused_deep : IsRefusalOfLine [] (codes " W " ++ replicate 65 40) (DeepAt 68)
 unfolding lexemes
 refused_deep = (
   not_long (codes " W " ++ replicate 65 40) (lit≤ tt) (short_stuck (record { depth = 100; width = 31 }) (tokens (codes " W " ++ replicate 65 40)) 0 (lit≤ tt) refl refl),
@@ -258,5 +268,5 @@ refused_deep = (
   record { place = 67; deep = too_deep; column_is = refl },
 )
 
-not_refused_deep : (c : ℕ) → IsRefused [] (codes "A H") (DeepAt c) → ⊥
+not_refused_deep : (c : ℕ) → IsRefusalOfLine [] (codes "A H") (DeepAt c) → ⊥
 not_refused_deep c h = not_deep (tokens (codes "A H")) halts read_halts h.2.place h.2.deep

@@ -1,35 +1,35 @@
 -- What a run says of the tokens, in the grammar's words.
-use Rattle.std.proofs.Common.{◌≡◌, ℕ, zero, suc, ◌+◌, ◌≤◌, ◌<◌, nat_le, max, List, [], ◌∷◌, ◌++◌, length, take, refl, ap, sym, ◌∙◌, subst, Bool, true, false, append_assoc, append-nil, length-append, arith, ◌⊎◌, inl, inr, Option, Some, None}
+use Rattle.std.proofs.Common.{◌≡◌, ℕ, zero, suc, ◌+◌, ◌≤◌, ◌<◌, nat_le, max, List, [], ◌∷◌, ◌++◌, length, take, refl, ap, sym, ◌∙◌, subst, Bool, true, false, append_assoc, append-nil, arith, ◌⊎◌, inl, inr, Option, Some, None}
 use Rattle.std.specs.Prelude.{cond}
 use Rattle.std.proofs.lemmas.Bool.Decides.{nat_tests}
 use Rattle.mj_ast.specs.declared.sign.Sign.TheVariants.{Comma}
 use Rattle.mj_ast.specs.Syntax.{Line}
 use Rattle.mj_ast.specs.Tokens.{Token, Word, Called, Special, Digits, Quoted, Signed, Blank, Comment, Unclosed, Stray}
-use Rattle.mj_ast.specs.Expressions.{symbol, width_limit}
+use Rattle.mj_ast.specs.Expressions.{width_limit}
 use Rattle.mj_ast.specs.Commands.{greatest, step_nesting, step_width}
 use Rattle.mj_ast.specs.Lines.{SpellsLine, IsLineWithin, plain_line, BeginsLine, BeginsLineWithin, Filler, no_filler, digits_filler, word_filler, IsOverlong, HasOverlong}
 use Rattle.mj_expr.specs.Machine.{Limits}
 use Rattle.mj_expr.specs.Machine as phrase
-use Rattle.mj_expr.specs.Reads.{limits}
-use Rattle.mj_expr.proofs.Facts.{IsMore, deeper, wider}
-use Rattle.mj_line.specs.Sentences.{Clause, Sentence, SpellsSentence, sentence_of, IsWithin}
-use Rattle.mj_line.specs.Said.{IsRead, IsStuckWith, IsTooDeepWith}
-use Rattle.mj_line.specs.Machine.{Rest, Spot, Begin, Labelled, FormalsOpened, FormalWanted, FormalBehind, FormalsEnd, Indented, Behind, Over, Worded, Asked, Bare, Args, Goal, State, At, In, Next, Go, Stuck, Deep, Long, behind, rested, step, Outcome, Accept, StuckAt, DeepAt, TooLong, refused, ended, ended_at, ended_spot, ended_behind, run, turn}
-use Rattle.mj_line.proofs.Leaves.{StateLeaves, Leads, Leaves, rested_leads, RestedLeads}
+use Rattle.mj_expr.proofs.Facts.{IsMore}
+use Rattle.mj_line.specs.Sentences.{Clause, Sentence, SpellsSentence, sentence_of, IsSentenceWithin}
+use Rattle.mj_line.specs.Machine.{Rest, Spot, Begin, Labelled, FormalsOpened, FormalWanted, FormalBehind, FormalsEnd, Indented, Behind, Over, Worded, Asked, Bare, Args, Goal, State, At, In, Next, Go, Stuck, Deep, Long, behind_phrase, rested, step, Outcome, Accept, StuckAt, DeepAt, TooLong, refused, ended, ended_at, ended_spot, ended_behind, run, turn}
+use Rattle.mj_line.proofs.Leaves.{StateLeaves, Leads, Leaves}
+use Rattle.mj_line.proofs.SpotLeaves.{rested_leads, RestedLeads}
 use Rattle.mj_line.proofs.Good.{StateGood, SpotGood, state_goes, rested_good, RestGood}
-use Rattle.mj_line.proofs.Facts.{Facts, step_known, whole_leads, accept_nil, HasRoom}
-use Rattle.mj_line.proofs.Ends.{Along, along_leads, along_runs, Whole, Halts, Deepens, Lengthens, EndsAs, run_ends}
-use Rattle.mj_line.proofs.Complete.{complete_line}
-use Rattle.mj_line.proofs.Spelled.{spelled_sentence, sentence_back, line_within, sentence_within, line_once, plain_within, written_within}
-use Rattle.mj_line.proofs.Commas.{deep_stays, over_stuck, StateReached, GoReached, state_reached, line_comma, LineComma, line_easy, IsSimple, line_level}
+use Rattle.mj_line.proofs.Facts.{Facts, whole_leads, accept_nil, HasRoom}
+use Rattle.mj_line.proofs.SpotFacts.{step_known}
+use Rattle.mj_line.proofs.Ends.{Along, along_leads, along_runs, Whole, Halts, EndsAs, run_ends}
+use Rattle.mj_line.proofs.CompleteLines.{complete_line}
+use Rattle.mj_line.proofs.Spelled.{spelled_sentence, sentence_back, line_within, sentence_within, plain_within, written_within}
+use Rattle.mj_line.proofs.Commas.{over_stuck, StateReached, GoReached, state_reached, line_comma, LineComma, line_easy, IsSimple, line_level}
 
 -- ---- fronts
 
-take_front : (front back : List Token) → take (length front) (front ++ back) ≡ front
+pub take_front : (front back : List Token) → take (length front) (front ++ back) ≡ front
 take_front [] back = refl
 take_front (k ∷ ks) back = ap (λ (zs : List Token). k ∷ zs) (take_front ks back)
 
-take_at : (n : ℕ) (front : List Token) (k : Token) (back : List Token) → n ≡ length front + 1 → take n (front ++ k ∷ back) ≡ front ++ k ∷ []
+pub take_at : (n : ℕ) (front : List Token) (k : Token) (back : List Token) → n ≡ length front + 1 → take n (front ++ k ∷ back) ≡ front ++ k ∷ []
 take_at zero front k back e = absurd (omega arith)
 take_at (suc zero) [] k back e = refl
 take_at (suc (suc n)) [] k back e = absurd (omega arith)
@@ -37,16 +37,16 @@ take_at (suc n) (x ∷ xs) k back e = ap (λ (zs : List Token). x ∷ zs) (take_
 
 -- ---- what accepts
 
-same_line : (l o : Sentence) → Accept l ≡ Accept o → l ≡ o
+pub same_line : (l o : Sentence) → Accept l ≡ Accept o → l ≡ o
 same_line l o e = cc
 
-stuck_accept : (n : ℕ) (l : Sentence) → StuckAt n ≡ Accept l → ⊥
+pub stuck_accept : (n : ℕ) (l : Sentence) → StuckAt n ≡ Accept l → ⊥
 stuck_accept n l e = cc
 
-long_accept : (l : Sentence) → TooLong ≡ Accept l → ⊥
+pub long_accept : (l : Sentence) → TooLong ≡ Accept l → ⊥
 long_accept l e = cc
 
-deep_accept : (n : ℕ) (l : Sentence) → DeepAt n ≡ Accept l → ⊥
+pub deep_accept : (n : ℕ) (l : Sentence) → DeepAt n ≡ Accept l → ⊥
 deep_accept n l e = cc
 
 word_accept : (n : ℕ) (l : Sentence) (b : Bool) → cond b (StuckAt n) TooLong ≡ Accept l → ⊥
@@ -68,17 +68,26 @@ refused_accept (Stray b ∷ ks) l e = stuck_accept _ l e
 
 -- what a state that accepts has read
 abbrev Accepts : Limits → State → Sentence → Type 0
-Accepts m s l = StateLeaves s [] l × IsWithin m.depth m.width l
+Accepts m s l = StateLeaves s [] l × IsSentenceWithin m.depth m.width l
 
-rest_accepts : (m : Limits) (p : Spot) (q : Option Rest) (l : Sentence) → RestedLeads p q → RestGood m q → ended_at q ≡ Accept l → Leaves p [] l × IsWithin m.depth m.width l
+rest_accepts : (m : Limits) (p : Spot) (q : Option Rest) (l : Sentence) → RestedLeads p q → RestGood m q → ended_at q ≡ Accept l → Leaves p [] l × IsSentenceWithin m.depth m.width l
 rest_accepts m p (Some r) l h g e =
-    let P : Sentence → Type 0 = λ o. Leaves p [] o × IsWithin m.depth m.width o in
-    subst P (same_line r.line l e) (h [] r.line (record { clauses = []; whole = ap (λ (ss : List Clause). record { label = r.line.label; formals = r.line.formals; level = r.line.level; clauses = ss }) (sym (append-nil r.line.clauses)); spells = inl (0, refl) }), g)
+    let P : Sentence → Type 0 = λ o. Leaves p [] o × IsSentenceWithin m.depth m.width o in
+    subst P (same_line r.line l e) (
+      h [] r.line (record {
+        clauses = [];
+        whole =
+            ap (λ (ss : List Clause). record { label = r.line.label; formals = r.line.formals; level = r.line.level; clauses = ss })
+            (sym (append-nil r.line.clauses));
+        spells = inl (0, refl);
+      }),
+      g,
+    )
 rest_accepts m p None l h g e = absurd (stuck_accept 0 l e)
 
-spot_accepts : (m : Limits) (p : Spot) (l : Sentence) → SpotGood m p → ended_spot p ≡ Accept l → Leaves p [] l × IsWithin m.depth m.width l
+spot_accepts : (m : Limits) (p : Spot) (l : Sentence) → SpotGood m p → ended_spot p ≡ Accept l → Leaves p [] l × IsSentenceWithin m.depth m.width l
 spot_accepts m (Over o) l g e =
-    let P : Sentence → Type 0 = λ x. (x ≡ o) × IsWithin m.depth m.width x in
+    let P : Sentence → Type 0 = λ x. (x ≡ o) × IsSentenceWithin m.depth m.width x in
     let h = subst P (same_line o l e) (refl, g) in
     ((refl, h.0), h.1)
 spot_accepts m Begin l g e = rest_accepts m Begin (rested Begin) l (rested_leads Begin) (rested_good m Begin g) e
@@ -86,71 +95,81 @@ spot_accepts m (Labelled label) l g e = rest_accepts m (Labelled label) (rested 
 spot_accepts m (FormalsOpened label) l g e = absurd (stuck_accept 0 l e)
 spot_accepts m (FormalWanted label names) l g e = absurd (stuck_accept 0 l e)
 spot_accepts m (FormalBehind label names) l g e = absurd (stuck_accept 0 l e)
-spot_accepts m (FormalsEnd label names) l g e = rest_accepts m (FormalsEnd label names) (rested (FormalsEnd label names)) l (rested_leads (FormalsEnd label names)) (rested_good m (FormalsEnd label names) g) e
+spot_accepts m (FormalsEnd label names) l g e = rest_accepts m (FormalsEnd label names) (rested (FormalsEnd label names)) l
+    (rested_leads (FormalsEnd label names)) (rested_good m (FormalsEnd label names) g) e
 spot_accepts m (Indented o) l g e = rest_accepts m (Indented o) (rested (Indented o)) l (rested_leads (Indented o)) (rested_good m (Indented o) g) e
 spot_accepts m (Behind r) l g e = rest_accepts m (Behind r) (rested (Behind r)) l (rested_leads (Behind r)) (rested_good m (Behind r) g) e
 spot_accepts m (Worded o k) l g e = rest_accepts m (Worded o k) (rested (Worded o k)) l (rested_leads (Worded o k)) (rested_good m (Worded o k) g) e
 spot_accepts m (Asked o k) l g e = absurd (stuck_accept 0 l e)
 spot_accepts m (Bare o condition k) l g e = rest_accepts m (Bare o condition k) (rested (Bare o condition k)) l (rested_leads (Bare o condition k)) (rested_good m (Bare o condition k) g) e
-spot_accepts m (Args o condition k done n) l g e = rest_accepts m (Args o condition k done n) (rested (Args o condition k done n)) l (rested_leads (Args o condition k done n)) (rested_good m (Args o condition k done n) g) e
+spot_accepts m (Args o condition k done n) l g e = rest_accepts m (Args o condition k done n) (rested (Args o condition k done n)) l
+    (rested_leads (Args o condition k done n)) (rested_good m (Args o condition k done n) g) e
 
-phrase_accepts : (m : Limits) (g : Goal) (s : phrase.State) (o : phrase.Outcome) (l : Sentence) → 1 ≤ m.depth → StateGood m (In g s) → phrase.finish s [] ≡ o → ended_behind g o ≡ Accept l → StateLeaves (In g s) [] l × IsWithin m.depth m.width l
+phrase_accepts : (m : Limits) (g : Goal) (s : phrase.State) (o : phrase.Outcome) (l : Sentence) → 1 ≤ m.depth → StateGood m (In g s) → phrase.finish s [] ≡ o →
+    ended_behind g o ≡ Accept l → StateLeaves (In g s) [] l × IsSentenceWithin m.depth m.width l
 phrase_accepts m g s (phrase.Accept p r) l d i e f =
     let w = whole_leads m g s p d i (accept_nil s p r e) in
-    let h = spot_accepts m (behind g p) l w.1 f in
+    let h = spot_accepts m (behind_phrase g p) l w.1 f in
     (w.0 [] l h.0, h.1)
 phrase_accepts m g s (phrase.StuckAt n) l d i e f = absurd (stuck_accept 0 l f)
 phrase_accepts m g s (phrase.DeepAt n) l d i e f = absurd (stuck_accept 0 l f)
 phrase_accepts m g s phrase.TooLong l d i e f = absurd (stuck_accept 0 l f)
 
-state_accepts : (m : Limits) (s : State) (l : Sentence) → 1 ≤ m.depth → StateGood m s → ended s ≡ Accept l → StateLeaves s [] l × IsWithin m.depth m.width l
+pub state_accepts : (m : Limits) (s : State) (l : Sentence) → 1 ≤ m.depth → StateGood m s → ended s ≡ Accept l → StateLeaves s [] l × IsSentenceWithin m.depth m.width l
 state_accepts m (At p) l d g e = spot_accepts m p l g e
 state_accepts m (In g s) l d i e = phrase_accepts m g s (phrase.finish s []) l d i refl e
 
 -- ---- lines of the grammar
 
 -- limits that the line is within too
-abbrev bigger : Limits → Line → Limits
+abbrev pub bigger : Limits → Line → Limits
 bigger m l = record { depth = max m.depth (greatest step_nesting l.steps); width = max m.width (greatest step_width l.steps) }
 
-more_bigger : (m : Limits) (l : Line) → IsMore m (bigger m l)
+pub more_bigger : (m : Limits) (l : Line) → IsMore m (bigger m l)
 more_bigger m l = record { depth = omega arith; width = omega arith }
 
 -- a line that is spelled is read
-read_line : (n : Limits) (ks : List Token) (l : Line) (s : SpellsLine ks l) → IsLineWithin n.depth n.width l → run n ks (At Begin) ≡ Accept (sentence_of s.0)
+pub read_line : (n : Limits) (ks : List Token) (l : Line) (s : SpellsLine ks l) → IsLineWithin n.depth n.width l → run n ks (At Begin) ≡ Accept (sentence_of s.0)
 read_line n ks l s w = complete_line n ks (sentence_of s.0) (spelled_sentence ks s.0 s.1) (sentence_within n.depth n.width s.0 (written_within n.depth n.width s.0 l s.2 w))
 
-accepted : (m : Limits) (ks : List Token) (l : Line) (s : SpellsLine ks l) → run (bigger m l) ks (At Begin) ≡ Accept (sentence_of s.0)
+pub accepted : (m : Limits) (ks : List Token) (l : Line) (s : SpellsLine ks l) → run (bigger m l) ks (At Begin) ≡ Accept (sentence_of s.0)
 accepted m ks l s =
     let n = bigger m l in
     read_line n ks l s (record { nests = omega arith; lists = omega arith })
 
 -- what was read begins a line
-began : (m : Limits) (front : List Token) (s : State) → HasRoom m → Leads (At Begin) front s → StateGood m s → BeginsLineWithin m.depth m.width front
+pub began : (m : Limits) (front : List Token) (s : State) → HasRoom m → Leads (At Begin) front s → StateGood m s → BeginsLineWithin m.depth m.width front
 began m front s d h g =
     let r = state_goes m s d.depth g in
     let b = sentence_back (front ++ r.rest) r.line (h r.rest r.line r.leaves) in
-    let P : Sentence → Type 0 = λ x. IsWithin m.depth m.width x in
-    record { rest = r.rest; line = plain_line b.line; spells = (b.line, b.spells, refl); within = plain_within m.depth m.width b.line (line_within m.depth m.width b.line (subst P (sym b.made) r.within)) }
+    let P : Sentence → Type 0 = λ x. IsSentenceWithin m.depth m.width x in
+    record {
+      rest = r.rest;
+      line = plain_line b.line;
+      spells = (b.line, b.spells, refl);
+      within =
+          plain_within m.depth m.width b.line (line_within m.depth m.width b.line (subst P (sym b.made) r.within));
+    }
 
 -- along the front from the beginning
-came : (m : Limits) (front : List Token) (s : State) → Along m (At Begin) front s → Leads (At Begin) front s × StateGood m s
+pub came : (m : Limits) (front : List Token) (s : State) → Along m (At Begin) front s → Leads (At Begin) front s × StateGood m s
 came m front s a = along_leads m front (At Begin) s a tt
 
 -- a front with one more token, and what follows
-front_at : (front : List Token) (k : Token) (rest : List Token) → (front ++ k ∷ []) ++ rest ≡ front ++ k ∷ rest
+pub front_at : (front : List Token) (k : Token) (rest : List Token) → (front ++ k ∷ []) ++ rest ≡ front ++ k ∷ rest
 front_at front k rest = append_assoc front (k ∷ []) rest
 
 -- with the token at which it halts, nothing begins a line
-none_begins : (m : Limits) (front : List Token) (k : Token) (s : State) → Along m (At Begin) front s → ((l : Limits) → IsMore m l → step l s k ≡ Stuck) → BeginsLine (front ++ k ∷ []) → ⊥
+pub none_begins : (m : Limits) (front : List Token) (k : Token) (s : State) → Along m (At Begin) front s → ((l : Limits) → IsMore m l → step l s k ≡ Stuck) → BeginsLine (front ++ k ∷ []) → ⊥
 none_begins m front k s a h b =
     let l = bigger m b.line in
     refused_accept (k ∷ b.rest) (sentence_of b.spells.0)
-    (sym (ap (λ (zs : List Token). run l zs (At Begin)) (front_at front k b.rest) ∙ along_runs m l front (k ∷ b.rest) (At Begin) s a (more_bigger m b.line) ∙ ap (turn l b.rest k) (h l (more_bigger m b.line)))
+    (sym (ap (λ (zs : List Token). run l zs (At Begin)) (front_at front k b.rest) ∙ along_runs m l front (k ∷ b.rest) (At Begin) s a (more_bigger m b.line) ∙
+    ap (turn l b.rest k) (h l (more_bigger m b.line)))
     ∙ accepted m ((front ++ k ∷ []) ++ b.rest) b.line b.spells)
 
 -- a line begins with each of its fronts
-begins_front : (front back : List Token) (l : Line) → SpellsLine (front ++ back) l → BeginsLine front
+pub begins_front : (front back : List Token) (l : Line) → SpellsLine (front ++ back) l → BeginsLine front
 begins_front front back l s = record { rest = back; line = l; spells = s }
 
 shorter_front : (front back : List Token) → BeginsLine (front ++ back) → BeginsLine front
@@ -225,7 +244,8 @@ two_at : (f : List Token) (x k : Token) (rest : List Token) → (f ++ (x ∷ k �
 two_at f x k rest = append_assoc f (x ∷ k ∷ []) rest
 
 -- what the second step does
-second : (m l : Limits) (f : List Token) (s t : State) (x : Token) (n : Next) → HasRoom l → Along l (At Begin) f s → Facts l s x (λ j. step j s x) (Go t) → step l t (Signed Comma) ≡ n → Facts l t (Signed Comma) (λ j. step j t (Signed Comma)) n → (n ≡ Long → ⊥) →
+second : (m l : Limits) (f : List Token) (s t : State) (x : Token) (n : Next) → HasRoom l → Along l (At Begin) f s → Facts l s x (λ j. step j s x) (Go t) →
+    step l t (Signed Comma) ≡ n → Facts l t (Signed Comma) (λ j. step j t (Signed Comma)) n → (n ≡ Long → ⊥) →
     BeginsLine (f ++ (x ∷ Signed Comma ∷ [])) → ((depth : ℕ) → BeginsLineWithin depth l.width (f ++ (x ∷ Signed Comma ∷ [])) → ⊥) → ⊥
 second m l f s t x (Go u) d a g e h j b c =
     let r = came l f s a in
@@ -233,7 +253,8 @@ second m l f s t x (Go u) d a g e h j b c =
     let q = h.0 p.1 in
     let P : List Token → Type 0 = λ zs. BeginsLineWithin l.depth l.width zs in
     c l.depth (began l (f ++ (x ∷ Signed Comma ∷ [])) u d
-    (λ rest o z. let Q : List Token → Type 0 = λ zs. SpellsSentence zs o in subst Q (sym (two_at f x (Signed Comma) rest)) (r.0 (x ∷ Signed Comma ∷ rest) o (p.0 (Signed Comma ∷ rest) o (q.0 rest o z))))
+    (λ rest o z. let Q : List Token → Type 0 = λ zs. SpellsSentence zs o in
+    subst Q (sym (two_at f x (Signed Comma) rest)) (r.0 (x ∷ Signed Comma ∷ rest) o (p.0 (Signed Comma ∷ rest) o (q.0 rest o z))))
     q.1)
 second m l f s t x Stuck d a g e h j b c =
     let z = bigger l b.line in
@@ -247,7 +268,8 @@ second m l f s t x Deep d a g e h j b c = line_level l t e
 second m l f s t x Long d a g e h j b c = j refl
 
 -- a word or number before the comma
-one_filler : (m l : Limits) (f : List Token) (s : State) (x : Token) (more : List Token) (n : Next) → IsMore m l → HasRoom l → Along l (At Begin) f s → Turns m s (Signed Comma) more → step l s x ≡ n → IsSimple n → LineComma l s n → Facts l s x (λ j. step j s x) n →
+one_filler : (m l : Limits) (f : List Token) (s : State) (x : Token) (more : List Token) (n : Next) → IsMore m l → HasRoom l → Along l (At Begin) f s →
+    Turns m s (Signed Comma) more → step l s x ≡ n → IsSimple n → LineComma l s n → Facts l s x (λ j. step j s x) n →
     BeginsLine (f ++ (x ∷ Signed Comma ∷ [])) → ((depth : ℕ) → BeginsLineWithin depth l.width (f ++ (x ∷ Signed Comma ∷ [])) → ⊥) → ⊥
 one_filler m l f s x more (Go t) i w a g e h j k b c = second m l f s t x (step l t (Signed Comma)) w a k refl (step_known l t (Signed Comma) w) (λ z. not_long m l s (Signed Comma) more i g (j z)) b c
 one_filler m l f s x more Stuck i w a g e h j k b c =
@@ -256,18 +278,21 @@ one_filler m l f s x more Stuck i w a g e h j k b c =
 one_filler m l f s x more Deep i w a g e h j k b c = h
 one_filler m l f s x more Long i w a g e h j k b c = h
 
-a_filler : (m : Limits) (f : List Token) (s : State) (x : Token) (more : List Token) → HasRoom m → m.width ≡ 31 → Along m (At Begin) f s → Turns m s (Signed Comma) more → IsSimple (step m s x) → LineComma m s (step m s x) →
+a_filler : (m : Limits) (f : List Token) (s : State) (x : Token) (more : List Token) → HasRoom m → m.width ≡ 31 → Along m (At Begin) f s →
+    Turns m s (Signed Comma) more → IsSimple (step m s x) → LineComma m s (step m s x) →
     BeginsLine (f ++ (x ∷ Signed Comma ∷ [])) → ((depth : ℕ) → BeginsLineWithin depth width_limit (f ++ (x ∷ Signed Comma ∷ [])) → ⊥) → ⊥
 a_filler m f s x more d w a g h j b c =
     one_filler m m f s x more (step m s x) (record { depth = omega arith; width = omega arith }) d a g refl h j (step_known m s x d) b
     (λ i y. c i (record { rest = y.rest; line = y.line; spells = y.spells; within = record { nests = y.within.nests; lists = let z = y.within.lists in omega arith } }))
 
-no_comma : (m : Limits) (f : List Token) (s : State) (more fill : List Token) → HasRoom m → m.width ≡ 31 → Along m (At Begin) f s → Turns m s (Signed Comma) more → Filler fill → BeginsLine (f ++ (fill ++ Signed Comma ∷ [])) →
+no_comma : (m : Limits) (f : List Token) (s : State) (more fill : List Token) → HasRoom m → m.width ≡ 31 → Along m (At Begin) f s →
+    Turns m s (Signed Comma) more → Filler fill → BeginsLine (f ++ (fill ++ Signed Comma ∷ [])) →
     ((depth : ℕ) → BeginsLineWithin depth width_limit (f ++ (fill ++ Signed Comma ∷ [])) → ⊥) → ⊥
 no_comma m f s more _ d w a (inl g) no_filler b c =
     let r = came m f s a in
     let p = g.1.0 r.1 in
-    let y = began m (f ++ Signed Comma ∷ []) g.0 d (λ rest o z. let Q : List Token → Type 0 = λ zs. SpellsSentence zs o in subst Q (sym (front_at f (Signed Comma) rest)) (r.0 (Signed Comma ∷ rest) o (p.0 rest o z))) p.1 in
+    let y = began m (f ++ Signed Comma ∷ []) g.0 d (λ rest o z. let Q : List Token → Type 0 = λ zs. SpellsSentence zs o in
+    subst Q (sym (front_at f (Signed Comma) rest)) (r.0 (Signed Comma ∷ rest) o (p.0 rest o z))) p.1 in
     c m.depth (record { rest = y.rest; line = y.line; spells = y.spells; within = record { nests = y.within.nests; lists = let z = y.within.lists in omega arith } })
 no_comma m f s more _ d w a (inr g) no_filler b c = none_begins m f (Signed Comma) s a g.0 b
 no_comma m f s more _ d w a g digits_filler b c =
@@ -311,12 +336,15 @@ stands [] back (y ∷ z) k r e = inr (inr (y, z, z ++ k ∷ r, refl, e))
 stands (x ∷ xs) back [] k r e = inl (xs, ap (λ (y : Token). y ∷ xs) (heads x k (xs ++ back) r e))
 stands (x ∷ xs) back (y ∷ ys) k r e = stands_on x y xs back ys k r (heads x y (xs ++ back) (ys ++ k ∷ r) e) (stands xs back ys k r (tails x y (xs ++ back) (ys ++ k ∷ r) e))
   where
-    stands_on : (x y : Token) (xs back ys : List Token) (k : Token) (r : List Token) → x ≡ y → Within xs back ys k r ⊎ (Beside xs back ys k r ⊎ Beyond xs back ys k r) → Within (x ∷ xs) back (y ∷ ys) k r ⊎ (Beside (x ∷ xs) back (y ∷ ys) k r ⊎ Beyond (x ∷ xs) back (y ∷ ys) k r)
+    stands_on : (x y : Token) (xs back ys : List Token) (k : Token) (r : List Token) → x ≡ y →
+        Within xs back ys k r ⊎ (Beside xs back ys k r ⊎ Beyond xs back ys k r) →
+        Within (x ∷ xs) back (y ∷ ys) k r ⊎ (Beside (x ∷ xs) back (y ∷ ys) k r ⊎ Beyond (x ∷ xs) back (y ∷ ys) k r)
     stands_on x y xs back ys k r e (inl h) = inl (h.0, ap (λ (z : Token). z ∷ xs) e ∙ ap (λ (zs : List Token). y ∷ zs) h.1)
     stands_on x y xs back ys k r e (inr (inl h)) = inr (inl (ap (λ (z : Token). z ∷ ys) (sym e) ∙ ap (λ (zs : List Token). x ∷ zs) h.0, h.1))
     stands_on x y xs back ys k r e (inr (inr h)) = inr (inr (h.0, h.1, h.2, ap (λ (z : Token). z ∷ ys) (sym e) ∙ ap (λ (zs : List Token). x ∷ zs) h.3, h.4))
 
-clean_at : (m : Limits) (ks : List Token) (c : Clean m ks) (h : HasOverlong ks) → HasRoom m → m.width ≡ 31 → Within c.front c.back h.front h.token h.rest ⊎ (Beside c.front c.back h.front h.token h.rest ⊎ Beyond c.front c.back h.front h.token h.rest) → ⊥
+clean_at : (m : Limits) (ks : List Token) (c : Clean m ks) (h : HasOverlong ks) → HasRoom m → m.width ≡ 31 →
+    Within c.front c.back h.front h.token h.rest ⊎ (Beside c.front c.back h.front h.token h.rest ⊎ Beyond c.front c.back h.front h.token h.rest) → ⊥
 clean_at m ks c h d w (inl p) =
     let A : List Token → Type 0 = λ zs. Along m (At Begin) zs c.end in
     let a = along_cut m h.front (h.token ∷ p.0) (At Begin) c.end (subst A p.1 c.along) in
@@ -335,7 +363,7 @@ no_overlong m ks d w c h = clean_at m ks c h d w (stands c.front c.back h.front 
 clean_whole : (m : Limits) (ks : List Token) (o : Outcome) → Whole m (At Begin) ks o → Clean m ks
 clean_whole m ks o h = record { front = ks; back = []; end = h.end; cut = sym (append-nil ks); along = h.along; stops = λ k more e. absurd (nil_cons k more e) }
 
-stuck_toolong : (n : ℕ) → StuckAt n ≡ TooLong → ⊥
+pub stuck_toolong : (n : ℕ) → StuckAt n ≡ TooLong → ⊥
 stuck_toolong n e = cc
 
 clean_halts : (m : Limits) (ks : List Token) (n : ℕ) → Halts m (At Begin) ks (StuckAt n) → Clean m ks
@@ -356,10 +384,10 @@ clean_stuck : (m : Limits) (ks : List Token) (n : ℕ) → EndsAs m (At Begin) k
 clean_stuck m ks n (inl h) = clean_whole m ks (StuckAt n) h
 clean_stuck m ks n (inr h) = clean_halts m ks n h
 
-ends_as : (m : Limits) (ks : List Token) (o : Outcome) → HasRoom m → run m ks (At Begin) ≡ o → EndsAs m (At Begin) ks o
+pub ends_as : (m : Limits) (ks : List Token) (o : Outcome) → HasRoom m → run m ks (At Begin) ≡ o → EndsAs m (At Begin) ks o
 ends_as m ks o w e = let P : Outcome → Type 0 = λ x. EndsAs m (At Begin) ks x in subst P e (run_ends ks m (At Begin) w)
 
-roomy : (m : Limits) → 1 ≤ m.depth → m.width ≡ 31 → HasRoom m
+pub roomy : (m : Limits) → 1 ≤ m.depth → m.width ≡ 31 → HasRoom m
 roomy m d w = record { depth = d; width = omega arith }
 
 pub short_accept : (m : Limits) (ks : List Token) (l : Sentence) → 1 ≤ m.depth → m.width ≡ 31 → run m ks (At Begin) ≡ Accept l → HasOverlong ks → ⊥
@@ -367,226 +395,3 @@ short_accept m ks l d w e = no_overlong m ks (roomy m d w) w (clean_whole m ks (
 
 pub short_stuck : (m : Limits) (ks : List Token) (n : ℕ) → 1 ≤ m.depth → m.width ≡ 31 → run m ks (At Begin) ≡ StuckAt n → HasOverlong ks → ⊥
 short_stuck m ks n d w e = no_overlong m ks (roomy m d w) w (clean_stuck m ks n (ends_as m ks (StuckAt n) (roomy m d w) e))
-
--- ---- READ
-
-same_lines : (m : Limits) (ks : List Token) (l o : Line) → SpellsLine ks l → SpellsLine ks o → o ≡ l
-same_lines m ks l o s t =
-    let n : Limits = record { depth = max (greatest step_nesting l.steps) (greatest step_nesting o.steps); width = max (greatest step_width l.steps) (greatest step_width o.steps) } in
-    sym t.2
-    ∙ ap (λ (x : Line). plain_line x) (line_once ks t.0 s.0 t.1 (same_line (sentence_of t.0) (sentence_of s.0)
-    (sym (read_line n ks o t (record { nests = omega arith; lists = omega arith }))
-    ∙ read_line n ks l s (record { nests = omega arith; lists = omega arith }))))
-    ∙ s.2
-
-limits_room : HasRoom (limits 64)
-limits_room = record { depth = omega arith; width = omega arith }
-
--- the line of these commands
-pub said_read : (ks : List Token) (x : Sentence) (w l : Line) → sentence_of w ≡ x → plain_line w ≡ l → run (limits 64) ks (At Begin) ≡ Accept x → IsRead ks l
-said_read ks x v l i z e =
-    let m = limits 64 in
-    let h = ends_as m ks (Accept x) limits_room e in
-    let r = came m ks h.end h.along in
-    let a = state_accepts m h.end x limits_room.depth r.1 h.gives in
-    let P : List Token → Type 0 = λ zs. SpellsSentence zs x in
-    let b = sentence_back ks x (subst P (append-nil ks) (r.0 [] x a.0)) in
-    let Q : Line → Type 0 = λ o. IsLineWithin 64 31 o in
-    let W : Sentence → Type 0 = λ o. IsWithin 64 31 o in
-    let s : SpellsLine ks l = (b.line, b.spells, ap (λ (y : Line). plain_line y) (line_once ks b.line v b.spells (b.made ∙ sym i)) ∙ z) in
-    record { spells = s; within = subst Q z (plain_within 64 31 v (line_within 64 31 v (subst W (sym i) a.1))); only = λ o t. same_lines m ks l o s t; short = short_accept m ks x limits_room.depth refl e }
-
--- ---- STUCK
-
-word_stuck_at : (i n : ℕ) (b : Bool) → cond b (StuckAt i) TooLong ≡ StuckAt n → i ≡ n
-word_stuck_at i n true e = cc
-word_stuck_at i n false e = absurd (stuck_toolong n (sym e))
-
-stuck_left : (ks : List Token) (n : ℕ) → refused ks ≡ StuckAt n → length ks ≡ n
-stuck_left [] n e = cc
-stuck_left (Word w ∷ ks) n e = word_stuck_at (length (Word w ∷ ks)) n (nat_le (length w) 31) e
-stuck_left (Digits d ∷ ks) n e = cc
-stuck_left (Quoted q ∷ ks) n e = cc
-stuck_left (Signed s ∷ ks) n e = cc
-stuck_left (Blank ∷ ks) n e = cc
-stuck_left (Comment t ∷ ks) n e = cc
-stuck_left (Unclosed t ∷ ks) n e = cc
-stuck_left (Called w ∷ ks) n e = word_stuck_at (length (Called w ∷ ks)) n (nat_le (length w) 31) e
-stuck_left (Special w ∷ ks) n e = word_stuck_at (length (Special w ∷ ks)) n (nat_le (length w) 31) e
-stuck_left (Stray b ∷ ks) n e = cc
-
-halts_stuck : (ks : List Token) (n : ℕ) → Halts (limits 64) (At Begin) ks (StuckAt n) → (HasOverlong ks → ⊥) → IsStuckWith ks n
-halts_stuck ks n h short =
-    let m = limits 64 in
-    let r = came m h.front h.end h.along in
-    let k = length h.front in
-    let all = ap (length {A = Token}) h.cut in
-    let parts = length-append h.front (h.token ∷ h.back) in
-    let first : take k ks ≡ h.front = ap (take k) h.cut ∙ take_front h.front (h.token ∷ h.back) in
-    let more : take (k + 1) ks ≡ h.front ++ h.token ∷ [] = ap (take (k + 1)) h.cut ∙ take_at (k + 1) h.front h.token h.back refl in
-    let W : List Token → Type 0 = λ zs. BeginsLineWithin 64 31 zs in
-    let B : List Token → Type 0 = λ zs. BeginsLine zs in
-    let S : List Token → Type 0 = λ zs. BeginsLine zs → ⊥ in
-    let none : BeginsLine (h.front ++ h.token ∷ []) → ⊥ = none_begins m h.front h.token h.end h.along h.stuck in
-    record {
-      place = k;
-      left_is = let z = stuck_left (h.token ∷ h.back) n h.gives in omega arith;
-      stuck = record {
-        inside = omega arith;
-        before = subst W (sym first) (began m h.front h.end limits_room r.0 r.1);
-        at = λ i. subst S (sym more) none;
-        whole = λ l s. none (begins_front (h.front ++ h.token ∷ []) h.back l (let P : List Token → Type 0 = λ zs. SpellsLine zs l in subst P (h.cut ∙ sym (front_at h.front h.token h.back)) s));
-      };
-      short = short;
-    }
-
-rest_stuck : (q : Option Rest) (n : ℕ) → ended_at q ≡ StuckAt n → n ≡ 0
-rest_stuck (Some r) n e = absurd (stuck_accept n r.line (sym e))
-rest_stuck None n e = cc
-
-spot_stuck : (p : Spot) (n : ℕ) → ended_spot p ≡ StuckAt n → n ≡ 0
-spot_stuck (Over l) n e = absurd (stuck_accept n l (sym e))
-spot_stuck Begin n e = rest_stuck (rested Begin) n e
-spot_stuck (Labelled label) n e = rest_stuck (rested (Labelled label)) n e
-spot_stuck (FormalsOpened label) n e = rest_stuck None n e
-spot_stuck (FormalWanted label names) n e = rest_stuck None n e
-spot_stuck (FormalBehind label names) n e = rest_stuck None n e
-spot_stuck (FormalsEnd label names) n e = rest_stuck (rested (FormalsEnd label names)) n e
-spot_stuck (Indented l) n e = rest_stuck (rested (Indented l)) n e
-spot_stuck (Behind r) n e = rest_stuck (Some r) n e
-spot_stuck (Worded o k) n e = rest_stuck (rested (Worded o k)) n e
-spot_stuck (Asked o k) n e = rest_stuck None n e
-spot_stuck (Bare o condition k) n e = rest_stuck (rested (Bare o condition k)) n e
-spot_stuck (Args o condition k done x) n e = rest_stuck (rested (Args o condition k done x)) n e
-
-behind_stuck : (g : Goal) (o : phrase.Outcome) (n : ℕ) → ended_behind g o ≡ StuckAt n → n ≡ 0
-behind_stuck g (phrase.Accept p r) n e = spot_stuck (behind g p) n e
-behind_stuck g (phrase.StuckAt i) n e = cc
-behind_stuck g (phrase.DeepAt i) n e = cc
-behind_stuck g phrase.TooLong n e = cc
-
-ended_stuck : (s : State) (n : ℕ) → ended s ≡ StuckAt n → n ≡ 0
-ended_stuck (At p) n e = spot_stuck p n e
-ended_stuck (In g s) n e = behind_stuck g (phrase.finish s []) n e
-
--- all tokens were read, and are no line
-whole_none : (m : Limits) (ks : List Token) (n : ℕ) → Whole m (At Begin) ks (StuckAt n) → (l : Line) → SpellsLine ks l → ⊥
-whole_none m ks n h l s =
-    let z = bigger m l in
-    stuck_accept n (sentence_of s.0) (sym (ap (λ (zs : List Token). run z zs (At Begin)) (sym (append-nil ks)) ∙ along_runs m z ks [] (At Begin) h.end h.along (more_bigger m l) ∙ h.gives) ∙ accepted m ks l s)
-
-whole_stuck : (ks : List Token) (n : ℕ) → Whole (limits 64) (At Begin) ks (StuckAt n) → (HasOverlong ks → ⊥) → IsStuckWith ks n
-whole_stuck ks n h short =
-    let m = limits 64 in
-    let r = came m ks h.end h.along in
-    let first : take (length ks) ks ≡ ks = ap (take (length ks)) (sym (append-nil ks)) ∙ take_front ks [] in
-    let W : List Token → Type 0 = λ zs. BeginsLineWithin 64 31 zs in
-    record {
-      place = length ks;
-      left_is = let z = ended_stuck h.end n h.gives in omega arith;
-      stuck = record {
-        inside = omega arith;
-        before = subst W (sym first) (began m ks h.end limits_room r.0 r.1);
-        at = λ i. absurd (omega arith);
-        whole = whole_none m ks n h;
-      };
-      short = short;
-    }
-
-stuck_as : (ks : List Token) (n : ℕ) → EndsAs (limits 64) (At Begin) ks (StuckAt n) → (HasOverlong ks → ⊥) → IsStuckWith ks n
-stuck_as ks n (inl h) short = whole_stuck ks n h short
-stuck_as ks n (inr h) short = halts_stuck ks n h short
-
-pub said_stuck : (ks : List Token) (n : ℕ) → run (limits 64) ks (At Begin) ≡ StuckAt n → IsStuckWith ks n
-said_stuck ks n e = stuck_as ks n (ends_as (limits 64) ks (StuckAt n) limits_room e) (short_stuck (limits 64) ks n limits_room.depth refl e)
-
--- ---- DEEP
-
-pub said_deep : (ks : List Token) (n : ℕ) → run (limits 64) ks (At Begin) ≡ DeepAt n → IsTooDeepWith ks n
-said_deep ks n e =
-    let m = limits 64 in
-    let h : Deepens m (At Begin) ks n = ends_as m ks (DeepAt n) limits_room e in
-    let r = came m h.front h.end h.along in
-    let k = length h.front in
-    let all = ap (length {A = Token}) h.cut in
-    let parts = length-append h.front (h.token ∷ h.back) in
-    let first : take k ks ≡ h.front = ap (take k) h.cut ∙ take_front h.front (h.token ∷ h.back) in
-    let more : take (k + 1) ks ≡ h.front ++ h.token ∷ [] = ap (take (k + 1)) h.cut ∙ take_at (k + 1) h.front h.token h.back refl in
-    let W : List Token → Type 0 = λ zs. BeginsLineWithin 64 31 zs in
-    let B : List Token → Type 0 = λ zs. BeginsLine zs in
-    let S : List Token → Type 0 = λ zs. (width : ℕ) → BeginsLineWithin 64 width zs → ⊥ in
-    let o = h.opened r.1 in
-    let d = began (deeper (symbol h.token) m) (h.front ++ h.token ∷ []) o.0 (record { depth = omega arith; width = omega arith }) (λ rest l z. let Q : List Token → Type 0 = λ zs. SpellsSentence zs l in subst Q (sym (front_at h.front h.token rest)) (r.0 (h.token ∷ rest) l (o.1 rest l z))) o.2 in
-    let beyond : (width : ℕ) → BeginsLineWithin 64 width (h.front ++ h.token ∷ []) → ⊥ = λ width b.
-    let l : Limits = record { depth = 64; width = max 31 width } in
-    deep_accept (length (h.token ∷ b.rest)) (sentence_of b.spells.0)
-    (sym (ap (λ (zs : List Token). run l zs (At Begin)) (front_at h.front h.token b.rest)
-    ∙ along_runs m l h.front (h.token ∷ b.rest) (At Begin) h.end h.along (record { depth = omega arith; width = omega arith })
-    ∙ ap (turn l b.rest h.token) (deep_stays m l h.end h.token refl h.steps))
-    ∙ read_line l ((h.front ++ h.token ∷ []) ++ b.rest) b.line b.spells (record { nests = b.within.nests; lists = let z = b.within.lists in omega arith })) in
-    record {
-      place = k;
-      left_is = let z = h.left in omega arith;
-      deep = record {
-        inside = omega arith;
-        before = subst W (sym first) (began m h.front h.end limits_room r.0 r.1);
-        at = subst B (sym more) (record { rest = d.rest; line = d.line; spells = d.spells });
-        beyond = subst S (sym more) beyond;
-      };
-    }
-
--- ---- LONG
-
-word_long : (i : ℕ) (w : List ℕ) (b : Bool) → nat_le (length w) 31 ≡ b → cond b (StuckAt i) TooLong ≡ TooLong → 31 < length w
-word_long i w true f e = absurd (stuck_toolong i e)
-word_long i w false f e = grind (arith, nat_tests)
-
-long_token : (k : Token) (ks front : List Token) → refused (k ∷ ks) ≡ TooLong → IsOverlong front k
-long_token (Word w) ks front e = word_long (length (Word w ∷ ks)) w (nat_le (length w) 31) refl e
-long_token (Digits d) ks front e = absurd (stuck_toolong _ e)
-long_token (Quoted q) ks front e = absurd (stuck_toolong _ e)
-long_token (Signed s) ks front e = absurd (stuck_toolong _ e)
-long_token Blank ks front e = absurd (stuck_toolong _ e)
-long_token (Comment t) ks front e = absurd (stuck_toolong _ e)
-long_token (Unclosed t) ks front e = absurd (stuck_toolong _ e)
-long_token (Called w) ks front e = word_long (length (Called w ∷ ks)) w (nat_le (length w) 31) refl e
-long_token (Special w) ks front e = word_long (length (Special w ∷ ks)) w (nat_le (length w) 31) refl e
-long_token (Stray b) ks front e = absurd (stuck_toolong _ e)
-
-as_begins : (depth width : ℕ) (ks : List Token) → BeginsLineWithin depth width ks → BeginsLine ks
-as_begins depth width ks b = record { rest = b.rest; line = b.line; spells = b.spells }
-
-long_as : (m : Limits) (ks : List Token) → HasRoom m → m.width ≡ 31 → Halts m (At Begin) ks TooLong ⊎ Lengthens m (At Begin) ks → HasOverlong ks
-long_as m ks d w (inl h) =
-    let r = came m h.front h.end h.along in
-    record { front = h.front; token = h.token; rest = h.back; cut = h.cut; begins = as_begins m.depth m.width h.front (began m h.front h.end d r.0 r.1); overlong = long_token h.token h.back h.front h.gives }
-long_as m ks i w (inr h) =
-    let r = came m h.front h.end h.along in
-    let f = h.long.filler in
-    let o = h.long.opened r.1 in
-    let d = began (wider m) (h.front ++ (f ++ h.token ∷ [])) o.0 (record { depth = i.depth; width = omega arith }) (λ rest l z. let Q : List Token → Type 0 = λ zs. SpellsSentence zs l in subst Q (sym (append_assoc h.front (f ++ h.token ∷ []) rest)) (r.0 ((f ++ h.token ∷ []) ++ rest) l (o.1 rest l z))) o.2 in
-    let B : Token → Type 0 = λ k. BeginsLine (h.front ++ (f ++ k ∷ [])) in
-    let O : Token → Type 0 = λ k. IsOverlong h.front k in
-    record {
-      front = h.front;
-      token = h.token;
-      rest = h.back;
-      cut = h.cut;
-      begins = as_begins m.depth m.width h.front (began m h.front h.end i r.0 r.1);
-      overlong = subst O (sym h.long.comma) (record {
-        filler = f;
-        fills = h.long.fills;
-        begins = subst B h.long.comma (as_begins (m.depth) (m.width + 1) _ d);
-        too_long = λ depth b.
-            let l : Limits = record { depth = max m.depth depth; width = m.width } in
-            long_accept (sentence_of b.spells.0)
-            (sym (ap (λ (zs : List Token). run l zs (At Begin)) (append_assoc h.front (f ++ Signed Comma ∷ []) b.rest ∙ ap (λ (zs : List Token). h.front ++ zs) (append_assoc f (Signed Comma ∷ []) b.rest))
-            ∙ along_runs m l h.front (f ++ Signed Comma ∷ b.rest) (At Begin) h.end h.along (record { depth = omega arith; width = omega arith })
-            ∙ ap (λ (k : Token). run l (f ++ k ∷ b.rest) h.end) (sym h.long.comma)
-            ∙ h.long.local l b.rest (omega arith) refl)
-            ∙ read_line l ((h.front ++ (f ++ Signed Comma ∷ [])) ++ b.rest) b.line b.spells (record { nests = let z = b.within.nests in omega arith; lists = let z = b.within.lists in omega arith }));
-      });
-    }
-
-pub said_long : (m : Limits) (ks : List Token) → 1 ≤ m.depth → m.width ≡ 31 → run m ks (At Begin) ≡ TooLong → HasOverlong ks
-said_long m ks d w e = long_as m ks (roomy m d w) w (ends_as m ks TooLong (roomy m d w) e)

@@ -3,7 +3,7 @@ use Rattle.std.proofs.Common.{◌≡◌, ℕ, ◌≤◌, nat_le, List, [], ◌�
 use Rattle.std.specs.Prelude.{◌&&◌, ◌||◌}
 use Rattle.std.proofs.lemmas.Bool.Decides.{nat_tests}
 use Rattle.mj_ast.specs.declared.sign.Sign.TheVariants.{Equals, Comma, Colon, Open, Close}
-use Rattle.mj_ast.specs.declared.routine.Mark.{Mark}
+use Rattle.mj_ast.specs.declared.routine.FormatMark.{FormatMark}
 use Rattle.mj_ast.specs.declared.routine.LockMode.{LockMode}
 use Rattle.mj_ast.specs.declared.routine.Serial.{Serial}
 use Rattle.mj_ast.specs.Syntax.{Expr, Exprs, Variable, Destination, Plain, Pieces, Targets, One, Several, Assignment, Killed, Spared, Merged, Layout, Format, Arranged, Opened, Called, Locked, LockNames, Lone, Together, Range, Renewed, Kept, Restartable}
@@ -11,7 +11,8 @@ use Rattle.mj_ast.specs.Expressions.{count}
 use Rattle.mj_ast.specs.Commands.{Part, Put, Named, SerialWord, PieceCall, Text, serial_parts, restartable_parts, Place, Control, with_commas, behind_commas, value_parts, routine_parts, entry_parts, guard_parts, actual_parts, actuals_parts, mode_parts, variable_parts, lock_names_parts, locked_parts, range_parts, renewed_parts, is_local, is_bare, is_entry, is_called, are_lock_names, is_locked, is_renewed, more_parts, destination_parts, targets_parts, assignment_parts, mark_part, column_parts, layout_parts, wait_parts, opened_parts, name_parts, killed_parts, merged_parts, has_items, every, is_destination, are_targets, is_assignment, is_there, is_layout, is_killed}
 use Rattle.mj_line.specs.Forms.{Mode, Calls, Jumps, Starts, colon_at, is_optional, Node, SetTarget, PieceOpens, PieceVariable, PieceComma, PieceText, PieceBehind, SetBehind, SetValue, SetEnd, Talk, Writes, Reads, OutputWanted, OutputEnd, MarksEnd, ColumnWanted, CodeWanted, IntoWanted, IntoEnd, IntoTimed, DeviceWanted, DeviceEnd, DeviceColon, DeviceTimed, DeviceWaited, KillWanted, NameWanted, NameBehind, KillEnd, MergeInto, MergeBehind, MergeFrom, MergeEnd, ValueWanted, ValueEnd, ForWanted, ForBehind, RangeWanted, RangeEnd, StepWanted, StepEnd, LimitWanted, LimitEnd, NewWanted, KeptWanted, KeptBehind, NewEnd, EntryWanted, LabelEnd, RoutineWanted, RoutineEnd, ActualWanted, ActualEnd, ActualsEnd, WaitColon, GuardWanted, GuardEnd, LockWanted, LockSigned, LockListed, LockBehind, LockNamed, LockTimed, LockEnd, RestartWanted, RestoredOpens, RestoredWanted, RestoredBehind, RestoredEnd, SerialWanted, SerialInside, SerialBehind, SerialEnd, AnExpr, AVar, ALocal}
 use Rattle.mj_line.proofs.Tables.{some_same}
-use Rattle.mj_line.proofs.Formed.{Speech, speech_parts, is_speech, Plainly, PlainOne, entered_parts, guards_of, entered_cut, bare_guard, locked_cut, three}
+use Rattle.mj_line.proofs.Formed.{Speech, speech_parts, is_speech}
+use Rattle.mj_line.proofs.FormedCalls.{Plainly, PlainOne, entered_parts, guards_of, entered_cut, bare_guard, locked_cut, three}
 
 -- ---- tests
 
@@ -38,7 +39,9 @@ second_of false b e = false_true e
 -- what stands from a place on
 abbrev pub After : Bool → List Part → Type 0
 After false ps = (e : Expr) × (list : List Assignment) × (Put Equals ∷ Text 0 e ∷ behind_commas assignment_parts list ≡ ps) × (every is_assignment list ≡ true)
-After true ps = (ds : List Destination) × (e : Expr) × (list : List Assignment) × (behind_commas destination_parts ds ++ (Put Close ∷ Put Equals ∷ Text 0 e ∷ behind_commas assignment_parts list) ≡ ps) × (every is_destination ds ≡ true) × (every is_assignment list ≡ true)
+After true ps = (ds : List Destination) × (e : Expr) × (list : List Assignment) ×
+    (behind_commas destination_parts ds ++ (Put Close ∷ Put Equals ∷ Text 0 e ∷ behind_commas assignment_parts list) ≡ ps) × (every is_destination ds ≡ true) ×
+    (every is_assignment list ≡ true)
 
 abbrev pub Aims : Bool → List Part → Type 0
 Aims false ps = (t : Targets) × (rest : List Part) × (targets_parts t ++ rest ≡ ps) × (are_targets t ≡ true) × After false rest
@@ -104,7 +107,8 @@ pub record Naming (ps : List Part) : Type 0 where
 
 abbrev pub Shape : Node → List Part → Type 0
 Shape (SetTarget listed) ps = Aims listed ps
-Shape (PieceOpens listed) ps = (v : Variable) × (es : Exprs) × (rest : List Part) × (Put Open ∷ Place 1 v ∷ (more_parts es ++ Put Close ∷ rest) ≡ ps) × (1 ≤ count es) × (count es ≤ 3) × After listed rest
+Shape (PieceOpens listed) ps = (v : Variable) × (es : Exprs) × (rest : List Part) × (Put Open ∷ Place 1 v ∷ (more_parts es ++ Put Close ∷ rest) ≡ ps) ×
+    (1 ≤ count es) × (count es ≤ 3) × After listed rest
 Shape (PieceVariable listed) ps = (v : Variable) × (es : Exprs) × (rest : List Part) × (Place 1 v ∷ (more_parts es ++ Put Close ∷ rest) ≡ ps) × (1 ≤ count es) × (count es ≤ 3) × After listed rest
 Shape (PieceComma listed) ps = (es : Exprs) × (rest : List Part) × (more_parts es ++ Put Close ∷ rest ≡ ps) × (1 ≤ count es) × (count es ≤ 3) × After listed rest
 Shape (PieceText listed more) ps = (e : Expr) × (es : Exprs) × (rest : List Part) × (Text 1 e ∷ (more_parts es ++ Put Close ∷ rest) ≡ ps) × (count es ≤ more) × After listed rest
@@ -112,12 +116,15 @@ Shape (PieceBehind listed more) ps = (es : Exprs) × (rest : List Part) × (more
 Shape (SetBehind listed) ps = After listed ps
 Shape SetValue ps = (e : Expr) × (list : List Assignment) × (Text 0 e ∷ behind_commas assignment_parts list ≡ ps) × (every is_assignment list ≡ true)
 Shape SetEnd ps = (list : List Assignment) × (behind_commas assignment_parts list ≡ ps) × (every is_assignment list ≡ true)
-Shape (OutputWanted talk) ps = (x : Speech talk) × (xs : List (Speech talk)) × (speech_parts talk x ++ behind_commas (speech_parts talk) xs ≡ ps) × (is_speech talk x ≡ true) × (every (is_speech talk) xs ≡ true)
+Shape (OutputWanted talk) ps = (x : Speech talk) × (xs : List (Speech talk)) × (speech_parts talk x ++ behind_commas (speech_parts talk) xs ≡ ps) ×
+    (is_speech talk x ≡ true) × (every (is_speech talk) xs ≡ true)
 Shape (OutputEnd talk) ps = (xs : List (Speech talk)) × (behind_commas (speech_parts talk) xs ≡ ps) × (every (is_speech talk) xs ≡ true)
-Shape (MarksEnd talk) ps = (marks : List Mark) × (column : Option Expr) × (xs : List (Speech talk)) × (map mark_part marks ++ (column_parts column ++ behind_commas (speech_parts talk) xs) ≡ ps) × (every (is_speech talk) xs ≡ true)
+Shape (MarksEnd talk) ps = (marks : List FormatMark) × (column : Option Expr) × (xs : List (Speech talk)) ×
+    (map mark_part marks ++ (column_parts column ++ behind_commas (speech_parts talk) xs) ≡ ps) × (every (is_speech talk) xs ≡ true)
 Shape (ColumnWanted talk) ps = (e : Expr) × (xs : List (Speech talk)) × (Text 0 e ∷ behind_commas (speech_parts talk) xs ≡ ps) × (every (is_speech talk) xs ≡ true)
 Shape CodeWanted ps = (e : Expr) × (xs : List (Speech Writes)) × (Text 0 e ∷ behind_commas (speech_parts Writes) xs ≡ ps) × (every (is_speech Writes) xs ≡ true)
-Shape IntoWanted ps = (v : Variable) × (c : Option Expr) × (xs : List (Speech Reads)) × (Place 0 v ∷ (guard_parts c ++ behind_commas (speech_parts Reads) xs) ≡ ps) × (every (is_speech Reads) xs ≡ true)
+Shape IntoWanted ps = (v : Variable) × (c : Option Expr) × (xs : List (Speech Reads)) ×
+    (Place 0 v ∷ (guard_parts c ++ behind_commas (speech_parts Reads) xs) ≡ ps) × (every (is_speech Reads) xs ≡ true)
 Shape IntoEnd ps = (c : Option Expr) × (xs : List (Speech Reads)) × (guard_parts c ++ behind_commas (speech_parts Reads) xs ≡ ps) × (every (is_speech Reads) xs ≡ true)
 Shape IntoTimed ps = (e : Expr) × (xs : List (Speech Reads)) × (Text 0 e ∷ behind_commas (speech_parts Reads) xs ≡ ps) × (every (is_speech Reads) xs ≡ true)
 Shape DeviceWanted ps = (x : Opened) × (xs : List Opened) × (opened_parts x ++ behind_commas opened_parts xs ≡ ps)
@@ -126,7 +133,8 @@ Shape DeviceColon ps = (e : Expr) × (xs : List Opened) × (Put Colon ∷ Text 0
 Shape DeviceTimed ps = (e : Expr) × (xs : List Opened) × (Text 0 e ∷ behind_commas opened_parts xs ≡ ps)
 Shape DeviceWaited ps = (xs : List Opened) × (behind_commas opened_parts xs ≡ ps)
 Shape (KillWanted first) ps = (xs : List Killed) × (with_commas killed_parts xs ≡ ps) × (every is_killed xs ≡ true) × (first ≡ false → has_items xs ≡ true)
-Shape NameWanted ps = (w : List ℕ) × (ws : List (List ℕ)) × (xs : List Killed) × (Named w ∷ (behind_commas name_parts ws ++ (Put Close ∷ behind_commas killed_parts xs)) ≡ ps) × (every is_killed xs ≡ true)
+Shape NameWanted ps = (w : List ℕ) × (ws : List (List ℕ)) × (xs : List Killed) ×
+    (Named w ∷ (behind_commas name_parts ws ++ (Put Close ∷ behind_commas killed_parts xs)) ≡ ps) × (every is_killed xs ≡ true)
 Shape NameBehind ps = (ws : List (List ℕ)) × (xs : List Killed) × (behind_commas name_parts ws ++ (Put Close ∷ behind_commas killed_parts xs) ≡ ps) × (every is_killed xs ≡ true)
 Shape KillEnd ps = (xs : List Killed) × (behind_commas killed_parts xs ≡ ps) × (every is_killed xs ≡ true)
 Shape MergeInto ps = (x : Merged) × (xs : List Merged) × (merged_parts x ++ behind_commas merged_parts xs ≡ ps)
@@ -144,7 +152,8 @@ Shape StepEnd ps = (c : Option Expr) × (xs : List Range) × (limit_parts c ++ b
 Shape LimitWanted ps = (c : Expr) × (xs : List Range) × (Text 0 c ∷ behind_commas range_parts xs ≡ ps)
 Shape LimitEnd ps = (xs : List Range) × (behind_commas range_parts xs ≡ ps)
 Shape (NewWanted first) ps = (xs : List Renewed) × (with_commas renewed_parts xs ≡ ps) × (every is_renewed xs ≡ true) × (first ≡ false → has_items xs ≡ true)
-Shape KeptWanted ps = (w : List ℕ) × (ws : List (List ℕ)) × (xs : List Renewed) × (Named w ∷ (behind_commas name_parts ws ++ (Put Close ∷ behind_commas renewed_parts xs)) ≡ ps) × (every is_renewed xs ≡ true)
+Shape KeptWanted ps = (w : List ℕ) × (ws : List (List ℕ)) × (xs : List Renewed) ×
+    (Named w ∷ (behind_commas name_parts ws ++ (Put Close ∷ behind_commas renewed_parts xs)) ≡ ps) × (every is_renewed xs ≡ true)
 Shape KeptBehind ps = (ws : List (List ℕ)) × (xs : List Renewed) × (behind_commas name_parts ws ++ (Put Close ∷ behind_commas renewed_parts xs) ≡ ps) × (every is_renewed xs ≡ true)
 Shape NewEnd ps = (xs : List Renewed) × (behind_commas renewed_parts xs ≡ ps) × (every is_renewed xs ≡ true)
 Shape (EntryWanted mode first) ps = (x : Entries mode ps) × (is_optional mode && first ≡ false → has_items x.list ≡ true)
@@ -276,7 +285,8 @@ next_kill ps (x ∷ xs) e h = before (Put Comma) (killed_parts x ++ behind_comma
 pub spared_at : (w : List ℕ) (ws : List (List ℕ)) (rest ps : List Part) → Named w ∷ (behind_commas name_parts ws ++ (Put Close ∷ rest)) ≡ ps → killed_parts (Spared (w ∷ ws)) ++ rest ≡ Put Open ∷ ps
 spared_at w ws rest ps e =
     before (Put Open) (Named w ∷ ((behind_commas name_parts ws ++ Put Close ∷ []) ++ rest)) ps
-    (before (Named w) ((behind_commas name_parts ws ++ Put Close ∷ []) ++ rest) (behind_commas name_parts ws ++ Put Close ∷ rest) (append_assoc (behind_commas name_parts ws) (Put Close ∷ []) rest) ∙ e)
+    (before (Named w) ((behind_commas name_parts ws ++ Put Close ∷ []) ++ rest) (behind_commas name_parts ws ++ Put Close ∷
+    rest) (append_assoc (behind_commas name_parts ws) (Put Close ∷ []) rest) ∙ e)
 
 -- with a comma before the first
 pub next_item : {A : Type 0} (parts : A → List Part) (ps : List Part) (xs : List A) → with_commas parts xs ≡ ps → has_items xs ≡ true → behind_commas parts xs ≡ Put Comma ∷ ps
@@ -301,7 +311,9 @@ arranged_right : (talk : Talk) (l : Layout) → is_speech talk (arranged talk l)
 arranged_right Writes l = refl
 arranged_right Reads l = refl
 
-pub format_at : (talk : Talk) (marks : List Mark) (column : Option Expr) (xs : List (Speech talk)) (ps : List Part) → map mark_part marks ++ (column_parts column ++ behind_commas (speech_parts talk) xs) ≡ ps → has_items marks || is_there column ≡ true → every (is_speech talk) xs ≡ true → Shape (OutputWanted talk) ps
+pub format_at : (talk : Talk) (marks : List FormatMark) (column : Option Expr) (xs : List (Speech talk)) (ps : List Part) →
+    map mark_part marks ++ (column_parts column ++ behind_commas (speech_parts talk) xs) ≡ ps → has_items marks || is_there column ≡ true →
+    every (is_speech talk) xs ≡ true → Shape (OutputWanted talk) ps
 format_at talk marks column xs ps e h f =
     let l : Layout = record { marks = marks; column = column } in
     let rest = behind_commas (speech_parts talk) xs in
@@ -404,7 +416,15 @@ pub timed_colon : (ps : List Part) → Shape LockTimed ps → Timed (Put Colon �
 timed_colon ps h = record { timeout = Some h.0; others = h.1; are = before (Put Colon) (Text 0 h.0 ∷ behind_commas locked_parts h.1) ps h.2; formed = h.3 }
 
 pub naming_one : (l : ℕ) (v : Variable) (ps : List Part) → 0 ≡ l → Timed ps → Naming (Place l v ∷ ps)
-naming_one l v ps z h = record { names = Lone v; timeout = h.timeout; others = h.others; are = place_zero l v (guard_parts h.timeout ++ behind_commas locked_parts h.others) ps z h.are; right = refl; formed = h.formed }
+naming_one l v ps z h = record {
+  names = Lone v;
+  timeout = h.timeout;
+  others = h.others;
+  are =
+      place_zero l v (guard_parts h.timeout ++ behind_commas locked_parts h.others) ps z h.are;
+  right = refl;
+  formed = h.formed;
+}
 
 pub naming_several : (ps : List Part) → Shape LockListed ps → Naming (Put Open ∷ ps)
 naming_several ps h =

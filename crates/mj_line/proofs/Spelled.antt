@@ -3,23 +3,23 @@ use Rattle.std.proofs.Common.{◌≡◌, ℕ, max, List, [], ◌∷◌, refl, ap
 use Rattle.mj_ast.specs.declared.sign.Sign.TheVariants.{Open, Close}
 use Rattle.mj_ast.specs.declared.keyword.Keyword.{Keyword}
 use Rattle.mj_ast.specs.declared.keyword.Verb.TheVariants.{Of}
-use Rattle.mj_ast.specs.Syntax.{Expr, Command, Do, Job, Step, Line}
+use Rattle.mj_ast.specs.Syntax.{Expr, Command, Do, Job, LineCommand, Line}
 use Rattle.mj_ast.specs.Tokens.{Token}
 use Rattle.mj_ast.specs.Commands.{Part, Put, with_commas, behind_commas, target_parts, actuals_parts, guard_parts, called_parts, wait_parts, started_parts, plain_actuals, plain_called, plain_started, plain, plain_step, part_nesting, part_width, meant, SpellsStep, SpellsArguments, IsConditional, keyword_for, command_parts, is_formed, gap_of, comment_gap_of, greatest, step_nesting, step_width}
 use Rattle.mj_ast.specs.Lines.{SpellsSteps, SpellsWritten, plain_line, IsLineWithin}
-use Rattle.mj_line.specs.Sentences.{Clause, Sentence, SpellsClause, SpellsClauses, SpellsSentence, clause_of, sentence_of, clause_nesting, clause_width, IsWithin}
+use Rattle.mj_line.specs.Sentences.{Clause, Sentence, SpellsClause, SpellsClauses, SpellsSentence, clause_of, sentence_of, clause_nesting, clause_width, IsSentenceWithin}
 use Rattle.mj_line.specs.Forms.{IsForm}
-use Rattle.mj_line.proofs.Trees.{made}
-use Rattle.mj_line.proofs.Formed.{formed_form, form_verb}
-use Rattle.mj_line.proofs.Once.{command_once}
+use Rattle.mj_line.proofs.CommandTrees.{made}
+use Rattle.mj_line.proofs.FormedCalls.{formed_form, form_verb}
+use Rattle.mj_line.proofs.OnceCommands.{command_once}
 use Rattle.mj_line.proofs.Good.{greatest_append}
 
 -- ---- from trees
 
-spelled_clause : (ks : List Token) (s : Step) → SpellsStep ks s → SpellsClause ks (clause_of s)
+spelled_clause : (ks : List Token) (s : LineCommand) → SpellsStep ks s → SpellsClause ks (clause_of s)
 spelled_clause ks s h = (h.0, h.1, h.2, h.3, h.4, h.5, h.6, formed_form s.command h.4.0 h.7 h.4.2, h.8)
 
-spelled_clauses : (g c : ℕ) (ks : List Token) (ss : List Step) → SpellsSteps g c ks ss → SpellsClauses g c ks (map clause_of ss)
+spelled_clauses : (g c : ℕ) (ks : List Token) (ss : List LineCommand) → SpellsSteps g c ks ss → SpellsClauses g c ks (map clause_of ss)
 spelled_clauses g c ks [] h = h
 spelled_clauses g c ks (s ∷ ss) h = (h.0, h.1, h.2, h.3, h.4, spelled_clause h.1 s h.5, spelled_clauses (gap_of (command_parts s.command)) (comment_gap_of (command_parts s.command)) h.2 ss h.6)
 
@@ -35,7 +35,7 @@ clause_made c command k p =
 
 -- a command with these parts
 record Back (ks : List Token) (c : Clause) : Type 0 where
-  step : Step
+  step : LineCommand
   made : clause_of step ≡ c
   spells : SpellsStep ks step
 
@@ -51,7 +51,7 @@ clause_back ks c h =
       spells = (h.0, h.1, h.2, h.3, (h.4.0, h.4.1, m.named ∙ h.4.2 ∙ ap (meant h.4.0) (sym m.parts)), h.5, subst A (sym m.parts) h.6, m.formed, subst C (sym m.named) h.8);
     }
 
-clauses_back : (g c : ℕ) (ks : List Token) (cs : List Clause) → SpellsClauses g c ks cs → (ss : List Step) × (map clause_of ss ≡ cs) × SpellsSteps g c ks ss
+clauses_back : (g c : ℕ) (ks : List Token) (cs : List Clause) → SpellsClauses g c ks cs → (ss : List LineCommand) × (map clause_of ss ≡ cs) × SpellsSteps g c ks ss
 clauses_back g c ks [] h = ([], refl, h)
 clauses_back g c ks (x ∷ xs) h =
     let b = clause_back h.1 x h.5 in
@@ -79,24 +79,25 @@ sentence_back ks l h =
 
 -- ---- measures
 
-nesting_same : (ss : List Step) → greatest clause_nesting (map clause_of ss) ≡ greatest step_nesting ss
+nesting_same : (ss : List LineCommand) → greatest clause_nesting (map clause_of ss) ≡ greatest step_nesting ss
 nesting_same [] = refl
 nesting_same (s ∷ ss) = ap (max (step_nesting s)) (nesting_same ss)
 
-width_same : (ss : List Step) → greatest clause_width (map clause_of ss) ≡ greatest step_width ss
+width_same : (ss : List LineCommand) → greatest clause_width (map clause_of ss) ≡ greatest step_width ss
 width_same [] = refl
 width_same (s ∷ ss) = ap (max (step_width s)) (width_same ss)
 
-pub line_within : (d w : ℕ) (l : Line) → IsWithin d w (sentence_of l) → IsLineWithin d w l
+pub line_within : (d w : ℕ) (l : Line) → IsSentenceWithin d w (sentence_of l) → IsLineWithin d w l
 line_within d w l h = record { nests = let e = nesting_same l.steps in let n = h.nests in omega arith; lists = let e = width_same l.steps in let n = h.lists in omega arith }
 
-pub sentence_within : (d w : ℕ) (l : Line) → IsLineWithin d w l → IsWithin d w (sentence_of l)
+pub sentence_within : (d w : ℕ) (l : Line) → IsLineWithin d w l → IsSentenceWithin d w (sentence_of l)
 sentence_within d w l h = record { nests = let e = nesting_same l.steps in let n = h.nests in omega arith; lists = let e = width_same l.steps in let n = h.lists in omega arith }
 
 -- ---- no two lines are spelled by the same commands
 
-step_made : (s t : Step) → s.condition ≡ t.condition → s.command ≡ t.command → s ≡ t
-step_made s t e f = ap (λ (c : Option Expr). let x : Step = record { condition = c; command = s.command } in x) e ∙ ap (λ (c : Command). let x : Step = record { condition = t.condition; command = c } in x) f
+step_made : (s t : LineCommand) → s.condition ≡ t.condition → s.command ≡ t.command → s ≡ t
+step_made s t e f = ap (λ (c : Option Expr). let x : LineCommand = record { condition = c; command = s.command } in x) e ∙
+    ap (λ (c : Command). let x : LineCommand = record { condition = t.condition; command = c } in x) f
 
 head_same : {A : Type 0} {x y : A} {xs ys : List A} → x ∷ xs ≡ y ∷ ys → x ≡ y
 head_same e = cc
@@ -104,24 +105,25 @@ head_same e = cc
 tail_same : {A : Type 0} {x y : A} {xs ys : List A} → x ∷ xs ≡ y ∷ ys → xs ≡ ys
 tail_same e = cc
 
-step_once : (s t : Step) → is_formed s.command ≡ true → clause_of s ≡ clause_of t → s ≡ t
+step_once : (s t : LineCommand) → is_formed s.command ≡ true → clause_of s ≡ clause_of t → s ≡ t
 step_once s t f e =
     step_made s t (ap (λ (c : Clause). c.condition) e) (command_once s.command t.command f (ap (λ (c : Clause). c.keyword) e) (ap (λ (c : Clause). c.parts) e))
 
-steps_once : (g c : ℕ) (ks : List Token) (ss ts : List Step) → SpellsSteps g c ks ss → map clause_of ss ≡ map clause_of ts → ss ≡ ts
+steps_once : (g c : ℕ) (ks : List Token) (ss ts : List LineCommand) → SpellsSteps g c ks ss → map clause_of ss ≡ map clause_of ts → ss ≡ ts
 steps_once g c ks [] [] h e = refl
 steps_once g c ks [] (t ∷ ts) h e = absurd (let f : [] ≡ clause_of t ∷ map clause_of ts = e in cc)
 steps_once g c ks (s ∷ ss) [] h e = absurd (let f : clause_of s ∷ map clause_of ss ≡ [] = e in cc)
 steps_once g c ks (s ∷ ss) (t ∷ ts) h e =
-    ap (λ (x : Step). x ∷ ss) (step_once s t h.5.7 (head_same e))
-    ∙ ap (λ (xs : List Step). t ∷ xs) (steps_once (gap_of (command_parts s.command)) (comment_gap_of (command_parts s.command)) h.2 ss ts h.6 (tail_same e))
+    ap (λ (x : LineCommand). x ∷ ss) (step_once s t h.5.7 (head_same e))
+    ∙ ap (λ (xs : List LineCommand). t ∷ xs) (steps_once (gap_of (command_parts s.command)) (comment_gap_of (command_parts s.command)) h.2 ss ts h.6 (tail_same e))
 
 pub line_once : (ks : List Token) (o l : Line) → SpellsWritten ks o → sentence_of o ≡ sentence_of l → o ≡ l
 line_once ks o l h e =
     ap (λ (x : Option (List ℕ)). let z : Line = record { label = x; formals = o.formals; level = o.level; steps = o.steps } in z) (ap (λ (s : Sentence). s.label) e)
     ∙ ap (λ (x : List (List ℕ)). let z : Line = record { label = l.label; formals = x; level = o.level; steps = o.steps } in z) (ap (λ (s : Sentence). s.formals) e)
     ∙ ap (λ (x : ℕ). let z : Line = record { label = l.label; formals = l.formals; level = x; steps = o.steps } in z) (ap (λ (s : Sentence). s.level) e)
-    ∙ ap (λ (xs : List Step). let z : Line = record { label = l.label; formals = l.formals; level = l.level; steps = xs } in z) (steps_once _ _ h.1 o.steps l.steps h.6 (ap (λ (s : Sentence). s.clauses) e))
+    ∙ ap (λ (xs : List LineCommand). let z : Line = record { label = l.label; formals = l.formals; level = l.level; steps = xs } in
+    z) (steps_once _ _ h.1 o.steps l.steps h.6 (ap (λ (s : Sentence). s.clauses) e))
 
 -- ---- lines as they are written, and as they are meant
 
@@ -147,7 +149,8 @@ entered_flat f t g list h =
     omega arith
 
 -- items as they are meant, each of which measures the same
-behind_flat : {X : Type 0} (f : Part → ℕ) (parts : X → List Part) (to : X → X) (xs : List X) → ((x : X) → greatest f (parts (to x)) ≡ greatest f (parts x)) → greatest f (behind_commas parts (map to xs)) ≡ greatest f (behind_commas parts xs)
+behind_flat : {X : Type 0} (f : Part → ℕ) (parts : X → List Part) (to : X → X) (xs : List X) → ((x : X) → greatest f (parts (to x)) ≡ greatest f (parts x)) →
+    greatest f (behind_commas parts (map to xs)) ≡ greatest f (behind_commas parts xs)
 behind_flat f parts to [] h = refl
 behind_flat f parts to (x ∷ xs) h =
     let a = greatest_append f (parts (to x)) (behind_commas parts (map to xs)) in
@@ -156,7 +159,8 @@ behind_flat f parts to (x ∷ xs) h =
     let d = behind_flat f parts to xs h in
     omega arith
 
-items_flat : {X : Type 0} (f : Part → ℕ) (parts : X → List Part) (to : X → X) (xs : List X) → ((x : X) → greatest f (parts (to x)) ≡ greatest f (parts x)) → greatest f (with_commas parts (map to xs)) ≡ greatest f (with_commas parts xs)
+items_flat : {X : Type 0} (f : Part → ℕ) (parts : X → List Part) (to : X → X) (xs : List X) → ((x : X) → greatest f (parts (to x)) ≡ greatest f (parts x)) →
+    greatest f (with_commas parts (map to xs)) ≡ greatest f (with_commas parts xs)
 items_flat f parts to [] h = refl
 items_flat f parts to (x ∷ xs) h =
     let a = greatest_append f (parts (to x)) (behind_commas parts (map to xs)) in
@@ -170,11 +174,11 @@ command_flat f (Do xs) h = items_flat f called_parts plain_called xs (λ x. ente
 command_flat f (Job xs) h = items_flat f started_parts plain_started xs (λ x. entered_flat f (target_parts x.target) (wait_parts x.timeout) x.actuals h)
 command_flat f c h = refl
 
-steps_nest : (ss : List Step) → greatest step_nesting (map plain_step ss) ≡ greatest step_nesting ss
+steps_nest : (ss : List LineCommand) → greatest step_nesting (map plain_step ss) ≡ greatest step_nesting ss
 steps_nest [] = refl
 steps_nest (s ∷ ss) = let a = command_flat part_nesting s.command (record { opens = refl; closes = refl }) in let b = steps_nest ss in omega arith
 
-steps_list : (ss : List Step) → greatest step_width (map plain_step ss) ≡ greatest step_width ss
+steps_list : (ss : List LineCommand) → greatest step_width (map plain_step ss) ≡ greatest step_width ss
 steps_list [] = refl
 steps_list (s ∷ ss) = let a = command_flat part_width s.command (record { opens = refl; closes = refl }) in let b = steps_list ss in omega arith
 

@@ -392,18 +392,18 @@ may_be_bare _ = true
 -- ---- lists of parts
 
 -- the part leads from a place to the next
-abbrev pub Goes : Node → Part → Node → Type 0
-Goes n (Text level e) next = wants n ≡ Some (AnExpr level next)
-Goes n (Place level v) next = wants n ≡ Some (AVar level next)
-Goes n (Control v) next = (wants n ≡ Some (ALocal next)) × (is_local v ≡ true)
-Goes n p next = takes n p ≡ Some next
+abbrev pub PartLeads : Node → Part → Node → Type 0
+PartLeads n (Text level e) next = wants n ≡ Some (AnExpr level next)
+PartLeads n (Place level v) next = wants n ≡ Some (AVar level next)
+PartLeads n (Control v) next = (wants n ≡ Some (ALocal next)) × (is_local v ≡ true)
+PartLeads n p next = takes n p ≡ Some next
 
 -- the parts may stand from here on up to the end
-abbrev pub Fits : Node → List Part → Type 0
-Fits n [] = ends n ≡ true
-Fits n (p ∷ ps) = (next : Node) × Goes n p next × Fits next ps
+abbrev pub PartsFit : Node → List Part → Type 0
+PartsFit n [] = ends n ≡ true
+PartsFit n (p ∷ ps) = (next : Node) × PartLeads n p next × PartsFit next ps
 
 -- they are the arguments of what such a word begins
 abbrev pub IsForm : Verb → List Part → Type 0
 IsForm v [] = may_be_bare v ≡ true
-IsForm v (p ∷ ps) = (n : Node) × (first_node v ≡ Some n) × Fits n (p ∷ ps)
+IsForm v (p ∷ ps) = (n : Node) × (first_node v ≡ Some n) × PartsFit n (p ∷ ps)

@@ -130,10 +130,10 @@ behind_want l condition verb done (AVar level next) (phrase.Target v) = Args l c
 behind_want l condition verb done (ALocal next) (phrase.Target v) = Args l condition verb (done ++ Control v ∷ []) next
 behind_want l condition verb done w p = Begin
 
-abbrev pub behind : Goal → phrase.Phrase → Spot
-behind (Condition l verb) (phrase.Whole e) = Bare l (Some e) verb
-behind (Condition l verb) p = Begin
-behind (Argument l condition verb done w) p = behind_want l condition verb done w p
+abbrev pub behind_phrase : Goal → phrase.Phrase → Spot
+behind_phrase (Condition l verb) (phrase.Whole e) = Bare l (Some e) verb
+behind_phrase (Condition l verb) p = Begin
+behind_phrase (Argument l condition verb done w) p = behind_want l condition verb done w p
 
 abbrev pub bare_rested : Bool → Rest → Option Rest
 bare_rested b r = if b then Some r else None
@@ -245,7 +245,7 @@ spot_step p k = first (own p k) (on_rested (rested p) k)
 
 -- behind a phrase that is whole
 abbrev pub behind_step : Goal → phrase.Outcome → Token → Next
-behind_step g (phrase.Accept p rest) k = spot_step (behind g p) k
+behind_step g (phrase.Accept p rest) k = spot_step (behind_phrase g p) k
 behind_step g o k = Stuck
 
 -- inside a phrase, as the phrase steps
@@ -306,7 +306,7 @@ ended_spot (Over l) = Accept l
 ended_spot p = ended_at (rested p)
 
 abbrev pub ended_behind : Goal → phrase.Outcome → Outcome
-ended_behind g (phrase.Accept p rest) = ended_spot (behind g p)
+ended_behind g (phrase.Accept p rest) = ended_spot (behind_phrase g p)
 ended_behind g o = StuckAt 0
 
 abbrev pub ended : State → Outcome

@@ -1,10 +1,10 @@
 -- Lines by the parts of their commands, and how they are spelled.
 use Rattle.std.specs.Prelude.{◌≡◌, ℕ, suc, ◌≤◌, max, List, [], ◌∷◌, ◌++◌, Option, replicate, map}
 use Rattle.mj_ast.specs.declared.keyword.Keyword.{Keyword}
-use Rattle.mj_ast.specs.Syntax.{Expr, Step, Line}
+use Rattle.mj_ast.specs.Syntax.{Expr, LineCommand, Line}
 use Rattle.mj_ast.specs.Tokens.{Token, Word, Blank}
 use Rattle.mj_ast.specs.Expressions.{expr_nesting, expr_width}
-use Rattle.mj_ast.specs.Commands.{Part, Leads, keyword_for, command_parts, SpellsCondition, SpellsArguments, IsConditional, gap_of, comment_gap_of, greatest, part_nesting, part_width, condition_measure}
+use Rattle.mj_ast.specs.Commands.{Part, WordLeads, keyword_for, command_parts, SpellsCondition, SpellsArguments, IsConditional, gap_of, comment_gap_of, greatest, part_nesting, part_width, condition_measure}
 use Rattle.mj_ast.specs.Lines.{SpellsEnd, SpellsHead, comment_gap, gap_behind}
 use Rattle.mj_line.specs.Forms.{IsForm}
 
@@ -24,7 +24,7 @@ pub record Sentence : Type 0 where
 abbrev pub SpellsClause : List Token → Clause → Type 0
 SpellsClause ks c =
     (word : List ℕ) × (condition : List Token) × (arguments : List Token)
-    × (ks ≡ Word word ∷ (condition ++ arguments)) × (led : Leads word c.parts c.keyword)
+    × (ks ≡ Word word ∷ (condition ++ arguments)) × (led : WordLeads word c.parts c.keyword)
     × SpellsCondition condition c.condition × SpellsArguments arguments c.parts × IsForm led.0 c.parts × IsConditional c.keyword c.condition
 
 abbrev pub SpellsClauses : ℕ → ℕ → List Token → List Clause → Type 0
@@ -43,7 +43,7 @@ SpellsSentence ks l =
 -- ---- lines as trees
 
 -- a command by its parts
-abbrev pub clause_of : Step → Clause
+abbrev pub clause_of : LineCommand → Clause
 clause_of s = record { condition = s.condition; keyword = keyword_for s.command; parts = command_parts s.command }
 
 abbrev pub sentence_of : Line → Sentence
@@ -58,6 +58,6 @@ abbrev pub clause_width : Clause → ℕ
 clause_width c = max (condition_measure expr_width c.condition) (greatest part_width c.parts)
 
 -- no expression nests deeper, and no list of subscripts is longer
-pub record IsWithin (depth width : ℕ) (l : Sentence) : Type 0 where
+pub record IsSentenceWithin (depth width : ℕ) (l : Sentence) : Type 0 where
   pub nests : greatest clause_nesting l.clauses ≤ depth
   pub lists : greatest clause_width l.clauses ≤ width

@@ -7,7 +7,7 @@ use Rattle.std.specs.Ordering.{is_eq}
 use Rattle.std.proofs.lemmas.Bool.{cases_lt}
 use Rattle.mj_store.specs.Questions.{Subtree}
 use Rattle.mj_globs.proofs.Groups.{W}
-use Rattle.mj_locals.specs.Groups.{Pairs, Group, newest, rest, begun, saved, reduced}
+use Rattle.mj_locals.specs.Groups.{Pairs, Group, newest, rest, with_new_group, saved, reduced}
 use Rattle.mj_locals.specs.Kept.{named, HavePlaces, AreOthers}
 use Rattle.mj_locals.specs.Trees.{Trees, at, has_room, placed, added, word_at, IsPlace}
 use Rattle.mj_locals.specs.Hiding.{Grows, Hides, HidesOnly, HidesOthersTo, all_put}
@@ -50,7 +50,7 @@ have_room ts (p ∷ ps) h = (room_at ts p.0 h.0, have_room ts ps h.1)
 newest_saved : (x : ℕ × Subtree) (kept : Option (List (List ℕ))) (gs hs : List Group) → hs ≡ (kept, newest hs) ∷ gs → newest (saved x hs) ≡ newest hs ++ x ∷ []
 newest_saved x kept gs hs e = ap (λ (ys : List Group). newest (saved x ys)) e
 
-pub hides_nothing : (kept : Option (List (List ℕ))) (ts : Trees) (hs : List Group) → hs ≡ begun kept (rest hs) → Hides kept ts ts (rest hs) hs
+pub hides_nothing : (kept : Option (List (List ℕ))) (ts : Trees) (hs : List Group) → hs ≡ with_new_group kept (rest hs) → Hides kept ts ts (rest hs) hs
 hides_nothing kept ts hs e =
     let none : newest hs ≡ [] = ap newest e in (
       grows_itself ts,
@@ -164,7 +164,7 @@ only_next vs ts us ys xs gs hs js w p h e place gone kept_it =
           ∙ (λ i. (ap (λ (ks : Trees). map (λ k. k.0) ks) same ∙ h.1) i ++ place.1 i ∷ []),
     )
 
-pub only_nothing : (ts : Trees) (hs : List Group) → hs ≡ begun None (rest hs) → HidesOnly [] ts ts (rest hs) hs
+pub only_nothing : (ts : Trees) (hs : List Group) → hs ≡ with_new_group None (rest hs) → HidesOnly [] ts ts (rest hs) hs
 only_nothing ts hs e = (hides_nothing None ts hs e, ap (λ (gs : List Group). map (λ k. k.0) (named ts (newest gs))) e)
 
 -- ---- all words but some
@@ -173,7 +173,7 @@ others_pushed : (ws : List (List ℕ)) (ks : Trees) (k : List ℕ × Subtree) �
 others_pushed ws [] k h e = (e, tt)
 others_pushed ws (x ∷ xs) k h e = (h.0, others_pushed ws xs k h.1 e)
 
-pub others_nothing : (ws : List (List ℕ)) (ts : Trees) (hs : List Group) → hs ≡ begun (Some ws) (rest hs) → HidesOthersTo 0 ws ts ts (rest hs) hs
+pub others_nothing : (ws : List (List ℕ)) (ts : Trees) (hs : List Group) → hs ≡ with_new_group (Some ws) (rest hs) → HidesOthersTo 0 ws ts ts (rest hs) hs
 others_nothing ws ts hs e = (
   hides_nothing (Some ws) ts hs e,
   subst (λ (gs : List Group). AreOthers ws (named ts (newest gs))) (sym e) tt,

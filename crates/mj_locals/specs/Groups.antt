@@ -29,8 +29,8 @@ rest [] = []
 rest (g ∷ gs) = gs
 
 -- a group begins
-abbrev pub begun : Option (List (List ℕ)) → List Group → List Group
-begun kept gs = (kept, []) ∷ gs
+abbrev pub with_new_group : Option (List (List ℕ)) → List Group → List Group
+with_new_group kept gs = (kept, []) ∷ gs
 
 -- a tree comes into the newest group
 abbrev pub saved : ℕ × Subtree → List Group → List Group

@@ -49,5 +49,5 @@ abbrev pub CanBeUndone : Trees → List Group → Type 0
 CanBeUndone ts [] = Unit {0}
 CanBeUndone ts (g ∷ gs) = HavePlaces (length ts) g.1 × AreCovered g.0 (named ts g.1) × CanBeUndone ts gs
 
-abbrev pub IsKept : Inside → Type 0
-IsKept a = CanBeUndone a.table a.trail
+abbrev pub IsUndoable : Inside → Type 0
+IsUndoable a = CanBeUndone a.table a.trail

@@ -3,7 +3,7 @@
 ghost use Rattle.std.specs.Prelude.{◌≡◌, ◌<◌, ℕ, [], None, Some, OnOk, OnErr, IfOk, List, length, map, take};
 ghost use Rattle.std.specs.Option.{option_map};
 ghost use Rattle.mj_semantics.specs.State.{bound};
-ghost use Rattle.mj_locals.specs.Groups.{newest, spared_by, rest, begun, saved};
+ghost use Rattle.mj_locals.specs.Groups.{newest, spared_by, rest, with_new_group, saved};
 ghost use Rattle.mj_locals.specs.Held.{after_unwind};
 ghost use Rattle.mj_locals.specs.Kept.{named, held_of, HavePlaces, CanBeUndone};
 ghost use Rattle.mj_locals.specs.Trees.{at, placed, word_at, content};
@@ -44,7 +44,7 @@ fn hide_words(
     alloc: Global,
     words: &[Text],
 ) -> Result<(), AllocError>
-    requires { trail.old ≡ begun None (rest trail.old) }
+    requires { trail.old ≡ with_new_group None (rest trail.old) }
     ensures ok { OnOk result (HidesOnly words.now table.old table.new (rest trail.old) trail.new) }
     ensures err { OnErr result (Hides None table.old table.new (rest trail.old) trail.new) }
 {
@@ -85,7 +85,7 @@ fn hide_all_but(
     alloc: Global,
     words: &[Text],
 ) -> Result<(), AllocError>
-    requires { trail.old ≡ begun (Some words.now) (rest trail.old) }
+    requires { trail.old ≡ with_new_group (Some words.now) (rest trail.old) }
     ensures ok { OnOk result (HidesOthers words.now table.old table.new (rest trail.old) trail.new) }
     ensures err { OnErr result (Hides (Some words.now) table.old table.new (rest trail.old) trail.new) }
 {

@@ -5,7 +5,7 @@
 
 ghost use Rattle.std.specs.Prelude.{◌≡◌, ◌<◌, ◌++◌, [], ◌∷◌, length, option_to_list, slice_index_or, OnOk, OnErr, IfNone};
 ghost use Rattle.std.specs.Option.{option_map};
-ghost use Rattle.mj_locals.specs.Groups.{newest, spared_by, rest, begun, saved, reduced, AreSorted};
+ghost use Rattle.mj_locals.specs.Groups.{newest, spared_by, rest, with_new_group, saved, reduced, AreSorted};
 ghost use Rattle.mj_locals.specs.Trees.{at, placed, word_at};
 
 use crate::table::Table;
@@ -20,7 +20,7 @@ pub struct Trail {
     // the newest last
     pairs: Vec<Pair>,
     // the newest last
-    marks: Vec<Mark>,
+    marks: Vec<NewMark>,
 }
 
 // The place of a word, and its tree.
@@ -28,7 +28,7 @@ type Pair = (usize, Tree);
 
 // A NEW.
 #[derive(Drop)]
-struct Mark {
+struct NewMark {
     // where its pairs begin
     start: usize,
     // the words that it doesn't cover, where it covers all others
@@ -75,11 +75,11 @@ impl Trail {
 
     /// A group begins, which spares some words or none.
     pub fn begin(&mut self, kept: Option<Vec<Text>>) -> Result<(), AllocError>
-        ensures ok { OnOk result (self.new ≡ begun (option_map (λ v. v.items) kept) self.old) }
+        ensures ok { OnOk result (self.new ≡ with_new_group (option_map (λ v. v.items) kept) self.old) }
         ensures err { OnErr result (self.new ≡ self.old) }
     {
         let start = self.pairs.len();
-        self.marks.push(Mark { start, kept })?;
+        self.marks.push(NewMark { start, kept })?;
         Ok(())
     }
 

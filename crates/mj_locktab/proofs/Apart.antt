@@ -14,9 +14,9 @@ use Rattle.mj_subs.specs.Laws.Tests.{overlaps-Decides, names_eq-Decides}
 use Rattle.mj_locktab.specs.declared.hold.Hold.{Hold}
 use Rattle.mj_locktab.specs.declared.taken.Taken.{Taken}
 use Rattle.mj_locktab.specs.declared.taken.Taken.TheVariants as takes
-use Rattle.mj_locktab.specs.Locks.{Locks, hold_of, job_of, name_of, hold_cmp, count_of, is_over, IsInOrder, LocksApart, IsKept}
+use Rattle.mj_locktab.specs.Locks.{Locks, hold_of, job_of, name_of, hold_cmp, count_of, is_past_limit, IsInOrder, LocksApart, IsLockTable}
 use Rattle.mj_locktab.specs.Changes.{after_take, after_give, after_give_all, places_of, RisesBy, FallsBy, IsWithout}
-use Rattle.mj_locktab.specs.Tries.{is_conflict, conflict_with, conflict_of, told, left, outcome_of, after_try, IsInTheWay, AreFree, Tells}
+use Rattle.mj_locktab.specs.Tries.{is_conflict, conflict_with, conflict_of, try_answer, left, outcome_of, after_try, IsInTheWay, AreFree, TryGives}
 use Rattle.mj_locktab.proofs.Order.{hold_cmp_total, tied-hold_of, hold_cmp-IsAntisymmetric}
 use Rattle.mj_locktab.proofs.Counts.{IsCounted, rises, falls, without}
 use Rattle.mj_locktab.proofs.Entries.{neither}
@@ -115,7 +115,8 @@ pub in_the_way : (locks : Locks) (job : ℕ) (names : List Name) (e : Hold × �
 unfolding Conflicts
 in_the_way locks job [] e c f = absurd (let never : ⊥ = cc in never)
 in_the_way locks job (n ∷ names) e c f = at (in_the_way locks job names e c) (conflict_with locks job n) refl f where
-  at : (conflict_of locks job names ≡ Some e → IsInTheWay locks job names e.0.job e.0.name) → (o : Option (Hold × ℕ)) → conflict_with locks job n ≡ o → option_or o (conflict_of locks job names) ≡ Some e → IsInTheWay locks job (n ∷ names) e.0.job e.0.name
+  at : (conflict_of locks job names ≡ Some e → IsInTheWay locks job names e.0.job e.0.name) → (o : Option (Hold × ℕ)) → conflict_with locks job n ≡ o
+      → option_or o (conflict_of locks job names) ≡ Some e → IsInTheWay locks job (n ∷ names) e.0.job e.0.name
   at later (Some g) is h =
       let r = conflicts locks job n e c (is ∙ h) in
       record { other = r.0; held = r.1; asked = n; among = contains-head n names; overlap = r.2 }
@@ -126,11 +127,13 @@ in_the_way locks job (n ∷ names) e c f = at (in_the_way locks job names e c) (
 pub all_free : (locks : Locks) (job : ℕ) (names : List Name) → conflict_of locks job names ≡ None → AreFree locks job names
 all_free locks job [] none = λ holder name w. omega (arith, w.among.1)
 all_free locks job (n ∷ names) none = at (all_free locks job names) (conflict_with locks job n) refl none where
-  by : conflict_with locks job n ≡ None → AreFree locks job names → (holder : ℕ) (name : Name) (w : IsInTheWay locks job (n ∷ names) holder name) (k : ℕ) → k < length (n ∷ names) → get_or (n ∷ names) k w.asked ≡ w.asked → ⊥
+  by : conflict_with locks job n ≡ None → AreFree locks job names → (holder : ℕ) (name : Name) (w : IsInTheWay locks job (n ∷ names) holder name) (k : ℕ) → k < length (n ∷ names)
+      → get_or (n ∷ names) k w.asked ≡ w.asked → ⊥
   by is later holder name w zero lt here = free locks job n is holder name w.other w.held (subst (Overlaps name) (sym here) w.overlap)
   by is later holder name w (suc k) lt here = later holder name (record { other = w.other; held = w.held; asked = w.asked; among = (k, omega (arith, lt), here); overlap = w.overlap })
 
-  at : (conflict_of locks job names ≡ None → AreFree locks job names) → (o : Option (Hold × ℕ)) → conflict_with locks job n ≡ o → option_or o (conflict_of locks job names) ≡ None → AreFree locks job (n ∷ names)
+  at : (conflict_of locks job names ≡ None → AreFree locks job names) → (o : Option (Hold × ℕ)) → conflict_with locks job n ≡ o → option_or o (conflict_of locks job names) ≡ None
+      → AreFree locks job (n ∷ names)
   at later (Some g) is h = absurd (let never : ⊥ = cc in never)
   at later None is h = λ holder name w. by is (later h) holder name w w.among.0 w.among.1 w.among.2
 

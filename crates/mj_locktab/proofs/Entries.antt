@@ -128,7 +128,8 @@ module _ {K : Type 0} (R : K → K → Ordering) where
       → any_count p es ≡ true → any_count p (put R k v es) ≡ true
   any-put_stays p k v [] stays some = absurd (let never : ⊥ = cc in never)
   any-put_stays p k v (e ∷ es) stays some =
-      elim (R k e.0) as (λ o. ((w : ℕ) → cond (is_eq o) (Some e.1) (find R k es) ≡ Some w → p w ≡ true → p v ≡ true) → any_count p (by_order o ((k, v) ∷ e ∷ es) ((e.0, v) ∷ es) (e ∷ put R k v es)) ≡ true) [
+      elim (R k e.0) as (λ o. ((w : ℕ) → cond (is_eq o) (Some e.1) (find R k es) ≡ Some w → p w ≡ true → p v ≡ true)
+      → any_count p (by_order o ((k, v) ∷ e ∷ es) ((e.0, v) ∷ es) (e ∷ put R k v es)) ≡ true) [
         | Less ↦ λ s. or_right (p v) _ some
         | Equal ↦ λ s. one_or_other (p e.1) _ _ some (λ y. or_left (p v) _ (s e.1 refl y)) (λ y. or_right (p v) _ y)
         | Greater ↦ λ s. one_or_other (p e.1) _ _ some (λ y. or_left (p e.1) _ y) (λ y. or_right (p e.1) _ (any-put_stays p k v es s y))
@@ -182,7 +183,8 @@ module _ {K : Type 0} (R : K → K → Ordering) where
     pub count-put_found : (g : K → Bool) (k : K) (v w : ℕ) (es : List (K × ℕ)) → T (is_sorted R es) → find R k es ≡ Some w → keys_passing g (put R k v es) ≡ keys_passing g es
     count-put_found g k v w [] h f = absurd (let never : ⊥ = cc in never)
     count-put_found g k v w (e ∷ es) h f =
-        elim (R k e.0) as (λ r. R k e.0 ≡ r → cond (is_eq r) (Some e.1) (find R k es) ≡ Some w → keys_passing g (by_order r ((k, v) ∷ e ∷ es) ((e.0, v) ∷ es) (e ∷ put R k v es)) ≡ keys_passing g (e ∷ es)) [
+        elim (R k e.0) as (λ r. R k e.0 ≡ r → cond (is_eq r) (Some e.1) (find R k es) ≡ Some w
+        → keys_passing g (by_order r ((k, v) ∷ e ∷ es) ((e.0, v) ∷ es) (e ∷ put R k v es)) ≡ keys_passing g (e ∷ es)) [
           | Less ↦ λ p f'. absurd (let none = find_before k es (before_less k e.0 es p (first _ _ h)) in let never : ⊥ = cc in never)
           | Equal ↦ λ p f'. counted g (e.0, v) es ∙ sym (counted g e es)
           | Greater ↦ λ p f'. counted g e (put R k v es) ∙ ap (λ n. cond (g e.0) 1 0 + n) (count-put_found g k v w es (second _ _ h) f') ∙ sym (counted g e es)

@@ -9,20 +9,21 @@ use Rattle.mj_subs.specs.Name.{Name}
 use Rattle.mj_locktab.specs.declared.hold.Hold.{Hold}
 use Rattle.mj_locktab.specs.declared.taken.Taken.{Taken}
 use Rattle.mj_locktab.specs.declared.taken.Taken.TheVariants as takes
-use Rattle.mj_locktab.specs.Locks.{Locks, hold_of, job_of, hold_cmp, count_of, names_of, name_limit, count_limit, is_over, IsInOrder, LocksApart, IsKept}
+use Rattle.mj_locktab.specs.Locks.{Locks, hold_of, job_of, hold_cmp, count_of, names_of, is_past_limit, IsInOrder, LocksApart, IsLockTable}
+use Rattle.mj_locktab.specs.declared.held.TheConstants.{HOLDS_LIMIT, COUNT_LIMIT}
 use Rattle.mj_locktab.specs.Changes.{with_count, one_more, one_less, after_take, after_give, after_give_all}
-use Rattle.mj_locktab.specs.Places.{IsAt, IsGapFor, Takes}
-use Rattle.mj_locktab.specs.Tries.{conflict_of, told, left, outcome_of, after_try, IsInTheWay, AreFree, Tells}
+use Rattle.mj_locktab.specs.Places.{HoldStandsAt, IsGapFor, TakeLeaves}
+use Rattle.mj_locktab.specs.Tries.{conflict_of, try_answer, left, outcome_of, after_try, IsInTheWay, AreFree, TryGives}
 use Rattle.mj_locktab.proofs.Entries.{any-filter}
 use Rattle.mj_locktab.proofs.Counts.{order-after_take, order-after_give, order-after_give_all, order-one_less, counted-after_take, counted-after_give, counted-one_less, rises, given_back}
 use Rattle.mj_locktab.proofs.Limits.{lt_true, lt_false, over-held, over-new, over-after_take, within-after_take, within-one_less, within-after_give_all}
 use Rattle.mj_locktab.proofs.Apart.{in_the_way, all_free, apart-after_take, apart-after_give, apart-after_give_all}
 
 -- nothing is held
-pub kept-none : IsKept []
+pub kept-none : IsLockTable []
 kept-none = record { in_order = tt; counted = refl; within = λ job. refl; apart = λ j k m n other one two over. omega (arith, one) }
 
-pub kept-after_take : (locks : Locks) (job : ℕ) (names : List Name) → IsKept locks → AreFree locks job names → is_over (after_take locks job names) job ≡ false → IsKept (after_take locks job names)
+pub kept-after_take : (locks : Locks) (job : ℕ) (names : List Name) → IsLockTable locks → AreFree locks job names → is_past_limit (after_take locks job names) job ≡ false → IsLockTable (after_take locks job names)
 kept-after_take locks job names kept are_free within = record {
   in_order = order-after_take locks job names kept.in_order;
   counted = counted-after_take locks job names kept.counted;
@@ -30,11 +31,11 @@ kept-after_take locks job names kept are_free within = record {
   apart = apart-after_take locks job names are_free kept.apart;
 }
 
-within-after_give : (locks : Locks) (job : ℕ) (names : List Name) (j : ℕ) → IsInOrder locks → is_over locks j ≡ false → is_over (after_give locks job names) j ≡ false
+within-after_give : (locks : Locks) (job : ℕ) (names : List Name) (j : ℕ) → IsInOrder locks → is_past_limit locks j ≡ false → is_past_limit (after_give locks job names) j ≡ false
 within-after_give locks job [] j order within = within
 within-after_give locks job (n ∷ names) j order within = within-after_give (one_less locks job n) job names j (order-one_less locks job n order) (within-one_less locks job n j order within)
 
-pub kept-after_give : (locks : Locks) (job : ℕ) (names : List Name) → IsKept locks → IsKept (after_give locks job names)
+pub kept-after_give : (locks : Locks) (job : ℕ) (names : List Name) → IsLockTable locks → IsLockTable (after_give locks job names)
 kept-after_give locks job names kept = record {
   in_order = order-after_give locks job names kept.in_order;
   counted = counted-after_give locks job names kept.counted;
@@ -42,7 +43,7 @@ kept-after_give locks job names kept = record {
   apart = apart-after_give locks job names kept.apart;
 }
 
-pub kept-after_give_all : (locks : Locks) (job : ℕ) → IsKept locks → IsKept (after_give_all locks job)
+pub kept-after_give_all : (locks : Locks) (job : ℕ) → IsLockTable locks → IsLockTable (after_give_all locks job)
 kept-after_give_all locks job kept = record {
   in_order = order-after_give_all locks job kept.in_order;
   counted = any-filter hold_cmp (λ v. v == 0) (λ e. not (job_of e.0 == job)) locks kept.counted;
@@ -57,35 +58,37 @@ after_take-append : (locks : Locks) (job : ℕ) (names more : List Name) → aft
 after_take-append locks job [] more = refl
 after_take-append locks job (n ∷ names) more = after_take-append (one_more locks job n) job names more
 
-module _ (locks : Locks) (job : ℕ) (n : Name) (order : IsInOrder locks) (within : is_over locks job ≡ false) where
+module _ (locks : Locks) (job : ℕ) (n : Name) (order : IsInOrder locks) (within : is_past_limit locks job ≡ false) where
   -- of a name that is held, the count tells whether a limit is passed
-  pub held_over : (at : ℕ) (e : Hold × ℕ) → IsAt locks (hold_of job n) at → e ≡ get_or locks at e → e.1 ≡ count_limit → (set locks at e ≡ locks) × (is_over (one_more locks job n) job ≡ true)
+  pub held_over : (at : ℕ) (e : Hold × ℕ) → HoldStandsAt locks (hold_of job n) at → e ≡ get_or locks at e → e.1 ≡ COUNT_LIMIT → (set locks at e ≡ locks) × (is_past_limit (one_more locks job n) job ≡ true)
   held_over at e is here full = (
     ap (λ (x : Hold × ℕ). set locks at x) here ∙ set-get_or locks at e,
-    over-held locks job e.1 n order within (is.found e ∙ ap (λ (x : Hold × ℕ). Some x.1) (sym here)) ∙ lt_true count_limit (e.1 + 1) (omega (arith, full)),
+    over-held locks job e.1 n order within (is.found e ∙ ap (λ (x : Hold × ℕ). Some x.1) (sym here)) ∙ lt_true COUNT_LIMIT (e.1 + 1) (omega (arith, full)),
   )
 
-  pub held_more : (at : ℕ) (e : Hold × ℕ) → IsAt locks (hold_of job n) at → e ≡ get_or locks at e → e.1 + 1 ≤ count_limit → (set locks at (e.0, e.1 + 1) ≡ one_more locks job n) × (is_over (one_more locks job n) job ≡ false)
+  pub held_more : (at : ℕ) (e : Hold × ℕ) → HoldStandsAt locks (hold_of job n) at → e ≡ get_or locks at e → e.1 + 1 ≤ COUNT_LIMIT
+      → (set locks at (e.0, e.1 + 1) ≡ one_more locks job n) × (is_past_limit (one_more locks job n) job ≡ false)
   held_more at e is here room =
       let found : find hold_cmp (hold_of job n) locks ≡ Some e.1 = is.found e ∙ ap (λ (x : Hold × ℕ). Some x.1) (sym here) in
       let same : e.0 ≡ hold_of job n = ap (λ (x : Hold × ℕ). x.0) (here ∙ is.here e) in
       let value : count_of locks job n ≡ e.1 = ap (λ (o : Option ℕ). unwrap_or o 0) found in (
         (λ i. set locks at (same i, e.1 + 1)) ∙ ap (λ (c : ℕ). set locks at (hold_of job n, c + 1)) (sym value) ∙ sym (is.written (count_of locks job n + 1)),
-        over-held locks job e.1 n order within found ∙ lt_false count_limit (e.1 + 1) room,
+        over-held locks job e.1 n order within found ∙ lt_false COUNT_LIMIT (e.1 + 1) room,
       )
 
-  pub new_over : (at : ℕ) → IsGapFor locks (hold_of job n) at → name_limit ≤ names_of locks job → is_over (one_more locks job n) job ≡ true
-  new_over at gap full = over-new locks job n within gap.absent ∙ lt_true name_limit (names_of locks job + 1) (omega (arith, full))
+  pub new_over : (at : ℕ) → IsGapFor locks (hold_of job n) at → HOLDS_LIMIT ≤ names_of locks job → is_past_limit (one_more locks job n) job ≡ true
+  new_over at gap full = over-new locks job n within gap.absent ∙ lt_true HOLDS_LIMIT (names_of locks job + 1) (omega (arith, full))
 
-  pub new_one : (at : ℕ) → IsGapFor locks (hold_of job n) at → names_of locks job < name_limit → (insert locks at (hold_of job n, 1) ≡ one_more locks job n) × (is_over (one_more locks job n) job ≡ false)
+  pub new_one : (at : ℕ) → IsGapFor locks (hold_of job n) at → names_of locks job < HOLDS_LIMIT
+      → (insert locks at (hold_of job n, 1) ≡ one_more locks job n) × (is_past_limit (one_more locks job n) job ≡ false)
   new_one at gap room =
       let value : count_of locks job n ≡ 0 = ap (λ (o : Option ℕ). unwrap_or o 0) gap.absent in (
         sym (gap.written 1) ∙ ap (λ (c : ℕ). put hold_cmp (hold_of job n) c locks) {x = 1} {y = count_of locks job n + 1} (omega (arith, value)),
-        over-new locks job n within gap.absent ∙ lt_false name_limit (names_of locks job + 1) (omega (arith, room)),
+        over-new locks job n within gap.absent ∙ lt_false HOLDS_LIMIT (names_of locks job + 1) (omega (arith, room)),
       )
 
 module _ (locks : Locks) (job : ℕ) (n : Name) where
-  pub less_there : (at : ℕ) (e : Hold × ℕ) → IsAt locks (hold_of job n) at → e ≡ get_or locks at e → 1 < e.1 → set locks at (e.0, e.1 - 1) ≡ one_less locks job n
+  pub less_there : (at : ℕ) (e : Hold × ℕ) → HoldStandsAt locks (hold_of job n) at → e ≡ get_or locks at e → 1 < e.1 → set locks at (e.0, e.1 - 1) ≡ one_less locks job n
   less_there at e is here more = by (e.1 - 1) refl (omega (arith, more)) where
     value : count_of locks job n ≡ e.1
     value = ap (λ (o : Option ℕ). unwrap_or o 0) (is.found e ∙ ap (λ (x : Hold × ℕ). Some x.1) (sym here))
@@ -100,7 +103,7 @@ module _ (locks : Locks) (job : ℕ) (n : Name) where
     by : (c : ℕ) → e.1 - 1 ≡ c → 0 < c → set locks at (e.0, e.1 - 1) ≡ one_less locks job n
     by c is' up = (λ i. set locks at (same i, is' i)) ∙ written c up ∙ ap (λ (x : ℕ). with_count locks job n x) (sym is' ∙ ap (λ (x : ℕ). x - 1) (sym value))
 
-  pub gone_there : (at : ℕ) (e : Hold × ℕ) → IsAt locks (hold_of job n) at → e ≡ get_or locks at e → e.1 ≤ 1 → remove locks at ≡ one_less locks job n
+  pub gone_there : (at : ℕ) (e : Hold × ℕ) → HoldStandsAt locks (hold_of job n) at → e ≡ get_or locks at e → e.1 ≤ 1 → remove locks at ≡ one_less locks job n
   gone_there at e is here few =
       let value : count_of locks job n ≡ e.1 = ap (λ (o : Option ℕ). unwrap_or o 0) (is.found e ∙ ap (λ (x : Hold × ℕ). Some x.1) (sym here)) in
       sym is.gone ∙ ap (λ (x : ℕ). with_count locks job n x) {x = 0} {y = count_of locks job n - 1} (omega (arith, value, few))
@@ -122,14 +125,14 @@ one_step locks job names i n lt here = ap (λ (ns : List Name). after_take locks
 
 -- where a limit is passed at one name, it is at the end
 pub over_at : (locks : Locks) (job : ℕ) (names : List Name) (i : ℕ) (n : Name) → i < length names → n ≡ get_or names i n
-    → is_over (one_more (after_take locks job (take i names)) job n) job ≡ true → is_over (after_take locks job names) job ≡ true
+    → is_past_limit (one_more (after_take locks job (take i names)) job n) job ≡ true → is_past_limit (after_take locks job names) job ≡ true
 over_at locks job names i n lt here over =
-    ap (λ (ns : List Name). is_over (after_take locks job ns) job) (sym (take-append-drop (i + 1) names))
-    ∙ ap (λ (l : Locks). is_over l job) (after_take-append locks job (take (i + 1) names) (drop (i + 1) names))
-    ∙ over-after_take (after_take locks job (take (i + 1) names)) job (drop (i + 1) names) (ap (λ (l : Locks). is_over l job) (one_step locks job names i n lt here) ∙ over)
+    ap (λ (ns : List Name). is_past_limit (after_take locks job ns) job) (sym (take-append-drop (i + 1) names))
+    ∙ ap (λ (l : Locks). is_past_limit l job) (after_take-append locks job (take (i + 1) names) (drop (i + 1) names))
+    ∙ over-after_take (after_take locks job (take (i + 1) names)) job (drop (i + 1) names) (ap (λ (l : Locks). is_past_limit l job) (one_step locks job names i n lt here) ∙ over)
 
 -- the names so far are given back
-pub undone : (locks held : Locks) (job : ℕ) (names : List Name) (i : ℕ) → IsKept locks → held ≡ after_take locks job (take i names) → after_give held job (take i names) ≡ locks
+pub undone : (locks held : Locks) (job : ℕ) (names : List Name) (i : ℕ) → IsLockTable locks → held ≡ after_take locks job (take i names) → after_give held job (take i names) ≡ locks
 undone locks held job names i kept same = ap (λ (l : Locks). after_give l job (take i names)) same ∙ given_back locks job (take i names) kept.in_order kept.counted
 
 -- one name given, and then the rest
@@ -141,18 +144,18 @@ one_given locks job names i n lt here =
 
 -- ---- a try
 
-pub got_try : (locks : Locks) (job : ℕ) (names : List Name) → conflict_of locks job names ≡ None → is_over (after_take locks job names) job ≡ false
-    → (takes.Got ≡ outcome_of locks job names) × (after_take locks job names ≡ after_try locks job names) × Tells locks job names takes.Got (after_take locks job names)
+pub got_try : (locks : Locks) (job : ℕ) (names : List Name) → conflict_of locks job names ≡ None → is_past_limit (after_take locks job names) job ≡ false
+    → (takes.Got ≡ outcome_of locks job names) × (after_take locks job names ≡ after_try locks job names) × TryGives locks job names takes.Got (after_take locks job names)
 got_try locks job names none within = (
-  (λ i. told (sym none i) (sym within i)),
+  (λ i. try_answer (sym none i) (sym within i)),
   (λ i. left (sym none i) (sym within i) locks (after_take locks job names)),
   (all_free locks job names none, rises locks job names),
 )
 
-pub limit_try : (locks : Locks) (job : ℕ) (names : List Name) → conflict_of locks job names ≡ None → is_over (after_take locks job names) job ≡ true
-    → (takes.Limit ≡ outcome_of locks job names) × (locks ≡ after_try locks job names) × Tells locks job names takes.Limit locks
+pub limit_try : (locks : Locks) (job : ℕ) (names : List Name) → conflict_of locks job names ≡ None → is_past_limit (after_take locks job names) job ≡ true
+    → (takes.Limit ≡ outcome_of locks job names) × (locks ≡ after_try locks job names) × TryGives locks job names takes.Limit locks
 limit_try locks job names none over = (
-  (λ i. told (sym none i) (sym over i)),
+  (λ i. try_answer (sym none i) (sym over i)),
   (λ i. left (sym none i) (sym over i) locks (after_take locks job names)),
   (all_free locks job names none, over, refl),
 )

@@ -12,7 +12,7 @@ use Rattle.std.specs.FinMap.Entries.{by_order, below_all}
 use Rattle.std.proofs.lemmas.List.Sorted.{searchable_from_sorted}
 use Rattle.mj_locktab.specs.declared.hold.Hold.{Hold}
 use Rattle.mj_locktab.specs.Locks.{Locks, hold_cmp, IsInOrder}
-use Rattle.mj_locktab.specs.Places.{IsAt, IsGapFor}
+use Rattle.mj_locktab.specs.Places.{HoldStandsAt, IsGapFor}
 use Rattle.mj_locktab.proofs.Order.{hold_cmp_total, hold_cmp-IsAntisymmetric}
 use Rattle.mj_locktab.proofs.Entries.{others, first, second, is_less, filter_absent, find_before, before_tied}
 
@@ -104,7 +104,7 @@ module _ {K : Type 0} (R : K → K → Ordering) (o : IsTotalOrder R) where
 
 -- the search of a hold ends at it, or where it would go
 module _ (locks : Locks) (h : Hold) (order : IsInOrder locks) where
-  at_place : (at : ℕ) → at < length locks → ((d : Hold × ℕ) → hold_cmp (get_or locks at d).0 h ≡ Equal) → IsAt locks h at
+  at_place : (at : ℕ) → at < length locks → ((d : Hold × ℕ) → hold_cmp (get_or locks at d).0 h ≡ Equal) → HoldStandsAt locks h at
   at_place at lt ties =
       let d : Hold × ℕ = (h, 0) in
       let same : (d : Hold × ℕ) → (get_or locks at d).0 ≡ h = λ d. hold_cmp-IsAntisymmetric (get_or locks at d).0 h (ties d) in
@@ -127,6 +127,6 @@ module _ (locks : Locks) (h : Hold) (order : IsInOrder locks) where
         same = filter_absent hold_cmp h locks none;
       }
 
-  pub searched : (r : Result ℕ ℕ) → IsSearchInRange r (length locks) → IsBinarySearchResult (λ y. hold_cmp y.0 h) locks r → IfOk r (IsAt locks h) × IfErr r (IsGapFor locks h)
+  pub searched : (r : Result ℕ ℕ) → IsSearchInRange r (length locks) → IsBinarySearchResult (λ y. hold_cmp y.0 h) locks r → IfOk r (HoldStandsAt locks h) × IfErr r (IsGapFor locks h)
   searched (Ok at) range ties = (at_place at range ties, tt)
   searched (Err at) range parted = (tt, at_gap at range (parted (rising hold_cmp hold_cmp_total h locks order)))

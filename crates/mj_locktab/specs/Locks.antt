@@ -7,6 +7,7 @@ use Rattle.std.specs.FinMap.{find, is_sorted}
 use Rattle.mj_subs.specs.Name.{Name, Overlaps}
 use Rattle.mj_subs.specs.Collation.{name_cmp}
 use Rattle.mj_locktab.specs.declared.hold.Hold.{Hold}
+use Rattle.mj_locktab.specs.declared.held.TheConstants.{HOLDS_LIMIT, COUNT_LIMIT}
 
 -- holds, each a job with a name, and how often the job holds the name
 abbrev pub Locks : Type 0
@@ -34,16 +35,9 @@ count_of locks job name = unwrap_or (find hold_cmp (hold_of job name) locks) 0
 abbrev pub names_of : Locks → ℕ → ℕ
 names_of locks job = count_by (λ e. job_of e.0 == job) locks
 
--- the most names that a job may hold, and the most often that it may hold one (this profile)
-abbrev pub name_limit : ℕ
-name_limit = 1024
-
-abbrev pub count_limit : ℕ
-count_limit = 4294967295
-
 -- whether the job holds too many names, or a name is held too often
-abbrev pub is_over : Locks → ℕ → Bool
-is_over locks job = nat_lt name_limit (names_of locks job) || list_any (λ e. nat_lt count_limit e.1) locks
+abbrev pub is_past_limit : Locks → ℕ → Bool
+is_past_limit locks job = nat_lt HOLDS_LIMIT (names_of locks job) || list_any (λ e. nat_lt COUNT_LIMIT e.1) locks
 
 -- no name of one job overlaps a name of another
 abbrev pub LocksApart : Locks → Type 0
@@ -54,12 +48,12 @@ abbrev pub IsInOrder : Locks → Type 0
 IsInOrder locks = T (is_sorted hold_cmp locks)
 
 -- What holds of each table of locks. So it is told by its counts alone: with the same counts it is the same list.
-pub record IsKept (locks : Locks) : Type 0 where
+pub record IsLockTable (locks : Locks) : Type 0 where
   -- the holds stand in order, each once
   pub in_order : IsInOrder locks
   -- and no count is 0
   pub counted : list_any (λ e. e.1 == 0) locks ≡ false
   -- no job is over a limit
-  pub within : (job : ℕ) → is_over locks job ≡ false
+  pub within : (job : ℕ) → is_past_limit locks job ≡ false
   -- no name of one job overlaps a name of another
   pub apart : LocksApart locks

@@ -4,10 +4,10 @@ use Rattle.std.specs.List.{filter, insert, remove, slice_index_or}
 use Rattle.std.specs.Ordering.{eq_by_cmp}
 use Rattle.std.specs.FinMap.{find, put}
 use Rattle.mj_locktab.specs.declared.hold.Hold.{Hold}
-use Rattle.mj_locktab.specs.Locks.{Locks, hold_cmp, is_over}
+use Rattle.mj_locktab.specs.Locks.{Locks, hold_cmp, is_past_limit}
 
 -- the hold stands at this place
-pub record IsAt (locks : Locks) (h : Hold) (at : ℕ) : Type 0 where
+pub record HoldStandsAt (locks : Locks) (h : Hold) (at : ℕ) : Type 0 where
   pub in_range : at < length locks
   -- it is that hold, and its count is the one that is found
   pub here : (d : Hold × ℕ) → slice_index_or locks at d ≡ (h, (slice_index_or locks at d).1)
@@ -24,6 +24,6 @@ pub record IsGapFor (locks : Locks) (h : Hold) (at : ℕ) : Type 0 where
   pub same : filter (λ e. not (eq_by_cmp hold_cmp h e.0)) locks ≡ locks
 
 -- What a take leaves: what it would, where no limit is passed then, and else what it found.
-abbrev pub Takes : Locks → Locks → ℕ → Bool → Locks → Type 0
-Takes old would job true new = (new ≡ would) × (is_over would job ≡ false)
-Takes old would job false new = (new ≡ old) × (is_over would job ≡ true)
+abbrev pub TakeLeaves : Locks → Locks → ℕ → Bool → Locks → Type 0
+TakeLeaves old would job true new = (new ≡ would) × (is_past_limit would job ≡ false)
+TakeLeaves old would job false new = (new ≡ old) × (is_past_limit would job ≡ true)

@@ -6,7 +6,7 @@ use Rattle.mj_subs.specs.Name.{Name, overlaps, Overlaps}
 use Rattle.mj_locktab.specs.declared.hold.Hold.{Hold}
 use Rattle.mj_locktab.specs.declared.taken.Taken.{Taken}
 use Rattle.mj_locktab.specs.declared.taken.Taken.TheVariants as takes
-use Rattle.mj_locktab.specs.Locks.{Locks, job_of, name_of, count_of, is_over}
+use Rattle.mj_locktab.specs.Locks.{Locks, job_of, name_of, count_of, is_past_limit}
 use Rattle.mj_locktab.specs.Changes.{after_take, RisesBy}
 
 -- it is another job's, and its name overlaps this one
@@ -23,10 +23,10 @@ conflict_of locks job [] = None
 conflict_of locks job (n ∷ names) = option_or (conflict_with locks job n) (conflict_of locks job names)
 
 -- what is told where there is such a hold or none, and where a limit would be passed or none
-abbrev pub told : Option (Hold × ℕ) → Bool → Taken
-told (Some e) over = takes.Busy (job_of e.0) (name_of e.0)
-told None true = takes.Limit
-told None false = takes.Got
+abbrev pub try_answer : Option (Hold × ℕ) → Bool → Taken
+try_answer (Some e) over = takes.Busy (job_of e.0) (name_of e.0)
+try_answer None true = takes.Limit
+try_answer None false = takes.Got
 
 -- what is left then: only where the names are got something changes
 abbrev pub left : Option (Hold × ℕ) → Bool → Locks → Locks → Locks
@@ -36,11 +36,11 @@ left None false old new = new
 
 -- what a try of the names is told (8.2.12: LOCK, on the names as a whole)
 abbrev pub outcome_of : Locks → ℕ → List Name → Taken
-outcome_of locks job names = told (conflict_of locks job names) (is_over (after_take locks job names) job)
+outcome_of locks job names = try_answer (conflict_of locks job names) (is_past_limit (after_take locks job names) job)
 
 -- what it leaves: all of the names are taken, or none
 abbrev pub after_try : Locks → ℕ → List Name → Locks
-after_try locks job names = left (conflict_of locks job names) (is_over (after_take locks job names) job) locks (after_take locks job names)
+after_try locks job names = left (conflict_of locks job names) (is_past_limit (after_take locks job names) job) locks (after_take locks job names)
 
 -- another job holds this name, which overlaps one of the list
 pub record IsInTheWay (locks : Locks) (job : ℕ) (names : List Name) (holder : ℕ) (name : Name) : Type 0 where
@@ -56,7 +56,7 @@ AreFree locks job names = (holder : ℕ) (name : Name) → IsInTheWay locks job 
 
 -- What each answer says. Got: the names are free and each is held once more for each of its places. Busy: another job holds this
 -- name. Limit: the names are free, and a limit would be passed. But for Got nothing changes.
-abbrev pub Tells : Locks → ℕ → List Name → Taken → Locks → Type 0
-Tells old job names takes.Got new = AreFree old job names × RisesBy old job names new
-Tells old job names (takes.Busy holder name) new = IsInTheWay old job names holder name × (new ≡ old)
-Tells old job names takes.Limit new = AreFree old job names × (is_over (after_take old job names) job ≡ true) × (new ≡ old)
+abbrev pub TryGives : Locks → ℕ → List Name → Taken → Locks → Type 0
+TryGives old job names takes.Got new = AreFree old job names × RisesBy old job names new
+TryGives old job names (takes.Busy holder name) new = IsInTheWay old job names holder name × (new ≡ old)
+TryGives old job names takes.Limit new = AreFree old job names × (is_past_limit (after_take old job names) job ≡ true) × (new ≡ old)

@@ -1,10 +1,10 @@
 // The holds in their order.
 
 ghost use Rattle.std.specs.Prelude.{◌≡◌, map, true, false, IfOk, IfErr, OnErr, option_copied};
-ghost use Rattle.mj_locktab.specs.Locks.{hold_cmp, hold_of, job_of, name_of, names_of, count_of, is_over, IsInOrder, IsKept};
+ghost use Rattle.mj_locktab.specs.Locks.{hold_cmp, hold_of, job_of, name_of, names_of, count_of, is_past_limit, IsInOrder, IsLockTable};
 ghost use Rattle.mj_locktab.specs.Changes.{one_more, one_less, after_take, after_give, after_give_all};
 ghost use Rattle.mj_locktab.specs.Tries.{is_conflict, conflict_with, conflict_of};
-ghost use Rattle.mj_locktab.specs.Places.{IsAt, IsGapFor, Takes};
+ghost use Rattle.mj_locktab.specs.Places.{HoldStandsAt, IsGapFor, TakeLeaves};
 
 use crate::hold::Hold;
 use mj_subs::Name;
@@ -12,7 +12,10 @@ use std::alloc::{AllocError, Global};
 use std::cmp::Ordering;
 
 /// The most names that a job may hold.
-pub const NAME_LIMIT: usize = 1024;
+pub const HOLDS_LIMIT: usize = 1024;
+
+/// The most often that a job may hold one name.
+pub const COUNT_LIMIT: u32 = u32::MAX;
 
 /// The first hold of another job that keeps this one from the names.
 pub fn conflict_of<'a>(held: &'a [(Hold, u32)], job: u32, names: &[Name]) -> Option<&'a (Hold, u32)>
@@ -41,8 +44,8 @@ fn is_conflict(hold: &Hold, job: u32, name: &Name) -> bool
 
 /// Takes each name once more for each of its places, or none where a limit would be passed, and says which.
 pub fn take_each(held: &mut Vec<(Hold, u32)>, job: u32, names: &[Name]) -> Result<bool, AllocError>
-    requires kept { IsKept held.old.items }
-    ensures ok { IfOk result (λ taken. Takes held.old.items (after_take held.old.items job names.now) job taken held.new.items) }
+    requires kept { IsLockTable held.old.items }
+    ensures ok { IfOk result (λ taken. TakeLeaves held.old.items (after_take held.old.items job names.now) job taken held.new.items) }
     ensures err { OnErr result (held.new.items ≡ held.old.items) }
 {
     for (i, name) in names.iter().enumerate() {
@@ -64,21 +67,21 @@ pub fn take_each(held: &mut Vec<(Hold, u32)>, job: u32, names: &[Name]) -> Resul
 // Takes the name once more, or leaves it where a limit would be passed, and says which.
 fn take(held: &mut Vec<(Hold, u32)>, job: u32, name: &Name) -> Result<bool, AllocError>
     requires order { IsInOrder held.old.items }
-    requires within { is_over held.old.items job ≡ false }
-    ensures ok { IfOk result (λ taken. Takes held.old.items (one_more held.old.items job name.now) job taken held.new.items) }
+    requires within { is_past_limit held.old.items job ≡ false }
+    ensures ok { IfOk result (λ taken. TakeLeaves held.old.items (one_more held.old.items job name.now) job taken held.new.items) }
     ensures err { OnErr result (held.new.items ≡ held.old.items) }
 {
     match place(held, job, name) {
         Ok(at) => {
             let entry = &mut held[at];
-            if entry.1 == u32::MAX {
+            if entry.1 == COUNT_LIMIT {
                 return Ok(false);
             }
             entry.1 += 1;
             Ok(true)
         }
         Err(at) => {
-            if names_of(held, job) >= NAME_LIMIT {
+            if names_of(held, job) >= HOLDS_LIMIT {
                 return Ok(false);
             }
             let hold = Hold {
@@ -153,7 +156,7 @@ pub fn list(alloc: Global, held: &[(Hold, u32)]) -> Result<Vec<(u32, Name, u32)>
     Ok(list)
 }
 
-/// The same holds once more.
+/// A copy.
 pub fn copy(alloc: Global, held: &[(Hold, u32)]) -> Result<Vec<(Hold, u32)>, AllocError>
     ensures { IfOk result (λ copies. copies.items ≡ held.now) }
 {
@@ -174,7 +177,7 @@ pub fn copy(alloc: Global, held: &[(Hold, u32)]) -> Result<Vec<(Hold, u32)>, All
 // Where the job's hold of the name stands, or else where it would go.
 fn place(held: &[(Hold, u32)], job: u32, name: &Name) -> Result<usize, usize>
     requires { IsInOrder held.now }
-    ensures found { IfOk result (IsAt held.now (hold_of job name.now)) }
+    ensures found { IfOk result (HoldStandsAt held.now (hold_of job name.now)) }
     ensures absent { IfErr result (IsGapFor held.now (hold_of job name.now)) }
 {
     held.binary_search_by(|entry| compare(&entry.0, job, name))

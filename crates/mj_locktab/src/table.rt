@@ -1,9 +1,9 @@
 // The table of locks.
 
 ghost use Rattle.std.specs.Prelude.{◌≡◌, [], map, IfOk, OnOk, OnErr};
-ghost use Rattle.mj_locktab.specs.Locks.{count_of, job_of, name_of, IsKept};
+ghost use Rattle.mj_locktab.specs.Locks.{count_of, job_of, name_of, IsLockTable};
 ghost use Rattle.mj_locktab.specs.Changes.{after_give, after_give_all, FallsBy, IsWithout};
-ghost use Rattle.mj_locktab.specs.Tries.{outcome_of, after_try, Tells};
+ghost use Rattle.mj_locktab.specs.Tries.{outcome_of, after_try, TryGives};
 
 use crate::held;
 use crate::hold::Hold;
@@ -19,13 +19,13 @@ pub struct LockTable {
 }
 
 impl Model for LockTable {
-    ghost use Rattle.mj_locktab.specs.Locks.{Locks, IsKept};
+    ghost use Rattle.mj_locktab.specs.Locks.{Locks, IsLockTable};
 
     ghost Value = { Locks };
 
     ghost view = { λ t. t.held.items };
 
-    ghost invariant = { λ t. IsKept t.held.items };
+    ghost invariant = { λ t. IsLockTable t.held.items };
 }
 
 impl LockTable {
@@ -44,7 +44,7 @@ impl LockTable {
     pub fn try_take(&mut self, job: u32, names: &[Name]) -> Result<Taken, AllocError>
         ensures answer { IfOk result (λ taken. taken ≡ outcome_of self.old job names.now) }
         ensures after { OnOk result (self.new ≡ after_try self.old job names.now) }
-        ensures meaning { IfOk result (λ taken. Tells self.old job names.now taken self.new) }
+        ensures meaning { IfOk result (λ taken. TryGives self.old job names.now taken self.new) }
         ensures err { OnErr result (self.new ≡ self.old) }
     {
         match held::conflict_of(&self.held, job, names) {
@@ -90,12 +90,12 @@ impl LockTable {
     /// Each job with each name that it holds and its count: by job, then globals before locals, then by word and subscripts.
     pub fn held(&self, alloc: Global) -> Result<Vec<(u32, Name, u32)>, AllocError>
         ensures each { IfOk result (λ list. list.items ≡ map (λ e. (job_of e.0, name_of e.0, e.1)) self.now) }
-        ensures kept { IsKept self.now }
+        ensures kept { IsLockTable self.now }
     {
         held::list(alloc, &self.held)
     }
 
-    /// The same table once more.
+    /// A copy.
     pub fn try_clone(&self) -> Result<LockTable, AllocError>
         ensures { IfOk result (λ copy. copy ≡ self.now) }
     {
@@ -105,8 +105,8 @@ impl LockTable {
 
     /// That this table keeps what each does. Nothing is done.
     pub fn keeps(&self)
-        ensures { IsKept self.now }
+        ensures { IsLockTable self.now }
     {
-        let _held = &self.held;
+        let _held = &self.held; // for the proof
     }
 }

@@ -6,18 +6,18 @@ ghost use Rattle.mj_semantics.specs.Commands as commands;
 ghost use Rattle.mj_machine.specs.Kept.{Does, IsWaiting, Stays, without, replied};
 
 use crate::control::Control;
-use crate::machine::{Machine, STEPS_LIMIT, Step};
+use crate::machine::{Machine, STEPS_LIMIT, TurnOutcome};
 use crate::quiet::fail;
 use crate::stack;
-use mj_ask::{Ask, Reply};
+use mj_ask::{Ask, DeviceAsk, Reply};
 use mj_text::{Digits, Fault, Text};
 use std::alloc::{AllocError, Global};
 
 /// The job waits for the reply to an ask.
-pub fn wait(alloc: Global, ask: Ask) -> Result<Step, AllocError>
+pub fn wait(alloc: Global, ask: Ask) -> Result<TurnOutcome, AllocError>
     ensures { IfOk result (λ step. IsWaiting ask step) }
 {
-    Ok(Step::Asks(Box::new(alloc, ask)?))
+    Ok(TurnOutcome::Asks(Box::new(alloc, ask)?))
 }
 
 /// Whether a reply says that the device failed.
@@ -39,7 +39,7 @@ pub(crate) fn put_out(
     text: Text,
     machine: &mut Machine,
     given: Option<&Reply>,
-) -> Result<Step, AllocError>
+) -> Result<TurnOutcome, AllocError>
     requires next { pc + 1 < 2 ^ 64 }
     requires enough { count ≤ length machine.old.stack.items }
     ensures ok { IfOk result (λ step. Does (λ next. commands.write text (without machine.old pc count next)) machine.old (replied given.entry) step machine.new) }
@@ -49,7 +49,7 @@ pub(crate) fn put_out(
     if size == 0 {
         stack::take_off(&mut machine.stack, count);
         machine.control = Control::At(pc + 1);
-        return Ok(Step::Next);
+        return Ok(TurnOutcome::Next);
     }
     if machine.replied >= STEPS_LIMIT {
         return Ok(fail(Fault::Steps, machine));
@@ -57,20 +57,20 @@ pub(crate) fn put_out(
     match given {
         None => {
             let device = machine.devices.current(alloc)?;
-            wait(alloc, Ask::DeviceWrite(device, text))
+            wait(alloc, Ask::Device(device, DeviceAsk::Write(text)))
         }
         Some(reply) => {
             machine.replied += 1;
             if is_failed(reply) {
                 machine.devices.fail_current();
                 machine.control = Control::Faulted(Fault::Device);
-                return Ok(Step::Took);
+                return Ok(TurnOutcome::Took);
             }
             let mut digits = Digits::new();
             machine.devices.write(text.bytes(&mut digits));
             stack::take_off(&mut machine.stack, count);
             machine.control = Control::At(pc + 1);
-            Ok(Step::Took)
+            Ok(TurnOutcome::Took)
         }
     }
 }

@@ -6,26 +6,26 @@ ghost use Rattle.mj_pcode.specs.declared.instr.Instr.TheVariants as instrs;
 ghost use Rattle.mj_machine.specs.Kept.{Does, Obeys, Stays, without, replied};
 
 use crate::asking::put_out;
-use crate::machine::{Machine, Step};
+use crate::machine::{Machine, TurnOutcome};
 use crate::quiet::fail;
 use mj_ask::Reply;
-use mj_ast::Mark;
+use mj_ast::FormatMark;
 use mj_pcode::Marks;
 use mj_text::{Failure, Fault, Text};
 use std::alloc::{AllocError, Global};
 
 /// The byte that a mark writes.
-fn mark_byte(mark: Mark) -> u8
+fn mark_byte(mark: FormatMark) -> u8
     ensures { result ≡ commands.mark_byte mark }
 {
     match mark {
-        Mark::NewLine => b'\n',
-        Mark::NewPage => 0x0c,
+        FormatMark::NewLine => b'\n',
+        FormatMark::NewPage => 0x0c,
     }
 }
 
 /// The bytes that marks write.
-pub fn spelled(alloc: Global, marks: &[Mark]) -> Result<Vec<u8>, AllocError>
+pub fn spelled(alloc: Global, marks: &[FormatMark]) -> Result<Vec<u8>, AllocError>
     ensures { IfOk result (λ bytes. bytes.items ≡ map commands.mark_byte marks.now) }
 {
     let mut bytes = Vec::new(alloc);
@@ -43,9 +43,9 @@ pub fn write_marks(
     marks: &Marks,
     machine: &mut Machine,
     given: Option<&Reply>,
-) -> Result<Step, AllocError>
+) -> Result<TurnOutcome, AllocError>
     requires { pc + 1 < 2 ^ 64 }
-    ensures ok { IfOk result (λ step. Obeys (instrs.Format marks.now) pc machine.old (replied given.entry) step machine.new) }
+    ensures ok { IfOk result (λ step. Obeys (instrs.WriteFormat marks.now) pc machine.old (replied given.entry) step machine.new) }
     ensures err { OnErr result (Stays machine.old machine.new) }
 {
     let bytes = spelled(alloc, marks.as_slice())?;
@@ -61,7 +61,7 @@ pub fn put_bytes(
     bytes: &[u8],
     machine: &mut Machine,
     given: Option<&Reply>,
-) -> Result<Step, AllocError>
+) -> Result<TurnOutcome, AllocError>
     requires next { pc + 1 < 2 ^ 64 }
     requires enough { count ≤ length machine.old.stack.items }
     ensures ok { IfOk result (λ step. Does (λ next. commands.write bytes.now (without machine.old pc count next)) machine.old (replied given.entry) step machine.new) }

@@ -5,7 +5,7 @@
 // machine stands where it stood.
 //
 // Each module has the instructions on one kind of data: the stack and constants (`quiet`), operators and functions (`values`), and what is written
-// (`asking`, `format`). Those on variables are in `mj_access`, which does its turns by what is here: operands (`stack`), a value that an instruction
+// (`asking`, `format`). Those on variables are in `mj_variable_ops`, which does its turns by what is here: operands (`stack`), a value that an instruction
 // leaves (`values`), the arguments of functions (`calls`), a turn that waits (`asking`) or fails (`quiet`).
 #![tactic(auto)]
 
@@ -20,5 +20,5 @@ pub mod stack;
 pub mod values;
 
 pub use control::Control;
-pub use machine::{Machine, STEPS_LIMIT, Step};
-pub use mark::{Mark, Return};
+pub use machine::{Machine, STEPS_LIMIT, TurnOutcome};
+pub use mark::{Return, TransactionMark};

@@ -3,11 +3,11 @@
 ghost use Rattle.std.specs.Prelude.{◌≤◌};
 
 use crate::control::Control;
-use crate::mark::{Mark, Return};
+use crate::mark::{Return, TransactionMark};
 use mj_ask::Ask;
 use mj_frames::{Call, Frames, Loop};
 use mj_locals::Locals;
-use mj_open::Devices;
+use mj_open_devices::Devices;
 use mj_store::Nodes;
 use mj_text::Text;
 
@@ -38,7 +38,7 @@ pub struct Machine {
     // `$TRESTART`
     pub restarts: u64,
     // the outermost TSTART, if a transaction is open
-    pub mark: Option<Mark>,
+    pub mark: Option<TransactionMark>,
     // where a restart goes on
     pub restart: Option<Return>,
     // asks that were replied to
@@ -50,7 +50,7 @@ pub struct Machine {
 
 /// How a turn goes. It is small, so that a turn that asks nothing moves little.
 #[derive(Drop)]
-pub enum Step {
+pub enum TurnOutcome {
     /// it is over
     Next,
     /// it is over, and took the reply that was given

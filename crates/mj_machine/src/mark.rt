@@ -5,7 +5,7 @@ use mj_locals::Snapshot;
 
 /// The outermost TSTART of the open transaction.
 #[derive(Drop)]
-pub struct Mark {
+pub struct TransactionMark {
     // a copy of the locals that a restart restores, if there can be one
     pub snapshot: Option<Snapshot>,
     // whether it is SERIAL

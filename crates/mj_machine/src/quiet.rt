@@ -8,7 +8,7 @@ ghost use Rattle.mj_pcode.specs.declared.instr.Instr.TheVariants as instrs;
 ghost use Rattle.mj_machine.specs.Kept.{state_of, DoesAlone, ObeysAlone, Stays};
 
 use crate::control::Control;
-use crate::machine::{Machine, Step};
+use crate::machine::{Machine, TurnOutcome};
 use crate::stack;
 use mj_ast::Special;
 use mj_num::Num;
@@ -17,16 +17,16 @@ use mj_text::{Fault, Text};
 use std::alloc::{AllocError, Global};
 
 /// A fault, which is told of in the next turn.
-pub fn fail(fault: Fault, machine: &mut Machine) -> Step
+pub fn fail(fault: Fault, machine: &mut Machine) -> TurnOutcome
     ensures { DoesAlone (λ next. told.fault fault) machine.old result machine.new }
 {
     machine.control = Control::Faulted(fault);
-    Step::Next
+    TurnOutcome::Next
 }
 
 /// A text is put on the stack.
 #[inline(never)]
-pub fn push(pc: usize, text: &Text, machine: &mut Machine) -> Result<Step, AllocError>
+pub fn push(pc: usize, text: &Text, machine: &mut Machine) -> Result<TurnOutcome, AllocError>
     requires { pc + 1 < 2 ^ 64 }
     ensures ok { IfOk result (λ step. ObeysAlone (instrs.Push text.now) pc machine.old step machine.new) }
     ensures err { OnErr result (Stays machine.old machine.new) }
@@ -34,7 +34,7 @@ pub fn push(pc: usize, text: &Text, machine: &mut Machine) -> Result<Step, Alloc
     let text = text.try_clone()?;
     stack::push(&mut machine.stack, text)?;
     machine.control = Control::At(pc + 1);
-    Ok(Step::Next)
+    Ok(TurnOutcome::Next)
 }
 
 /// The value of a special variable is put on the stack.
@@ -44,15 +44,15 @@ pub fn special(
     pc: usize,
     special: Special,
     machine: &mut Machine,
-) -> Result<Step, AllocError>
+) -> Result<TurnOutcome, AllocError>
     requires { pc + 1 < 2 ^ 64 }
-    ensures ok { IfOk result (λ step. ObeysAlone (instrs.Special special) pc machine.old step machine.new) }
+    ensures ok { IfOk result (λ step. ObeysAlone (instrs.PushSpecial special) pc machine.old step machine.new) }
     ensures err { OnErr result (Stays machine.old machine.new) }
 {
     let value = special_value(alloc, special, machine)?;
     stack::push(&mut machine.stack, value)?;
     machine.control = Control::At(pc + 1);
-    Ok(Step::Next)
+    Ok(TurnOutcome::Next)
 }
 
 // The value of a special variable.
@@ -80,39 +80,39 @@ fn truth_text(alloc: Global, truth: bool) -> Text
 
 /// So many operands are taken off.
 #[inline(never)]
-pub fn discard(pc: usize, count: usize, machine: &mut Machine) -> Step
+pub fn discard(pc: usize, count: usize, machine: &mut Machine) -> TurnOutcome
     requires next { pc + 1 < 2 ^ 64 }
     requires enough { count ≤ length machine.old.stack.items }
     ensures { ObeysAlone (instrs.Discard count) pc machine.old result machine.new }
 {
     stack::take_off(&mut machine.stack, count);
     machine.control = Control::At(pc + 1);
-    Step::Next
+    TurnOutcome::Next
 }
 
 /// All locals go but those of these names.
 #[inline(never)]
-pub fn spare(pc: usize, words: &Words, machine: &mut Machine) -> Step
+pub fn kill_except(pc: usize, words: &Words, machine: &mut Machine) -> TurnOutcome
     requires { pc + 1 < 2 ^ 64 }
-    ensures { ObeysAlone (instrs.Spare words.now) pc machine.old result machine.new }
+    ensures { ObeysAlone (instrs.KillExcept words.now) pc machine.old result machine.new }
 {
     machine.locals.keep_words(words.as_slice());
     machine.control = Control::At(pc + 1);
-    Step::Next
+    TurnOutcome::Next
 }
 
 /// The job goes on at another instruction.
-pub fn jump(target: usize, machine: &mut Machine) -> Step
+pub fn jump(target: usize, machine: &mut Machine) -> TurnOutcome
     ensures { (pc : ℕ) → ObeysAlone (instrs.Jump target) pc machine.old result machine.new }
 {
     machine.control = Control::At(target);
-    Step::Next
+    TurnOutcome::Next
 }
 
 /// The job ends.
-pub fn halt(machine: &mut Machine) -> Step
+pub fn halt(machine: &mut Machine) -> TurnOutcome
     ensures { (pc : ℕ) → ObeysAlone instrs.Halt pc machine.old result machine.new }
 {
     machine.control = Control::Closing(0, None);
-    Step::Next
+    TurnOutcome::Next
 }

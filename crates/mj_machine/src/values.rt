@@ -6,16 +6,16 @@ ghost use Rattle.mj_oper.specs.declared.op.Op.TheVariants as ops;
 ghost use Rattle.mj_strfn.specs.Functions.{AnswersOrMemory};
 ghost use Rattle.mj_semantics.specs.Outcome as told;
 ghost use Rattle.mj_pcode.specs.declared.instr.Instr.TheVariants as instrs;
-ghost use Rattle.mj_machine.specs.Kept.{DidAlone, Takes, Obeys, ObeysAlone, Stays, with_value, replied};
+ghost use Rattle.mj_machine.specs.Kept.{DidAlone, TakesReply, Obeys, ObeysAlone, Stays, with_value, replied};
 
 use crate::asking::put_out;
 use crate::calls::value_of;
 use crate::control::Control;
-use crate::machine::{Machine, Step};
+use crate::machine::{Machine, TurnOutcome};
 use crate::quiet::fail;
 use crate::stack;
 use mj_ask::Reply;
-use mj_ast::{Function, Mark};
+use mj_ast::{FormatMark, Function};
 use mj_oper::{Op, UnaryOp, binary, of_numbers, truth, unary};
 use mj_pcode::Marks;
 use mj_text::{Failure, Text};
@@ -56,16 +56,16 @@ pub fn put_told(
     count: usize,
     value: Result<Text, Failure>,
     machine: &mut Machine,
-) -> Result<Step, AllocError>
+) -> Result<TurnOutcome, AllocError>
     requires next { pc + 1 < 2 ^ 64 }
     requires enough { count ≤ length machine.old.stack.items }
     requires more { machine.old.replied < 1000000 }
-    ensures ok { (r : Result (List ℕ) faults.Fault) → AnswersOrMemory r value → IfOk result (λ step. Takes (λ next. told.given r (with_value machine.old pc count next)) machine.old step machine.new) }
+    ensures ok { (r : Result (List ℕ) faults.Fault) → AnswersOrMemory r value → IfOk result (λ step. TakesReply (λ next. told.given r (with_value machine.old pc count next)) machine.old step machine.new) }
     ensures err { OnErr result (Stays machine.old machine.new) }
 {
     machine.replied += 1;
     match put_value(pc, count, value, machine) {
-        Ok(()) => Ok(Step::Took),
+        Ok(()) => Ok(TurnOutcome::Took),
         Err(error) => {
             machine.replied -= 1;
             Err(error)
@@ -80,7 +80,7 @@ pub fn apply_unary(
     pc: usize,
     op: UnaryOp,
     machine: &mut Machine,
-) -> Result<Step, AllocError>
+) -> Result<TurnOutcome, AllocError>
     requires next { pc + 1 < 2 ^ 64 }
     requires enough { 1 ≤ length machine.old.stack.items }
     ensures ok { IfOk result (λ step. ObeysAlone (instrs.Unary op) pc machine.old step machine.new) }
@@ -88,7 +88,7 @@ pub fn apply_unary(
 {
     let value = unary(alloc, op, stack::top(&machine.stack));
     put_value(pc, 1, value, machine)?;
-    Ok(Step::Next)
+    Ok(TurnOutcome::Next)
 }
 
 /// An operator between its operands.
@@ -98,7 +98,7 @@ pub fn apply_binary(
     pc: usize,
     op: Op,
     machine: &mut Machine,
-) -> Result<Step, AllocError>
+) -> Result<TurnOutcome, AllocError>
     requires next { pc + 1 < 2 ^ 64 }
     requires enough { 2 ≤ length machine.old.stack.items }
     ensures ok { IfOk result (λ step. ObeysAlone (instrs.Binary op) pc machine.old step machine.new) }
@@ -116,7 +116,7 @@ pub fn apply_binary(
         Some(number) => {
             stack::fold(&mut machine.stack, number.to_text(alloc));
             machine.control = Control::At(pc + 1);
-            Ok(Step::Next)
+            Ok(TurnOutcome::Next)
         }
         None => apply_texts(alloc, pc, op, machine),
     }
@@ -124,7 +124,7 @@ pub fn apply_binary(
 
 // `_`, which lies apart as that does.
 #[inline(never)]
-fn apply_join(pc: usize, machine: &mut Machine) -> Result<Step, AllocError>
+fn apply_join(pc: usize, machine: &mut Machine) -> Result<TurnOutcome, AllocError>
     requires next { pc + 1 < 2 ^ 64 }
     requires enough { 2 ≤ length machine.old.stack.items }
     ensures ok { IfOk result (λ step. ObeysAlone (instrs.Binary ops.Join) pc machine.old step machine.new) }
@@ -133,11 +133,11 @@ fn apply_join(pc: usize, machine: &mut Machine) -> Result<Step, AllocError>
     match stack::join(&mut machine.stack) {
         Ok(()) => {
             machine.control = Control::At(pc + 1);
-            Ok(Step::Next)
+            Ok(TurnOutcome::Next)
         }
         Err(Failure::Fault(fault)) => {
             machine.control = Control::Faulted(fault);
-            Ok(Step::Next)
+            Ok(TurnOutcome::Next)
         }
         Err(Failure::Memory) => Err(AllocError),
     }
@@ -145,7 +145,12 @@ fn apply_join(pc: usize, machine: &mut Machine) -> Result<Step, AllocError>
 
 // An operator between operands that may be any texts. It lies apart, so that numbers don't clear its room.
 #[inline(never)]
-fn apply_texts(alloc: Global, pc: usize, op: Op, machine: &mut Machine) -> Result<Step, AllocError>
+fn apply_texts(
+    alloc: Global,
+    pc: usize,
+    op: Op,
+    machine: &mut Machine,
+) -> Result<TurnOutcome, AllocError>
     requires next { pc + 1 < 2 ^ 64 }
     requires enough { 2 ≤ length machine.old.stack.items }
     ensures ok { IfOk result (λ step. ObeysAlone (instrs.Binary op) pc machine.old step machine.new) }
@@ -158,7 +163,7 @@ fn apply_texts(alloc: Global, pc: usize, op: Op, machine: &mut Machine) -> Resul
         stack::top(&machine.stack),
     );
     put_value(pc, 2, value, machine)?;
-    Ok(Step::Next)
+    Ok(TurnOutcome::Next)
 }
 
 /// A function of the topmost `count` operands.
@@ -169,30 +174,30 @@ pub fn call(
     function: Function,
     count: usize,
     machine: &mut Machine,
-) -> Result<Step, AllocError>
+) -> Result<TurnOutcome, AllocError>
     requires next { pc + 1 < 2 ^ 64 }
     requires enough { count ≤ length machine.old.stack.items }
-    ensures ok { IfOk result (λ step. ObeysAlone (instrs.Call function count) pc machine.old step machine.new) }
+    ensures ok { IfOk result (λ step. ObeysAlone (instrs.CallFunction function count) pc machine.old step machine.new) }
     ensures err { OnErr result (Stays machine.old machine.new) }
 {
     let value = value_of(alloc, function, stack::topmost(&machine.stack, count));
     put_value(pc, count, value, machine)?;
-    Ok(Step::Next)
+    Ok(TurnOutcome::Next)
 }
 
 /// A postcondition.
 #[inline(never)]
-pub fn test(pc: usize, target: usize, machine: &mut Machine) -> Result<Step, AllocError>
+pub fn test(pc: usize, target: usize, machine: &mut Machine) -> Result<TurnOutcome, AllocError>
     requires next { pc + 1 < 2 ^ 64 }
     requires enough { 1 ≤ length machine.old.stack.items }
-    ensures ok { IfOk result (λ step. ObeysAlone (instrs.Unless target) pc machine.old step machine.new) }
+    ensures ok { IfOk result (λ step. ObeysAlone (instrs.JumpUnless target) pc machine.old step machine.new) }
     ensures err { OnErr result (Stays machine.old machine.new) }
 {
     match truth(stack::top(&machine.stack)) {
         Ok(holds) => {
             stack::take_one(&mut machine.stack);
             machine.control = Control::At(if holds { pc + 1 } else { target });
-            Ok(Step::Next)
+            Ok(TurnOutcome::Next)
         }
         Err(Failure::Fault(fault)) => Ok(fail(fault, machine)),
         Err(Failure::Memory) => Err(AllocError),
@@ -206,7 +211,7 @@ pub fn write(
     pc: usize,
     machine: &mut Machine,
     given: Option<&Reply>,
-) -> Result<Step, AllocError>
+) -> Result<TurnOutcome, AllocError>
     requires next { pc + 1 < 2 ^ 64 }
     requires enough { 1 ≤ length machine.old.stack.items }
     ensures ok { IfOk result (λ step. Obeys instrs.Write pc machine.old (replied given.entry) step machine.new) }

@@ -1,7 +1,7 @@
 -- What is printed of jobs one by one, and faults one by one.
 use Rattle.std.proofs.Common.{◌≡◌, ℕ, zero, suc, ◌+◌, ◌<◌, Bool, true, false, ◌||◌, List, [], ◌∷◌, ◌++◌, length, slice_get, sym, ap, ◌∙◌, refl, subst, arith}
 use Rattle.mj_sys.specs.History.{History}
-use Rattle.mj_many.specs.Printed.{part, parts}
+use Rattle.mj_main.specs.Printed.{part, parts}
 use Rattle.mj_main.specs.Statuses.{has_faulted, event_faults, is_fault}
 
 or_true : (b : Bool) → (b || true) ≡ true

@@ -1,3 +1,4 @@
+mod Joined
 mod Counting
 mod Lines
 mod Stepping

@@ -2,34 +2,34 @@
 use Rattle.std.proofs.Common.{◌≡◌, ℕ, zero, suc, ◌+◌, List, [], ◌∷◌, take, Result, Ok, Err, ◌⊎◌, Option, Some, None, inl, inr, ap, refl}
 use Rattle.std.specs.Prelude.{IfNone}
 use Rattle.mj_sys.specs.Shared.{Shared}
-use Rattle.mj_dialogue.specs.Shown.{Shown}
-use Rattle.mj_dialogue.specs.Gives.{Gives, RunGives}
+use Rattle.mj_core.specs.Shown.{Shown}
+use Rattle.mj_core.specs.Gives.{CoreStepGives, RunGives}
 use Rattle.mj_steps.specs.declared.step.Step.{Step}
 use Rattle.mj_steps.specs.declared.round.Round.{Round}
 use Rattle.mj_steps.specs.declared.round.Standing.{Standing}
 use Rattle.mj_steps.specs.declared.round.Next.{Next}
 use Rattle.mj_steps.specs.declared.round.Next.TheVariants as nexts
-use Rattle.mj_steps.specs.declared.drive.Refused.{Refused}
+use Rattle.mj_steps.specs.declared.step.Refusal.{Refusal}
 use Rattle.mj_steps.specs.declared.drive.Ending.{Ending}
 use Rattle.mj_steps.specs.Rounds.{next_step, after_step}
-use Rattle.mj_steps.specs.Driven.{ByList, InTurn, Comes, StopsAt, stand}
-use Rattle.mj_main.specs.Stepping.{StepsAs, AreSteps, core_step}
+use Rattle.mj_steps.specs.Driven.{ByList, InTurn, NextIsDone, StopsAt, stand}
+use Rattle.mj_main.specs.Stepping.{StepsAs, AreSteps}
 
 -- one step more, in front
 more : (opening : Shared) (old mid new : Shown) (step : Step) (standing : Standing)
     → StepsAs opening old step (Ok standing) mid → AreSteps opening mid new → AreSteps opening old new
-more opening old mid new step standing (what, gives, stands) (steps, answers, run) = (core_step step ∷ steps, Ok what ∷ answers, (mid, gives, run))
+more opening old mid new step standing (what, gives, stands) (steps, answers, run) = (step ∷ steps, Ok what ∷ answers, (mid, gives, run))
 
 -- the last one, which is refused
-last : (opening : Shared) (old new : Shown) (step : Step) (why : Refused) → StepsAs opening old step (Err why) new → AreSteps opening old new
-last opening old new step why (refusal, gives, same) = (core_step step ∷ [], Err refusal ∷ [], (new, gives, refl))
+last : (opening : Shared) (old new : Shown) (step : Step) (why : Refusal) → StepsAs opening old step (Err why) new → AreSteps opening old new
+last opening old new step why gives = (step ∷ [], Err why ∷ [], (new, gives, refl))
 
 -- none
 none : (opening : Shared) (old new : Shown) → new ≡ old → AreSteps opening old new
 none opening old new same = ([], [], same)
 
 -- what a step of something comes to that has a core
-abbrev pub Of : {X : Type 0} → Shared → (X → Shown) → X → Step → Result Standing Refused → X → Type 0
+abbrev pub Of : {X : Type 0} → Shared → (X → Shown) → X → Step → Result Standing Refusal → X → Type 0
 Of opening core old step answer new = StepsAs opening (core old) step answer (core new)
 
 pub by_list : {X : Type 0} (opening : Shared) (core : X → Shown) (steps : List Step) (made : ℕ) (old : X) (ending : Ending) (new : X)
@@ -41,7 +41,7 @@ by_list opening core (step ∷ steps) made old ending new (inr (standing, mid, m
 
 comes : {X : Type 0} (opening : Shared) (core : X → Shown) (number : ℕ) (goes : Step → Standing → X → Type 0) (old : X) (ending : Ending) (new : X) (next : Next)
     → ((step : Step) (standing : Standing) (mid : X) → goes step standing mid → AreSteps opening (core mid) (core new))
-    → Comes (Of opening core) number goes old ending new next → AreSteps opening (core old) (core new)
+    → NextIsDone (Of opening core) number goes old ending new next → AreSteps opening (core old) (core new)
 comes opening core number goes old ending new nexts.Over on (e, same) = none opening (core old) (core new) (ap core same)
 comes opening core number goes old ending new nexts.Stuck on (e, same) = none opening (core old) (core new) (ap core same)
 comes opening core number goes old ending new (nexts.Step step) on (inl (why, makes, e)) = last opening (core old) (core new) step why makes

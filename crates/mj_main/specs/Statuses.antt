@@ -2,14 +2,15 @@
 use Rattle.std.specs.Prelude.{ℕ, Bool, false, ◌||◌, Option, Some, None, is_some, [], ◌∷◌}
 use Rattle.mj_ask.specs.declared.ask.Ask.{Ask}
 use Rattle.mj_ask.specs.declared.ask.Ask.TheVariants as asks
+use Rattle.mj_ask.specs.declared.ask.SharedAsk.TheVariants as shared_asks
 use Rattle.mj_sys.specs.declared.event.Event.{Event}
 use Rattle.mj_sys.specs.History.{History}
-use Rattle.mj_main.specs.declared.stop.Stop.{Stop}
-use Rattle.mj_main.specs.declared.stop.Stop.TheVariants as stops
+use Rattle.mj_main.specs.declared.stop.ProgramError.{ProgramError}
+use Rattle.mj_main.specs.declared.stop.ProgramError.TheVariants as stops
 
 -- the status where it stops before its end: 2 where a routine, a listing or a trace is refused, 3 where the command line is wrong, 4 where memory
 -- or a file fails, or a job goes on for too long
-abbrev pub status_of : Stop → ℕ
+abbrev pub status_of : ProgramError → ℕ
 status_of (stops.Value value) = 3
 status_of (stops.File file) = 4
 status_of (stops.Name file) = 2
@@ -26,7 +27,7 @@ status_of stops.Memory = 4
 
 -- a job ended by a fault
 abbrev pub is_fault : Ask → Bool
-is_fault (asks.Halt fault) = is_some fault
+is_fault (asks.Shared (shared_asks.Halt fault)) = is_some fault
 is_fault _ = false
 
 -- the event is that a job ended by a fault

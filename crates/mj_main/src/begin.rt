@@ -4,21 +4,21 @@ ghost use Rattle.std.specs.Prelude.{◌≡◌, true, IfOk};
 ghost use Rattle.mj_files.specs.Named.{names_of, with_principals, with_devices};
 ghost use Rattle.mj_jobs.specs.Rows.{rows_limit};
 ghost use Rattle.mj_sys.specs.Shared.{are_global};
-ghost use Rattle.mj_dialogue.specs.Walks.{AreWhole};
+ghost use Rattle.mj_debug.specs.Walks.{AreWhole};
 
 use crate::files::{file_bytes, whole};
 use crate::listings::listed;
 use crate::routines::loaded;
-use crate::stop::Stop;
+use crate::stop::ProgramError;
 use crate::traces::{Trace, trace_of};
 use mj_ask::{Entry, Start};
+use mj_command_line::Run;
 use mj_dev::Pool;
 use mj_files::{Named, Port, pool_of, read_device};
 use mj_globs::Globals;
 use mj_jobs::ROWS_LIMIT;
 use mj_load::Image;
 use mj_steps::{Step, StepsError};
-use mj_words::Run;
 use std::alloc::{AllocError, Global};
 use std::io::Read;
 use std::rt::Files;
@@ -39,7 +39,7 @@ pub fn begin<'a, R: Files + AllocGlobal + Copy + Drop, I: Read>(
     rt: R,
     order: &Run<'a>,
     input: &mut I,
-) -> Result<Beginning<R>, Stop<'a>>
+) -> Result<Beginning<R>, ProgramError<'a>>
     ensures { IfOk result (λ b. AreWhole b.pool) }
 {
     let starts = starts(rt.alloc(), &order.starts)?;
@@ -67,7 +67,7 @@ fn begin_at<'a, R: Files + AllocGlobal + Copy + Drop, I: Read>(
     rt: R,
     order: &Run<'a>,
     input: &mut I,
-) -> Result<(Option<Vec<Step>>, Stored<R>), Stop<'a>>
+) -> Result<(Option<Vec<Step>>, Stored<R>), ProgramError<'a>>
     ensures global { IfOk result (λ x. are_global x.1.1 ≡ true) }
     ensures whole { IfOk result (λ x. AreWhole x.1.2) }
 {
@@ -91,7 +91,7 @@ fn stored<'a, R: Files + AllocGlobal + Copy + Drop, I: Read>(
     order: &Run<'a>,
     input: &mut I,
     devices: &[Named<'a>],
-) -> Result<Stored<R>, Stop<'a>>
+) -> Result<Stored<R>, ProgramError<'a>>
     ensures global { IfOk result (λ x. are_global x.1 ≡ true) }
     ensures whole { IfOk result (λ x. AreWhole x.2) }
 {
@@ -119,7 +119,7 @@ fn pool_over<'a, R: Files + AllocGlobal + Copy + Drop, I: Read>(
     order: &Run<'a>,
     input: &mut I,
     devices: &[Named<'a>],
-) -> Result<Pool<Port<R>>, Stop<'a>>
+) -> Result<Pool<Port<R>>, ProgramError<'a>>
     ensures { IfOk result (λ pool. AreWhole pool) }
 {
     let lines = if order.stdin {
@@ -140,31 +140,31 @@ pub fn trace_from<'a, R: Files + Drop>(
 }
 
 /// The first jobs' starts, by the words that name them. One that is no entry is bad, and so is one more than there may be jobs.
-pub fn starts<'a>(alloc: Global, words: &[&'a str]) -> Result<Vec<Start>, Stop<'a>> {
+pub fn starts<'a>(alloc: Global, words: &[&'a str]) -> Result<Vec<Start>, ProgramError<'a>> {
     let mut starts = Vec::new(alloc);
     for word in words {
         let Some(entry) = Entry::read(alloc, word.as_bytes())? else {
-            return Err(Stop::Value(*word));
+            return Err(ProgramError::Value(*word));
         };
         if starts.len() >= ROWS_LIMIT {
-            return Err(Stop::Value(*word));
+            return Err(ProgramError::Value(*word));
         }
         if starts.push(Start::new(entry, Vec::new(alloc))).is_err() {
-            return Err(Stop::Memory);
+            return Err(ProgramError::Memory);
         }
     }
     Ok(starts)
 }
 
 /// The devices that these words name, in order. The first that names none is bad.
-pub fn devices<'a>(alloc: Global, words: &[&'a str]) -> Result<Vec<Named<'a>>, Stop<'a>> {
+pub fn devices<'a>(alloc: Global, words: &[&'a str]) -> Result<Vec<Named<'a>>, ProgramError<'a>> {
     let mut devices = Vec::new(alloc);
     for word in words {
         let Some(device) = read_device(alloc, *word)? else {
-            return Err(Stop::Value(*word));
+            return Err(ProgramError::Value(*word));
         };
         if devices.push(device).is_err() {
-            return Err(Stop::Memory);
+            return Err(ProgramError::Memory);
         }
     }
     Ok(devices)
@@ -175,7 +175,7 @@ pub fn pool<'a, R: Files + AllocGlobal + Copy + Drop>(
     rt: R,
     input: Vec<u8>,
     devices: &[Named<'_>],
-) -> Result<Pool<Port<R>>, Stop<'a>>
+) -> Result<Pool<Port<R>>, ProgramError<'a>>
     ensures value { IfOk result (λ pool. pool ≡ with_devices (names_of devices.now) (with_principals rows_limit)) }
     ensures whole { IfOk result (λ pool. AreWhole pool) }
 {
@@ -186,14 +186,14 @@ pub fn pool<'a, R: Files + AllocGlobal + Copy + Drop>(
 pub fn steps<'a, R: Files + AllocGlobal>(
     rt: &R,
     file: Option<&'a str>,
-) -> Result<Option<Vec<Step>>, Stop<'a>> {
+) -> Result<Option<Vec<Step>>, ProgramError<'a>> {
     let Some(file) = file else {
         return Ok(None);
     };
     let bytes = file_bytes(rt, file)?;
     match mj_steps::read(rt.alloc(), &bytes) {
         Ok(steps) => Ok(Some(steps)),
-        Err(StepsError::Memory) => Err(Stop::Memory),
-        Err(refusal) => Err(Stop::Steps(refusal)),
+        Err(StepsError::Memory) => Err(ProgramError::Memory),
+        Err(refusal) => Err(ProgramError::Steps(refusal)),
     }
 }

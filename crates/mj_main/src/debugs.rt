@@ -5,26 +5,25 @@ ghost use Rattle.mj_dev.specs.Shelves.{principal, left_of};
 ghost use Rattle.mj_jobs.specs.Rows.{rows_limit};
 ghost use Rattle.mj_sys.specs.Opening.{opening_of};
 ghost use Rattle.mj_sys.specs.Shared.{are_global};
-ghost use Rattle.mj_dialogue.specs.Walks.{AreWhole};
+ghost use Rattle.mj_debug.specs.Walks.{AreWhole};
 
 use crate::begin::{Beginning, begin, trace_from};
 use crate::jobs::has_faulted;
 use crate::listings::save;
 use crate::printing::{print, stopped, tell_trouble};
 use crate::prompts::{Prompt, prompt_of};
-use crate::stop::{FAILED, FAULTED, Stop};
+use crate::stop::{FAILED, FAULTED, ProgramError};
 use crate::traces::{Trace, write_trace};
 use mj_ask::Start;
-use mj_commands::Command;
+use mj_command_line::{Debug, Run};
+use mj_debug::Debugger;
 use mj_dev::{Device, Pool};
-use mj_dialogue::debugging::Debugger;
-use mj_dialogue::{Trouble, answer};
+use mj_dialogue::{Command, Trouble, answer};
 use mj_files::Port;
 use mj_globs::Globals;
 use mj_jobs::ROWS_LIMIT;
 use mj_load::Image;
 use mj_sys::Opening;
-use mj_words::{Debug, Run};
 use std::alloc::Global;
 use std::io::{BufRead, BufReader, ErrorKind, Read, Write};
 use std::marker::Brand;
@@ -66,11 +65,11 @@ where
     let starts = &beginning.starts;
     if starts.is_empty() || starts.len() > ROWS_LIMIT || !beginning.pool.fits(starts.len() as u32) {
         drop(beginning);
-        return stopped(&Stop::Memory, err);
+        return stopped(&ProgramError::Memory, err);
     }
     let Ok(trace) = trace_from(rt.alloc(), order.run.trace, &beginning) else {
         drop(beginning);
-        return stopped(&Stop::Memory, err);
+        return stopped(&ProgramError::Memory, err);
     };
     let prompt = match prompt_of(&rt, order) {
         Ok(prompt) => prompt,
@@ -88,7 +87,7 @@ where
         starts,
     } = beginning;
     drop(steps);
-    let status = over::<R, I, O, E, Port<R>, Brand>(
+    let status = with_files::<R, I, O, E, Port<R>, Brand>(
         &rt, &order.run, &prompt, &trace, image, globals, pool, starts, input, out, err,
     );
     drop(trace);
@@ -97,7 +96,7 @@ where
 }
 
 // Answers commands over a debugger, and writes what is left.
-fn over<R, I, O, E, D, G>(
+fn with_files<R, I, O, E, D, G>(
     rt: &R,
     order: &Run<'_>,
     prompt: &Option<Prompt>,
@@ -134,7 +133,7 @@ where
         }
         Err(back) => {
             drop(back);
-            stopped(&Stop::Memory, err)
+            stopped(&ProgramError::Memory, err)
         }
     }
 }
@@ -157,7 +156,7 @@ where
     ensures { result ≤ 4 }
 {
     let Ok(mut reader) = BufReader::new(alloc, input) else {
-        return stopped(&Stop::Memory, err);
+        return stopped(&ProgramError::Memory, err);
     };
     let mut full = false;
     for _ in 0..u64::MAX {
@@ -189,7 +188,7 @@ fn exchange<'a, B, O, E, D, G>(
     reader: &mut B,
     out: &mut O,
     err: &mut E,
-) -> Result<Exchanged, Stop<'a>>
+) -> Result<Exchanged, ProgramError<'a>>
 where
     B: BufRead,
     O: Write,
@@ -200,7 +199,7 @@ where
     let Some(line) = next_line(alloc, reader)? else {
         return Ok(Exchanged::Over);
     };
-    let Some(command) = mj_commands::read(alloc, &line)? else {
+    let Some(command) = mj_dialogue::read(alloc, &line)? else {
         print(b"?\n", out)?;
         if let Some(prompt) = prompt {
             prompt.help(&line, err);
@@ -216,7 +215,10 @@ where
 }
 
 // The next line, without its end, which the last may lack.
-fn next_line<'a, B: BufRead>(alloc: Global, reader: &mut B) -> Result<Option<Vec<u8>>, Stop<'a>> {
+fn next_line<'a, B: BufRead>(
+    alloc: Global,
+    reader: &mut B,
+) -> Result<Option<Vec<u8>>, ProgramError<'a>> {
     let mut line = Vec::new(alloc);
     match reader.read_until(b'\n', &mut line) {
         Ok(0) => Ok(None),
@@ -226,8 +228,8 @@ fn next_line<'a, B: BufRead>(alloc: Global, reader: &mut B) -> Result<Option<Vec
             }
             Ok(Some(line))
         }
-        Err(error) if error.kind() == ErrorKind::OutOfMemory => Err(Stop::Memory),
-        Err(_) => Err(Stop::File("-")),
+        Err(error) if error.kind() == ErrorKind::OutOfMemory => Err(ProgramError::Memory),
+        Err(_) => Err(ProgramError::File("-")),
     }
 }
 

@@ -2,7 +2,7 @@
 
 ghost use Rattle.std.specs.Prelude.{◌≡◌, IfOk, IfSome};
 
-use crate::stop::Stop;
+use crate::stop::ProgramError;
 use mj_files::Trouble;
 use std::alloc::{AllocError, Global};
 use std::fs::{self, File};
@@ -10,11 +10,14 @@ use std::io::{ErrorKind, Read};
 use std::rt::Files;
 
 /// The bytes of a file.
-pub fn file_bytes<'a, R: Files + AllocGlobal>(rt: &R, file: &'a str) -> Result<Vec<u8>, Stop<'a>> {
+pub fn file_bytes<'a, R: Files + AllocGlobal>(
+    rt: &R,
+    file: &'a str,
+) -> Result<Vec<u8>, ProgramError<'a>> {
     match File::open(rt, file) {
         Ok(mut reader) => whole(rt.alloc(), &mut reader, file),
-        Err(error) if error.kind() == ErrorKind::OutOfMemory => Err(Stop::Memory),
-        Err(_) => Err(Stop::File(file)),
+        Err(error) if error.kind() == ErrorKind::OutOfMemory => Err(ProgramError::Memory),
+        Err(_) => Err(ProgramError::File(file)),
     }
 }
 
@@ -23,22 +26,26 @@ pub fn write_file<'a, R: Files + AllocGlobal>(
     rt: &R,
     file: &'a str,
     bytes: &[u8],
-) -> Result<(), Stop<'a>> {
+) -> Result<(), ProgramError<'a>> {
     match fs::write(rt, file, bytes) {
         Ok(()) => Ok(()),
-        Err(error) if error.kind() == ErrorKind::OutOfMemory => Err(Stop::Memory),
-        Err(_) => Err(Stop::File(file)),
+        Err(error) if error.kind() == ErrorKind::OutOfMemory => Err(ProgramError::Memory),
+        Err(_) => Err(ProgramError::File(file)),
     }
 }
 
 /// All bytes of a reader, which messages call by this name.
-pub fn whole<'a, R: Read>(alloc: Global, reader: &mut R, name: &'a str) -> Result<Vec<u8>, Stop<'a>>
+pub fn whole<'a, R: Read>(
+    alloc: Global,
+    reader: &mut R,
+    name: &'a str,
+) -> Result<Vec<u8>, ProgramError<'a>>
     ensures { IfOk result (λ bytes. IfSome (R.remaining reader.old) (λ known. bytes.items ≡ known)) }
 {
     match mj_files::whole(alloc, reader) {
         Ok(bytes) => Ok(bytes),
-        Err(Trouble::Memory) => Err(Stop::Memory),
-        Err(Trouble::Failed) => Err(Stop::File(name)),
+        Err(Trouble::Memory) => Err(ProgramError::Memory),
+        Err(Trouble::Failed) => Err(ProgramError::File(name)),
     }
 }
 

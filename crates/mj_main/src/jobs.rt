@@ -2,20 +2,21 @@
 
 ghost use Rattle.std.specs.Prelude.{◌≡◌, ℕ, length, slice_get, IfOk, IfSome, IfNone};
 ghost use Rattle.mj_sys.specs.History.{state_of};
-ghost use Rattle.mj_dialogue.specs.Runs.{out_of};
+ghost use Rattle.mj_core.specs.Runs.{out_of};
 ghost use Rattle.mj_steps.specs.Driven.{ByList};
-ghost use Rattle.mj_main.specs.Stepping.{StepsAs, StandsSo, IsInTurn, AreSteps, core_step};
-ghost use Rattle.mj_many.specs.Printed.{printed, parts};
+ghost use Rattle.mj_main.specs.Stepping.{StepsAs, StandsSo, IsInTurn, AreSteps};
+ghost use Rattle.mj_main.specs.Printed.{printed, parts};
 ghost use Rattle.mj_main.specs.Statuses.{has_faulted, event_faults, is_fault};
 ghost use Rattle.mj_dev.specs.Shelves.{principal};
 
-use mj_ask::Ask;
+use crate::part::put_part;
+use crate::wait::{put_idle, put_wait};
+use mj_ask::{Ask, SharedAsk};
+use mj_core::{Core, Seen};
 use mj_dev::Device;
-use mj_dialogue::debugging::cores::{Core, Refusal, Seen};
 use mj_gfile::{put_name, put_text};
 use mj_globs::Globals;
-use mj_many::{put_idle, put_part, put_wait};
-use mj_steps::{Ending, Refused, Standing, Step, Stepped, Way, step_by, step_in_turn};
+use mj_steps::{Ending, Refusal, Standing, Step, Stepped, Way, step_by, step_in_turn};
 use mj_sys::{Held, Opening};
 use mj_text::Text;
 use std::alloc::{AllocError, Global};
@@ -38,14 +39,10 @@ impl<D: Device, O: Opening> Stepped for Jobs<D, O> {
         self.core.jobs()
     }
 
-    fn step(&mut self, step: Step) -> Result<Standing, Refused> {
-        match self.core.step(core_step(step)) {
+    fn step(&mut self, step: Step) -> Result<Standing, Refusal> {
+        match self.core.step(step) {
             Ok(seen) => Ok(self.standing(step.job, &seen)),
-            Err(Refusal::NoJob) => Err(Refused::NoJob),
-            Err(Refusal::NotTimed) => Err(Refused::NotTimed),
-            Err(Refusal::Ended) => Err(Refused::Ended),
-            Err(Refusal::Full) => Err(Refused::Full),
-            Err(Refusal::Memory) => Err(Refused::Memory),
+            Err(why) => Err(why),
         }
     }
 }
@@ -53,8 +50,11 @@ impl<D: Device, O: Opening> Stepped for Jobs<D, O> {
 impl<D: Device, O: Opening> Jobs<D, O> {
     /// Makes these steps; or where there are none, steps the jobs in turn. Either way a list of the core's steps was made.
     pub fn go(&mut self, steps: Option<&[Step]>) -> Ending
-        ensures listed { IfSome steps.entry (λ list. ByList (λ old step answer new. StepsAs O.opening old.core step answer new.core) 0 list.now self.old result self.new) }
-        ensures in_turn { IfNone steps.entry (IsInTurn (λ jobs. length (state_of O.opening jobs.core.history).rows) (λ old step answer new. StepsAs O.opening old.core step answer new.core) STEPS_LIMIT self.old result self.new) }
+        ensures listed { IfSome steps.entry
+            (λ list. ByList (λ old step answer new. StepsAs O.opening old.core step answer new.core) 0 list.now self.old result self.new) }
+        ensures in_turn { IfNone steps.entry
+            (IsInTurn (λ jobs. length (state_of O.opening jobs.core.history).rows)
+            (λ old step answer new. StepsAs O.opening old.core step answer new.core) STEPS_LIMIT self.old result self.new) }
         ensures run { AreSteps O.opening self.old.core self.new.core }
     {
         match steps {
@@ -73,7 +73,8 @@ impl<D: Device, O: Opening> Jobs<D, O> {
 
     // Steps the jobs in turn, no more often than that.
     fn in_turn(&mut self, most: usize) -> Ending
-        ensures in_turn { IsInTurn (λ jobs. length (state_of O.opening jobs.core.history).rows) (λ old step answer new. StepsAs O.opening old.core step answer new.core) most self.old result self.new }
+        ensures in_turn { IsInTurn (λ jobs. length (state_of O.opening jobs.core.history).rows)
+            (λ old step answer new. StepsAs O.opening old.core step answer new.core) most self.old result self.new }
         ensures run { AreSteps O.opening self.old.core self.new.core }
     {
         step_in_turn(self, most)
@@ -109,7 +110,8 @@ impl<D: Device, O: Opening> Jobs<D, O> {
 
     /// What the principal sessions of all jobs took, as it is printed.
     pub fn printed(&self, alloc: Global) -> Result<Vec<u8>, AllocError>
-        ensures { IfOk result (λ bytes. bytes.items ≡ printed (λ job. out_of self.now.core.history job principal 1) (length (state_of O.opening self.now.core.history).rows)) }
+        ensures { IfOk result
+            (λ bytes. bytes.items ≡ printed (λ job. out_of self.now.core.history job principal 1) (length (state_of O.opening self.now.core.history).rows)) }
     {
         if self.core.jobs() == 1 {
             self.output(alloc, 1)
@@ -120,7 +122,8 @@ impl<D: Device, O: Opening> Jobs<D, O> {
 
     // What several jobs wrote, each behind its number.
     fn parts(&self, alloc: Global) -> Result<Vec<u8>, AllocError>
-        ensures { IfOk result (λ bytes. bytes.items ≡ parts (λ job. out_of self.now.core.history job principal 1) (length (state_of O.opening self.now.core.history).rows)) }
+        ensures { IfOk result
+            (λ bytes. bytes.items ≡ parts (λ job. out_of self.now.core.history job principal 1) (length (state_of O.opening self.now.core.history).rows)) }
     {
         let mut bytes = Vec::new(alloc);
         'jobs: for done in 0..self.core.jobs() as u32 {
@@ -153,10 +156,7 @@ impl<D: Device, O: Opening> Jobs<D, O> {
 
     // The line of one job, if it waits.
     fn put_wait(&mut self, bytes: &mut Vec<u8>, job: u32) -> Result<(), AllocError> {
-        let step = mj_dialogue::debugging::cores::Step {
-            job,
-            way: mj_dialogue::debugging::cores::Way::Go,
-        };
+        let step = Step { job, way: Way::Go };
         match self.core.step(step) {
             Ok(Seen::Busy { holder, held }) => self.put_busy(bytes, job, holder, &held),
             Ok(Seen::NotYet) => put_idle(bytes, job),
@@ -207,24 +207,11 @@ fn faults_at<D: Device, O: Opening>(core: &Core<D, O>, at: usize) -> bool
     }
 }
 
-// The same step, of a core.
-fn core_step(step: Step) -> mj_dialogue::debugging::cores::Step
-    ensures { result ≡ core_step step }
-{
-    mj_dialogue::debugging::cores::Step {
-        job: step.job,
-        way: match step.way {
-            Way::Go => mj_dialogue::debugging::cores::Way::Go,
-            Way::Late => mj_dialogue::debugging::cores::Way::Late,
-        },
-    }
-}
-
 // Whether the ask is that of a job which ends by a fault.
 fn is_fault(ask: &Ask) -> bool
     ensures { result ≡ is_fault ask.now }
 {
-    matches!(ask, Ask::Halt(Some(_)))
+    matches!(ask, Ask::Shared(SharedAsk::Halt(Some(_))))
 }
 
 // What is held, as a listing has it: a name, or a device in quotes.

@@ -1,7 +1,7 @@
 // The program, as a library: what the words of the command line ask for, done over a reader and two writers that the caller
 // gives.
 //
-// `run` is the whole program, and its result is the exit status. It reads the words (by `mj_words`), then the file of steps, the files of the
+// `run` is the whole program, and its result is the exit status. It reads the words (by `mj_command_line`), then the file of steps, the files of the
 // routines, the listing of globals and standard input, and then steps jobs over a core (`mj_core`): in turn, or as the file says. Their devices
 // are over lines and files (`mj_files`). What the jobs wrote is taken from their logs (`jobs.rt`); the globals that they left and the
 // trace of the run (`traces.rt`) are written last.
@@ -12,6 +12,7 @@ mod debugs;
 mod files;
 mod jobs;
 mod listings;
+mod part;
 mod printing;
 mod program;
 mod prompts;
@@ -19,5 +20,6 @@ mod replays;
 mod routines;
 mod stop;
 mod traces;
+mod wait;
 
 pub use program::run;

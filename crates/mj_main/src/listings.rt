@@ -6,7 +6,7 @@ ghost use Rattle.mj_gfile.specs.Spelling.{listing_of};
 ghost use Rattle.mj_sys.specs.Shared.{are_global};
 
 use crate::files::file_bytes;
-use crate::stop::Stop;
+use crate::stop::ProgramError;
 use mj_gfile::ReadError;
 use mj_globs::Globals;
 use std::alloc::Global;
@@ -18,7 +18,7 @@ use std::rt::Files;
 pub fn listed<'a, R: Files + AllocGlobal>(
     rt: &R,
     file: Option<&'a str>,
-) -> Result<Globals, Stop<'a>>
+) -> Result<Globals, ProgramError<'a>>
     ensures { IfOk result (λ globals. are_global globals ≡ true) }
 {
     let Some(file) = file else {
@@ -27,8 +27,8 @@ pub fn listed<'a, R: Files + AllocGlobal>(
     let bytes = file_bytes(rt, file)?;
     match mj_gfile::read(rt.alloc(), &bytes) {
         Ok(globals) => Ok(globals),
-        Err(ReadError::Memory) => Err(Stop::Memory),
-        Err(refusal) => Err(Stop::Listing(refusal)),
+        Err(ReadError::Memory) => Err(ProgramError::Memory),
+        Err(refusal) => Err(ProgramError::Listing(refusal)),
     }
 }
 
@@ -38,7 +38,7 @@ pub fn save<'a, R: Files + AllocGlobal>(
     rt: &R,
     globals: &Globals,
     file: Option<&'a str>,
-) -> Result<(), Stop<'a>> {
+) -> Result<(), ProgramError<'a>> {
     let Some(file) = file else {
         return Ok(());
     };
@@ -48,8 +48,8 @@ pub fn save<'a, R: Files + AllocGlobal>(
             put_listing(rt.alloc(), globals, out, file)?;
             Ok(())
         }
-        Err(error) if error.kind() == ErrorKind::OutOfMemory => Err(Stop::Memory),
-        Err(_) => Err(Stop::File(file)),
+        Err(error) if error.kind() == ErrorKind::OutOfMemory => Err(ProgramError::Memory),
+        Err(_) => Err(ProgramError::File(file)),
     }
 }
 
@@ -59,12 +59,12 @@ fn put_listing<'a, W: Write + Drop>(
     globals: &Globals,
     out: W,
     name: &'a str,
-) -> Result<W, Stop<'a>>
+) -> Result<W, ProgramError<'a>>
     ensures { IfOk result (λ given. Appends (W.contents out) (W.contents given) (listing_of globals.now)) }
 {
     match mj_gfile::write_to(alloc, globals, out) {
         Ok(given) => Ok(given),
-        Err(mj_tree::Stop::Memory) => Err(Stop::Memory),
-        Err(mj_tree::Stop::Closed) => Err(Stop::File(name)),
+        Err(mj_tree::SinkStop::Memory) => Err(ProgramError::Memory),
+        Err(mj_tree::SinkStop::Closed) => Err(ProgramError::File(name)),
     }
 }

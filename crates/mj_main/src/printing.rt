@@ -2,11 +2,11 @@
 
 ghost use Rattle.std.specs.Prelude.{◌≤◌};
 
-use crate::stop::Stop;
+use crate::stop::ProgramError;
 use std::io::Write;
 
 /// Says why something couldn't be done, if so, and gives the exit status.
-pub fn tell_trouble<E: Write>(done: Result<(), Stop<'_>>, err: &mut E) -> u8
+pub fn tell_trouble<E: Write>(done: Result<(), ProgramError<'_>>, err: &mut E) -> u8
     ensures { result ≤ 4 }
 {
     match done {
@@ -16,7 +16,7 @@ pub fn tell_trouble<E: Write>(done: Result<(), Stop<'_>>, err: &mut E) -> u8
 }
 
 /// Says why the program stops, and gives the exit status.
-pub fn stopped<E: Write>(stop: &Stop<'_>, err: &mut E) -> u8
+pub fn stopped<E: Write>(stop: &ProgramError<'_>, err: &mut E) -> u8
     ensures { result ≤ 4 }
 {
     // Where this can't be written either, the status alone tells.
@@ -25,9 +25,9 @@ pub fn stopped<E: Write>(stop: &Stop<'_>, err: &mut E) -> u8
 }
 
 /// Writes all bytes.
-pub fn print<'a, O: Write>(bytes: &[u8], out: &mut O) -> Result<(), Stop<'a>> {
+pub fn print<'a, O: Write>(bytes: &[u8], out: &mut O) -> Result<(), ProgramError<'a>> {
     if out.write_all(bytes).is_err() || out.flush().is_err() {
-        return Err(Stop::File("-"));
+        return Err(ProgramError::File("-"));
     }
     Ok(())
 }

@@ -13,30 +13,31 @@ use crate::listings::save;
 use crate::printing::{print, stopped, tell_trouble};
 use crate::replays::replayed;
 use crate::routines::loaded;
-use crate::stop::{FAULTED, Stop, WORDS};
+use crate::stop::{FAULTED, ProgramError, WORDS};
 use crate::traces::{Trace, write_trace};
 use mj_ask::Start;
+use mj_command_line::{NoOrder, Order, Replay, Run, read_words};
+use mj_core::Core;
 use mj_dev::{Device, Pool};
-use mj_dialogue::debugging::cores::Core;
 use mj_files::{Named, Port};
 use mj_globs::Globals;
 use mj_jobs::ROWS_LIMIT;
 use mj_load::Image;
 use mj_steps::{Ending, Step};
 use mj_sys::Opening;
-use mj_words::{Order, Refusal, Replay, Run, read_words};
 use std::alloc::{AllocError, Global};
 use std::convert::AsStr;
 use std::io::{Read, Write};
 use std::marker::Brand;
 use std::rt::Files;
 
-/// Does what the words ask for, of which the first is the program's name, and gives the exit status: 0; 1 where a job faulted, or a trace isn't that of a run; 2
-/// where a routine, a listing, a trace, a file of steps or a step is refused; 3 where the words are wrong; 4 where memory or a file fails, where all jobs
-/// wait, or where they went on for too long; the greatest where several apply. What the jobs write goes to `out`; a refusal goes to `err`, on one
-/// line, but the text on wrong words, which is clap's. Where the words ask for it, `input` is read whole before the run, and its lines are those of the
-/// first job's principal session. The globals that are left and the trace of the run are written after the output. Of a debugger the input has the commands, each of which is answered on `out`
-/// before the next is read.
+/// Does what the words ask for, of which the first is the program's name, and gives the exit status: 0; 1 where a job faulted, or a trace
+/// isn't that of a run; 2 where a routine, a listing, a trace, a file of steps or a step is refused; 3 where the words are wrong; 4 where
+/// memory or a file fails, where all jobs wait, or where they went on for too long; the greatest where several apply. What the jobs write
+/// goes to `out`; a refusal goes to `err`, on one line, but the text on wrong words, which is clap's. Where the words ask for it, `input`
+/// is read whole before the run, and its lines are those of the first job's principal session. The globals that are left and the trace of
+/// the run are written after the output. Of a debugger the input has the commands, each of which is answered on `out` before the next is
+/// read.
 pub fn run<R, S, I, O, E>(rt: &R, words: &[S], input: &mut I, out: &mut O, err: &mut E) -> u8
 where
     R: Files + AllocGlobal,
@@ -96,11 +97,11 @@ where
     let starts = &beginning.starts;
     if starts.is_empty() || starts.len() > ROWS_LIMIT || !beginning.pool.fits(starts.len() as u32) {
         drop(beginning);
-        return stopped(&Stop::Memory, err);
+        return stopped(&ProgramError::Memory, err);
     }
     let Ok(trace) = trace_from(rt.alloc(), order.trace, &beginning) else {
         drop(beginning);
-        return stopped(&Stop::Memory, err);
+        return stopped(&ProgramError::Memory, err);
     };
     let Beginning {
         steps,
@@ -113,7 +114,7 @@ where
         None => None,
         Some(steps) => Some(steps.as_slice()),
     };
-    let status = over::<R, O, E, Port<R>, Brand>(
+    let status = with_files::<R, O, E, Port<R>, Brand>(
         &rt, order, list, &trace, image, globals, pool, starts, out, err,
     );
     drop(steps);
@@ -122,7 +123,7 @@ where
 }
 
 // Steps the jobs, and writes what comes of them.
-fn over<R, O, E, D, G>(
+fn with_files<R, O, E, D, G>(
     rt: &R,
     order: &Run<'_>,
     steps: Option<&[Step]>,
@@ -157,7 +158,7 @@ where
         }
         Err(back) => {
             drop(back);
-            stopped(&Stop::Memory, err)
+            stopped(&ProgramError::Memory, err)
         }
     }
 }
@@ -195,7 +196,7 @@ where
 }
 
 // Writes what the jobs wrote, and says whether one faulted.
-fn show<'a, R, O, D, G>(rt: &R, jobs: &Jobs<D, G>, out: &mut O) -> Result<u8, Stop<'a>>
+fn show<'a, R, O, D, G>(rt: &R, jobs: &Jobs<D, G>, out: &mut O) -> Result<u8, ProgramError<'a>>
 where
     R: Files + AllocGlobal,
     O: Write,
@@ -212,7 +213,7 @@ where
 fn tell_ending<E: Write>(ending: Ending, err: &mut E) -> u8
     ensures { result ≤ 4 }
 {
-    match Stop::of_ending(ending) {
+    match ProgramError::of_ending(ending) {
         None => 0,
         Some(stop) => stopped(&stop, err),
     }
@@ -237,7 +238,7 @@ fn check<'a, R: Files + AllocGlobal, O: Write>(
     rt: &R,
     files: &[&'a str],
     out: &mut O,
-) -> Result<u8, Stop<'a>>
+) -> Result<u8, ProgramError<'a>>
     ensures { IfOk result (λ status. status ≤ 1) }
 {
     loaded(rt, files)?;
@@ -252,7 +253,7 @@ fn replay<'a, R: Files + AllocGlobal, O: Write>(
     rt: &R,
     order: &Replay<'a>,
     out: &mut O,
-) -> Result<u8, Stop<'a>>
+) -> Result<u8, ProgramError<'a>>
     ensures { IfOk result (λ status. status ≤ 1) }
 {
     let (told, status) = replayed(rt, order)?;
@@ -261,19 +262,23 @@ fn replay<'a, R: Files + AllocGlobal, O: Write>(
 }
 
 // The text on words that are no order: help, which was asked for, or what is wrong.
-fn tell<'a, O: Write, E: Write>(refusal: &Refusal, out: &mut O, err: &mut E) -> Result<u8, Stop<'a>>
+fn tell<'a, O: Write, E: Write>(
+    refusal: &NoOrder,
+    out: &mut O,
+    err: &mut E,
+) -> Result<u8, ProgramError<'a>>
     ensures { IfOk result (λ status. status ≤ 3) }
 {
     match refusal {
-        Refusal::Help(text) => {
+        NoOrder::Help(text) => {
             print(text.as_bytes(), out)?;
             Ok(0)
         }
-        Refusal::Wrong(text) => {
+        NoOrder::Wrong(text) => {
             // Where this can't be written, the status alone tells.
             let _ = write!(err, "{text}");
             Ok(WORDS)
         }
-        Refusal::Memory => Err(Stop::Memory),
+        NoOrder::Memory => Err(ProgramError::Memory),
     }
 }

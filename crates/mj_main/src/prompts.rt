@@ -1,12 +1,12 @@
 // The prompt of the debugger.
 
 use crate::files::{file_bytes, routine_name};
-use crate::stop::Stop;
+use crate::stop::ProgramError;
+use mj_command_line::Debug;
+use mj_debug::Debugger;
 use mj_dev::Device;
-use mj_dialogue::debugging::Debugger;
 use mj_sys::Opening;
 use mj_text::{Digits, Text};
-use mj_words::Debug;
 use std::alloc::Global;
 use std::io::Write;
 use std::rt::Files;
@@ -39,7 +39,7 @@ struct Source {
 pub fn prompt_of<'a, R: Files + AllocGlobal>(
     rt: &R,
     order: &Debug<'a>,
-) -> Result<Option<Prompt>, Stop<'a>> {
+) -> Result<Option<Prompt>, ProgramError<'a>> {
     if !order.prompt {
         return Ok(None);
     }
@@ -48,7 +48,7 @@ pub fn prompt_of<'a, R: Files + AllocGlobal>(
         let bytes = file_bytes(rt, *file)?;
         let name = routine_name(rt.alloc(), *file)?;
         if sources.push(Source { name, bytes }).is_err() {
-            return Err(Stop::Memory);
+            return Err(ProgramError::Memory);
         }
     }
     Ok(Some(Prompt { sources }))

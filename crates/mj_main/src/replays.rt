@@ -6,13 +6,13 @@ ghost use Rattle.mj_sys.specs.Shared.{are_global};
 use crate::files::file_bytes;
 use crate::listings::listed;
 use crate::routines::loaded;
-use crate::stop::{DIFFERS, Stop};
-use mj_dialogue::debugging::Verdict;
+use crate::stop::{DIFFERS, ProgramError};
+use mj_command_line::Replay;
+use mj_debug::Verdict;
 use mj_globs::Globals;
 use mj_load::Image;
 use mj_replay::replay_trace;
 use mj_trace::{Trace, TraceError, read_trace};
-use mj_words::Replay;
 use std::alloc::{AllocError, Global};
 use std::rt::Files;
 
@@ -20,13 +20,13 @@ use std::rt::Files;
 pub fn replayed<'a, R: Files + AllocGlobal>(
     rt: &R,
     order: &Replay<'a>,
-) -> Result<(String, u8), Stop<'a>>
+) -> Result<(String, u8), ProgramError<'a>>
     ensures { IfOk result (λ told. told.1 ≤ 1) }
 {
     let trace = recorded(rt, order.trace)?;
     match verdict(rt, order, &trace) {
         Ok(verdict) => {
-            let told = told(rt.alloc(), &trace, verdict);
+            let told = verdict_text(rt.alloc(), &trace, verdict);
             drop(trace);
             Ok(told?)
         }
@@ -38,12 +38,12 @@ pub fn replayed<'a, R: Files + AllocGlobal>(
 }
 
 // The trace in a file.
-fn recorded<'a, R: Files + AllocGlobal>(rt: &R, file: &'a str) -> Result<Trace, Stop<'a>> {
+fn recorded<'a, R: Files + AllocGlobal>(rt: &R, file: &'a str) -> Result<Trace, ProgramError<'a>> {
     let bytes = file_bytes(rt, file)?;
     match read_trace(rt.alloc(), &bytes) {
         Ok(trace) => Ok(trace),
-        Err(TraceError::Memory) => Err(Stop::Memory),
-        Err(refusal) => Err(Stop::Trace(refusal)),
+        Err(TraceError::Memory) => Err(ProgramError::Memory),
+        Err(refusal) => Err(ProgramError::Trace(refusal)),
     }
 }
 
@@ -52,10 +52,10 @@ fn verdict<'a, R: Files + AllocGlobal>(
     rt: &R,
     order: &Replay<'a>,
     trace: &Trace,
-) -> Result<Verdict, Stop<'a>> {
+) -> Result<Verdict, ProgramError<'a>> {
     let image = loaded(rt, &order.files)?;
     let verdict = match listed(rt, order.globals) {
-        Ok(globals) => over(rt.alloc(), &image, globals, trace),
+        Ok(globals) => replay_verdict(rt.alloc(), &image, globals, trace),
         Err(stop) => Err(stop),
     };
     drop(image);
@@ -63,19 +63,19 @@ fn verdict<'a, R: Files + AllocGlobal>(
 }
 
 // What its replay over these routines and globals comes to.
-fn over<'a>(
+fn replay_verdict<'a>(
     alloc: Global,
     image: &Image,
     globals: Globals,
     trace: &Trace,
-) -> Result<Verdict, Stop<'a>>
+) -> Result<Verdict, ProgramError<'a>>
     requires { are_global globals ≡ true }
 {
     Ok(replay_trace(alloc, image, globals, trace)?)
 }
 
 // What is printed of a verdict, and the exit status. Lines count from 1: before the events stand the header, and a line for each device and each start.
-fn told(alloc: Global, trace: &Trace, verdict: Verdict) -> Result<(String, u8), AllocError>
+fn verdict_text(alloc: Global, trace: &Trace, verdict: Verdict) -> Result<(String, u8), AllocError>
     ensures { IfOk result (λ told. told.1 ≤ 1) }
 {
     match verdict {

@@ -6,7 +6,7 @@ ghost use Rattle.mj_main.specs.Statuses.{status_of};
 use mj_dialogue::Trouble;
 use mj_gfile::ReadError;
 use mj_rou::LoadError;
-use mj_steps::{Ending, Refused, StepsError};
+use mj_steps::{Ending, Refusal, StepsError};
 use mj_text::{Digits, Text};
 use mj_trace::TraceError;
 use std::alloc::AllocError;
@@ -15,7 +15,7 @@ use thiserror::Error;
 
 /// Why the program stops: what it prints of it, on one line.
 #[derive(Debug, Drop, Error)]
-pub enum Stop<'a> {
+pub enum ProgramError<'a> {
     /// a value on the command line isn't of its form
     #[error("bad {0}")]
     Value(&'a str),
@@ -42,7 +42,7 @@ pub enum Stop<'a> {
     Steps(StepsError),
     /// a step is refused; steps count from 1
     #[error("{why} at step {step}")]
-    Step { why: Refused, step: usize },
+    Step { why: Refusal, step: usize },
     /// all jobs wait, and none for what it asks with a timeout
     #[error("stuck")]
     Stuck,
@@ -57,18 +57,18 @@ pub enum Stop<'a> {
     Memory,
 }
 
-impl<'a> From<AllocError> for Stop<'a> {
-    fn from(_error: AllocError) -> Stop<'a> {
-        Stop::Memory
+impl<'a> From<AllocError> for ProgramError<'a> {
+    fn from(_error: AllocError) -> ProgramError<'a> {
+        ProgramError::Memory
     }
 }
 
-impl<'a> From<Trouble> for Stop<'a> {
-    fn from(trouble: Trouble) -> Stop<'a> {
+impl<'a> From<Trouble> for ProgramError<'a> {
+    fn from(trouble: Trouble) -> ProgramError<'a> {
         match trouble {
-            Trouble::Memory => Stop::Memory,
-            Trouble::Long => Stop::Long,
-            Trouble::Unwritten => Stop::File("-"),
+            Trouble::Memory => ProgramError::Memory,
+            Trouble::Long => ProgramError::Long,
+            Trouble::Unwritten => ProgramError::File("-"),
         }
     }
 }
@@ -84,37 +84,44 @@ pub const WORDS: u8 = 3;
 /// The exit status where memory or a file fails, or a job goes on for too long.
 pub const FAILED: u8 = 4;
 
-impl<'a> Stop<'a> {
+impl<'a> ProgramError<'a> {
     /// Why stepping ended before its end, if it did.
-    pub fn of_ending(ending: Ending) -> Option<Stop<'a>> {
+    pub fn of_ending(ending: Ending) -> Option<ProgramError<'a>> {
         match ending {
             Ending::Over => None,
-            Ending::Stuck => Some(Stop::Stuck),
-            Ending::Full => Some(Stop::Full),
+            Ending::Stuck => Some(ProgramError::Stuck),
+            Ending::Full => Some(ProgramError::Full),
             Ending::Refused {
-                why: Refused::Full,
+                why: Refusal::Full,
                 ..
-            } => Some(Stop::Full),
+            } => Some(ProgramError::Full),
             Ending::Refused {
-                why: Refused::Memory,
+                why: Refusal::Memory,
                 ..
-            } => Some(Stop::Memory),
-            Ending::Refused { why, step } => Some(Stop::Step { why, step }),
+            } => Some(ProgramError::Memory),
+            Ending::Refused { why, step } => Some(ProgramError::Step { why, step }),
         }
     }
 }
 
-impl Stop<'_> {
+impl ProgramError<'_> {
     /// The exit status that goes with it.
     pub fn status(&self) -> u8
         ensures which { result ≡ status_of self.now }
         ensures bound { result ≤ 4 }
     {
         match self {
-            Stop::Name(_) | Stop::Routine(_) | Stop::Twice(_) | Stop::Listing(_) => REFUSED,
-            Stop::Trace(_) | Stop::Steps(_) | Stop::Step { .. } => REFUSED,
-            Stop::Value(_) => WORDS,
-            Stop::File(_) | Stop::Stuck | Stop::Full | Stop::Long | Stop::Memory => FAILED,
+            ProgramError::Name(_)
+            | ProgramError::Routine(_)
+            | ProgramError::Twice(_)
+            | ProgramError::Listing(_) => REFUSED,
+            ProgramError::Trace(_) | ProgramError::Steps(_) | ProgramError::Step { .. } => REFUSED,
+            ProgramError::Value(_) => WORDS,
+            ProgramError::File(_)
+            | ProgramError::Stuck
+            | ProgramError::Full
+            | ProgramError::Long
+            | ProgramError::Memory => FAILED,
         }
     }
 }

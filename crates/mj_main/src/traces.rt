@@ -1,18 +1,17 @@
 // The trace of a run.
 
-ghost use Rattle.std.specs.Prelude.{◌≡◌, ◌++◌, ◌∷◌, [], map, IfOk, IfSome, OnOk};
+ghost use Rattle.std.specs.Prelude.{◌≡◌, ◌++◌, map, IfOk, IfSome, OnOk};
 ghost use Rattle.mj_dev.specs.Shelves.{count_of};
-ghost use Rattle.mj_trace.specs.Spelling.{event_text};
 ghost use Rattle.mj_trace.specs.Trace.{opening_text, event_lines};
 ghost use Rattle.mj_main.specs.Traced.{told_of, entries_of};
 
 use crate::files::write_file;
-use crate::stop::Stop;
-use mj_ask::{Ask, Entry, Reply, Start};
+use crate::stop::ProgramError;
+use mj_ask::{Entry, Start};
+use mj_core::Core;
 use mj_dev::{Device, Pool};
-use mj_dialogue::debugging::cores::Core;
 use mj_sys::Opening;
-use mj_trace::{event_line, opening};
+use mj_trace::{put_event, put_opening};
 use std::alloc::{AllocError, Global};
 use std::rt::Files;
 
@@ -37,7 +36,8 @@ pub fn trace_of<'a, D: Device>(
     };
     let counts = pool.counts()?;
     let entries = entries(alloc, starts)?;
-    let opening = opening(alloc, &counts, &entries)?;
+    let mut opening = Vec::new(alloc);
+    put_opening(alloc, &mut opening, &counts, &entries)?;
     Ok(Some(Trace { file, opening }))
 }
 
@@ -58,7 +58,7 @@ pub fn write_trace<'a, R: Files + AllocGlobal, D: Device, O: Opening>(
     rt: &R,
     trace: &Option<Trace<'a>>,
     core: &Core<D, O>,
-) -> Result<(), Stop<'a>> {
+) -> Result<(), ProgramError<'a>> {
     let Some(trace) = trace else {
         return Ok(());
     };
@@ -96,21 +96,5 @@ fn put_events<D: Device, O: Opening>(
         };
         put_event(alloc, bytes, job, ask, reply)?;
     }
-    Ok(())
-}
-
-// Puts the line of an event to the end.
-fn put_event(
-    alloc: Global,
-    bytes: &mut Vec<u8>,
-    job: u32,
-    ask: &Ask,
-    reply: &Reply,
-) -> Result<(), AllocError>
-    ensures { OnOk result (bytes.new.items ≡ bytes.old.items ++ (event_text job ask.now reply.now ++ 10 ∷ [])) }
-{
-    let line = event_line(alloc, job, ask, reply)?;
-    bytes.extend_from_slice(&line)?;
-    bytes.push(b'\n')?;
     Ok(())
 }

@@ -9,6 +9,8 @@ use Rattle.mj_num.specs.Number.{is_canonic, is_magnitude}
 use Rattle.mj_subs.specs.Name.{Name, is_word}
 use Rattle.mj_nref.specs.Spelling.{doubled, subscript_text, rest_text, subscripts_text, word_text, name_text, is_filled, IsFormed}
 use Rattle.mj_nref.specs.Reading.{is_mark, front_of, rest_of, preceded, quoted_at, is_plain, plain_only, subscript_of, closed, marked, with_mark, item_of, listed, continued_by, subscripts_of, named, name_with, name_in, name_of, IsReading}
+use Rattle.mj_subs.specs.declared.subs.TheConstants.{SUBSCRIPTS_LIMIT}
+use Rattle.mj_subs.specs.declared.word.TheConstants.{WORD_LIMIT}
 
 -- ---- quotes
 
@@ -21,7 +23,8 @@ closing : (r : List ℕ) → NoQuote r → quoted_at true r ≡ Some ([], r)
 closing [] h = refl
 closing (c ∷ cs) h = ap (λ b. cond b (preceded 34 (quoted_at false cs)) (Some ([], c ∷ cs))) h
 
-doubled_byte : (c : ℕ) (s r : List ℕ) (b : Bool) → eqb c 34 ≡ b → quoted_at false (doubled s ++ 34 ∷ r) ≡ Some (s, r) → quoted_at false (cond b (34 ∷ 34 ∷ doubled s) (c ∷ doubled s) ++ 34 ∷ r) ≡ Some (c ∷ s, r)
+doubled_byte : (c : ℕ) (s r : List ℕ) (b : Bool) → eqb c 34 ≡ b → quoted_at false (doubled s ++ 34 ∷ r) ≡ Some (s, r)
+    → quoted_at false (cond b (34 ∷ 34 ∷ doubled s) (c ∷ doubled s) ++ 34 ∷ r) ≡ Some (c ∷ s, r)
 doubled_byte c s r true e rec = ap (preceded 34) rec ∙ ap (λ d. Some (d ∷ s, r)) (sym (eqb-true c 34 e))
 doubled_byte c s r false e rec =
     ap (λ b. cond b (quoted_at true (doubled s ++ 34 ∷ r)) (preceded c (quoted_at false (doubled s ++ 34 ∷ r)))) e ∙ ap (preceded c) rec
@@ -48,7 +51,8 @@ doubled_quoted : (bs : List ℕ) (o : Option (List ℕ × List ℕ)) → IsQuote
 doubled_quoted bs None h = tt
 doubled_quoted bs (Some p) h = ap (λ l. 34 ∷ 34 ∷ l) h
 
-step_open : (c : ℕ) (cs : List ℕ) (b : Bool) → eqb c 34 ≡ b → IsQuoted (34 ∷ cs) (quoted_at true cs) → IsQuoted cs (quoted_at false cs) → IsQuoted (c ∷ cs) (cond b (quoted_at true cs) (preceded c (quoted_at false cs)))
+step_open : (c : ℕ) (cs : List ℕ) (b : Bool) → eqb c 34 ≡ b → IsQuoted (34 ∷ cs) (quoted_at true cs) → IsQuoted cs (quoted_at false cs)
+    → IsQuoted (c ∷ cs) (cond b (quoted_at true cs) (preceded c (quoted_at false cs)))
 step_open c cs true e h k = subst (λ d. IsQuoted (d ∷ cs) (quoted_at true cs)) (sym (eqb-true c 34 e)) h
 step_open c cs false e h k = preceded_quoted c cs (quoted_at false cs) k e
 
@@ -184,7 +188,9 @@ word_clear [] h = absurd cc
 word_clear (c ∷ cs) h = by (head_byte c parts.0)
   where
     parts : ((is_ascii_alphabetic c || eqb c 37) ≡ true) × (list_all is_ascii_alphanumeric cs ≡ true)
-    parts = both_true (is_ascii_alphabetic c || eqb c 37) (list_all is_ascii_alphanumeric cs) (both_true ((is_ascii_alphabetic c || eqb c 37) && list_all is_ascii_alphanumeric cs) (nat_lt (length cs) 31) h).0
+    parts =
+        both_true (is_ascii_alphabetic c || eqb c 37) (list_all is_ascii_alphanumeric cs)
+        (both_true ((is_ascii_alphabetic c || eqb c 37) && list_all is_ascii_alphanumeric cs) (nat_lt (length cs) WORD_LIMIT) h).0
 
     clear : (c ≢ 40) → (c ≢ 41) → (c ≢ 44) → (c ≢ 94) → (unmarked (c ∷ cs) ≡ true) × (eqb c 94 ≡ false)
     clear p q r s =
@@ -322,7 +328,8 @@ unfolding subscripts_of
 subscripts_of-IsListed zero bs = tt
 subscripts_of-IsListed (suc k) bs = listed_by k bs (subscripts_of k) (subscripts_of-IsListed k) (item_of bs) (item_of-IsItem bs)
   where
-    listed_by : (k : ℕ) (bs : List ℕ) (more : List ℕ → Option (List (List ℕ))) → ((cs : List ℕ) → IsListed k cs (more cs)) → (o : Option (List ℕ × Option (List ℕ))) → IsItem bs o → IsListed (suc k) bs (continued_by more o)
+    listed_by : (k : ℕ) (bs : List ℕ) (more : List ℕ → Option (List (List ℕ))) → ((cs : List ℕ) → IsListed k cs (more cs)) → (o : Option (List ℕ × Option (List ℕ))) → IsItem bs o
+        → IsListed (suc k) bs (continued_by more o)
     listed_by k bs more rec None h = tt
     listed_by k bs more rec (Some (s, None)) h = (h.0, omega arith, ap (λ b. b && true) h.1)
     listed_by k bs more rec (Some (s, Some cs)) h = one_more k bs s cs (more cs) h.0 h.1 (rec cs)
@@ -333,20 +340,23 @@ AtMark-subscripts_text : (ss : List (List ℕ)) → AtMark (subscripts_text ss)
 AtMark-subscripts_text [] = tt
 AtMark-subscripts_text (s ∷ ss) = refl
 
-list_read : (g : Bool) (w : List ℕ) (ss : List (List ℕ)) → length ss ≤ 31 → list_all is_filled ss ≡ true → name_with g w (subscripts_text ss) ≡ Some (record { global = g; word = w; subscripts = ss })
+list_read : (g : Bool) (w : List ℕ) (ss : List (List ℕ)) → length ss ≤ SUBSCRIPTS_LIMIT → list_all is_filled ss ≡ true
+    → name_with g w (subscripts_text ss) ≡ Some (record { global = g; word = w; subscripts = ss })
 list_read g w [] few f = refl
 list_read g w (s ∷ ss) few f =
     let p = both_true (is_filled s) (list_all is_filled ss) f in
-    ap (named g w) (subscripts_of-text 31 s ss (omega arith) p.0 p.1)
+    ap (named g w) (subscripts_of-text SUBSCRIPTS_LIMIT s ss (omega arith) p.0 p.1)
 
-word_read : (g : Bool) (w : List ℕ) (ss : List (List ℕ)) → is_word w ≡ true → length ss ≤ 31 → list_all is_filled ss ≡ true → name_in g (w ++ subscripts_text ss) ≡ Some (record { global = g; word = w; subscripts = ss })
+word_read : (g : Bool) (w : List ℕ) (ss : List (List ℕ)) → is_word w ≡ true → length ss ≤ SUBSCRIPTS_LIMIT → list_all is_filled ss ≡ true
+    → name_in g (w ++ subscripts_text ss) ≡ Some (record { global = g; word = w; subscripts = ss })
 word_read g w ss h few f =
     let u = (word_clear w h).0 in
     let front = front_of-unmarked w (subscripts_text ss) u (AtMark-subscripts_text ss) in
     let rest = rest_of-unmarked w (subscripts_text ss) u (AtMark-subscripts_text ss) in
     (λ i. cond (is_word (front i)) (name_with g (front i) (rest i)) None) ∙ ap (λ b. cond b (name_with g w (subscripts_text ss)) None) h ∙ list_read g w ss few f
 
-kind_read : (g : Bool) (w : List ℕ) (ss : List (List ℕ)) → is_word w ≡ true → length ss ≤ 31 → list_all is_filled ss ≡ true → name_of (word_text g w ++ subscripts_text ss) ≡ Some (record { global = g; word = w; subscripts = ss })
+kind_read : (g : Bool) (w : List ℕ) (ss : List (List ℕ)) → is_word w ≡ true → length ss ≤ SUBSCRIPTS_LIMIT → list_all is_filled ss ≡ true
+    → name_of (word_text g w ++ subscripts_text ss) ≡ Some (record { global = g; word = w; subscripts = ss })
 kind_read true w ss h few f = word_read true w ss h few f
 kind_read false [] ss h few f = absurd cc
 kind_read false (c ∷ cs) ss h few f =
@@ -366,14 +376,16 @@ rest_named : (g : Bool) (w r : List ℕ) → is_word w ≡ true → IsNamed (wor
 rest_named g w [] h = (refl, record { word = h; few = omega arith; filled = refl })
 rest_named g w (c ∷ cs) h = by (eqb c 40) refl
   where
-    read : (o : Option (List (List ℕ))) → IsListed 31 cs o → IsNamed (word_text g w ++ 40 ∷ cs) (named g w o)
+    read : (o : Option (List (List ℕ))) → IsListed SUBSCRIPTS_LIMIT cs o → IsNamed (word_text g w ++ 40 ∷ cs) (named g w o)
     read None k = tt
     read (Some []) k = absurd k
     read (Some (s ∷ ss)) k = (ap (λ l. word_text g w ++ 40 ∷ l) k.0, record { word = h; few = k.1; filled = k.2 })
 
-    by : (b : Bool) → eqb c 40 ≡ b → IsNamed (word_text g w ++ c ∷ cs) (cond b (named g w (subscripts_of 31 cs)) None)
+    by : (b : Bool) → eqb c 40 ≡ b → IsNamed (word_text g w ++ c ∷ cs) (cond b (named g w (subscripts_of SUBSCRIPTS_LIMIT cs)) None)
     by false e = tt
-    by true e = subst (λ d. IsNamed (word_text g w ++ d ∷ cs) (named g w (subscripts_of 31 cs))) (sym (eqb-true c 40 e)) (read (subscripts_of 31 cs) (subscripts_of-IsListed 31 cs))
+    by true e =
+        subst (λ d. IsNamed (word_text g w ++ d ∷ cs) (named g w (subscripts_of SUBSCRIPTS_LIMIT cs))) (sym (eqb-true c 40 e))
+        (read (subscripts_of SUBSCRIPTS_LIMIT cs) (subscripts_of-IsListed SUBSCRIPTS_LIMIT cs))
 
 word_text-append : (g : Bool) (w r : List ℕ) → word_text g (w ++ r) ≡ word_text g w ++ r
 word_text-append true w r = refl

@@ -3,6 +3,7 @@ use Rattle.std.specs.Prelude.{◌↔◌, ◌≡◌, ℕ, zero, suc, Bool, true, 
 use Rattle.mj_num.specs.Number.{is_canonic}
 use Rattle.mj_subs.specs.Name.{Name, is_word}
 use Rattle.mj_nref.specs.Spelling.{name_text, IsFormed}
+use Rattle.mj_subs.specs.declared.subs.TheConstants.{SUBSCRIPTS_LIMIT}
 
 -- a byte at which a word or a bare subscript ends
 abbrev pub is_mark : ℕ → Bool
@@ -92,7 +93,7 @@ named g w (Some ss) = Some (record { global = g; word = w; subscripts = ss })
 -- the name of this kind and word, where the bytes that follow the word are given
 abbrev pub name_with : Bool → List ℕ → List ℕ → Option Name
 name_with g w [] = named g w (Some [])
-name_with g w (c ∷ cs) = if c == 40 then named g w (subscripts_of 31 cs) else None
+name_with g w (c ∷ cs) = if c == 40 then named g w (subscripts_of SUBSCRIPTS_LIMIT cs) else None
 
 -- the name of this kind that the bytes spell
 abbrev pub name_in : Bool → List ℕ → Option Name

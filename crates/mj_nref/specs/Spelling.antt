@@ -3,6 +3,7 @@ use Rattle.std.specs.Prelude.{◌≡◌, ℕ, ◌≤◌, Bool, true, false, ◌=
 use Rattle.std.specs.List.{list_all}
 use Rattle.mj_num.specs.Number.{is_canonic}
 use Rattle.mj_subs.specs.Name.{Name, is_word}
+use Rattle.mj_subs.specs.declared.subs.TheConstants.{SUBSCRIPTS_LIMIT}
 
 -- a text in which each `"` is doubled
 abbrev pub doubled : List ℕ → List ℕ
@@ -37,10 +38,10 @@ abbrev pub is_filled : List ℕ → Bool
 is_filled [] = false
 is_filled (c ∷ cs) = true
 
--- a name that has a name text: its word is one, and it has at most 31 subscripts, none of them empty
+-- a name that has a name text: its word is one, and it has at most `SUBSCRIPTS_LIMIT` subscripts, none of them empty
 pub record IsFormed (n : Name) : Type 0 where
   pub word : is_word n.word ≡ true
-  pub few : length n.subscripts ≤ 31
+  pub few : length n.subscripts ≤ SUBSCRIPTS_LIMIT
   pub filled : list_all is_filled n.subscripts ≡ true
 
 -- $QSUBSCRIPT of a name: its word for 0, its k-th subscript for k from 1, and else the empty text

@@ -8,14 +8,14 @@ ghost use Rattle.mj_nref.specs.Reading.{name_of};
 
 use crate::read::{read_name, text_of};
 use mj_num::Num;
-use mj_subs::Name;
+use mj_subs::{Name, SUBSCRIPTS_LIMIT};
 use mj_text::{Digits, Failure, Fault, Text};
 use std::alloc::{AllocError, Global};
 
 /// How many subscripts a name text has. One that is no name text is `Subscript`.
 pub fn qlength(alloc: Global, text: &Text) -> Result<usize, Failure>
     ensures ok { IfOk result (λ k. MatchOption (name_of text.now) ⊥ (λ n. k ≡ length n.subscripts)) }
-    ensures few { IfOk result (λ k. k ≤ 31) }
+    ensures few { IfOk result (λ k. k ≤ SUBSCRIPTS_LIMIT) }
     ensures err { IfErr result (λ e. (e ≡ failure.Memory)
         ⊎ ((e ≡ failure.Fault fault.Subscript) × (name_of text.now ≡ None))) }
 {

@@ -5,7 +5,7 @@ ghost use Rattle.std.specs.Option.{option_map};
 ghost use Rattle.mj_nref.specs.Reading.{front_of, rest_of, quoted_at, subscript_of, item_of, subscripts_of, name_in, name_of, IsReading};
 
 use mj_num::is_canonic_bytes;
-use mj_subs::{Name, SUBSCRIPT_LIMIT, Sub, Subs, is_word};
+use mj_subs::{Name, SUBSCRIPTS_LIMIT, Sub, Subs, is_word};
 use mj_text::{Digits, Text};
 use std::alloc::{AllocError, Global};
 
@@ -60,11 +60,11 @@ fn split_front(bytes: &[u8]) -> (&[u8], &[u8])
 
 // The subscripts up to the parenthesis that ends the text.
 fn read_subscripts(alloc: Global, list: &[u8]) -> Result<Option<Subs>, AllocError>
-    ensures { IfOk result (λ r. r ≡ subscripts_of SUBSCRIPT_LIMIT list.now) }
+    ensures { IfOk result (λ r. r ≡ subscripts_of SUBSCRIPTS_LIMIT list.now) }
 {
     let mut subs = Subs::new(alloc);
     let mut rest = list;
-    for _place in 0..SUBSCRIPT_LIMIT {
+    for _place in 0..SUBSCRIPTS_LIMIT {
         let Some((sub, next)) = read_item(alloc, rest)? else {
             return Ok(None);
         };

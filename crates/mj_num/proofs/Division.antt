@@ -87,7 +87,8 @@ pub IsUpTo-remainder : (a d : ℤ) → is_zero d ≡ false → IsUpTo d (remaind
 IsUpTo-remainder a d nz = record { above = from_zero a d; below = to_zero a d }
   where
     from_zero : (a d : ℤ) → pos 0 <ℤ d → (pos 0 ≤ℤ remainder a d) × (remainder a d <ℤ d)
-    from_zero (pos a) (pos m) h = rw (remainder-positive a m (omega (arith, ints))) (omega (arith, ints, mod-lt a {m = m} (omega (arith, ints))), omega (arith, ints, mod-lt a {m = m} (omega (arith, ints))))
+    from_zero (pos a) (pos m) h =
+        rw (remainder-positive a m (omega (arith, ints))) (omega (arith, ints, mod-lt a {m = m} (omega (arith, ints))), omega (arith, ints, mod-lt a {m = m} (omega (arith, ints))))
     from_zero (negsuc a) (pos m) h = rw (remainder-of_negative a m (omega (arith, ints))) (omega (arith, ints), omega (arith, ints))
     from_zero a (negsuc b) h = absurd (omega (arith, ints))
 

@@ -27,7 +27,7 @@ number_of (c ∷ cs) = if c == 43 then number_of cs else (if c == 45 then neg_�
 abbrev pub IsInRange : ℤ → Type 0
 IsInRange z = unsigned_abs z < 10 ^ 18
 
--- the same, as a test
+-- the test of `IsInRange`
 abbrev pub is_in_range : ℤ → Bool
 is_in_range z = nat_lt (unsigned_abs z) (10 ^ 18)
 

@@ -8,7 +8,7 @@ ghost use Rattle.mj_num.specs.Number.{is_magnitude, is_canonic as canonic_test, 
 use mj_text::{Digits, Text};
 
 /// The greatest number of digits of a number.
-const MAX_DIGITS: usize = 18;
+const DIGITS_LIMIT: usize = 18;
 
 /// The least number above the range.
 const PAST_RANGE: u64 = 1_000_000_000_000_000_000;
@@ -44,7 +44,7 @@ fn is_magnitude(bytes: &[u8]) -> bool
 {
     match bytes {
         [] | [b'0', ..] => false,
-        _ => bytes.len() <= MAX_DIGITS && are_digits(bytes),
+        _ => bytes.len() <= DIGITS_LIMIT && are_digits(bytes),
     }
 }
 
@@ -69,7 +69,7 @@ pub fn is_canonic(text: &Text) -> bool
     }
 }
 
-/// The same of a text that isn't kept as a number. It lies apart, so that the room of a spelling isn't cleared where none is needed.
+/// Whether a text that isn't kept as a number is the spelling of one. It lies apart, so that the room of a spelling isn't cleared where none is needed.
 #[inline(never)]
 fn is_canonic_spelled(text: &Text) -> bool
     ensures { result ≡ canonic_test text.now }

@@ -77,7 +77,7 @@ impl Num {
         }
     }
 
-    // The same of a text that isn't kept as a number. It lies apart, so that the room of a spelling isn't cleared where none is needed.
+    // What a text that isn't kept as a number counts as. It lies apart, so that the room of a spelling isn't cleared where none is needed.
     #[inline(never)]
     fn read_spelled(text: &Text) -> Result<Num, Fault>
         ensures { result ≡ reading text.now }

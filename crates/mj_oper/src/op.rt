@@ -40,7 +40,7 @@ pub enum Op {
     Join,
     /// `1` where it holds, else `0`
     Is(TruthOp),
-    /// the same with `'` before it: `0` where it holds, else `1`
+    /// a `'` before it turns it: `0` where it holds, else `1`
     IsNot(TruthOp),
 }
 

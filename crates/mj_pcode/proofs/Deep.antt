@@ -6,16 +6,15 @@ use Rattle.std.specs.Prelude.{ℤ, not, slice_get, nat_lt, nat_eq, if◌then◌e
 use Rattle.mj_num.specs.Number.{reading}
 use Rattle.mj_subs.specs.Name.{Name}
 use Rattle.mj_oper.specs.Operators.{binary_value, unary_value, truth_value}
-use Rattle.mj_ask.specs.declared.ask.Ask.TheVariants as asks
 use Rattle.mj_ask.specs.declared.ask.Reply.{Reply}
 use Rattle.mj_ask.specs.Fits.{is_late}
 use Rattle.mj_ast.specs.declared.expr.Scope.TheVariants.{Local}
-use Rattle.mj_semantics.specs.State.{State, Only, AllBut, at_place, spare, level_of, special_value, set_test, newed, pushed, popped, passed, may_go, devices_limit, is_open, may_close, with_device, dropped}
-use Rattle.mj_semantics.specs.Outcome.{Outcome, More, Handler, Timed, given, is_failed}
+use Rattle.mj_semantics.specs.State.{State, Only, AllBut, at_place, kill_except, level_of, special_value, set_test, newed, pushed, popped, passed, may_go, devices_limit, is_open, may_close, with_device, dropped}
+use Rattle.mj_semantics.specs.Outcome.{Outcome, More, Handler, Timed, is_failed}
 use Rattle.mj_semantics.specs.Functions.{call_value, optional}
 use Rattle.mj_semantics.specs.Evaluation.{name_of, named_for}
 use Rattle.mj_semantics.specs.Sharing.{is_limit, in_time, served, take_names, give_names}
-use Rattle.mj_semantics.specs.Devices.{is_got, has_no_session, obtain, end_session}
+use Rattle.mj_semantics.specs.Devices.{is_got, has_no_session, request_device, end_session}
 use Rattle.mj_semantics.specs.Commands.{mark_byte}
 use Rattle.mj_semantics.proofs.Words.{Stays, spent, same, Back, Keeps, turned, looked, changed, chosen, ended, faulted, is_given, asked, told_of, to_its_device, restarts, reads, is_about, stores, renews, removes, takes_nodes, puts_nodes, quits_frame, goes_deeper, writes, tabs, writes_code, tests, goes_again, begins as first_keeps, reads_two, hangs, starts_job, unlocks_all, uses, reads_input, begins_transaction, commits, rolls_back, gives_back, begins_again}
 use Rattle.mj_pcode.specs.declared.instr.Span.{Span}
@@ -24,11 +23,11 @@ use Rattle.mj_pcode.specs.declared.instr.LineStart.{LineStart}
 use Rattle.mj_pcode.specs.declared.instr.Wait.{Wait}
 use Rattle.mj_pcode.specs.declared.instr.Wait.TheVariants.{Ever, Timed as Limited}
 use Rattle.mj_pcode.specs.declared.instr.Instr.{Instr}
-use Rattle.mj_pcode.specs.declared.instr.Instr.TheVariants.{Line, Push, Special, Load, Unary, Binary, Call, Check, Store, Renew, Discard, Kill, Spare, Take, Put, Write, Format, Tab, WriteByte, Unless, Jump, NoneTrue, Halt, Number, Hang, Start, UnlockAll, Lock, Unlock, Obtain, BeginSession, Use, EndSession, GiveUpFailed, GiveUp, Read, Named, About, Decide, If, Else, Open, Forever, Begin, Again, Close, Do, Block, Goto, Quit, New, NewExcept, StartTransaction, MarkRestart, Commit, GiveBack, BeginAgain, RollBack}
+use Rattle.mj_pcode.specs.declared.instr.Instr.TheVariants.{Line, Push, PushSpecial, Load, Unary, Binary, CallFunction, CheckName, Store, SetPiece, Discard, Kill, KillExcept, MergeTake, MergePut, Write, WriteFormat, WriteTab, WriteByte, JumpUnless, Jump, SelectFails, Halt, CheckNumber, Hang, StartJob, UnlockAll, Lock, Unlock, OpenDevice, BeginSession, UseDevice, EndSession, GiveUpFailedDevice, GiveUpDevice, Read, CheckNamed, CallNameFunction, SetTest, JumpUnlessTest, JumpIfTest, ForOpen, ForForever, ForBegin, ForAgain, ForClose, Do, DoBlock, Goto, Quit, New, NewExcept, StartTransaction, MarkRestart, Commit, RollBackForRestart, BeginRestart, RollBack}
 use Rattle.mj_pcode.specs.declared.instr.Unit.{Unit}
 use Rattle.mj_pcode.specs.Found.{Found, found, start_of, levels_in}
 use Rattle.mj_pcode.specs.Context.{Once, Always, By, Loop, Call as Suspended, Context, passes_of, nameless, in_loops, outer, suspended, resumed, at_unit}
-use Rattle.mj_pcode.specs.Machine.{Stack, Next, top, below, operands, returns, quits, place_in, tallies, enter, comes_to, spread, given_count, wait_size, waits, counts, names_on, calls, jumps, blocks, with_passes, begins, passes, restored_of, act, act_in, exec}
+use Rattle.mj_pcode.specs.Machine.{Stack, Next, top, below, operands, returns, quits, place_in, tallies, comes_to, spread, given_count, wait_size, waits, counts, names_on, calls, jumps, blocks, with_passes, for_begins, for_passes, restored_of, act, act_in, exec}
 use Rattle.mj_pcode.specs.Laws.{IsDeepEnough, HandsOnAtMost}
 
 -- Words that only instructions are made of.
@@ -38,24 +37,24 @@ serves timeout r l = chosen (is_limit r) faulted (changed {c = in_time timeout (
 
 takes_names : {more b : ℕ} (xs : List Name) (timeout : Option ℤ) {f g : Timed} → Keeps more b f g → Keeps more b (take_names xs timeout f) (take_names xs timeout g)
 takes_names [] timeout l = l
-takes_names (x ∷ xs) timeout l = asked (asks.Try (x ∷ xs) timeout) (λ r. serves timeout r l)
+takes_names (x ∷ xs) timeout l = asked _ (λ r. serves timeout r l)
 
 gives_names : {more b : ℕ} (xs : List Name) (timeout : Option ℤ) {f g : Timed} → Keeps more b f g → Keeps more b (give_names xs timeout f) (give_names xs timeout g)
 gives_names [] timeout l = l
-gives_names (x ∷ xs) timeout l = asked (asks.Unlock (x ∷ xs)) (λ r. serves timeout r l)
+gives_names (x ∷ xs) timeout l = asked _ (λ r. serves timeout r l)
 
-obtains : {more b : ℕ} (name : List ℕ) (timeout : Option ℤ) {f g f' g' : Timed} → Keeps more b f g → Keeps more b f' g' → Keeps more b (obtain name timeout f f') (obtain name timeout g g')
+obtains : {more b : ℕ} (name : List ℕ) (timeout : Option ℤ) {f g f' g' : Timed} → Keeps more b f g → Keeps more b f' g' → Keeps more b (request_device name timeout f f') (request_device name timeout g g')
 obtains name timeout l m = looked (λ s.
     chosen (is_open name s) (changed {c = in_time timeout true} l)
     (chosen (nat_lt devices_limit (length s.devices)) faulted
-    (asked (asks.Open name timeout) (λ r.
+    (asked _ (λ r.
     chosen (has_no_session r) faulted
     (chosen (is_got r) (changed {c = in_time timeout true} (changed {c = with_device name} m)) (changed {c = in_time timeout false} l))))))
 
 ends_session : {more b : ℕ} (name : List ℕ) {f g f' g' f'' g'' : Timed} → Keeps more b f g → Keeps more b f' g' → Keeps more b f'' g''
     → Keeps more b (end_session name f f' f'') (end_session name g g' g'')
 ends_session name l m k = looked (λ s.
-    chosen (may_close name s) (asked (asks.DeviceEnd name) (λ r. changed {c = dropped name} (chosen (is_failed r) m k))) l)
+    chosen (may_close name s) (asked _ (λ r. changed {c = dropped name} (chosen (is_failed r) m k))) l)
 
 waits_keep : {more b : ℕ} (w : Wait) (stack : Stack) {f g : Option ℤ → Timed} → ((t : Option ℤ) → Keeps more b (f t) (g t)) → Keeps more b (waits w stack f) (waits w stack g)
 waits_keep Ever stack l = l None
@@ -98,7 +97,7 @@ module _ (more b : ℕ) (f g : Next) (keeps : KeepsNext more b f g) where
   block_keeps u k c pc =
       goes_deeper (looked (λ s. changed {c = pushed (place_in u k) (level_of s + 1) false (Some s.test)} (keeps (at_unit c.unit (suspended c pc)) (start_of u (k + 1)) [])))
 
-  begins_keep : (k : Span) (loops : List Loop) (c : Context) (pc : ℕ) (stack : Stack) → Keeps more b (begins k loops f c pc stack) (begins k loops g c pc stack)
+  begins_keep : (k : Span) (loops : List Loop) (c : Context) (pc : ℕ) (stack : Stack) → Keeps more b (for_begins k loops f c pc stack) (for_begins k loops g c pc stack)
   begins_keep k [] c pc stack = keeps c (pc + 1) stack
   begins_keep span.One (l ∷ ls) c pc stack = stores l.name (top stack) (keeps (in_loops c (with_passes l Once (pc + 1) ∷ ls)) l.body (drop 1 stack))
   begins_keep span.Endless (l ∷ ls) c pc stack =
@@ -112,7 +111,7 @@ module _ (more b : ℕ) (f g : Next) (keeps : KeepsNext more b f g) where
       (keeps (in_loops c (with_passes l (By step (Some end)) (pc + 1) ∷ ls)) (pc + 1) (drop 3 stack))
       (keeps (in_loops c (with_passes l (By step (Some end)) (pc + 1) ∷ ls)) l.body (drop 3 stack))))
 
-  passes_keep : (loops : List Loop) (c : Context) (pc : ℕ) (stack : Stack) → Keeps more b (passes loops f c pc stack) (passes loops g c pc stack)
+  passes_keep : (loops : List Loop) (c : Context) (pc : ℕ) (stack : Stack) → Keeps more b (for_passes loops f c pc stack) (for_passes loops g c pc stack)
   passes_keep [] c pc stack = keeps c (pc + 1) stack
   passes_keep (l ∷ ls) c pc stack = goes_again (passes_of l) (keeps c l.resume stack) (keeps c l.body stack)
 
@@ -120,39 +119,39 @@ module _ (more b : ℕ) (f g : Next) (keeps : KeepsNext more b f g) where
     acts_keep : (i : Instr) → Keeps more b (act units u (Some i) f c pc stack) (act units u (Some i) g c pc stack)
     acts_keep (Line m) = comes_to_keeps u m c pc stack
     acts_keep (Push t) = keeps c (pc + 1) (t ∷ stack)
-    acts_keep (Special v) = looked (λ s. keeps c (pc + 1) (special_value v s ∷ stack))
+    acts_keep (PushSpecial v) = looked (λ s. keeps c (pc + 1) (special_value v s ∷ stack))
     acts_keep (Load r) = is_given (name_of r.scope r.word (operands r.count stack)) (λ x. reads x (λ v. keeps c (pc + 1) (v ∷ drop r.count stack)))
     acts_keep (Unary op) = is_given (unary_value op (top stack)) (λ v. keeps c (pc + 1) (v ∷ below stack))
     acts_keep (Binary op) = is_given (binary_value op (top (below stack)) (top stack)) (λ v. keeps c (pc + 1) (v ∷ below (below stack)))
-    acts_keep (Call h n) = is_given (call_value h (operands n stack)) (λ v. keeps c (pc + 1) (v ∷ drop n stack))
-    acts_keep (Named h r) = is_given (named_for h r.scope r.word (operands r.count stack)) (λ x. keeps c (pc + 1) stack)
-    acts_keep (About h r k) =
+    acts_keep (CallFunction h n) = is_given (call_value h (operands n stack)) (λ v. keeps c (pc + 1) (v ∷ drop n stack))
+    acts_keep (CheckNamed h r) = is_given (named_for h r.scope r.word (operands r.count stack)) (λ x. keeps c (pc + 1) stack)
+    acts_keep (CallNameFunction h r k) =
         is_given (named_for h r.scope r.word (operands r.count (drop (k - r.count) stack))) (λ x.
         is_about h x (optional 0 (operands (k - r.count) stack)) (λ v. keeps c (pc + 1) (v ∷ drop k stack)))
-    acts_keep (Check r) = is_given (name_of r.scope r.word (operands r.count stack)) (λ x. keeps c (pc + 1) stack)
+    acts_keep (CheckName r) = is_given (name_of r.scope r.word (operands r.count stack)) (λ x. keeps c (pc + 1) stack)
     acts_keep (Store r w) = is_given (name_of r.scope r.word (operands r.count (drop w.above stack))) (λ x. stores x (top stack) (keeps c (pc + 1) (drop w.taken stack)))
-    acts_keep (Renew r n w) =
+    acts_keep (SetPiece r n w) =
         is_given (name_of r.scope r.word (operands r.count (drop n (drop w.above stack)))) (λ x.
         renews x (operands n (drop w.above stack)) (top stack) (keeps c (pc + 2) (drop w.taken stack)) (λ v. keeps c (pc + 1) (v ∷ stack)))
     acts_keep (Discard n) = keeps c (pc + 1) (drop n stack)
     acts_keep (Kill r) = is_given (name_of r.scope r.word (operands r.count stack)) (λ x. removes x (keeps c (pc + 1) (drop r.count stack)))
-    acts_keep (Spare words) = changed {c = spare words} (keeps c (pc + 1) stack)
-    acts_keep (Take into from) =
+    acts_keep (KillExcept words) = changed {c = kill_except words} (keeps c (pc + 1) stack)
+    acts_keep (MergeTake into from) =
         is_given (name_of from.scope from.word (operands from.count stack)) (λ y.
         is_given (name_of into.scope into.word (operands into.count (drop from.count stack))) (λ x.
         takes_nodes x y (keeps c (pc + 1) (drop from.count stack))))
-    acts_keep (Put r) = is_given (name_of r.scope r.word (operands r.count stack)) (λ x. puts_nodes x (keeps c (pc + 1) (drop r.count stack)))
+    acts_keep (MergePut r) = is_given (name_of r.scope r.word (operands r.count stack)) (λ x. puts_nodes x (keeps c (pc + 1) (drop r.count stack)))
     acts_keep Write = writes (top stack) (keeps c (pc + 1) (below stack))
-    acts_keep (Format marks) = writes (map mark_byte marks) (keeps c (pc + 1) stack)
-    acts_keep (Tab marks) = tabs marks (top stack) (keeps c (pc + 1) (below stack))
+    acts_keep (WriteFormat marks) = writes (map mark_byte marks) (keeps c (pc + 1) stack)
+    acts_keep (WriteTab marks) = tabs marks (top stack) (keeps c (pc + 1) (below stack))
     acts_keep WriteByte = writes_code (top stack) (keeps c (pc + 1) (below stack))
-    acts_keep (Unless target) = is_given (truth_value (top stack)) (λ t. chosen t (keeps c (pc + 1) (below stack)) (keeps c target (below stack)))
+    acts_keep (JumpUnless target) = is_given (truth_value (top stack)) (λ t. chosen t (keeps c (pc + 1) (below stack)) (keeps c target (below stack)))
     acts_keep (Jump target) = keeps c target stack
-    acts_keep NoneTrue = faulted
+    acts_keep SelectFails = faulted
     acts_keep Halt = ended
-    acts_keep Number = is_given (reading (top stack)) (λ n. keeps c (pc + 1) stack)
+    acts_keep CheckNumber = is_given (reading (top stack)) (λ n. keeps c (pc + 1) stack)
     acts_keep Hang = hangs (top stack) (keeps c (pc + 1) (below stack))
-    acts_keep (Start entry shape w) =
+    acts_keep (StartJob entry shape w) =
         waits_keep w stack (λ t.
         starts_job entry (spread shape (operands (given_count shape) (drop (wait_size w) stack))) t (keeps c (pc + 1) (drop (given_count shape + wait_size w) stack)))
     acts_keep UnlockAll = unlocks_all (keeps c (pc + 1) stack)
@@ -160,27 +159,27 @@ module _ (more b : ℕ) (f g : Next) (keeps : KeepsNext more b f g) where
         waits_keep w stack (λ t. is_given (names_on rs (drop (wait_size w) stack)) (λ xs. takes_names xs t (keeps c (pc + 1) (drop (counts rs + wait_size w) stack))))
     acts_keep (Unlock rs w) =
         waits_keep w stack (λ t. is_given (names_on rs (drop (wait_size w) stack)) (λ xs. gives_names xs t (keeps c (pc + 1) (drop (counts rs + wait_size w) stack))))
-    acts_keep (Obtain w) =
+    acts_keep (OpenDevice w) =
         waits_keep w stack (λ t. obtains (top (drop (wait_size w) stack)) t (keeps c (pc + 2) (drop (1 + wait_size w) stack)) (keeps c (pc + 1) (drop (wait_size w) stack)))
-    acts_keep BeginSession = to_its_device (top stack) (asks.DeviceBegin (top stack)) (λ r. keeps c (pc + 1) (below stack))
-    acts_keep Use = uses (top stack) (keeps c (pc + 1) (below stack))
+    acts_keep BeginSession = to_its_device (top stack) _ (λ r. keeps c (pc + 1) (below stack))
+    acts_keep UseDevice = uses (top stack) (keeps c (pc + 1) (below stack))
     acts_keep EndSession = ends_session (top stack) (keeps c (pc + 3) (below stack)) (keeps c (pc + 1) stack) (keeps c (pc + 2) stack)
-    acts_keep GiveUpFailed = told_of (asks.Close (top stack)) faulted
-    acts_keep GiveUp = told_of (asks.Close (top stack)) (keeps c (pc + 1) (below stack))
+    acts_keep GiveUpFailedDevice = told_of _ faulted
+    acts_keep GiveUpDevice = told_of _ (keeps c (pc + 1) (below stack))
     acts_keep (Read m w) = waits_keep w stack (λ t. reads_input m t (λ v. keeps c (pc + 1) (v ∷ drop (wait_size w) stack)))
-    acts_keep (Decide target) =
+    acts_keep (SetTest target) =
         is_given (truth_value (top stack)) (λ t. changed {c = set_test t} (chosen t (keeps c (pc + 1) (below stack)) (keeps c target (below stack))))
-    acts_keep (If target) = tests true (keeps c target stack) (keeps c (pc + 1) stack)
-    acts_keep (Else target) = tests false (keeps c target stack) (keeps c (pc + 1) stack)
-    acts_keep (Open word n body) =
+    acts_keep (JumpUnlessTest target) = tests true (keeps c target stack) (keeps c (pc + 1) stack)
+    acts_keep (JumpIfTest target) = tests false (keeps c target stack) (keeps c (pc + 1) stack)
+    acts_keep (ForOpen word n body) =
         is_given (name_of Local word (operands n stack)) (λ x.
         keeps (in_loops c (record { name = x; passes = Once; body = body; resume = pc + 1 } ∷ c.loops)) (pc + 1) (drop n stack))
-    acts_keep Forever = keeps (in_loops c (record { name = nameless; passes = Always; body = pc + 2; resume = pc + 1 } ∷ c.loops)) (pc + 2) stack
-    acts_keep (Begin k) = begins_keep k c.loops c pc stack
-    acts_keep Again = passes_keep c.loops c pc stack
-    acts_keep (Close target) = keeps (in_loops c (outer c.loops)) target stack
+    acts_keep ForForever = keeps (in_loops c (record { name = nameless; passes = Always; body = pc + 2; resume = pc + 1 } ∷ c.loops)) (pc + 2) stack
+    acts_keep (ForBegin k) = begins_keep k c.loops c pc stack
+    acts_keep ForAgain = passes_keep c.loops c pc stack
+    acts_keep (ForClose target) = keeps (in_loops c (outer c.loops)) target stack
     acts_keep (Do entry shape) = calls_keep false (found units entry) (spread shape (operands (given_count shape) stack)) (suspended c (pc + 1))
-    acts_keep (Block k) = block_keeps u k c (pc + 1)
+    acts_keep (DoBlock k) = block_keeps u k c (pc + 1)
     acts_keep (Goto entry) = jumps_keep (found units entry) c.calls
     acts_keep Quit = quits_keep c.calls
     acts_keep (New words) = changed {c = newed (Only words)} (keeps c (pc + 1) stack)
@@ -188,8 +187,8 @@ module _ (more b : ℕ) (f g : Next) (keeps : KeepsNext more b f g) where
     acts_keep (StartTransaction r serial) = begins_transaction (restored_of r) serial (keeps c (pc + 2) stack) (keeps c (pc + 1) stack)
     acts_keep MarkRestart = restarts (keeps c pc []) (keeps c (pc + 1) stack)
     acts_keep Commit = commits (keeps c (pc + 1) stack) (keeps c (pc + 2) stack)
-    acts_keep GiveBack = gives_back (keeps c (pc + 1) stack)
-    acts_keep BeginAgain = begins_again
+    acts_keep RollBackForRestart = gives_back (keeps c (pc + 1) stack)
+    acts_keep BeginRestart = begins_again
     acts_keep RollBack = rolls_back (keeps c (pc + 1) stack)
 
     act_keeps : (o : Option Instr) → Keeps more b (act units u o f c pc stack) (act units u o g c pc stack)

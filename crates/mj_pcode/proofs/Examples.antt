@@ -2,19 +2,20 @@
 use Rattle.std.proofs.Common.{arith, ap, ◌∙◌}
 use Rattle.std.proofs.lemmas.Option.{none-some}
 use Rattle.std.specs.Prelude.{◌≡◌, refl, ℕ, suc, List, [], ◌∷◌, Some, None, Bool, true, false, codes, slice_get}
-use Rattle.mj_ask.specs.declared.ask.Ask.TheVariants.{DeviceEnd}
+use Rattle.mj_ask.specs.declared.ask.Ask.TheVariants as asks
+use Rattle.mj_ask.specs.declared.ask.DeviceAsk.TheVariants as device_asks
 use Rattle.mj_oper.specs.declared.op.Op.TheVariants.{Add}
 use Rattle.mj_semantics.specs.State.{State, principal, passed, pushed, popped, places}
 use Rattle.mj_semantics.specs.Outcome.{Outcome, Needs, More, no_restart, change, end}
 use Rattle.mj_semantics.specs.Job.{opening}
 use Rattle.mj_pcode.specs.declared.instr.Span.TheVariants as span
 use Rattle.mj_pcode.specs.declared.instr.Instr.{Instr}
-use Rattle.mj_pcode.specs.declared.instr.Instr.TheVariants.{Line, Push, Binary, Write, Unless, Jump, NoneTrue, Open, Begin, Close, Again, Quit}
+use Rattle.mj_pcode.specs.declared.instr.Instr.TheVariants.{Line, Push, Binary, Write, JumpUnless, Jump, SelectFails, ForOpen, ForBegin, ForClose, ForAgain, Quit}
 use Rattle.mj_pcode.specs.declared.instr.Unit.{Unit}
 use Rattle.mj_pcode.specs.Found.{Found}
 use Rattle.mj_pcode.specs.Context.{Call, Context, at_unit}
 use Rattle.mj_pcode.specs.Machine.{Stack, Next, returns, act, calls, exec, place_in}
-use Rattle.mj_pcode.specs.Checked.{footing, bare, footings, IsEnough, Leads}
+use Rattle.mj_pcode.specs.Checked.{footing, bare, footings, IsEnough, TargetsHold}
 
 abbrev text : List ℕ
 text = codes "1"
@@ -28,12 +29,12 @@ sum : footings bare (line 5 ∷ Push text ∷ Push text ∷ Binary Add ∷ Write
 sum = refl
 
 -- WRITE $SELECT(1:1): behind the jump stands what is there without a value
-choice : footings bare (line 7 ∷ Push text ∷ Unless 5 ∷ Push text ∷ Jump 6 ∷ NoneTrue ∷ Write ∷ [])
+choice : footings bare (line 7 ∷ Push text ∷ JumpUnless 5 ∷ Push text ∷ Jump 6 ∷ SelectFails ∷ Write ∷ [])
     ≡ footing 0 0 ∷ footing 0 0 ∷ footing 1 0 ∷ footing 0 0 ∷ footing 1 0 ∷ footing 0 0 ∷ footing 1 0 ∷ footing 0 0 ∷ []
 choice = refl
 
 -- FOR I=1 WRITE 1
-passes : footings bare (line 8 ∷ Open (codes "I") 0 5 ∷ Push text ∷ Begin span.One ∷ Close 8 ∷ Push text ∷ Write ∷ Again ∷ [])
+passes : footings bare (line 8 ∷ ForOpen (codes "I") 0 5 ∷ Push text ∷ ForBegin span.One ∷ ForClose 8 ∷ Push text ∷ Write ∷ ForAgain ∷ [])
     ≡ footing 0 0 ∷ footing 0 0 ∷ footing 0 1 ∷ footing 1 1 ∷ footing 0 1 ∷ footing 0 1 ∷ footing 1 1 ∷ footing 0 1 ∷ footing 0 0 ∷ []
 passes = refl
 
@@ -42,14 +43,14 @@ lacks_one : IsEnough (Binary Add) (footing 1 0) → ⊥
 lacks_one h = omega (arith, h)
 
 -- a pass that is over, in no FOR
-lacks_for : IsEnough Again bare → ⊥
+lacks_for : IsEnough ForAgain bare → ⊥
 lacks_for h = omega (arith, h.1)
 
 -- a jump one beyond the end, to which one may lead
-beyond : Leads (footings bare (Jump 2 ∷ [])) 0 (Jump 2) bare → ⊥
+beyond : TargetsHold (footings bare (Jump 2 ∷ [])) 0 (Jump 2) bare → ⊥
 beyond h = none-some bare h
 
-to_the_end : Leads (footings bare (Jump 1 ∷ [])) 0 (Jump 1) bare
+to_the_end : TargetsHold (footings bare (Jump 1 ∷ [])) 0 (Jump 1) bare
 to_the_end = refl
 
 -- A unit that begins with a line of level 1, A(X,Y) QUIT, is called.
@@ -86,7 +87,7 @@ module _ (u : Unit) (is_line : slice_get u.instrs.items 0 ≡ Some (line 2)) (is
   four_turns : run 4 ≡ More
   four_turns = counted [] ([] ∷ []) 3 ∙ counted [] [] 2 ∙ entered 1 ∙ over 0
 
-  five_turns : run 5 ≡ Needs (DeviceEnd principal) begun.locals (places begun)
+  five_turns : run 5 ≡ Needs (asks.Device principal device_asks.End) begun.locals (places begun)
   five_turns = counted [] ([] ∷ []) 4 ∙ counted [] [] 3 ∙ entered 2 ∙ over 1
 
 -- A frame is over whose caller waits for the value of a function, with an operand that was kept, and one whose caller waits for none.

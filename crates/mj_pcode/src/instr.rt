@@ -72,7 +72,7 @@ pub enum Instr {
     /// puts a text on the stack
     Push(Text),
     /// puts the value of a special variable on the stack
-    Special(Special),
+    PushSpecial(Special),
     /// takes the subscripts of a variable off, and puts its value on
     Load(Reference),
     /// takes one operand off, and puts what the operator gives on
@@ -80,53 +80,53 @@ pub enum Instr {
     /// takes the right and the left operand off, and puts what the operator gives on
     Binary(Op),
     /// takes so many arguments off, the last one on top, and puts what the function gives on
-    Call(Function, usize),
+    CallFunction(Function, usize),
     /// looks whether the subscripts on the stack make a name that the function may be about
-    Named(NameFunction, Reference),
+    CheckNamed(NameFunction, Reference),
     /// takes so many operands off, the subscripts of a variable and above them what stands behind it, and puts what the function
     /// gives on
-    About(NameFunction, Reference, usize),
+    CallNameFunction(NameFunction, Reference, usize),
     /// looks whether the subscripts on the stack make the variable's name
-    Check(Reference),
+    CheckName(Reference),
     /// assigns the topmost operand to the variable whose subscripts lie at this depth
     Store(Reference, Depth),
     /// so many arguments of a `$PIECE` lie at this depth, and below them the variable's subscripts: puts the variable's value on,
     /// in which the pieces are the topmost operand. Where they are none, the next instruction is passed over, and the operands
     /// are taken off in its place
-    Renew(Reference, usize, Depth),
+    SetPiece(Reference, usize, Depth),
     /// takes so many operands off
     Discard(usize),
     /// takes the subscripts of a variable off, which goes with all that is below it
     Kill(Reference),
     /// all locals go but those of these names
-    Spare(Words),
+    KillExcept(Words),
     /// takes the subscripts of the second variable off, below which those of the first lie, and takes in hand what stands at it
     /// and below it
-    Take(Reference, Reference),
+    MergeTake(Reference, Reference),
     /// takes the subscripts of a variable off, and puts there what is in hand
-    Put(Reference),
+    MergePut(Reference),
     /// takes a text off, and writes it
     Write,
     /// writes what the marks of a format stand for
-    Format(Marks),
+    WriteFormat(Marks),
     /// takes a number off, and writes what the marks of a format stand for, and then spaces up to the column of this number
-    Tab(Marks),
+    WriteTab(Marks),
     /// takes a number off, and writes the byte of this code
     WriteByte,
     /// takes a truth value off, and goes on at the instruction with this number where it is false
-    Unless(usize),
+    JumpUnless(usize),
     /// goes on at the instruction with this number
     Jump(usize),
     /// no condition of a `$SELECT` was true
-    NoneTrue,
+    SelectFails,
     /// ends the job
     Halt,
     /// looks whether the topmost operand reads as a number
-    Number,
+    CheckNumber,
     /// takes a number off, and waits so many seconds
     Hang,
     /// takes the timeout off, if there is one, and the actuals that are given, and starts a job where the entry names a line
-    Start(Entry, Shape, Wait),
+    StartJob(Entry, Shape, Wait),
     /// gives up all names that the job holds
     UnlockAll,
     /// takes the timeout off, if there is one, and the subscripts of the variables, and takes their names, all or none
@@ -135,41 +135,41 @@ pub enum Instr {
     Unlock(References, Wait),
     /// takes the timeout off, if there is one; then the topmost operand is the name of a device, which the job takes. Where it has that
     /// one open already, or doesn't get it in time, the name is taken off, and the next instruction is passed over
-    Obtain(Wait),
+    OpenDevice(Wait),
     /// takes the name of a device off, and begins its session
     BeginSession,
     /// takes the name of an open device off, which becomes the current one
-    Use,
+    UseDevice,
     /// ends the session of the device whose name is the topmost operand. Where it doesn't end well the next instruction follows, else the one
     /// behind that; where it is the principal device, or the job hasn't this one open, the name is taken off, and both are passed over
     EndSession,
     /// gives up the name of a device, which is the topmost operand; the job is over, since its session didn't end well
-    GiveUpFailed,
+    GiveUpFailedDevice,
     /// takes the name of a device off, and gives it up
-    GiveUp,
+    GiveUpDevice,
     /// takes the timeout off, if there is one, and puts on what the current device gives: a line, or the code of a byte
     Read(ReadMode, Wait),
     /// takes a truth value off, which `$TEST` becomes, and goes on at the instruction with this number where it is false
-    Decide(usize),
+    SetTest(usize),
     /// goes on at the instruction with this number where `$TEST` is false
-    If(usize),
+    JumpUnlessTest(usize),
     /// goes on at the instruction with this number where `$TEST` is true
-    Else(usize),
+    JumpIfTest(usize),
     /// takes the subscripts of a local off, so many, and begins a FOR with it, whose passes begin at the instruction with this
     /// number
-    Open(Text, usize, usize),
+    ForOpen(Text, usize, usize),
     /// begins a FOR without arguments, whose passes begin behind the next instruction
-    Forever,
+    ForForever,
     /// takes the operands of a range off, and goes on with the first pass of the FOR in it, or behind this instruction where it has none
-    Begin(Span),
+    ForBegin(Span),
     /// a pass of the innermost FOR is over: goes on with the next one, or behind the range
-    Again,
+    ForAgain,
     /// the innermost FOR is over: goes on at the instruction with this number
-    Close(usize),
+    ForClose(usize),
     /// takes the actuals that are given off, and goes on in a new frame at the line that the entry names
     Do(Entry, Shape),
     /// goes on in a new frame behind the line with this number, one level deeper
-    Block(u32),
+    DoBlock(u32),
     /// goes on at the line that the entry names
     Goto(Entry),
     /// the frame is over
@@ -185,9 +185,9 @@ pub enum Instr {
     /// one level less; at the last one the transaction is committed. The next instruction is passed over, unless it clashed
     Commit,
     /// the transaction is rolled back, if it can be restarted
-    GiveBack,
+    RollBackForRestart,
     /// the transaction begins once more, as all stood there, and goes on where it was marked
-    BeginAgain,
+    BeginRestart,
     /// the transaction is rolled back, and isn't open any more
     RollBack,
 }

@@ -13,7 +13,7 @@ use Rattle.mj_jobvm.specs.declared.job.Turn.{Turn}
 use Rattle.mj_jobvm.specs.declared.job.Turn.TheVariants as turns
 use Rattle.mj_jobvm.specs.Run.{Log, Run, replies_of, GoesOn, HasEnded}
 use Rattle.mj_jobvm.specs.Jobs.{code_in}
-use Rattle.mj_jobvm.specs.Told.{Told}
+use Rattle.mj_jobvm.specs.Told.{AdvanceTells}
 use Rattle.mj_jobvm.proofs.Jobs.{told_again}
 use Rattle.mj_recorded.specs.Agreeing.{IsLater, Agree, AnswersAgree, AsksAreTold, LogsFollow}
 use Rattle.mj_recorded.proofs.Traces.{Makes, makes}
@@ -64,10 +64,10 @@ needs_ended a locals at e = cc
 
 -- with one log two jobs ask the same
 module _ (routines : List Routine) (start : Start) (one_job other : Run) (same : one_job.log ≡ other.log) where
-  told_here : (t : Turn) → Told routines start t other → Told routines start t (record other { log = one_job.log })
-  told_here t told = subst (λ (l : Log). Told routines start t (record other { log = l })) (sym same) told
+  told_here : (t : Turn) → AdvanceTells routines start t other → AdvanceTells routines start t (record other { log = one_job.log })
+  told_here t told = subst (λ (l : Log). AdvanceTells routines start t (record other { log = l })) (sym same) told
 
-  both_ask : Told routines start turns.Asks one_job → Told routines start turns.Asks other → Agree routines start turns.Asks one_job turns.Asks other
+  both_ask : AdvanceTells routines start turns.Asks one_job → AdvanceTells routines start turns.Asks other → Agree routines start turns.Asks one_job turns.Asks other
   both_ask (a, p, (n, e)) told =
       let t = told_here turns.Asks told in
       let s : Same a t.0 one_job.at.state.locals other.at.state.locals (places one_job.at.state) (places other.at.state)
@@ -77,7 +77,7 @@ module _ (routines : List Routine) (start : Start) (one_job other : Run) (same :
       (needs_done t.0 other.at.state.locals (places other.at.state) (Needs t.0 other.at.state.locals (places other.at.state)) refl)) in
       (p ∙ ap Some s.ask ∙ sym t.1, s.variables, s.lines)
 
-  asks_ended : Told routines start turns.Asks one_job → HasEnded routines start one_job.log → ⊥
+  asks_ended : AdvanceTells routines start turns.Asks one_job → HasEnded routines start one_job.log → ⊥
   asks_ended (a, p, (n, e)) (m, f) =
       let asked : Outcome = Needs a one_job.at.state.locals (places one_job.at.state) in
       needs_ended a one_job.at.state.locals (places one_job.at.state)

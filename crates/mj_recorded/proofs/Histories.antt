@@ -20,14 +20,14 @@ use Rattle.mj_sys.specs.Shared.{Shared, served}
 use Rattle.mj_sys.specs.History.{History, IsServed, after, state_of, log_of}
 use Rattle.mj_sys.proofs.Replays.{state_with}
 use Rattle.mj_sys.proofs.Rows.{rows_kept, state_of_append, log_of_append}
-use Rattle.mj_events.specs.Happen.{Happens, AllHappen}
+use Rattle.mj_core.specs.Happen.{Happens, AllHappen}
 use Rattle.mj_core.specs.Runs.{IsRun, start_in}
-use Rattle.mj_recorded.specs.Laws.{IsWritten, IsStarted, IsFormed}
+use Rattle.mj_recorded.specs.Laws.{CanBeWritten, IsStarted, IsFormed}
 use Rattle.mj_recorded.proofs.Traces.{makes}
 use Rattle.mj_recorded.proofs.Serving.{Tells, one_of, joined, serves, leaves, unshared}
 
 -- a job's replies in a history that can be written
-replies_written : (job : ℕ) (history : History) → Each IsWritten history → list_all is_reply (replies_of (log_of job history)) ≡ true
+replies_written : (job : ℕ) (history : History) → Each CanBeWritten history → list_all is_reply (replies_of (log_of job history)) ≡ true
 replies_written job [] h = refl
 replies_written job (e ∷ history) h = by (e.job == job) (replies_written job history h.1)
   where
@@ -53,7 +53,7 @@ row_started rows (suc k) row h e = one_of IsStarted rows k row h e
 
 module _ (image : List Routine) (opening : Shared) (history : History) (worded : Each IsRoutineWorded image) (run : IsRun image opening history) where
   -- the ask of an event, behind events that can be written
-  asked : (done rest : History) (e : Event) → history ≡ done ++ e ∷ rest → Each IsWritten done → IsFormed (state_of opening done) → IsLive (state_of opening done).rows e.job
+  asked : (done rest : History) (e : Event) → history ≡ done ++ e ∷ rest → Each CanBeWritten done → IsFormed (state_of opening done) → IsLive (state_of opening done).rows e.job
       → (is_ask e.ask ≡ true) × (fits e.ask e.reply ≡ true)
   asked done rest e whole written formed live =
       let s : Shared = state_of opening done in
@@ -81,7 +81,8 @@ module _ (image : List Routine) (opening : Shared) (history : History) (worded :
           t.0
       by false p = unshared e.ask e.reply fit p
 
-  recorded : (done rest : History) → history ≡ done ++ rest → Each IsWritten done → IsFormed (state_of opening done) → AllHappen (state_of opening done) rest → Each IsWritten rest × IsFormed (state_of opening history)
+  recorded : (done rest : History) → history ≡ done ++ rest → Each CanBeWritten done → IsFormed (state_of opening done) → AllHappen (state_of opening done) rest
+      → Each CanBeWritten rest × IsFormed (state_of opening history)
   recorded done [] whole written formed happen =
       let P : History → Type 0 = λ h. IsFormed (state_of opening h) in
       let joins : done ++ [] ≡ done = append-nil done in
@@ -94,10 +95,10 @@ module _ (image : List Routine) (opening : Shared) (history : History) (worded :
       let P : Shared → Type 0 = λ t. IsFormed t in
       let Q : Shared → Type 0 = λ t. AllHappen t rest in
       let formed_on : IsFormed (after s e) = leaves s (served s e.job e.ask true) formed (serves s e.job e.ask true a.0 formed) in
-      let others = recorded (done ++ e ∷ []) rest (whole ∙ sym (append_assoc done (e ∷ []) rest)) (joined IsWritten done (e ∷ []) written ((a.0, r), tt))
+      let others = recorded (done ++ e ∷ []) rest (whole ∙ sym (append_assoc done (e ∷ []) rest)) (joined CanBeWritten done (e ∷ []) written ((a.0, r), tt))
       (subst P (sym next) formed_on) (subst Q (sym next) happen.1) in
       (((a.0, r), others.0), others.1)
 
 pub are_recorded : (image : List Routine) (opening : Shared) (history : History) → Each IsRoutineWorded image → IsFormed opening → IsRun image opening history
-    → Each IsWritten history × IsFormed (state_of opening history)
+    → Each CanBeWritten history × IsFormed (state_of opening history)
 are_recorded image opening history worded formed run = recorded image opening history worded run [] history refl tt formed run.happen

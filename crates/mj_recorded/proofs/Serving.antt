@@ -18,6 +18,8 @@ use Rattle.mj_ask.specs.declared.clash.Clash.{Clash}
 use Rattle.mj_ask.specs.Started.{Started}
 use Rattle.mj_ask.specs.declared.ask.Ask.{Ask}
 use Rattle.mj_ask.specs.declared.ask.Ask.TheVariants as asks
+use Rattle.mj_ask.specs.declared.ask.SharedAsk.TheVariants as shared_asks
+use Rattle.mj_ask.specs.declared.ask.DeviceAsk.TheVariants as device_asks
 use Rattle.mj_ask.specs.declared.ask.Reply.{Reply}
 use Rattle.mj_ask.specs.declared.ask.Reply.TheVariants as replies
 use Rattle.mj_ask.specs.Fits.{fits, is_shared}
@@ -37,7 +39,7 @@ use Rattle.mj_txlog.specs.declared.entry.Entry.{Entry}
 use Rattle.mj_txlog.specs.declared.entry.Entry.TheVariants as entries
 use Rattle.mj_txlog.specs.declared.entry.Unlock.{Unlock}
 use Rattle.mj_txlog.specs.declared.entry.Unlock.TheVariants as unlocks
-use Rattle.mj_txn.specs.Closing.{Closed, clash_of, closed_by}
+use Rattle.mj_txn.specs.Closing.{Closed, clash_of, commit_closed}
 use Rattle.mj_txn.specs.Testing.{is_same_answer, changed_at, first_changed, outcome_by}
 use Rattle.mj_txn.specs.declared.changed.Changed.{Changed}
 use Rattle.mj_txn.specs.declared.committing.Outcome.TheVariants as outcomes
@@ -193,11 +195,11 @@ abbrev IsClosedFormed : Closed → Type 0
 IsClosedFormed c = (is_reply c.reply ≡ true) × (is_content c.globals ≡ true)
 
 done_formed : (t : Transaction) (job : ℕ) (globals : Content) (locks : Locks) → AreAccessesFormed (Some t) → is_content globals ≡ true
-    → IsClosedFormed (closed_by t job globals locks outcomes.Done)
+    → IsClosedFormed (commit_closed t job globals locks outcomes.Done)
 done_formed t job globals locks h g = (refl, seen_formed t.accesses globals h g)
 
 by_clash : (t : Transaction) (job : ℕ) (globals : Content) (locks : Locks) (o : Option Changed) → AreAccessesFormed (Some t) → is_content globals ≡ true → IsClashFormed o
-    → IsClosedFormed (closed_by t job globals locks (outcome_by o))
+    → IsClosedFormed (commit_closed t job globals locks (outcome_by o))
 by_clash t job globals locks None h g c = done_formed t job globals locks h g
 by_clash t job globals locks (Some x) h g c = (c, g)
 
@@ -205,7 +207,7 @@ close_formed : (t : Option Transaction) (job : ℕ) (globals : Content) (locks :
     → IsClosedFormed (closed_as t job globals locks)
 close_formed None job globals locks h g = (refl, g)
 close_formed (Some t) job globals locks h g = by t.serial where
-  by : (b : Bool) → IsClosedFormed (closed_by t job globals locks (cond b (outcome_by (first_changed globals [] t.accesses)) outcomes.Done))
+  by : (b : Bool) → IsClosedFormed (commit_closed t job globals locks (cond b (outcome_by (first_changed globals [] t.accesses)) outcomes.Done))
   by true = by_clash t job globals locks (first_changed globals [] t.accesses) h g (first_clash globals [] t.accesses tt h g)
   by false = done_formed t job globals locks h g
 
@@ -257,7 +259,16 @@ open_tells s job name timeout late true h = (refl, h)
 open_tells s job name timeout late false h = found_tells s job name timeout late (device_at s.devices name) h
 
 start_tells : (s : Shared) (start : Started) (b : Bool) → has_room s ≡ b → IsStarted (opened start) → IsFormed s → Tells (Some (started s start))
-start_tells s start true e k h = rw e (refl, record { globals = h.globals; rows = joined IsStarted s.rows (opened start ∷ []) h.rows (k, tt); transactions = joined AreAccessesFormed s.transactions (None ∷ []) h.transactions (tt, tt) })
+start_tells s start true e k h =
+    rw e (
+      refl,
+      record {
+        globals = h.globals;
+        rows = joined IsStarted s.rows (opened start ∷ []) h.rows (k, tt);
+        transactions = joined AreAccessesFormed s.transactions (None ∷ [])
+            h.transactions (tt, tt);
+      },
+    )
 start_tells s start false e k h = rw e (refl, h)
 
 unlock_tells : (s : Shared) (job : ℕ) (u : Unlock) → IsFormed s → Tells (Some (given_up s job u (open_of s job)))
@@ -272,7 +283,7 @@ closes s job c formed h =
     (formed.0, record { globals = formed.1; rows = h.rows; transactions = with_formed s.transactions job None tt h.transactions })
 
 pub serves : (s : Shared) (job : ℕ) (ask : Ask) (late : Bool) → is_ask ask ≡ true → IsFormed s → Tells (served s job ask late)
-serves s job (asks.Access a) late k h =
+serves s job (asks.Shared (shared_asks.Access a)) late k h =
     let own = open_formed s.transactions job h.transactions in (
       told_formed (open_of s job) s.globals a k own h.globals,
       record {
@@ -281,26 +292,22 @@ serves s job (asks.Access a) late k h =
         transactions = with_formed s.transactions job (with_access (open_of s job) s.globals a) (access_kept (open_of s job) s.globals a k own h.globals) h.transactions;
       },
     )
-serves s job (asks.Try names timeout) late k h = try_tells s job names timeout late (try_of s.locks job names) (after_try s.locks job names) h
-serves s job (asks.Unlock names) late k h = unlock_tells s job (unlocks.Names names) h
-serves s job asks.UnlockAll late k h = unlock_tells s job unlocks.All h
-serves s job (asks.Begin kind) late k h =
+serves s job (asks.Shared (shared_asks.Try names timeout)) late k h = try_tells s job names timeout late (try_of s.locks job names) (after_try s.locks job names) h
+serves s job (asks.Shared (shared_asks.Unlock names)) late k h = unlock_tells s job (unlocks.Names names) h
+serves s job (asks.Shared shared_asks.UnlockAll) late k h = unlock_tells s job unlocks.All h
+serves s job (asks.Shared (shared_asks.Begin kind)) late k h =
     let own = begun_formed (open_of s job) kind (open_formed s.transactions job h.transactions) in
     (refl, record { globals = h.globals; rows = h.rows; transactions = with_formed s.transactions job (begun_as (open_of s job) kind) own h.transactions })
-serves s job asks.Commit late k h =
+serves s job (asks.Shared shared_asks.Commit) late k h =
     let c = close_formed (open_of s job) job s.globals s.locks (open_formed s.transactions job h.transactions) h.globals in
     closes s job (closed_as (open_of s job) job s.globals s.locks) c h
-serves s job asks.Rollback late k h = (refl, record { globals = h.globals; rows = h.rows; transactions = with_formed s.transactions job None tt h.transactions })
-serves s job (asks.Open name timeout) late k h = open_tells s job name timeout late (bytes_eq name principal) h
-serves s job (asks.Close name) late k h = (refl, record { globals = h.globals; rows = h.rows; transactions = h.transactions })
-serves s job (asks.Start start timeout) late k h = start_tells s start (has_room s) refl k h
-serves s job (asks.Halt fault) late k h = (refl, record { globals = h.globals; rows = ends s.rows job h.rows; transactions = with_formed s.transactions job None tt h.transactions })
-serves s job (asks.DeviceBegin device) late k h = tt
-serves s job (asks.DeviceWrite device bytes) late k h = tt
-serves s job (asks.DeviceLine device timeout) late k h = tt
-serves s job (asks.DeviceByte device timeout) late k h = tt
-serves s job (asks.DeviceEnd device) late k h = tt
-serves s job (asks.Rest time) late k h = tt
+serves s job (asks.Shared shared_asks.Rollback) late k h = (refl, record { globals = h.globals; rows = h.rows; transactions = with_formed s.transactions job None tt h.transactions })
+serves s job (asks.Shared (shared_asks.Open name timeout)) late k h = open_tells s job name timeout late (bytes_eq name principal) h
+serves s job (asks.Shared (shared_asks.Close name)) late k h = (refl, record { globals = h.globals; rows = h.rows; transactions = h.transactions })
+serves s job (asks.Shared (shared_asks.Start start timeout)) late k h = start_tells s start (has_room s) refl k h
+serves s job (asks.Shared (shared_asks.Halt fault)) late k h =
+    (refl, record { globals = h.globals; rows = ends s.rows job h.rows; transactions = with_formed s.transactions job None tt h.transactions })
+serves s job _ late k h = tt
 
 pub leaves : (s : Shared) (o : Option (Reply × Shared)) → IsFormed s → Tells o → IsFormed (left_by s o)
 leaves s None h t = h
@@ -310,20 +317,20 @@ leaves s (Some told) h t = t.1
 
 -- neither an answer nor a clash is a reply to it
 answers_none : (a : Ask) (y : Answer) → fits a (replies.Answer y) ≡ true → is_shared a ≡ false → is_reply (replies.Answer y) ≡ true
-answers_none (asks.DeviceBegin device) y f p = absurd (let no : false ≡ true = f in cc)
-answers_none (asks.DeviceWrite device bytes) y f p = absurd (let no : false ≡ true = f in cc)
-answers_none (asks.DeviceLine device timeout) y f p = absurd (let no : false ≡ true = f in cc)
-answers_none (asks.DeviceByte device timeout) y f p = absurd (let no : false ≡ true = f in cc)
-answers_none (asks.DeviceEnd device) y f p = absurd (let no : false ≡ true = f in cc)
+answers_none (asks.Device d device_asks.Begin) y f p = absurd (let no : false ≡ true = f in cc)
+answers_none (asks.Device d (device_asks.Write bytes)) y f p = absurd (let no : false ≡ true = f in cc)
+answers_none (asks.Device d (device_asks.Line timeout)) y f p = absurd (let no : false ≡ true = f in cc)
+answers_none (asks.Device d (device_asks.Byte timeout)) y f p = absurd (let no : false ≡ true = f in cc)
+answers_none (asks.Device d device_asks.End) y f p = absurd (let no : false ≡ true = f in cc)
 answers_none (asks.Rest time) y f p = absurd (let no : false ≡ true = f in cc)
 answers_none _ y f p = absurd (let no : true ≡ false = p in cc)
 
 clashes_none : (a : Ask) (y : Clash) → fits a (replies.Clash y) ≡ true → is_shared a ≡ false → is_reply (replies.Clash y) ≡ true
-clashes_none (asks.DeviceBegin device) y f p = absurd (let no : false ≡ true = f in cc)
-clashes_none (asks.DeviceWrite device bytes) y f p = absurd (let no : false ≡ true = f in cc)
-clashes_none (asks.DeviceLine device timeout) y f p = absurd (let no : false ≡ true = f in cc)
-clashes_none (asks.DeviceByte device timeout) y f p = absurd (let no : false ≡ true = f in cc)
-clashes_none (asks.DeviceEnd device) y f p = absurd (let no : false ≡ true = f in cc)
+clashes_none (asks.Device d device_asks.Begin) y f p = absurd (let no : false ≡ true = f in cc)
+clashes_none (asks.Device d (device_asks.Write bytes)) y f p = absurd (let no : false ≡ true = f in cc)
+clashes_none (asks.Device d (device_asks.Line timeout)) y f p = absurd (let no : false ≡ true = f in cc)
+clashes_none (asks.Device d (device_asks.Byte timeout)) y f p = absurd (let no : false ≡ true = f in cc)
+clashes_none (asks.Device d device_asks.End) y f p = absurd (let no : false ≡ true = f in cc)
 clashes_none (asks.Rest time) y f p = absurd (let no : false ≡ true = f in cc)
 clashes_none _ y f p = absurd (let no : true ≡ false = p in cc)
 

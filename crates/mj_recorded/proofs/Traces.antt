@@ -50,6 +50,7 @@ pub makes : (image : List Routine) (start : Start) (log : Log) → IsTrace image
 makes image start _ begins front back a r e = absurd (no_end front (a, r) back e)
 makes image start _ (goes_on log b q n locals at trace needs fit) front back a r e = by (λ rest p. makes image start log trace front rest a r p) (cut log (b, q) front (a, r) back e)
   where
-    by : ((rest : Log) → log ≡ front ++ (a, r) ∷ rest → Makes image start front a r) → ((log ≡ front) × (◌≡◌ {A = Ask × Reply} (b, q) (a, r))) ⊎ ((rest : Log) × (log ≡ front ++ (a, r) ∷ rest)) → Makes image start front a r
+    by : ((rest : Log) → log ≡ front ++ (a, r) ∷ rest → Makes image start front a r) → ((log ≡ front) × (◌≡◌ {A = Ask × Reply} (b, q) (a, r))) ⊎ ((rest : Log) × (log ≡ front ++ (a, r) ∷ rest))
+        → Makes image start front a r
     by earlier (inl p) = made image start log front (b, q) (a, r) p.0 p.1 (record { turns = n; locals = locals; at = at; needs = needs; fit = fit })
     by earlier (inr p) = earlier p.0 p.1

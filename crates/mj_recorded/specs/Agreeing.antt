@@ -11,7 +11,7 @@ use Rattle.mj_jobvm.specs.declared.job.Turn.{Turn}
 use Rattle.mj_jobvm.specs.declared.job.Turn.TheVariants.{Asks, Ran, Ended}
 use Rattle.mj_jobvm.specs.Run.{Log, Run, replies_of, TurnsBefore, IsTrace}
 use Rattle.mj_jobvm.specs.Jobs.{Running, IsRunOf}
-use Rattle.mj_jobvm.specs.Told.{Told}
+use Rattle.mj_jobvm.specs.Told.{AdvanceTells}
 
 -- the run over a log asks, or is over, only with more turns than those before its last reply and so many behind it
 abbrev pub IsLater : List Routine → Start → Log → ℕ → Type 0
@@ -32,22 +32,22 @@ Agree routines start Ran one _ other = IsLater routines start one.log one.spent
 abbrev pub AnswersAgree : Type 0
 AnswersAgree =
     (routines : List Routine) (start : Start) (first second : Turn) (one other : Run) → one.log ≡ other.log
-    → Told routines start first one → Told routines start second other → Agree routines start first one second other
+    → AdvanceTells routines start first one → AdvanceTells routines start second other → Agree routines start first one second other
 
 -- what a job shows that it asks, an answer tells: so it shows the one ask that is told with its log, and none where it has ended
 abbrev pub AsksAreTold : Type 0
 AsksAreTold =
     (image : Loaded) (start : Start) (job : Running) (a : Ask) → IsRunOf image start job → job.run.pending ≡ Some a
-    → Told (routines_of image) start Asks job.run
+    → AdvanceTells (routines_of image) start Asks job.run
 
 -- how a log goes on of whose job this was told: with its ask, or not at all
-abbrev pub Leads : Turn → Run → Ask → Type 0
-Leads Asks job a = job.pending ≡ Some a
-Leads Ended job a = ⊥
-Leads Ran job a = ⊤
+abbrev pub LogGoesOn : Turn → Run → Ask → Type 0
+LogGoesOn Asks job a = job.pending ≡ Some a
+LogGoesOn Ended job a = ⊥
+LogGoesOn Ran job a = ⊤
 
 -- so the log of a job goes on in every trace, as a call tells of it
 abbrev pub LogsFollow : Type 0
 LogsFollow =
-    (routines : List Routine) (start : Start) (turn : Turn) (job : Run) (a : Ask) (reply : Reply) (later : Log) → Told routines start turn job
-    → IsTrace routines start (job.log ++ (a, reply) ∷ later) → Leads turn job a
+    (routines : List Routine) (start : Start) (turn : Turn) (job : Run) (a : Ask) (reply : Reply) (later : Log) → AdvanceTells routines start turn job
+    → IsTrace routines start (job.log ++ (a, reply) ∷ later) → LogGoesOn turn job a

@@ -15,8 +15,8 @@ use Rattle.mj_sys.specs.History.{History, state_of}
 use Rattle.mj_core.specs.Runs.{IsRun}
 
 -- an event can be written: its ask can, and its reply
-abbrev pub IsWritten : Event → Type 0
-IsWritten e = (is_ask e.ask ≡ true) × (is_reply e.reply ≡ true)
+abbrev pub CanBeWritten : Event → Type 0
+CanBeWritten e = (is_ask e.ask ≡ true) × (is_reply e.reply ≡ true)
 
 -- a job starts at an entry that can be written
 abbrev pub IsStarted : Row → Type 0
@@ -44,4 +44,4 @@ pub record IsFormed (s : Shared) : Type 0 where
 abbrev pub AreRecorded : Type 0
 AreRecorded =
     (image : List Routine) (opening : Shared) (history : History) → Each IsRoutineWorded image → IsFormed opening → IsRun image opening history
-    → Each IsWritten history × IsFormed (state_of opening history)
+    → Each CanBeWritten history × IsFormed (state_of opening history)

@@ -49,7 +49,7 @@ pub fn replay_trace(
         drop(starts);
         return Err(AllocError);
     }
-    over(alloc, image, globals, pool, starts, events)
+    replay_over(alloc, image, globals, pool, starts, events)
 }
 
 // The devices and the starts of a trace.
@@ -78,7 +78,7 @@ fn starts_of(alloc: Global, entries: &[Entry]) -> Result<Vec<Start>, AllocError>
 }
 
 // Replays events over an opening.
-fn over(
+fn replay_over(
     alloc: Global,
     image: &Image,
     globals: Globals,

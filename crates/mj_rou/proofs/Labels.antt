@@ -17,7 +17,7 @@ use Rattle.std.proofs.lemmas.Str.Ascii.{IsAscii-from_all, IsAscii-cons}
 use Rattle.mj_ast.specs.Tokens.{Token, IsWord, tokens, begins_word, continues_word}
 use Rattle.mj_ast.specs.Lines.{HasLabelOf, label_of}
 use Rattle.mj_ast.specs.Routines.{IsName}
-use Rattle.mj_rou.specs.Read.{IsKept, and_label, labels_of, AreApart, IsTwice, is_word, is_name}
+use Rattle.mj_rou.specs.Read.{HoldsLabels, and_label, labels_of, AreApart, IsTwice, is_word, is_name}
 
 -- ---- the labels of several lines
 
@@ -63,7 +63,8 @@ unfolding Found
 found [] last [] x back e = inl (refl, sym (first_same last x [] back e))
 found [] last (f ∷ front) x back e = absurd (nothing_behind front x back (rest_same last f [] (front ++ x ∷ back) e))
 found (l ∷ lines) last [] x back e = inr (lines, ap (λ (y : List ℕ). y ∷ lines) (first_same l x (lines ++ last ∷ []) back e))
-found (l ∷ lines) last (f ∷ front) x back e = found_more lines last l f x front (found lines last front x back (rest_same l f (lines ++ last ∷ []) (front ++ x ∷ back) e)) (first_same l f (lines ++ last ∷ []) (front ++ x ∷ back) e)
+found (l ∷ lines) last (f ∷ front) x back e = found_more lines last l f x front
+    (found lines last front x back (rest_same l f (lines ++ last ∷ []) (front ++ x ∷ back) e)) (first_same l f (lines ++ last ∷ []) (front ++ x ∷ back) e)
 
 pub apart_none : AreApart []
 apart_none front x back e h = nothing_behind front x back e
@@ -84,14 +85,15 @@ list_any_none : (p : Bor (List ℕ) → Bool) (keys : List (Bor (List ℕ))) →
 list_any_none p [] e h = let f : false ≡ true = h in cc
 list_any_none p (k ∷ ks) e h = let f : k ∷ ks ≡ [] = e in cc
 
-pub kept_none : (set : BTreeSet (Bor (List ℕ))) → set.keys ≡ [] → IsKept [] set
+pub kept_none : (set : BTreeSet (Bor (List ℕ))) → set.keys ≡ [] → HoldsLabels [] set
 kept_none set e word = (λ h. absurd (list_any_none _ set.keys e h), λ h. absurd (let l = h.1 in omega arith))
 
 false_true : false ≡ true → ⊥
 false_true e = cc
 
 -- with another label
-kept_as : (labels : List (List ℕ)) (key word : List ℕ) (was is : Bool) (b : Bool) → bytes_eq key word ≡ b → is ≡ cond b true was → (was ≡ true) ↔ Contains labels word → (is ≡ true) ↔ Contains (labels ++ key ∷ []) word
+kept_as : (labels : List (List ℕ)) (key word : List ℕ) (was is : Bool) (b : Bool) → bytes_eq key word ≡ b → is ≡ cond b true was →
+    (was ≡ true) ↔ Contains labels word → (is ≡ true) ↔ Contains (labels ++ key ∷ []) word
 kept_as labels key word was is true e i h =
     let same : key ≡ word = (bytes_eq-Decides key word).0 e in (
       λ x. Contains-append_right labels (key ∷ []) word (0, omega arith, same),
@@ -110,7 +112,8 @@ kept_as labels key word was is false e i h = (
     by (inl c) = i ∙ h.1 c
     by (inr c) = absurd (false_true (sym e ∙ (bytes_eq-Decides key word).1 (one c.0 c.1 c.2)))
 
-pub kept_more : (labels : List (List ℕ)) (old new : BTreeSet (Bor (List ℕ))) (key : Bor (List ℕ)) → Updates (λ x y. slice_cmp nat_cmp x.now y.now) old new key true → IsKept labels old → IsKept (labels ++ key.now ∷ []) new
+pub kept_more : (labels : List (List ℕ)) (old new : BTreeSet (Bor (List ℕ))) (key : Bor (List ℕ)) →
+    Updates (λ x y. slice_cmp nat_cmp x.now y.now) old new key true → HoldsLabels labels old → HoldsLabels (labels ++ key.now ∷ []) new
 kept_more labels old new key u h word =
     let q : Bor (List ℕ) = record { ref_ptr = (0, 0); now = word } in
     let was = contains_by (λ k. slice_cmp nat_cmp word k.now) old in
@@ -128,7 +131,8 @@ none_is x e = cc
 pub twice_none : (before : List (List ℕ)) (ks : List Token) → None ≡ label_of ks → HasLabelOf before ks → ⊥
 twice_none before ks e h = none_is h.0 (e ∙ h.1)
 
-pub twice_some : (before : List (List ℕ)) (ks : List Token) (set : BTreeSet (Bor (List ℕ))) (word : List ℕ) (b : Bool) → Some word ≡ label_of ks → IsKept before set → b ≡ contains_by (λ k. slice_cmp nat_cmp word k.now) set → IsTwice b before ks
+pub twice_some : (before : List (List ℕ)) (ks : List Token) (set : BTreeSet (Bor (List ℕ))) (word : List ℕ) (b : Bool) → Some word ≡ label_of ks →
+    HoldsLabels before set → b ≡ contains_by (λ k. slice_cmp nat_cmp word k.now) set → IsTwice b before ks
 twice_some before ks set word true e h i = (word, sym e, (h word).0 (sym i))
 twice_some before ks set word false e h i = λ l.
     let same : word ≡ l.0 = some_same word l.0 (e ∙ l.1) in

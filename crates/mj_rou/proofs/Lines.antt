@@ -65,7 +65,8 @@ pub before_newline : (bs : List ℕ) → HasNoNewline (take (position_or_len is_
 before_newline [] = tt
 before_newline (b ∷ bs) = before_on b bs (b == 10) refl (before_newline bs)
 
-cut_on : (b : ℕ) (bs : List ℕ) (e : Bool) → (b == 10) ≡ e → (position_or_len is_newline bs < length bs → bs ≡ take (position_or_len is_newline bs) bs ++ 10 ∷ drop (position_or_len is_newline bs + 1) bs)
+cut_on : (b : ℕ) (bs : List ℕ) (e : Bool) → (b == 10) ≡ e → (position_or_len is_newline bs < length bs →
+    bs ≡ take (position_or_len is_newline bs) bs ++ 10 ∷ drop (position_or_len is_newline bs + 1) bs)
     → count_on e bs < length (b ∷ bs) → (b ∷ bs) ≡ take (count_on e bs) (b ∷ bs) ++ 10 ∷ drop (count_on e bs + 1) (b ∷ bs)
 cut_on b bs true h g l = ap (λ (x : ℕ). x ∷ bs) (eqb-true b 10 h)
 cut_on b bs false h g l =

@@ -7,11 +7,11 @@ use Rattle.mj_ast.specs.Tokens.{Token, tokens, column}
 use Rattle.mj_ast.specs.Expressions.{depth_limit, width_limit}
 use Rattle.mj_ast.specs.Lines.{SpellsLine, IsLineWithin, BeginsLine, BeginsLineWithin, IsStuck, IsDeep, HasLabelOf}
 use Rattle.mj_ast.specs.LeftOut.{IsFirstOf, IsNamed, IsNamedIn, IsNamedAt, IsStuckOn, rows}
-use Rattle.mj_ast.specs.Routines.{lines_of, IsName, IsRefused}
+use Rattle.mj_ast.specs.Routines.{lines_of, IsName, IsRefusalOfLine}
 use Rattle.mj_ast.specs.Routines as grammar
 use Rattle.mj_ast.specs.declared.construct.Construct.{Construct}
 use Rattle.mj_rou.specs.Read.{IsLineRead, labels_of, AreApart, AreRead, IsRoutineRead, IsFirst, IsTooMany, IsRoutineRefused}
-use Rattle.mj_rou.specs.Laws.{Told, NoName, At, Nothing, told}
+use Rattle.mj_rou.specs.Laws.{RefusalTold, NoName, At, Nothing, refusal_told}
 use Rattle.mj_rou.specs.declared.error.LoadError.{LoadError}
 use Rattle.mj_rou.specs.declared.error.LoadError.TheVariants as load
 
@@ -119,7 +119,7 @@ some_same x y e = cc
 
 -- ---- one reason of a line
 
-one_refusal : (labels : List (List ℕ)) (line : List ℕ) (r s : grammar.Refusal) → IsRefused labels line r → IsRefused labels line s → r ≡ s
+one_refusal : (labels : List (List ℕ)) (line : List ℕ) (r s : grammar.LineRefusal) → IsRefusalOfLine labels line r → IsRefusalOfLine labels line s → r ≡ s
 one_refusal labels line grammar.Long grammar.Long h i = refl
 one_refusal labels line grammar.Long grammar.Twice h i = absurd (i.0 h)
 one_refusal labels line grammar.Long (grammar.StuckAt c) h i = absurd (i.0 h)
@@ -152,7 +152,7 @@ one_refusal labels line (grammar.DeepAt c) (grammar.DeepAt d) h i =
 
 -- ---- what is read isn't refused
 
-line_unrefused : (labels : List (List ℕ)) (line : List ℕ) (l : Line) (r : grammar.Refusal) → IsLineRead line l → (HasLabelOf labels (tokens line) → ⊥) → IsRefused labels line r → ⊥
+line_unrefused : (labels : List (List ℕ)) (line : List ℕ) (l : Line) (r : grammar.LineRefusal) → IsLineRead line l → (HasLabelOf labels (tokens line) → ⊥) → IsRefusalOfLine labels line r → ⊥
 line_unrefused labels line l grammar.Long h a i = h.short i
 line_unrefused labels line l grammar.Twice h a i = a i.1
 line_unrefused labels line l (grammar.StuckAt c) h a i = i.2.0.stuck.whole l h.spells
@@ -166,7 +166,8 @@ read_at [] line behind (t ∷ ts) h = (t, h.0)
 read_at (f ∷ fs) line behind [] h = absurd h
 read_at (f ∷ fs) line behind (t ∷ ts) h = read_at fs line behind ts h.1
 
-unrefused : (lines front behind : List (List ℕ)) (line : List ℕ) (trees : List Line) (r : grammar.Refusal) → lines ≡ front ++ line ∷ behind → AreRead lines trees → AreApart lines → IsRefused (labels_of front) line r → ⊥
+unrefused : (lines front behind : List (List ℕ)) (line : List ℕ) (trees : List Line) (r : grammar.LineRefusal) → lines ≡ front ++ line ∷ behind →
+    AreRead lines trees → AreApart lines → IsRefusalOfLine (labels_of front) line r → ⊥
 unrefused lines front behind line trees r e h a i =
     let P : List (List ℕ) → Type 0 = λ ls. AreRead ls trees in
     let tree = read_at front line behind trees (subst P e h) in
@@ -200,23 +201,23 @@ longer : (a b c : List (List ℕ)) (x : List ℕ) → b ≡ a ++ x ∷ c → len
 longer a b c x e = let n = ap (length {A = List ℕ}) e in let m = length-append a (x ∷ c) in omega (arith, n, m)
 
 -- a line is refused, or is one too many, and this is why
-abbrev Refuses : List ℕ → ℕ → grammar.Refusal → Type 0
+abbrev Refuses : List ℕ → ℕ → grammar.LineRefusal → Type 0
 Refuses bytes number r = IsFirst bytes number r ⊎ ((r ≡ grammar.Long) × IsTooMany bytes number)
 
 same_at : (number other : ℕ) (a b : List (List ℕ)) → number ≡ length a + 1 → other ≡ length b + 1 → a ≡ b → number ≡ other
 same_at number other a b e f g = e ∙ ap (λ (ls : List (List ℕ)). length ls + 1) g ∙ sym f
 
-firsts : (bytes : List ℕ) (n m : ℕ) (r s : grammar.Refusal) (f : IsFirst bytes n r) (g : IsFirst bytes m s) → Cuts f.before f.line g.before g.line → (n ≡ m) × (r ≡ s)
+firsts : (bytes : List ℕ) (n m : ℕ) (r s : grammar.LineRefusal) (f : IsFirst bytes n r) (g : IsFirst bytes m s) → Cuts f.before f.line g.before g.line → (n ≡ m) × (r ≡ s)
 firsts bytes n m r s f g (inl h) =
-    let P : List (List ℕ) → Type 0 = λ ls. IsRefused (labels_of ls) f.line r in
-    let Q : List ℕ → Type 0 = λ l. IsRefused (labels_of g.before) l r in (
+    let P : List (List ℕ) → Type 0 = λ ls. IsRefusalOfLine (labels_of ls) f.line r in
+    let Q : List ℕ → Type 0 = λ l. IsRefusalOfLine (labels_of g.before) l r in (
       same_at n m f.before g.before f.first.place g.first.place h.0,
       one_refusal (labels_of g.before) g.line r s (subst Q h.1 (subst P h.0 f.refused)) g.refused,
     )
 firsts bytes n m r s f g (inr (inl h)) = absurd (unrefused g.before f.before h.0 f.line g.first.trees r h.1 g.first.read g.first.apart f.refused)
 firsts bytes n m r s f g (inr (inr h)) = absurd (unrefused f.before g.before h.0 g.line f.first.trees s h.1 f.first.read f.first.apart g.refused)
 
-first_or_many : (bytes : List ℕ) (n m : ℕ) (r : grammar.Refusal) (f : IsFirst bytes n r) (g : IsTooMany bytes m) → Cuts f.before f.line g.before g.line → ⊥
+first_or_many : (bytes : List ℕ) (n m : ℕ) (r : grammar.LineRefusal) (f : IsFirst bytes n r) (g : IsTooMany bytes m) → Cuts f.before f.line g.before g.line → ⊥
 first_or_many bytes n m r f g (inl h) =
     let e = same_at n m f.before g.before f.first.place g.first.place h.0 in
     let few = f.within in let many = g.many in omega arith
@@ -225,13 +226,13 @@ first_or_many bytes n m r f g (inr (inr h)) =
     let less = longer g.before f.before h.0 g.line h.1 in
     let few = f.within in let many = g.many in let here = f.first.place in let there = g.first.place in omega arith
 
-one_answer : (bytes : List ℕ) (n m : ℕ) (r s : grammar.Refusal) → Refuses bytes n r → Refuses bytes m s → (n ≡ m) × (r ≡ s)
+one_answer : (bytes : List ℕ) (n m : ℕ) (r s : grammar.LineRefusal) → Refuses bytes n r → Refuses bytes m s → (n ≡ m) × (r ≡ s)
 one_answer bytes n m r s (inl f) (inl g) = firsts bytes n m r s f g (cuts f.before f.line f.first.behind g.before g.line g.first.behind (sym f.first.cut ∙ g.first.cut))
 one_answer bytes n m r s (inl f) (inr g) = absurd (first_or_many bytes n m r f g.1 (cuts f.before f.line f.first.behind g.1.before g.1.line g.1.first.behind (sym f.first.cut ∙ g.1.first.cut)))
 one_answer bytes n m r s (inr f) (inl g) = absurd (first_or_many bytes m n s g f.1 (cuts g.before g.line g.first.behind f.1.before f.1.line f.1.first.behind (sym g.first.cut ∙ f.1.first.cut)))
 one_answer bytes n m r s (inr f) (inr g) = (f.1.many ∙ sym g.1.many, f.0 ∙ sym g.0)
 
-read_unrefused : (name bytes : List ℕ) (r : Routine) (n : ℕ) (x : grammar.Refusal) → IsRoutineRead name bytes r → Refuses bytes n x → ⊥
+read_unrefused : (name bytes : List ℕ) (r : Routine) (n : ℕ) (x : grammar.LineRefusal) → IsRoutineRead name bytes r → Refuses bytes n x → ⊥
 read_unrefused name bytes r n x h (inl f) = unrefused (lines_of bytes) f.before f.first.behind f.line r.lines x f.first.cut h.lines h.apart f.refused
 read_unrefused name bytes r n x h (inr f) =
     let less = longer f.1.before (lines_of bytes) f.1.first.behind f.1.line f.1.first.cut in
@@ -239,12 +240,12 @@ read_unrefused name bytes r n x h (inr f) =
 
 -- ---- a refusal, by what it tells
 
-abbrev Means : List ℕ → List ℕ → Told → Type 0
+abbrev Means : List ℕ → List ℕ → RefusalTold → Type 0
 Means name bytes NoName = IsName name → ⊥
 Means name bytes (At word number r) = IsName name × (word ≡ name) × Refuses bytes number r
 Means name bytes Nothing = Unit {0}
 
-meant : (name bytes : List ℕ) (e : LoadError) → IsRoutineRefused name bytes e → Means name bytes (told e)
+meant : (name bytes : List ℕ) (e : LoadError) → IsRoutineRefused name bytes e → Means name bytes (refusal_told e)
 meant name bytes load.Name h = h
 meant name bytes (load.Stuck routine n c) h = (h.0, h.1, inl h.2)
 meant name bytes (load.LeftOut routine n c x) h = (h.0, h.1, inl h.2)
@@ -258,7 +259,7 @@ meant name bytes (load.Deep routine n c) h = (h.0, h.1, inl h.2)
 meant name bytes load.Memory h = tt
 
 -- what tells nothing is want of memory
-tells : (e : LoadError) → told e ≡ Nothing → e ≡ load.Memory
+tells : (e : LoadError) → refusal_told e ≡ Nothing → e ≡ load.Memory
 tells load.Name h = cc
 tells (load.Stuck routine n c) h = cc
 tells (load.LeftOut routine n c x) h = cc
@@ -267,7 +268,7 @@ tells (load.Long routine n) h = cc
 tells (load.Deep routine n c) h = cc
 tells load.Memory h = refl
 
-same_told : (name bytes : List ℕ) (t u : Told) → (t ≡ Nothing → ⊥) → (u ≡ Nothing → ⊥) → Means name bytes t → Means name bytes u → t ≡ u
+same_told : (name bytes : List ℕ) (t u : RefusalTold) → (t ≡ Nothing → ⊥) → (u ≡ Nothing → ⊥) → Means name bytes t → Means name bytes u → t ≡ u
 same_told name bytes Nothing u f g h i = absurd (f refl)
 same_told name bytes NoName Nothing f g h i = absurd (g refl)
 same_told name bytes NoName NoName f g h i = refl
@@ -278,13 +279,13 @@ same_told name bytes (At w n r) (At v m s) f g h i =
     let same = one_answer bytes n m r s h.2 i.2 in
     ap (λ (x : List ℕ). At x n r) (h.1 ∙ sym i.1) ∙ ap (λ (k : ℕ). At v k r) same.0 ∙ ap (At v m) same.1
 
-pub one_reason : (name bytes : List ℕ) (e f : LoadError) → (e ≡ load.Memory → ⊥) → (f ≡ load.Memory → ⊥) → IsRoutineRefused name bytes e → IsRoutineRefused name bytes f → told e ≡ told f
-one_reason name bytes e f p q h i = same_told name bytes (told e) (told f) (λ x. p (tells e x)) (λ x. q (tells f x)) (meant name bytes e h) (meant name bytes f i)
+pub one_reason : (name bytes : List ℕ) (e f : LoadError) → (e ≡ load.Memory → ⊥) → (f ≡ load.Memory → ⊥) → IsRoutineRefused name bytes e → IsRoutineRefused name bytes f → refusal_told e ≡ refusal_told f
+one_reason name bytes e f p q h i = same_told name bytes (refusal_told e) (refusal_told f) (λ x. p (tells e x)) (λ x. q (tells f x)) (meant name bytes e h) (meant name bytes f i)
 
-none_told : (name bytes : List ℕ) (r : Routine) (t : Told) → IsName name → IsRoutineRead name bytes r → Means name bytes t → t ≡ Nothing
+none_told : (name bytes : List ℕ) (r : Routine) (t : RefusalTold) → IsName name → IsRoutineRead name bytes r → Means name bytes t → t ≡ Nothing
 none_told name bytes r NoName n h i = absurd (i n)
 none_told name bytes r (At w k x) n h i = absurd (read_unrefused name bytes r k x h i.2)
 none_told name bytes r Nothing n h i = refl
 
 pub read_or_refused : (name bytes : List ℕ) (r : Routine) (e : LoadError) → IsName name → IsRoutineRead name bytes r → IsRoutineRefused name bytes e → e ≡ load.Memory
-read_or_refused name bytes r e n h i = tells e (none_told name bytes r (told e) n h (meant name bytes e i))
+read_or_refused name bytes r e n h i = tells e (none_told name bytes r (refusal_told e) n h (meant name bytes e i))

@@ -6,9 +6,9 @@ use Rattle.mj_ast.specs.Tokens.{Token, tokens, column}
 use Rattle.mj_ast.specs.Lines.{SpellsLine, IsLong, HasOverlong, IsStuck, IsDeep}
 use Rattle.mj_ast.specs.Routines.{lines_of, SpellsLines}
 use Rattle.mj_cmd.specs.Said.{IsRead, IsStuckWith, IsDeepWith}
-use Rattle.mj_rou.specs.Read.{IsLineRead, IsLineRefused, IsKept, and_label, labels_of, AreRead, AreApart, IsFirstAt, IsRefusedAt, IsRoutineRead}
-use Rattle.mj_rou.specs.declared.error.Refusal.{Refusal}
-use Rattle.mj_rou.specs.declared.error.Refusal.TheVariants as refusal
+use Rattle.mj_rou.specs.Read.{IsLineRead, IsLineRefused, HoldsLabels, and_label, labels_of, AreRead, AreApart, IsFirstAt, IsRefusedAt, IsRoutineRead}
+use Rattle.mj_rou.specs.declared.error.LineError.{LineError}
+use Rattle.mj_rou.specs.declared.error.LineError.TheVariants as refusal
 use Rattle.mj_rou.proofs.Labels.{labels_more, apart_more}
 use Rattle.std.specs.BTreeSet.{BTreeSet}
 use Rattle.std.specs.Prelude.{IfOk}
@@ -35,14 +35,16 @@ line_read line ks l e h r =
       only = λ o s. r.only o (let Q : List Token → Type 0 = λ x. SpellsLine x o in subst Q (sym e) s);
     }
 
-pub line_stuck : (line : List ℕ) (ks : List Token) (n c : ℕ) (x : Option Construct) → ks ≡ tokens line → length line ≤ 8192 → IsStuckWith ks n → ((place : ℕ) → place + n ≡ length ks → c ≡ column line place) →
+pub line_stuck : (line : List ℕ) (ks : List Token) (n c : ℕ) (x : Option Construct) → ks ≡ tokens line → length line ≤ 8192 → IsStuckWith ks n →
+    ((place : ℕ) → place + n ≡ length ks → c ≡ column line place) →
     ((place : ℕ) → place + n ≡ length ks → IsNamedAt ks place x) → (IsLong line → ⊥) × IsStuckOn line c x
 line_stuck line ks n c x e h s f g =
     let P : List Token → Type 0 = λ xs. IsStuck xs s.place in
     let Q : List Token → Type 0 = λ xs. IsNamedAt xs s.place x in
     (not_long line ks e h s.short, (record { place = s.place; stuck = subst P e s.stuck; column_is = f s.place s.left_is }, subst Q e (g s.place s.left_is)))
 
-pub line_deep : (line : List ℕ) (ks : List Token) (n c : ℕ) → ks ≡ tokens line → length line ≤ 8192 → IsDeepWith ks n → ((place : ℕ) → place + n ≡ length ks → c ≡ column line place) → (IsLong line → ⊥) × IsDeepAt line c
+pub line_deep : (line : List ℕ) (ks : List Token) (n c : ℕ) → ks ≡ tokens line → length line ≤ 8192 → IsDeepWith ks n →
+    ((place : ℕ) → place + n ≡ length ks → c ≡ column line place) → (IsLong line → ⊥) × IsDeepAt line c
 line_deep line ks n c e h s f =
     let P : List Token → Type 0 = λ x. IsDeep x s.place in
     (not_long line ks e h s.short, record { place = s.place; deep = subst P e s.deep; column_is = f s.place s.left_is })
@@ -82,7 +84,8 @@ same_routine : (n k : List ℕ) (ls os : List Line) → n ≡ k → ls ≡ os �
 same_routine n k ls os e f = ap (λ (x : List ℕ). let r : Routine = record { name = x; lines = ls } in r) e ∙ ap (λ (xs : List Line). let r : Routine = record { name = k; lines = xs } in r) f
 
 -- a routine of lines that were read
-pub routine_read : (name bytes : List ℕ) (front : List (List ℕ)) (n : List ℕ) (ls : List Line) → n ≡ name → lines_of bytes ≡ front ++ [] → AreRead front ls → AreApart front → length ls ≤ 10000 → IsRoutineRead name bytes (record { name = n; lines = ls })
+pub routine_read : (name bytes : List ℕ) (front : List (List ℕ)) (n : List ℕ) (ls : List Line) → n ≡ name → lines_of bytes ≡ front ++ [] → AreRead front ls →
+    AreApart front → length ls ≤ 10000 → IsRoutineRead name bytes (record { name = n; lines = ls })
 routine_read name bytes front n ls e f h apart few =
     let g = f ∙ append-nil front in
     let P : List (List ℕ) → Type 0 = λ bs. AreRead bs ls in
@@ -96,12 +99,14 @@ routine_read name bytes front n ls e f h apart few =
     }
 
 -- one line more
-pub line_more : (bytes rest behind line : List ℕ) (front : List (List ℕ)) (old new : List kept.Line) (tree : kept.Line) (q : Option (List ℕ)) (set : BTreeSet (Bor (List ℕ))) → lines_of bytes ≡ front ++ lines_of rest → AreRead front (map line_of old) → AreApart front →
-    lines_of rest ≡ line ∷ lines_of behind → new ≡ old ++ tree ∷ [] → IsLineRead line (line_of tree) → (HasLabelOf (labels_of front) (tokens line) → ⊥) → q ≡ label_of (tokens line) → IsKept (and_label (labels_of front) q) set →
-    (f : List (List ℕ)) × (lines_of bytes ≡ f ++ lines_of behind) × AreRead f (map line_of new) × AreApart f × IsKept (labels_of f) set
+pub line_more : (bytes rest behind line : List ℕ) (front : List (List ℕ)) (old new : List kept.Line) (tree : kept.Line) (q : Option (List ℕ))
+    (set : BTreeSet (Bor (List ℕ))) → lines_of bytes ≡ front ++ lines_of rest → AreRead front (map line_of old) → AreApart front →
+    lines_of rest ≡ line ∷ lines_of behind → new ≡ old ++ tree ∷ [] → IsLineRead line (line_of tree) → (HasLabelOf (labels_of front) (tokens line) → ⊥) →
+    q ≡ label_of (tokens line) → HoldsLabels (and_label (labels_of front) q) set →
+    (f : List (List ℕ)) × (lines_of bytes ≡ f ++ lines_of behind) × AreRead f (map line_of new) × AreApart f × HoldsLabels (labels_of f) set
 line_more bytes rest behind line front old new tree q set e h a f g i n l k =
     let P : List Line → Type 0 = λ ls. AreRead (front ++ line ∷ []) ls in
-    let Q : List (List ℕ) → Type 0 = λ ls. IsKept ls set in (
+    let Q : List (List ℕ) → Type 0 = λ ls. HoldsLabels ls set in (
       front ++ line ∷ [],
       e ∙ ap (λ (ls : List (List ℕ)). front ++ ls) f ∙ sym (append_assoc front (line ∷ []) (lines_of behind)),
       subst P (sym (ap (map line_of) g ∙ map-append line_of old (tree ∷ []))) (read_more front (map line_of old) line (line_of tree) h i),
@@ -114,7 +119,8 @@ none_read ls e = let P : List kept.Line → Type 0 = λ xs. AreRead [] (map line
 
 -- ---- the line at which the reading stands
 
-pub first_at : (bytes rest behind line : List ℕ) (front : List (List ℕ)) (old : List kept.Line) (number : ℕ) → lines_of bytes ≡ front ++ lines_of rest → lines_of rest ≡ line ∷ lines_of behind → AreRead front (map line_of old) → AreApart front → number ≡ length old + 1 →
+pub first_at : (bytes rest behind line : List ℕ) (front : List (List ℕ)) (old : List kept.Line) (number : ℕ) → lines_of bytes ≡ front ++ lines_of rest →
+    lines_of rest ≡ line ∷ lines_of behind → AreRead front (map line_of old) → AreApart front → number ≡ length old + 1 →
     IsFirstAt bytes number front line
 first_at bytes rest behind line front old number e f h a n = record {
   behind = lines_of behind;
@@ -125,7 +131,8 @@ first_at bytes rest behind line front old number e f h a n = record {
   apart = a;
 }
 
-pub refused_at : (bytes : List ℕ) (number : ℕ) (before : List (List ℕ)) (line : List ℕ) (r : Refusal) → IsFirstAt bytes number before line → number ≤ 10000 → IsLineRefused (labels_of before) line r → IsRefusedAt bytes number r
+pub refused_at : (bytes : List ℕ) (number : ℕ) (before : List (List ℕ)) (line : List ℕ) (r : LineError) → IsFirstAt bytes number before line → number ≤ 10000 →
+    IsLineRefused (labels_of before) line r → IsRefusedAt bytes number r
 refused_at bytes number before line (refusal.Stuck c) f w h = record { before = before; line = line; first = f; within = w; refused = h }
 refused_at bytes number before line (refusal.LeftOut c x) f w h = record { before = before; line = line; first = f; within = w; refused = h }
 refused_at bytes number before line (refusal.Deep c) f w h = record { before = before; line = line; first = f; within = w; refused = h }
@@ -146,7 +153,8 @@ ok_then (Ok v) b Q h e f = h
 ok_then (Err v) b Q h e f = absurd (let g : true ≡ false = sym e ∙ f in cc)
 
 -- the routine of the lines that are kept
-pub routine_kept : (name bytes rest : List ℕ) (front : List (List ℕ)) (n : List ℕ) (v : List kept.Line) → n ≡ name → lines_of bytes ≡ front ++ lines_of rest → rest ≡ [] → AreRead front (map line_of v) → AreApart front → length v ≤ 10000 →
+pub routine_kept : (name bytes rest : List ℕ) (front : List (List ℕ)) (n : List ℕ) (v : List kept.Line) → n ≡ name → lines_of bytes ≡ front ++ lines_of rest →
+    rest ≡ [] → AreRead front (map line_of v) → AreApart front → length v ≤ 10000 →
     IsRoutineRead name bytes (record { name = n; lines = map line_of v })
 routine_kept name bytes rest front n v e f g h apart few =
     routine_read name bytes front n (map line_of v) e (f ∙ ap (λ (r : List ℕ). front ++ lines_of r) g) h apart (let l = length-map v line_of in omega arith)

@@ -8,7 +8,7 @@ use Rattle.mj_text.specs.declared.text.TheConstants.{TEXT_LIMIT}
 use Rattle.mj_ast.specs.declared.sign.Sign.TheVariants.{Colon, Open, Close}
 use Rattle.mj_ast.specs.declared.function.Callee.{Callee}
 use Rattle.mj_ast.specs.declared.function.Special.{Special as SpecialVariable}
-use Rattle.mj_ast.specs.Syntax.{Expr, Command, Set, Write, Halt, Hang, Job, Lock, Kill, Merge, If, Else, For, Forever, Do, Goto, Quit, New, OpenDevice, UseDevice, CloseDevice, Read, TStart, TCommit, TRestart, TRollback, Break, Step, Line, Routine}
+use Rattle.mj_ast.specs.Syntax.{Expr, Command, Set, Write, Halt, Hang, Job, Lock, Kill, Merge, If, Else, For, Forever, Do, Goto, Quit, New, OpenDevice, UseDevice, CloseDevice, Read, TStart, TCommit, TRestart, TRollback, Break, LineCommand, Line, Routine}
 use Rattle.mj_ast.specs.Tokens.{Token, Word, Called, Special, Digits, Quoted, Signed, Blank, Comment, Unclosed, Stray, AreDigits, IsWord, IsSpelledBy, Lexeme, IsTokenisation, lexemes, tokens}
 use Rattle.mj_ast.specs.Expressions.{Symbol, Name, Overlong, Constant, Other, symbol, constant_of, function_symbol, special_symbol, callee_of, special_of, expr_symbols, variable_symbols}
 use Rattle.mj_ast.specs.Commands.{Part, Put, Named, Label, SerialWord, PieceCall, Prompt, Text, Place, Control, with_commas, behind_commas, target_parts, guard_parts, wait_parts, actuals_parts, called_parts, started_parts, command_parts, plain_actuals, plain_called, plain_started, plain, plain_step, SpellsPart, SpellsParts, SpellsCondition, SpellsArguments, SpellsStep, gap_of, comment_gap_of, greatest}
@@ -129,13 +129,13 @@ arguments_worded ks (p ∷ ps) h i = parts_worded i.0 (p ∷ ps) (same ks (Blank
 
 -- ---- lines
 
-step_worded : (ks : List Token) (s : Step) → Each Lexed ks → SpellsStep ks s → IsStepWorded s
+step_worded : (ks : List Token) (s : LineCommand) → Each Lexed ks → SpellsStep ks s → IsStepWorded s
 step_worded ks s h i =
     let both = (same ks (Word i.0 ∷ (i.1 ++ i.2)) i.3 h).1 in
     let c = apart Lexed i.1 i.2 both in
     record { condition = condition_worded i.1 s.condition c.0 i.5; parts = arguments_worded i.2 (command_parts s.command) c.1 i.6 }
 
-steps_worded : (g c : ℕ) (ks : List Token) (ss : List Step) → Each Lexed ks → SpellsSteps g c ks ss → Each IsStepWorded ss
+steps_worded : (g c : ℕ) (ks : List Token) (ss : List LineCommand) → Each Lexed ks → SpellsSteps g c ks ss → Each IsStepWorded ss
 steps_worded g c ks [] h i = tt
 steps_worded g c ks (s ∷ ss) h i =
     let all = (cut ks (replicate i.0 Blank) (i.1 ++ i.2) i.4 h).1 in
@@ -178,19 +178,23 @@ written_worded ks l h i =
 
 -- ---- the line that is meant
 
-plain_entry_worded : (target behind : List Part) (actuals : List (Option Expr)) → Each IsPartWorded (target ++ (actuals_parts actuals ++ behind)) → Each IsPartWorded (target ++ (actuals_parts (plain_actuals actuals) ++ behind))
+plain_entry_worded : (target behind : List Part) (actuals : List (Option Expr)) → Each IsPartWorded (target ++ (actuals_parts actuals ++ behind)) →
+    Each IsPartWorded (target ++ (actuals_parts (plain_actuals actuals) ++ behind))
 plain_entry_worded target behind [] h = h
 plain_entry_worded target behind (None ∷ []) h = let i = apart IsPartWorded target _ h in joined IsPartWorded target behind i.0 i.1.1.1
 plain_entry_worded target behind (None ∷ a ∷ list) h = h
 plain_entry_worded target behind (Some e ∷ list) h = h
 
-each_behind : {A : Type 0} (parts : A → List Part) (meant : A → A) (is : (x : A) → Each IsPartWorded (parts x) → Each IsPartWorded (parts (meant x))) (list : List A) → Each IsPartWorded (behind_commas parts list) → Each IsPartWorded (behind_commas parts (map meant list))
+each_behind : {A : Type 0} (parts : A → List Part) (meant : A → A) (is : (x : A) → Each IsPartWorded (parts x) →
+    Each IsPartWorded (parts (meant x))) (list : List A) → Each IsPartWorded (behind_commas parts list) →
+    Each IsPartWorded (behind_commas parts (map meant list))
 each_behind parts meant is [] h = tt
 each_behind parts meant is (x ∷ xs) h =
     let i = apart IsPartWorded (parts x) (behind_commas parts xs) h.1 in
     (tt, joined IsPartWorded (parts (meant x)) (behind_commas parts (map meant xs)) (is x i.0) (each_behind parts meant is xs i.1))
 
-each : {A : Type 0} (parts : A → List Part) (meant : A → A) (is : (x : A) → Each IsPartWorded (parts x) → Each IsPartWorded (parts (meant x))) (list : List A) → Each IsPartWorded (with_commas parts list) → Each IsPartWorded (with_commas parts (map meant list))
+each : {A : Type 0} (parts : A → List Part) (meant : A → A) (is : (x : A) → Each IsPartWorded (parts x) → Each IsPartWorded (parts (meant x))) (list : List A) →
+    Each IsPartWorded (with_commas parts list) → Each IsPartWorded (with_commas parts (map meant list))
 each parts meant is [] h = tt
 each parts meant is (x ∷ xs) h =
     let i = apart IsPartWorded (parts x) (behind_commas parts xs) h in
@@ -223,7 +227,7 @@ plain_worded TRestart h = h
 plain_worded TRollback h = h
 plain_worded Break h = h
 
-plain_steps : (ss : List Step) → Each IsStepWorded ss → Each IsStepWorded (map plain_step ss)
+plain_steps : (ss : List LineCommand) → Each IsStepWorded ss → Each IsStepWorded (map plain_step ss)
 plain_steps [] h = tt
 plain_steps (s ∷ ss) h = (record { condition = h.0.condition; parts = plain_worded s.command h.0.parts }, plain_steps ss h.1)
 

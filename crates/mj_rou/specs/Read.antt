@@ -10,10 +10,10 @@ use Rattle.mj_ast.specs.Tokens.{Token, tokens, begins_word, continues_word}
 use Rattle.mj_ast.specs.Expressions.{depth_limit, width_limit, name_limit}
 use Rattle.mj_ast.specs.Lines.{SpellsLine, IsLineWithin, IsLong, IsDeepAt, HasLabelOf}
 use Rattle.mj_ast.specs.LeftOut.{IsStuckOn}
-use Rattle.mj_ast.specs.Routines.{lines_of, labels_before, SpellsRoutine, IsName, IsRefused, routine_limit}
+use Rattle.mj_ast.specs.Routines.{lines_of, labels_before, SpellsRoutine, IsName, IsRefusalOfLine, routine_limit}
 use Rattle.mj_ast.specs.Routines as grammar
-use Rattle.mj_rou.specs.declared.error.Refusal.{Refusal}
-use Rattle.mj_rou.specs.declared.error.Refusal.TheVariants as refusal
+use Rattle.mj_rou.specs.declared.error.LineError.{LineError}
+use Rattle.mj_rou.specs.declared.error.LineError.TheVariants as refusal
 use Rattle.mj_rou.specs.declared.error.LoadError.{LoadError}
 use Rattle.mj_rou.specs.declared.error.LoadError.TheVariants as load
 
@@ -27,7 +27,7 @@ pub record IsLineRead (bytes : List ℕ) (l : Line) : Type 0 where
   pub only : (o : Line) → SpellsLine (tokens bytes) o → o ≡ l
 
 -- Why the line would be refused, whatever its label. Want of memory says nothing.
-abbrev pub IsRefusedAlone : List ℕ → Refusal → Type 0
+abbrev pub IsRefusedAlone : List ℕ → LineError → Type 0
 IsRefusedAlone bytes (refusal.Stuck column) = (IsLong bytes → ⊥) × IsStuckOn bytes column None
 IsRefusedAlone bytes (refusal.LeftOut column construct) = (IsLong bytes → ⊥) × IsStuckOn bytes column (Some construct)
 IsRefusedAlone bytes (refusal.Deep column) = (IsLong bytes → ⊥) × IsDeepAt bytes column
@@ -36,19 +36,19 @@ IsRefusedAlone bytes refusal.Long = IsLong bytes
 IsRefusedAlone bytes refusal.Memory = Unit {0}
 
 -- why it is, behind lines with these labels
-abbrev pub IsLineRefused : List (List ℕ) → List ℕ → Refusal → Type 0
-IsLineRefused labels bytes (refusal.Stuck column) = IsRefused labels bytes (grammar.StuckAt column)
-IsLineRefused labels bytes (refusal.LeftOut column construct) = IsRefused labels bytes (grammar.LeftOutAt column construct)
-IsLineRefused labels bytes (refusal.Deep column) = IsRefused labels bytes (grammar.DeepAt column)
-IsLineRefused labels bytes refusal.Twice = IsRefused labels bytes grammar.Twice
-IsLineRefused labels bytes refusal.Long = IsRefused labels bytes grammar.Long
+abbrev pub IsLineRefused : List (List ℕ) → List ℕ → LineError → Type 0
+IsLineRefused labels bytes (refusal.Stuck column) = IsRefusalOfLine labels bytes (grammar.StuckAt column)
+IsLineRefused labels bytes (refusal.LeftOut column construct) = IsRefusalOfLine labels bytes (grammar.LeftOutAt column construct)
+IsLineRefused labels bytes (refusal.Deep column) = IsRefusalOfLine labels bytes (grammar.DeepAt column)
+IsLineRefused labels bytes refusal.Twice = IsRefusalOfLine labels bytes grammar.Twice
+IsLineRefused labels bytes refusal.Long = IsRefusalOfLine labels bytes grammar.Long
 IsLineRefused labels bytes refusal.Memory = Unit {0}
 
 -- ---- labels
 
 -- the set has these labels and no others
-abbrev pub IsKept : List (List ℕ) → BTreeSet (Bor (List ℕ)) → Type 0
-IsKept labels set = (word : List ℕ) → (contains_by (λ k. slice_cmp nat_cmp word k.now) set ≡ true) ↔ Contains labels word
+abbrev pub HoldsLabels : List (List ℕ) → BTreeSet (Bor (List ℕ)) → Type 0
+HoldsLabels labels set = (word : List ℕ) → (contains_by (λ k. slice_cmp nat_cmp word k.now) set ≡ true) ↔ Contains labels word
 
 -- the bytes of a label, if there is one
 abbrev pub label_seen : Option (Bor (List ℕ)) → Option (List ℕ)
@@ -64,6 +64,11 @@ and_label labels (Some word) = labels ++ word ∷ []
 abbrev pub IsTwice : Bool → List (List ℕ) → List Token → Type 0
 IsTwice true labels ks = HasLabelOf labels ks
 IsTwice false labels ks = HasLabelOf labels ks → ⊥
+
+-- of a line that is refused by itself, and whose label stands twice or doesn't, this is the refusal
+abbrev pub IsRanked : LineError → Bool → LineError → Type 0
+IsRanked alone twice given =
+    (before : List (List ℕ)) → (bytes : List ℕ) → IsRefusedAlone bytes alone → IsTwice twice before (tokens bytes) → IsLineRefused before bytes given
 
 -- the labels of these lines
 abbrev pub labels_of : List (List ℕ) → List (List ℕ)
@@ -100,12 +105,12 @@ pub record IsFirstAt (bytes : List ℕ) (number : ℕ) (before : List (List ℕ)
   pub apart : AreApart before
 
 -- the line of this number, which counts from 1, is the first that is refused, and this is why
-pub record IsFirst (bytes : List ℕ) (number : ℕ) (r : grammar.Refusal) : Type 0 where
+pub record IsFirst (bytes : List ℕ) (number : ℕ) (r : grammar.LineRefusal) : Type 0 where
   pub before : List (List ℕ)
   pub line : List ℕ
   pub first : IsFirstAt bytes number before line
   pub within : number ≤ routine_limit
-  pub refused : IsRefused (labels_of before) line r
+  pub refused : IsRefusalOfLine (labels_of before) line r
 
 -- no line is refused, but the one of this number is one too many
 pub record IsTooMany (bytes : List ℕ) (number : ℕ) : Type 0 where
@@ -115,7 +120,7 @@ pub record IsTooMany (bytes : List ℕ) (number : ℕ) : Type 0 where
   pub many : number ≡ routine_limit + 1
 
 -- a line is refused, or is one too many; want of memory says nothing
-abbrev pub IsRefusedAt : List ℕ → ℕ → Refusal → Type 0
+abbrev pub IsRefusedAt : List ℕ → ℕ → LineError → Type 0
 IsRefusedAt bytes number (refusal.Stuck column) = IsFirst bytes number (grammar.StuckAt column)
 IsRefusedAt bytes number (refusal.LeftOut column construct) = IsFirst bytes number (grammar.LeftOutAt column construct)
 IsRefusedAt bytes number (refusal.Deep column) = IsFirst bytes number (grammar.DeepAt column)

@@ -1,7 +1,7 @@
 -- Which trees have words alone where names stand: in variables, entries, labels and formals (6.2, 7.1.2; this profile).
 use Rattle.std.specs.Prelude.{ℕ, ◌⊎◌, ◌≤◌, List, [], ◌∷◌, length, Option, Some, None}
 use Rattle.mj_text.specs.declared.text.TheConstants.{TEXT_LIMIT}
-use Rattle.mj_ast.specs.Syntax.{Expr, Variable, Step, Line, Routine}
+use Rattle.mj_ast.specs.Syntax.{Expr, Variable, LineCommand, Line, Routine}
 use Rattle.mj_ast.specs.Tokens.{AreDigits}
 use Rattle.mj_ast.specs.Expressions.{Symbol, Name, expr_symbols, variable_symbols}
 use Rattle.mj_ast.specs.Commands.{Part, Named, Label, Text, Place, Control, command_parts}
@@ -44,7 +44,7 @@ IsConditionWorded None = Unit {0}
 IsConditionWorded (Some e) = IsExprWorded e
 
 -- each in the command, and in its postcondition
-pub record IsStepWorded (s : Step) : Type 0 where
+pub record IsStepWorded (s : LineCommand) : Type 0 where
   pub condition : IsConditionWorded s.condition
   pub parts : Each IsPartWorded (command_parts s.command)
 

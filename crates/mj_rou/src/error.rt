@@ -59,7 +59,7 @@ pub enum LoadError {
 
 /// Why a line is refused.
 #[derive(Clone, Copy, PartialEq, Eq, Debug)]
-pub enum Refusal {
+pub enum LineError {
     Stuck(usize),
     LeftOut(usize, Construct),
     Twice,
@@ -69,28 +69,28 @@ pub enum Refusal {
 }
 
 /// The refusal of a routine for one of its lines.
-pub fn at_line(refusal: Refusal, routine: RoutineName, line: usize) -> LoadError
+pub fn at_line(refusal: LineError, routine: RoutineName, line: usize) -> LoadError
     ensures { (name bytes : List ℕ) → IsName name → routine.bytes ≡ name → IsRefusedAt bytes line refusal → IsRoutineRefused name bytes result }
 {
     match refusal {
-        Refusal::Stuck(column) => LoadError::Stuck {
+        LineError::Stuck(column) => LoadError::Stuck {
             routine,
             line,
             column,
         },
-        Refusal::LeftOut(column, construct) => LoadError::LeftOut {
+        LineError::LeftOut(column, construct) => LoadError::LeftOut {
             routine,
             line,
             column,
             construct,
         },
-        Refusal::Twice => LoadError::Twice { routine, line },
-        Refusal::Long => LoadError::Long { routine, line },
-        Refusal::Deep(column) => LoadError::Deep {
+        LineError::Twice => LoadError::Twice { routine, line },
+        LineError::Long => LoadError::Long { routine, line },
+        LineError::Deep(column) => LoadError::Deep {
             routine,
             line,
             column,
         },
-        Refusal::Memory => LoadError::Memory,
+        LineError::Memory => LoadError::Memory,
     }
 }

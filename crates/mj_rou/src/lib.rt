@@ -12,4 +12,4 @@ mod routine;
 
 pub use error::{LoadError, RoutineName};
 pub use laws::{has_words, one_reason, read_or_refused};
-pub use routine::{LINE_LIMIT, ROUTINE_LIMIT, read};
+pub use routine::read;

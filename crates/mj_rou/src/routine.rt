@@ -4,30 +4,24 @@ ghost use Rattle.std.specs.Prelude.{◌≡◌, ◌+◌, ◌≤◌, ◌<◌, ◌&
 ghost use Rattle.std.specs.List.{list_all};
 ghost use Rattle.std.specs.Result.{IsErrAnd};
 ghost use Rattle.mj_ast.specs.Tokens.{Token as SpelledToken, lexemes as the_lexemes, column as the_column, tokens as the_tokens, begins_word, continues_word};
-ghost use Rattle.mj_ast.specs.Lines.{HasLabelOf, label_of};
-ghost use Rattle.mj_ast.specs.Routines.{IsName};
+ghost use Rattle.mj_ast.specs.Lines.{HasLabelOf, label_of, line_limit};
+ghost use Rattle.mj_ast.specs.Routines.{IsName, routine_limit};
 ghost use Rattle.mj_ast.specs.Trees.{line_of, routine_of};
 ghost use Rattle.mj_lex.specs.Seen.{placed, places_seen, tokens_seen};
 ghost use Rattle.mj_cmd.specs.Said.{IsStuckWith};
-ghost use Rattle.mj_rou.specs.Read.{IsLineRead, IsRefusedAlone, IsLineRefused, IsKept, IsTwice, IsRoutineRead, IsRoutineRefused, label_seen, and_label, is_word as the_word, is_name as the_name};
+ghost use Rattle.mj_rou.specs.Read.{IsLineRead, IsRefusedAlone, IsLineRefused, HoldsLabels, IsTwice, IsRoutineRead, IsRoutineRefused, label_seen, and_label, is_word as the_word, is_name as the_name, IsRanked};
 ghost use Rattle.mj_rou.specs.declared.error.LoadError.TheVariants.{Name};
 
-use crate::error::{LoadError, Refusal, RoutineName, at_line};
+use crate::error::{LineError, LoadError, RoutineName, at_line};
 use crate::file::first_line;
-use mj_ast::{Line, Routine};
-use mj_expr::Stop;
-use mj_left::left_out;
+use mj_ast::{LINE_LIMIT, Line, ROUTINE_LIMIT, Routine};
+use mj_expr::ParseError;
 use mj_lex::{Lexeme, Token, next, tokens_into};
 use mj_text::Text;
+use mj_unsupported::left_out;
 use std::alloc::{AllocError, Global};
 use std::collections::BTreeSet;
 use std::str;
-
-/// The most bytes of a line, without its end.
-pub const LINE_LIMIT: usize = 8_192;
-
-/// The most lines of a routine.
-pub const ROUTINE_LIMIT: usize = 10_000;
 
 /// The most bytes of a name.
 const NAME_LIMIT: usize = 31;
@@ -88,7 +82,7 @@ fn name_of(name: &[u8]) -> Option<RoutineName>
 
 /// The column of the token from which on so many are left, or of the line's end.
 fn column(line: &[u8], lexemes: &[Lexeme], left: usize) -> usize
-    requires short { length line.now ≤ 8192 }
+    requires short { length line.now ≤ line_limit }
     requires placed { places_seen lexemes.now ≡ placed 0 (the_lexemes line.now) }
     ensures { (place : ℕ) → place + left ≡ length lexemes.now → result ≡ the_column line.now place }
 {
@@ -114,7 +108,7 @@ fn label<'a>(lexemes: &[Lexeme<'a>]) -> Option<&'a [u8]>
 
 /// Whether the label is kept.
 fn is_kept<'a>(labels: &BTreeSet<&'a [u8]>, label: Option<&'a [u8]>) -> bool
-    ensures { (before : List (List ℕ)) → (ks : List SpelledToken) → IsKept before labels.now → label_seen label.entry ≡ label_of ks → IsTwice result before ks }
+    ensures { (before : List (List ℕ)) → (ks : List SpelledToken) → HoldsLabels before labels.now → label_seen label.entry ≡ label_of ks → IsTwice result before ks }
 {
     match label {
         None => false,
@@ -124,7 +118,7 @@ fn is_kept<'a>(labels: &BTreeSet<&'a [u8]>, label: Option<&'a [u8]>) -> bool
 
 /// Keeps the label, if there is one.
 fn keep<'a>(labels: &mut BTreeSet<&'a [u8]>, label: Option<&'a [u8]>) -> Result<(), AllocError>
-    ensures { IfOk result (λ _. (before : List (List ℕ)) → IsKept before labels.old → IsKept (and_label before (label_seen label.entry)) labels.new) }
+    ensures { IfOk result (λ _. (before : List (List ℕ)) → HoldsLabels before labels.old → HoldsLabels (and_label before (label_seen label.entry)) labels.new) }
 {
     let Some(label) = label else {
         return Ok(());
@@ -137,23 +131,23 @@ fn keep<'a>(labels: &mut BTreeSet<&'a [u8]>, label: Option<&'a [u8]>) -> Result<
 
 /// The refusal of a line that is stuck where so many of its tokens are left: by the name of what stands there, if that is left out by
 /// one.
-fn stuck(alloc: Global, line: &[u8], lexemes: &[Lexeme], left: usize) -> Refusal
-    requires short { length line.now ≤ 8192 }
+fn stuck(alloc: Global, line: &[u8], lexemes: &[Lexeme], left: usize) -> LineError
+    requires short { length line.now ≤ line_limit }
     requires placed { places_seen lexemes.now ≡ placed 0 (the_lexemes line.now) }
     requires stuck { IsStuckWith (tokens_seen lexemes.now) left }
     ensures { IsRefusedAlone line.now result }
 {
     let column = column(line, lexemes, left);
     match left_out(alloc, lexemes, left) {
-        Err(_) => Refusal::Memory,
-        Ok(None) => Refusal::Stuck(column),
-        Ok(Some(construct)) => Refusal::LeftOut(column, construct),
+        Err(_) => LineError::Memory,
+        Ok(None) => LineError::Stuck(column),
+        Ok(Some(construct)) => LineError::LeftOut(column, construct),
     }
 }
 
 /// The tree of a line of these tokens.
-fn tree_of(alloc: Global, line: &[u8], lexemes: &[Lexeme]) -> Result<Line, Refusal>
-    requires short { length line.now ≤ 8192 }
+fn tree_of(alloc: Global, line: &[u8], lexemes: &[Lexeme]) -> Result<Line, LineError>
+    requires short { length line.now ≤ line_limit }
     requires placed { places_seen lexemes.now ≡ placed 0 (the_lexemes line.now) }
     ensures read { IfOk result (λ l. IsLineRead line.now (line_of l)) }
     ensures refused { IfErr result (λ e. IsRefusedAlone line.now e) }
@@ -161,39 +155,39 @@ fn tree_of(alloc: Global, line: &[u8], lexemes: &[Lexeme]) -> Result<Line, Refus
     match mj_cmd::line(alloc, lexemes) {
         Ok(tree) => Ok(tree),
         Err(stop) => match stop {
-            Stop::Stuck(left) => Err(stuck(alloc, line, lexemes, left)),
-            Stop::Deep(left) => Err(Refusal::Deep(column(line, lexemes, left))),
-            Stop::Long => Err(Refusal::Long),
-            Stop::Memory => Err(Refusal::Memory),
+            ParseError::Stuck(left) => Err(stuck(alloc, line, lexemes, left)),
+            ParseError::Deep(left) => Err(LineError::Deep(column(line, lexemes, left))),
+            ParseError::Long => Err(LineError::Long),
+            ParseError::Memory => Err(LineError::Memory),
         },
     }
 }
 
 /// Which of two refusals is given: what is over its limit comes before a label that stands twice, that before the others.
-fn ranked(refusal: Refusal, twice: bool) -> Refusal
-    ensures { (before : List (List ℕ)) → (bytes : List ℕ) → IsRefusedAlone bytes refusal → IsTwice twice before (the_tokens bytes) → IsLineRefused before bytes result }
+fn ranked(refusal: LineError, twice: bool) -> LineError
+    ensures { IsRanked refusal twice result }
 {
     match refusal {
-        Refusal::Memory => Refusal::Memory,
-        Refusal::Long => Refusal::Long,
-        Refusal::Twice => Refusal::Twice,
-        Refusal::Stuck(column) => {
+        LineError::Memory => LineError::Memory,
+        LineError::Long => LineError::Long,
+        LineError::Twice => LineError::Twice,
+        LineError::Stuck(column) => {
             if twice {
-                return Refusal::Twice;
+                return LineError::Twice;
             }
-            Refusal::Stuck(column)
+            LineError::Stuck(column)
         }
-        Refusal::LeftOut(column, construct) => {
+        LineError::LeftOut(column, construct) => {
             if twice {
-                return Refusal::Twice;
+                return LineError::Twice;
             }
-            Refusal::LeftOut(column, construct)
+            LineError::LeftOut(column, construct)
         }
-        Refusal::Deep(column) => {
+        LineError::Deep(column) => {
             if twice {
-                return Refusal::Twice;
+                return LineError::Twice;
             }
-            Refusal::Deep(column)
+            LineError::Deep(column)
         }
     }
 }
@@ -205,17 +199,17 @@ fn line_tree<'a>(
     line: &'a [u8],
     labels: &BTreeSet<&'a [u8]>,
     lexemes: &mut Vec<Lexeme<'a>>,
-) -> Result<(Line, Option<&'a [u8]>), Refusal>
+) -> Result<(Line, Option<&'a [u8]>), LineError>
     ensures read { IfOk result (λ x. IsLineRead line.now (line_of x.0)) }
     ensures label { IfOk result (λ x. label_seen x.1 ≡ label_of (the_tokens line.now)) }
-    ensures apart { IfOk result (λ x. (before : List (List ℕ)) → IsKept before labels.now → HasLabelOf before (the_tokens line.now) → ⊥) }
-    ensures refused { IfErr result (λ e. (before : List (List ℕ)) → IsKept before labels.now → IsLineRefused before line.now e) }
+    ensures apart { IfOk result (λ x. (before : List (List ℕ)) → HoldsLabels before labels.now → HasLabelOf before (the_tokens line.now) → ⊥) }
+    ensures refused { IfErr result (λ e. (before : List (List ℕ)) → HoldsLabels before labels.now → IsLineRefused before line.now e) }
 {
     if line.len() > LINE_LIMIT {
-        return Err(Refusal::Long);
+        return Err(LineError::Long);
     }
     let Ok(()) = tokens_into(lexemes, line) else {
-        return Err(Refusal::Memory);
+        return Err(LineError::Memory);
     };
     let lexemes = lexemes.as_slice();
     let label = label(lexemes);
@@ -224,7 +218,7 @@ fn line_tree<'a>(
         Err(refusal) => Err(ranked(refusal, twice)),
         Ok(tree) => {
             if twice {
-                return Err(Refusal::Twice);
+                return Err(LineError::Twice);
             }
             Ok((tree, label))
         }
@@ -234,7 +228,7 @@ fn line_tree<'a>(
 /// Reads a routine of this name from the bytes of its file.
 pub fn read(alloc: Global, name: &[u8], bytes: &[u8]) -> Result<Routine, LoadError>
     ensures name { IfOk result (λ routine. (routine.name ≡ name.now) × (length routine.name ≤ 31)) }
-    ensures lines { IfOk result (λ routine. length routine.lines.items ≤ ROUTINE_LIMIT) }
+    ensures lines { IfOk result (λ routine. length routine.lines.items ≤ routine_limit) }
     ensures read { IfOk result (λ routine. IsName name.now × IsRoutineRead name.now bytes.now (routine_of routine)) }
     ensures refused { IfErr result (λ e. IsRoutineRefused name.now bytes.now e) }
     ensures unnamed { (IsName name.now → ⊥) → IsErrAnd result (λ e. e ≡ Name) }
@@ -252,7 +246,7 @@ pub fn read(alloc: Global, name: &[u8], bytes: &[u8]) -> Result<Routine, LoadErr
     'lines: while let Some((line, behind)) = first_line(rest) {
         let number = lines.len() + 1;
         if number > ROUTINE_LIMIT {
-            return Err(at_line(Refusal::Long, routine, number));
+            return Err(at_line(LineError::Long, routine, number));
         }
         match line_tree(alloc, line, &labels, &mut lexemes) {
             Err(refusal) => return Err(at_line(refusal, routine, number)),

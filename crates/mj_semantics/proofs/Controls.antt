@@ -6,6 +6,8 @@ use Rattle.mj_text.specs.declared.fault.Fault.TheVariants as faults
 use Rattle.mj_store.specs.declared.access.Access.TheVariants as access
 use Rattle.mj_store.specs.declared.access.Answer.TheVariants as answer
 use Rattle.mj_ask.specs.declared.ask.Ask.TheVariants as ask
+use Rattle.mj_ask.specs.declared.ask.SharedAsk.TheVariants as shared_asks
+use Rattle.mj_ask.specs.declared.ask.DeviceAsk.TheVariants as device_asks
 use Rattle.mj_ask.specs.declared.ask.Reply.TheVariants as reply
 use Rattle.mj_oper.specs.declared.op.Op.TheVariants.{Add, Divide, Is}
 use Rattle.mj_oper.specs.declared.op.TruthOp.TheVariants.{Less}
@@ -448,9 +450,10 @@ for_asks_in_order : asks (
     ∷ write (one (Value (local_at (codes "A") (text "1"))) ∷ []) ∷ []) ∷ [])
     (reply.Done ∷ reply.Answer (answer.Value (Some (codes "1"))) ∷ reply.Answer (answer.Value (Some (codes "2"))) ∷ reply.Answer (answer.Value (Some (codes "4")))
     ∷ reply.Answer (answer.Value (Some (codes "7"))) ∷ replicate 4 reply.Done)
-    ≡ ask.DeviceBegin (codes "0") ∷ ask.Access (access.Value (name (codes "X"))) ∷ ask.Access (access.Value (name (codes "A"))) ∷ ask.Access (access.Value (name (codes "B")))
-    ∷ ask.Access (access.Value (name (codes "C"))) ∷ ask.DeviceWrite (codes "0") (codes "2") ∷ ask.DeviceWrite (codes "0") (codes "6")
-    ∷ ask.DeviceEnd (codes "0") ∷ ask.Halt None ∷ []
+    ≡ ask.Device (codes "0") device_asks.Begin ∷ ask.Shared (shared_asks.Access (access.Value (name (codes "X")))) ∷ ask.Shared (shared_asks.Access (access.Value (name (codes "A"))))
+    ∷ ask.Shared (shared_asks.Access (access.Value (name (codes "B"))))
+    ∷ ask.Shared (shared_asks.Access (access.Value (name (codes "C")))) ∷ ask.Device (codes "0") (device_asks.Write (codes "2")) ∷ ask.Device (codes "0") (device_asks.Write (codes "6"))
+    ∷ ask.Device (codes "0") device_asks.End ∷ ask.Shared (shared_asks.Halt None) ∷ []
 unfolding digits
 for_asks_in_order = refl
 
@@ -462,23 +465,25 @@ do_asks_in_order : asks (
     with "A" (codes "X" ∷ codes "Y" ∷ []) (write (get "X" ∷ get "Y" ∷ []) ∷ []) ∷ [])
     (reply.Done ∷ reply.Answer (answer.Value (Some (codes "1"))) ∷ reply.Answer (answer.Value (Some (codes "2"))) ∷ reply.Answer (answer.Value (Some (codes "3")))
     ∷ reply.Done ∷ reply.Done ∷ reply.Answer (answer.Value (Some (codes "0"))) ∷ reply.Answer (answer.Value (Some (codes "4"))) ∷ replicate 3 reply.Done)
-    ≡ ask.DeviceBegin (codes "0") ∷ ask.Access (access.Value (name (codes "Z"))) ∷ ask.Access (access.Value (name (codes "X"))) ∷ ask.Access (access.Value (name (codes "Y")))
-    ∷ ask.DeviceWrite (codes "0") (codes "2") ∷ ask.DeviceWrite (codes "0") (codes "3") ∷ ask.Access (access.Value (name (codes "X"))) ∷ ask.Access (access.Value (name (codes "X")))
-    ∷ ask.DeviceWrite (codes "0") (10 ∷ codes "F8 NOLINE R:1" ++ 10 ∷ []) ∷ ask.DeviceEnd (codes "0") ∷ ask.Halt (Some faults.NoLine) ∷ []
+    ≡ ask.Device (codes "0") device_asks.Begin ∷ ask.Shared (shared_asks.Access (access.Value (name (codes "Z")))) ∷ ask.Shared (shared_asks.Access (access.Value (name (codes "X"))))
+    ∷ ask.Shared (shared_asks.Access (access.Value (name (codes "Y"))))
+    ∷ ask.Device (codes "0") (device_asks.Write (codes "2")) ∷ ask.Device (codes "0") (device_asks.Write (codes "3")) ∷ ask.Shared (shared_asks.Access (access.Value (name (codes "X"))))
+    ∷ ask.Shared (shared_asks.Access (access.Value (name (codes "X"))))
+    ∷ ask.Device (codes "0") (device_asks.Write (10 ∷ codes "F8 NOLINE R:1" ++ 10 ∷ [])) ∷ ask.Device (codes "0") device_asks.End ∷ ask.Shared (shared_asks.Halt (Some faults.NoLine)) ∷ []
 unfolding digits
 do_asks_in_order = refl
 
 --  SET I=7 FOR I=1:1:"1000000000000000000"
 -- all are read before the local is set
 for_reads_all_before_it_sets : stands (line (assign (let_be "I" (text "7") ∷ []) ∷ cmd (For (local (codes "I")) (UpTo (text "1") (text "1") (text "1000000000000000000") ∷ [])) ∷ []) ∷ []) 1
-    ≡ Needs (ask.DeviceWrite (codes "0") (codes "F4 RANGE R:1" ++ 10 ∷ [])) ((plain_name (codes "I"), codes "7") ∷ []) (spot 1 ∷ [])
+    ≡ Needs (ask.Device (codes "0") (device_asks.Write (codes "F4 RANGE R:1" ++ 10 ∷ []))) ((plain_name (codes "I"), codes "7") ∷ []) (spot 1 ∷ [])
 unfolding digits
 for_reads_all_before_it_sets = refl
 
 --  FOR I=5:1:3 WRITE "x"
 -- the local is set also where there is no pass
 for_leaves_its_local : stands (line (cmd (For (local (codes "I")) (UpTo (text "5") (text "1") (text "3") ∷ [])) ∷ write (text "x" ∷ []) ∷ []) ∷ []) 1
-    ≡ Needs (ask.DeviceEnd (codes "0")) ((plain_name (codes "I"), codes "5") ∷ []) (spot 1 ∷ [])
+    ≡ Needs (ask.Device (codes "0") device_asks.End) ((plain_name (codes "I"), codes "5") ∷ []) (spot 1 ∷ [])
 unfolding digits
 for_leaves_its_local = refl
 
@@ -488,20 +493,20 @@ halt_leaves_frames : stands (
     line (assign (let_be "X" (text "1") ∷ []) ∷ cmd (Do (do_it (here "A") [] ∷ [])) ∷ []) ∷
     at "A" (cmd (New (Fresh (codes "X") ∷ [])) ∷ assign (let_be "Y" (text "2") ∷ []) ∷ cmd (Do []) ∷ write (text "x" ∷ []) ∷ []) ∷
     deep 2 (cmd Halt ∷ []) ∷ []) 1
-    ≡ Needs (ask.DeviceEnd (codes "0")) ((plain_name (codes "Y"), codes "2") ∷ []) (spot 3 ∷ spot 2 ∷ spot 1 ∷ [])
+    ≡ Needs (ask.Device (codes "0") device_asks.End) ((plain_name (codes "Y"), codes "2") ∷ []) (spot 3 ∷ spot 2 ∷ spot 1 ∷ [])
 halt_leaves_frames = refl
 
 --  SET X=1 NEW X QUIT
 -- the QUIT of the first frame is a HALT
 quit_of_the_first_frame_undoes_nothing : stands (
     line (assign (let_be "X" (text "1") ∷ []) ∷ cmd (New (Fresh (codes "X") ∷ [])) ∷ cmd Quit ∷ []) ∷ []) 1
-    ≡ Needs (ask.DeviceEnd (codes "0")) [] (spot 1 ∷ [])
+    ≡ Needs (ask.Device (codes "0") device_asks.End) [] (spot 1 ∷ [])
 quit_of_the_first_frame_undoes_nothing = refl
 
 --  DO A / A SET X=1 /  . WRITE "x"
 -- a routine's end is a QUIT at its last line, deeper or not
 end_of_a_routine : stands (line (cmd (Do (do_it (here "A") [] ∷ [])) ∷ []) ∷ at "A" (assign (let_be "X" (text "1") ∷ []) ∷ []) ∷ deep 2 (write (text "x" ∷ []) ∷ []) ∷ []) 1
-    ≡ Needs (ask.DeviceEnd (codes "0")) ((plain_name (codes "X"), codes "1") ∷ []) (spot 3 ∷ [])
+    ≡ Needs (ask.Device (codes "0") device_asks.End) ((plain_name (codes "X"), codes "1") ∷ []) (spot 3 ∷ [])
 end_of_a_routine = refl
 
 -- A start at `A^R`:  WRITE "x" / A(X) WRITE $DATA(X)
@@ -561,27 +566,27 @@ line_before_depth = refl
 --  FOR I=1:1:2
 -- three literals; the name of the local; three passes tried, of which the last is none; the argument done
 turns_of_a_for : turns (line (cmd (For (local (codes "I")) (UpTo (text "1") (text "1") (text "2") ∷ [])) ∷ []) ∷ []) 12
-    ≡ (More, Needs (ask.DeviceEnd (codes "0")) ((plain_name (codes "I"), codes "2") ∷ []) (spot 1 ∷ []))
+    ≡ (More, Needs (ask.Device (codes "0") device_asks.End) ((plain_name (codes "I"), codes "2") ∷ []) (spot 1 ∷ []))
 unfolding digits
 turns_of_a_for = refl
 
 --  DO A(5) QUIT / A(X,Y) QUIT
 -- the literal; the call; a formal with a value, and one without; two QUITs
 turns_of_a_call : turns (line (cmd (Do (do_it (here "A") (Some (text "5") ∷ []) ∷ [])) ∷ cmd Quit ∷ []) ∷ with "A" (codes "X" ∷ codes "Y" ∷ []) (cmd Quit ∷ []) ∷ []) 10
-    ≡ (More, Needs (ask.DeviceEnd (codes "0")) [] (spot 1 ∷ []))
+    ≡ (More, Needs (ask.Device (codes "0") device_asks.End) [] (spot 1 ∷ []))
 unfolding digits
 turns_of_a_call = refl
 
 -- A(X,Y) QUIT
 -- the formals of the line where the job starts; the QUIT
 turns_of_the_first_call : turns (with "A" (codes "X" ∷ codes "Y" ∷ []) (cmd Quit ∷ []) ∷ []) 6
-    ≡ (More, Needs (ask.DeviceEnd (codes "0")) [] (spot 1 ∷ []))
+    ≡ (More, Needs (ask.Device (codes "0") device_asks.End) [] (spot 1 ∷ []))
 unfolding digits
 turns_of_the_first_call = refl
 
 --  / A(X,Y) QUIT
 -- a line that is come to takes none for its formals; the QUIT
 turns_of_a_line_with_formals : turns (line [] ∷ with "A" (codes "X" ∷ codes "Y" ∷ []) (cmd Quit ∷ []) ∷ []) 5
-    ≡ (More, Needs (ask.DeviceEnd (codes "0")) [] (spot 2 ∷ []))
+    ≡ (More, Needs (ask.Device (codes "0") device_asks.End) [] (spot 2 ∷ []))
 unfolding digits
 turns_of_a_line_with_formals = refl

@@ -5,14 +5,13 @@ use Rattle.std.specs.Prelude.{ℤ, nat_lt, nat_eq, if◌then◌else◌}
 use Rattle.mj_oper.specs.Operators.{binary_value, unary_value, truth_value}
 use Rattle.mj_num.specs.Number.{reading}
 use Rattle.mj_subs.specs.Name.{Name}
-use Rattle.mj_ask.specs.declared.ask.Ask.TheVariants.{DeviceBegin}
 use Rattle.mj_ask.specs.declared.ask.Reply.{Reply}
 use Rattle.mj_ask.specs.declared.entry.Entry.{Entry}
 use Rattle.mj_ast.specs.declared.expr.Scope.TheVariants.{Local}
-use Rattle.mj_ast.specs.declared.routine.Mark.{Mark}
+use Rattle.mj_ast.specs.declared.routine.FormatMark.{FormatMark}
 use Rattle.mj_ast.specs.declared.function.NameFunction.{NameFunction}
-use Rattle.mj_ast.specs.Syntax.{Expr, Chain, Tails, Done, Then, Operand, Literal, Value, Intrinsic, Unary, Group, Call, About, Select, Variable, Var, Exprs, No, More as Another, Choices, Last, Before, Destination, Plain, Pieces, Targets, One, Several, Assignment, Killed, Gone, Spared, Merged, Output, Shown, Format, Coded, Called as Calling, Jumped as Jumping, Started as Starting, LockNames, Lone, Together, Locked, Opened, Received, Input, Prompted, Arranged, Into, Range, Single, Endless, UpTo, Command, Set, Write, Halt, Hang, Job, Lock, OpenDevice, UseDevice, CloseDevice, Read, Kill, Merge, If, Else, For, Forever, Do, Goto, Quit, New, Restartable, TStart, TCommit, TRestart, TRollback, Break, Step, Line, Routine}
-use Rattle.mj_semantics.specs.State.{State, principal, level_of, special_value, set_test, spare, passed, popped, pushed, at_place, may_go}
+use Rattle.mj_ast.specs.Syntax.{Expr, Chain, Tails, Done, Then, Operand, Literal, Value, Intrinsic, Unary, Group, Call, About, Select, Variable, Var, Exprs, No, More as Another, Choices, Last, Before, Destination, Plain, Pieces, Targets, One, Several, Assignment, Killed, Gone, Spared, Merged, Output, Shown, Format, Coded, Called as Calling, Jumped as Jumping, Started as Starting, LockNames, Lone, Together, Locked, Opened, Received, Input, Prompted, Arranged, Into, Range, Single, Endless, UpTo, Command, Set, Write, Halt, Hang, Job, Lock, OpenDevice, UseDevice, CloseDevice, Read, Kill, Merge, If, Else, For, Forever, Do, Goto, Quit, New, Restartable, TStart, TCommit, TRestart, TRollback, Break, LineCommand, Line, Routine}
+use Rattle.mj_semantics.specs.State.{State, principal, level_of, special_value, set_test, kill_except, passed, popped, pushed, at_place, may_go}
 use Rattle.mj_semantics.specs.Outcome.{Outcome, More, Handler, Timed, no_restart, turn}
 use Rattle.mj_semantics.specs.Lines.{Here, place_at, next_line, line_before, line_at, levels_of, entered, entry_of}
 use Rattle.mj_semantics.specs.Points.{Leave, Ways, Loop, Point, AtLine, Called, Jumped, Pass, Started, Points}
@@ -40,7 +39,7 @@ data KeepsPoint (more b : ℕ) : Point → Point → Type 0 where
   at_line : {here : Here} {l m : Leave} → KeepsLeave more b l m → KeepsPoint more b (AtLine here l) (AtLine here m)
   called : {function : Bool} {entry : Entry} {vs : List (Option (List ℕ))} {l m : Leave} → KeepsLeave more b l m → KeepsPoint more b (Called function entry vs l) (Called function entry vs m)
   jumped : {entry : Entry} {l m : Leave} → KeepsLeave more b l m → KeepsPoint more b (Jumped entry l) (Jumped entry m)
-  pass : {here : Here} {loop : Loop} {body : List Step} {f g : Timed} {w v : Ways} → Keeps more b f g → KeepsWays more b w v → KeepsPoint more b (Pass here loop body f w) (Pass here loop body g v)
+  pass : {here : Here} {loop : Loop} {body : List LineCommand} {f g : Timed} {w v : Ways} → Keeps more b f g → KeepsWays more b w v → KeepsPoint more b (Pass here loop body f w) (Pass here loop body g v)
   started : {f g : Timed} → Keeps more b f g → KeepsPoint more b (Started f) (Started g)
 
 record KeepsPoints (more b : ℕ) (P Q : Points) : Type 0 where
@@ -125,14 +124,14 @@ module _ (more b : ℕ) (P Q : Points) (keeps : KeepsPoints more b P Q) (here : 
 
   kills : (x : Killed) {f g : Timed} → Keeps more (suc b) f g → Keeps more (suc b) (kill P here x f) (kill Q here x g)
   kills (Gone v) l = name_keeps v (λ x. a_turn (removes x l))
-  kills (Spared words) l = names_keep words (a_turn (changed {c = spare words} l))
+  kills (Spared words) l = names_keep words (a_turn (changed {c = kill_except words} l))
 
   kills_list : (list : List Killed) {f g : Timed} → Keeps more (suc b) f g → Keeps more (suc b) (kill_list P here list f) (kill_list Q here list g)
   kills_list [] l = l
   kills_list (x ∷ list) l = kills x (kills_list list l)
 
   kills_all : (list : List Killed) {f g : Timed} → Keeps more (suc b) f g → Keeps more (suc b) (kill_all P here list f) (kill_all Q here list g)
-  kills_all [] l = a_turn (changed {c = spare []} l)
+  kills_all [] l = a_turn (changed {c = kill_except []} l)
   kills_all (x ∷ list) l = kills_list (x ∷ list) l
 
   merges : (m : Merged) {f g : Timed} → Keeps more (suc b) f g → Keeps more (suc b) (merge P here m f) (merge Q here m g)
@@ -142,7 +141,7 @@ module _ (more b : ℕ) (P Q : Points) (keeps : KeepsPoints more b P Q) (here : 
   merges_all [] l = l
   merges_all (m ∷ list) l = merges m (merges_all list l)
 
-  arranges : (marks : List Mark) (o : Option Expr) {f g : Timed} → Keeps more (suc b) f g → Keeps more (suc b) (arrange P here marks o f) (arrange Q here marks o g)
+  arranges : (marks : List FormatMark) (o : Option Expr) {f g : Timed} → Keeps more (suc b) f g → Keeps more (suc b) (arrange P here marks o f) (arrange Q here marks o g)
   arranges marks None l = a_turn (writes (map mark_byte marks) l)
   arranges marks (Some e) l = evaluates e (λ v. a_turn (tabs marks v l))
 
@@ -216,7 +215,7 @@ module _ (more b : ℕ) (P Q : Points) (keeps : KeepsPoints more b P Q) (here : 
   if_keeps [] l m = a_turn (tests true l m)
   if_keeps (e ∷ es) l m = ifs_keep (e ∷ es) l m
 
-  ranges_keep : (x : Name) (rs : List Range) (body : List Step) {w v : Ways} → KeepsWays more (suc b) w v → Keeps more (suc b) (ranges P here x rs body w) (ranges Q here x rs body v)
+  ranges_keep : (x : Name) (rs : List Range) (body : List LineCommand) {w v : Ways} → KeepsWays more (suc b) w v → Keeps more (suc b) (ranges P here x rs body w) (ranges Q here x rs body v)
   ranges_keep x [] body w = a_turn w.line_end
   ranges_keep x (Single a ∷ rs) body w = evaluates a (λ v. turned (stores x v (keeps.by (pass (less (ranges_keep x rs body w)) (less_ways w)))))
   ranges_keep x (Endless a c ∷ rs) body w =
@@ -253,7 +252,7 @@ module _ (more b : ℕ) (P Q : Points) (keeps : KeepsPoints more b P Q) (here : 
   starts_transaction a l =
       names_keep (listed_by a) (a_turn (begins_transaction (restored_by a) (serial_by a) l (turned (keeps.by (started (less l))))))
 
-  obeys : (c : Command) (o : Option Expr) (body : List Step) {w v : Ways} {f g : Timed} → KeepsWays more (suc b) w v → Keeps more (suc b) f g
+  obeys : (c : Command) (o : Option Expr) (body : List LineCommand) {w v : Ways} {f g : Timed} → KeepsWays more (suc b) w v → Keeps more (suc b) f g
       → Keeps more (suc b) (obey P here c o body w f) (obey Q here c o body v g)
   obeys (Set list) o body w l = where_so o (assigns_all list l) l
   obeys (Write list) o body w l = where_so o (outputs_all list l) l
@@ -281,7 +280,7 @@ module _ (more b : ℕ) (P Q : Points) (keeps : KeepsPoints more b P Q) (here : 
   obeys TRollback o body w l = where_so o (a_turn (rolls_back l)) l
   obeys Break o body w l = where_so o (a_turn l) l
 
-  obeys_all : (steps : List Step) {w v : Ways} → KeepsWays more (suc b) w v → Keeps more (suc b) (obey_all P here steps w) (obey_all Q here steps v)
+  obeys_all : (steps : List LineCommand) {w v : Ways} → KeepsWays more (suc b) w v → Keeps more (suc b) (obey_all P here steps w) (obey_all Q here steps v)
   obeys_all [] w = w.line_end
   obeys_all (step ∷ steps) w = obeys step.command step.condition steps w (obeys_all steps w)
 
@@ -340,7 +339,7 @@ points_keep image more (suc b) (suc d) (suc e) lt le =
 starts_keep : (image : List Routine) (job : Start) (more d e n : ℕ) → n < d → n < e → Keeps more (suc n) (start image job d) (start image job e)
 starts_keep image job more d e n lt lt' =
     let points : KeepsPoints more (suc n) (points_of image d) (points_of image e) = points_keep image more (suc n) d e (omega arith) (omega arith) in
-    a_turn (to_its_device principal (DeviceBegin principal) (λ r. points.by (called (λ v. ended))))
+    a_turn (to_its_device principal _ (λ r. points.by (called (λ v. ended))))
 
 -- a run, beside one with as many turns or more at another depth
 runs_keep : (image : List Routine) (job : Start) (d e n q : ℕ) (replies : List Reply) → n < d → n < e → n ≤ q → Stays (run image job e q replies) (run image job d n replies)

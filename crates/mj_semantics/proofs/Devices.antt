@@ -3,9 +3,11 @@ use Rattle.std.specs.Prelude.{◌≡◌, refl, ℕ, true, false, List, [], ◌�
 use Rattle.std.specs.Fmt.{digits}
 use Rattle.mj_text.specs.declared.fault.Fault.TheVariants as faults
 use Rattle.mj_ask.specs.declared.ask.Ask.TheVariants as ask
+use Rattle.mj_ask.specs.declared.ask.SharedAsk.TheVariants as shared_asks
+use Rattle.mj_ask.specs.declared.ask.DeviceAsk.TheVariants as device_asks
 use Rattle.mj_ask.specs.declared.ask.Reply.TheVariants as reply
 use Rattle.mj_ast.specs.Syntax.{Line}
-use Rattle.mj_semantics.specs.State.{State, OpenDevice, Frame, Mark, principal, untouched, ending_order, wrote, broke, dropped}
+use Rattle.mj_semantics.specs.State.{State, OpenDevice, Frame, TransactionMark, principal, untouched, ending_order, wrote, broke, dropped}
 use Rattle.mj_semantics.specs.Outcome.{Outcome, Needs, Ended, More, Handler, no_restart, over, restartable, go_back}
 use Rattle.mj_semantics.specs.Devices.{close}
 use Rattle.mj_semantics.specs.Commands.{quit_frame}
@@ -23,26 +25,28 @@ faults_alone = line (write (get "X" ∷ []) ∷ []) ∷ []
 -- Sessions that fail.
 
 -- a principal session that doesn't begin: no line is written, and the job ends
-no_session : asks says_a (reply.Failed ∷ reply.Done ∷ reply.Done ∷ []) ≡ ask.DeviceBegin principal ∷ ask.DeviceEnd principal ∷ ask.Halt (Some faults.Device) ∷ []
+no_session : asks says_a (reply.Failed ∷ reply.Done ∷ reply.Done ∷ []) ≡ ask.Device principal device_asks.Begin ∷ ask.Device principal device_asks.End
+    ∷ ask.Shared (shared_asks.Halt (Some faults.Device)) ∷ []
 no_session = refl
 
 -- a WRITE that fails is DEVICE; of that no line is written, since it would go to the device that failed
 no_write : asks says_a (reply.Done ∷ reply.Failed ∷ reply.Done ∷ reply.Done ∷ [])
-    ≡ ask.DeviceBegin principal ∷ ask.DeviceWrite principal (codes "a") ∷ ask.DeviceEnd principal ∷ ask.Halt (Some faults.Device) ∷ []
+    ≡ ask.Device principal device_asks.Begin ∷ ask.Device principal (device_asks.Write (codes "a")) ∷ ask.Device principal device_asks.End ∷ ask.Shared (shared_asks.Halt (Some faults.Device)) ∷ []
 no_write = refl
 
 -- that a session doesn't end well changes nothing
 no_end : asks says_a (reply.Done ∷ reply.Done ∷ reply.Failed ∷ reply.Done ∷ [])
-    ≡ ask.DeviceBegin principal ∷ ask.DeviceWrite principal (codes "a") ∷ ask.DeviceEnd principal ∷ ask.Halt None ∷ []
+    ≡ ask.Device principal device_asks.Begin ∷ ask.Device principal (device_asks.Write (codes "a")) ∷ ask.Device principal device_asks.End ∷ ask.Shared (shared_asks.Halt None) ∷ []
 no_end = refl
 
 no_end_after_failure : asks says_a (reply.Done ∷ reply.Failed ∷ reply.Failed ∷ reply.Done ∷ [])
-    ≡ ask.DeviceBegin principal ∷ ask.DeviceWrite principal (codes "a") ∷ ask.DeviceEnd principal ∷ ask.Halt (Some faults.Device) ∷ []
+    ≡ ask.Device principal device_asks.Begin ∷ ask.Device principal (device_asks.Write (codes "a")) ∷ ask.Device principal device_asks.End ∷ ask.Shared (shared_asks.Halt (Some faults.Device)) ∷ []
 no_end_after_failure = refl
 
 -- the line of a fault whose write fails: the job ends by that fault
 no_line_of_fault : asks faults_alone (reply.Done ∷ reply.Failed ∷ reply.Done ∷ reply.Done ∷ [])
-    ≡ ask.DeviceBegin principal ∷ ask.DeviceWrite principal (codes "F1 UNDEF R:1" ++ 10 ∷ []) ∷ ask.DeviceEnd principal ∷ ask.Halt (Some faults.Undefined) ∷ []
+    ≡ ask.Device principal device_asks.Begin ∷ ask.Device principal (device_asks.Write (codes "F1 UNDEF R:1" ++ 10 ∷ [])) ∷ ask.Device principal device_asks.End
+    ∷ ask.Shared (shared_asks.Halt (Some faults.Undefined)) ∷ []
 unfolding digits
 no_line_of_fault = refl
 
@@ -51,7 +55,7 @@ abbrev without_session : ℕ → Outcome
 without_session n = next (image_of (("R", says_a) ∷ [])) (first_at (codes "R")) n (reply.Failed ∷ [])
 
 -- the begin of the session, the fault, though it writes nothing, and the end of the session take a turn each
-turns_of_failure : (without_session 2 ≡ More) × (without_session 3 ≡ Needs (ask.DeviceEnd principal) [] [])
+turns_of_failure : (without_session 2 ≡ More) × (without_session 3 ≡ Needs (ask.Device principal device_asks.End) [] [])
 turns_of_failure = (refl, refl)
 
 -- Where writing leads to.
@@ -99,14 +103,14 @@ drops_another = (refl, refl)
 
 -- what a closing asks, where the session ends well and where it doesn't: then the name is given up all the same, the fault's line goes to
 -- the principal device, and the job's end doesn't end the session again
-closes : (close other over 9 no_restart two_open [] ≡ Needs (ask.DeviceEnd other) [] [])
-    × (close other over 9 no_restart two_open (reply.Done ∷ []) ≡ Needs (ask.Close other) [] [])
+closes : (close other over 9 no_restart two_open [] ≡ Needs (ask.Device other device_asks.End) [] [])
+    × (close other over 9 no_restart two_open (reply.Done ∷ []) ≡ Needs (ask.Shared (shared_asks.Close other)) [] [])
     × (close other over 9 no_restart two_open (reply.Done ∷ reply.Done ∷ []) ≡ Ended)
 closes = (refl, refl, refl)
 
-closes_badly : (close other over 9 no_restart two_open (reply.Failed ∷ []) ≡ Needs (ask.Close other) [] [])
-    × (close other over 9 no_restart two_open (reply.Failed ∷ reply.Done ∷ []) ≡ Needs (ask.DeviceWrite principal (10 ∷ codes "F16 DEVICE -" ++ 10 ∷ [])) [] [])
-    × (close other over 9 no_restart two_open (reply.Failed ∷ reply.Done ∷ reply.Done ∷ []) ≡ Needs (ask.DeviceEnd principal) [] [])
+closes_badly : (close other over 9 no_restart two_open (reply.Failed ∷ []) ≡ Needs (ask.Shared (shared_asks.Close other)) [] [])
+    × (close other over 9 no_restart two_open (reply.Failed ∷ reply.Done ∷ []) ≡ Needs (ask.Device principal (device_asks.Write (10 ∷ codes "F16 DEVICE -" ++ 10 ∷ []))) [] [])
+    × (close other over 9 no_restart two_open (reply.Failed ∷ reply.Done ∷ reply.Done ∷ []) ≡ Needs (ask.Device principal device_asks.End) [] [])
 unfolding digits
 closes_badly = (refl, refl, refl)
 
@@ -115,7 +119,7 @@ closes_badly = (refl, refl, refl)
 abbrev frame : Frame
 frame = record { place = spot 4; level = 1; function = false; test = None; height = 0 }
 
-abbrev mark : List Frame → Mark
+abbrev mark : List Frame → TransactionMark
 mark frames = record { restored = None; serial = false; locals = []; test = false; height = 0; depth = length frames; place = Some (spot 4) }
 
 abbrev in_transaction : List Frame → List Frame → State
@@ -123,7 +127,7 @@ in_transaction now then = record (opening 1) { frames = now; level = 1; mark = S
 
 -- a QUIT out of the frame of the outermost TSTART
 out_of_frame : quit_frame over 1 no_restart (in_transaction (frame ∷ []) (frame ∷ [])) []
-    ≡ Needs (ask.DeviceWrite principal (codes "F10 TXQUIT R:4" ++ 10 ∷ [])) [] (spot 4 ∷ [])
+    ≡ Needs (ask.Device principal (device_asks.Write (codes "F10 TXQUIT R:4" ++ 10 ∷ []))) [] (spot 4 ∷ [])
 unfolding digits
 out_of_frame = refl
 

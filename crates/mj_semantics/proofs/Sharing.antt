@@ -8,6 +8,8 @@ use Rattle.mj_store.specs.declared.access.Access.TheVariants as access
 use Rattle.mj_store.specs.declared.access.Answer.TheVariants as answer
 use Rattle.mj_ask.specs.declared.ask.Ask.{Ask}
 use Rattle.mj_ask.specs.declared.ask.Ask.TheVariants as ask
+use Rattle.mj_ask.specs.declared.ask.SharedAsk.TheVariants as shared_asks
+use Rattle.mj_ask.specs.declared.ask.DeviceAsk.TheVariants as device_asks
 use Rattle.mj_ask.specs.declared.ask.Reply.{Reply}
 use Rattle.mj_ask.specs.declared.ask.Reply.TheVariants as reply
 use Rattle.mj_oper.specs.declared.op.Op.TheVariants.{Divide}
@@ -15,7 +17,7 @@ use Rattle.mj_oper.specs.declared.op.UnaryOp.TheVariants.{Minus}
 use Rattle.mj_ast.specs.declared.function.Special.TheVariants as special
 use Rattle.mj_ast.specs.declared.routine.LockMode.{LockMode}
 use Rattle.mj_ast.specs.declared.routine.LockMode.TheVariants as mode
-use Rattle.mj_ast.specs.Syntax.{Expr, Chain, Done, Then, Literal, Value, Intrinsic, Unary, LockNames, Lone, Together, Locked, Target, Started, Hang, Job, Lock, Step}
+use Rattle.mj_ast.specs.Syntax.{Expr, Chain, Done, Then, Literal, Value, Intrinsic, Unary, LockNames, Lone, Together, Locked, Target, Started, Hang, Job, Lock, LineCommand}
 use Rattle.mj_semantics.specs.State.{principal, plain_name}
 use Rattle.mj_semantics.specs.Outcome.{Needs, More, no_restart, end}
 use Rattle.mj_semantics.specs.Points.{AtLine}
@@ -23,20 +25,21 @@ use Rattle.mj_semantics.specs.Job.{opening, points_of}
 use Rattle.mj_semantics.proofs.Talk.{asks, asked, turns, cmd, cmd_if, line, one, local, local_at, global, global_at, name, name_at, text, get, test, write, here, there, top, image_of, spot}
 
 -- the asks of a job of one line, where the replies are that it is done, these, and again that it is done
-abbrev of_line : List Step → List Reply → List Ask
+abbrev of_line : List LineCommand → List Reply → List Ask
 of_line steps replies = asks (line steps ∷ []) (reply.Done ∷ replies ++ replicate 3 reply.Done)
 
 -- the asks of a job of one line that asks these, and is then over
 abbrev between : List Ask → List Ask
-between list = ask.DeviceBegin principal ∷ list ++ ask.DeviceEnd principal ∷ ask.Halt None ∷ []
+between list = ask.Device principal device_asks.Begin ∷ list ++ ask.Device principal device_asks.End ∷ ask.Shared (shared_asks.Halt None) ∷ []
 
 -- the same, where it is over by a fault, of which it writes this
 abbrev up_to : List Ask → List ℕ → Fault → List Ask
-up_to list bytes fault = ask.DeviceBegin principal ∷ list ++ ask.DeviceWrite principal (bytes ++ 10 ∷ []) ∷ ask.DeviceEnd principal ∷ ask.Halt (Some fault) ∷ []
+up_to list bytes fault = ask.Device principal device_asks.Begin ∷ list ++ ask.Device principal (device_asks.Write (bytes ++ 10 ∷ [])) ∷ ask.Device principal device_asks.End
+    ∷ ask.Shared (shared_asks.Halt (Some fault)) ∷ []
 
 -- `$TEST` is written
 abbrev wrote_test : List ℕ → Ask
-wrote_test t = ask.DeviceWrite principal t
+wrote_test t = ask.Device principal (device_asks.Write t)
 
 -- 1/0
 abbrev no_value : Expr
@@ -59,7 +62,7 @@ hangs_too_long = refl
 -- `$JOB`.
 
 --  WRITE $JOB
-number : of_line (write (one (Intrinsic special.Job) ∷ []) ∷ []) (reply.Done ∷ []) ≡ between (ask.DeviceWrite principal (codes "1") ∷ [])
+number : of_line (write (one (Intrinsic special.Job) ∷ []) ∷ []) (reply.Done ∷ []) ≡ between (ask.Device principal (device_asks.Write (codes "1")) ∷ [])
 unfolding digits
 number = refl
 
@@ -69,7 +72,7 @@ abbrev start_at : Target → List (Option Expr) → Option Expr → Started
 start_at to actuals timeout = record { target = to; actuals = actuals; timeout = timeout }
 
 abbrev label_of : Option (List ℕ) → List ℕ → List (Option (List ℕ)) → Option ℤ → Ask
-label_of label routine values timeout = ask.Start (record { entry = record { label = label; routine = routine }; values = values }) timeout
+label_of label routine values timeout = ask.Shared (shared_asks.Start (record { entry = record { label = label; routine = routine }; values = values }) timeout)
 
 --  JOB A,A(1,,$JOB),^Q(),B^Q::5,Z::"x" WRITE $TEST
 -- the entry is the new job's: it need not be there
@@ -122,7 +125,8 @@ local_a = plain_name (codes "A")
 each_form : of_line (cmd (Lock (lock mode.Whole (Lone (global_at (codes "A") (text "1"))) None ∷ [])) ∷ cmd (Lock (lock mode.Plus (Lone (global (codes "A"))) None ∷ []))
     ∷ cmd (Lock (lock mode.Minus (Lone (local (codes "A"))) None ∷ [])) ∷ cmd (Lock []) ∷ [])
     (reply.Done ∷ reply.Got ∷ reply.Got ∷ reply.Done ∷ reply.Done ∷ [])
-    ≡ between (ask.UnlockAll ∷ ask.Try (global_a1 ∷ []) None ∷ ask.Try (global_a ∷ []) None ∷ ask.Unlock (local_a ∷ []) ∷ ask.UnlockAll ∷ [])
+    ≡ between (ask.Shared shared_asks.UnlockAll ∷ ask.Shared (shared_asks.Try (global_a1 ∷ []) None) ∷ ask.Shared (shared_asks.Try (global_a ∷ []) None)
+    ∷ ask.Shared (shared_asks.Unlock (local_a ∷ [])) ∷ ask.Shared shared_asks.UnlockAll ∷ [])
 unfolding digits
 each_form = refl
 
@@ -131,33 +135,35 @@ each_form = refl
 lists : of_line (cmd (Lock (lock mode.Whole (Together (global (codes "A") ∷ local (codes "A") ∷ global (codes "A") ∷ [])) (Some (text "5"))
     ∷ lock mode.Minus (Together (local (codes "A") ∷ global (codes "A") ∷ [])) None ∷ [])) ∷ write (test ∷ []) ∷ [])
     (reply.Done ∷ reply.Got ∷ reply.Done ∷ reply.Done ∷ [])
-    ≡ between (ask.UnlockAll ∷ ask.Try (global_a ∷ local_a ∷ global_a ∷ []) (Some (pos 5)) ∷ ask.Unlock (local_a ∷ global_a ∷ []) ∷ wrote_test (codes "1") ∷ [])
+    ≡ between (ask.Shared shared_asks.UnlockAll ∷ ask.Shared (shared_asks.Try (global_a ∷ local_a ∷ global_a ∷ []) (Some (pos 5))) ∷ ask.Shared (shared_asks.Unlock (local_a ∷ global_a ∷ []))
+    ∷ wrote_test (codes "1") ∷ [])
 unfolding digits
 lists = refl
 
 --  LOCK A:0 WRITE $TEST LOCK +A:1 WRITE $TEST LOCK +A WRITE $TEST, of which the first comes late: the names are given up before that all the same
 late : of_line (cmd (Lock (lock mode.Plus (Lone (local (codes "A"))) (Some (text "1")) ∷ [])) ∷ write (test ∷ []) ∷ cmd (Lock (lock mode.Whole (Lone (local (codes "A"))) (Some (text "0")) ∷ [])) ∷ write (test ∷ []) ∷ cmd (Lock (lock mode.Plus (Lone (local (codes "A"))) None ∷ [])) ∷ write (test ∷ []) ∷ [])
     (reply.Got ∷ reply.Done ∷ reply.Done ∷ reply.Late ∷ reply.Done ∷ reply.Got ∷ reply.Done ∷ [])
-    ≡ between (ask.Try (local_a ∷ []) (Some (pos 1)) ∷ wrote_test (codes "1") ∷ ask.UnlockAll ∷ ask.Try (local_a ∷ []) (Some (pos 0)) ∷ wrote_test (codes "0") ∷ ask.Try (local_a ∷ []) None ∷ wrote_test (codes "0") ∷ [])
+    ≡ between (ask.Shared (shared_asks.Try (local_a ∷ []) (Some (pos 1))) ∷ wrote_test (codes "1") ∷ ask.Shared shared_asks.UnlockAll ∷ ask.Shared (shared_asks.Try (local_a ∷ []) (Some (pos 0)))
+    ∷ wrote_test (codes "0") ∷ ask.Shared (shared_asks.Try (local_a ∷ []) None) ∷ wrote_test (codes "0") ∷ [])
 unfolding digits
 late = refl
 
 --  LOCK -A:0 WRITE $TEST
 gives_in_time : of_line (cmd (Lock (lock mode.Minus (Lone (local (codes "A"))) (Some (text "0")) ∷ [])) ∷ write (test ∷ []) ∷ []) (reply.Done ∷ reply.Done ∷ [])
-    ≡ between (ask.Unlock (local_a ∷ []) ∷ wrote_test (codes "1") ∷ [])
+    ≡ between (ask.Shared (shared_asks.Unlock (local_a ∷ [])) ∷ wrote_test (codes "1") ∷ [])
 unfolding digits
 gives_in_time = refl
 
 --  LOCK +A, with too many names held
 too_many_names : of_line (cmd (Lock (lock mode.Plus (Lone (local (codes "A"))) None ∷ [])) ∷ []) (reply.Limit ∷ reply.Done ∷ [])
-    ≡ up_to (ask.Try (local_a ∷ []) None ∷ []) (codes "F18 LIMIT R:1") faults.Limit
+    ≡ up_to (ask.Shared (shared_asks.Try (local_a ∷ []) None) ∷ []) (codes "F18 LIMIT R:1") faults.Limit
 unfolding digits
 too_many_names = refl
 
 --  LOCK (A(^X),A("")):Y: each name is whole before the next one, and all before the timeout
 names_first : of_line (cmd (Lock (lock mode.Whole (Together (local_at (codes "A") (one (Value (global (codes "X")))) ∷ local_at (codes "A") (text "") ∷ [])) (Some (get "Y")) ∷ [])) ∷ [])
     (reply.Answer (answer.Value (Some (codes "1"))) ∷ reply.Done ∷ [])
-    ≡ up_to (ask.Access (access.Value (name (codes "X"))) ∷ []) (codes "F6 SUBSCRIPT R:1") faults.Subscript
+    ≡ up_to (ask.Shared (shared_asks.Access (access.Value (name (codes "X")))) ∷ []) (codes "F6 SUBSCRIPT R:1") faults.Subscript
 unfolding digits
 names_first = refl
 
@@ -171,23 +177,23 @@ timeout_before_asks = refl
 
 --  LOCK +A:1
 lock_turns : turns (line (cmd (Lock (lock mode.Plus (Lone (local (codes "A"))) (Some (text "1")) ∷ [])) ∷ []) ∷ []) 6
-    ≡ (More, Needs (ask.Try (local_a ∷ []) (Some (pos 1))) [] (spot 1 ∷ []))
+    ≡ (More, Needs (ask.Shared (shared_asks.Try (local_a ∷ []) (Some (pos 1)))) [] (spot 1 ∷ []))
 unfolding digits
 lock_turns = refl
 
 -- In a transaction: the first ask of a line, or of the fault that it leads to.
 
-abbrev in_transaction : List Step → List Ask
+abbrev in_transaction : List LineCommand → List Ask
 in_transaction steps =
     asked (points_of (image_of (("R", line steps ∷ []) ∷ [])) 40 (AtLine (record { routine = codes "R"; line = 1 }) (λ v. end None)) 40 no_restart
     (record (opening 1) { level = 1 }) [])
 
 abbrev intx : List Ask
-intx = ask.DeviceWrite principal (codes "F13 INTX -" ++ 10 ∷ []) ∷ []
+intx = ask.Device principal (device_asks.Write (codes "F13 INTX -" ++ 10 ∷ [])) ∷ []
 
 --  LOCK +A and LOCK -A
-counts_in_transaction : (in_transaction (cmd (Lock (lock mode.Plus (Lone (local (codes "A"))) None ∷ [])) ∷ []) ≡ ask.Try (local_a ∷ []) None ∷ [])
-    × (in_transaction (cmd (Lock (lock mode.Minus (Lone (local (codes "A"))) None ∷ [])) ∷ []) ≡ ask.Unlock (local_a ∷ []) ∷ [])
+counts_in_transaction : (in_transaction (cmd (Lock (lock mode.Plus (Lone (local (codes "A"))) None ∷ [])) ∷ []) ≡ ask.Shared (shared_asks.Try (local_a ∷ []) None) ∷ [])
+    × (in_transaction (cmd (Lock (lock mode.Minus (Lone (local (codes "A"))) None ∷ [])) ∷ []) ≡ ask.Shared (shared_asks.Unlock (local_a ∷ [])) ∷ [])
 unfolding digits
 counts_in_transaction = (refl, refl)
 
@@ -199,7 +205,8 @@ unfolding digits
 not_in_transaction = (refl, refl, refl)
 
 --  LOCK A("") and JOB A(Y): what is evaluated comes before that
-evaluated_first : (in_transaction (cmd (Lock (lock mode.Whole (Lone (local_at (codes "A") (text ""))) None ∷ [])) ∷ []) ≡ ask.DeviceWrite principal (codes "F6 SUBSCRIPT -" ++ 10 ∷ []) ∷ [])
-    × (in_transaction (cmd (Job (start_at (here "A") (Some (get "Y") ∷ []) None ∷ [])) ∷ []) ≡ ask.DeviceWrite principal (codes "F1 UNDEF -" ++ 10 ∷ []) ∷ [])
+evaluated_first : (in_transaction (cmd (Lock (lock mode.Whole (Lone (local_at (codes "A") (text ""))) None ∷ [])) ∷ []) ≡ ask.Device principal (device_asks.Write (codes "F6 SUBSCRIPT -" ++ 10 ∷ []))
+    ∷ [])
+    × (in_transaction (cmd (Job (start_at (here "A") (Some (get "Y") ∷ []) None ∷ [])) ∷ []) ≡ ask.Device principal (device_asks.Write (codes "F1 UNDEF -" ++ 10 ∷ [])) ∷ [])
 unfolding digits
 evaluated_first = (refl, refl)

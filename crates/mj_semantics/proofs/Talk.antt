@@ -2,6 +2,7 @@
 use Prim.Native.String.{String}
 use Rattle.std.specs.Prelude.{ℕ, zero, suc, List, [], ◌∷◌, ◌++◌, ◌-◌, Option, Some, None, true, false, map, codes, replicate}
 use Rattle.mj_ask.specs.declared.ask.Ask.TheVariants as ask_kinds
+use Rattle.mj_ask.specs.declared.ask.DeviceAsk.TheVariants as device_asks
 use Rattle.mj_ask.specs.declared.entry.Entry.{Entry}
 use Rattle.mj_ask.specs.declared.ask.Reply.TheVariants as reply_kinds
 use Rattle.mj_ast.specs.declared.function.Special.TheVariants.{Test}
@@ -9,9 +10,9 @@ use Rattle.mj_ast.specs.declared.function.NameFunction.TheVariants as names
 use Rattle.mj_ask.specs.declared.ask.Ask.{Ask}
 use Rattle.mj_ask.specs.declared.ask.Reply.{Reply}
 use Rattle.mj_subs.specs.Name.{Name}
-use Rattle.mj_ast.specs.declared.routine.Mark.{Mark}
+use Rattle.mj_ast.specs.declared.routine.FormatMark.{FormatMark}
 use Rattle.mj_ast.specs.declared.expr.Scope.TheVariants.{Local, Global}
-use Rattle.mj_ast.specs.Syntax.{Expr, Chain, Done, Operand, Literal, Value, Intrinsic, About, Variable, Var, No, More as Another, Targets, One, Plain, Assignment, Output, Shown, Format, Target, Called, Jumped, Command, Set, Write, Step, Line, Routine}
+use Rattle.mj_ast.specs.Syntax.{Expr, Chain, Done, Operand, Literal, Value, Intrinsic, About, Variable, Var, No, More as Another, Targets, One, Plain, Assignment, Output, Shown, Format, Target, Called, Jumped, Command, Set, Write, LineCommand, Line, Routine}
 use Rattle.mj_semantics.specs.Outcome.{Outcome, Needs, Ended, More, no_restart, end}
 use Rattle.mj_semantics.specs.State.{Frame, Place}
 use Rattle.mj_semantics.specs.Points.{AtLine}
@@ -40,13 +41,13 @@ abbrev pub asks : List Line → List Reply → List Ask
 asks lines replies =
     talk (next (record { name = codes "R"; lines = lines } ∷ []) (first_at (codes "R")) 1000) [] replies
 
-abbrev pub cmd : Command → Step
+abbrev pub cmd : Command → LineCommand
 cmd c = record { condition = None; command = c }
 
-abbrev pub cmd_if : Expr → Command → Step
+abbrev pub cmd_if : Expr → Command → LineCommand
 cmd_if e c = record { condition = Some e; command = c }
 
-abbrev pub line : List Step → Line
+abbrev pub line : List LineCommand → Line
 line steps = record { label = None; formals = []; level = 1; steps = steps }
 
 -- an operand alone
@@ -88,7 +89,7 @@ abbrev pub show : Operand → Output
 show x = Shown (one x)
 
 -- a format of marks alone
-abbrev pub marks : List Mark → Output
+abbrev pub marks : List FormatMark → Output
 marks list = Format (record { marks = list; column = None })
 
 -- Words to write routines with.
@@ -107,28 +108,28 @@ data_of v = one (About names.Data v No)
 abbrev pub test : Expr
 test = one (Intrinsic Test)
 
-abbrev pub write : List Expr → Step
+abbrev pub write : List Expr → LineCommand
 write es = cmd (Write (map Shown es))
 
 abbrev pub let_be : String → Expr → Assignment
 let_be w e = record { targets = to (local (codes w)); value = e }
 
-abbrev pub assign : List Assignment → Step
+abbrev pub assign : List Assignment → LineCommand
 assign list = cmd (Set list)
 
 -- a line with a label
-abbrev pub at : String → List Step → Line
+abbrev pub at : String → List LineCommand → Line
 at l steps = record { label = Some (codes l); formals = []; level = 1; steps = steps }
 
 -- a line with a label and formals
-abbrev pub with : String → List (List ℕ) → List Step → Line
+abbrev pub with : String → List (List ℕ) → List LineCommand → Line
 with l formals steps = record { label = Some (codes l); formals = formals; level = 1; steps = steps }
 
 -- a line of a level
-abbrev pub deep : ℕ → List Step → Line
+abbrev pub deep : ℕ → List LineCommand → Line
 deep level steps = record { label = None; formals = []; level = level; steps = steps }
 
-abbrev pub deep_at : ℕ → String → List Step → Line
+abbrev pub deep_at : ℕ → String → List LineCommand → Line
 deep_at level l steps = record { label = Some (codes l); formals = []; level = level; steps = steps }
 
 -- a label of the same routine
@@ -159,7 +160,7 @@ go_if e t = record { target = t; condition = Some e }
 
 -- the bytes that an ask writes
 abbrev written : Ask → List ℕ
-written (ask_kinds.DeviceWrite device bytes) = bytes
+written (ask_kinds.Device device (device_asks.Write bytes)) = bytes
 written _ = []
 
 -- what a job writes to its device, where it is over after at most so many asks, to each of which the reply is that it is done

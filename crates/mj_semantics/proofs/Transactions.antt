@@ -8,6 +8,8 @@ use Rattle.mj_store.specs.declared.access.Answer.TheVariants as answer
 use Rattle.mj_ask.specs.declared.ask.Kind.TheVariants as kind
 use Rattle.mj_ask.specs.declared.ask.Ask.{Ask}
 use Rattle.mj_ask.specs.declared.ask.Ask.TheVariants as ask
+use Rattle.mj_ask.specs.declared.ask.SharedAsk.TheVariants as shared_asks
+use Rattle.mj_ask.specs.declared.ask.DeviceAsk.TheVariants as device_asks
 use Rattle.mj_ask.specs.declared.ask.Reply.{Reply}
 use Rattle.mj_ask.specs.declared.ask.Reply.TheVariants as reply
 use Rattle.mj_ask.specs.declared.clash.Kept.TheVariants as kept
@@ -16,7 +18,7 @@ use Rattle.mj_oper.specs.declared.op.TruthOp.TheVariants.{Equal, Less}
 use Rattle.mj_ast.specs.declared.function.Special.TheVariants as special
 use Rattle.mj_ast.specs.declared.routine.LockMode.TheVariants as mode
 use Rattle.mj_ast.specs.declared.routine.Serial.TheVariants as serial
-use Rattle.mj_ast.specs.Syntax.{Expr, Chain, Tails, Done, Then, Operand, Literal, Value, Intrinsic, Lone, UpTo, Fresh, Shown, Write as Writing, Restored, Alone, Listed, Everything, Set, Halt, Job, Lock, If, For, Forever, Do, Goto, Quit, New, TStart, TCommit, TRestart, TRollback, Break, Step, Line}
+use Rattle.mj_ast.specs.Syntax.{Expr, Chain, Tails, Done, Then, Operand, Literal, Value, Intrinsic, Lone, UpTo, Fresh, Shown, Write as Writing, Restored, Alone, Listed, Everything, Set, Halt, Job, Lock, If, For, Forever, Do, Goto, Quit, New, TStart, TCommit, TRestart, TRollback, Break, LineCommand, Line}
 use Rattle.mj_semantics.specs.State.{Locals, principal, plain_name}
 use Rattle.mj_semantics.specs.Outcome.{Outcome, Needs, More}
 use Rattle.mj_semantics.specs.Job.{next}
@@ -28,31 +30,31 @@ of_lines lines replies = asks lines (reply.Done ∷ replies ++ replicate 3 reply
 
 -- the asks of a job that asks these, and is then over
 abbrev between : List Ask → List Ask
-between list = ask.DeviceBegin principal ∷ list ++ ask.DeviceEnd principal ∷ ask.Halt None ∷ []
+between list = ask.Device principal device_asks.Begin ∷ list ++ ask.Device principal device_asks.End ∷ ask.Shared (shared_asks.Halt None) ∷ []
 
 -- what a job writes that comes to a fault
 abbrev faulty : String → Option (List ℕ)
 faulty t = Some (codes t ++ 10 ∷ [])
 
 -- commands of transactions
-abbrev tstart : Step
+abbrev tstart : LineCommand
 tstart = cmd (TStart None)
 
-abbrev tcommit : Step
+abbrev tcommit : LineCommand
 tcommit = cmd TCommit
 
-abbrev trollback : Step
+abbrev trollback : LineCommand
 trollback = cmd TRollback
 
-abbrev trestart : Step
+abbrev trestart : LineCommand
 trestart = cmd TRestart
 
 -- TSTART of locals that a restart restores
-abbrev restoring : Restored → Step
+abbrev restoring : Restored → LineCommand
 restoring r = cmd (TStart (Some (record { restored = r; serial = serial.No })))
 
 -- the same, SERIAL
-abbrev serially : Restored → Step
+abbrev serially : Restored → LineCommand
 serially r = cmd (TStart (Some (record { restored = r; serial = serial.Bare })))
 
 -- without locals, and with X
@@ -67,7 +69,7 @@ abbrev restarts_below : String → Expr
 restarts_below t = Chain (Intrinsic special.TRestart) (Then (Is Less) (Literal (codes t)) Done)
 
 -- TRESTART:$TRESTART<1
-abbrev once_more : Step
+abbrev once_more : LineCommand
 once_more = cmd_if (restarts_below "1") TRestart
 
 abbrev level : Expr
@@ -86,13 +88,13 @@ with_blank [] = Then Join (Literal (codes " ")) Done
 with_blank (x ∷ xs) = Then Join x (with_blank xs)
 
 abbrev wrote : String → Ask
-wrote t = ask.DeviceWrite principal (codes t)
+wrote t = ask.Device principal (device_asks.Write (codes t))
 
 abbrev set_a : String → Ask
-set_a t = ask.Access (access.Set (name (codes "A")) (codes t))
+set_a t = ask.Shared (shared_asks.Access (access.Set (name (codes "A")) (codes t)))
 
 abbrev value_a : Ask
-value_a = ask.Access (access.Value (name (codes "A")))
+value_a = ask.Shared (shared_asks.Access (access.Value (name (codes "A"))))
 
 abbrev told : String → Reply
 told t = reply.Answer (answer.Value (Some (codes t)))
@@ -106,7 +108,7 @@ done = reply.Answer answer.Done
 rolls_back : of_lines (line (cmd (Set (let_be "X" (text "1") ∷ set (to (global (codes "A"))) (text "1") ∷ [])) ∷ tstart ∷
     cmd (Set (let_be "X" (text "2") ∷ set (to (global (codes "A"))) (text "2") ∷ [])) ∷ trollback ∷ write (get "X" ∷ one (Value (global (codes "A"))) ∷ []) ∷ []) ∷ [])
     (done ∷ reply.Done ∷ done ∷ reply.Done ∷ reply.Done ∷ told "1" ∷ reply.Done ∷ [])
-    ≡ between (set_a "1" ∷ ask.Begin kind.Plain ∷ set_a "2" ∷ ask.Rollback ∷ wrote "2" ∷ value_a ∷ wrote "1" ∷ [])
+    ≡ between (set_a "1" ∷ ask.Shared (shared_asks.Begin kind.Plain) ∷ set_a "2" ∷ ask.Shared shared_asks.Rollback ∷ wrote "2" ∷ value_a ∷ wrote "1" ∷ [])
 unfolding digits
 rolls_back = refl
 
@@ -122,7 +124,8 @@ unfolding digits
 restarts_twice = refl
 
 asks_of_restarts : of_lines twice_more (replicate 9 reply.Done)
-    ≡ between (ask.Begin kind.Serial ∷ ask.Rollback ∷ ask.Begin kind.Serial ∷ ask.Rollback ∷ ask.Begin kind.Serial ∷ ask.Commit ∷ wrote "1" ∷ wrote " " ∷ wrote "0" ∷ [])
+    ≡ between (ask.Shared (shared_asks.Begin kind.Serial) ∷ ask.Shared shared_asks.Rollback ∷ ask.Shared (shared_asks.Begin kind.Serial) ∷ (ask.Shared shared_asks.Rollback)
+    ∷ ask.Shared (shared_asks.Begin kind.Serial) ∷ ask.Shared shared_asks.Commit ∷ wrote "1" ∷ wrote " " ∷ wrote "0" ∷ [])
 unfolding digits
 asks_of_restarts = refl
 
@@ -131,25 +134,26 @@ clashes : of_lines (line (serially nothing ∷ []) ∷
     line (cmd (Set (let_be "X" (one (Value (global (codes "A")))) ∷ set (to (global (codes "A"))) (plus_one "X") ∷ [])) ∷ []) ∷
     line (tcommit ∷ []) ∷ [])
     (reply.Done ∷ told "5" ∷ done ∷ reply.Clash (record { place = 1; then = kept.Text (codes "5"); now = kept.Text (codes "6") }) ∷ reply.Done ∷ told "6" ∷ done ∷ reply.Done ∷ [])
-    ≡ between (ask.Begin kind.Serial ∷ value_a ∷ set_a "6" ∷ ask.Commit ∷ ask.Begin kind.Serial ∷ value_a ∷ set_a "7" ∷ ask.Commit ∷ [])
+    ≡ between (ask.Shared (shared_asks.Begin kind.Serial) ∷ value_a ∷ set_a "6" ∷ ask.Shared shared_asks.Commit ∷ ask.Shared (shared_asks.Begin kind.Serial) ∷ value_a ∷ set_a "7"
+    ∷ ask.Shared shared_asks.Commit ∷ [])
 unfolding digits
 clashes = refl
 
 --  TSTART  TSTART *:(S) TCOMMIT  WRITE $TLEVEL TCOMMIT  WRITE $TLEVEL: an inner one asks nothing
 inner_levels : of_lines (line (tstart ∷ cmd (TStart (Some (record { restored = Everything; serial = serial.Enclosed }))) ∷ tcommit ∷ write (level ∷ []) ∷ tcommit ∷ write (level ∷ []) ∷ []) ∷ []) (replicate 4 reply.Done)
-    ≡ between (ask.Begin kind.Plain ∷ wrote "1" ∷ ask.Commit ∷ wrote "0" ∷ [])
+    ≡ between (ask.Shared (shared_asks.Begin kind.Plain) ∷ wrote "1" ∷ ask.Shared shared_asks.Commit ∷ wrote "0" ∷ [])
 unfolding digits
 inner_levels = refl
 
 --  TSTART  TSTART  TROLLBACK  WRITE $TLEVEL: all levels are rolled back
 all_levels : of_lines (line (tstart ∷ tstart ∷ trollback ∷ write (level ∷ []) ∷ []) ∷ []) (replicate 3 reply.Done)
-    ≡ between (ask.Begin kind.Plain ∷ ask.Rollback ∷ wrote "0" ∷ [])
+    ≡ between (ask.Shared (shared_asks.Begin kind.Plain) ∷ ask.Shared shared_asks.Rollback ∷ wrote "0" ∷ [])
 unfolding digits
 all_levels = refl
 
 --  TSTART:0  TSTART  HALT: a halt is asked as ever
 halts : of_lines (line (cmd_if (text "0") (TStart None) ∷ tstart ∷ cmd Halt ∷ []) ∷ []) (replicate 3 reply.Done)
-    ≡ between (ask.Begin kind.Plain ∷ [])
+    ≡ between (ask.Shared (shared_asks.Begin kind.Plain) ∷ [])
 halts = refl
 
 -- how a job stops that starts at the first line of R, within so many turns, told that these are done
@@ -164,7 +168,7 @@ abbrev out_of_a_call : List Line
 out_of_a_call = line (assign (let_be "X" (text "1") ∷ []) ∷ restoring (Alone (codes "X")) ∷ assign (let_be "X" (text "2") ∷ []) ∷ cmd (Do (do_it (here "A") [] ∷ [])) ∷ []) ∷
     line (cmd Quit ∷ []) ∷ at "A" (trestart ∷ []) ∷ []
 
-begins_before_it_restores : stops out_of_a_call 400 3 ≡ Needs (ask.Begin kind.Plain) (x_is "2") (spot 3 ∷ spot 1 ∷ [])
+begins_before_it_restores : stops out_of_a_call 400 3 ≡ Needs (ask.Shared (shared_asks.Begin kind.Plain)) (x_is "2") (spot 3 ∷ spot 1 ∷ [])
 unfolding digits
 begins_before_it_restores = refl
 
@@ -286,20 +290,20 @@ too_many = refl
 
 --  TSTART (X,Y)
 list_turns : turns (line (restoring (Listed (codes "X" ∷ codes "Y" ∷ [])) ∷ []) ∷ []) 5
-    ≡ (More, Needs (ask.Begin kind.Plain) [] (spot 1 ∷ []))
+    ≡ (More, Needs (ask.Shared (shared_asks.Begin kind.Plain)) [] (spot 1 ∷ []))
 list_turns = refl
 
 --  TSTART () TRESTART
 abbrev again_and_again : List Line
 again_and_again = line (restoring nothing ∷ trestart ∷ []) ∷ []
 
-restart_turns : (stops again_and_again 4 2 ≡ More) × (stops again_and_again 5 2 ≡ Needs ask.Rollback [] (spot 1 ∷ []))
-    × (stops again_and_again 5 3 ≡ More) × (stops again_and_again 6 3 ≡ Needs (ask.Begin kind.Plain) [] (spot 1 ∷ []))
-    × (stops again_and_again 7 4 ≡ More) × (stops again_and_again 8 4 ≡ Needs ask.Rollback [] (spot 1 ∷ []))
+restart_turns : (stops again_and_again 4 2 ≡ More) × (stops again_and_again 5 2 ≡ Needs (ask.Shared shared_asks.Rollback) [] (spot 1 ∷ []))
+    × (stops again_and_again 5 3 ≡ More) × (stops again_and_again 6 3 ≡ Needs (ask.Shared (shared_asks.Begin kind.Plain)) [] (spot 1 ∷ []))
+    × (stops again_and_again 7 4 ≡ More) × (stops again_and_again 8 4 ≡ Needs (ask.Shared shared_asks.Rollback) [] (spot 1 ∷ []))
 restart_turns = (refl, refl, refl, refl, refl, refl)
 
 --  TSTART  TSTART  TROLLBACK: an inner one has no turn behind it
-inner_turns : (stops (line (tstart ∷ tstart ∷ trollback ∷ []) ∷ []) 5 2 ≡ More) × (stops (line (tstart ∷ tstart ∷ trollback ∷ []) ∷ []) 6 2 ≡ Needs ask.Rollback [] (spot 1 ∷ []))
+inner_turns : (stops (line (tstart ∷ tstart ∷ trollback ∷ []) ∷ []) 5 2 ≡ More) × (stops (line (tstart ∷ tstart ∷ trollback ∷ []) ∷ []) 6 2 ≡ Needs (ask.Shared shared_asks.Rollback) [] (spot 1 ∷ []))
 inner_turns = (refl, refl)
 
 -- BREAK.

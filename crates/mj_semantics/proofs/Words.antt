@@ -15,27 +15,28 @@ use Rattle.mj_store.specs.declared.access.Access.TheVariants as accesses
 use Rattle.mj_store.specs.declared.access.Answer.{Answer}
 use Rattle.mj_ask.specs.declared.ask.Ask.{Ask}
 use Rattle.mj_ask.specs.declared.ask.Ask.TheVariants as ask_kinds
+use Rattle.mj_ask.specs.declared.ask.DeviceAsk.{DeviceAsk}
 use Rattle.mj_ask.specs.declared.ask.Reply.{Reply}
 use Rattle.mj_ask.specs.declared.entry.Entry.{Entry}
 use Rattle.mj_ask.specs.Fits.{is_late}
 use Rattle.mj_ast.specs.declared.routine.LockMode.{LockMode}
 use Rattle.mj_ast.specs.declared.routine.LockMode.TheVariants as mode
-use Rattle.mj_ast.specs.declared.routine.Mark.{Mark}
+use Rattle.mj_ast.specs.declared.routine.FormatMark.{FormatMark}
 use Rattle.mj_ast.specs.declared.routine.ReadMode.{ReadMode}
 use Rattle.mj_ast.specs.declared.function.NameFunction.{NameFunction}
 use Rattle.mj_ast.specs.Syntax.{Renewed, Fresh, Kept}
 use Rattle.mj_strfn.specs.Functions.{assigned_pieces, set_piece_value}
-use Rattle.mj_semantics.specs.State.{State, Words as Listed, Only, AllBut, accessed, wrote, broke, counted, hold, column_at, has_failed, principal, devices_limit, ending_order, is_open, may_close, with_device, used, dropped, is_at_mark, newed, marked, raised, lowered, settled, can_restart, is_serial, restarted}
+use Rattle.mj_semantics.specs.State.{State, Words as Listed, Only, AllBut, accessed, wrote, broke, counted, hold, column_at, has_failed, principal, devices_limit, ending_order, is_open, may_close, with_device, used, dropped, is_at_mark, newed, marked, raised, lowered, settled, can_restart, restarted}
 use Rattle.mj_semantics.specs.Outcome.{Outcome, More, Handler, Timed, turn, turns, look, change, asking, over, no_restart, until, restartable, go_back, halt, ends, end, fault, steps_limit, ask, tell, is_failed, to_device, need, given}
-use Rattle.mj_semantics.specs.Names.{spelled, asks, question, told}
+use Rattle.mj_semantics.specs.Names.{spelled, asks, question, function_told}
 use Rattle.mj_semantics.specs.Functions.{needed, optional}
 use Rattle.mj_semantics.specs.Accesses.{answer_told, answered, access, value_told, nodes_told}
 use Rattle.mj_semantics.specs.Evaluation.{read, about}
 use Rattle.mj_semantics.specs.Points.{Loop, Once, Always, By}
 use Rattle.mj_semantics.specs.Sharing.{is_limit, in_time, served, out_of_transaction, hang, start_job, unlock_all, take_names, give_names, lock}
-use Rattle.mj_semantics.specs.Devices.{is_got, has_no_session, obtain, open_device, use_device, close, is_input, input_ask, input_told, read_input}
-use Rattle.mj_semantics.specs.Transactions.{levels_limit, kind_of, begin_transaction, in_transaction, is_clash, commit, roll_back, give_back, begin_again}
-use Rattle.mj_semantics.specs.Commands.{Aim, Whole, Part, store, or_empty, renewed, renew, put, put_all, remove, named, take_nodes, put_these, put_nodes, renewal, new_list, new_all, frames_limit, quit_frame, deeper, write, tab_bytes, tab, coded, write_code, if_test, is_within, stepped, again, first, reading_two}
+use Rattle.mj_semantics.specs.Devices.{is_got, has_no_session, request_device, open_device, use_device, close, is_input, input_told, read_input}
+use Rattle.mj_semantics.specs.Transactions.{levels_limit, begin_transaction, in_transaction, is_clash, commit, roll_back, roll_back_for_restart, begin_restart}
+use Rattle.mj_semantics.specs.Commands.{Aim, Whole, Part, store, or_empty, renewed, assign_piece, put, put_all, remove, named, take_nodes, put_these, put_nodes, renewal, new_list, new_all, frames_limit, quit_frame, deeper, write, tab_bytes, tab, coded, write_code, if_test, is_within, stepped, for_again, first, reading_two}
 
 -- what a run comes to with more turns, beside what it comes to with some: the same, or these were used up
 pub data Stays (o : Outcome) : Outcome → Type 0 where
@@ -124,8 +125,9 @@ asked a l = looked (λ s. chosen (nat_lt s.replied steps_limit) (replied_to (λ 
 pub told_of : {more b : ℕ} (a : Ask) {f g : Timed} → Keeps more b f g → Keeps more b (tell a f) (tell a g)
 told_of a l = asked a (λ r. l)
 
-pub to_its_device : {more b : ℕ} (name : List ℕ) (a : Ask) {f g : Reply → Timed} → ((r : Reply) → Keeps more b (f r) (g r)) → Keeps more b (to_device name a f) (to_device name a g)
-to_its_device name a l = asked a (λ r. chosen (is_failed r) (changed {c = broke name} faulted) (l r))
+pub to_its_device : {more b : ℕ} (name : List ℕ) (a : DeviceAsk) {f g : Reply → Timed} → ((r : Reply) → Keeps more b (f r) (g r))
+    → Keeps more b (to_device name a f) (to_device name a g)
+to_its_device name a l = asked (ask_kinds.Device name a) (λ r. chosen (is_failed r) (changed {c = broke name} faulted) (l r))
 
 -- Restarts.
 
@@ -157,7 +159,7 @@ restarts {more} {b} {f} {g} l l' = record { by = λ n q lt le up h k e s rs. l'.
 
 pub accesses_keep : {more b : ℕ} (a : Access) {f g : Answer → Timed} → ((x : Answer) → Keeps more b (f x) (g x)) → Keeps more b (access a f) (access a g)
 accesses_keep a l =
-    chosen (name_of a).global (asked (ask_kinds.Access a) (λ r. is_given (answered (answer_told r)) l))
+    chosen (name_of a).global (asked _ (λ r. is_given (answered (answer_told r)) l))
     (looked (λ s. changed {c = accessed a} (is_given (answered (answer_of a s.locals)) l)))
 
 pub reads : {more b : ℕ} (x : Name) {f g : List ℕ → Timed} → ((v : List ℕ) → Keeps more b (f v) (g v)) → Keeps more b (read x f) (read x g)
@@ -165,7 +167,7 @@ reads x l = accesses_keep (accesses.Value x) (λ a. needs Undefined (value_told 
 
 pub is_about : {more b : ℕ} (k : NameFunction) (x : Name) (o : Option (List ℕ)) {f g : List ℕ → Timed} → ((v : List ℕ) → Keeps more b (f v) (g v)) → Keeps more b (about k x o f) (about k x o g)
 is_about k x o l =
-    chosen (asks k) (is_given (question k x o) (λ a. accesses_keep a (λ r. is_given (told k o r) l))) (is_given (spelled x) l)
+    chosen (asks k) (is_given (question k x o) (λ a. accesses_keep a (λ r. is_given (function_told k o r) l))) (is_given (spelled x) l)
 
 -- Commands.
 
@@ -176,7 +178,7 @@ renews_pieces : {more b : ℕ} (x : Name) (d : List ℕ) (range : ℕ × ℕ) (e
 renews_pieces x d range e l = accesses_keep (accesses.Value x) (λ a. is_given (set_piece_value (or_empty (value_told a)) d range e) l)
 
 pub renews : {more b : ℕ} (x : Name) (ts : List (List ℕ)) (e : List ℕ) {f f' : Timed} {g g' : List ℕ → Timed} → Keeps more b f f' → ((v : List ℕ) → Keeps more b (g v) (g' v))
-    → Keeps more b (renew x ts e f g) (renew x ts e f' g')
+    → Keeps more b (assign_piece x ts e f g) (assign_piece x ts e f' g')
 renews {more} {b} x ts e {f} {f'} {g} {g'} skipped l = is_given (assigned_pieces (needed 0 ts) (optional 1 ts) (optional 2 ts)) at
   where
     at : (range : Option (ℕ × ℕ)) → Keeps more b (elim range [ None ↦ f | Some r ↦ renewed x (needed 0 ts) r e g ]) (elim range [ None ↦ f' | Some r ↦ renewed x (needed 0 ts) r e g' ])
@@ -229,9 +231,9 @@ goes_deeper l = looked (λ s. chosen (nat_lt (length s.frames) frames_limit) l f
 pub writes : {more b : ℕ} (bytes : List ℕ) {f g : Timed} → Keeps more b f g → Keeps more b (write bytes f) (write bytes g)
 writes [] l = l
 writes (x ∷ bytes) l =
-    chosen (nat_lt TEXT_LIMIT (length (x ∷ bytes))) faulted (looked (λ s. to_its_device s.current (ask_kinds.DeviceWrite s.current (x ∷ bytes)) (λ r. changed {c = wrote (x ∷ bytes)} l)))
+    chosen (nat_lt TEXT_LIMIT (length (x ∷ bytes))) faulted (looked (λ s. to_its_device s.current _ (λ r. changed {c = wrote (x ∷ bytes)} l)))
 
-pub tabs : {more b : ℕ} (marks : List Mark) (v : List ℕ) {f g : Timed} → Keeps more b f g → Keeps more b (tab marks v f) (tab marks v g)
+pub tabs : {more b : ℕ} (marks : List FormatMark) (v : List ℕ) {f g : Timed} → Keeps more b f g → Keeps more b (tab marks v f) (tab marks v g)
 tabs marks v l = is_given (reading v) (λ n. looked (λ s. writes (tab_bytes marks n (column_at s.current s)) l))
 
 pub writes_code : {more b : ℕ} (v : List ℕ) {f g : Timed} → Keeps more b f g → Keeps more b (write_code v f) (write_code v g)
@@ -245,7 +247,7 @@ steps_on : {more b : ℕ} (x : Name) (step : ℤ) (end : Option ℤ) (i : ℤ) {
 steps_on x step None i l m = is_given (sum_of i step) (λ j. stores x (canonic_text j) m)
 steps_on x step (Some end) i l m = chosen (is_within step end (i +ℤ step)) (stores x (canonic_text (i +ℤ step)) m) l
 
-pub goes_again : {more b : ℕ} (loop : Loop) {f g f' g' : Timed} → Keeps more b f g → Keeps more b f' g' → Keeps more b (again loop f f') (again loop g g')
+pub goes_again : {more b : ℕ} (loop : Loop) {f g f' g' : Timed} → Keeps more b f g → Keeps more b f' g' → Keeps more b (for_again loop f f') (for_again loop g g')
 goes_again Once l m = l
 goes_again Always l m = m
 goes_again (By x step end) l m =
@@ -267,21 +269,21 @@ out_of : {more b : ℕ} {f g : Timed} → Keeps more b f g → Keeps more b (out
 out_of l = looked (λ s. chosen (nat_lt 0 s.level) faulted l)
 
 pub hangs : {more b : ℕ} (v : List ℕ) {f g : Timed} → Keeps more b f g → Keeps more b (hang v f) (hang v g)
-hangs v l = is_given (reading v) (λ n. chosen (int_lt (pos 0) n) (told_of (ask_kinds.Rest n) l) l)
+hangs v l = is_given (reading v) (λ n. chosen (int_lt (pos 0) n) (told_of _ l) l)
 
 pub starts_job : {more b : ℕ} (entry : Entry) (vs : List (Option (List ℕ))) (timeout : Option ℤ) {f g : Timed} → Keeps more b f g → Keeps more b (start_job entry vs timeout f) (start_job entry vs timeout g)
-starts_job entry vs timeout l = out_of (asked (ask_kinds.Start (record { entry = entry; values = vs }) timeout) (λ r. serves timeout r l))
+starts_job entry vs timeout l = out_of (asked _ (λ r. serves timeout r l))
 
 pub unlocks_all : {more b : ℕ} {f g : Timed} → Keeps more b f g → Keeps more b (unlock_all f) (unlock_all g)
-unlocks_all l = out_of (asked ask_kinds.UnlockAll (λ r. serves None r l))
+unlocks_all l = out_of (asked _ (λ r. serves None r l))
 
 takes_names : {more b : ℕ} (xs : List Name) (timeout : Option ℤ) {f g : Timed} → Keeps more b f g → Keeps more b (take_names xs timeout f) (take_names xs timeout g)
 takes_names [] timeout l = l
-takes_names (x ∷ xs) timeout l = asked (ask_kinds.Try (x ∷ xs) timeout) (λ r. serves timeout r l)
+takes_names (x ∷ xs) timeout l = asked _ (λ r. serves timeout r l)
 
 gives_names : {more b : ℕ} (xs : List Name) (timeout : Option ℤ) {f g : Timed} → Keeps more b f g → Keeps more b (give_names xs timeout f) (give_names xs timeout g)
 gives_names [] timeout l = l
-gives_names (x ∷ xs) timeout l = asked (ask_kinds.Unlock (x ∷ xs)) (λ r. serves timeout r l)
+gives_names (x ∷ xs) timeout l = asked _ (λ r. serves timeout r l)
 
 pub locks : {more b : ℕ} (m : LockMode) (xs : List Name) (timeout : Option ℤ) {f g : Timed} → Keeps more b f g → Keeps more b (lock m xs timeout f) (lock m xs timeout g)
 locks mode.Whole xs timeout l = a_turn (unlocks_all (a_turn (takes_names xs timeout l)))
@@ -290,16 +292,16 @@ locks mode.Minus xs timeout l = a_turn (gives_names xs timeout l)
 
 -- OPEN, USE, CLOSE and READ.
 
-obtains : {more b : ℕ} (name : List ℕ) (timeout : Option ℤ) {f g f' g' : Timed} → Keeps more b f g → Keeps more b f' g' → Keeps more b (obtain name timeout f f') (obtain name timeout g g')
+obtains : {more b : ℕ} (name : List ℕ) (timeout : Option ℤ) {f g f' g' : Timed} → Keeps more b f g → Keeps more b f' g' → Keeps more b (request_device name timeout f f') (request_device name timeout g g')
 obtains name timeout l m = looked (λ s.
     chosen (is_open name s) (changed {c = in_time timeout true} l)
     (chosen (nat_lt devices_limit (length s.devices)) faulted
-    (asked (ask_kinds.Open name timeout) (λ r.
+    (asked _ (λ r.
     chosen (has_no_session r) faulted
     (chosen (is_got r) (changed {c = in_time timeout true} (changed {c = with_device name} m)) (changed {c = in_time timeout false} l))))))
 
 pub opens : {more b : ℕ} (name : List ℕ) (timeout : Option ℤ) {f g : Timed} → Keeps more b f g → Keeps more b (open_device name timeout f) (open_device name timeout g)
-opens name timeout l = obtains name timeout l (a_turn (to_its_device name (ask_kinds.DeviceBegin name) (λ r. l)))
+opens name timeout l = obtains name timeout l (a_turn (to_its_device name _ (λ r. l)))
 
 pub uses : {more b : ℕ} (name : List ℕ) {f g : Timed} → Keeps more b f g → Keeps more b (use_device name f) (use_device name g)
 uses name l = looked (λ s. chosen (is_open name s) (changed {c = used name} l) faulted)
@@ -307,20 +309,20 @@ uses name l = looked (λ s. chosen (is_open name s) (changed {c = used name} l) 
 pub closes : {more b : ℕ} (name : List ℕ) {f g : Timed} → Keeps more b f g → Keeps more b (close name f) (close name g)
 closes name l = looked (λ s.
     chosen (may_close name s)
-    (asked (ask_kinds.DeviceEnd name) (λ r. changed {c = dropped name}
-    (chosen (is_failed r) (a_turn (told_of (ask_kinds.Close name) faulted)) (a_turn (told_of (ask_kinds.Close name) l)))))
+    (asked _ (λ r. changed {c = dropped name}
+    (chosen (is_failed r) (a_turn (told_of _ faulted)) (a_turn (told_of _ l)))))
     l)
 
 pub reads_input : {more b : ℕ} (m : ReadMode) (timeout : Option ℤ) {f g : List ℕ → Timed} → ((v : List ℕ) → Keeps more b (f v) (g v)) → Keeps more b (read_input m timeout f) (read_input m timeout g)
 reads_input m timeout l = looked (λ s.
-    to_its_device s.current (input_ask m s.current timeout) (λ r. changed {c = in_time timeout (is_input r)} (l (input_told m r))))
+    to_its_device s.current _ (λ r. changed {c = in_time timeout (is_input r)} (l (input_told m r))))
 
 -- Transactions.
 
 pub begins_transaction : {more b : ℕ} (o : Option Listed) (serial : Bool) {f g f' g' : Timed} → Keeps more b f g → Keeps more b f' g'
     → Keeps more b (begin_transaction o serial f f') (begin_transaction o serial g g')
 begins_transaction o serial l m = looked (λ s.
-    chosen (nat_eq s.level 0) (asked (ask_kinds.Begin (kind_of serial)) (λ r. changed {c = marked o serial} m))
+    chosen (nat_eq s.level 0) (asked _ (λ r. changed {c = marked o serial} m))
     (chosen (nat_lt s.level levels_limit) (changed {c = raised} l) faulted))
 
 within : {more b : ℕ} {f g : Timed} → Keeps more b f g → Keeps more b (in_transaction f) (in_transaction g)
@@ -329,13 +331,13 @@ within l = looked (λ s. chosen (nat_eq s.level 0) faulted l)
 pub commits : {more b : ℕ} {f g f' g' : Timed} → Keeps more b f g → Keeps more b f' g' → Keeps more b (commit f f') (commit g g')
 commits l m = within (looked (λ s.
     chosen (nat_lt 1 s.level) (changed {c = lowered} m)
-    (asked ask_kinds.Commit (λ r. chosen (is_clash r) l (changed {c = settled} m)))))
+    (asked _ (λ r. chosen (is_clash r) l (changed {c = settled} m)))))
 
 pub rolls_back : {more b : ℕ} {f g : Timed} → Keeps more b f g → Keeps more b (roll_back f) (roll_back g)
-rolls_back l = within (asked ask_kinds.Rollback (λ r. changed {c = settled} l))
+rolls_back l = within (asked _ (λ r. changed {c = settled} l))
 
-pub gives_back : {more b : ℕ} {f g : Timed} → Keeps more b f g → Keeps more b (give_back f) (give_back g)
-gives_back l = within (looked (λ s. chosen (can_restart s) (asked ask_kinds.Rollback (λ r. l)) faulted))
+pub gives_back : {more b : ℕ} {f g : Timed} → Keeps more b f g → Keeps more b (roll_back_for_restart f) (roll_back_for_restart g)
+gives_back l = within (looked (λ s. chosen (can_restart s) (asked _ (λ r. l)) faulted))
 
-pub begins_again : {more b : ℕ} → Keeps more b begin_again begin_again
-begins_again = looked (λ s. asked (ask_kinds.Begin (kind_of (is_serial s))) (λ r. changed {c = restarted} gone_back))
+pub begins_again : {more b : ℕ} → Keeps more b begin_restart begin_restart
+begins_again = looked (λ s. asked _ (λ r. changed {c = restarted} gone_back))

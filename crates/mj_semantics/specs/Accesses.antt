@@ -9,6 +9,7 @@ use Rattle.mj_store.specs.declared.access.Access.{Access}
 use Rattle.mj_store.specs.declared.access.Answer.{Answer}
 use Rattle.mj_store.specs.declared.access.Answer.TheVariants as answers
 use Rattle.mj_ask.specs.declared.ask.Ask.TheVariants as asks
+use Rattle.mj_ask.specs.declared.ask.SharedAsk.TheVariants as shared_asks
 use Rattle.mj_ask.specs.declared.ask.Reply.{Reply}
 use Rattle.mj_ask.specs.declared.ask.Reply.TheVariants as replies
 use Rattle.mj_semantics.specs.State.{accessed}
@@ -33,7 +34,7 @@ answered answers.Done = Ok answers.Done
 abbrev pub access : Access → (Answer → Timed) → Timed
 access a rest =
     if (name_of a).global
-    then ask (asks.Access a) (λ r. given (answered (answer_told r)) rest)
+    then ask (asks.Shared (shared_asks.Access a)) (λ r. given (answered (answer_told r)) rest)
     else look (λ s. change (accessed a) (given (answered (answer_of a s.locals)) rest))
 
 -- whether there is a value, and descendants, as an answer brings it: 0, 1, 10 or 11

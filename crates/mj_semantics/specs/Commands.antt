@@ -8,12 +8,12 @@ use Rattle.mj_oper.specs.Operators.{truth_value}
 use Rattle.mj_subs.specs.Name.{Name, overlaps}
 use Rattle.mj_store.specs.Questions.{Subtree}
 use Rattle.mj_store.specs.declared.access.Access.TheVariants as accesses
-use Rattle.mj_ask.specs.declared.ask.Ask.TheVariants as asks
-use Rattle.mj_ast.specs.declared.routine.Mark.{Mark}
-use Rattle.mj_ast.specs.declared.routine.Mark.TheVariants.{NewLine, NewPage}
-use Rattle.mj_ast.specs.Syntax.{Expr, Chain, Done, Literal, Destination, Plain, Pieces, Targets, One, Several, Assignment, Killed, Gone, Spared, Merged, Output, Shown, Format, Coded, Called, Jumped, Started, LockNames, Lone, Together, Locked, Opened, Received, Input, Prompted, Arranged, Into, Range, Single, Endless, UpTo, Renewed, Fresh, Kept, Variable, Command, Set, Write, Halt, Hang, Job, Lock, OpenDevice, UseDevice, CloseDevice, Read, Kill, Merge, If, Else, For, Forever, Do, Goto, Quit, New, Restartable, TStart, TCommit, TRestart, TRollback, Break, Step}
+use Rattle.mj_ask.specs.declared.ask.DeviceAsk.TheVariants as device_asks
+use Rattle.mj_ast.specs.declared.routine.FormatMark.{FormatMark}
+use Rattle.mj_ast.specs.declared.routine.FormatMark.TheVariants.{NewLine, NewPage}
+use Rattle.mj_ast.specs.Syntax.{Expr, Chain, Done, Literal, Destination, Plain, Pieces, Targets, One, Several, Assignment, Killed, Gone, Spared, Merged, Output, Shown, Format, Coded, Called, Jumped, Started, LockNames, Lone, Together, Locked, Opened, Received, Input, Prompted, Arranged, Into, Range, Single, Endless, UpTo, Renewed, Fresh, Kept, Variable, Command, Set, Write, Halt, Hang, Job, Lock, OpenDevice, UseDevice, CloseDevice, Read, Kill, Merge, If, Else, For, Forever, Do, Goto, Quit, New, Restartable, TStart, TCommit, TRestart, TRollback, Break, LineCommand}
 use Rattle.mj_strfn.specs.Functions.{place, assigned_pieces, set_piece_value}
-use Rattle.mj_semantics.specs.State.{Only, AllBut, column_at, column_after, wrote, spare, hold, level_of, is_at_mark, set_test, newed, pushed, popped}
+use Rattle.mj_semantics.specs.State.{Only, AllBut, column_at, column_after, wrote, kill_except, hold, level_of, is_at_mark, set_test, newed, pushed, popped}
 use Rattle.mj_semantics.specs.Outcome.{Timed, turn, look, change, to_device, need, given, end, fault}
 use Rattle.mj_semantics.specs.Lines.{Here, place_at, next_line, entry_of}
 use Rattle.mj_semantics.specs.Points.{Leave, Ways, Loop, Once, Always, By, Points, AtLine, Called as CalledAt, Jumped as JumpedAt, Pass, Started as StartedAt}
@@ -21,7 +21,7 @@ use Rattle.mj_semantics.specs.Accesses.{access, value_told, nodes_told}
 use Rattle.mj_semantics.specs.Functions.{needed, optional}
 use Rattle.mj_semantics.specs.Sharing.{hang, start_job, unlock_all, lock}
 use Rattle.mj_semantics.specs.Devices.{open_device, use_device, close, read_input}
-use Rattle.mj_semantics.specs.Transactions.{restored_by, listed_by, serial_by, begin_transaction, commit, roll_back, give_back, begin_again}
+use Rattle.mj_semantics.specs.Transactions.{restored_by, listed_by, serial_by, begin_transaction, commit, roll_back, roll_back_for_restart, begin_restart}
 use Rattle.mj_semantics.specs.Evaluation.{ev, ev_all, ev_name, ev_local, ev_actuals, when}
 
 -- SET (8.2.18).
@@ -48,15 +48,15 @@ renewed x separator range e rest =
 
 -- which pieces become e, by the separator and the places, which are read now; where it is none, the name is neither read nor
 -- assigned, and the first rest follows
-abbrev pub renew : Name → List (List ℕ) → List ℕ → Timed → (List ℕ → Timed) → Timed
-renew x ts e skipped rest =
+abbrev pub assign_piece : Name → List (List ℕ) → List ℕ → Timed → (List ℕ → Timed) → Timed
+assign_piece x ts e skipped rest =
     given (assigned_pieces (needed 0 ts) (optional 1 ts) (optional 2 ts))
     (λ range. elim range [ None ↦ skipped | Some r ↦ renewed x (needed 0 ts) r e rest ])
 
 -- an assignment. That of pieces has a turn for the new value, and one for its assignment (this profile)
 abbrev pub put : Aim → List ℕ → Timed → Timed
 put (Whole x) v rest = store x v rest
-put (Part x ts) v rest = renew x ts v rest (λ w. turn (store x w rest))
+put (Part x ts) v rest = assign_piece x ts v rest (λ w. turn (store x w rest))
 
 -- the assignments of a list, each a turn
 abbrev pub put_all : List Aim → List ℕ → Timed → Timed
@@ -127,19 +127,19 @@ abbrev pub write : List ℕ → Timed → Timed
 write [] rest = rest
 write (b ∷ bytes) rest =
     if nat_lt TEXT_LIMIT (length (b ∷ bytes)) then fault Length
-    else look (λ s. to_device s.current (asks.DeviceWrite s.current (b ∷ bytes)) (λ r. change (wrote (b ∷ bytes)) rest))
+    else look (λ s. to_device s.current (device_asks.Write (b ∷ bytes)) (λ r. change (wrote (b ∷ bytes)) rest))
 
 -- the byte that a format mark writes: a line feed, or a form feed
-abbrev pub mark_byte : Mark → ℕ
+abbrev pub mark_byte : FormatMark → ℕ
 mark_byte NewLine = 10
 mark_byte NewPage = 12
 
 -- what marks write, and then spaces up to a column; none where the marks lead to that column or past it, from the column where they begin
-abbrev pub tab_bytes : List Mark → ℤ → ℕ → List ℕ
+abbrev pub tab_bytes : List FormatMark → ℤ → ℕ → List ℕ
 tab_bytes marks n column = map mark_byte marks ++ replicate (place n - column_after column (map mark_byte marks)) 32
 
 -- marks and then a tab, whose column is read as a number
-abbrev pub tab : List Mark → List ℕ → Timed → Timed
+abbrev pub tab : List FormatMark → List ℕ → Timed → Timed
 tab marks v rest = given (reading v) (λ n. look (λ s. write (tab_bytes marks n (column_at s.current s)) rest))
 
 -- the byte of a code: 0 to 255, else CHAR
@@ -171,10 +171,10 @@ stepped x step None i after pass = given (sum_of i step) (λ j. store x (canonic
 stepped x step (Some end) i after pass = if is_within step end (i +ℤ step) then store x (canonic_text (i +ℤ step)) pass else after
 
 -- behind a pass: the local is read anew, and without a value it is FORINDEX
-abbrev pub again : Loop → Timed → Timed → Timed
-again Once after pass = after
-again Always after pass = pass
-again (By x step end) after pass =
+abbrev pub for_again : Loop → Timed → Timed → Timed
+for_again Once after pass = after
+for_again Always after pass = pass
+for_again (By x step end) after pass =
     access (accesses.Value x) (λ a. need ForIndex (value_told a) (λ v. given (reading v) (λ i. stepped x step end i after pass)))
 
 -- the first number of a range, and its first pass, if there is one
@@ -216,7 +216,7 @@ module _ (points : Points) (here : Here) where
 
   abbrev pub kill : Killed → Timed → Timed
   kill (Gone v) rest = ev_name points here v (λ x. turn (remove x rest))
-  kill (Spared words) rest = named words (turn (change (spare words) rest))
+  kill (Spared words) rest = named words (turn (change (kill_except words) rest))
 
   abbrev pub kill_list : List Killed → Timed → Timed
   kill_list [] rest = rest
@@ -224,7 +224,7 @@ module _ (points : Points) (here : Here) where
 
   -- without arguments all locals go
   abbrev pub kill_all : List Killed → Timed → Timed
-  kill_all [] rest = turn (change (spare []) rest)
+  kill_all [] rest = turn (change (kill_except []) rest)
   kill_all (k ∷ list) rest = kill_list (k ∷ list) rest
 
   -- MERGE.
@@ -240,7 +240,7 @@ module _ (points : Points) (here : Here) where
   -- WRITE.
 
   -- a format, of which the column has its value first
-  abbrev pub arrange : List Mark → Option Expr → Timed → Timed
+  abbrev pub arrange : List FormatMark → Option Expr → Timed → Timed
   arrange marks None rest = turn (write (map mark_byte marks) rest)
   arrange marks (Some e) rest = ev points here e (λ v. turn (tab marks v rest))
 
@@ -333,7 +333,7 @@ module _ (points : Points) (here : Here) where
   -- FOR.
 
   -- what a FOR goes through, in order, each evaluated when it is reached; behind the last one the line's end, in a turn of its own
-  abbrev pub ranges : Name → List Range → List Step → Ways → Timed
+  abbrev pub ranges : Name → List Range → List LineCommand → Ways → Timed
   ranges x [] body ways = turn ways.line_end
   ranges x (Single a ∷ rs) body ways =
       ev points here a (λ v. turn (store x v (points (Pass here Once body (ranges x rs body ways) ways))))
@@ -383,15 +383,15 @@ module _ (points : Points) (here : Here) where
 
   -- TCOMMIT (8.2.19); a clash leads to a restart
   abbrev pub commit_transaction : Timed → Timed
-  commit_transaction rest = turn (commit (turn begin_again) rest)
+  commit_transaction rest = turn (commit (turn begin_restart) rest)
 
   -- TRESTART (8.2.20)
   abbrev pub restart_transaction : Timed
-  restart_transaction = turn (give_back (turn begin_again))
+  restart_transaction = turn (roll_back_for_restart (turn begin_restart))
 
   -- a command with its postcondition, where these are the commands behind it in its line, and then the rest. HALT (8.2.7) has none.
   -- IF, ELSE and FOR have no postcondition
-  abbrev pub obey : Command → Option Expr → List Step → Ways → Timed → Timed
+  abbrev pub obey : Command → Option Expr → List LineCommand → Ways → Timed → Timed
   obey (Set list) c steps ways rest = when points here c (assign_all list rest) rest
   obey (Write list) c steps ways rest = when points here c (output_all list rest) rest
   obey Halt c steps ways rest = when points here c (turn (end None)) rest
@@ -419,6 +419,6 @@ module _ (points : Points) (here : Here) where
   obey Break c steps ways rest = when points here c (turn rest) rest
 
   -- commands in order, up to the end of their line
-  abbrev pub obey_all : List Step → Ways → Timed
+  abbrev pub obey_all : List LineCommand → Ways → Timed
   obey_all [] ways = ways.line_end
   obey_all (step ∷ steps) ways = obey step.command step.condition steps ways (obey_all steps ways)

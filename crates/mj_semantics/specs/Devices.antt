@@ -3,8 +3,10 @@
 use Rattle.std.specs.Prelude.{ℕ, ℤ, pos, negsuc, List, [], Option, Bool, true, false, length, nat_lt, if◌then◌else◌}
 use Rattle.mj_text.specs.declared.fault.Fault.TheVariants.{NoDevice, Device, Limit}
 use Rattle.mj_num.specs.Number.{canonic_text}
-use Rattle.mj_ask.specs.declared.ask.Ask.{Ask}
 use Rattle.mj_ask.specs.declared.ask.Ask.TheVariants as asks
+use Rattle.mj_ask.specs.declared.ask.SharedAsk.TheVariants as shared_asks
+use Rattle.mj_ask.specs.declared.ask.DeviceAsk.{DeviceAsk}
+use Rattle.mj_ask.specs.declared.ask.DeviceAsk.TheVariants as device_asks
 use Rattle.mj_ask.specs.declared.ask.Reply.{Reply}
 use Rattle.mj_ask.specs.declared.ask.Reply.TheVariants as replies
 use Rattle.mj_ast.specs.declared.routine.ReadMode.{ReadMode}
@@ -35,19 +37,19 @@ obtained name timeout r late got =
 -- A device is asked for, and then one of two rests follows: the first without it, or where it is open already, as the principal one always
 -- is, which asks nothing and is in time; the second where the job has got it. It is LIMIT, and nothing is asked, where as many are open as
 -- may be beside the principal one (this profile).
-abbrev pub obtain : List ℕ → Option ℤ → Timed → Timed → Timed
-obtain name timeout as_it_was got = look (λ s.
+abbrev pub request_device : List ℕ → Option ℤ → Timed → Timed → Timed
+request_device name timeout as_it_was got = look (λ s.
     if is_open name s then change (in_time timeout true) as_it_was
     else if nat_lt devices_limit (length s.devices) then fault Limit
-    else ask (asks.Open name timeout) (λ r. obtained name timeout r as_it_was got))
+    else ask (asks.Shared (shared_asks.Open name timeout)) (λ r. obtained name timeout r as_it_was got))
 
 -- the session of a device that was opened begins
 abbrev pub begin_session : List ℕ → Timed → Timed
-begin_session name rest = to_device name (asks.DeviceBegin name) (λ r. rest)
+begin_session name rest = to_device name device_asks.Begin (λ r. rest)
 
 -- the session of a device that the job has got begins in a turn of its own (this profile)
 abbrev pub open_device : List ℕ → Option ℤ → Timed → Timed
-open_device name timeout rest = obtain name timeout rest (turn (begin_session name rest))
+open_device name timeout rest = request_device name timeout rest (turn (begin_session name rest))
 
 -- USE: an open device becomes the current one; another one is NODEVICE
 abbrev pub use_device : List ℕ → Timed → Timed
@@ -60,12 +62,12 @@ use_device name rest = look (λ s. if is_open name s then change (used name) res
 abbrev pub end_session : List ℕ → Timed → Timed → Timed → Timed
 end_session name as_it_was badly well = look (λ s.
     if may_close name s
-    then ask (asks.DeviceEnd name) (λ r. change (dropped name) (if is_failed r then badly else well))
+    then ask (asks.Device name device_asks.End) (λ r. change (dropped name) (if is_failed r then badly else well))
     else as_it_was)
 
 -- the name of a device is given up
 abbrev pub give_up : List ℕ → Timed → Timed
-give_up name rest = tell (asks.Close name) rest
+give_up name rest = tell (asks.Shared (shared_asks.Close name)) rest
 
 -- its session ends, and in a turn of its own its name is given up. Only then it is DEVICE, where the session didn't end well
 abbrev pub close : List ℕ → Timed → Timed
@@ -80,9 +82,9 @@ is_input (replies.Byte code) = true
 is_input _ = false
 
 -- what is asked for: a line, or a byte
-abbrev pub input_ask : ReadMode → List ℕ → Option ℤ → Ask
-input_ask mode.Line name timeout = asks.DeviceLine name timeout
-input_ask mode.Byte name timeout = asks.DeviceByte name timeout
+abbrev pub input_ask : ReadMode → Option ℤ → DeviceAsk
+input_ask mode.Line timeout = device_asks.Line timeout
+input_ask mode.Byte timeout = device_asks.Byte timeout
 
 -- what a reply brings: a line, the empty text where it brings none; the code of a byte, -1 where it brings none
 abbrev pub input_told : ReadMode → Reply → List ℕ
@@ -94,4 +96,4 @@ input_told mode.Byte _ = canonic_text (negsuc 0)
 -- the current device gives a line or a byte, and then the rest with it; this moves neither `$X` nor `$Y` (this profile)
 abbrev pub read_input : ReadMode → Option ℤ → (List ℕ → Timed) → Timed
 read_input m timeout rest = look (λ s.
-    to_device s.current (input_ask m s.current timeout) (λ r. change (in_time timeout (is_input r)) (rest (input_told m r))))
+    to_device s.current (input_ask m timeout) (λ r. change (in_time timeout (is_input r)) (rest (input_told m r))))

@@ -11,7 +11,7 @@ use Rattle.mj_ast.specs.declared.function.NameFunction.{NameFunction}
 use Rattle.mj_ast.specs.declared.function.NameFunction.TheVariants as names
 use Rattle.mj_ast.specs.Syntax.{Expr, Chain, Tails, Done, Then, Operand, Literal, Value, Intrinsic, Unary, Group, Call, About, Select, Variable, Var, Exprs, No, More, Choices, Last, Before}
 use Rattle.mj_semantics.specs.Functions.{call_value, optional}
-use Rattle.mj_semantics.specs.Names.{spelled, asks, question, told}
+use Rattle.mj_semantics.specs.Names.{spelled, asks, question, function_told}
 use Rattle.mj_semantics.specs.State.{special_value}
 use Rattle.mj_semantics.specs.Outcome.{Timed, turn, look, need, given, fault}
 use Rattle.mj_semantics.specs.Lines.{Here}
@@ -65,7 +65,7 @@ read x rest = access (accesses.Value x) (λ a. need Undefined (value_told a) res
 -- what a function gives of a name and what stands behind it: the text of the name, or what it makes of an answer
 abbrev pub about : NameFunction → Name → Option (List ℕ) → (List ℕ → Timed) → Timed
 about f x other rest =
-    if asks f then given (question f x other) (λ a. access a (λ r. given (told f other r) rest))
+    if asks f then given (question f x other) (λ a. access a (λ r. given (function_told f other r) rest))
     else given (spelled x) rest
 
 -- where an expression stands is known, and what points lead to, since a call in it goes to a line

@@ -1,7 +1,7 @@
 -- Lines and frames, and what a job does from its start.
 use Rattle.std.specs.Prelude.{ℕ, zero, suc, List, [], ◌∷◌, Option, Some, None, Bool, false, length, nat_lt, nat_eq, if◌then◌else◌}
 use Rattle.mj_text.specs.declared.fault.Fault.TheVariants.{NoLine, Params}
-use Rattle.mj_ask.specs.declared.ask.Ask.TheVariants.{DeviceBegin}
+use Rattle.mj_ask.specs.declared.ask.DeviceAsk.TheVariants as device_asks
 use Rattle.mj_ask.specs.declared.ask.Reply.{Reply}
 use Rattle.mj_ask.specs.declared.entry.Entry.{Entry}
 use Rattle.mj_ast.specs.Syntax.{Line, Routine}
@@ -9,7 +9,7 @@ use Rattle.mj_semantics.specs.State.{State, principal, untouched, level_of, may_
 use Rattle.mj_semantics.specs.Outcome.{Outcome, More, Timed, no_restart, turn, turns, look, change, restartable, to_device, end, fault}
 use Rattle.mj_semantics.specs.Lines.{Here, place_at, next_line, line_before, line_at, levels_of, entered}
 use Rattle.mj_semantics.specs.Points.{Leave, Ways, Loop, AtLine, Called, Jumped, Pass, Started, Points}
-use Rattle.mj_semantics.specs.Commands.{quit_frame, again, deeper, obey_all}
+use Rattle.mj_semantics.specs.Commands.{quit_frame, for_again, deeper, obey_all}
 
 -- the end of a routine or of a block is a QUIT of its frame, at the line before it
 abbrev pub quit_before : Here → Leave → Timed
@@ -45,7 +45,7 @@ jump image points (Some to) leave = look (λ s.
 -- in a pass of a FOR: the line's end leads to the next pass, and a QUIT to where the line without this FOR would end, in a turn
 -- of its own (this profile)
 abbrev pub in_pass : Loop → Timed → Timed → Ways → Ways
-in_pass loop after pass ways = record { line_end = turn (again loop after pass); for_quit = Some (turn ways.line_end); leave = ways.leave }
+in_pass loop after pass ways = record { line_end = turn (for_again loop after pass); for_quit = Some (turn ways.line_end); leave = ways.leave }
 
 abbrev pub at_point : List Routine → Points → Points
 at_point image points (AtLine here leave) = obey_line points here (line_at image here) leave
@@ -89,7 +89,7 @@ opening job = record {
 -- turn, and then the line that its entry names; the QUIT of its first frame ends it
 abbrev pub start : List Routine → Start → ℕ → Timed
 start image job depth =
-    turn (to_device principal (DeviceBegin principal) (λ r. points_of image depth (Called false job.entry job.values (λ v. end None))))
+    turn (to_device principal device_asks.Begin (λ r. points_of image depth (Called false job.entry job.values (λ v. end None))))
 
 abbrev pub run : List Routine → Start → ℕ → ℕ → List Reply → Outcome
 run image job depth n replies = start image job depth n no_restart (opening job.job) replies

@@ -62,9 +62,9 @@ spelled_if None = Ok []
 spelled_if (Some x) = spelled x
 
 -- what the answer gives
-abbrev pub told : NameFunction → Option (List ℕ) → Answer → Result (List ℕ) Fault
-told names.Data other a = Ok (number_text (data_told a))
-told names.Get other a = Ok (or_other (value_told a) other)
-told names.Name other a = Ok []
-told names.Order other a = Ok (or_other (order_told a) None)
-told names.Query other a = spelled_if (query_told a)
+abbrev pub function_told : NameFunction → Option (List ℕ) → Answer → Result (List ℕ) Fault
+function_told names.Data other a = Ok (number_text (data_told a))
+function_told names.Get other a = Ok (or_other (value_told a) other)
+function_told names.Name other a = Ok []
+function_told names.Order other a = Ok (or_other (order_told a) None)
+function_told names.Query other a = spelled_if (query_told a)

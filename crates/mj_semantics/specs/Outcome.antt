@@ -3,7 +3,10 @@ use Rattle.std.specs.Prelude.{ℕ, zero, suc, ◌==◌, List, [], ◌∷◌, ◌
 use Rattle.mj_text.specs.declared.fault.Fault.{Fault}
 use Rattle.mj_text.specs.declared.fault.Fault.TheVariants.{Steps, Device}
 use Rattle.mj_ask.specs.declared.ask.Ask.{Ask}
-use Rattle.mj_ask.specs.declared.ask.Ask.TheVariants.{DeviceWrite, DeviceEnd, Halt}
+use Rattle.mj_ask.specs.declared.ask.Ask.TheVariants as asks
+use Rattle.mj_ask.specs.declared.ask.SharedAsk.TheVariants as shared_asks
+use Rattle.mj_ask.specs.declared.ask.DeviceAsk.{DeviceAsk}
+use Rattle.mj_ask.specs.declared.ask.DeviceAsk.TheVariants as device_asks
 use Rattle.mj_ask.specs.declared.ask.Reply.{Reply}
 use Rattle.mj_ask.specs.declared.ask.Reply.TheVariants as replies_are
 use Rattle.mj_semantics.specs.State.{State, Locals, Place, places, place_of, principal, column_at, has_failed, ending_order, broke, counted}
@@ -71,11 +74,11 @@ go_back n h = h n
 -- the last asks of a job, each in a turn: its sessions end, the principal one last, and then the job (8.2.7, HALT). Whether a session
 -- ends well changes nothing
 abbrev pub halt : Option Fault → Timed
-halt f = turn (asking (Halt f) (λ r. over))
+halt f = turn (asking (asks.Shared (shared_asks.Halt f)) (λ r. over))
 
 abbrev pub ends : List (List ℕ) → Option Fault → Timed
 ends [] f = halt f
-ends (name ∷ names) f = turn (asking (DeviceEnd name) (λ r. ends names f))
+ends (name ∷ names) f = turn (asking (asks.Device name device_asks.End) (λ r. ends names f))
 
 abbrev pub end : Option Fault → Timed
 end f = look (λ s. ends (ending_order s.devices) f)
@@ -88,7 +91,7 @@ fault_bytes f s = (if column_at principal s == 0 then [] else 10 ∷ []) ++ faul
 -- changes nothing
 abbrev pub fault : Fault → Timed
 fault f = turn (look (λ s.
-    if has_failed principal s then end (Some f) else asking (DeviceWrite principal (fault_bytes f s)) (λ r. end (Some f))))
+    if has_failed principal s then end (Some f) else asking (asks.Device principal (device_asks.Write (fault_bytes f s))) (λ r. end (Some f))))
 
 -- how many asks a job may make before its ending (this profile)
 abbrev pub steps_limit : ℕ
@@ -109,8 +112,8 @@ is_failed replies_are.Failed = true
 is_failed _ = false
 
 -- an ask to the session of a device, and then the rest with its reply; where the device failed it is DEVICE
-abbrev pub to_device : List ℕ → Ask → (Reply → Timed) → Timed
-to_device name a rest = ask a (λ r. if is_failed r then change (broke name) (fault Device) else rest r)
+abbrev pub to_device : List ℕ → DeviceAsk → (Reply → Timed) → Timed
+to_device name a rest = ask (asks.Device name a) (λ r. if is_failed r then change (broke name) (fault Device) else rest r)
 
 -- the rest with a value, or the fault where there is none
 abbrev pub need : {A : Type 0} → Fault → Option A → (A → Timed) → Timed

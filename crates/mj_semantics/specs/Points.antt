@@ -2,7 +2,7 @@
 use Rattle.std.specs.Prelude.{ℕ, ℤ, List, Option, Bool}
 use Rattle.mj_subs.specs.Name.{Name}
 use Rattle.mj_ask.specs.declared.entry.Entry.{Entry}
-use Rattle.mj_ast.specs.Syntax.{Step}
+use Rattle.mj_ast.specs.Syntax.{LineCommand}
 use Rattle.mj_semantics.specs.Outcome.{Timed}
 use Rattle.mj_semantics.specs.Lines.{Here}
 
@@ -30,7 +30,7 @@ pub data Point : Type 0 where
   AtLine : (here : Here) (leave : Leave) → Point
   Called : (function : Bool) (entry : Entry) (values : List (Option (List ℕ))) (leave : Leave) → Point
   Jumped : (entry : Entry) (leave : Leave) → Point
-  Pass : (here : Here) (loop : Loop) (body : List Step) (after : Timed) (ways : Ways) → Point
+  Pass : (here : Here) (loop : Loop) (body : List LineCommand) (after : Timed) (ways : Ways) → Point
   Started : (rest : Timed) → Point
 
 -- what is done from a point on, which is always after a turn

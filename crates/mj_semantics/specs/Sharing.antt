@@ -5,6 +5,7 @@ use Rattle.mj_num.specs.Number.{reading}
 use Rattle.mj_subs.specs.Name.{Name}
 use Rattle.mj_ask.specs.declared.entry.Entry.{Entry}
 use Rattle.mj_ask.specs.declared.ask.Ask.TheVariants as asks
+use Rattle.mj_ask.specs.declared.ask.SharedAsk.TheVariants as shared_asks
 use Rattle.mj_ask.specs.declared.ask.Reply.{Reply}
 use Rattle.mj_ask.specs.declared.ask.Reply.TheVariants as replies
 use Rattle.mj_ask.specs.Fits.{is_late}
@@ -38,21 +39,21 @@ hang v rest = given (reading v) (λ n. if int_lt (pos 0) n then tell (asks.Rest 
 -- JOB: another job starts at an entry, with these values
 abbrev pub start_job : Entry → List (Option (List ℕ)) → Option ℤ → Timed → Timed
 start_job entry vs timeout rest =
-    out_of_transaction (ask (asks.Start (record { entry = entry; values = vs }) timeout) (λ r. served timeout r rest))
+    out_of_transaction (ask (asks.Shared (shared_asks.Start (record { entry = entry; values = vs }) timeout)) (λ r. served timeout r rest))
 
 -- LOCK: all names are given up
 abbrev pub unlock_all : Timed → Timed
-unlock_all rest = out_of_transaction (ask asks.UnlockAll (λ r. served None r rest))
+unlock_all rest = out_of_transaction (ask (asks.Shared shared_asks.UnlockAll) (λ r. served None r rest))
 
 -- names are taken, all or none; without a name nothing is asked
 abbrev pub take_names : List Name → Option ℤ → Timed → Timed
 take_names [] timeout rest = rest
-take_names (x ∷ xs) timeout rest = ask (asks.Try (x ∷ xs) timeout) (λ r. served timeout r rest)
+take_names (x ∷ xs) timeout rest = ask (asks.Shared (shared_asks.Try (x ∷ xs) timeout)) (λ r. served timeout r rest)
 
 -- names are given up, which is always in time
 abbrev pub give_names : List Name → Option ℤ → Timed → Timed
 give_names [] timeout rest = rest
-give_names (x ∷ xs) timeout rest = ask (asks.Unlock (x ∷ xs)) (λ r. served timeout r rest)
+give_names (x ∷ xs) timeout rest = ask (asks.Shared (shared_asks.Unlock (x ∷ xs))) (λ r. served timeout r rest)
 
 -- names are taken in the place of all that were held, or beside them, or are given up
 abbrev pub lock : LockMode → List Name → Option ℤ → Timed → Timed

@@ -51,7 +51,7 @@ pub record OpenDevice : Type 0 where
 -- the outermost TSTART (8.2.22): which locals a restart restores, if it can be restarted, and those of them that had a value there, with
 -- it; whether it is SERIAL; and what else stood there: `$TEST`, how many NEWs had saved locals, how many frames there were, and the place of
 -- the innermost one. That frame and those below it stay until the transaction is over
-pub record Mark : Type 0 where
+pub record TransactionMark : Type 0 where
   pub restored : Option Words
   pub serial : Bool
   pub locals : Locals
@@ -74,7 +74,7 @@ pub record State : Type 0 where
   pub current : List ℕ
   pub level : ℕ
   pub restarts : ℕ
-  pub mark : Option Mark
+  pub mark : Option TransactionMark
   pub replied : ℕ
   pub held : Subtree
 
@@ -175,8 +175,8 @@ abbrev pub spared : List (List ℕ) → Locals → Locals
 spared words locals = filter (λ e. list_any (bytes_eq e.0.word) words) locals
 
 -- all locals go but those whose word is one of these
-abbrev pub spare : List (List ℕ) → State → State
-spare words s = record s { locals = spared words s.locals }
+abbrev pub kill_except : List (List ℕ) → State → State
+kill_except words s = record s { locals = spared words s.locals }
 
 -- a MERGE has this in hand
 abbrev pub hold : Subtree → State → State
@@ -333,7 +333,7 @@ abbrev pub is_serial : State → Bool
 is_serial s = elim s.mark [ None ↦ false | Some m ↦ m.serial ]
 
 -- the locals that a restart restores as they were at the mark, and all others as they are
-abbrev pub restored_at : Mark → Locals → Locals
+abbrev pub restored_at : TransactionMark → Locals → Locals
 restored_at m now = elim m.restored [ None ↦ now | Some words ↦ put_back (record { words = words; locals = m.locals }) now ]
 
 -- the innermost of some frames at a place, if that is one
@@ -343,7 +343,7 @@ standing_at (Some p) frames = elim frames [ [] ↦ [] | f ∷ fs ↦ record f { 
 
 -- A restart (8.2.20): what NEWs saved since the mark is put back, the newest first, and the frames since then are gone; `$TEST` is that of the
 -- mark; then the locals that are to be restored are. Devices and `$IO` stay (this profile)
-abbrev pub back_at : Mark → State → State
+abbrev pub back_at : TransactionMark → State → State
 back_at m s = record s {
   locals = restored_at m (undone (take (length s.saved - m.height) s.saved) s.locals);
   saved = drop (length s.saved - m.height) s.saved;

@@ -4,6 +4,7 @@ use Rattle.mj_text.specs.declared.fault.Fault.TheVariants.{NoTransaction, NoRest
 use Rattle.mj_ask.specs.declared.ask.Kind.{Kind}
 use Rattle.mj_ask.specs.declared.ask.Kind.TheVariants as kinds
 use Rattle.mj_ask.specs.declared.ask.Ask.TheVariants as asks
+use Rattle.mj_ask.specs.declared.ask.SharedAsk.TheVariants as shared_asks
 use Rattle.mj_ask.specs.declared.ask.Reply.{Reply}
 use Rattle.mj_ask.specs.declared.ask.Reply.TheVariants as replies
 use Rattle.mj_ast.specs.declared.routine.Serial.{Serial}
@@ -48,7 +49,7 @@ serial_by (Some r) = says_serial r.serial
 -- TSTART: the outermost one is asked for, and its rest follows; one in it counts, and what it says of a restart is nothing (this profile)
 abbrev pub begin_transaction : Option Words → Bool → Timed → Timed → Timed
 begin_transaction restored serially inner outermost = look (λ s.
-    if nat_eq s.level 0 then ask (asks.Begin (kind_of serially)) (λ r. change (marked restored serially) outermost)
+    if nat_eq s.level 0 then ask (asks.Shared (shared_asks.Begin (kind_of serially))) (λ r. change (marked restored serially) outermost)
     else if nat_lt s.level levels_limit then change raised inner
     else fault Limit)
 
@@ -65,16 +66,16 @@ is_clash _ = false
 abbrev pub commit : Timed → Timed → Timed
 commit clashed done = in_transaction (look (λ s.
     if nat_lt 1 s.level then change lowered done
-    else ask asks.Commit (λ r. if is_clash r then clashed else change settled done)))
+    else ask (asks.Shared shared_asks.Commit) (λ r. if is_clash r then clashed else change settled done)))
 
 -- TROLLBACK: whatever `$TLEVEL` is
 abbrev pub roll_back : Timed → Timed
-roll_back rest = in_transaction (ask asks.Rollback (λ r. change settled rest))
+roll_back rest = in_transaction (ask (asks.Shared shared_asks.Rollback) (λ r. change settled rest))
 
 -- TRESTART gives up what was done, if the outermost TSTART says that it can be restarted; else it is NORESTART
-abbrev pub give_back : Timed → Timed
-give_back rest = in_transaction (look (λ s. if can_restart s then ask asks.Rollback (λ r. rest) else fault NoRestart))
+abbrev pub roll_back_for_restart : Timed → Timed
+roll_back_for_restart rest = in_transaction (look (λ s. if can_restart s then ask (asks.Shared shared_asks.Rollback) (λ r. rest) else fault NoRestart))
 
 -- behind a TRESTART and a clash: the transaction begins once more, as all stood behind its outermost TSTART, and there the job goes on
-abbrev pub begin_again : Timed
-begin_again = look (λ s. ask (asks.Begin (kind_of (is_serial s))) (λ r. change restarted go_back))
+abbrev pub begin_restart : Timed
+begin_restart = look (λ s. ask (asks.Shared (shared_asks.Begin (kind_of (is_serial s)))) (λ r. change restarted go_back))

@@ -14,6 +14,7 @@ use Rattle.mj_ask.specs.Keeping.{is_limit, kept_of}
 use Rattle.mj_ask.specs.declared.clash.Clash.{Clash}
 use Rattle.mj_ask.specs.declared.ask.Ask.{Ask}
 use Rattle.mj_ask.specs.declared.ask.Ask.TheVariants as asks
+use Rattle.mj_ask.specs.declared.ask.SharedAsk.TheVariants as shared_asks
 use Rattle.mj_ask.specs.declared.ask.Reply.{Reply}
 use Rattle.mj_ask.specs.declared.ask.Reply.TheVariants as replies
 use Rattle.mj_txlog.specs.Accesses.{Accesses, is_write, seen, Transaction}
@@ -37,32 +38,32 @@ use Rattle.mj_serial.proofs.Runs.{at_first}
 
 -- what is an access was asked so
 record IsAsked (q : Ask) (r : Reply) (a : Access) (v : Answer) : Type 0 where
-  is : ◌≡◌ {A = Ask × Reply} (q, r) (asks.Access a, replies.Answer v)
+  is : ◌≡◌ {A = Ask × Reply} (q, r) (asks.Shared (shared_asks.Access a), replies.Answer v)
   within : is_limit v ≡ false
 
 taken_is : (b c : Bool) (z a : Access) (y v : Answer) → is_limit y ≡ b → ◌≡◌ {A = Option Entry} (if not (b || c) then Some (entry.Access z y) else None) (Some (entry.Access a v))
-    → IsAsked (asks.Access z) (replies.Answer y) a v
+    → IsAsked (asks.Shared (shared_asks.Access z)) (replies.Answer y) a v
 taken_is true c z a y v l e = absurd cc
 taken_is false true z a y v l e = absurd cc
 taken_is false false z a y v l e =
     let p : z ≡ a = cc in
     let q : y ≡ v = cc in
-    record { is = λ i. (asks.Access (p i), replies.Answer (q i)); within = subst (λ x. is_limit x ≡ false) q l }
+    record { is = λ i. (asks.Shared (shared_asks.Access (p i)), replies.Answer (q i)); within = subst (λ x. is_limit x ≡ false) q l }
 
 entry_is : (q : Ask) (r : Reply) (a : Access) (v : Answer) → entry_of q r ≡ Some (entry.Access a v) → IsAsked q r a v
-entry_is (asks.Access z) (replies.Answer y) a v e = taken_is (is_limit y) (is_local_write z) z a y v refl e
-entry_is (asks.Access z) r a v e = absurd cc
-entry_is (asks.Unlock names) replies.Done a v e = absurd cc
-entry_is (asks.Unlock names) r a v e = absurd cc
-entry_is asks.UnlockAll replies.Done a v e = absurd cc
-entry_is asks.UnlockAll r a v e = absurd cc
+entry_is (asks.Shared (shared_asks.Access z)) (replies.Answer y) a v e = taken_is (is_limit y) (is_local_write z) z a y v refl e
+entry_is (asks.Shared (shared_asks.Access z)) r a v e = absurd cc
+entry_is (asks.Shared (shared_asks.Unlock names)) replies.Done a v e = absurd cc
+entry_is (asks.Shared (shared_asks.Unlock names)) r a v e = absurd cc
+entry_is (asks.Shared shared_asks.UnlockAll) replies.Done a v e = absurd cc
+entry_is (asks.Shared shared_asks.UnlockAll) r a v e = absurd cc
 entry_is q r a v e = absurd cc
 
 -- a log with an access among those that were taken
 record Split (es : Log) (earlier : Accesses) (a : Access) (v : Answer) : Type 0 where
   early : Log
   late : Log
-  is : es ≡ early ++ (asks.Access a, replies.Answer v) ∷ late
+  is : es ≡ early ++ (asks.Shared (shared_asks.Access a), replies.Answer v) ∷ late
   accesses : accesses_of early ≡ earlier
   within : is_limit v ≡ false
 
@@ -118,17 +119,17 @@ split (q ∷ es) earlier a v later e = by (entry_of q.0 q.1) refl e (λ before h
 record Comes (p : Program) (b : Block) (g : Content) (early : Log) (a : Access) (new : Answer) : Type 0 where
   turns : ℕ
   by : (n : ℕ) → turns ≤ n
-      → (go p n (suc (length early)) b.before (desk_of b.since g)).log ≡ early ++ (asks.Access a, replies.Answer new) ∷ []
+      → (go p n (suc (length early)) b.before (desk_of b.since g)).log ≡ early ++ (asks.Shared (shared_asks.Access a), replies.Answer new) ∷ []
 
 comes : (p : Program) → IsSteady p → (b : Block) (g : Content) (early : Log) (a : Access) (old new : Answer) (late : Log)
-    → b.since ≡ early ++ (asks.Access a, replies.Answer old) ∷ late → AreAsked p b.before b.since → Kept 0 b.since
+    → b.since ≡ early ++ (asks.Shared (shared_asks.Access a), replies.Answer old) ∷ late → AreAsked p b.before b.since → Kept 0 b.since
     → Hold g [] (accesses_of early) → is_limit old ≡ false → answer_of a (seen g (accesses_of early)) ≡ new → Comes p b g early a new
 comes p st b g early a old new late is f k h l e =
-    one (goes_along p st b.before early (desk_of b.since g) mid (asked_front p b.before early ((asks.Access a, replies.Answer old) ∷ late) (subst (AreAsked p b.before) is f))
+    one (goes_along p st b.before early (desk_of b.since g) mid (asked_front p b.before early ((asks.Shared (shared_asks.Access a), replies.Answer old) ∷ late) (subst (AreAsked p b.before) is f))
     (subst (λ l. Serves (desk 0 l g) early mid) others
-    (serves 0 early (others_of late) g [] (kept_front 0 early ((asks.Access a, replies.Answer old) ∷ late) (subst (Kept 0) is k)) h)))
-    (asked_next p b.before early (asks.Access a) (replies.Answer old) late (subst (AreAsked p b.before) is f))
-    (room (kept_next 0 early (asks.Access a) (replies.Answer old) late (subst (Kept 0) is k)))
+    (serves 0 early (others_of late) g [] (kept_front 0 early ((asks.Shared (shared_asks.Access a), replies.Answer old) ∷ late) (subst (Kept 0) is k)) h)))
+    (asked_next p b.before early (asks.Shared (shared_asks.Access a)) (replies.Answer old) late (subst (AreAsked p b.before) is f))
+    (room (kept_next 0 early (asks.Shared (shared_asks.Access a)) (replies.Answer old) late (subst (Kept 0) is k)))
   where
     there : Content
     there = seen g (accesses_of early)
@@ -137,15 +138,15 @@ comes p st b g early a old new late is f k h l e =
     mid = desk (used_all 0 early) (others_of late) there
 
     others : others_of early ++ others_of late ≡ others_of b.since
-    others = sym (ap others_of is ∙ others_append early ((asks.Access a, replies.Answer old) ∷ late))
+    others = sym (ap others_of is ∙ others_append early ((asks.Shared (shared_asks.Access a), replies.Answer old) ∷ late))
 
-    room : KeptAt (used_all 0 early) (asks.Access a) (replies.Answer old) → told_alone (used_all 0 early) there a ≡ new
+    room : KeptAt (used_all 0 early) (asks.Shared (shared_asks.Access a)) (replies.Answer old) → told_alone (used_all 0 early) there a ≡ new
     room kept =
         let v : Answer = kept.0 in
         let same : old ≡ v = cc (kept.1) in
         ap (λ b. if b then answer_of a there else answer.Limit) (kept.2.room (subst (λ x. is_limit x ≡ false) same l)) ∙ e
 
-    one : GoesAlong p b.before early (desk_of b.since g) mid → Asks p (b.before ++ early) (asks.Access a) → told_alone (used_all 0 early) there a ≡ new → Comes p b g early a new
+    one : GoesAlong p b.before early (desk_of b.since g) mid → Asks p (b.before ++ early) (asks.Shared (shared_asks.Access a)) → told_alone (used_all 0 early) there a ≡ new → Comes p b g early a new
     one along asked told = record {
       turns = max along.turns asked.0;
       by = λ n le.
@@ -154,9 +155,9 @@ comes p st b g early a old new late is f k h l e =
           let m : suc (length early) ≡ past early 1 = omega (arith, past_is early 1) in
           ap (λ x. (go p n x b.before (desk_of b.since g)).log) m ∙ ap (λ x. x.log) (along.by n l 1)
           ∙ ap (λ x. early ++ x.log)
-          (go_one p n 0 (b.before ++ early) mid (desk (used_after (used_all 0 early) (asks.Access a) (replies.Answer new)) (others_of late) (left_alone a new there))
-          (asks.Access a) (replies.Answer new) asked.1 asked.2
-          (still_needs p st asked.0 n (replies_of (b.before ++ early)) (asks.Access a) asked.1 asked.2 q asked.3)
+          (go_one p n 0 (b.before ++ early) mid (desk (used_after (used_all 0 early) (asks.Shared (shared_asks.Access a)) (replies.Answer new)) (others_of late) (left_alone a new there))
+          (asks.Shared (shared_asks.Access a)) (replies.Answer new) asked.1 asked.2
+          (still_needs p st asked.0 n (replies_of (b.before ++ early)) (asks.Shared (shared_asks.Access a)) asked.1 asked.2 q asked.3)
           (step_access (used_all 0 early) (others_of late) there a new told));
     }
 
@@ -195,8 +196,8 @@ clash_is programs st g0 h j log (Some t) (Some b) clash o f s = by_kind t.serial
 
     own_answer : {a : Access} {v : Answer} {earlier : Accesses} → Split b.since earlier a v → (there : Content) × (v ≡ answer_of a there)
     own_answer {a} {v} x =
-        let kept : KeptAt (used_all 0 x.early) (asks.Access a) (replies.Answer v)
-        = kept_next 0 x.early (asks.Access a) (replies.Answer v) x.late (subst (Kept 0) x.is f.kept) in
+        let kept : KeptAt (used_all 0 x.early) (asks.Shared (shared_asks.Access a)) (replies.Answer v)
+        = kept_next 0 x.early (asks.Shared (shared_asks.Access a)) (replies.Answer v) x.late (subst (Kept 0) x.is f.kept) in
         let same : v ≡ kept.0 = cc (kept.1) in
         let there = kept.2.answered (subst (λ y. is_limit y ≡ false) same x.within) in
         (there.0, same ∙ there.1)
@@ -226,7 +227,7 @@ clash_is programs st g0 h j log (Some t) (Some b) clash o f s = by_kind t.serial
               (λ q. d.1.differ (q ∙ sym d.1.then)) (sym (ap (λ (y : Clash). y.now) is) ∙ e ∙ ap (λ (y : Clash). y.then) is ∙ ap kept_of d.1.then);
           turns = k.turns;
           again = subst (λ i. (n : ℕ) → k.turns ≤ n
-              → (go (programs i) n (suc (length x.early)) b.before (desk_of b.since g)).log ≡ x.early ++ (asks.Access a, replies.Answer c.now) ∷ []) f.job k.by;
+              → (go (programs i) n (suc (length x.early)) b.before (desk_of b.since g)).log ≡ x.early ++ (asks.Shared (shared_asks.Access a), replies.Answer c.now) ∷ []) f.job k.by;
         }
 
     with_entry : (c : Changed) → clash ≡ clash_of c → t.serial ≡ true → (e : Entry) (earlier later : Accesses) → t.accesses ≡ earlier ++ e ∷ later → Hold g [] earlier

@@ -11,17 +11,17 @@ use Rattle.mj_semantics.specs.Outcome.{More, Ended}
 use Rattle.mj_semantics.specs.Job.{Start, next}
 use Rattle.mj_semantics.proofs.Depth as depth
 use Rattle.mj_jobs.specs.Rows.{Row, row_at, opened, IsLive}
-use Rattle.mj_core.specs.Run.{IsTrace, begins, goes_on}
+use Rattle.mj_jobvm.specs.Run.{IsTrace, begins, goes_on}
 use Rattle.mj_txlog.specs.Accesses.{Transaction}
 use Rattle.mj_sys.specs.Transactions.{transaction_of}
 use Rattle.mj_sys.specs.Shared.{Shared, open_of}
 use Rattle.mj_sys.specs.declared.event.Event.{Event}
 use Rattle.mj_sys.specs.History.{History, after, state_of, IsServed, log_of}
 use Rattle.mj_sys.proofs.Rows.{rows_kept}
-use Rattle.mj_events.specs.Happen.{Happens, AllHappen}
+use Rattle.mj_core.specs.Happen.{Happens, AllHappen}
 use Rattle.mj_core.specs.Runs.{IsRun, start_in}
 use Rattle.mj_serial.specs.Programs.{Log, replies_of, Program, IsSteady, AreAsked}
-use Rattle.mj_serial.specs.Rules.{Sight, Exactly, IsTold, sight_of, sight_after, sight_behind, AreTold, committed_by, clashes_at, IsRunBy}
+use Rattle.mj_serial.specs.Rules.{Sight, Exactly, IsToldByRule, sight_of, sight_after, sight_behind, AreTold, committed_by, clashes_at, IsRunBy}
 use Rattle.mj_serial.specs.Laws as laws
 use Rattle.mj_serial.specs.Laws.{program_in, NoneIsOpen, OpensSo, AllMustClash}
 use Rattle.mj_serial.specs.Serial.{AsAlone, MustClash}
@@ -76,7 +76,7 @@ abbrev seen_of : Shared → Sight
 seen_of s = record { globals = s.globals; transactions = λ job. open_of s job }
 
 record Step (s : Shared) (e : Event) : Type 0 where
-  told : IsTold Exactly (open_of s e.job) s.globals e.ask e.reply
+  told : IsToldByRule Exactly (open_of s e.job) s.globals e.ask e.reply
   seen : seen_of (after s e) ≡ sight_after (seen_of s) e
   places : HasPlaces (after s e)
 

@@ -7,6 +7,7 @@ use Rattle.mj_store.specs.declared.access.Answer.TheVariants as answer
 use Rattle.mj_store.specs.declared.store.Direction.TheVariants.{Forward}
 use Rattle.mj_ask.specs.declared.ask.Ask.{Ask}
 use Rattle.mj_ask.specs.declared.ask.Ask.TheVariants as asks
+use Rattle.mj_ask.specs.declared.ask.SharedAsk.TheVariants as shared_asks
 use Rattle.mj_ask.specs.declared.ask.Reply.{Reply}
 use Rattle.mj_ask.specs.declared.ask.Reply.TheVariants as replies
 use Rattle.mj_semantics.specs.Outcome.{Outcome, Needs, Ended}
@@ -41,11 +42,11 @@ abbrev accounts : Content
 accounts = (a, codes "5") ∷ (b, codes "1") ∷ []
 
 abbrev moves : List Ask
-moves = begin ∷ value a ∷ sets a (codes "4") ∷ value b ∷ sets b (codes "2") ∷ asks.Commit ∷ []
+moves = begin ∷ value a ∷ sets a (codes "4") ∷ value b ∷ sets b (codes "2") ∷ (asks.Shared shared_asks.Commit) ∷ []
 
 abbrev transfer : History
 transfer = by 0 ((begin, replies.Done) ∷ (value a, saw (codes "5")) ∷ (sets a (codes "4"), done) ∷ []) ++ by 1 ((value a, saw (codes "5")) ∷ [])
-    ++ by 0 ((value b, saw (codes "1")) ∷ (sets b (codes "2"), done) ∷ (asks.Commit, replies.Done) ∷ [])
+    ++ by 0 ((value b, saw (codes "1")) ∷ (sets b (codes "2"), done) ∷ ((asks.Shared shared_asks.Commit), replies.Done) ∷ [])
 
 -- the look comes first, as it was before the commit
 transfer_blocks : map shown (blocks_of transfer) ≡ record { job = 1; serial = false; place = 4; accesses = entry.Access (access.Value a) (answer.Value (Some (codes "5"))) ∷ [] }
@@ -63,7 +64,7 @@ transferred = refl
 
 transfer_alone : alone (two moves (value a ∷ [])) 9 accounts (blocks_of transfer) ≡ record {
   globals = (a, codes "4") ∷ (b, codes "2") ∷ [];
-  serial = (((value a, saw (codes "5")) ∷ (sets a (codes "4"), done) ∷ (value b, saw (codes "1")) ∷ (sets b (codes "2"), done) ∷ []), Needs asks.Commit [] []) ∷ [];
+  serial = (((value a, saw (codes "5")) ∷ (sets a (codes "4"), done) ∷ (value b, saw (codes "1")) ∷ (sets b (codes "2"), done) ∷ []), Needs (asks.Shared shared_asks.Commit) [] []) ∷ [];
 }
 transfer_alone = refl
 
@@ -89,7 +90,7 @@ abbrev skews : Name → Name → List Reply → Outcome
 skews from into [] = Needs begin [] []
 skews from into (x ∷ []) = Needs (value from) [] []
 skews from into (x ∷ v ∷ []) = Needs (sets into (longer v)) [] []
-skews from into (x ∷ v ∷ s ∷ []) = Needs asks.Commit [] []
+skews from into (x ∷ v ∷ s ∷ []) = Needs (asks.Shared shared_asks.Commit) [] []
 skews from into (x ∷ v ∷ s ∷ replies.Clash c ∷ rs) = skews from into rs
 skews from into (x ∷ v ∷ s ∷ r ∷ rs) = Ended
 
@@ -105,9 +106,9 @@ differs = record { place = 1; then = answer.Value (Some (codes "0")); now = answ
 
 abbrev skewed : History
 skewed = by 0 ((begin, replies.Done) ∷ (value b, saw (codes "0")) ∷ []) ++ by 1 ((begin, replies.Done) ∷ (value a, saw (codes "0")) ∷ [])
-    ++ by 0 ((sets a (codes "10"), done) ∷ (asks.Commit, replies.Done) ∷ [])
-    ++ by 1 ((sets b (codes "10"), done) ∷ (asks.Commit, replies.Clash (clash_of differs)) ∷ [])
-    ++ by 1 ((begin, replies.Done) ∷ (value a, saw (codes "10")) ∷ (sets b (codes "110"), done) ∷ (asks.Commit, replies.Done) ∷ [])
+    ++ by 0 ((sets a (codes "10"), done) ∷ ((asks.Shared shared_asks.Commit), replies.Done) ∷ [])
+    ++ by 1 ((sets b (codes "10"), done) ∷ ((asks.Shared shared_asks.Commit), replies.Clash (clash_of differs)) ∷ [])
+    ++ by 1 ((begin, replies.Done) ∷ (value a, saw (codes "10")) ∷ (sets b (codes "110"), done) ∷ ((asks.Shared shared_asks.Commit), replies.Done) ∷ [])
 
 -- the second block begins with the second `begin` of its job
 skew_places : map (λ x. x.place) (blocks_of skewed) ≡ 1 ∷ 9 ∷ []
@@ -118,8 +119,8 @@ skew_left = refl
 
 skew_alone : alone programs 9 zeros (blocks_of skewed) ≡ record {
   globals = (a, codes "10") ∷ (b, codes "110") ∷ [];
-  serial = (((value b, saw (codes "0")) ∷ (sets a (codes "10"), done) ∷ []), Needs asks.Commit [] [])
-      ∷ (((value a, saw (codes "10")) ∷ (sets b (codes "110"), done) ∷ []), Needs asks.Commit [] []) ∷ [];
+  serial = (((value b, saw (codes "0")) ∷ (sets a (codes "10"), done) ∷ []), Needs (asks.Shared shared_asks.Commit) [] [])
+      ∷ (((value a, saw (codes "10")) ∷ (sets b (codes "110"), done) ∷ []), Needs (asks.Shared shared_asks.Commit) [] []) ∷ [];
 }
 skew_alone = refl
 
@@ -179,7 +180,7 @@ abbrev appears : Changed
 appears = record { place = 1; then = answer.Order None; now = answer.Order (Some one) }
 
 abbrev phantom : History
-phantom = by 0 ((begin, replies.Done) ∷ (first, comes None) ∷ []) ++ by 1 ((sets a one, done) ∷ []) ++ by 0 ((asks.Commit, replies.Clash (clash_of appears)) ∷ [])
+phantom = by 0 ((begin, replies.Done) ∷ (first, comes None) ∷ []) ++ by 1 ((sets a one, done) ∷ []) ++ by 0 (((asks.Shared shared_asks.Commit), replies.Clash (clash_of appears)) ∷ [])
 
 phantom_blocks : map shown (blocks_of phantom) ≡ record { job = 1; serial = false; place = 3; accesses = entry.Access (access.Set a one) answer.Done ∷ [] } ∷ []
 phantom_blocks = refl

@@ -8,6 +8,7 @@ use Rattle.mj_store.specs.declared.access.Access.{Access}
 use Rattle.mj_store.specs.declared.access.Answer.{Answer}
 use Rattle.mj_ask.specs.declared.ask.Ask.{Ask}
 use Rattle.mj_ask.specs.declared.ask.Ask.TheVariants as asks
+use Rattle.mj_ask.specs.declared.ask.SharedAsk.TheVariants as shared_asks
 use Rattle.mj_ask.specs.declared.ask.Reply.{Reply}
 use Rattle.mj_ask.specs.declared.ask.Reply.TheVariants as replies
 use Rattle.mj_ask.specs.Keeping.{is_limit}
@@ -40,7 +41,8 @@ left_alone a v c = if is_taken a v then after_access a c else c
 
 -- an access that is told this
 pub step_access : (u : ℕ) (others : List Reply) (c : Content) (a : Access) (v : Answer) → told_alone u c a ≡ v
-    → serve_alone (asks.Access a) (desk u others c) ≡ Some (replies.Answer v, desk (used_after u (asks.Access a) (replies.Answer v)) others (left_alone a v c))
+    → serve_alone (asks.Shared (shared_asks.Access a)) (desk u others c) ≡ Some
+    (replies.Answer v, desk (used_after u (asks.Shared (shared_asks.Access a)) (replies.Answer v)) others (left_alone a v c))
 step_access u others c a v e = ap (λ w. access_alone a w (desk u others c)) e
 
 both_false : (a b : Bool) → (a || b) ≡ true → a ≡ false → b ≡ true
@@ -66,26 +68,26 @@ on_from u last es more g c earlier e is s =
 
 -- what is counted of it, and what it leaves
 used_by : (u : ℕ) (a : Access) (v : Answer) (b : Bool) → (is_limit v || is_local_write a) ≡ b
-    → used_after u (asks.Access a) (replies.Answer v) ≡ elim (if not b then Some (entry.Access a v) else None) as (λ _. ℕ) [ None ↦ u | Some e ↦ suc u ]
+    → used_after u (asks.Shared (shared_asks.Access a)) (replies.Answer v) ≡ elim (if not b then Some (entry.Access a v) else None) as (λ _. ℕ) [ None ↦ u | Some e ↦ suc u ]
 used_by u a v b e = ap (λ x. elim (if not x then Some (entry.Access a v) else None) as (λ _. ℕ) [ None ↦ u | Some e ↦ suc u ]) e
 
 left_by : (a : Access) (v : Answer) (c : Content) (b : Bool) → (is_limit v || is_local_write a) ≡ b → left_alone a v c ≡ (if not b then after_access a c else c)
 left_by a v c b e = ap (λ x. if not x then after_access a c else c) e
 
 stepped : (u w : ℕ) (others : List Reply) (c d : Content) (a : Access) (v : Answer) → told_alone u c a ≡ v
-    → used_after u (asks.Access a) (replies.Answer v) ≡ w → left_alone a v c ≡ d
-    → serve_alone (asks.Access a) (desk u others c) ≡ Some (replies.Answer v, desk w others d)
+    → used_after u (asks.Shared (shared_asks.Access a)) (replies.Answer v) ≡ w → left_alone a v c ≡ d
+    → serve_alone (asks.Shared (shared_asks.Access a)) (desk u others c) ≡ Some (replies.Answer v, desk w others d)
 stepped u w others c d a v e f h =
     step_access u others c a v e ∙ ap (λ x. Some (replies.Answer v, desk x others (left_alone a v c))) f ∙ ap (λ m. Some (replies.Answer v, desk w others m)) h
 
 -- an access and the rest
 serves_access : (u : ℕ) (a : Access) (v : Answer) (es : Log) (more : List Reply) (g : Content) (earlier : Accesses) (b : Bool)
     → (is_limit v || is_local_write a) ≡ b → IsKept u a v
-    → ((w : ℕ) (before : Accesses) → w ≡ used_after u (asks.Access a) (replies.Answer v) → Hold g before (accesses_of es)
+    → ((w : ℕ) (before : Accesses) → w ≡ used_after u (asks.Shared (shared_asks.Access a)) (replies.Answer v) → Hold g before (accesses_of es)
     → Serves (desk w (others_of es ++ more) (seen g before)) es (desk (used_all w es) more (seen g (before ++ accesses_of es))))
     → Hold g earlier (cons_option (if not b then Some (entry.Access a v) else None) (accesses_of es))
-    → (mid : Desk) × (serve_alone (asks.Access a) (desk u (others_of es ++ more) (seen g earlier)) ≡ Some (replies.Answer v, mid))
-    × Serves mid es (desk (used_all (used_after u (asks.Access a) (replies.Answer v)) es) more
+    → (mid : Desk) × (serve_alone (asks.Shared (shared_asks.Access a)) (desk u (others_of es ++ more) (seen g earlier)) ≡ Some (replies.Answer v, mid))
+    × Serves mid es (desk (used_all (used_after u (asks.Shared (shared_asks.Access a)) (replies.Answer v)) es) more
     (seen g (earlier ++ cons_option (if not b then Some (entry.Access a v) else None) (accesses_of es))))
 serves_access u a v es more g earlier true e k rest h = (
   desk u (others_of es ++ more) (seen g earlier),
@@ -111,30 +113,31 @@ unlock_seen g earlier u = seen_more g earlier (entry.Unlock u)
 pub serves : (u : ℕ) (es : Log) (more : List Reply) (g : Content) (earlier : Accesses) → Kept u es → Hold g earlier (accesses_of es)
     → Serves (desk u (others_of es ++ more) (seen g earlier)) es (desk (used_all u es) more (seen g (earlier ++ accesses_of es)))
 serves u [] more g earlier k h = rw append-nil refl
-serves u ((asks.Access a, r) ∷ es) more g earlier k h =
-    subst (λ s. Serves (desk u (others_of es ++ more) (seen g earlier)) ((asks.Access a, s) ∷ es) (desk (used_all u ((asks.Access a, s) ∷ es)) more (seen g (earlier ++ accesses_of ((asks.Access a, s) ∷ es)))))
+serves u ((asks.Shared (shared_asks.Access a), r) ∷ es) more g earlier k h =
+    subst (λ s. Serves (desk u (others_of es ++ more) (seen g earlier)) ((asks.Shared (shared_asks.Access a), s) ∷ es)
+    (desk (used_all u ((asks.Shared (shared_asks.Access a), s) ∷ es)) more (seen g (earlier ++ accesses_of ((asks.Shared (shared_asks.Access a), s) ∷ es)))))
     (sym k.0.1)
     (serves_access u a k.0.0 es more g earlier (is_limit k.0.0 || is_local_write a) refl k.0.2
     (λ w before is hold. serves w es more g before
-    (subst (λ x. Kept x es) (sym is) (subst (λ s. Kept (used_after u (asks.Access a) s) es) k.0.1 k.1)) hold)
-    (subst (λ s. Hold g earlier (accesses_of ((asks.Access a, s) ∷ es))) k.0.1 h))
-serves u ((asks.Unlock names, replies.Done) ∷ es) more g earlier k h = (
+    (subst (λ x. Kept x es) (sym is) (subst (λ s. Kept (used_after u (asks.Shared (shared_asks.Access a)) s) es) k.0.1 k.1)) hold)
+    (subst (λ s. Hold g earlier (accesses_of ((asks.Shared (shared_asks.Access a), s) ∷ es))) k.0.1 h))
+serves u ((asks.Shared (shared_asks.Unlock names), replies.Done) ∷ es) more g earlier k h = (
   desk (suc u) (others_of es ++ more) (seen g earlier),
   refl,
   on_from (suc u) (used_all (suc u) es) es more g (seen g earlier) earlier (entry.Unlock (unlock.Names names)) (unlock_seen g earlier (unlock.Names names))
       (serves (suc u) es more g (earlier ++ entry.Unlock (unlock.Names names) ∷ []) k.1 h.1),
 )
-serves u ((asks.UnlockAll, replies.Done) ∷ es) more g earlier k h = (
+serves u (((asks.Shared shared_asks.UnlockAll), replies.Done) ∷ es) more g earlier k h = (
   desk (suc u) (others_of es ++ more) (seen g earlier),
   refl,
   on_from (suc u) (used_all (suc u) es) es more g (seen g earlier) earlier (entry.Unlock unlock.All) (unlock_seen g earlier unlock.All)
       (serves (suc u) es more g (earlier ++ entry.Unlock unlock.All ∷ []) k.1 h.1),
 )
-serves u ((asks.Commit, r) ∷ es) more g earlier k h = absurd k.0
-serves u ((asks.Rollback, r) ∷ es) more g earlier k h = absurd k.0
-serves u ((asks.Halt fault, r) ∷ es) more g earlier k h = absurd k.0
-serves u ((asks.Unlock names, r) ∷ es) more g earlier k h = (desk u (others_of es ++ more) (seen g earlier), refl, serves u es more g earlier k.1 h)
-serves u ((asks.UnlockAll, r) ∷ es) more g earlier k h = (desk u (others_of es ++ more) (seen g earlier), refl, serves u es more g earlier k.1 h)
+serves u (((asks.Shared shared_asks.Commit), r) ∷ es) more g earlier k h = absurd k.0
+serves u (((asks.Shared shared_asks.Rollback), r) ∷ es) more g earlier k h = absurd k.0
+serves u ((asks.Shared (shared_asks.Halt fault), r) ∷ es) more g earlier k h = absurd k.0
+serves u ((asks.Shared (shared_asks.Unlock names), r) ∷ es) more g earlier k h = (desk u (others_of es ++ more) (seen g earlier), refl, serves u es more g earlier k.1 h)
+serves u (((asks.Shared shared_asks.UnlockAll), r) ∷ es) more g earlier k h = (desk u (others_of es ++ more) (seen g earlier), refl, serves u es more g earlier k.1 h)
 serves u ((a, r) ∷ es) more g earlier k h = (desk u (others_of es ++ more) (seen g earlier), refl, serves u es more g earlier k.1 h)
 
 -- one more ask than in the log, and so on
@@ -152,8 +155,8 @@ pub go_one : (p : Program) (n k : ℕ) (before : Log) (d mid : Desk) (a : Ask) (
 go_one p n k before d mid a r locals places e s = rw (e, go) (rw (s, go) refl)
 
 pub go_ends : (p : Program) (n k : ℕ) (before : Log) (d : Desk) (locals : Locals) (places : List Place)
-    → p n (replies_of before) ≡ Needs asks.Commit locals places
-    → go p n k before d ≡ record { log = []; globals = d.globals; stop = Needs asks.Commit locals places }
+    → p n (replies_of before) ≡ Needs (asks.Shared shared_asks.Commit) locals places
+    → go p n k before d ≡ record { log = []; globals = d.globals; stop = Needs (asks.Shared shared_asks.Commit) locals places }
 go_ends p n zero before d locals places e = rw e refl
 go_ends p n (suc k) before d locals places e = rw (e, go) (rw e refl)
 

@@ -13,6 +13,7 @@ use Rattle.mj_ask.specs.Keeping.{is_limit}
 use Rattle.mj_ask.specs.declared.ask.Kind.{Kind}
 use Rattle.mj_ask.specs.declared.ask.Ask.{Ask}
 use Rattle.mj_ask.specs.declared.ask.Ask.TheVariants as asks
+use Rattle.mj_ask.specs.declared.ask.SharedAsk.TheVariants as shared_asks
 use Rattle.mj_ask.specs.declared.ask.Reply.{Reply}
 use Rattle.mj_ask.specs.declared.ask.Reply.TheVariants as replies
 use Rattle.mj_txlog.specs.Accesses.{Transaction, is_write, is_full, seen, reply_in, with_reply, with_entry}
@@ -24,8 +25,8 @@ use Rattle.mj_sys.specs.Transactions.{is_serial}
 use Rattle.mj_sys.specs.declared.event.Event.{Event}
 use Rattle.mj_sys.specs.History.{History, log_of}
 use Rattle.mj_serial.specs.Programs.{Log, Program, Asks, AreAsked}
-use Rattle.mj_serial.specs.Blocks.{Block, Stand, taken, longer, block_after, stand_after, stands_from, entry_of, accesses_of}
-use Rattle.mj_serial.specs.Rules.{Rule, Sight, IsTold, transaction_after, sight_after, sight_behind, AreTold}
+use Rattle.mj_serial.specs.Blocks.{Block, ScanStand, taken, longer, block_after, stand_after, stands_from, entry_of, accesses_of}
+use Rattle.mj_serial.specs.Rules.{Rule, Sight, IsToldByRule, transaction_after, sight_after, sight_behind, AreTold}
 use Rattle.mj_serial.proofs.Logs.{asked_more, used_all, used_is, IsKept, KeptAt, Kept, kept_more, accesses_append}
 
 -- a transaction that is open, and what the scan has of it
@@ -37,7 +38,7 @@ pub record IsOpen (programs : ℕ → Program) (j : ℕ) (log : Log) (t : Transa
   pub front : Log
   pub kind : Kind
   pub reply : Reply
-  pub begins : b.before ≡ front ++ (asks.Begin kind, reply) ∷ []
+  pub begins : b.before ≡ front ++ (asks.Shared (shared_asks.Begin kind), reply) ∷ []
   pub as_kind : b.serial ≡ is_serial kind
   pub asked : AreAsked (programs b.job) b.before b.since
   pub kept : Kept 0 b.since
@@ -153,11 +154,11 @@ told_serial t g a false = reply_serial t a (reply_in t g a)
 
 -- an access in a transaction
 access_open : (programs : ℕ → Program) (j : ℕ) (log : Log) (t : Transaction) (b : Block) (g : Content) (a : Access) (r : Reply)
-    → IsOpen programs j log t b → Asks (programs j) log (asks.Access a) → r ≡ replies.Answer (told_in t g a)
-    → IsOpen programs j (log ++ (asks.Access a, r) ∷ []) (after_told t g a) (longer b (asks.Access a) r)
+    → IsOpen programs j log t b → Asks (programs j) log (asks.Shared (shared_asks.Access a)) → r ≡ replies.Answer (told_in t g a)
+    → IsOpen programs j (log ++ (asks.Shared (shared_asks.Access a), r) ∷ []) (after_told t g a) (longer b (asks.Shared (shared_asks.Access a)) r)
 access_open programs j log t b g a r o k e =
-    subst (λ s. IsOpen programs j (log ++ (asks.Access a, s) ∷ []) (after_told t g a) (longer b (asks.Access a) s)) (sym e)
-    (more_open programs j log t (after_told t g a) b (asks.Access a) (replies.Answer (told_in t g a)) o k
+    subst (λ s. IsOpen programs j (log ++ (asks.Shared (shared_asks.Access a), s) ∷ []) (after_told t g a) (longer b (asks.Shared (shared_asks.Access a)) s)) (sym e)
+    (more_open programs j log t (after_told t g a) b (asks.Shared (shared_asks.Access a)) (replies.Answer (told_in t g a)) o k
     (told_in t g a, refl, kept_told (used_all 0 b.since) t g a (is_local_write a) (nat_lt (length t.accesses) 65536) (count o) refl refl)
     (told_serial t g a (is_local_write a)) (told_accesses t g a (is_local_write a) refl))
 
@@ -167,38 +168,39 @@ unlock_serial t u true = refl
 unlock_serial t u false = refl
 
 names_open : (programs : ℕ → Program) (j : ℕ) (log : Log) (t : Transaction) (b : Block) (names : List Name) (r : Reply) (full : Bool)
-    → IsOpen programs j log t b → Asks (programs j) log (asks.Unlock names) → r ≡ (if full then replies.Limit else replies.Done)
-    → IsOpen programs j (log ++ (asks.Unlock names, r) ∷ []) (cond full t (with_entry t (entry.Unlock (unlock.Names names)))) (longer b (asks.Unlock names) r)
+    → IsOpen programs j log t b → Asks (programs j) log (asks.Shared (shared_asks.Unlock names)) → r ≡ (if full then replies.Limit else replies.Done)
+    → IsOpen programs j (log ++ (asks.Shared (shared_asks.Unlock names), r) ∷ []) (cond full t (with_entry t (entry.Unlock (unlock.Names names)))) (longer b (asks.Shared (shared_asks.Unlock names)) r)
 names_open programs j log t b names r true o k e =
-    subst (λ s. IsOpen programs j (log ++ (asks.Unlock names, s) ∷ []) t (longer b (asks.Unlock names) s)) (sym e)
-    (more_open programs j log t t b (asks.Unlock names) replies.Limit o k tt refl (sym (append-nil t.accesses)))
+    subst (λ s. IsOpen programs j (log ++ (asks.Shared (shared_asks.Unlock names), s) ∷ []) t (longer b (asks.Shared (shared_asks.Unlock names)) s)) (sym e)
+    (more_open programs j log t t b (asks.Shared (shared_asks.Unlock names)) replies.Limit o k tt refl (sym (append-nil t.accesses)))
 names_open programs j log t b names r false o k e =
-    subst (λ s. IsOpen programs j (log ++ (asks.Unlock names, s) ∷ []) (with_entry t (entry.Unlock (unlock.Names names))) (longer b (asks.Unlock names) s)) (sym e)
-    (more_open programs j log t (with_entry t (entry.Unlock (unlock.Names names))) b (asks.Unlock names) replies.Done o k tt refl refl)
+    subst (λ s. IsOpen programs j (log ++ (asks.Shared (shared_asks.Unlock names), s) ∷ []) (with_entry t (entry.Unlock (unlock.Names names)))
+    (longer b (asks.Shared (shared_asks.Unlock names)) s)) (sym e)
+    (more_open programs j log t (with_entry t (entry.Unlock (unlock.Names names))) b (asks.Shared (shared_asks.Unlock names)) replies.Done o k tt refl refl)
 
 all_open : (programs : ℕ → Program) (j : ℕ) (log : Log) (t : Transaction) (b : Block) (r : Reply) (full : Bool)
-    → IsOpen programs j log t b → Asks (programs j) log asks.UnlockAll → r ≡ (if full then replies.Limit else replies.Done)
-    → IsOpen programs j (log ++ (asks.UnlockAll, r) ∷ []) (cond full t (with_entry t (entry.Unlock unlock.All))) (longer b asks.UnlockAll r)
+    → IsOpen programs j log t b → Asks (programs j) log (asks.Shared shared_asks.UnlockAll) → r ≡ (if full then replies.Limit else replies.Done)
+    → IsOpen programs j (log ++ ((asks.Shared shared_asks.UnlockAll), r) ∷ []) (cond full t (with_entry t (entry.Unlock unlock.All))) (longer b (asks.Shared shared_asks.UnlockAll) r)
 all_open programs j log t b r true o k e =
-    subst (λ s. IsOpen programs j (log ++ (asks.UnlockAll, s) ∷ []) t (longer b asks.UnlockAll s)) (sym e)
-    (more_open programs j log t t b asks.UnlockAll replies.Limit o k tt refl (sym (append-nil t.accesses)))
+    subst (λ s. IsOpen programs j (log ++ ((asks.Shared shared_asks.UnlockAll), s) ∷ []) t (longer b (asks.Shared shared_asks.UnlockAll) s)) (sym e)
+    (more_open programs j log t t b (asks.Shared shared_asks.UnlockAll) replies.Limit o k tt refl (sym (append-nil t.accesses)))
 all_open programs j log t b r false o k e =
-    subst (λ s. IsOpen programs j (log ++ (asks.UnlockAll, s) ∷ []) (with_entry t (entry.Unlock unlock.All)) (longer b asks.UnlockAll s)) (sym e)
-    (more_open programs j log t (with_entry t (entry.Unlock unlock.All)) b asks.UnlockAll replies.Done o k tt refl refl)
+    subst (λ s. IsOpen programs j (log ++ ((asks.Shared shared_asks.UnlockAll), s) ∷ []) (with_entry t (entry.Unlock unlock.All)) (longer b (asks.Shared shared_asks.UnlockAll) s)) (sym e)
+    (more_open programs j log t (with_entry t (entry.Unlock unlock.All)) b (asks.Shared shared_asks.UnlockAll) replies.Done o k tt refl refl)
 
 -- ---- one ask
 
 abbrev FitsAfter : Rule → (ℕ → Program) → ℕ → ℕ → Log → Option Transaction → Option Block → Content → Ask → Reply → Type 0
 FitsAfter rule programs j place log t block g a r =
-    Fits programs j log t block → IsTold rule t g a r → Asks (programs j) log a
+    Fits programs j log t block → IsToldByRule rule t g a r → Asks (programs j) log a
     → Fits programs j (log ++ (a, r) ∷ []) (transaction_after t g a r) (block_after j place log block a r)
 
 fits_none : (rule : Rule) (programs : ℕ → Program) (j place : ℕ) (log : Log) (g : Content) (a : Ask) (r : Reply) → FitsAfter rule programs j place log None None g a r
-fits_none rule programs j place log g (asks.Begin kind) r f s k = record {
+fits_none rule programs j place log g (asks.Shared (shared_asks.Begin kind)) r f s k = record {
   job = refl;
   serial = refl;
   accesses = refl;
-  is = sym (append-nil (log ++ (asks.Begin kind, r) ∷ []));
+  is = sym (append-nil (log ++ (asks.Shared (shared_asks.Begin kind), r) ∷ []));
   front = log;
   kind = kind;
   reply = r;
@@ -207,22 +209,22 @@ fits_none rule programs j place log g (asks.Begin kind) r f s k = record {
   asked = tt;
   kept = tt;
 }
-fits_none rule programs j place log g (asks.Try names timeout) replies.Got f s k = tt
-fits_none rule programs j place log g (asks.Try names timeout) r f s k = tt
+fits_none rule programs j place log g (asks.Shared (shared_asks.Try names timeout)) replies.Got f s k = tt
+fits_none rule programs j place log g (asks.Shared (shared_asks.Try names timeout)) r f s k = tt
 fits_none rule programs j place log g a r f s k = tt
 
 fits_some : (rule : Rule) (programs : ℕ → Program) (j place : ℕ) (log : Log) (t : Transaction) (b : Block) (g : Content) (a : Ask) (r : Reply)
     → FitsAfter rule programs j place log (Some t) (Some b) g a r
-fits_some rule programs j place log t b g (asks.Access a) r f s k = access_open programs j log t b g a r f k s
-fits_some rule programs j place log t b g (asks.Unlock names) r f s k = names_open programs j log t b names r (is_full t) f k s
-fits_some rule programs j place log t b g asks.UnlockAll r f s k = all_open programs j log t b r (is_full t) f k s
-fits_some rule programs j place log t b g (asks.Try names timeout) replies.Got f s k =
-    more_open programs j log t (record t { gained = t.gained ++ names }) b (asks.Try names timeout) replies.Got f k tt refl (sym (append-nil t.accesses))
-fits_some rule programs j place log t b g (asks.Try names timeout) r f s k =
-    more_open programs j log t t b (asks.Try names timeout) r f k tt refl (sym (append-nil t.accesses))
-fits_some rule programs j place log t b g asks.Commit r f s k = tt
-fits_some rule programs j place log t b g asks.Rollback r f s k = tt
-fits_some rule programs j place log t b g (asks.Halt fault) r f s k = tt
+fits_some rule programs j place log t b g (asks.Shared (shared_asks.Access a)) r f s k = access_open programs j log t b g a r f k s
+fits_some rule programs j place log t b g (asks.Shared (shared_asks.Unlock names)) r f s k = names_open programs j log t b names r (is_full t) f k s
+fits_some rule programs j place log t b g (asks.Shared shared_asks.UnlockAll) r f s k = all_open programs j log t b r (is_full t) f k s
+fits_some rule programs j place log t b g (asks.Shared (shared_asks.Try names timeout)) replies.Got f s k =
+    more_open programs j log t (record t { gained = t.gained ++ names }) b (asks.Shared (shared_asks.Try names timeout)) replies.Got f k tt refl (sym (append-nil t.accesses))
+fits_some rule programs j place log t b g (asks.Shared (shared_asks.Try names timeout)) r f s k =
+    more_open programs j log t t b (asks.Shared (shared_asks.Try names timeout)) r f k tt refl (sym (append-nil t.accesses))
+fits_some rule programs j place log t b g (asks.Shared shared_asks.Commit) r f s k = tt
+fits_some rule programs j place log t b g (asks.Shared shared_asks.Rollback) r f s k = tt
+fits_some rule programs j place log t b g (asks.Shared (shared_asks.Halt fault)) r f s k = tt
 fits_some rule programs j place log t b g a r f s k = more_open programs j log t t b a r f k tt refl (sym (append-nil t.accesses))
 
 fits_after : (rule : Rule) (programs : ℕ → Program) (j place : ℕ) (log : Log) (t : Option Transaction) (block : Option Block) (g : Content) (a : Ask) (r : Reply)
@@ -233,18 +235,18 @@ fits_after rule programs j place log None (Some b) g a r f s k = absurd f
 fits_after rule programs j place log (Some t) None g a r f s k = absurd f
 
 -- ---- where the jobs stand in a run, of which this history is left
-pub record IsAt (rule : Rule) (programs : ℕ → Program) (s : Sight) (w : ℕ → Stand) (h : History) : Type 0 where
+pub record IsAt (rule : Rule) (programs : ℕ → Program) (s : Sight) (w : ℕ → ScanStand) (h : History) : Type 0 where
   pub fits : (j : ℕ) → Fits programs j (w j).log (s.transactions j) (w j).block
   pub told : AreTold rule s h
   pub asked : (j : ℕ) → AreAsked (programs j) (w j).log (log_of j h)
 
 -- the job's own next event
-pub own : {rule : Rule} {programs : ℕ → Program} {s : Sight} {w : ℕ → Stand} {e : Event} {h : History}
+pub own : {rule : Rule} {programs : ℕ → Program} {s : Sight} {w : ℕ → ScanStand} {e : Event} {h : History}
     → IsAt rule programs s w (e ∷ h) → AreAsked (programs e.job) (w e.job).log ((e.ask, e.reply) ∷ log_of e.job h)
 own {programs = programs} {w = w} {e = e} {h = h} i =
     subst (λ b. AreAsked (programs e.job) (w e.job).log (if b then (e.ask, e.reply) ∷ log_of e.job h else log_of e.job h)) (eq-eqb e.job e.job refl) (i.asked e.job)
 
-pub one_on : {rule : Rule} {programs : ℕ → Program} {s : Sight} {w : ℕ → Stand} (place : ℕ) {e : Event} {h : History}
+pub one_on : {rule : Rule} {programs : ℕ → Program} {s : Sight} {w : ℕ → ScanStand} (place : ℕ) {e : Event} {h : History}
     → IsAt rule programs s w (e ∷ h) → IsAt rule programs (sight_after s e) (stand_after place w e) h
 one_on {rule} {programs} {s} {w} place {e} {h} i = record {
   fits = λ j. fit j (e.job == j) refl;
@@ -252,7 +254,7 @@ one_on {rule} {programs} {s} {w} place {e} {h} i = record {
   asked = λ j. ask_on j (e.job == j) refl;
 }
   where
-    next : Stand
+    next : ScanStand
     next = record { log = (w e.job).log ++ (e.ask, e.reply) ∷ []; block = block_after e.job place (w e.job).log (w e.job).block e.ask e.reply }
 
     fit : (j : ℕ) (b : Bool) → (e.job == j) ≡ b
@@ -266,7 +268,7 @@ one_on {rule} {programs} {s} {w} place {e} {h} i = record {
     ask_on j true q = subst (λ x. AreAsked (programs x) next.log (log_of x h)) (eqb-true e.job j q) (own i).1
     ask_on j false q = subst (λ b. AreAsked (programs j) (w j).log (if b then (e.ask, e.reply) ∷ log_of j h else log_of j h)) q (i.asked j)
 
-pub all_on : {rule : Rule} {programs : ℕ → Program} (h : History) {s : Sight} {w : ℕ → Stand} (place : ℕ) (later : History)
+pub all_on : {rule : Rule} {programs : ℕ → Program} (h : History) {s : Sight} {w : ℕ → ScanStand} (place : ℕ) (later : History)
     → IsAt rule programs s w (h ++ later) → IsAt rule programs (sight_behind s h) (stands_from place w h) later
 all_on [] place later i = i
 all_on (e ∷ h) place later i = all_on h (suc place) later (one_on place i)

@@ -9,6 +9,7 @@ use Rattle.mj_store.specs.declared.access.Access.TheVariants as access
 use Rattle.mj_store.specs.declared.access.Answer.{Answer}
 use Rattle.mj_ask.specs.declared.ask.Ask.{Ask}
 use Rattle.mj_ask.specs.declared.ask.Ask.TheVariants as asks
+use Rattle.mj_ask.specs.declared.ask.SharedAsk.TheVariants as shared_asks
 use Rattle.mj_ask.specs.declared.ask.Reply.{Reply}
 use Rattle.mj_ask.specs.declared.ask.Reply.TheVariants as replies
 use Rattle.mj_ask.specs.Keeping.{is_limit}
@@ -66,10 +67,10 @@ pub record IsKept (u : ℕ) (a : Access) (v : Answer) : Type 0 where
 
 -- an entry of an open transaction
 abbrev pub KeptAt : ℕ → Ask → Reply → Type 0
-KeptAt u (asks.Access a) r = (v : Answer) × (r ≡ replies.Answer v) × IsKept u a v
-KeptAt u asks.Commit r = ⊥
-KeptAt u asks.Rollback r = ⊥
-KeptAt u (asks.Halt fault) r = ⊥
+KeptAt u (asks.Shared (shared_asks.Access a)) r = (v : Answer) × (r ≡ replies.Answer v) × IsKept u a v
+KeptAt u (asks.Shared shared_asks.Commit) r = ⊥
+KeptAt u (asks.Shared shared_asks.Rollback) r = ⊥
+KeptAt u (asks.Shared (shared_asks.Halt fault)) r = ⊥
 KeptAt u _ r = ⊤
 
 abbrev pub Kept : ℕ → Log → Type 0

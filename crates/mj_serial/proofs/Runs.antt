@@ -14,6 +14,7 @@ use Rattle.mj_ask.specs.declared.ask.Kind.{Kind}
 use Rattle.mj_ask.specs.declared.ask.Kind.TheVariants as kinds
 use Rattle.mj_ask.specs.declared.ask.Ask.{Ask}
 use Rattle.mj_ask.specs.declared.ask.Ask.TheVariants as asks
+use Rattle.mj_ask.specs.declared.ask.SharedAsk.TheVariants as shared_asks
 use Rattle.mj_ask.specs.declared.ask.Reply.{Reply}
 use Rattle.mj_ask.specs.declared.ask.Reply.TheVariants as replies
 use Rattle.mj_semantics.specs.State.{Locals, Place}
@@ -28,10 +29,10 @@ use Rattle.mj_sys.specs.Shared.{changed}
 use Rattle.mj_sys.specs.declared.event.Event.{Event}
 use Rattle.mj_sys.specs.History.{History, log_of}
 use Rattle.mj_serial.specs.Programs.{Log, replies_of, Program, IsSteady, Asks}
-use Rattle.mj_serial.specs.Blocks.{Block, Stand, single, ended, done_at, stand_after, blocks_from, blocks_of, nowhere, entry_of, accesses_of}
+use Rattle.mj_serial.specs.Blocks.{Block, ScanStand, single, ended, done_at, stand_after, blocks_from, blocks_of, nowhere, entry_of, accesses_of}
 use Rattle.mj_serial.specs.Alone.{Desk, in_front, go, desk_of, with_parts, alone, others_of}
 use Rattle.mj_serial.specs.Serial.{had, had_all, AtCommit, IsPart}
-use Rattle.mj_serial.specs.Rules.{Rule, Sight, Exactly, IsTold, IsCommitTold, committed_as, globals_left, sight_of, sight_after, sight_behind, IsRunBy, IsSerialBy}
+use Rattle.mj_serial.specs.Rules.{Rule, Sight, Exactly, IsToldByRule, IsCommitTold, committed_as, globals_left, sight_of, sight_after, sight_behind, IsRunBy, IsSerialBy}
 use Rattle.mj_serial.proofs.Logs.{used_all, still_needs, one_seen, leaves}
 use Rattle.mj_serial.proofs.Going.{Serves, desk, serves, past, past_is, go_ends, GoesAlong, goes_along}
 use Rattle.mj_serial.proofs.Kept.{IsOpen, Fits, IsAt, own, one_on}
@@ -41,7 +42,7 @@ record BlockAlone (p : Program) (b : Block) (g last : Content) : Type 0 where
   turns : ℕ
   same : (n : ℕ) → turns ≤ n
       → go p n n b.before (desk_of b.since g) ≡ record { log = b.since; globals = last; stop = p n (replies_of (b.before ++ b.since)) }
-  stand : (n : ℕ) → turns ≤ n → (locals : Locals) × (places : List Place) × (p n (replies_of (b.before ++ b.since)) ≡ Needs asks.Commit locals places)
+  stand : (n : ℕ) → turns ≤ n → (locals : Locals) × (places : List Place) × (p n (replies_of (b.before ++ b.since)) ≡ Needs (asks.Shared shared_asks.Commit) locals places)
 
 served_alone : (programs : ℕ → Program) (j : ℕ) (log : Log) (t : Transaction) (b : Block) (g : Content) → IsOpen programs j log t b → Hold g [] t.accesses
     → Serves (desk_of b.since g) b.since (desk (used_all 0 b.since) [] (seen g t.accesses))
@@ -51,11 +52,11 @@ served_alone programs j log t b g o h =
     (serves 0 b.since [] g [] o.kept (subst (λ l. Hold g [] l) o.accesses h)))
 
 block_alone : (programs : ℕ → Program) → ((j : ℕ) → IsSteady (programs j)) → (j : ℕ) (log : Log) (t : Transaction) (b : Block) (g : Content)
-    → IsOpen programs j log t b → Hold g [] t.accesses → Asks (programs j) log asks.Commit
+    → IsOpen programs j log t b → Hold g [] t.accesses → Asks (programs j) log (asks.Shared shared_asks.Commit)
     → BlockAlone (programs b.job) b g (seen g t.accesses)
 block_alone programs st j log t b g o h k =
     one (goes_along p (st b.job) b.before b.since (desk_of b.since g) last o.asked (served_alone programs j log t b g o h))
-    (subst (λ l. Asks p l asks.Commit) o.is (subst (λ i. Asks (programs i) log asks.Commit) (sym o.job) k))
+    (subst (λ l. Asks p l (asks.Shared shared_asks.Commit)) o.is (subst (λ i. Asks (programs i) log (asks.Shared shared_asks.Commit)) (sym o.job) k))
   where
     p : Program
     p = programs b.job
@@ -63,21 +64,21 @@ block_alone programs st j log t b g o h k =
     last : Desk
     last = desk (used_all 0 b.since) [] (seen g t.accesses)
 
-    one : GoesAlong p b.before b.since (desk_of b.since g) last → Asks p (b.before ++ b.since) asks.Commit → BlockAlone p b g (seen g t.accesses)
+    one : GoesAlong p b.before b.since (desk_of b.since g) last → Asks p (b.before ++ b.since) (asks.Shared shared_asks.Commit) → BlockAlone p b g (seen g t.accesses)
     one along asked = record {
       turns = max (length b.since) (max along.turns asked.0);
       same = λ n le.
           let l : along.turns ≤ n = omega arith in
           let m : n ≡ past b.since (n - length b.since) = omega (arith, past_is b.since (n - length b.since)) in
           let q : asked.0 ≤ n = omega arith in
-          let e : p n (replies_of (b.before ++ b.since)) ≡ Needs asks.Commit asked.1 asked.2
-          = still_needs p (st b.job) asked.0 n (replies_of (b.before ++ b.since)) asks.Commit asked.1 asked.2 q asked.3 in
+          let e : p n (replies_of (b.before ++ b.since)) ≡ Needs (asks.Shared shared_asks.Commit) asked.1 asked.2
+          = still_needs p (st b.job) asked.0 n (replies_of (b.before ++ b.since)) (asks.Shared shared_asks.Commit) asked.1 asked.2 q asked.3 in
           ap (λ x. go p n x b.before (desk_of b.since g)) m ∙ along.by n l (n - length b.since)
           ∙ ap (in_front b.since) (go_ends p n (n - length b.since) (b.before ++ b.since) last asked.1 asked.2 e)
           ∙ rw (e, append-nil) refl;
       stand = λ n le.
           let q : asked.0 ≤ n = omega arith in
-          (asked.1, asked.2, still_needs p (st b.job) asked.0 n (replies_of (b.before ++ b.since)) asks.Commit asked.1 asked.2 q asked.3);
+          (asked.1, asked.2, still_needs p (st b.job) asked.0 n (replies_of (b.before ++ b.since)) (asks.Shared shared_asks.Commit) asked.1 asked.2 q asked.3);
     }
 
 -- the blocks that are over with an event, run alone, do to the globals what the event does
@@ -128,7 +129,7 @@ alone_left programs g last bs e x = subst (λ m. EventAlone programs bs g m) e x
 
 single_by : (programs : ℕ → Program) (j place : ℕ) (log : Log) (g : Content) (a : Access) (b : Bool)
     → (is_limit (answer_of a g) || is_local_write a) ≡ b
-    → EventAlone programs (single j place log (asks.Access a) (replies.Answer (answer_of a g)) (if not b then Some (entry.Access a (answer_of a g)) else None)) g (changed a g)
+    → EventAlone programs (single j place log (asks.Shared (shared_asks.Access a)) (replies.Answer (answer_of a g)) (if not b then Some (entry.Access a (answer_of a g)) else None)) g (changed a g)
 single_by programs j place log g a true e =
     alone_left programs g (changed a g) [] (sym (untaken_leaves (is_limit (answer_of a g)) (is_write a) (name_of a).global a g e refl)) (no_block programs g)
 single_by programs j place log g a false e = record {
@@ -137,16 +138,16 @@ single_by programs j place log g a false e = record {
   stand = λ n le. one_of (AtCommit programs n) _ (λ q. absurd cc);
 }
   where
-    entry_is : entry_of (asks.Access a) (replies.Answer (answer_of a g)) ≡ Some (entry.Access a (answer_of a g))
+    entry_is : entry_of (asks.Shared (shared_asks.Access a)) (replies.Answer (answer_of a g)) ≡ Some (entry.Access a (answer_of a g))
     entry_is = ap (λ b. if not b then Some (entry.Access a (answer_of a g)) else None) e
 
-    made : after_accesses (writes_of (accesses_of ((asks.Access a, replies.Answer (answer_of a g)) ∷ []))) g ≡ after_access a g
+    made : after_accesses (writes_of (accesses_of ((asks.Shared (shared_asks.Access a), replies.Answer (answer_of a g)) ∷ []))) g ≡ after_access a g
     made = ap (λ o. after_accesses (writes_of (cons_option o [])) g) entry_is ∙ one_seen g a (answer_of a g)
 
 single_alone : (programs : ℕ → Program) (j place : ℕ) (log : Log) (g : Content) (a : Access) (r : Reply) → r ≡ replies.Answer (answer_of a g)
-    → EventAlone programs (single j place log (asks.Access a) r (entry_of (asks.Access a) r)) g (changed a g)
+    → EventAlone programs (single j place log (asks.Shared (shared_asks.Access a)) r (entry_of (asks.Shared (shared_asks.Access a)) r)) g (changed a g)
 single_alone programs j place log g a r e =
-    subst (λ s. EventAlone programs (single j place log (asks.Access a) s (entry_of (asks.Access a) s)) g (changed a g)) (sym e)
+    subst (λ s. EventAlone programs (single j place log (asks.Shared (shared_asks.Access a)) s (entry_of (asks.Shared (shared_asks.Access a)) s)) g (changed a g)) (sym e)
     (single_by programs j place log g a (is_limit (answer_of a g) || is_local_write a) refl)
 
 -- ---- commits
@@ -168,7 +169,7 @@ plain_alone programs b g accesses e x = record {
 }
 
 commit_alone : (programs : ℕ → Program) → ((j : ℕ) → IsSteady (programs j)) → (j : ℕ) (log : Log) (t : Transaction) (b : Block) (g : Content) (r : Reply) (serial : Bool)
-    → t.serial ≡ serial → IsOpen programs j log t b → IsCommitTold Exactly (Some t) g r → Asks (programs j) log asks.Commit
+    → t.serial ≡ serial → IsOpen programs j log t b → IsCommitTold Exactly (Some t) g r → Asks (programs j) log (asks.Shared shared_asks.Commit)
     → EventAlone programs (ended b r) g (committed_as (Some t) g r)
 commit_alone programs st j log t b g replies.Done true e o s k =
     serial_alone programs b g (seen g t.accesses) (o.serial ∙ e) (block_alone programs st j log t b g o (rw e at s) k)
@@ -176,13 +177,13 @@ commit_alone programs st j log t b g replies.Done false e o s k = plain_alone pr
 commit_alone programs st j log t b g r x e o s k = no_block programs g
 
 event_alone : (programs : ℕ → Program) → ((j : ℕ) → IsSteady (programs j)) → (j place : ℕ) (log : Log) (t : Option Transaction) (block : Option Block) (g : Content) (a : Ask) (r : Reply)
-    → Fits programs j log t block → IsTold Exactly t g a r → Asks (programs j) log a
+    → Fits programs j log t block → IsToldByRule Exactly t g a r → Asks (programs j) log a
     → EventAlone programs (done_at j place log block a r) g (globals_left t g a r)
 event_alone programs st j place log None (Some b) g a r f s k = absurd f
 event_alone programs st j place log (Some t) None g a r f s k = absurd f
-event_alone programs st j place log None None g (asks.Access a) r f s k = single_alone programs j place log g a r s
+event_alone programs st j place log None None g (asks.Shared (shared_asks.Access a)) r f s k = single_alone programs j place log g a r s
 event_alone programs st j place log None None g a r f s k = no_block programs g
-event_alone programs st j place log (Some t) (Some b) g asks.Commit r f s k = commit_alone programs st j log t b g r t.serial refl f s k
+event_alone programs st j place log (Some t) (Some b) g (asks.Shared shared_asks.Commit) r f s k = commit_alone programs st j log t b g r t.serial refl f s k
 event_alone programs st j place log (Some t) (Some b) g a r f s k = no_block programs g
 
 record AloneFrom (programs : ℕ → Program) (s : Sight) (bs : List Block) (h : History) : Type 0 where
@@ -195,7 +196,7 @@ had_append programs n [] ys = refl
 had_append programs n (b ∷ xs) ys =
     ap (λ l. had programs n b ++ l) (had_append programs n xs ys) ∙ sym (append_assoc (had programs n b) (had_all programs n xs) (had_all programs n ys))
 
-alone_from : (programs : ℕ → Program) → ((j : ℕ) → IsSteady (programs j)) → (h : History) (s : Sight) (w : ℕ → Stand) (place : ℕ)
+alone_from : (programs : ℕ → Program) → ((j : ℕ) → IsSteady (programs j)) → (h : History) (s : Sight) (w : ℕ → ScanStand) (place : ℕ)
     → IsAt Exactly programs s w h → AloneFrom programs s (blocks_from place w h) h
 alone_from programs st [] s w place i = record { turns = 0; same = λ n le. refl; stand = λ n le. All-nil (AtCommit programs n) }
 alone_from programs st (e ∷ h) s w place i =
@@ -226,21 +227,21 @@ alone_from programs st (e ∷ h) s w place i =
 -- ---- the parts of the logs
 
 -- a block in a log of which the scan has the front
-record IsIn (w : ℕ → Stand) (h : History) (b : Block) : Type 0 where
+record IsIn (w : ℕ → ScanStand) (h : History) (b : Block) : Type 0 where
   front : Log
   reply : Reply
-  begins : b.before ≡ front ++ (asks.Begin kinds.Serial, reply) ∷ []
+  begins : b.before ≡ front ++ (asks.Shared (shared_asks.Begin kinds.Serial), reply) ∷ []
   later : Log
-  is : (w b.job).log ++ log_of b.job h ≡ b.before ++ (b.since ++ (asks.Commit, replies.Done) ∷ later)
+  is : (w b.job).log ++ log_of b.job h ≡ b.before ++ (b.since ++ ((asks.Shared shared_asks.Commit), replies.Done) ∷ later)
 
 -- the log doesn't change as the scan goes on
-same_log : (place : ℕ) (w : ℕ → Stand) (e : Event) (h : History) (j : ℕ) (b : Bool) → (e.job == j) ≡ b
+same_log : (place : ℕ) (w : ℕ → ScanStand) (e : Event) (h : History) (j : ℕ) (b : Bool) → (e.job == j) ≡ b
     → (stand_after place w e j).log ++ log_of j h ≡ (w j).log ++ log_of j (e ∷ h)
 same_log place w e h j true q =
     rw q (ap (λ i. ((w i).log ++ (e.ask, e.reply) ∷ []) ++ log_of j h) (eqb-true e.job j q) ∙ append_assoc (w j).log ((e.ask, e.reply) ∷ []) (log_of j h))
 same_log place w e h j false q = rw q refl
 
-goes_back : (place : ℕ) (w : ℕ → Stand) (e : Event) (h : History) (b : Block) → IsIn (stand_after place w e) h b → IsIn w (e ∷ h) b
+goes_back : (place : ℕ) (w : ℕ → ScanStand) (e : Event) (h : History) (b : Block) → IsIn (stand_after place w e) h b → IsIn w (e ∷ h) b
 goes_back place w e h b i = record {
   front = i.front;
   reply = i.reply;
@@ -249,46 +250,46 @@ goes_back place w e h b i = record {
   is = sym (same_log place w e h b.job (e.job == b.job) refl) ∙ i.is;
 }
 
-abbrev InIfSerial : (ℕ → Stand) → History → Block → Type 0
+abbrev InIfSerial : (ℕ → ScanStand) → History → Block → Type 0
 InIfSerial w h b = b.serial ≡ true → IsIn w h b
 
-none_in : (w : ℕ → Stand) (h : History) → All (InIfSerial w h) []
+none_in : (w : ℕ → ScanStand) (h : History) → All (InIfSerial w h) []
 none_in w h = All-nil (InIfSerial w h)
 
 serial_kind : (kind : Kind) → is_serial kind ≡ true → kind ≡ kinds.Serial
 serial_kind kinds.Serial e = refl
 serial_kind kinds.Plain e = absurd cc
 
-single_in : (w : ℕ → Stand) (h : History) (j place : ℕ) (log : Log) (a : Ask) (r : Reply) (o : Option Entry) → All (InIfSerial w h) (single j place log a r o)
+single_in : (w : ℕ → ScanStand) (h : History) (j place : ℕ) (log : Log) (a : Ask) (r : Reply) (o : Option Entry) → All (InIfSerial w h) (single j place log a r o)
 single_in w h j place log a r None = none_in w h
 single_in w h j place log a r (Some e) = one_of (InIfSerial w h) _ (λ q. absurd cc)
 
 -- the block that is over with an event
-ended_in : (programs : ℕ → Program) (w : ℕ → Stand) (e : Event) (h : History) (j place : ℕ) (log : Log) (t : Option Transaction) (block : Option Block) (a : Ask) (r : Reply)
+ended_in : (programs : ℕ → Program) (w : ℕ → ScanStand) (e : Event) (h : History) (j place : ℕ) (log : Log) (t : Option Transaction) (block : Option Block) (a : Ask) (r : Reply)
     → j ≡ e.job → log ≡ (w e.job).log → ◌≡◌ {A = Ask × Reply} (a, r) (e.ask, e.reply) → Fits programs j log t block
     → (later : Log) → log_of e.job (e ∷ h) ≡ (e.ask, e.reply) ∷ later → All (InIfSerial w (e ∷ h)) (done_at j place log block a r)
-ended_in programs w e h j place log (Some t) (Some b) asks.Commit replies.Done je le ae f later l =
+ended_in programs w e h j place log (Some t) (Some b) (asks.Shared shared_asks.Commit) replies.Done je le ae f later l =
     one_of (InIfSerial w (e ∷ h)) b (λ q. record {
       front = f.front;
       reply = f.reply;
-      begins = f.begins ∙ ap (λ k. f.front ++ (asks.Begin k, f.reply) ∷ []) (serial_kind f.kind (sym f.as_kind ∙ q));
+      begins = f.begins ∙ ap (λ k. f.front ++ (asks.Shared (shared_asks.Begin k), f.reply) ∷ []) (serial_kind f.kind (sym f.as_kind ∙ q));
       later = later;
       is = ap (λ i. (w i).log ++ log_of i (e ∷ h)) (f.job ∙ je) ∙ ap (λ x. (w e.job).log ++ x) l
           ∙ ap (λ x. x ++ (e.ask, e.reply) ∷ later) (sym le ∙ f.is) ∙ ap (λ (x : Ask × Reply). (b.before ++ b.since) ++ x ∷ later) (sym ae)
-          ∙ append_assoc b.before b.since ((asks.Commit, replies.Done) ∷ later);
+          ∙ append_assoc b.before b.since (((asks.Shared shared_asks.Commit), replies.Done) ∷ later);
     })
-ended_in programs w e h j place log (Some t) (Some b) asks.Commit r je le ae f later l = none_in w (e ∷ h)
+ended_in programs w e h j place log (Some t) (Some b) (asks.Shared shared_asks.Commit) r je le ae f later l = none_in w (e ∷ h)
 ended_in programs w e h j place log (Some t) (Some b) a r je le ae f later l = none_in w (e ∷ h)
-ended_in programs w e h j place log None None (asks.Access x) r je le ae f later l =
-    single_in w (e ∷ h) j place log (asks.Access x) r (entry_of (asks.Access x) r)
+ended_in programs w e h j place log None None (asks.Shared (shared_asks.Access x)) r je le ae f later l =
+    single_in w (e ∷ h) j place log (asks.Shared (shared_asks.Access x)) r (entry_of (asks.Shared (shared_asks.Access x)) r)
 ended_in programs w e h j place log None None a r je le ae f later l = none_in w (e ∷ h)
 ended_in programs w e h j place log None (Some b) a r je le ae f later l = absurd f
 ended_in programs w e h j place log (Some t) None a r je le ae f later l = absurd f
 
-all_back : (place : ℕ) (w : ℕ → Stand) (e : Event) (h : History) (bs : List Block) → All (InIfSerial (stand_after place w e) h) bs → All (InIfSerial w (e ∷ h)) bs
+all_back : (place : ℕ) (w : ℕ → ScanStand) (e : Event) (h : History) (bs : List Block) → All (InIfSerial (stand_after place w e) h) bs → All (InIfSerial w (e ∷ h)) bs
 all_back place w e h bs i k d lt q = goes_back place w e h (slice_index_or bs k d) (i k d lt q)
 
-all_in : (rule : Rule) (programs : ℕ → Program) (h : History) (s : Sight) (w : ℕ → Stand) (place : ℕ)
+all_in : (rule : Rule) (programs : ℕ → Program) (h : History) (s : Sight) (w : ℕ → ScanStand) (place : ℕ)
     → IsAt rule programs s w h → All (InIfSerial w h) (blocks_from place w h)
 all_in rule programs [] s w place i = none_in w []
 all_in rule programs (e ∷ h) s w place i =

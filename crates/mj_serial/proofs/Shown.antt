@@ -5,13 +5,14 @@ use Rattle.std.specs.Prelude.{◌==◌, if◌then◌else◌}
 use Rattle.std.specs.List.{cons_option}
 use Rattle.mj_ask.specs.declared.ask.Ask.{Ask}
 use Rattle.mj_ask.specs.declared.ask.Ask.TheVariants as asks
+use Rattle.mj_ask.specs.declared.ask.SharedAsk.TheVariants as shared_asks
 use Rattle.mj_ask.specs.declared.ask.Reply.{Reply}
 use Rattle.mj_ask.specs.declared.ask.Reply.TheVariants as replies
 use Rattle.mj_txlog.specs.declared.entry.Entry.{Entry}
 use Rattle.mj_sys.specs.declared.event.Event.{Event}
 use Rattle.mj_sys.specs.History.{History}
 use Rattle.mj_serial.specs.Programs.{Log}
-use Rattle.mj_serial.specs.Blocks.{Block, Stand, block_after, single, ended, done_at, stand_after, blocks_from, blocks_of, nowhere, longer, entry_of}
+use Rattle.mj_serial.specs.Blocks.{Block, ScanStand, block_after, single, ended, done_at, stand_after, blocks_from, blocks_of, nowhere, longer, entry_of}
 use Rattle.mj_serial.specs.Shown.{Shown, shown, with_entry, shown_after, shown_single, shown_ended, shown_done, shown_from, all_from}
 use Rattle.mj_serial.proofs.Logs.{accesses_append}
 use Rattle.mj_serial.proofs.Tables.{at, at_nothing}
@@ -25,11 +26,11 @@ longer_shown b a r = ap (λ l. record (shown b) { accesses = l }) (accesses_appe
 
 after_shown : (j place : ℕ) (log : Log) (block : Option Block) (a : Ask) (r : Reply)
     → option_map shown (block_after j place log block a r) ≡ shown_after j place (option_map shown block) a r
-after_shown j place log None (asks.Begin kind) r = refl
+after_shown j place log None (asks.Shared (shared_asks.Begin kind)) r = refl
 after_shown j place log None a r = refl
-after_shown j place log (Some b) asks.Commit r = refl
-after_shown j place log (Some b) asks.Rollback r = refl
-after_shown j place log (Some b) (asks.Halt fault) r = refl
+after_shown j place log (Some b) (asks.Shared shared_asks.Commit) r = refl
+after_shown j place log (Some b) (asks.Shared shared_asks.Rollback) r = refl
+after_shown j place log (Some b) (asks.Shared (shared_asks.Halt fault)) r = refl
 after_shown j place log (Some b) a r = ap Some (longer_shown b a r)
 
 -- a list with what may stand before it
@@ -48,24 +49,24 @@ ended_shown b r rest = refl
 
 done_shown : (j place : ℕ) (log : Log) (block : Option Block) (a : Ask) (r : Reply) (rest : List Shown)
     → map shown (done_at j place log block a r) ++ rest ≡ before (shown_done j place (option_map shown block) a r) rest
-done_shown j place log None (asks.Access a) r rest = shown_alone j place log (asks.Access a) r (entry_of (asks.Access a) r) refl rest
+done_shown j place log None (asks.Shared (shared_asks.Access a)) r rest = shown_alone j place log (asks.Shared (shared_asks.Access a)) r (entry_of (asks.Shared (shared_asks.Access a)) r) refl rest
 done_shown j place log None a r rest = refl
-done_shown j place log (Some b) asks.Commit r rest = ended_shown b r rest
+done_shown j place log (Some b) (asks.Shared shared_asks.Commit) r rest = ended_shown b r rest
 done_shown j place log (Some b) a r rest = refl
 
 map_append : (xs ys : List Block) → map shown (xs ++ ys) ≡ map shown xs ++ map shown ys
 map_append [] ys = refl
 map_append (x ∷ xs) ys = ap (λ l. shown x ∷ l) (map_append xs ys)
 
-abbrev seen_at : (ℕ → Stand) → ℕ → Option Shown
+abbrev seen_at : (ℕ → ScanStand) → ℕ → Option Shown
 seen_at w j = option_map shown (w j).block
 
-stand_shown : (place : ℕ) (w : ℕ → Stand) (e : Event) (j : ℕ) (b : Bool) → (e.job == j) ≡ b
+stand_shown : (place : ℕ) (w : ℕ → ScanStand) (e : Event) (j : ℕ) (b : Bool) → (e.job == j) ≡ b
     → seen_at (stand_after place w e) j ≡ (if b then shown_after e.job place (seen_at w e.job) e.ask e.reply else seen_at w j)
 stand_shown place w e j true q = rw q (after_shown e.job place (w e.job).log (w e.job).block e.ask e.reply)
 stand_shown place w e j false q = rw q refl
 
-from_shown : (h : History) (place : ℕ) (w : ℕ → Stand) → map shown (blocks_from place w h) ≡ shown_from place (seen_at w) h
+from_shown : (h : History) (place : ℕ) (w : ℕ → ScanStand) → map shown (blocks_from place w h) ≡ shown_from place (seen_at w) h
 from_shown [] place w = refl
 from_shown (e ∷ h) place w =
     map_append (done_at e.job place (w e.job).log (w e.job).block e.ask e.reply) (blocks_from (suc place) (stand_after place w e) h)

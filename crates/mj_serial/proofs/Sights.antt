@@ -7,9 +7,11 @@ use Rattle.std.proofs.lemmas.Option.{slice_get_within}
 use Rattle.mj_subs.specs.Name.{Name}
 use Rattle.mj_ask.specs.Started.{Started}
 use Rattle.mj_ask.specs.Fits.{is_shared}
-use Rattle.mj_ask.specs.Late.{is_over}
+use Rattle.mj_ask.specs.Late.{is_timed_out}
 use Rattle.mj_ask.specs.declared.ask.Ask.{Ask}
 use Rattle.mj_ask.specs.declared.ask.Ask.TheVariants as asks
+use Rattle.mj_ask.specs.declared.ask.SharedAsk.TheVariants as shared_asks
+use Rattle.mj_ask.specs.declared.ask.DeviceAsk.TheVariants as device_asks
 use Rattle.mj_ask.specs.declared.ask.Reply.{Reply}
 use Rattle.mj_ask.specs.declared.ask.Reply.TheVariants as replies
 use Rattle.mj_locktab.specs.Locks.{Locks}
@@ -20,7 +22,7 @@ use Rattle.mj_jobs.specs.Rows.{Row, opened, with_ended, IsLive}
 use Rattle.mj_dev.specs.Shelves.{principal}
 use Rattle.mj_txlog.specs.Accesses.{Transaction}
 use Rattle.mj_txlog.specs.declared.entry.Unlock.TheVariants as unlock
-use Rattle.mj_txn.specs.Closing.{closed_by}
+use Rattle.mj_txn.specs.Closing.{commit_closed}
 use Rattle.mj_txn.specs.Testing.{first_changed, outcome_by}
 use Rattle.mj_txn.specs.declared.changed.Changed.{Changed}
 use Rattle.mj_txn.specs.declared.committing.Outcome.TheVariants as outcome
@@ -28,7 +30,7 @@ use Rattle.mj_sys.specs.Transactions.{Transactions, transaction_of, with_transac
 use Rattle.mj_sys.specs.Devices.{Device, Devices, device_at}
 use Rattle.mj_sys.specs.Shared.{Shared, open_of, busy, tried, open_free, open_known, has_room, served}
 use Rattle.mj_sys.specs.History.{left_by}
-use Rattle.mj_serial.specs.Rules.{Exactly, IsKindTold, IsCommitTold, committed_as, IsTold, transaction_after, globals_left}
+use Rattle.mj_serial.specs.Rules.{Exactly, IsKindTold, IsCommitTold, committed_as, IsToldByRule, transaction_after, globals_left}
 use Rattle.mj_serial.proofs.Tests.{first_none, some_first}
 
 -- there is a place for the transaction of each job
@@ -37,7 +39,7 @@ HasPlaces s = length s.transactions ≡ length s.rows
 
 -- what an ask is told and leaves is what the rule says
 pub record Obeys (s : Shared) (job : ℕ) (ask : Ask) (r : Reply) (t : Shared) : Type 0 where
-  pub told : IsTold Exactly (open_of s job) s.globals ask r
+  pub told : IsToldByRule Exactly (open_of s job) s.globals ask r
   pub globals : t.globals ≡ globals_left (open_of s job) s.globals ask r
   pub transactions : (j : ℕ) → open_of t j ≡ (if job == j then transaction_after (open_of s job) s.globals ask r else open_of s j)
   pub places : HasPlaces t
@@ -120,52 +122,54 @@ module _ (s : Shared) (job : ℕ) (places : HasPlaces s) (live : IsLive s.rows j
   put_room o = put_places s.transactions job o ∙ places
 
   -- a try
-  late_try : (names : List Name) (timeout : Option ℤ) (over : Bool) → AllObeys s job (asks.Try names timeout) (if over then Some (replies.Late, s) else None)
+  late_try : (names : List Name) (timeout : Option ℤ) (over : Bool) → AllObeys s job (asks.Shared (shared_asks.Try names timeout)) (if over then Some (replies.Late, s) else None)
   late_try names timeout true = record { told = tt; globals = refl; transactions = still; places = places }
   late_try names timeout false = tt
 
   by_try : (names : List Name) (timeout : Option ℤ) (late : Bool) (taken : Taken) (locks : Locks)
-      → AllObeys s job (asks.Try names timeout) (tried s job names timeout late taken locks)
+      → AllObeys s job (asks.Shared (shared_asks.Try names timeout)) (tried s job names timeout late taken locks)
   by_try names timeout late takes.Got locks = record { told = tt; globals = refl; transactions = put (with_names O names); places = put_room (with_names O names) }
-  by_try names timeout late (takes.Busy holder name) locks = late_try names timeout (is_over timeout late)
+  by_try names timeout late (takes.Busy holder name) locks = late_try names timeout (is_timed_out timeout late)
   by_try names timeout late takes.Limit locks = record { told = tt; globals = refl; transactions = still; places = places }
 
   -- OPEN
-  opens : (name : List ℕ) (timeout : Option ℤ) (r : Reply) (devices : Devices) → Obeys s job (asks.Open name timeout) r (record s { devices = devices })
+  opens : (name : List ℕ) (timeout : Option ℤ) (r : Reply) (devices : Devices) → Obeys s job (asks.Shared (shared_asks.Open name timeout)) r (record s { devices = devices })
   opens name timeout r devices = record { told = tt; globals = refl; transactions = still; places = places }
 
-  late_open : (name : List ℕ) (timeout : Option ℤ) (over : Bool) → AllObeys s job (asks.Open name timeout) (if over then Some (replies.Late, s) else None)
+  late_open : (name : List ℕ) (timeout : Option ℤ) (over : Bool) → AllObeys s job (asks.Shared (shared_asks.Open name timeout)) (if over then Some (replies.Late, s) else None)
   late_open name timeout true = opens name timeout replies.Late s.devices
   late_open name timeout false = tt
 
   by_free : (name : List ℕ) (timeout : Option ℤ) (d : Device) (b : Bool) (devices : Devices)
-      → AllObeys s job (asks.Open name timeout) (Some (if b then (replies.Got, record s { devices = devices }) else (replies.NoSession, s)))
+      → AllObeys s job (asks.Shared (shared_asks.Open name timeout)) (Some (if b then (replies.Got, record s { devices = devices }) else (replies.NoSession, s)))
   by_free name timeout d true devices = opens name timeout replies.Got devices
   by_free name timeout d false devices = opens name timeout replies.NoSession s.devices
 
   by_held : (name : List ℕ) (timeout : Option ℤ) (late b : Bool)
-      → AllObeys s job (asks.Open name timeout) (if b then Some (replies.Got, s) else busy s timeout late)
+      → AllObeys s job (asks.Shared (shared_asks.Open name timeout)) (if b then Some (replies.Got, s) else busy s timeout late)
   by_held name timeout late true = opens name timeout replies.Got s.devices
-  by_held name timeout late false = late_open name timeout (is_over timeout late)
+  by_held name timeout late false = late_open name timeout (is_timed_out timeout late)
 
   by_known : (name : List ℕ) (timeout : Option ℤ) (late : Bool) (d : Device) (holder : Option ℕ)
-      → AllObeys s job (asks.Open name timeout) (elim holder as (λ _. Option (Reply × Shared)) [ None ↦ Some (open_free s job name d) | Some h ↦ if h == job then Some (replies.Got, s) else busy s timeout late ])
+      → AllObeys s job (asks.Shared (shared_asks.Open name timeout)) (elim holder as
+      (λ _. Option (Reply × Shared)) [ None ↦ Some (open_free s job name d) | Some h ↦ if h == job then Some (replies.Got, s) else busy s timeout late ])
   by_known name timeout late d None = by_free name timeout d (nat_lt d.taken d.sessions) _
   by_known name timeout late d (Some h) = by_held name timeout late (h == job)
 
   by_found : (name : List ℕ) (timeout : Option ℤ) (late : Bool) (found : Option Device)
-      → AllObeys s job (asks.Open name timeout) (elim found as (λ _. Option (Reply × Shared)) [ None ↦ Some (replies.NoSession, s) | Some d ↦ open_known s job name timeout late d ])
+      → AllObeys s job (asks.Shared (shared_asks.Open name timeout)) (elim found as
+      (λ _. Option (Reply × Shared)) [ None ↦ Some (replies.NoSession, s) | Some d ↦ open_known s job name timeout late d ])
   by_found name timeout late None = opens name timeout replies.NoSession s.devices
   by_found name timeout late (Some d) = by_known name timeout late d d.holder
 
   by_name : (name : List ℕ) (timeout : Option ℤ) (late b : Bool)
-      → AllObeys s job (asks.Open name timeout) (if b then Some (replies.Got, s)
+      → AllObeys s job (asks.Shared (shared_asks.Open name timeout)) (if b then Some (replies.Got, s)
       else elim (device_at s.devices name) as (λ _. Option (Reply × Shared)) [ None ↦ Some (replies.NoSession, s) | Some d ↦ open_known s job name timeout late d ])
   by_name name timeout late true = opens name timeout replies.Got s.devices
   by_name name timeout late false = by_found name timeout late (device_at s.devices name)
 
   -- JOB
-  by_room : (start : Started) (timeout : Option ℤ) (b : Bool) → AllObeys s job (asks.Start start timeout)
+  by_room : (start : Started) (timeout : Option ℤ) (b : Bool) → AllObeys s job (asks.Shared (shared_asks.Start start timeout))
       (Some (if b then (replies.Job (length s.rows + 1), record s { rows = s.rows ++ opened start ∷ []; transactions = s.transactions ++ None ∷ [] }) else (replies.Limit, s)))
   by_room start timeout true = record {
     told = tt;
@@ -177,17 +181,17 @@ module _ (s : Shared) (job : ℕ) (places : HasPlaces s) (live : IsLive s.rows j
 
   -- a commit
   by_changed : (t : Transaction) (found : Option Changed) → t.serial ≡ true → first_changed s.globals [] t.accesses ≡ found
-      → IsKindTold Exactly t.serial s.globals t.accesses (closed_by t job s.globals s.locks (outcome_by found)).reply
-      × ((closed_by t job s.globals s.locks (outcome_by found)).globals ≡ committed_as (Some t) s.globals (closed_by t job s.globals s.locks (outcome_by found)).reply)
+      → IsKindTold Exactly t.serial s.globals t.accesses (commit_closed t job s.globals s.locks (outcome_by found)).reply
+      × ((commit_closed t job s.globals s.locks (outcome_by found)).globals ≡ committed_as (Some t) s.globals (commit_closed t job s.globals s.locks (outcome_by found)).reply)
   by_changed t None serial is =
       (subst (λ b. IsKindTold Exactly b s.globals t.accesses replies.Done) (sym serial) (first_none s.globals [] t.accesses is), refl)
   by_changed t (Some c) serial is =
-      (subst (λ b. IsKindTold Exactly b s.globals t.accesses (closed_by t job s.globals s.locks (outcome.Clash c)).reply) (sym serial) (c, refl, some_first s.globals t.accesses c is), refl)
+      (subst (λ b. IsKindTold Exactly b s.globals t.accesses (commit_closed t job s.globals s.locks (outcome.Clash c)).reply) (sym serial) (c, refl, some_first s.globals t.accesses c is), refl)
 
   by_kind : (t : Transaction) (serial : Bool) → t.serial ≡ serial
-      → IsKindTold Exactly t.serial s.globals t.accesses (closed_by t job s.globals s.locks (if serial then outcome_by (first_changed s.globals [] t.accesses) else outcome.Done)).reply
-      × ((closed_by t job s.globals s.locks (if serial then outcome_by (first_changed s.globals [] t.accesses) else outcome.Done)).globals
-      ≡ committed_as (Some t) s.globals (closed_by t job s.globals s.locks (if serial then outcome_by (first_changed s.globals [] t.accesses) else outcome.Done)).reply)
+      → IsKindTold Exactly t.serial s.globals t.accesses (commit_closed t job s.globals s.locks (if serial then outcome_by (first_changed s.globals [] t.accesses) else outcome.Done)).reply
+      × ((commit_closed t job s.globals s.locks (if serial then outcome_by (first_changed s.globals [] t.accesses) else outcome.Done)).globals
+      ≡ committed_as (Some t) s.globals (commit_closed t job s.globals s.locks (if serial then outcome_by (first_changed s.globals [] t.accesses) else outcome.Done)).reply)
   by_kind t true is = by_changed t (first_changed s.globals [] t.accesses) is refl
   by_kind t false is = (subst (λ b. IsKindTold Exactly b s.globals t.accesses replies.Done) (sym is) refl, refl)
 
@@ -197,33 +201,28 @@ module _ (s : Shared) (job : ℕ) (places : HasPlaces s) (live : IsLive s.rows j
   by_commit (Some t) = by_kind t t.serial refl
 
   pub obeys : (ask : Ask) (late : Bool) → AllObeys s job ask (served s job ask late)
-  obeys (asks.Access a) late =
+  obeys (asks.Shared (shared_asks.Access a)) late =
       record { told = refl; globals = refl; transactions = put (with_access O s.globals a); places = put_room (with_access O s.globals a) }
-  obeys (asks.Try names timeout) late = by_try names timeout late (try_of s.locks job names) (after_try s.locks job names)
-  obeys (asks.Unlock names) late =
+  obeys (asks.Shared (shared_asks.Try names timeout)) late = by_try names timeout late (try_of s.locks job names) (after_try s.locks job names)
+  obeys (asks.Shared (shared_asks.Unlock names)) late =
       record { told = refl; globals = refl; transactions = put (with_waiting O (unlock.Names names)); places = put_room (with_waiting O (unlock.Names names)) }
-  obeys asks.UnlockAll late = record { told = refl; globals = refl; transactions = put (with_waiting O unlock.All); places = put_room (with_waiting O unlock.All) }
-  obeys (asks.Open name timeout) late = by_name name timeout late (bytes_eq name principal)
-  obeys (asks.Close name) late = record { told = tt; globals = refl; transactions = still; places = places }
-  obeys (asks.Start start timeout) late = by_room start timeout (has_room s)
-  obeys (asks.Halt fault) late =
+  obeys (asks.Shared shared_asks.UnlockAll) late = record { told = refl; globals = refl; transactions = put (with_waiting O unlock.All); places = put_room (with_waiting O unlock.All) }
+  obeys (asks.Shared (shared_asks.Open name timeout)) late = by_name name timeout late (bytes_eq name principal)
+  obeys (asks.Shared (shared_asks.Close name)) late = record { told = tt; globals = refl; transactions = still; places = places }
+  obeys (asks.Shared (shared_asks.Start start timeout)) late = by_room start timeout (has_room s)
+  obeys (asks.Shared (shared_asks.Halt fault)) late =
       record { told = tt; globals = refl; transactions = put None; places = put_room None ∙ sym (ended_places s.rows job) }
-  obeys (asks.Begin kind) late = record { told = tt; globals = refl; transactions = put (begun_as O kind); places = put_room (begun_as O kind) }
-  obeys asks.Commit late = record { told = (by_commit O).0; globals = (by_commit O).1; transactions = put None; places = put_room None }
-  obeys asks.Rollback late = record { told = tt; globals = refl; transactions = put None; places = put_room None }
-  obeys (asks.DeviceBegin device) late = tt
-  obeys (asks.DeviceWrite device bytes) late = tt
-  obeys (asks.DeviceLine device timeout) late = tt
-  obeys (asks.DeviceByte device timeout) late = tt
-  obeys (asks.DeviceEnd device) late = tt
-  obeys (asks.Rest time) late = tt
+  obeys (asks.Shared (shared_asks.Begin kind)) late = record { told = tt; globals = refl; transactions = put (begun_as O kind); places = put_room (begun_as O kind) }
+  obeys (asks.Shared shared_asks.Commit) late = record { told = (by_commit O).0; globals = (by_commit O).1; transactions = put None; places = put_room None }
+  obeys (asks.Shared shared_asks.Rollback) late = record { told = tt; globals = refl; transactions = put None; places = put_room None }
+  obeys _ late = tt
 
   -- what isn't served changes nothing
   pub unshared : (ask : Ask) (r : Reply) → is_shared ask ≡ false → Obeys s job ask r (left_by s (served s job ask true))
-  unshared (asks.DeviceBegin device) r e = record { told = tt; globals = refl; transactions = still; places = places }
-  unshared (asks.DeviceWrite device bytes) r e = record { told = tt; globals = refl; transactions = still; places = places }
-  unshared (asks.DeviceLine device timeout) r e = record { told = tt; globals = refl; transactions = still; places = places }
-  unshared (asks.DeviceByte device timeout) r e = record { told = tt; globals = refl; transactions = still; places = places }
-  unshared (asks.DeviceEnd device) r e = record { told = tt; globals = refl; transactions = still; places = places }
+  unshared (asks.Device device device_asks.Begin) r e = record { told = tt; globals = refl; transactions = still; places = places }
+  unshared (asks.Device device (device_asks.Write bytes)) r e = record { told = tt; globals = refl; transactions = still; places = places }
+  unshared (asks.Device device (device_asks.Line timeout)) r e = record { told = tt; globals = refl; transactions = still; places = places }
+  unshared (asks.Device device (device_asks.Byte timeout)) r e = record { told = tt; globals = refl; transactions = still; places = places }
+  unshared (asks.Device device device_asks.End) r e = record { told = tt; globals = refl; transactions = still; places = places }
   unshared (asks.Rest time) r e = record { told = tt; globals = refl; transactions = still; places = places }
   unshared ask r e = absurd cc

@@ -9,6 +9,7 @@ use Rattle.mj_store.specs.declared.access.Answer.TheVariants as answer
 use Rattle.mj_ask.specs.declared.ask.Kind.TheVariants as kinds
 use Rattle.mj_ask.specs.declared.ask.Ask.{Ask}
 use Rattle.mj_ask.specs.declared.ask.Ask.TheVariants as asks
+use Rattle.mj_ask.specs.declared.ask.SharedAsk.TheVariants as shared_asks
 use Rattle.mj_ask.specs.declared.ask.Reply.{Reply}
 use Rattle.mj_ask.specs.declared.ask.Reply.TheVariants as replies
 use Rattle.mj_semantics.specs.Outcome.{Needs, Ended}
@@ -50,17 +51,17 @@ abbrev pub q : List ℕ → Name
 q s = record { global = true; word = codes "Q"; subscripts = s ∷ [] }
 
 abbrev pub begin : Ask
-begin = asks.Begin kinds.Serial
+begin = asks.Shared (shared_asks.Begin kinds.Serial)
 
 abbrev pub value : Name → Ask
-value n = asks.Access (access.Value n)
+value n = asks.Shared (shared_asks.Access (access.Value n))
 
 abbrev pub sets : Name → List ℕ → Ask
-sets n v = asks.Access (access.Set n v)
+sets n v = asks.Shared (shared_asks.Access (access.Set n v))
 
 -- the first subscript of ^Q
 abbrev pub first : Ask
-first = asks.Access (access.Order (q []) Forward)
+first = asks.Shared (shared_asks.Access (access.Order (q []) Forward))
 
 abbrev pub found : Option (List ℕ) → Reply
 found v = replies.Answer (answer.Value v)
@@ -84,13 +85,13 @@ abbrev pub one : List ℕ
 one = codes "1"
 
 abbrev pub looks : List Ask
-looks = begin ∷ first ∷ asks.Commit ∷ []
+looks = begin ∷ first ∷ (asks.Shared shared_asks.Commit) ∷ []
 
 abbrev pub adds : List Ask
 adds = sets (q one) one ∷ []
 
 abbrev pub phantom : History
-phantom = event 0 begin replies.Done ∷ event 0 first (comes None) ∷ event 1 (sets (q one) one) done ∷ event 0 asks.Commit replies.Done ∷ []
+phantom = event 0 begin replies.Done ∷ event 0 first (comes None) ∷ event 1 (sets (q one) one) done ∷ event 0 (asks.Shared shared_asks.Commit) replies.Done ∷ []
 
 pub phantom_asked : (j : ℕ) → AreAsked (two looks adds j) [] (log_of j phantom)
 phantom_asked zero = ((0, [], [], refl), ((0, [], [], refl), ((0, [], [], refl), tt)))
@@ -127,7 +128,7 @@ abbrev blank : List ℕ
 blank = []
 
 abbrev rewrites : List Ask
-rewrites = begin ∷ value (q one) ∷ sets (q one) five ∷ asks.Commit ∷ []
+rewrites = begin ∷ value (q one) ∷ sets (q one) five ∷ (asks.Shared shared_asks.Commit) ∷ []
 
 abbrev changes : List Ask
 changes = sets (q one) blank ∷ []
@@ -137,7 +138,7 @@ fives = (q one, five) ∷ []
 
 abbrev hidden : History
 hidden = event 0 begin replies.Done ∷ event 0 (value (q one)) (found (Some five)) ∷ event 1 (sets (q one) blank) done
-    ∷ event 0 (sets (q one) five) done ∷ event 0 asks.Commit replies.Done ∷ []
+    ∷ event 0 (sets (q one) five) done ∷ event 0 (asks.Shared shared_asks.Commit) replies.Done ∷ []
 
 hidden_asked : (j : ℕ) → AreAsked (two rewrites changes j) [] (log_of j hidden)
 hidden_asked zero = ((0, [], [], refl), ((0, [], [], refl), ((0, [], [], refl), ((0, [], [], refl), tt))))

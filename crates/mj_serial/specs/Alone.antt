@@ -7,6 +7,7 @@ use Rattle.mj_store.specs.declared.access.Answer.{Answer}
 use Rattle.mj_store.specs.declared.access.Answer.TheVariants as answer
 use Rattle.mj_ask.specs.declared.ask.Ask.{Ask}
 use Rattle.mj_ask.specs.declared.ask.Ask.TheVariants as asks
+use Rattle.mj_ask.specs.declared.ask.SharedAsk.TheVariants as shared_asks
 use Rattle.mj_ask.specs.declared.ask.Reply.{Reply}
 use Rattle.mj_ask.specs.declared.ask.Reply.TheVariants as replies
 use Rattle.mj_semantics.specs.Outcome.{Outcome, Needs, Ended, More}
@@ -33,7 +34,7 @@ told_alone used globals a = if is_local_write a || nat_lt used 65536 then answer
 abbrev pub access_alone : Access → Answer → Desk → Option (Reply × Desk)
 access_alone a v d = Some (
   replies.Answer v,
-  record d { used = used_after d.used (asks.Access a) (replies.Answer v); globals = if is_taken a v then after_access a d.globals else d.globals },
+  record d { used = used_after d.used (asks.Shared (shared_asks.Access a)) (replies.Answer v); globals = if is_taken a v then after_access a d.globals else d.globals },
 )
 
 -- any other ask gets the reply that it had
@@ -42,10 +43,10 @@ other_alone a d = elim d.others [ [] ↦ None | r ∷ rest ↦ Some (r, record d
 
 -- an ask of a job that runs alone. It goes no further than its commit, its rollback or its end
 abbrev pub serve_alone : Ask → Desk → Option (Reply × Desk)
-serve_alone (asks.Access a) d = access_alone a (told_alone d.used d.globals a) d
-serve_alone asks.Commit d = None
-serve_alone asks.Rollback d = None
-serve_alone (asks.Halt fault) d = None
+serve_alone (asks.Shared (shared_asks.Access a)) d = access_alone a (told_alone d.used d.globals a) d
+serve_alone (asks.Shared shared_asks.Commit) d = None
+serve_alone (asks.Shared shared_asks.Rollback) d = None
+serve_alone (asks.Shared (shared_asks.Halt fault)) d = None
 serve_alone a d = other_alone a d
 
 -- what comes of it: the asks and replies, the globals, and what the program comes to then
@@ -72,7 +73,7 @@ go p n (suc k) before d = elim (p n (replies_of before)) [
 
 -- the replies to all else than accesses
 abbrev pub other_of : Ask → Reply → List Reply
-other_of (asks.Access a) r = []
+other_of (asks.Shared (shared_asks.Access a)) r = []
 other_of _ r = r ∷ []
 
 abbrev pub others_of : Log → List Reply

@@ -7,6 +7,7 @@ use Rattle.mj_ask.specs.Keeping.{is_limit}
 use Rattle.mj_ask.specs.declared.ask.Kind.{Kind}
 use Rattle.mj_ask.specs.declared.ask.Ask.{Ask}
 use Rattle.mj_ask.specs.declared.ask.Ask.TheVariants as asks
+use Rattle.mj_ask.specs.declared.ask.SharedAsk.TheVariants as shared_asks
 use Rattle.mj_ask.specs.declared.ask.Reply.{Reply}
 use Rattle.mj_ask.specs.declared.ask.Reply.TheVariants as replies
 use Rattle.mj_txlog.specs.Accesses.{Accesses}
@@ -29,9 +30,9 @@ taken a v = if is_taken a v then Some (entry.Access a v) else None
 
 -- what an ask and its reply are among the accesses of a transaction, if they are one: a read, a write, or an unlock that waits for the commit
 abbrev pub entry_of : Ask → Reply → Option Entry
-entry_of (asks.Access a) (replies.Answer v) = taken a v
-entry_of (asks.Unlock names) replies.Done = Some (entry.Unlock (unlock.Names names))
-entry_of asks.UnlockAll replies.Done = Some (entry.Unlock unlock.All)
+entry_of (asks.Shared (shared_asks.Access a)) (replies.Answer v) = taken a v
+entry_of (asks.Shared (shared_asks.Unlock names)) replies.Done = Some (entry.Unlock (unlock.Names names))
+entry_of (asks.Shared shared_asks.UnlockAll) replies.Done = Some (entry.Unlock unlock.All)
 entry_of _ _ = None
 
 -- the accesses of a log, with their answers
@@ -49,13 +50,13 @@ pub record Block : Type 0 where
   pub since : Log
 
 -- a job in the scan: its log so far, and its open transaction, if it has one
-pub record Stand : Type 0 where
+pub record ScanStand : Type 0 where
   pub log : Log
   pub block : Option Block
 
 -- a transaction that begins at a place
-abbrev pub begun : ℕ → ℕ → Log → Kind → Reply → Block
-begun job place log kind r = record { job = job; serial = is_serial kind; place = place; before = log ++ (asks.Begin kind, r) ∷ []; since = [] }
+abbrev pub block_begun : ℕ → ℕ → Log → Kind → Reply → Block
+block_begun job place log kind r = record { job = job; serial = is_serial kind; place = place; before = log ++ (asks.Shared (shared_asks.Begin kind), r) ∷ []; since = [] }
 
 -- an ask more in it
 abbrev pub longer : Block → Ask → Reply → Block
@@ -63,11 +64,11 @@ longer b a r = record b { since = b.since ++ (a, r) ∷ [] }
 
 -- the job's open transaction after an ask: by the job, the event's place and the job's log before it
 abbrev pub block_after : ℕ → ℕ → Log → Option Block → Ask → Reply → Option Block
-block_after job place log None (asks.Begin kind) r = Some (begun job place log kind r)
+block_after job place log None (asks.Shared (shared_asks.Begin kind)) r = Some (block_begun job place log kind r)
 block_after job place log None _ r = None
-block_after job place log (Some b) asks.Commit r = None
-block_after job place log (Some b) asks.Rollback r = None
-block_after job place log (Some b) (asks.Halt fault) r = None
+block_after job place log (Some b) (asks.Shared shared_asks.Commit) r = None
+block_after job place log (Some b) (asks.Shared shared_asks.Rollback) r = None
+block_after job place log (Some b) (asks.Shared (shared_asks.Halt fault)) r = None
 block_after job place log (Some b) a r = Some (longer b a r)
 
 -- an access outside a transaction is a block of its own, if it was taken
@@ -82,25 +83,25 @@ ended b _ = []
 
 -- the block that is over with an event. An unlock outside a transaction is none
 abbrev pub done_at : ℕ → ℕ → Log → Option Block → Ask → Reply → List Block
-done_at job place log None (asks.Access a) r = single job place log (asks.Access a) r (entry_of (asks.Access a) r)
+done_at job place log None (asks.Shared (shared_asks.Access a)) r = single job place log (asks.Shared (shared_asks.Access a)) r (entry_of (asks.Shared (shared_asks.Access a)) r)
 done_at job place log None _ r = []
-done_at job place log (Some b) asks.Commit r = ended b r
+done_at job place log (Some b) (asks.Shared shared_asks.Commit) r = ended b r
 done_at job place log (Some b) _ r = []
 
 -- where the jobs stand after an event
-abbrev pub stand_after : ℕ → (ℕ → Stand) → Event → ℕ → Stand
+abbrev pub stand_after : ℕ → (ℕ → ScanStand) → Event → ℕ → ScanStand
 stand_after place w e job =
     if e.job == job
     then record { log = (w e.job).log ++ (e.ask, e.reply) ∷ []; block = block_after e.job place (w e.job).log (w e.job).block e.ask e.reply }
     else w job
 
 -- the blocks of a history that goes on from this place, where the jobs stand so
-abbrev pub blocks_from : ℕ → (ℕ → Stand) → History → List Block
+abbrev pub blocks_from : ℕ → (ℕ → ScanStand) → History → List Block
 blocks_from place w [] = []
 blocks_from place w (e ∷ h) = done_at e.job place (w e.job).log (w e.job).block e.ask e.reply ++ blocks_from (suc place) (stand_after place w e) h
 
 -- before the first event
-abbrev pub nowhere : ℕ → Stand
+abbrev pub nowhere : ℕ → ScanStand
 nowhere job = record { log = []; block = None }
 
 -- the committed transactions and the single accesses of a history, in the order of their commits
@@ -108,7 +109,7 @@ abbrev pub blocks_of : History → List Block
 blocks_of h = blocks_from 1 nowhere h
 
 -- where the jobs stand after a history
-abbrev pub stands_from : ℕ → (ℕ → Stand) → History → ℕ → Stand
+abbrev pub stands_from : ℕ → (ℕ → ScanStand) → History → ℕ → ScanStand
 stands_from place w [] = w
 stands_from place w (e ∷ h) = stands_from (suc place) (stand_after place w e) h
 

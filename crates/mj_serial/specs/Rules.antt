@@ -6,6 +6,7 @@ use Rattle.mj_store.specs.declared.access.Access.TheVariants as access
 use Rattle.mj_ask.specs.declared.clash.Clash.{Clash}
 use Rattle.mj_ask.specs.declared.ask.Ask.{Ask}
 use Rattle.mj_ask.specs.declared.ask.Ask.TheVariants as asks
+use Rattle.mj_ask.specs.declared.ask.SharedAsk.TheVariants as shared_asks
 use Rattle.mj_ask.specs.declared.ask.Reply.{Reply}
 use Rattle.mj_ask.specs.declared.ask.Reply.TheVariants as replies
 use Rattle.mj_txlog.specs.Accesses.{Accesses, is_write, seen, Transaction}
@@ -42,23 +43,23 @@ IsCommitTold rule None globals r = r ≡ replies.Done
 IsCommitTold rule (Some t) globals r = IsKindTold rule t.serial globals t.accesses r
 
 -- what an ask may be told, as far as it is a matter of the globals and the transactions
-abbrev pub IsTold : Rule → Option Transaction → Content → Ask → Reply → Type 0
-IsTold rule t globals (asks.Access a) r = r ≡ replies.Answer (told_to t globals a)
-IsTold rule t globals (asks.Unlock names) r = r ≡ unlock_told t
-IsTold rule t globals asks.UnlockAll r = r ≡ unlock_told t
-IsTold rule t globals asks.Commit r = IsCommitTold rule t globals r
-IsTold rule t globals _ r = ⊤
+abbrev pub IsToldByRule : Rule → Option Transaction → Content → Ask → Reply → Type 0
+IsToldByRule rule t globals (asks.Shared (shared_asks.Access a)) r = r ≡ replies.Answer (told_to t globals a)
+IsToldByRule rule t globals (asks.Shared (shared_asks.Unlock names)) r = r ≡ unlock_told t
+IsToldByRule rule t globals (asks.Shared shared_asks.UnlockAll) r = r ≡ unlock_told t
+IsToldByRule rule t globals (asks.Shared shared_asks.Commit) r = IsCommitTold rule t globals r
+IsToldByRule rule t globals _ r = ⊤
 
 -- the transaction after an ask
 abbrev pub transaction_after : Option Transaction → Content → Ask → Reply → Option Transaction
-transaction_after t globals (asks.Access a) r = with_access t globals a
-transaction_after t globals (asks.Unlock names) r = with_waiting t (unlock.Names names)
-transaction_after t globals asks.UnlockAll r = with_waiting t unlock.All
-transaction_after t globals (asks.Try names timeout) replies.Got = with_names t names
-transaction_after t globals (asks.Begin kind) r = begun_as t kind
-transaction_after t globals asks.Commit r = None
-transaction_after t globals asks.Rollback r = None
-transaction_after t globals (asks.Halt fault) r = None
+transaction_after t globals (asks.Shared (shared_asks.Access a)) r = with_access t globals a
+transaction_after t globals (asks.Shared (shared_asks.Unlock names)) r = with_waiting t (unlock.Names names)
+transaction_after t globals (asks.Shared shared_asks.UnlockAll) r = with_waiting t unlock.All
+transaction_after t globals (asks.Shared (shared_asks.Try names timeout)) replies.Got = with_names t names
+transaction_after t globals (asks.Shared (shared_asks.Begin kind)) r = begun_as t kind
+transaction_after t globals (asks.Shared shared_asks.Commit) r = None
+transaction_after t globals (asks.Shared shared_asks.Rollback) r = None
+transaction_after t globals (asks.Shared (shared_asks.Halt fault)) r = None
 transaction_after t globals _ r = t
 
 -- the globals after a commit that is told this
@@ -68,8 +69,8 @@ committed_as _ globals r = globals
 
 -- the globals after an ask
 abbrev pub globals_left : Option Transaction → Content → Ask → Reply → Content
-globals_left t globals (asks.Access a) r = globals_after t a globals
-globals_left t globals asks.Commit r = committed_as t globals r
+globals_left t globals (asks.Shared (shared_asks.Access a)) r = globals_after t a globals
+globals_left t globals (asks.Shared shared_asks.Commit) r = committed_as t globals r
 globals_left t globals _ r = globals
 
 -- what is seen before the first event
@@ -90,7 +91,7 @@ sight_behind s (e ∷ h) = sight_behind (sight_after s e) h
 -- each event is told so, after those before it
 abbrev pub AreTold : Rule → Sight → History → Type 0
 AreTold rule s [] = ⊤
-AreTold rule s (e ∷ h) = IsTold rule (s.transactions e.job) s.globals e.ask e.reply × AreTold rule (sight_after s e) h
+AreTold rule s (e ∷ h) = IsToldByRule rule (s.transactions e.job) s.globals e.ask e.reply × AreTold rule (sight_after s e) h
 
 -- the globals that are committed by the end of a history
 abbrev pub committed_by : Content → History → Content
@@ -109,7 +110,7 @@ IsSerialBy rule =
 
 -- the event of a commit that clashes
 abbrev pub clashes_at : ℕ → Clash → Event
-clashes_at job clash = record { job = job; ask = asks.Commit; reply = replies.Clash clash }
+clashes_at job clash = record { job = job; ask = (asks.Shared shared_asks.Commit); reply = replies.Clash clash }
 
 -- by this rule a commit clashes only where it must
 abbrev pub ClashesMustBy : Rule → Type 0

@@ -7,6 +7,7 @@ use Rattle.mj_store.specs.declared.access.Answer.{Answer}
 use Rattle.mj_ask.specs.Keeping.{kept_of}
 use Rattle.mj_ask.specs.declared.clash.Clash.{Clash}
 use Rattle.mj_ask.specs.declared.ask.Ask.TheVariants as asks
+use Rattle.mj_ask.specs.declared.ask.SharedAsk.TheVariants as shared_asks
 use Rattle.mj_ask.specs.declared.ask.Kind.TheVariants as kinds
 use Rattle.mj_ask.specs.declared.ask.Reply.{Reply}
 use Rattle.mj_ask.specs.declared.ask.Reply.TheVariants as replies
@@ -28,15 +29,15 @@ had_all programs n (b ∷ bs) = had programs n b ++ had_all programs n bs
 -- a SERIAL block stands at its commit, with some variables
 abbrev pub AtCommit : (ℕ → Program) → ℕ → Block → Type 0
 AtCommit programs n b =
-    b.serial ≡ true → (locals : Locals) × (places : List Place) × (programs b.job n (replies_of (b.before ++ b.since)) ≡ Needs asks.Commit locals places)
+    b.serial ≡ true → (locals : Locals) × (places : List Place) × (programs b.job n (replies_of (b.before ++ b.since)) ≡ Needs (asks.Shared shared_asks.Commit) locals places)
 
 -- a SERIAL block is what its job's log has from a `begin` to a commit that was done
 pub record IsPart (h : History) (b : Block) : Type 0 where
   pub front : Log
   pub reply : Reply
-  pub begins : b.before ≡ front ++ (asks.Begin kinds.Serial, reply) ∷ []
+  pub begins : b.before ≡ front ++ (asks.Shared (shared_asks.Begin kinds.Serial), reply) ∷ []
   pub later : Log
-  pub is : log_of b.job h ≡ b.before ++ (b.since ++ (asks.Commit, replies.Done) ∷ later)
+  pub is : log_of b.job h ≡ b.before ++ (b.since ++ ((asks.Shared shared_asks.Commit), replies.Done) ∷ later)
 
 -- From some number of turns on: the blocks of the history, run alone in their order from the globals at its opening, leave the globals that are
 -- committed by its end, and the SERIAL ones make the asks and get the replies that they had, up to their commits, with the variables that they had
@@ -60,7 +61,7 @@ pub record MustClash (programs : ℕ → Program) (committed : Content) (h : His
   pub old : Answer
   pub new : Answer
   pub late : Log
-  pub since : block.since ≡ early ++ (asks.Access a, replies.Answer old) ∷ late
+  pub since : block.since ≡ early ++ (asks.Shared (shared_asks.Access a), replies.Answer old) ∷ late
   pub place : clash.place ≡ length (accesses_of early) + 1
   pub was : clash.then ≡ kept_of old
   pub now : clash.now ≡ kept_of new
@@ -68,4 +69,4 @@ pub record MustClash (programs : ℕ → Program) (committed : Content) (h : His
   pub apart : clash.now ≢ clash.then
   pub turns : ℕ
   pub again : (n : ℕ) → turns ≤ n
-      → (go (programs job) n (suc (length early)) block.before (desk_of block.since committed)).log ≡ early ++ (asks.Access a, replies.Answer new) ∷ []
+      → (go (programs job) n (suc (length early)) block.before (desk_of block.since committed)).log ≡ early ++ (asks.Shared (shared_asks.Access a), replies.Answer new) ∷ []

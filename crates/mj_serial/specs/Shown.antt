@@ -3,6 +3,7 @@ use Rattle.std.specs.Prelude.{ℕ, suc, ◌==◌, Bool, false, List, [], ◌∷�
 use Rattle.std.specs.List.{cons_option, slice_index_or}
 use Rattle.mj_ask.specs.declared.ask.Ask.{Ask}
 use Rattle.mj_ask.specs.declared.ask.Ask.TheVariants as asks
+use Rattle.mj_ask.specs.declared.ask.SharedAsk.TheVariants as shared_asks
 use Rattle.mj_ask.specs.declared.ask.Reply.{Reply}
 use Rattle.mj_ask.specs.declared.ask.Reply.TheVariants as replies
 use Rattle.mj_txlog.specs.Accesses.{Accesses}
@@ -28,11 +29,11 @@ with_entry b (Some e) = record b { accesses = b.accesses ++ e ∷ [] }
 
 -- what a job has open after an event
 abbrev pub shown_after : ℕ → ℕ → Option Shown → Ask → Reply → Option Shown
-shown_after job place None (asks.Begin kind) r = Some (record { job = job; serial = is_serial kind; place = place; accesses = [] })
+shown_after job place None (asks.Shared (shared_asks.Begin kind)) r = Some (record { job = job; serial = is_serial kind; place = place; accesses = [] })
 shown_after job place None _ r = None
-shown_after job place (Some b) asks.Commit r = None
-shown_after job place (Some b) asks.Rollback r = None
-shown_after job place (Some b) (asks.Halt fault) r = None
+shown_after job place (Some b) (asks.Shared shared_asks.Commit) r = None
+shown_after job place (Some b) (asks.Shared shared_asks.Rollback) r = None
+shown_after job place (Some b) (asks.Shared (shared_asks.Halt fault)) r = None
 shown_after job place (Some b) a r = Some (with_entry b (entry_of a r))
 
 -- a single access, if it was taken
@@ -47,9 +48,9 @@ shown_ended b _ = None
 
 -- the block that is over with an event
 abbrev pub shown_done : ℕ → ℕ → Option Shown → Ask → Reply → Option Shown
-shown_done job place None (asks.Access a) r = shown_single job place (entry_of (asks.Access a) r)
+shown_done job place None (asks.Shared (shared_asks.Access a)) r = shown_single job place (entry_of (asks.Shared (shared_asks.Access a)) r)
 shown_done job place None _ r = None
-shown_done job place (Some b) asks.Commit r = shown_ended b r
+shown_done job place (Some b) (asks.Shared shared_asks.Commit) r = shown_ended b r
 shown_done job place (Some b) _ r = None
 
 -- the scan, where each job has this open

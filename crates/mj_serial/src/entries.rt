@@ -4,7 +4,7 @@ ghost use Rattle.std.specs.Prelude.{◌≡◌, IfOk};
 ghost use Rattle.mj_txn.specs.Closing.{is_local_write};
 ghost use Rattle.mj_serial.specs.Blocks.{is_taken, taken, entry_of};
 
-use mj_ask::{Ask, Reply};
+use mj_ask::{Ask, Reply, SharedAsk};
 use mj_store::{Access, Answer};
 use mj_txlog::{Entry, NameList, Unlock, is_write};
 use std::alloc::{AllocError, Global};
@@ -14,12 +14,12 @@ pub fn entry_of(alloc: Global, ask: &Ask, reply: &Reply) -> Result<Option<Entry>
     ensures { IfOk result (λ entry. entry ≡ entry_of ask.now reply.now) }
 {
     match (ask, reply) {
-        (Ask::Access(access), Reply::Answer(answer)) => taken(access, answer),
-        (Ask::Unlock(names), Reply::Done) => {
+        (Ask::Shared(SharedAsk::Access(access)), Reply::Answer(answer)) => taken(access, answer),
+        (Ask::Shared(SharedAsk::Unlock(names)), Reply::Done) => {
             let list = NameList::of(alloc, names.as_slice())?;
             Ok(Some(Entry::Unlock(Unlock::Names(list))))
         }
-        (Ask::UnlockAll, Reply::Done) => Ok(Some(Entry::Unlock(Unlock::All))),
+        (Ask::Shared(SharedAsk::UnlockAll), Reply::Done) => Ok(Some(Entry::Unlock(Unlock::All))),
         _ => Ok(None),
     }
 }

@@ -9,7 +9,7 @@ ghost use Rattle.mj_serial.specs.Laws.{NoneIsOpen, IsAsAlone, AllMustClash};
 ghost use Rattle.mj_serial.specs.Shown.{Shown, shown, shown_after, shown_done, with_entry, shown_single, all_from};
 
 use crate::entries::entry_of;
-use mj_ask::{Ask, Kind, Reply};
+use mj_ask::{Ask, Kind, Reply, SharedAsk};
 use mj_core::Core;
 use mj_dev::Device;
 use mj_sys::{Event, Opening};
@@ -209,7 +209,7 @@ fn outside(
     ensures done { IfOk result (λ r. r.1 ≡ shown_done job place None ask.now reply.now) }
 {
     match ask {
-        Ask::Begin(kind) => {
+        Ask::Shared(SharedAsk::Begin(kind)) => {
             let block = Block {
                 job,
                 serial: *kind == Kind::Serial,
@@ -218,7 +218,7 @@ fn outside(
             };
             Ok((Some(block), None))
         }
-        Ask::Access(_) => {
+        Ask::Shared(SharedAsk::Access(_)) => {
             let entry = entry_of(alloc, ask, reply)?;
             Ok((None, single(alloc, job, place, entry)?))
         }
@@ -261,14 +261,14 @@ fn within(
     ensures done { (job place : ℕ) → IfOk result (λ r. r.1 ≡ shown_done job place (Some block) ask.now reply.now) }
 {
     match ask {
-        Ask::Commit => match reply {
+        Ask::Shared(SharedAsk::Commit) => match reply {
             Reply::Done => Ok((None, Some(block))),
             _ => {
                 drop(block);
                 Ok((None, None))
             }
         },
-        Ask::Rollback | Ask::Halt(_) => {
+        Ask::Shared(SharedAsk::Rollback) | Ask::Shared(SharedAsk::Halt(_)) => {
             drop(block);
             Ok((None, None))
         }

@@ -4,14 +4,16 @@ use Rattle.std.specs.Str.{bytes_eq}
 use Rattle.std.proofs.Common.{ℕ, zero, suc, ◌-◌, ◌+◌, ◌<◌, ◌≤◌, Bool, true, false, List, [], ◌∷◌, ◌++◌, Option, Some, None, ◌≡◌, refl, sym, ap, ◌∙◌, append_assoc, append-nil, drop, length, get_or, arith}
 use Rattle.mj_ask.specs.declared.ask.Ask.{Ask}
 use Rattle.mj_ask.specs.declared.ask.Ask.TheVariants as asks
+use Rattle.mj_ask.specs.declared.ask.DeviceAsk.{DeviceAsk}
+use Rattle.mj_ask.specs.declared.ask.DeviceAsk.TheVariants as device_asks
 use Rattle.mj_ask.specs.declared.ask.Reply.{Reply}
 use Rattle.mj_ask.specs.declared.ask.Reply.TheVariants as replies
 use Rattle.std.proofs.lemmas.List.{drop_more, drop_all}
 use Rattle.mj_dev.specs.declared.device.Did.{Did}
 use Rattle.mj_dev.specs.declared.device.Did.TheVariants as did
 use Rattle.mj_dev.specs.Did.{bytes_of}
-use Rattle.mj_dev.specs.Talk.{Exchange, Begun, Written, LineRead, ByteRead, Ended, written_by}
-use Rattle.mj_sessions.specs.Events.{Log, talk_on, did_of, input_of, code_of}
+use Rattle.mj_dev.specs.Talk.{Exchange, Written, Ended, written_by}
+use Rattle.mj_sessions.specs.Events.{Log, talk_on, did_of, exchange_of}
 use Rattle.mj_sessions.specs.Follow.{is_end, output_on, output_of_log, ends_on, written_on}
 
 none_left : (talk : List Exchange) → output_on 0 talk ≡ []
@@ -36,12 +38,14 @@ later_of (suc (suc k)) x talk on other = ap (λ b. output_on (if b then suc k el
 abbrev With : Option Exchange → List Exchange → List Exchange
 With o talk = elim o [ None ↦ talk | Some x ↦ x ∷ talk ]
 
-first_at : (b : Bool) (x : Exchange) (talk : List Exchange) → is_end x ≡ false → output_on 1 (With (if b then Some x else None) talk) ≡ (if b then written_by x else []) ++ output_on 1 talk
+first_at : (b : Bool) (x : Exchange) (talk : List Exchange) → is_end x ≡ false
+    → output_on 1 (With (if b then Some x else None) talk) ≡ (if b then written_by x else []) ++ output_on 1 talk
 first_at true x talk on = first_of x talk on
 first_at false x talk on = refl
 
 -- a call that writes nothing
-silent_at : (b : Bool) (x : Exchange) (talk : List Exchange) → is_end x ≡ false → written_by x ≡ [] → output_on 1 (With (if b then Some x else None) talk) ≡ output_on 1 talk
+silent_at : (b : Bool) (x : Exchange) (talk : List Exchange) → is_end x ≡ false → written_by x ≡ []
+    → output_on 1 (With (if b then Some x else None) talk) ≡ output_on 1 talk
 silent_at true x talk on none = first_of x talk on ∙ ap (λ w. w ++ output_on 1 talk) none
 silent_at false x talk on none = refl
 
@@ -70,45 +74,27 @@ module _ (name : List ℕ) (reply : Reply) (log : Log) where
   talk = talk_on name log
 
   pub ended_by : (k : ℕ) (ask : Ask) → ends_on name ask ≡ true → output_on k (talk_on name ((ask, reply) ∷ log)) ≡ output_on (k - 1) talk
-  ended_by k (asks.DeviceEnd d) is = end_at k (bytes_eq d name) (did_of reply) talk is
-  ended_by k (asks.DeviceBegin d) is = absurd (let no : false ≡ true = is in cc)
-  ended_by k (asks.DeviceWrite d bytes) is = absurd (let no : false ≡ true = is in cc)
-  ended_by k (asks.DeviceLine d t) is = absurd (let no : false ≡ true = is in cc)
-  ended_by k (asks.DeviceByte d t) is = absurd (let no : false ≡ true = is in cc)
-  ended_by k (asks.Access a) is = absurd (let no : false ≡ true = is in cc)
-  ended_by k (asks.Try names t) is = absurd (let no : false ≡ true = is in cc)
-  ended_by k (asks.Unlock names) is = absurd (let no : false ≡ true = is in cc)
-  ended_by k asks.UnlockAll is = absurd (let no : false ≡ true = is in cc)
-  ended_by k (asks.Begin kind) is = absurd (let no : false ≡ true = is in cc)
-  ended_by k asks.Commit is = absurd (let no : false ≡ true = is in cc)
-  ended_by k asks.Rollback is = absurd (let no : false ≡ true = is in cc)
-  ended_by k (asks.Open d t) is = absurd (let no : false ≡ true = is in cc)
-  ended_by k (asks.Close d) is = absurd (let no : false ≡ true = is in cc)
-  ended_by k (asks.Start s t) is = absurd (let no : false ≡ true = is in cc)
-  ended_by k (asks.Rest t) is = absurd (let no : false ≡ true = is in cc)
-  ended_by k (asks.Halt f) is = absurd (let no : false ≡ true = is in cc)
+  ended_by k (asks.Device d device_asks.End) is = end_at k (bytes_eq d name) (did_of reply) talk is
+  ended_by k _ is = absurd (let no : false ≡ true = is in cc)
+
+  -- a call to a session with some device, which isn't its end
+  later_call : (k : ℕ) (d : List ℕ) (ask : DeviceAsk) → is_end (exchange_of ask reply) ≡ false → (k ≡ 1 → ⊥)
+      → output_on k (talk_on name ((asks.Device d ask, reply) ∷ log)) ≡ output_on k talk
+  later_call k d ask on other = later_at k (bytes_eq d name) (exchange_of ask reply) talk on other
 
   pub later_by : (k : ℕ) (ask : Ask) → ends_on name ask ≡ false → (k ≡ 1 → ⊥) → output_on k (talk_on name ((ask, reply) ∷ log)) ≡ output_on k talk
-  later_by k (asks.DeviceEnd d) is other = still_at k (bytes_eq d name) (did_of reply) talk is
-  later_by k (asks.DeviceBegin d) is other = later_at k (bytes_eq d name) (Begun (did_of reply)) talk refl other
-  later_by k (asks.DeviceWrite d bytes) is other = later_at k (bytes_eq d name) (Written bytes (did_of reply)) talk refl other
-  later_by k (asks.DeviceLine d t) is other = later_at k (bytes_eq d name) (LineRead (input_of reply)) talk refl other
-  later_by k (asks.DeviceByte d t) is other = later_at k (bytes_eq d name) (ByteRead (code_of reply)) talk refl other
-  later_by k (asks.Access a) is other = refl
-  later_by k (asks.Try names t) is other = refl
-  later_by k (asks.Unlock names) is other = refl
-  later_by k asks.UnlockAll is other = refl
-  later_by k (asks.Begin kind) is other = refl
-  later_by k asks.Commit is other = refl
-  later_by k asks.Rollback is other = refl
-  later_by k (asks.Open d t) is other = refl
-  later_by k (asks.Close d) is other = refl
-  later_by k (asks.Start s t) is other = refl
-  later_by k (asks.Rest t) is other = refl
-  later_by k (asks.Halt f) is other = refl
+  later_by k (asks.Device d device_asks.End) is other = still_at k (bytes_eq d name) (did_of reply) talk is
+  later_by k (asks.Device d ask) is other = later_call k d ask refl other
+  later_by k _ is other = refl
+
+-- a call to a session with some device that writes nothing
+silent_call : (name : List ℕ) (log : Log) (d : List ℕ) (ask : DeviceAsk) (reply : Reply) → is_end (exchange_of ask reply) ≡ false
+    → written_by (exchange_of ask reply) ≡ [] → output_on 1 (talk_on name ((asks.Device d ask, reply) ∷ log)) ≡ output_on 1 (talk_on name log)
+silent_call name log d ask reply on none = silent_at (bytes_eq d name) (exchange_of ask reply) (talk_on name log) on none
 
 wrote_by : (name : List ℕ) (log : Log) (d bytes : List ℕ) (reply : Reply)
-    → output_on 1 (talk_on name ((asks.DeviceWrite d bytes, reply) ∷ log)) ≡ written_on name (asks.DeviceWrite d bytes) reply ++ output_on 1 (talk_on name log)
+    → output_on 1 (talk_on name ((asks.Device d (device_asks.Write bytes), reply) ∷ log))
+    ≡ written_on name (asks.Device d (device_asks.Write bytes)) reply ++ output_on 1 (talk_on name log)
 wrote_by name log d bytes replies.Done = written_at (bytes_eq d name) bytes (talk_on name log)
 wrote_by name log d bytes (replies.Answer a) = unwritten (bytes_eq d name) bytes (replies.Answer a) (talk_on name log) refl
 wrote_by name log d bytes replies.Limit = unwritten (bytes_eq d name) bytes replies.Limit (talk_on name log) refl
@@ -124,30 +110,18 @@ wrote_by name log d bytes (replies.Clash c) = unwritten (bytes_eq d name) bytes 
 
 pub first_by : (name : List ℕ) (log : Log) (ask : Ask) (reply : Reply) → ends_on name ask ≡ false
     → output_on 1 (talk_on name ((ask, reply) ∷ log)) ≡ written_on name ask reply ++ output_on 1 (talk_on name log)
-first_by name log (asks.DeviceEnd d) reply is = still_at 1 (bytes_eq d name) (did_of reply) (talk_on name log) is
-first_by name log (asks.DeviceBegin d) reply is = silent_at (bytes_eq d name) (Begun (did_of reply)) (talk_on name log) refl refl
-first_by name log (asks.DeviceWrite d bytes) reply is = wrote_by name log d bytes reply
-first_by name log (asks.DeviceLine d t) reply is = silent_at (bytes_eq d name) (LineRead (input_of reply)) (talk_on name log) refl refl
-first_by name log (asks.DeviceByte d t) reply is = silent_at (bytes_eq d name) (ByteRead (code_of reply)) (talk_on name log) refl refl
-first_by name log (asks.Access a) reply is = refl
-first_by name log (asks.Try names t) reply is = refl
-first_by name log (asks.Unlock names) reply is = refl
-first_by name log asks.UnlockAll reply is = refl
-first_by name log (asks.Begin kind) reply is = refl
-first_by name log asks.Commit reply is = refl
-first_by name log asks.Rollback reply is = refl
-first_by name log (asks.Open d t) reply is = refl
-first_by name log (asks.Close d) reply is = refl
-first_by name log (asks.Start s t) reply is = refl
-first_by name log (asks.Rest t) reply is = refl
-first_by name log (asks.Halt f) reply is = refl
+first_by name log (asks.Device d device_asks.End) reply is = still_at 1 (bytes_eq d name) (did_of reply) (talk_on name log) is
+first_by name log (asks.Device d (device_asks.Write bytes)) reply is = wrote_by name log d bytes reply
+first_by name log (asks.Device d ask) reply is = silent_call name log d ask reply refl refl
+first_by name log _ reply is = refl
 
 -- ---- what the loop uses: the bytes so far, and those of the entries to come
 
 pub all_to_come : (log : Log) (name : List ℕ) (k : ℕ) (bytes : List ℕ) → bytes ≡ [] → bytes ++ output_on k (talk_on name (drop 0 log)) ≡ output_of_log log name k
 all_to_come log name k bytes none = ap (λ b. b ++ output_on k (talk_on name log)) none
 
-pub none_to_come : (log : Log) (name : List ℕ) (k left i : ℕ) (bytes : List ℕ) → length log ≤ i → bytes ++ output_on left (talk_on name (drop i log)) ≡ output_of_log log name k
+pub none_to_come : (log : Log) (name : List ℕ) (k left i : ℕ) (bytes : List ℕ) → length log ≤ i
+    → bytes ++ output_on left (talk_on name (drop i log)) ≡ output_of_log log name k
     → bytes ≡ output_of_log log name k
 none_to_come log name k left i bytes over so_far =
     sym (append-nil bytes) ∙ ap (λ l. bytes ++ output_on left (talk_on name l)) (sym (drop_all i log over)) ∙ so_far
@@ -158,7 +132,9 @@ module _ (log : Log) (name : List ℕ) (k left i : ℕ) (bytes : List ℕ) (entr
   front = ap (λ l. bytes ++ output_on left (talk_on name l)) (ap (λ e. e ∷ drop (i + 1) log) is ∙ sym (drop_more log i entry below)) ∙ so_far
 
   pub goes_end : ends_on name entry.0 ≡ true → (new : ℕ) → new ≡ left - 1 → bytes ++ output_on new (talk_on name (drop (i + 1) log)) ≡ output_of_log log name k
-  goes_end ends new less = ap (λ n. bytes ++ output_on n (talk_on name (drop (i + 1) log))) less ∙ ap (λ b. bytes ++ b) (sym (ended_by name entry.1 (drop (i + 1) log) left entry.0 ends)) ∙ front
+  goes_end ends new less =
+      ap (λ n. bytes ++ output_on n (talk_on name (drop (i + 1) log))) less
+      ∙ ap (λ b. bytes ++ b) (sym (ended_by name entry.1 (drop (i + 1) log) left entry.0 ends)) ∙ front
 
   pub goes_by : ends_on name entry.0 ≡ false → (left ≡ 1 → ⊥) → bytes ++ output_on left (talk_on name (drop (i + 1) log)) ≡ output_of_log log name k
   goes_by ends other = ap (λ b. bytes ++ b) (sym (later_by name entry.1 (drop (i + 1) log) left entry.0 ends other)) ∙ front

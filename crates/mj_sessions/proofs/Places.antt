@@ -7,10 +7,10 @@ use Rattle.std.specs.Str.{bytes_eq}
 use Rattle.std.proofs.lemmas.List.Quantifiers.{position-Some}
 use Rattle.std.proofs.lemmas.List.Sums.{prefix_len-le-length}
 use Rattle.std.proofs.lemmas.Slice.Eq.{bytes_eq-Decides}
-use Rattle.mj_ask.specs.declared.ask.Ask.{Ask}
+use Rattle.mj_ask.specs.declared.ask.DeviceAsk.{DeviceAsk}
 use Rattle.mj_dev.specs.Heard.{Heard}
 use Rattle.mj_sessions.specs.declared.answer.Answer.{Answer}
-use Rattle.mj_sessions.specs.Answers.{Hears, Asked, Ends, IsEnding}
+use Rattle.mj_sessions.specs.Answers.{Hears, Asked, SessionEnds, IsEnding}
 use borrow.Author.Tests.{ltb-false}
 use Rattle.mj_sessions.specs.Named.{Named, is_named, session_of, with_session, without, AreApart}
 
@@ -188,14 +188,14 @@ module _ (name : List ℕ) (xs : List Named) (i : ℕ) (s : Named) (found : posi
   pub found_gone : remove xs i ≡ without name xs
   found_gone = sym (gone_at name xs i s p.0 p.1 p.2)
 
-  pub found_asked : (ask : Ask) (late : Bool) (answer : Answer) (s' : Named) → s'.name ≡ s.name → Hears s.session ask late answer s'.session
+  pub found_asked : (ask : DeviceAsk) (late : Bool) (answer : Answer) (s' : Named) → s'.name ≡ s.name → Hears s.session ask late answer s'.session
       → Asked name xs ask late answer (slice_set xs i s')
   found_asked ask late answer s' same heard = inr (s, found_session, (s'.session, heard, found_set s' same))
 
   pub found_apart : (s' : Named) → s'.name ≡ s.name → AreApart xs → AreApart (slice_set xs i s')
   found_apart s' same apart = rw (found_set s' same) (apart_with name s'.session xs apart)
 
-  pub found_ends : (answer : Answer) → IsEnding s.session answer → Ends name xs answer (remove xs i)
+  pub found_ends : (answer : Answer) → IsEnding s.session answer → SessionEnds name xs answer (remove xs i)
   found_ends answer ending = inr (s, found_session, ending, found_gone)
 
   pub found_left : AreApart xs → AreApart (remove xs i)

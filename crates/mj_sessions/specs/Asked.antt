@@ -2,13 +2,15 @@
 use Rattle.std.specs.Prelude.{◌≡◌, ◌+◌, ℕ, List, Bool, Some, IsSome, ◌⊎◌}
 use Rattle.mj_ask.specs.declared.ask.Ask.{Ask}
 use Rattle.mj_ask.specs.declared.ask.Ask.TheVariants as asks
-use Rattle.mj_ask.specs.Late.{is_over}
+use Rattle.mj_ask.specs.declared.ask.DeviceAsk.{DeviceAsk}
+use Rattle.mj_ask.specs.declared.ask.DeviceAsk.TheVariants as device_asks
+use Rattle.mj_ask.specs.Late.{is_timed_out}
 use Rattle.mj_dev.specs.declared.device.Did.{Did}
 use Rattle.mj_dev.specs.Did.{failures_of}
 use Rattle.mj_dev.specs.declared.device.Input.{Input}
 use Rattle.mj_dev.specs.declared.talk.Code.{Code}
 use Rattle.mj_dev.specs.Heard.{Heard}
-use Rattle.mj_dev.specs.Told.{Told, IsCodeOf}
+use Rattle.mj_dev.specs.Told.{DeviceCall, IsCodeOf}
 use Rattle.mj_sessions.specs.declared.answer.Answer.{Answer}
 use Rattle.mj_sessions.specs.declared.answer.Answer.TheVariants as answers
 use Rattle.mj_sessions.specs.Answers.{answer_to, answer_to_line, answer_to_byte}
@@ -16,22 +18,23 @@ use Rattle.mj_sessions.specs.Named.{Named, session_of, with_session}
 
 -- A device with the counts of this session, that was told so: the last call to it was this, and was answered so.
 abbrev pub Answering : Type 1
-Answering = Heard → Told → Type 0
+Answering = Heard → DeviceCall → Type 0
 
 -- the answer is the device's to such a call
-abbrev pub Calls : Answering → (Did → Told) → Answer → Heard → Type 0
+abbrev pub Calls : Answering → (Did → DeviceCall) → Answer → Heard → Type 0
 Calls tells call answer new = (did : Did) × tells new (call did) × (answer ≡ answer_to did)
 
--- The session's device was asked, and the answer comes of what it answered: where a line or a byte is read this is so unless a line was begun, whose rest is read.
-abbrev pub IsAsked : Answering → Heard → Ask → Bool → Answer → Heard → Type 0
-IsAsked tells old (asks.DeviceBegin device) late answer new = Calls tells Told.Begun answer new
-IsAsked tells old (asks.DeviceWrite device bytes) late answer new = Calls tells (Told.Wrote bytes) answer new
-IsAsked tells old (asks.DeviceLine device timeout) late answer new =
-    IsSome old.rest ⊎ ((input : Input) × tells new (Told.Gave input) × (answer ≡ answer_to_line input (is_over timeout late)))
-IsAsked tells old (asks.DeviceByte device timeout) late answer new =
+-- The session's device was asked, and the answer comes of what it answered: where a line or a byte is read this is so unless a line was begun,
+-- whose rest is read. An end is no such ask.
+abbrev pub IsAsked : Answering → Heard → DeviceAsk → Bool → Answer → Heard → Type 0
+IsAsked tells old device_asks.Begin late answer new = Calls tells DeviceCall.Begun answer new
+IsAsked tells old (device_asks.Write bytes) late answer new = Calls tells (DeviceCall.Wrote bytes) answer new
+IsAsked tells old (device_asks.Line timeout) late answer new =
+    IsSome old.rest ⊎ ((input : Input) × tells new (DeviceCall.Gave input) × (answer ≡ answer_to_line input (is_timed_out timeout late)))
+IsAsked tells old (device_asks.Byte timeout) late answer new =
     IsSome old.rest
-    ⊎ ((input : Input) × tells new (Told.Gave input) × ((code : Code) × IsCodeOf input code × (answer ≡ answer_to_byte code (is_over timeout late))))
-IsAsked tells old _ late answer new = ⊥
+    ⊎ ((input : Input) × tells new (DeviceCall.Gave input) × ((code : Code) × IsCodeOf input code × (answer ≡ answer_to_byte code (is_timed_out timeout late))))
+IsAsked tells old device_asks.End late answer new = ⊥
 
 -- the session with its device's counts behind its end
 abbrev pub ended : Heard → Did → Heard
@@ -39,24 +42,26 @@ ended old did = record old { failures = old.failures + failures_of did }
 
 -- the session's device was ended, and the answer comes of what it answered
 abbrev pub IsOver : Answering → Heard → Answer → Type 0
-IsOver tells old answer = (did : Did) × tells (ended old did) (Told.Over did) × (answer ≡ answer_to did)
+IsOver tells old answer = (did : Did) × tells (ended old did) (DeviceCall.Over did) × (answer ≡ answer_to did)
 
 -- unless the ask is unfit, the session of this name was asked so
-abbrev pub IsAskedOf : Answering → List ℕ → List Named → Ask → Bool → Answer → List Named → Type 0
+abbrev pub IsAskedOf : Answering → List ℕ → List Named → DeviceAsk → Bool → Answer → List Named → Type 0
 IsAskedOf tells name old ask late answer new =
     (answer ≡ answers.Unfit)
-    ⊎ ((s : Named) × (session_of name old ≡ Some s) × ((heard : Heard) × IsAsked tells s.session ask late answer heard × (new ≡ with_session name heard old)))
+    ⊎ ((s : Named) × (session_of name old ≡ Some s)
+    × ((heard : Heard) × IsAsked tells s.session ask late answer heard × (new ≡ with_session name heard old)))
 
 -- unless the ask is unfit, the session of this name was ended so
 abbrev pub IsOverOf : Answering → List ℕ → List Named → Answer → Type 0
 IsOverOf tells name old answer = (answer ≡ answers.Unfit) ⊎ ((s : Named) × (session_of name old ≡ Some s) × IsOver tells s.session answer)
 
--- what is answered to an ask comes of a call to a device, but where a rest is over, an ask is unfit, or the rest of a line is read
+-- what is answered to an ask of the device of this name comes of a call to it, but where the ask is unfit, or the rest of a line is read
+abbrev pub AreAskedOf : Answering → List ℕ → List Named → DeviceAsk → Bool → Answer → List Named → Type 0
+AreAskedOf tells name old device_asks.End late answer new = IsOverOf tells name old answer
+AreAskedOf tells name old ask late answer new = IsAskedOf tells name old ask late answer new
+
+-- and so of any ask that isn't one to the shared state, but where a rest is over
 abbrev pub AreAsked : Answering → List Named → Ask → Bool → Answer → List Named → Type 0
-AreAsked tells old (asks.DeviceBegin device) late answer new = IsAskedOf tells device old (asks.DeviceBegin device) late answer new
-AreAsked tells old (asks.DeviceWrite device bytes) late answer new = IsAskedOf tells device old (asks.DeviceWrite device bytes) late answer new
-AreAsked tells old (asks.DeviceLine device timeout) late answer new = IsAskedOf tells device old (asks.DeviceLine device timeout) late answer new
-AreAsked tells old (asks.DeviceByte device timeout) late answer new = IsAskedOf tells device old (asks.DeviceByte device timeout) late answer new
-AreAsked tells old (asks.DeviceEnd device) late answer new = IsOverOf tells device old answer
+AreAsked tells old (asks.Device name ask) late answer new = AreAskedOf tells name old ask late answer new
 AreAsked tells old (asks.Rest time) late answer new = Unit {0}
-AreAsked tells old _ late answer new = ⊥
+AreAsked tells old (asks.Shared ask) late answer new = ⊥

@@ -3,6 +3,8 @@ use Rattle.std.specs.Prelude.{ℕ, List, [], ◌∷◌, Option, Some, None, if�
 use Rattle.std.specs.Str.{bytes_eq}
 use Rattle.mj_ask.specs.declared.ask.Ask.{Ask}
 use Rattle.mj_ask.specs.declared.ask.Ask.TheVariants as asks
+use Rattle.mj_ask.specs.declared.ask.DeviceAsk.{DeviceAsk}
+use Rattle.mj_ask.specs.declared.ask.DeviceAsk.TheVariants as device_asks
 use Rattle.mj_ask.specs.declared.ask.Reply.{Reply}
 use Rattle.mj_ask.specs.declared.ask.Reply.TheVariants as replies
 use Rattle.mj_dev.specs.declared.device.Did.{Did}
@@ -19,11 +21,7 @@ Log = List (Ask × Reply)
 
 -- the device whose session serves the ask, if one does
 abbrev pub device_of : Ask → Option (List ℕ)
-device_of (asks.DeviceBegin device) = Some device
-device_of (asks.DeviceWrite device bytes) = Some device
-device_of (asks.DeviceLine device timeout) = Some device
-device_of (asks.DeviceByte device timeout) = Some device
-device_of (asks.DeviceEnd device) = Some device
+device_of (asks.Device device ask) = Some device
 device_of _ = None
 
 -- how a call went that reads nothing. (What is told is never that memory was refused.)
@@ -48,21 +46,18 @@ code_of replies.Late = codes.NotYet
 code_of replies.Failed = codes.Failed
 code_of _ = codes.Memory
 
--- the call to a session that an ask with its reply is, if a session serves it
-abbrev pub exchange_of : Ask → Reply → Option Exchange
-exchange_of (asks.DeviceBegin device) reply = Some (Begun (did_of reply))
-exchange_of (asks.DeviceWrite device bytes) reply = Some (Written bytes (did_of reply))
-exchange_of (asks.DeviceLine device timeout) reply = Some (LineRead (input_of reply))
-exchange_of (asks.DeviceByte device timeout) reply = Some (ByteRead (code_of reply))
-exchange_of (asks.DeviceEnd device) reply = Some (Ended (did_of reply))
-exchange_of _ reply = None
+-- the call to a session that an ask of its device is with its reply
+abbrev pub exchange_of : DeviceAsk → Reply → Exchange
+exchange_of device_asks.Begin reply = Begun (did_of reply)
+exchange_of (device_asks.Write bytes) reply = Written bytes (did_of reply)
+exchange_of (device_asks.Line timeout) reply = LineRead (input_of reply)
+exchange_of (device_asks.Byte timeout) reply = ByteRead (code_of reply)
+exchange_of device_asks.End reply = Ended (did_of reply)
 
--- the same, where the device has this name
+-- the call to a session with the device of this name that an ask is with its reply, if it is one
 abbrev pub exchange_on : List ℕ → Ask → Reply → Option Exchange
-exchange_on name ask reply = elim (device_of ask) [
-  | None ↦ None
-  | Some device ↦ if bytes_eq device name then exchange_of ask reply else None
-]
+exchange_on name (asks.Device device ask) reply = if bytes_eq device name then Some (exchange_of ask reply) else None
+exchange_on name _ reply = None
 
 -- all calls to a job's sessions with the device of a name, one session after the other
 abbrev pub talk_on : List ℕ → Log → List Exchange

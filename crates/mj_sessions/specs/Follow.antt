@@ -3,9 +3,10 @@ use Rattle.std.specs.Prelude.{◌≡◌, ℕ, zero, suc, List, [], ◌∷◌, �
 use Rattle.std.specs.Str.{bytes_eq}
 use Rattle.mj_ask.specs.declared.ask.Ask.{Ask}
 use Rattle.mj_ask.specs.declared.ask.Ask.TheVariants as asks
+use Rattle.mj_ask.specs.declared.ask.DeviceAsk.TheVariants as device_asks
 use Rattle.mj_ask.specs.declared.ask.Reply.{Reply}
 use Rattle.mj_ask.specs.declared.ask.Reply.TheVariants as replies
-use Rattle.mj_dev.specs.Talk.{Exchange, Ended, written_by, Stand, Allows, beginning}
+use Rattle.mj_dev.specs.Talk.{Exchange, Ended, written_by, TalkStand, Allows, beginning}
 use Rattle.mj_sessions.specs.Events.{Log, talk_on}
 
 -- the call that a session ends by
@@ -14,17 +15,17 @@ is_end (Ended answer) = true
 is_end _ = false
 
 -- where the talks stand behind a call that left its session so
-abbrev pub behind : Exchange → Stand → Stand
-behind exchange stand = if is_end exchange then beginning else stand
+abbrev pub stand_behind : Exchange → TalkStand → TalkStand
+stand_behind exchange stand = if is_end exchange then beginning else stand
 
 -- the device protocol: each call is one that it allows, where the session stands
-abbrev pub Follow : Stand → List Exchange → Stand → Type 0
+abbrev pub Follow : TalkStand → List Exchange → TalkStand → Type 0
 Follow old [] new = new ≡ old
-Follow old (exchange ∷ talk) new = (between : Stand) × Allows old old.state exchange between × Follow (behind exchange between) talk new
+Follow old (exchange ∷ talk) new = (between : TalkStand) × Allows old old.state exchange between × Follow (stand_behind exchange between) talk new
 
 -- the talks of a job with all devices obey the protocol
 abbrev pub AreTalks : Log → Type 0
-AreTalks log = (name : List ℕ) → (last : Stand) × Follow beginning (talk_on name log) last
+AreTalks log = (name : List ℕ) → (last : TalkStand) × Follow beginning (talk_on name log) last
 
 -- what the session that isn't ended took, where it and those before it took so much before
 abbrev pub taken_behind : List ℕ → List Exchange → List ℕ
@@ -48,10 +49,10 @@ output_of_log log name k = output_on k (talk_on name log)
 
 -- an ask that ends a session with the device of a name
 abbrev pub ends_on : List ℕ → Ask → Bool
-ends_on name (asks.DeviceEnd device) = bytes_eq device name
+ends_on name (asks.Device device device_asks.End) = bytes_eq device name
 ends_on name _ = false
 
 -- the bytes that the device of a name took by an ask with its reply
 abbrev pub written_on : List ℕ → Ask → Reply → List ℕ
-written_on name (asks.DeviceWrite device bytes) replies.Done = if bytes_eq device name then bytes else []
+written_on name (asks.Device device (device_asks.Write bytes)) replies.Done = if bytes_eq device name then bytes else []
 written_on name _ _ = []

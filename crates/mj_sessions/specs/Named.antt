@@ -41,10 +41,10 @@ AreApart (s ∷ sessions) = (session_of s.name sessions ≡ None) × AreApart se
 
 -- by a talk, one session after the other, the session that isn't ended stands so and took just these bytes; where there is none, the talk
 -- stands where each begins
-abbrev pub Tells : List Exchange → Option Named → Type 0
-Tells talk None = Follow beginning talk beginning × (taken_by talk ≡ [])
-Tells talk (Some s) = Follow beginning talk (stand_of s.session) × (s.session.taken ≡ taken_by talk)
+abbrev pub TalkLeaves : List Exchange → Option Named → Type 0
+TalkLeaves talk None = Follow beginning talk beginning × (taken_by talk ≡ [])
+TalkLeaves talk (Some s) = Follow beginning talk (stand_of s.session) × (s.session.taken ≡ taken_by talk)
 
 -- the sessions are those of which this log tells
 abbrev pub AreTold : Log → List Named → Type 0
-AreTold log sessions = (name : List ℕ) → Tells (talk_on name log) (session_of name sessions)
+AreTold log sessions = (name : List ℕ) → TalkLeaves (talk_on name log) (session_of name sessions)

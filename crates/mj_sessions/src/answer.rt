@@ -1,7 +1,7 @@
 // What comes of an ask to a session.
 
 ghost use Rattle.std.specs.Prelude.{◌≡◌};
-ghost use Rattle.mj_ask.specs.Late.{is_over};
+ghost use Rattle.mj_ask.specs.Late.{is_timed_out};
 ghost use Rattle.mj_sessions.specs.Answers.{answer_to, answer_to_line, answer_to_byte, not_yet};
 
 use mj_ask::Reply;
@@ -22,8 +22,8 @@ pub enum Answer {
 }
 
 // Whether a timeout is over: it is 0 or less, or the job was stepped late.
-pub fn is_over(timeout: Option<Num>, late: bool) -> bool
-    ensures { result ≡ is_over timeout late }
+pub fn is_timed_out(timeout: Option<Num>, late: bool) -> bool
+    ensures { result ≡ is_timed_out timeout late }
 {
     match timeout {
         None => false,

@@ -1,15 +1,15 @@
 // One session of a job.
 
-ghost use Rattle.std.specs.Prelude.{◌≡◌, ◌⊎◌, ℤ, Option, Bool, List, ℕ};
-ghost use Rattle.mj_ask.specs.declared.ask.Ask.TheVariants as asks;
+ghost use Rattle.std.specs.Prelude.{◌≡◌, ◌⊎◌, Bool};
+ghost use Rattle.mj_ask.specs.declared.ask.DeviceAsk.TheVariants as device_asks;
 ghost use Rattle.mj_sessions.specs.Answers.{Hears, IsCall, IsEnding};
 ghost use Rattle.mj_sessions.specs.Asked.{Calls, IsAsked, IsOver};
 ghost use Rattle.mj_sessions.specs.Named.{is_named};
 ghost use Rattle.mj_sessions.specs.declared.answer.Answer.TheVariants as answers;
-ghost use Rattle.mj_dev.specs.Told.{Told, IsToldBy};
+ghost use Rattle.mj_dev.specs.Told.{DeviceCall, IsToldBy};
 
-use crate::answer::{Answer, is_over, to_byte, to_call, to_line};
-use mj_ask::Ask;
+use crate::answer::{Answer, is_timed_out, to_byte, to_call, to_line};
+use mj_ask::DeviceAsk;
 use mj_dev::{Device, Session, State};
 use mj_num::Num;
 use mj_text::{Digits, Text};
@@ -52,25 +52,26 @@ impl<D: Device> Held<D> {
     }
 
     // Serves an ask that is a call to the session.
-    pub fn serve(&mut self, ask: &Ask, late: bool) -> Answer
+    pub fn serve(&mut self, ask: &DeviceAsk, late: bool) -> Answer
         requires { IsCall ask.now }
         ensures heard { Hears self.old.session ask.now late result self.new.session }
-        ensures asked { (result ≡ answers.Unfit) ⊎ IsAsked (IsToldBy D.failures D.taken D.given D.IsTold) self.old.session ask.now late result self.new.session }
+        ensures asked { (result ≡ answers.Unfit)
+            ⊎ IsAsked (IsToldBy D.failures D.taken D.given D.IsTold) self.old.session ask.now late result self.new.session }
         ensures name { self.new.name ≡ self.old.name }
     {
         match ask {
-            Ask::DeviceBegin(_) => self.begin(),
-            Ask::DeviceWrite(_, bytes) => self.write(bytes),
-            Ask::DeviceLine(_, timeout) => self.line(*timeout, late),
-            Ask::DeviceByte(_, timeout) => self.byte(*timeout, late),
-            _ => unreachable!(),
+            DeviceAsk::Begin => self.begin(),
+            DeviceAsk::Write(bytes) => self.write(bytes),
+            DeviceAsk::Line(timeout) => self.line(*timeout, late),
+            DeviceAsk::Byte(timeout) => self.byte(*timeout, late),
+            DeviceAsk::End => unreachable!(),
         }
     }
 
     // The device begins.
     fn begin(&mut self) -> Answer
-        ensures heard { (device : List ℕ) (late : Bool) → Hears self.old.session (asks.DeviceBegin device) late result self.new.session }
-        ensures asked { (result ≡ answers.Unfit) ⊎ Calls (IsToldBy D.failures D.taken D.given D.IsTold) Told.Begun result self.new.session }
+        ensures heard { (late : Bool) → Hears self.old.session device_asks.Begin late result self.new.session }
+        ensures asked { (result ≡ answers.Unfit) ⊎ Calls (IsToldBy D.failures D.taken D.given D.IsTold) DeviceCall.Begun result self.new.session }
         ensures name { self.new.name ≡ self.old.name }
     {
         match self.session.state() {
@@ -81,8 +82,8 @@ impl<D: Device> Held<D> {
 
     // The bytes go to the device.
     fn write(&mut self, bytes: &Text) -> Answer
-        ensures heard { (device : List ℕ) (late : Bool) → Hears self.old.session (asks.DeviceWrite device bytes.now) late result self.new.session }
-        ensures asked { (result ≡ answers.Unfit) ⊎ Calls (IsToldBy D.failures D.taken D.given D.IsTold) (Told.Wrote bytes.now) result self.new.session }
+        ensures heard { (late : Bool) → Hears self.old.session (device_asks.Write bytes.now) late result self.new.session }
+        ensures asked { (result ≡ answers.Unfit) ⊎ Calls (IsToldBy D.failures D.taken D.given D.IsTold) (DeviceCall.Wrote bytes.now) result self.new.session }
         ensures name { self.new.name ≡ self.old.name }
     {
         let mut digits = Digits::new();
@@ -94,24 +95,26 @@ impl<D: Device> Held<D> {
 
     // The device gives a line.
     fn line(&mut self, timeout: Option<Num>, late: bool) -> Answer
-        ensures heard { (device : List ℕ) → Hears self.old.session (asks.DeviceLine device timeout) late result self.new.session }
-        ensures asked { (device : List ℕ) → (result ≡ answers.Unfit) ⊎ IsAsked (IsToldBy D.failures D.taken D.given D.IsTold) self.old.session (asks.DeviceLine device timeout) late result self.new.session }
+        ensures heard { Hears self.old.session (device_asks.Line timeout) late result self.new.session }
+        ensures asked { (result ≡ answers.Unfit)
+            ⊎ IsAsked (IsToldBy D.failures D.taken D.given D.IsTold) self.old.session (device_asks.Line timeout) late result self.new.session }
         ensures name { self.new.name ≡ self.old.name }
     {
         match self.session.state() {
-            State::Open => to_line(self.session.line(), is_over(timeout, late)),
+            State::Open => to_line(self.session.line(), is_timed_out(timeout, late)),
             State::Failed | State::Ended => Answer::Unfit,
         }
     }
 
     // The device gives a byte.
     fn byte(&mut self, timeout: Option<Num>, late: bool) -> Answer
-        ensures heard { (device : List ℕ) → Hears self.old.session (asks.DeviceByte device timeout) late result self.new.session }
-        ensures asked { (device : List ℕ) → (result ≡ answers.Unfit) ⊎ IsAsked (IsToldBy D.failures D.taken D.given D.IsTold) self.old.session (asks.DeviceByte device timeout) late result self.new.session }
+        ensures heard { Hears self.old.session (device_asks.Byte timeout) late result self.new.session }
+        ensures asked { (result ≡ answers.Unfit)
+            ⊎ IsAsked (IsToldBy D.failures D.taken D.given D.IsTold) self.old.session (device_asks.Byte timeout) late result self.new.session }
         ensures name { self.new.name ≡ self.old.name }
     {
         match self.session.state() {
-            State::Open => to_byte(self.session.byte(), is_over(timeout, late)),
+            State::Open => to_byte(self.session.byte(), is_timed_out(timeout, late)),
             State::Failed | State::Ended => Answer::Unfit,
         }
     }

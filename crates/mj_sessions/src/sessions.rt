@@ -4,8 +4,8 @@ ghost use Rattle.std.specs.Prelude.{◌≡◌, ◌<◌, ◌+◌, ◌≤◌, ◌+
 ghost use Rattle.mj_ask.specs.Fits.{is_shared};
 ghost use Rattle.mj_dev.specs.Heard.{IsNew};
 ghost use Rattle.mj_dev.specs.Told.{IsToldBy};
-ghost use Rattle.mj_sessions.specs.Answers.{Answers, Asked, Ends, IsCall};
-ghost use Rattle.mj_sessions.specs.Asked.{AreAsked, IsAskedOf, IsOverOf};
+ghost use Rattle.mj_sessions.specs.Answers.{Answers, AnswersOf, Asked, SessionEnds, IsCall};
+ghost use Rattle.mj_sessions.specs.Asked.{AreAsked, AreAskedOf, IsAskedOf, IsOverOf};
 ghost use Rattle.mj_ask.specs.declared.ask.Ask as asks;
 ghost use Rattle.mj_ask.specs.declared.ask.Reply as replies;
 ghost use Rattle.mj_sessions.specs.Events.{Log};
@@ -14,7 +14,7 @@ ghost use Rattle.mj_sessions.specs.Named.{is_named, session_of, AreTold};
 
 use crate::answer::Answer;
 use crate::held::Held;
-use mj_ask::{Ask, Reply};
+use mj_ask::{Ask, DeviceAsk, Reply};
 use mj_dev::{Device, Session};
 use mj_text::Text;
 use std::alloc::{AllocError, Global};
@@ -107,18 +107,25 @@ impl<D: Device> Sessions<D> {
         ensures asked { AreAsked (IsToldBy D.failures D.taken D.given D.IsTold) self.old.sessions ask.now late result self.new.sessions }
     {
         match ask {
+            Ask::Device(device, ask) => self.asked_of(device, ask, late),
             Ask::Rest(_) => Answer::Told(Reply::Done),
-            Ask::DeviceEnd(device) => self.end(device),
-            Ask::DeviceBegin(device)
-            | Ask::DeviceWrite(device, _)
-            | Ask::DeviceLine(device, _)
-            | Ask::DeviceByte(device, _) => self.call(device, ask, late),
-            _ => unreachable!(),
+            Ask::Shared(_) => unreachable!(),
+        }
+    }
+
+    // Serves an ask of the device of this name.
+    fn asked_of(&mut self, name: &Text, ask: &DeviceAsk, late: bool) -> Answer
+        ensures answers { AnswersOf name.now self.old.sessions ask.now late result self.new.sessions }
+        ensures asked { AreAskedOf (IsToldBy D.failures D.taken D.given D.IsTold) name.now self.old.sessions ask.now late result self.new.sessions }
+    {
+        match ask {
+            DeviceAsk::End => self.end(name),
+            _ => self.call(name, ask, late),
         }
     }
 
     // Calls the session with the device of this name.
-    fn call(&mut self, name: &Text, ask: &Ask, late: bool) -> Answer
+    fn call(&mut self, name: &Text, ask: &DeviceAsk, late: bool) -> Answer
         requires { IsCall ask.now }
         ensures answers { Asked name.now self.old.sessions ask.now late result self.new.sessions }
         ensures asked { IsAskedOf (IsToldBy D.failures D.taken D.given D.IsTold) name.now self.old.sessions ask.now late result self.new.sessions }
@@ -134,7 +141,7 @@ impl<D: Device> Sessions<D> {
 
     // Ends the session with the device of this name.
     fn end(&mut self, name: &Text) -> Answer
-        ensures ends { Ends name.now self.old.sessions result self.new.sessions }
+        ensures ends { SessionEnds name.now self.old.sessions result self.new.sessions }
         ensures asked { IsOverOf (IsToldBy D.failures D.taken D.given D.IsTold) name.now self.old.sessions result }
     {
         match self.place(name) {

@@ -3,7 +3,7 @@
 ghost use Rattle.std.specs.Prelude.{◌≡◌, IfOk};
 ghost use Rattle.mj_sessions.specs.Follow.{output_of_log, ends_on, written_on};
 
-use mj_ask::{Ask, Reply};
+use mj_ask::{Ask, DeviceAsk, Reply};
 use mj_text::{Digits, Text};
 use std::alloc::{AllocError, Global};
 
@@ -35,7 +35,7 @@ fn ends(ask: &Ask, name: &Text) -> bool
     ensures { result ≡ ends_on name.now ask.now }
 {
     match ask {
-        Ask::DeviceEnd(device) => *device == *name,
+        Ask::Device(device, DeviceAsk::End) => *device == *name,
         _ => false,
     }
 }
@@ -45,7 +45,8 @@ fn written<'a>(ask: &'a Ask, reply: &Reply, name: &Text, digits: &'a mut Digits)
     ensures { result.now ≡ written_on name.now ask.now reply.now }
 {
     match (ask, reply) {
-        (Ask::DeviceWrite(device, bytes), Reply::Done) if *device == *name => bytes.bytes(digits),
+        (Ask::Device(device, DeviceAsk::Write(bytes)), Reply::Done) if *device == *name =>
+            bytes.bytes(digits),
         _ => &[],
     }
 }

@@ -86,7 +86,8 @@ pub record Goes (bytes rest : List ℕ) (steps : List Step) : Type 0 where
   pub lines : lines_of bytes ≡ map line_of steps ++ lines_of rest
   pub jobs : All IsStep steps
 
-pub goes_on : (bytes rest line behind : List ℕ) (steps : List Step) (step : Step) → Goes bytes rest steps → lines_of rest ≡ line ∷ lines_of behind → IsStep step → line ≡ line_of step → Goes bytes behind (steps ++ step ∷ [])
+pub goes_on : (bytes rest line behind : List ℕ) (steps : List Step) (step : Step) → Goes bytes rest steps → lines_of rest ≡ line ∷ lines_of behind → IsStep step → line ≡ line_of step
+    → Goes bytes behind (steps ++ step ∷ [])
 goes_on bytes rest line behind steps step g cut is spelled = record {
   lines = g.lines ∙ ap (λ (x : List (List ℕ)). map line_of steps ++ x) (cut ∙ ap (λ (x : List ℕ). x ∷ lines_of behind) spelled) ∙ sym (lines_added steps step (lines_of behind));
   jobs = All-push IsStep steps step g.jobs is;

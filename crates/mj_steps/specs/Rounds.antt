@@ -9,10 +9,6 @@ use Rattle.mj_steps.specs.declared.round.Round.{Round}
 use Rattle.mj_steps.specs.declared.round.Next.{Next}
 use Rattle.mj_steps.specs.declared.round.Next.TheVariants as nexts
 
--- the most jobs
-abbrev pub jobs_limit : ℕ
-jobs_limit = 255
-
 -- a job hasn't ended
 abbrev pub is_live : Standing → Bool
 is_live standings.Ended = false

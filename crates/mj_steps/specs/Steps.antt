@@ -1,5 +1,6 @@
 -- The spelling of a file of steps.
 use Rattle.std.specs.Prelude.{◌≡◌, ℕ, ◌+◌, ◌≤◌, ◌==◌, Bool, true, false, List, [], ◌∷◌, ◌++◌, length, map, All, decimal, codes}
+use Rattle.mj_steps.specs.declared.step.TheConstants.{JOBS_LIMIT}
 use Rattle.mj_steps.specs.declared.step.Step.{Step}
 use Rattle.mj_steps.specs.declared.step.Way.{Way}
 use Rattle.mj_steps.specs.declared.step.Way.TheVariants.{Go, Late}
@@ -22,7 +23,7 @@ lines_of (b ∷ bs) = elim (is_line_end b) [ true ↦ [] ∷ lines_of bs | false
 
 -- the numbers of jobs
 abbrev pub IsJob : ℕ → Type 0
-IsJob job = (1 ≤ job) × (job ≤ 255)
+IsJob job = (1 ≤ job) × (job ≤ JOBS_LIMIT)
 
 -- a step of a job that there may be
 abbrev pub IsStep : Step → Type 0
@@ -53,6 +54,6 @@ pub record IsFirst (bytes : List ℕ) (number : ℕ) : Type 0 where
   pub none : (step : Step) → IsStep step → ¬ (line ≡ line_of step)
 
 -- why a file is refused; want of memory says nothing
-abbrev pub IsRefused : List ℕ → StepsError → Type 0
-IsRefused bytes (errors.Line line) = IsFirst bytes line
-IsRefused bytes errors.Memory = Unit {0}
+abbrev pub IsStepsFileRefused : List ℕ → StepsError → Type 0
+IsStepsFileRefused bytes (errors.Line line) = IsFirst bytes line
+IsStepsFileRefused bytes errors.Memory = Unit {0}

@@ -1,38 +1,14 @@
 // Jobs that are stepped, in turn or as a list says.
 
 ghost use Rattle.std.specs.Prelude.{◌≡◌, ◌≤◌, ℕ, Result, take, length};
-ghost use Rattle.mj_steps.specs.Rounds.{jobs_limit, next_step};
-ghost use Rattle.mj_steps.specs.Driven.{ByList, InTurn, fresh, begun, stand};
+ghost use Rattle.mj_steps.specs.Rounds.{next_step};
+ghost use Rattle.mj_steps.specs.Driven.{ByList, InTurn, fresh, new_round, stand};
 ghost use Rattle.mj_steps.specs.declared.step.Step.{Step as StepOf};
 ghost use Rattle.mj_steps.specs.declared.round.Standing.{Standing as StandingOf};
-ghost use Rattle.mj_steps.specs.declared.drive.Refused.{Refused as RefusedOf};
+ghost use Rattle.mj_steps.specs.declared.step.Refusal.{Refusal as RefusalOf};
 
 use crate::round::{Next, Round, Standing};
-use crate::step::Step;
-use thiserror::Error;
-
-/// The most jobs.
-const JOBS_LIMIT: usize = 255;
-
-/// Why a step isn't made.
-#[derive(Clone, Copy, PartialEq, Eq, Debug, Error)]
-pub enum Refused {
-    /// there is no such job
-    #[error("C1")]
-    NoJob,
-    /// the step is late, and what the job asks has no timeout
-    #[error("C2")]
-    NotTimed,
-    /// the job has ended, and a step before has seen it
-    #[error("C3")]
-    Ended,
-    /// there are as many events as there may be
-    #[error("C4")]
-    Full,
-    /// an allocation was refused
-    #[error("memory")]
-    Memory,
-}
+use crate::step::{JOBS_LIMIT, Refusal, Step};
 
 /// What can be stepped: jobs, which are numbered from 1, in order of their start.
 pub trait Stepped {
@@ -40,15 +16,15 @@ pub trait Stepped {
     ghost count: { Self → ℕ };
 
     // what a step comes to
-    ghost makes: { Self → StepOf → Result StandingOf RefusedOf → Self → Type 0 };
+    ghost makes: { Self → StepOf → Result StandingOf RefusalOf → Self → Type 0 };
 
     /// How many jobs there are, ended ones among them.
     fn jobs(&self) -> usize
         ensures value { result ≡ count self.now }
-        ensures few { result ≤ jobs_limit };
+        ensures few { result ≤ JOBS_LIMIT };
 
     /// Makes a step, and tells where its job stands then.
-    fn step(&mut self, step: Step) -> Result<Standing, Refused>
+    fn step(&mut self, step: Step) -> Result<Standing, Refusal>
         ensures { makes self.old step result self.new };
 }
 
@@ -62,12 +38,12 @@ pub enum Ending {
     /// as many steps were made as may be, and not all jobs have ended
     Full,
     /// the step of this number, counted from 1, was refused
-    Refused { why: Refused, step: usize },
+    Refused { why: Refusal, step: usize },
 }
 
 /// Steps jobs in turn, until all have ended, but with no more steps than these.
 pub fn step_in_turn<J: Stepped>(jobs: &mut J, most: usize) -> Ending
-    ensures { InTurn J.count J.makes most 0 begun fresh jobs.old result jobs.new }
+    ensures { InTurn J.count J.makes most 0 new_round fresh jobs.old result jobs.new }
 {
     let mut standings = [Standing::Goes; JOBS_LIMIT];
     let mut round = Round {
@@ -101,14 +77,14 @@ pub fn step_in_turn<J: Stepped>(jobs: &mut J, most: usize) -> Ending
 
 // What comes next, of the jobs that there are.
 fn next<J: Stepped>(jobs: &J, round: Round, standings: &[Standing]) -> Next
-    requires { length standings.now ≡ jobs_limit }
+    requires { length standings.now ≡ JOBS_LIMIT }
     ensures { result ≡ next_step round (take (J.count jobs.now) standings.now) }
 {
     let count = jobs.jobs();
     round.next(&standings[..count])
 }
 
-// The job stands so from now on.
+// Keeps where the job stands from now on.
 fn stand(standings: &mut [Standing], job: u32, standing: Standing)
     ensures { standings.new ≡ stand standings.old job standing }
 {

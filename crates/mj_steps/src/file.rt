@@ -1,7 +1,7 @@
 // A file of steps.
 
 ghost use Rattle.std.specs.Prelude.{IfOk, IfErr};
-ghost use Rattle.mj_steps.specs.Steps.{AreSpelled, IsRefused};
+ghost use Rattle.mj_steps.specs.Steps.{AreSpelled, IsStepsFileRefused};
 
 use crate::line::{first_line, step_of};
 use crate::step::Step;
@@ -28,7 +28,7 @@ impl From<AllocError> for StepsError {
 /// Reads the steps of a file.
 pub fn read(alloc: Global, bytes: &[u8]) -> Result<Vec<Step>, StepsError>
     ensures read { IfOk result (λ steps. AreSpelled bytes.now steps.items) }
-    ensures refused { IfErr result (λ error. IsRefused bytes.now error) }
+    ensures refused { IfErr result (λ error. IsStepsFileRefused bytes.now error) }
 {
     let mut steps = Vec::new(alloc);
     let mut rest = bytes;

@@ -53,7 +53,7 @@ pub fn step_of(line: &[u8]) -> Option<Step>
     }
 }
 
-/// The number of a job, from 1 to 255, that is spelled so: what it is read as must be spelled so again.
+/// The number of a job, from 1 to [`JOBS_LIMIT`](crate::JOBS_LIMIT), that is spelled so: what it is read as must be spelled so again.
 pub fn job_of(digits: &[u8]) -> Option<u32>
     ensures some { IfSome result (λ job. IsJob job × (digits.now ≡ decimal job)) }
     ensures none { IfNone result ((job : ℕ) → IsJob job → ¬ (digits.now ≡ decimal job)) }

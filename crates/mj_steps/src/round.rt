@@ -1,9 +1,9 @@
 // Steps in turn, where no file says them.
 
 ghost use Rattle.std.specs.Prelude.{◌≡◌, ◌≤◌, ◌<◌, length, position, IfSome};
-ghost use Rattle.mj_steps.specs.Rounds.{jobs_limit, is_live, is_timed, live_behind, first_timed, go_step, late_step, next_round, next_step, waits_still, after_step};
+ghost use Rattle.mj_steps.specs.Rounds.{is_live, is_timed, live_behind, first_timed, go_step, late_step, next_round, next_step, waits_still, after_step};
 
-use crate::step::{Step, Way};
+use crate::step::{JOBS_LIMIT, Step, Way};
 
 /// Where a job stands behind its last step.
 #[derive(Clone, Copy, PartialEq, Eq, Debug)]
@@ -63,7 +63,7 @@ impl Standing {
 impl Round {
     /// What comes next, of jobs that stand so. The first one is job 1.
     pub fn next(self, jobs: &[Standing]) -> Next
-        requires { length jobs.now ≤ jobs_limit }
+        requires { length jobs.now ≤ JOBS_LIMIT }
         ensures { result ≡ next_step self jobs.now }
     {
         match live_behind(self.done, jobs) {
@@ -91,7 +91,7 @@ impl Round {
 
 // What comes at the end of a round, of which all steps waited or not.
 fn next_round(waits: bool, jobs: &[Standing]) -> Next
-    requires { length jobs.now ≤ jobs_limit }
+    requires { length jobs.now ≤ JOBS_LIMIT }
     ensures { result ≡ next_round waits jobs.now }
 {
     match live_behind(0, jobs) {
@@ -103,7 +103,7 @@ fn next_round(waits: bool, jobs: &[Standing]) -> Next
 
 // What comes where all jobs wait.
 fn late_step(jobs: &[Standing]) -> Next
-    requires { length jobs.now ≤ jobs_limit }
+    requires { length jobs.now ≤ JOBS_LIMIT }
     ensures { result ≡ late_step jobs.now }
 {
     match first_timed(jobs) {
@@ -117,7 +117,7 @@ fn late_step(jobs: &[Standing]) -> Next
 
 // The first job behind this one that hasn't ended.
 fn live_behind(done: u32, jobs: &[Standing]) -> Option<u32>
-    requires { length jobs.now ≤ jobs_limit }
+    requires { length jobs.now ≤ JOBS_LIMIT }
     ensures { result ≡ live_behind done jobs.now }
 {
     let done = done as usize;
@@ -132,7 +132,7 @@ fn live_behind(done: u32, jobs: &[Standing]) -> Option<u32>
 
 // The first job that waits for what it asks with a timeout.
 fn first_timed(jobs: &[Standing]) -> Option<u32>
-    requires { length jobs.now ≤ jobs_limit }
+    requires { length jobs.now ≤ JOBS_LIMIT }
     ensures { result ≡ first_timed jobs.now }
 {
     match timed_place(jobs) {

@@ -41,7 +41,8 @@ abbrev before_merge : Content
 before_merge = (a (codes "1" ∷ []), codes "1") ∷ (a (codes "1" ∷ codes "2" ∷ []), codes "2") ∷ (b (codes "9" ∷ []), codes "9") ∷ []
 
 -- MERGE ^B=^A(1)
-merged : after_put before_merge (b []) (subtree_at before_merge (a (codes "1" ∷ []))) ≡ (a (codes "1" ∷ []), codes "1") ∷ (a (codes "1" ∷ codes "2" ∷ []), codes "2") ∷ (b [], codes "1") ∷ (b (codes "2" ∷ []), codes "2") ∷ (b (codes "9" ∷ []), codes "9") ∷ []
+merged : after_put before_merge (b []) (subtree_at before_merge (a (codes "1" ∷ [])))
+    ≡ (a (codes "1" ∷ []), codes "1") ∷ (a (codes "1" ∷ codes "2" ∷ []), codes "2") ∷ (b [], codes "1") ∷ (b (codes "2" ∷ []), codes "2") ∷ (b (codes "9" ∷ []), codes "9") ∷ []
 merged = refl
 
 -- a node with a value and descendants
@@ -50,7 +51,9 @@ both = refl
 
 -- SET (^A(10),^A(9),^A(-1),^A("01"),^A("B"),^A("b"))=""
 abbrev mixed : Content
-mixed = after_set (after_set (after_set (after_set (after_set (after_set [] (a (codes "10" ∷ [])) []) (a (codes "9" ∷ [])) []) (a (codes "-1" ∷ [])) []) (a (codes "01" ∷ [])) []) (a (codes "B" ∷ [])) []) (a (codes "b" ∷ [])) []
+mixed =
+    after_set (after_set (after_set (after_set (after_set (after_set [] (a (codes "10" ∷ [])) []) (a (codes "9" ∷ [])) []) (a (codes "-1" ∷ [])) []) (a (codes "01" ∷ [])) []) (a (codes "B" ∷ [])) [])
+    (a (codes "b" ∷ [])) []
 
 abbrev forth : List ℕ → Option (List ℕ)
 forth s = order_at mixed (a (s ∷ [])) Forward
@@ -58,7 +61,8 @@ forth s = order_at mixed (a (s ∷ [])) Forward
 abbrev back : List ℕ → Option (List ℕ)
 back s = order_at mixed (a (s ∷ [])) Backward
 
-walked : forth [] ∷ forth (codes "-1") ∷ forth (codes "9") ∷ forth (codes "10") ∷ forth (codes "01") ∷ forth (codes "B") ∷ forth (codes "b") ∷ [] ≡ Some (codes "-1") ∷ Some (codes "9") ∷ Some (codes "10") ∷ Some (codes "01") ∷ Some (codes "B") ∷ Some (codes "b") ∷ None ∷ []
+walked : forth [] ∷ forth (codes "-1") ∷ forth (codes "9") ∷ forth (codes "10") ∷ forth (codes "01") ∷ forth (codes "B") ∷ forth (codes "b") ∷ []
+    ≡ Some (codes "-1") ∷ Some (codes "9") ∷ Some (codes "10") ∷ Some (codes "01") ∷ Some (codes "B") ∷ Some (codes "b") ∷ None ∷ []
 walked = refl
 
 -- from a subscript that isn't there, and from the end back to the start
@@ -66,7 +70,8 @@ walked_back : back [] ∷ back (codes "b") ∷ back (codes "a") ∷ back (codes 
 walked_back = refl
 
 -- a subscript with descendants alone counts; deeper ones don't show
-deeper : order_at killed (a ([] ∷ [])) Forward ∷ order_at killed (a (codes "2" ∷ [] ∷ [])) Forward ∷ order_at killed (a (codes "2" ∷ [])) Forward ∷ order_at killed (a []) Forward ∷ [] ≡ Some (codes "2") ∷ Some (codes "3") ∷ None ∷ None ∷ []
+deeper : order_at killed (a ([] ∷ [])) Forward ∷ order_at killed (a (codes "2" ∷ [] ∷ [])) Forward ∷ order_at killed (a (codes "2" ∷ [])) Forward ∷ order_at killed (a []) Forward ∷ []
+    ≡ Some (codes "2") ∷ Some (codes "3") ∷ None ∷ None ∷ []
 deeper = refl
 
 -- the value of a name, of one that is above it, and of one of another word
@@ -74,5 +79,6 @@ values : value_at quoted (a (codes "1" ∷ [])) ∷ value_at quoted (a []) ∷ v
 values = refl
 
 -- KILL takes the name and its descendants, and no sibling
-siblings : after_kill ((a (codes "1" ∷ []), codes "x") ∷ (a (codes "1" ∷ codes "5" ∷ []), codes "y") ∷ (a (codes "10" ∷ []), codes "z") ∷ []) (a (codes "1" ∷ [])) ≡ (a (codes "10" ∷ []), codes "z") ∷ []
+siblings : after_kill ((a (codes "1" ∷ []), codes "x") ∷ (a (codes "1" ∷ codes "5" ∷ []), codes "y") ∷ (a (codes "10" ∷ []), codes "z") ∷ []) (a (codes "1" ∷ []))
+    ≡ (a (codes "10" ∷ []), codes "z") ∷ []
 siblings = refl

@@ -21,7 +21,8 @@ written (x ∷ xs) zero y lt = refl
 written (x ∷ xs) (suc i) y lt = ap (λ ys. x ∷ ys) (ap (λ (k : ℕ). take i xs ++ y ∷ drop k (x ∷ xs)) {x = suc i + 1} {y = suc (i + 1)} (omega arith) ∙ written xs i y (omega arith))
 
 -- a name that ties with the one at i is put there
-pub put_there : (es : Content) (n : Name) (text : List ℕ) (i : ℕ) (e d : Name × List ℕ) → i < length es → e ≡ get_or es i e → name_cmp n e.0 ≡ Equal → put name_cmp n text es ≡ take i es ++ put name_cmp n text (drop i es) → put name_cmp n text es ≡ set es i ((get_or es i d).0, text)
+pub put_there : (es : Content) (n : Name) (text : List ℕ) (i : ℕ) (e d : Name × List ℕ) → i < length es → e ≡ get_or es i e → name_cmp n e.0 ≡ Equal
+    → put name_cmp n text es ≡ take i es ++ put name_cmp n text (drop i es) → put name_cmp n text es ≡ set es i ((get_or es i d).0, text)
 put_there es n text i e d lt here ties among =
     among
     ∙ at_drop_more (λ ys. take i es ++ put name_cmp n text ys) es i e lt
@@ -53,12 +54,15 @@ OrderSplit content n way front last =
 order_split : (content : Content) (n : Name) (way : Direction) (front : List (List ℕ)) (last : List ℕ) → OrderSplit content n way front last
 order_split content n way [] last = refl
 order_split content n way (s ∷ front) last =
-    (λ i. next_past subscript_cmp way (is_empty (last_of-append s front last i)) (last_of-append s front last i) (first_subscripts (subtree_at content (with_subscripts n (but_last-append s front last i)))))
+    (λ i. next_past subscript_cmp way (is_empty (last_of-append s front last i)) (last_of-append s front last i)
+    (first_subscripts (subtree_at content (with_subscripts n (but_last-append s front last i)))))
 
-pub order_of_split : (content : Content) (n : Name) (way : Direction) (front : List (List ℕ)) (last : List ℕ) → n.subscripts ≡ front ++ last ∷ [] → order_at content n way ≡ next_past subscript_cmp way (is_empty last) last (first_subscripts (subtree_at content (with_subscripts n front)))
+pub order_of_split : (content : Content) (n : Name) (way : Direction) (front : List (List ℕ)) (last : List ℕ) → n.subscripts ≡ front ++ last ∷ []
+    → order_at content n way ≡ next_past subscript_cmp way (is_empty last) last (first_subscripts (subtree_at content (with_subscripts n front)))
 order_of_split content n way front last e = ap (λ (p : List (List ℕ)). order_under content n p way) e ∙ order_split content n way front last
 
 -- also where a change may fail, and then leaves all as it was
-pub rises_change : {A E : Type 0} (r : Result A E) (old new : Content) (n : Name) (text : List ℕ) → OnOk r (new ≡ after_set old n text) → OnErr r (new ≡ old) → T (is_sorted name_cmp old) → T (is_sorted name_cmp new)
+pub rises_change : {A E : Type 0} (r : Result A E) (old new : Content) (n : Name) (text : List ℕ) → OnOk r (new ≡ after_set old n text) → OnErr r (new ≡ old) → T (is_sorted name_cmp old)
+    → T (is_sorted name_cmp new)
 rises_change (Ok x) old new n text ok err h = subst (λ (es : Content). T (is_sorted name_cmp es)) (sym ok) (rises_set old n text h)
 rises_change (Err e) old new n text ok err h = subst (λ (es : Content). T (is_sorted name_cmp es)) (sym err) h

@@ -41,6 +41,10 @@ subtree_at content n = filter_map (λ e. option_map (λ l. (l, e.1)) (rest_of n 
 abbrev pub data_at : Content → Name → ℕ
 data_at content n = data_of (subtree_at content n)
 
+-- the next subscript after this one with which a list of the subtree begins, in this direction; after the empty one comes the first
+abbrev pub next_from : Direction → List ℕ → Subtree → Option (List ℕ)
+next_from way last nodes = next_past subscript_cmp way (is_empty last) last (first_subscripts nodes)
+
 -- $ORDER (7.1.5.11), for the subscripts p of a name of this kind and word: from the last of p, the next subscript at that place under
 -- which a text stands, in this direction. From the empty subscript it is the first one. A name without subscripts has none (this
 -- profile)

@@ -47,7 +47,7 @@ impl Access {
         }
     }
 
-    /// The same access once more.
+    /// A copy.
     pub fn try_clone(&self) -> Result<Access, AllocError>
         ensures { IfOk result (λ access. access ≡ self.now) }
     {
@@ -84,7 +84,7 @@ pub enum Answer {
 }
 
 impl Answer {
-    /// The same answer once more.
+    /// A copy.
     pub fn try_clone(&self) -> Result<Answer, AllocError>
         ensures { IfOk result (λ answer. answer ≡ self.now) }
     {

@@ -1,19 +1,17 @@
 // A store that is kept as a plain list.
 
-ghost use Rattle.std.specs.Prelude.{◌≡◌, ◌||◌, ◌++◌, ℕ, List, [], length, ◌<◌, ◌≤◌, IfOk, IfErr, OnOk, OnErr, option_copied, slice_set, slice_index_or, T};
+ghost use Rattle.std.specs.Prelude.{◌≡◌, ◌||◌, ◌++◌, [], IfOk, IfErr, OnOk, OnErr, option_copied, T};
 ghost use Rattle.std.specs.Cmp.Lexicographic.{slice_cmp};
-ghost use Rattle.std.specs.List.{insert};
-ghost use Rattle.mj_subs.specs.Name as name_spec;
-ghost use Rattle.mj_store.specs.Changes.{after_set, after_kill, after_put, followed_by, is_too_deep as is_too_deep_spec};
+ghost use Rattle.mj_store.specs.Changes.{after_set, after_kill, after_put, followed_by, IsPlaceOf, IsGapFor};
 ghost use Rattle.std.specs.Ordering.{is_lt};
 ghost use Rattle.std.specs.FinMap.{is_sorted, put};
 ghost use Rattle.mj_subs.specs.Collation.{name_cmp, subscript_cmp};
-ghost use Rattle.mj_store.specs.Nodes.{after_front, first_of, along, is_empty, first_subscripts, next_past, next_after};
-ghost use Rattle.mj_store.specs.Questions.{with_subscripts, rest_of, value_at, data_at, order_at, query_at, subtree_at};
+ghost use Rattle.mj_store.specs.Nodes.{after_front, first_of, along, is_empty, next_after};
+ghost use Rattle.mj_store.specs.Questions.{with_subscripts, rest_of, next_from, value_at, data_at, order_at, query_at, subtree_at};
 
 use crate::nodes::Nodes;
-use crate::store::{Direction, Store};
-use mj_subs::{Name, SUBSCRIPT_LIMIT, Sub, Subs};
+use crate::store::{Direction, Store, is_too_deep};
+use mj_subs::{Name, Sub, Subs};
 use mj_text::{Failure, Fault, Text};
 use std::alloc::{AllocError, Global};
 use std::cmp::Ordering;
@@ -55,7 +53,7 @@ impl Flat {
         self.alloc
     }
 
-    // The same content once more.
+    // A copy.
     fn try_clone(&self) -> Result<Flat, AllocError>
         ensures { IfOk result (λ f. f ≡ self.now) }
     {
@@ -70,7 +68,7 @@ impl Store for Flat {
     ghost contents = { λ f. f };
 
     fn rises(&self) {
-        let _entries = &self.entries;
+        let _entries = &self.entries; // for the proof
     }
 
     fn value(&self, name: &Name) -> Option<&Text> {
@@ -160,7 +158,7 @@ fn order<'a>(
     last: &Sub,
     direction: Direction,
 ) -> Option<&'a Sub>
-    ensures { option_copied result ≡ next_past subscript_cmp direction (is_empty last.now) last.now (first_subscripts (subtree_at entries.now (with_subscripts name.now front.now))) }
+    ensures { option_copied result ≡ next_from direction last.now (subtree_at entries.now (with_subscripts name.now front.now)) }
 {
     let mut best = None;
     for entry in entries {
@@ -253,8 +251,8 @@ fn subtree(alloc: Global, entries: &[(Name, Text)], name: &Name) -> Result<Nodes
 
 // Where the name stands, or else where it would go.
 fn place(entries: &[(Name, Text)], name: &Name) -> Result<usize, usize>
-    ensures found { IfOk result (λ i. (i < length entries.now) × ((text : List ℕ) (d : name_spec.Name × List ℕ) → put name_cmp name.now text entries.now ≡ slice_set entries.now i ((slice_index_or entries.now i d).0, text))) }
-    ensures absent { IfErr result (λ i. (i ≤ length entries.now) × ((text : List ℕ) → put name_cmp name.now text entries.now ≡ insert entries.now i (name.now, text))) }
+    ensures found { IfOk result (IsPlaceOf name.now entries.now) }
+    ensures absent { IfErr result (IsGapFor name.now entries.now) }
 {
     for (i, entry) in entries.iter().enumerate() {
         match name.cmp(&entry.0) {
@@ -280,16 +278,6 @@ fn set(entries: &mut Vec<(Name, Text)>, name: &Name, text: &Text) -> Result<(), 
         Err(at) => entries.insert(at, (name.try_clone()?, text))?,
     }
     Ok(())
-}
-
-// Whether a list would follow the name with more subscripts than a name can have.
-fn is_too_deep(name: &Name, nodes: &[(Subs, Text)]) -> bool
-    ensures { result ≡ is_too_deep_spec name.now nodes.now }
-{
-    let above = name.subscripts().len();
-    nodes
-        .iter()
-        .any(|node| SUBSCRIPT_LIMIT < above + node.0.len())
 }
 
 // Takes the name and every name below it out.

@@ -9,9 +9,11 @@
 mod access;
 mod flat;
 mod nodes;
+mod same;
 mod store;
 
 pub use access::{Access, Answer, perform, run};
 pub use flat::Flat;
 pub use nodes::Nodes;
-pub use store::{Direction, Store};
+pub use same::{are_same_nodes, is_same_answer};
+pub use store::{Direction, Store, is_too_deep};

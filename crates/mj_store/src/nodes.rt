@@ -38,7 +38,7 @@ impl Nodes {
         &self.list
     }
 
-    /// One more, at the end.
+    /// Puts one more at the end.
     pub fn push(&mut self, subscripts: Subs, text: Text) -> Result<(), AllocError>
         ensures { self.new ≡ (if is_ok result then self.old ++ (subscripts, text) ∷ [] else self.old) }
     {
@@ -46,7 +46,7 @@ impl Nodes {
         Ok(())
     }
 
-    /// The same nodes once more.
+    /// A copy.
     pub fn try_clone(&self) -> Result<Nodes, AllocError>
         ensures { IfOk result (λ nodes. nodes ≡ self.now) }
     {

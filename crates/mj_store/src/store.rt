@@ -9,7 +9,7 @@ ghost use Rattle.mj_text.specs.declared.fault.Failure.TheVariants as failure;
 ghost use Rattle.mj_text.specs.declared.fault.Fault.TheVariants as fault;
 
 use crate::nodes::Nodes;
-use mj_subs::{Name, Sub};
+use mj_subs::{Name, SUBSCRIPTS_LIMIT, Sub, Subs};
 use mj_text::{Failure, Text};
 use std::alloc::AllocError;
 
@@ -27,7 +27,7 @@ pub trait Store {
     /// Its names in their order, each with its text.
     ghost contents: { Self → Content };
 
-    /// The names rise, so each stands once.
+    /// Says that the names rise, so that each stands once.
     fn rises(&self)
         ensures { T (is_sorted name_cmp (contents self.now)) };
 
@@ -52,20 +52,30 @@ pub trait Store {
     fn subtree(&self, name: &Name) -> Result<Nodes, AllocError>
         ensures { IfOk result (λ nodes. nodes ≡ subtree_at (contents self.now) name.now) };
 
-    /// The name has this text from now on.
+    /// Gives the name this text.
     fn set(&mut self, name: &Name, text: &Text) -> Result<(), AllocError>
         ensures ok { OnOk result (contents self.new ≡ after_set (contents self.old) name.now text.now) }
         ensures err { OnErr result (contents self.new ≡ contents self.old) };
 
-    /// The name and every name below it go.
+    /// Takes the name and every name below it out.
     fn kill(&mut self, name: &Name)
         ensures { contents self.new ≡ after_kill (contents self.old) name.now };
 
-    /// The name followed by each list of subscripts has that list's text from now on. Nothing goes. `Limit` where that gives a name too
-    /// many subscripts, and otherwise nothing but memory can be wanting.
+    /// Gives the name followed by each list of subscripts that list's text. Nothing is taken out. `Limit` where that gives a name too many
+    /// subscripts, and otherwise nothing but memory can be wanting.
     fn put(&mut self, name: &Name, nodes: &Nodes) -> Result<(), Failure>
         ensures ok { OnOk result (contents self.new ≡ after_put (contents self.old) name.now nodes.now) }
         ensures limit { (result ≡ Err (failure.Fault fault.Limit)) ↔ IsTrue (is_too_deep name.now nodes.now) }
         ensures error { IfErr result (λ e. e ≡ (if is_too_deep name.now nodes.now then failure.Fault fault.Limit else failure.Memory)) }
         ensures err { OnErr result (contents self.new ≡ contents self.old) };
+}
+
+/// Whether a list would follow the name with more subscripts than a name can have.
+pub fn is_too_deep(name: &Name, nodes: &[(Subs, Text)]) -> bool
+    ensures { result ≡ is_too_deep name.now nodes.now }
+{
+    let above = name.subscripts().len();
+    nodes
+        .iter()
+        .any(|node| SUBSCRIPTS_LIMIT < above + node.0.len())
 }

@@ -52,13 +52,15 @@ ascii_is s k d m z one is here =
     ap (λ r. failing (then_value r (λ m. Ok (canonic_text (code_at m s))))) (ap (λ d. number_or d k) (sym one) ∙ ok_from_failing (number_or d k) m is)
     ∙ ap (λ z. Ok (canonic_text z)) here
 
-pub ascii_none : (s b : List ℕ) (k : Option (List ℕ)) (d m : ℤ) (at : ℕ) (t : List ℕ) → b ≡ s → d ≡ pos 1 → failing (number_or d k) ≡ Ok m → at ≡ place m → (at ≡ 0) ⊎ ((at ≡ 0 → ⊥) × (length b < at)) → t ≡ canonic_text (negsuc 0) → Ok t ≡ failing (ascii_value s k)
+pub ascii_none : (s b : List ℕ) (k : Option (List ℕ)) (d m : ℤ) (at : ℕ) (t : List ℕ) → b ≡ s → d ≡ pos 1 → failing (number_or d k) ≡ Ok m → at ≡ place m → (at ≡ 0) ⊎ ((at ≡ 0 → ⊥) × (length b < at))
+    → t ≡ canonic_text (negsuc 0) → Ok t ≡ failing (ascii_value s k)
 ascii_none s b k d m at t same one is there out text =
     let long : length b ≡ length s = ap length same in
     let none : code_at m s ≡ negsuc 0 = ⊎_elim (λ e. code_at_0 m s (sym there ∙ e)) (λ p. code_at_past m s (let far = p.1 in omega arith)) out in
     ap Ok text ∙ sym (ascii_is s k d m (negsuc 0) one is none)
 
-pub ascii_some : (s b : List ℕ) (k : Option (List ℕ)) (d m : ℤ) (at x : ℕ) (t : List ℕ) → b ≡ s → d ≡ pos 1 → failing (number_or d k) ≡ Ok m → at ≡ place m → (at ≡ 0 → ⊥) → at ≤ length b → x ≡ get_or b (at - 1) 0 → t ≡ canonic_text (pos x) → Ok t ≡ failing (ascii_value s k)
+pub ascii_some : (s b : List ℕ) (k : Option (List ℕ)) (d m : ℤ) (at x : ℕ) (t : List ℕ) → b ≡ s → d ≡ pos 1 → failing (number_or d k) ≡ Ok m → at ≡ place m → (at ≡ 0 → ⊥) → at ≤ length b
+    → x ≡ get_or b (at - 1) 0 → t ≡ canonic_text (pos x) → Ok t ≡ failing (ascii_value s k)
 ascii_some s b k d m at x t same one is there some within here text =
     let long : length b ≡ length s = ap length same in
     let code : code_at m s ≡ pos x =
@@ -74,7 +76,8 @@ then_ok : (r : Result (List ℕ) Fault) → then_value r (λ bs. Ok bs) ≡ r
 then_ok (Ok bs) = refl
 then_ok (Err e) = refl
 
-then_then : (r q p : Result (List ℕ) Fault) → then_value r (λ b. then_value (then_value q (λ bs. then_value p (λ cs. Ok (bs ++ cs)))) (λ x. Ok (b ++ x))) ≡ then_value (then_value r (λ b. then_value q (λ bs. Ok (b ++ bs)))) (λ bs. then_value p (λ cs. Ok (bs ++ cs)))
+then_then : (r q p : Result (List ℕ) Fault) → then_value r (λ b. then_value (then_value q (λ bs. then_value p (λ cs. Ok (bs ++ cs)))) (λ x. Ok (b ++ x)))
+    ≡ then_value (then_value r (λ b. then_value q (λ bs. Ok (b ++ bs)))) (λ bs. then_value p (λ cs. Ok (bs ++ cs)))
 then_then (Err e) q p = refl
 then_then (Ok b) (Err e) p = refl
 then_then (Ok b) (Ok bs) (Err e) = refl
@@ -93,7 +96,8 @@ one_code : (x b : List ℕ) → byte_of_text x ≡ Ok b → bytes_of_codes (x �
 one_code x b h = ap (λ r. then_value r (λ b. Ok (b ++ []))) h ∙ ap Ok (append-nil b)
 
 -- one code more
-pub codes_more : (xs : List (List ℕ)) (i : ℕ) (x bs b : List ℕ) → i < length xs → x ≡ get_or xs i x → bytes_of_codes (take i xs) ≡ Ok bs → byte_of_text x ≡ Ok b → bytes_of_codes (take (i + 1) xs) ≡ Ok (bs ++ b)
+pub codes_more : (xs : List (List ℕ)) (i : ℕ) (x bs b : List ℕ) → i < length xs → x ≡ get_or xs i x → bytes_of_codes (take i xs) ≡ Ok bs → byte_of_text x ≡ Ok b
+    → bytes_of_codes (take (i + 1) xs) ≡ Ok (bs ++ b)
 codes_more xs i x bs b l is before here =
     ap bytes_of_codes (take_more xs i x l ∙ ap (λ y. take i xs ++ y ∷ []) (sym is))
     ∙ codes_after (take i xs) (x ∷ []) bs before
@@ -107,7 +111,8 @@ codes_fault xs i x bs e l is before here =
     ∙ ap (λ r. then_value (then_value r (λ b. then_value (bytes_of_codes (drop (i + 1) xs)) (λ cs. Ok (b ++ cs)))) (λ cs. Ok (bs ++ cs))) here
 
 -- a code that gives no byte ends the call
-pub char_exit : (xs : List (List ℕ)) (i : ℕ) (x bs : List ℕ) (e : Failure) → i < length xs → x ≡ get_or xs i x → bytes_of_codes (take i xs) ≡ Ok bs → AnswersByte (byte_of_text x) (Err e) → AnswersOrMemory (char_value xs) (Err e)
+pub char_exit : (xs : List (List ℕ)) (i : ℕ) (x bs : List ℕ) (e : Failure) → i < length xs → x ≡ get_or xs i x → bytes_of_codes (take i xs) ≡ Ok bs → AnswersByte (byte_of_text x) (Err e)
+    → AnswersOrMemory (char_value xs) (Err e)
 char_exit xs i x bs (FaultFailure f) l is before here = ap (λ r. then_value r within_limit) (codes_fault xs i x bs f l is before here)
 char_exit xs i x bs Memory l is before here = absurd here
 
@@ -132,14 +137,16 @@ table_nothing x a t fits h c l =
     ∙ sym (cond-true _ _ _ (eq-eqb x c e))
     ) (λ n. ap (λ v. bytes_of v c) (get_or-set_other t x c Nothing Itself (λ q. n (sym q))) ∙ h c l ∙ sym (cond-false _ _ _ (ne_eqb x c n))) (cases_eq x c)
 
-pub table_step_byte : (from to : List ℕ) (p n x y : ℕ) (t : List Becomes) → n ≡ p + 1 → p < length from → p < length to → x ≡ get_or from p 0 → y ≡ get_or to p y → x < length t → IsTable (drop n from) (drop n to) t → IsTable (drop p from) (drop p to) (set t x (Byte y))
+pub table_step_byte : (from to : List ℕ) (p n x y : ℕ) (t : List Becomes) → n ≡ p + 1 → p < length from → p < length to → x ≡ get_or from p 0 → y ≡ get_or to p y → x < length t
+    → IsTable (drop n from) (drop n to) t → IsTable (drop p from) (drop p to) (set t x (Byte y))
 table_step_byte from to p n x y t next in_from in_to here there fits h =
     let P : List ℕ → List ℕ → Type 0 = λ a b. IsTable a b (set t x (Byte y)) in
     let a : drop p from ≡ x ∷ drop n from = drop_more from p 0 in_from ∙ ap (λ z. z ∷ drop (p + 1) from) (sym here) ∙ ap (λ k. x ∷ drop k from) (sym next) in
     let b : drop p to ≡ y ∷ drop n to = drop_more to p y in_to ∙ ap (λ z. z ∷ drop (p + 1) to) (sym there) ∙ ap (λ k. y ∷ drop k to) (sym next) in
     subst (λ l. P l (drop p to)) (sym a) (subst (P (x ∷ drop n from)) (sym b) (table_byte x y (drop n from) (drop n to) t fits h))
 
-pub table_step_nothing : (from to : List ℕ) (p n x : ℕ) (t : List Becomes) → n ≡ p + 1 → p < length from → length to ≤ p → x ≡ get_or from p 0 → x < length t → IsTable (drop n from) (drop n to) t → IsTable (drop p from) (drop p to) (set t x Nothing)
+pub table_step_nothing : (from to : List ℕ) (p n x : ℕ) (t : List Becomes) → n ≡ p + 1 → p < length from → length to ≤ p → x ≡ get_or from p 0 → x < length t → IsTable (drop n from) (drop n to) t
+    → IsTable (drop p from) (drop p to) (set t x Nothing)
 table_step_nothing from to p n x t next in_from past here fits h =
     let P : List ℕ → List ℕ → Type 0 = λ a b. IsTable a b (set t x Nothing) in
     let a : drop p from ≡ x ∷ drop n from = drop_more from p 0 in_from ∙ ap (λ z. z ∷ drop (p + 1) from) (sym here) ∙ ap (λ k. x ∷ drop k from) (sym next) in
@@ -171,7 +178,8 @@ take_written made kept (suc zero) w l m = take_more_set made kept w l
 take_written made kept (suc (suc n)) w l m = absurd (omega arith)
 
 -- one byte more
-pub written_more : (f : ℕ → List ℕ) (s made : List ℕ) (i x kept n w : ℕ) → i < length s → x ≡ get_or s i x → kept < length made → n ≤ 1 → take kept made ≡ flat_map f (take i s) → take n (w ∷ []) ≡ f x → take (kept + n) (set made kept w) ≡ flat_map f (take (i + 1) s)
+pub written_more : (f : ℕ → List ℕ) (s made : List ℕ) (i x kept n w : ℕ) → i < length s → x ≡ get_or s i x → kept < length made → n ≤ 1 → take kept made ≡ flat_map f (take i s) → take n (w ∷ []) ≡ f x
+    → take (kept + n) (set made kept w) ≡ flat_map f (take (i + 1) s)
 written_more f s made i x kept n w l is room m before here =
     take_written made kept n w room m
     ∙ ap (λ v. v ++ take n (w ∷ [])) before
@@ -189,7 +197,8 @@ table_translates a b t (x ∷ xs) h bytes =
     ap (λ v. v ++ translated_by t xs) (h x (bytes 0 (omega arith)))
     ∙ ap (λ v. becomes a b x ++ v) (table_translates a b t xs h (λ i l. bytes (suc i) (omega arith)))
 
-pub translated_answers : (a b s : List ℕ) (t : List Becomes) (r : Result (List ℕ) Failure) → IsTable a b t → ((i : ℕ) → i < length s → get_or s i 0 < 256) → Answers (Ok (translated_by t s)) r → Answers (Ok (flat_map (becomes a b) s)) r
+pub translated_answers : (a b s : List ℕ) (t : List Becomes) (r : Result (List ℕ) Failure) → IsTable a b t → ((i : ℕ) → i < length s → get_or s i 0 < 256) → Answers (Ok (translated_by t s)) r
+    → Answers (Ok (flat_map (becomes a b) s)) r
 translated_answers a b s t r h bytes made = subst (λ (l : List ℕ). Answers (Ok l) r) (table_translates a b t s h bytes) made
 
 -- each byte becomes one at most

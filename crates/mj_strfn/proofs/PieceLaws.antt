@@ -173,10 +173,12 @@ pub near_more : (b : ℕ) (s : List ℕ) (p n : ℕ) → n ≡ p + 1 → (get_or
 near_more b s p n next other before = λ k low high h.
     ⊎_elim (λ below. before k low below h) (λ from. let same : k ≡ p = omega arith in other (ap (λ j. get_or s j 0) (sym same) ∙ eqb-true (get_or s k 0) b h)) (cases_lt k p)
 
-pub far_found : (b : ℕ) (s rest : List ℕ) (near p place : ℕ) → near ≤ length s → rest ≡ drop near s → Nowhere (Passes (is_byte b) s) 0 near → IsFirstByte (is_byte b) rest (Some p) → place ≡ near + p → IsBehindFirst (b ∷ []) s (drop (place + 1) s)
+pub far_found : (b : ℕ) (s rest : List ℕ) (near p place : ℕ) → near ≤ length s → rest ≡ drop near s → Nowhere (Passes (is_byte b) s) 0 near → IsFirstByte (is_byte b) rest (Some p) → place ≡ near + p
+    → IsBehindFirst (b ∷ []) s (drop (place + 1) s)
 far_found b s rest near p place within is before found at =
     let later = FindsNeedle-later (b ∷ []) s near within (Some p) (needle_of_byte b (drop near s) (Some p) (subst (λ (l : List ℕ). IsFirstByte (is_byte b) l (Some p)) is found)) in
-    subst (λ (k : ℕ). IsBehindFirst (b ∷ []) s (drop (k + 1) s)) (let e : p + near ≡ place = omega arith in e) (first_found (b ∷ []) s (p + near) (lit< tt) (from_near b s near (Some (p + near)) before later))
+    subst (λ (k : ℕ). IsBehindFirst (b ∷ []) s (drop (k + 1) s)) (let e : p + near ≡ place = omega arith in e)
+    (first_found (b ∷ []) s (p + near) (lit< tt) (from_near b s near (Some (p + near)) before later))
 
 pub none_far : (b : ℕ) (s rest : List ℕ) (near : ℕ) → near ≤ length s → rest ≡ drop near s → Nowhere (Passes (is_byte b) s) 0 near → IsFirstByte (is_byte b) rest None → length (pieces (b ∷ []) s) ≡ 1
 none_far b s rest near within is before found =
@@ -286,7 +288,8 @@ behind_below d s r k h =
     omega arith
 
 -- the pieces before a piece that there is, and then others
-pub set_within : (d s r e : List ℕ) (k : ℕ) (others : List (List ℕ)) → IsBehind d s k r → joined d (take k (pieces d s ++ replicate k []) ++ e ∷ others) ≡ take (length s - length r) s ++ joined d (e ∷ others)
+pub set_within : (d s r e : List ℕ) (k : ℕ) (others : List (List ℕ)) → IsBehind d s k r
+    → joined d (take k (pieces d s ++ replicate k []) ++ e ∷ others) ≡ take (length s - length r) s ++ joined d (e ∷ others)
 set_within d s r e k others h =
     let front = ended d (take k (pieces d s)) in
     let below = behind_below d s r k h in
@@ -378,7 +381,8 @@ pub between_behind : (d s r : List ℕ) (first last : ℕ) → IsBehind d s (fir
 between_behind d s r first last h = ap (λ l. joined d (take (last + 1 - first) l)) (sym h.rest)
 
 -- the new value of a SET: too few pieces, pieces within, pieces at the end
-pub set_pads : (d s e : List ℕ) (first last : ℕ) → 0 < length d → 0 < first → first ≤ last → length (pieces d s) ≤ first - 1 → with_pieces s d (first, last) e ≡ s ++ repeat (first - length (pieces d s)) d ++ e ++ []
+pub set_pads : (d s e : List ℕ) (first last : ℕ) → 0 < length d → 0 < first → first ≤ last → length (pieces d s) ≤ first - 1
+    → with_pieces s d (first, last) e ≡ s ++ repeat (first - length (pieces d s)) d ++ e ++ []
 set_pads d s e first last some one order few =
     let before = first - 1 in
     ap (λ l. joined d (take before (pieces d s ++ replicate before []) ++ e ∷ l)) (drop_all last (pieces d s) (omega arith))
@@ -391,9 +395,11 @@ set_behind d s r e first last h = set_within d s r e (first - 1) (drop last (pie
 
 rest_behind : (d s r : List ℕ) (first last : ℕ) → 0 < first → first ≤ last → IsBehind d s (first - 1) r → drop last (pieces d s) ≡ drop (last - (first - 1)) (pieces d r)
 rest_behind d s r first last one order h =
-    sym (ap (drop (last - (first - 1))) h.rest ∙ drop-drop (last - (first - 1)) (first - 1) (pieces d s) ∙ ap (λ n. drop n (pieces d s)) (let e : first - 1 + (last - (first - 1)) ≡ last = omega arith in e))
+    sym (ap (drop (last - (first - 1))) h.rest ∙ drop-drop (last - (first - 1)) (first - 1) (pieces d s)
+    ∙ ap (λ n. drop n (pieces d s)) (let e : first - 1 + (last - (first - 1)) ≡ last = omega arith in e))
 
-pub set_inside : (d s r q e : List ℕ) (first last : ℕ) → 0 < length d → 0 < first → first ≤ last → IsBehind d s (first - 1) r → IsBehind d r (last - (first - 1)) q → with_pieces s d (first, last) e ≡ take (length s - length r) s ++ repeat 0 d ++ e ++ drop (length r - length q - length d) r
+pub set_inside : (d s r q e : List ℕ) (first last : ℕ) → 0 < length d → 0 < first → first ≤ last → IsBehind d s (first - 1) r → IsBehind d r (last - (first - 1)) q
+    → with_pieces s d (first, last) e ≡ take (length s - length r) s ++ repeat 0 d ++ e ++ drop (length r - length q - length d) r
 set_inside d s r q e first last some one order h g =
     let front = take (length s - length r) s in
     set_behind d s r e first last h
@@ -403,7 +409,8 @@ set_inside d s r q e first last some one order h g =
     ∙ sym (append_assoc front e _)
     ∙ ap (λ l. l ++ e ++ drop (length r - length q - length d) r) (sym (append-nil front))
 
-pub set_last : (d s r e : List ℕ) (first last : ℕ) → 0 < length d → 0 < first → first ≤ last → IsBehind d s (first - 1) r → length (pieces d r) ≤ last - (first - 1) → with_pieces s d (first, last) e ≡ take (length s - length r) s ++ repeat 0 d ++ e ++ []
+pub set_last : (d s r e : List ℕ) (first last : ℕ) → 0 < length d → 0 < first → first ≤ last → IsBehind d s (first - 1) r → length (pieces d r) ≤ last - (first - 1)
+    → with_pieces s d (first, last) e ≡ take (length s - length r) s ++ repeat 0 d ++ e ++ []
 set_last d s r e first last some one order h few =
     let front = take (length s - length r) s in
     set_behind d s r e first last h
@@ -438,7 +445,8 @@ length_assembled front d middle back n =
     omega arith
 
 -- whether all of it fits
-pub assembled_fits : (front d middle back : List ℕ) (n : ℕ) → length front + length middle + length back + n * length d ≤ 32767 → within_limit (front ++ repeat n d ++ middle ++ back) ≡ Ok (front ++ repeat n d ++ middle ++ back)
+pub assembled_fits : (front d middle back : List ℕ) (n : ℕ) → length front + length middle + length back + n * length d ≤ 32767
+    → within_limit (front ++ repeat n d ++ middle ++ back) ≡ Ok (front ++ repeat n d ++ middle ++ back)
 assembled_fits front d middle back n h =
     let long = length_assembled front d middle back n in
     let small : length (front ++ repeat n d ++ middle ++ back) ≤ 32767 = omega arith in
@@ -456,7 +464,8 @@ assembled_within front d middle back n limit h =
     omega arith
 
 -- what is put into a room: the filling once more, the middle, and the back
-pub room_more : (room front d middle back : List ℕ) (n times limit : ℕ) → room ≡ front ++ repeat n d → n < times → length front + length middle + length back + times * length d ≤ limit → length room + length d ≤ limit
+pub room_more : (room front d middle back : List ℕ) (n times limit : ℕ) → room ≡ front ++ repeat n d → n < times → length front + length middle + length back + times * length d ≤ limit
+    → length room + length d ≤ limit
 room_more room front d middle back n times limit is less h =
     let more : suc n * length d ≤ times * length d = mul-le-mul_right (length d) (let l : suc n ≤ times = omega arith in l) in
     let size : length room ≡ length (front ++ repeat n d) = ap length is in
@@ -465,14 +474,16 @@ room_more room front d middle back n times limit is less h =
     let one = suc-mul n (length d) in
     omega arith
 
-pub room_middle : (room front d middle back : List ℕ) (n times limit : ℕ) → room ≡ front ++ repeat n d → n ≡ times → length front + length middle + length back + times * length d ≤ limit → length room + length middle ≤ limit
+pub room_middle : (room front d middle back : List ℕ) (n times limit : ℕ) → room ≡ front ++ repeat n d → n ≡ times → length front + length middle + length back + times * length d ≤ limit
+    → length room + length middle ≤ limit
 room_middle room front d middle back n times limit is end h =
     let size : length room ≡ length (front ++ repeat times d) = ap length (is ∙ ap (λ k. front ++ repeat k d) end) in
     let long = length-append front (repeat times d) in
     let filled = length-repeat times d in
     omega arith
 
-pub room_back : (made room front d middle back : List ℕ) (n times limit : ℕ) → made ≡ room ++ middle → room ≡ front ++ repeat n d → n ≡ times → length front + length middle + length back + times * length d ≤ limit → length made + length back ≤ limit
+pub room_back : (made room front d middle back : List ℕ) (n times limit : ℕ) → made ≡ room ++ middle → room ≡ front ++ repeat n d → n ≡ times
+    → length front + length middle + length back + times * length d ≤ limit → length made + length back ≤ limit
 room_back made room front d middle back n times limit more is end h =
     let size : length room ≡ length (front ++ repeat times d) = ap length (is ∙ ap (λ k. front ++ repeat k d) end) in
     let all : length made ≡ length (room ++ middle) = ap length more in
@@ -481,7 +492,8 @@ room_back made room front d middle back n times limit more is end h =
     let filled = length-repeat times d in
     omega arith
 
-pub room_all : (all made room front d middle back : List ℕ) (n times : ℕ) → all ≡ made ++ back → made ≡ room ++ middle → room ≡ front ++ repeat n d → n ≡ times → all ≡ front ++ repeat times d ++ middle ++ back
+pub room_all : (all made room front d middle back : List ℕ) (n times : ℕ) → all ≡ made ++ back → made ≡ room ++ middle → room ≡ front ++ repeat n d → n ≡ times
+    → all ≡ front ++ repeat times d ++ middle ++ back
 room_all all made room front d middle back n times last more is end = last ∙ ap (λ l. l ++ back) (more ∙ ap (λ l. l ++ middle) (is ∙ ap (λ k. front ++ repeat k d) end))
 
 -- a call that wants memory for a text that there is
@@ -499,7 +511,8 @@ some_text : (d : List ℕ) → (d ≡ [] → false ≡ true) → 0 < length d
 some_text [] h = absurd (false≢true (h refl))
 some_text (x ∷ d) h = omega arith
 
-pub set_answers : (old d e old' d' e' : List ℕ) (range range' : ℕ × ℕ) (r : Result (List ℕ) Failure) → old' ≡ old → d' ≡ d → e' ≡ e → range' ≡ range → (d ≡ [] → false ≡ true) → Answers (within_limit (with_pieces old' d' range' e')) r → Answers (set_piece_value old d range e) r
+pub set_answers : (old d e old' d' e' : List ℕ) (range range' : ℕ × ℕ) (r : Result (List ℕ) Failure) → old' ≡ old → d' ≡ d → e' ≡ e → range' ≡ range → (d ≡ [] → false ≡ true)
+    → Answers (within_limit (with_pieces old' d' range' e')) r → Answers (set_piece_value old d range e) r
 set_answers old d e old' d' e' range range' r same_old same_d same_e same_range some h =
     answers_as _ _ r (set_piece_is old d e range (some_text d some)) (
     subst (λ (l : List ℕ). Answers (within_limit (with_pieces l d range e)) r) same_old (

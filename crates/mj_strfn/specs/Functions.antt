@@ -33,7 +33,7 @@ place (negsuc n) = 0
 abbrev pub places : {A : Type 0} → ℤ → ℤ → List A → List A
 places a b xs = let first = max 1 (place a) in take (place b + 1 - first) (drop (first - 1) xs)
 
--- the same, but that Memory may come before a fault
+-- what a call answers that may want memory before it finds a fault
 abbrev pub AnswersOrMemory : Result (List ℕ) Fault → Result (List ℕ) Failure → Type 0
 AnswersOrMemory value (Ok text) = value ≡ Ok text
 AnswersOrMemory value (Err (FaultFailure fault)) = value ≡ Err fault

@@ -191,7 +191,7 @@ fn assembled(
     assembled_long(alloc, len, front, filling, times, middle, back)
 }
 
-/// The same of few bytes in all, which are put together without taking memory for it.
+/// Puts few bytes in all together, without taking memory for it.
 #[inline(never)]
 fn assembled_short(
     alloc: Global,
@@ -214,7 +214,7 @@ fn assembled_short(
     Text::from(alloc, room.bytes())
 }
 
-/// The same of more bytes, `len` in all.
+/// Puts more bytes together, `len` in all, in memory that holds so many.
 #[inline(never)]
 fn assembled_long(
     alloc: Global,

@@ -23,7 +23,7 @@ pub(crate) fn count(bytes: &[u8], separator: &[u8]) -> usize
     }
 }
 
-/// The same, by a separator of one byte.
+/// How many pieces a separator of one byte makes.
 fn count_by_byte(bytes: &[u8], separator: u8) -> usize
     requires { length bytes.now ≤ TEXT_LIMIT }
     ensures value { result ≡ length (pieces (separator ∷ []) bytes.now) }
@@ -38,7 +38,7 @@ fn count_by_byte(bytes: &[u8], separator: u8) -> usize
     found
 }
 
-/// The same, by any separator.
+/// How many pieces any separator makes.
 #[inline(never)]
 fn count_by_search(bytes: &[u8], separator: &[u8]) -> usize
     requires some { 0 < length separator.now }
@@ -67,7 +67,7 @@ pub(crate) fn behind<'a>(bytes: &'a [u8], separator: &[u8], skipped: u64) -> Opt
     }
 }
 
-/// The same, by a separator of one byte.
+/// What stands behind so many occurrences of a separator of one byte.
 fn behind_by_byte(bytes: &[u8], separator: u8, skipped: u64) -> Option<&[u8]>
     ensures { MatchOption result (length (pieces (separator ∷ []) bytes.now) ≤ skipped) (λ rest. IsBehind (separator ∷ []) bytes.now skipped rest.now) }
 {
@@ -92,7 +92,7 @@ fn behind_byte(bytes: &[u8], separator: u8) -> Option<&[u8]>
     Some(&bytes[place + 1..])
 }
 
-/// The same, by any separator. A searcher has a room that is cleared where a function begins that has it, so this lies apart.
+/// What stands behind so many occurrences of any separator. A searcher has a room that is cleared where a function begins that has it, so this lies apart.
 #[inline(never)]
 fn behind_by_search<'a>(bytes: &'a [u8], separator: &[u8], skipped: u64) -> Option<&'a [u8]>
     requires { 0 < length separator.now }

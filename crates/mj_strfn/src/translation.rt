@@ -68,7 +68,7 @@ fn translated(alloc: Global, text: &Text, from: &Text, to: &Text) -> Result<Text
     )
 }
 
-/// The same of their bytes.
+/// The text of what becomes of the bytes, where each of `from` becomes what stands at its place in `to`.
 fn translated_bytes(alloc: Global, bytes: &[u8], from: &[u8], to: &[u8]) -> Result<Text, Failure>
     requires { length bytes.now ≤ TEXT_LIMIT }
     ensures { Answers (Ok (flat_map (becomes from.now to.now) bytes.now)) result }
@@ -91,7 +91,7 @@ fn short(alloc: Global, bytes: &[u8], table: &[Becomes; 256]) -> Result<Text, Fa
     Text::from(alloc, &made[..kept])
 }
 
-/// The same of more bytes.
+/// The text of what becomes of more bytes, which is put together in memory of its own.
 #[inline(never)]
 fn long(alloc: Global, bytes: &[u8], table: &[Becomes; 256]) -> Result<Text, Failure>
     requires { length bytes.now ≤ TEXT_LIMIT }

@@ -4,6 +4,7 @@ use Rattle.std.specs.Char.{is_ascii_alphabetic, is_ascii_alphanumeric}
 use Rattle.std.specs.List.{list_all}
 use Rattle.std.specs.Str.{bytes_eq}
 use Rattle.std.specs.Cmp.Lexicographic.{pointwise}
+use Rattle.mj_subs.specs.declared.word.TheConstants.{WORD_LIMIT}
 
 -- a name: global (written with a `^`) or local, its word, and its subscripts (ISO/IEC 11756:1999, 7.1.2: glvn)
 pub record Name : Type 0 where
@@ -11,10 +12,10 @@ pub record Name : Type 0 where
   pub word : List ℕ
   pub subscripts : List (List ℕ)
 
--- a word (7.1.2: name): a letter or `%`, then letters and digits, of 1 to 31 bytes (this profile)
+-- a word (7.1.2: name): a letter or `%`, then letters and digits, of 1 to `WORD_LIMIT` bytes (this profile)
 abbrev pub is_word : List ℕ → Bool
 is_word [] = false
-is_word (c ∷ cs) = (is_ascii_alphabetic c || c == 37) && list_all is_ascii_alphanumeric cs && nat_lt (length cs) 31
+is_word (c ∷ cs) = (is_ascii_alphabetic c || c == 37) && list_all is_ascii_alphanumeric cs && nat_lt (length cs) WORD_LIMIT
 
 -- the first list of subscripts is a proper front of the second
 abbrev pub IsProperFront : List (List ℕ) → List (List ℕ) → Type 0

@@ -12,5 +12,5 @@ mod word;
 
 pub use name::Name;
 pub use sub::Sub;
-pub use subs::{SUBSCRIPT_LIMIT, Subs};
+pub use subs::{SUBSCRIPTS_LIMIT, Subs};
 pub use word::{WORD_LIMIT, is_word};

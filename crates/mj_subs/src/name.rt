@@ -106,7 +106,7 @@ impl Name {
         self.global == other.global && self.word == other.word
     }
 
-    /// The same name once more.
+    /// A copy.
     pub fn try_clone(&self) -> Result<Name, AllocError>
         ensures { IfOk result (λ n. n ≡ self.now) }
     {

@@ -75,7 +75,7 @@ impl Sub {
         self.number
     }
 
-    /// The same subscript once more.
+    /// A copy.
     pub fn try_clone(&self) -> Result<Sub, AllocError>
         ensures { IfOk result (λ s. s ≡ self.now) }
     {

@@ -17,9 +17,9 @@ use std::marker::Model;
 use std::slice;
 
 /// The greatest number of subscripts of a name.
-pub const SUBSCRIPT_LIMIT: usize = 31;
+pub const SUBSCRIPTS_LIMIT: usize = 31;
 
-/// A list of at most [`SUBSCRIPT_LIMIT`] subscripts. One takes no memory beside its own.
+/// A list of at most [`SUBSCRIPTS_LIMIT`] subscripts. One takes no memory beside its own.
 #[derive(Debug, Drop)]
 pub struct Subs {
     kept: SmallVec<Sub, 1>,
@@ -27,12 +27,13 @@ pub struct Subs {
 
 impl Model for Subs {
     ghost use Rattle.std.specs.Prelude.{List, ℕ, ◌≤◌, length};
+    ghost use Rattle.mj_subs.specs.declared.subs.TheConstants.{SUBSCRIPTS_LIMIT};
 
     ghost Value = { List (List ℕ) };
 
     ghost view = { λ s. s.kept.items };
 
-    ghost invariant = { λ s. length s.kept.items ≤ 31 };
+    ghost invariant = { λ s. length s.kept.items ≤ SUBSCRIPTS_LIMIT };
 }
 
 impl Subs {
@@ -48,11 +49,11 @@ impl Subs {
     /// Puts a subscript at the end. One too many is `Limit`.
     pub fn push(&mut self, sub: Sub) -> Result<(), Failure>
         ensures ok { OnOk result (self.new ≡ self.old ++ sub ∷ []) }
-        ensures full { (result ≡ Err (failure.Fault fault.Limit)) ↔ (length self.old ≡ SUBSCRIPT_LIMIT) }
-        ensures within { length self.old < SUBSCRIPT_LIMIT → IsOkUnless result failure.Memory }
+        ensures full { (result ≡ Err (failure.Fault fault.Limit)) ↔ (length self.old ≡ SUBSCRIPTS_LIMIT) }
+        ensures within { length self.old < SUBSCRIPTS_LIMIT → IsOkUnless result failure.Memory }
         ensures err { OnErr result (self.new ≡ self.old) }
     {
-        if self.len() == SUBSCRIPT_LIMIT {
+        if self.len() == SUBSCRIPTS_LIMIT {
             return Err(Failure::Fault(Fault::Limit));
         }
         match self.kept.push(sub) {
@@ -72,7 +73,7 @@ impl Subs {
     /// How many subscripts it has.
     pub fn len(&self) -> usize
         ensures value { result ≡ length self.now }
-        ensures limit { result ≤ SUBSCRIPT_LIMIT }
+        ensures limit { result ≤ SUBSCRIPTS_LIMIT }
     {
         self.kept.len()
     }
@@ -94,7 +95,7 @@ impl Subs {
     /// The subscripts, in order.
     pub fn as_slice(&self) -> &[Sub]
         ensures value { result.now ≡ self.now }
-        ensures limit { length result.now ≤ SUBSCRIPT_LIMIT }
+        ensures limit { length result.now ≤ SUBSCRIPTS_LIMIT }
     {
         self.kept.as_slice()
     }
@@ -122,7 +123,7 @@ impl Subs {
         self.as_slice()[..common] == other.as_slice()[..common]
     }
 
-    /// The same list once more.
+    /// A copy.
     pub fn try_clone(&self) -> Result<Subs, AllocError>
         ensures { IfOk result (λ s. s ≡ self.now) }
     {

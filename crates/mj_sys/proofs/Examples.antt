@@ -6,8 +6,9 @@ use Rattle.mj_store.specs.declared.access.Access.TheVariants as accesses
 use Rattle.mj_store.specs.declared.access.Answer.TheVariants as answers
 use Rattle.mj_store.specs.declared.store.Direction.TheVariants as directions
 use Rattle.mj_ask.specs.Started.{Started}
-use Rattle.mj_ask.specs.declared.ask.Ask.{Ask}
 use Rattle.mj_ask.specs.declared.ask.Ask.TheVariants as asks
+use Rattle.mj_ask.specs.declared.ask.SharedAsk.{SharedAsk}
+use Rattle.mj_ask.specs.declared.ask.SharedAsk.TheVariants as shared_asks
 use Rattle.mj_ask.specs.declared.ask.Kind.TheVariants as kinds
 use Rattle.mj_ask.specs.declared.clash.Kept.TheVariants as kepts
 use Rattle.mj_ask.specs.declared.ask.Reply.{Reply}
@@ -16,7 +17,7 @@ use Rattle.mj_locktab.specs.Locks.{count_of}
 use Rattle.mj_jobs.specs.Rows.{Row}
 use Rattle.mj_dev.specs.Shelves.{principal}
 use Rattle.mj_sys.specs.Devices.{Device, holder_of}
-use Rattle.mj_sys.specs.Shared.{Shared, served}
+use Rattle.mj_sys.specs.Shared.{Shared, answered}
 use Rattle.mj_sys.specs.declared.event.Event.{Event}
 use Rattle.mj_sys.specs.History.{History, left_by, state_of, AreServed, log_of, events_of}
 
@@ -51,18 +52,18 @@ abbrev first : Shared
 first = record { globals = []; locks = []; devices = device principal 3 ∷ device (codes "9") 2 ∷ []; rows = running ∷ running ∷ []; transactions = None ∷ None ∷ [] }
 
 -- what a job is told
-abbrev told : Shared → ℕ → Ask → Bool → Option Reply
-told s job ask late = elim (served s job ask late) [ None ↦ None | Some r ↦ Some r.0 ]
+abbrev told : Shared → ℕ → SharedAsk → Bool → Option Reply
+told s job ask late = elim (answered s job ask late) [ None ↦ None | Some r ↦ Some r.0 ]
 
 -- what is left where the ask comes late
-abbrev then : Shared → ℕ → Ask → Shared
-then s job ask = left_by s (served s job ask true)
+abbrev then : Shared → ℕ → SharedAsk → Shared
+then s job ask = left_by s (answered s job ask true)
 
-abbrev lock : Name → Option ℤ → Ask
-lock n timeout = asks.Try (n ∷ []) timeout
+abbrev lock : Name → Option ℤ → SharedAsk
+lock n timeout = shared_asks.Try (n ∷ []) timeout
 
-abbrev unlock : Name → Ask
-unlock n = asks.Unlock (n ∷ [])
+abbrev unlock : Name → SharedAsk
+unlock n = shared_asks.Unlock (n ∷ [])
 
 abbrev at_once : Option ℤ
 at_once = Some (pos 0)
@@ -81,13 +82,13 @@ is_locked = refl
 late_at_once : told locked 2 (lock a1 at_once) false ≡ Some replies.Late
 late_at_once = refl
 
-waits : served locked 2 (lock a1 nine) false ≡ None
+waits : answered locked 2 (lock a1 nine) false ≡ None
 waits = refl
 
 late_after : told locked 2 (lock a1 nine) true ≡ Some replies.Late
 late_after = refl
 
-waits_for_ever : served locked 2 (lock a1 None) true ≡ None
+waits_for_ever : answered locked 2 (lock a1 None) true ≡ None
 waits_for_ever = refl
 
 -- a name that doesn't overlap is got, even late
@@ -107,11 +108,11 @@ freed_by_unlock : told (then locked 1 (unlock a)) 2 (lock a1 at_once) true ≡ S
 freed_by_unlock = refl
 
 -- giving up a name that isn't held
-not_held : served locked 2 (unlock a) false ≡ Some (replies.Done, locked)
+not_held : answered locked 2 (unlock a) false ≡ Some (replies.Done, locked)
 not_held = refl
 
-abbrev open_9 : Option ℤ → Ask
-open_9 timeout = asks.Open (codes "9") timeout
+abbrev open_9 : Option ℤ → SharedAsk
+open_9 timeout = shared_asks.Open (codes "9") timeout
 
 -- job 1 has the device
 abbrev taken : Shared
@@ -120,45 +121,45 @@ taken = then first 1 (open_9 None)
 device_got : told first 1 (open_9 at_once) true ≡ Some replies.Got
 device_got = refl
 
-device_waits : served taken 2 (open_9 nine) false ≡ None
+device_waits : answered taken 2 (open_9 nine) false ≡ None
 device_waits = refl
 
 device_late : told taken 2 (open_9 at_once) false ≡ Some replies.Late
 device_late = refl
 
 -- its holder gets it once more, without a session
-device_again : served taken 1 (open_9 None) false ≡ Some (replies.Got, taken)
+device_again : answered taken 1 (open_9 None) false ≡ Some (replies.Got, taken)
 device_again = refl
 
-device_unknown : served first 1 (asks.Open (codes "8") None) false ≡ Some (replies.NoSession, first)
+device_unknown : answered first 1 (shared_asks.Open (codes "8") None) false ≡ Some (replies.NoSession, first)
 device_unknown = refl
 
-device_principal : served taken 2 (asks.Open principal None) false ≡ Some (replies.Got, taken)
+device_principal : answered taken 2 (shared_asks.Open principal None) false ≡ Some (replies.Got, taken)
 device_principal = refl
 
 -- CLOSE frees it, and the next OPEN takes the next session
 abbrev passed : Shared
-passed = then (then taken 1 (asks.Close (codes "9"))) 2 (open_9 None)
+passed = then (then taken 1 (shared_asks.Close (codes "9"))) 2 (open_9 None)
 
 device_passed : passed.devices ≡ device principal 3 ∷ record { name = codes "9"; sessions = 2; taken = 2; holder = Some 2 } ∷ []
 device_passed = refl
 
 -- a CLOSE by another job changes nothing
-close_of_another : served taken 2 (asks.Close (codes "9")) false ≡ Some (replies.Done, taken)
+close_of_another : answered taken 2 (shared_asks.Close (codes "9")) false ≡ Some (replies.Done, taken)
 close_of_another = refl
 
 -- where all sessions were taken there is none, also for the job that had the last
-device_used_up : told (then passed 2 (asks.Close (codes "9"))) 2 (open_9 None) false ≡ Some replies.NoSession
+device_used_up : told (then passed 2 (shared_asks.Close (codes "9"))) 2 (open_9 None) false ≡ Some replies.NoSession
 device_used_up = refl
 
 -- a third job starts, and has no principal session left after it
 abbrev started : Shared
-started = then first 1 (asks.Start main None)
+started = then first 1 (shared_asks.Start main None)
 
-third : told first 1 (asks.Start main None) false ≡ Some (replies.Job 3)
+third : told first 1 (shared_asks.Start main None) false ≡ Some (replies.Job 3)
 third = refl
 
-no_session_for_a_job : served started 1 (asks.Start main None) false ≡ Some (replies.Limit, started)
+no_session_for_a_job : answered started 1 (shared_asks.Start main None) false ≡ Some (replies.Limit, started)
 no_session_for_a_job = refl
 
 -- rows of so many jobs
@@ -170,15 +171,15 @@ many (suc n) = running ∷ many n
 abbrev crowd : ℕ → Shared
 crowd n = record { globals = []; locks = []; devices = device principal 300 ∷ []; rows = many n; transactions = [] }
 
-last_job : told (crowd 254) 1 (asks.Start main None) false ≡ Some (replies.Job 255)
+last_job : told (crowd 254) 1 (shared_asks.Start main None) false ≡ Some (replies.Job 255)
 last_job = refl
 
-too_many_jobs : told (crowd 255) 1 (asks.Start main None) false ≡ Some replies.Limit
+too_many_jobs : told (crowd 255) 1 (shared_asks.Start main None) false ≡ Some replies.Limit
 too_many_jobs = refl
 
 -- a halt gives all up and ends the row
 abbrev halted_both : Shared
-halted_both = then (then locked 1 (open_9 None)) 1 (asks.Halt None)
+halted_both = then (then locked 1 (open_9 None)) 1 (shared_asks.Halt None)
 
 halt_ends : halted_both.rows ≡ record { start = main; ended = true } ∷ running ∷ []
 halt_ends = refl
@@ -191,32 +192,38 @@ halt_closes = refl
 
 -- SET ^A=1, read by the other job
 abbrev written : Shared
-written = then first 1 (asks.Access (accesses.Set a (codes "1")))
+written = then first 1 (shared_asks.Access (accesses.Set a (codes "1")))
 
-write_done : told first 1 (asks.Access (accesses.Set a (codes "1"))) false ≡ Some (replies.Answer answers.Done)
+write_done : told first 1 (shared_asks.Access (accesses.Set a (codes "1"))) false ≡ Some (replies.Answer answers.Done)
 write_done = refl
 
-read_by_another : served written 2 (asks.Access (accesses.Value a)) false ≡ Some (replies.Answer (answers.Value (Some (codes "1"))), written)
+read_by_another : answered written 2 (shared_asks.Access (accesses.Value a)) false ≡ Some (replies.Answer (answers.Value (Some (codes "1"))), written)
 read_by_another = refl
 
 -- a local name has no place in what is shared
-local_changes_nothing : then first 1 (asks.Access (accesses.Set x (codes "1"))) ≡ first
+local_changes_nothing : then first 1 (shared_asks.Access (accesses.Set x (codes "1"))) ≡ first
 local_changes_nothing = refl
 
-abbrev event : ℕ → Ask → Reply → Event
-event job ask reply = record { job = job; ask = ask; reply = reply }
+abbrev event : ℕ → SharedAsk → Reply → Event
+event job ask reply = record { job = job; ask = asks.Shared ask; reply = reply }
 
 -- job 1 locks ^A, job 2 tries ^A(1) and is late, job 1 halts, and job 2 gets it
 abbrev story : History
-story = event 1 (lock a None) replies.Got ∷ event 2 (lock a1 at_once) replies.Late ∷ event 1 (asks.Halt None) replies.Done ∷ event 2 (lock a1 None) replies.Got ∷ []
+story = event 1 (lock a None) replies.Got ∷ event 2 (lock a1 at_once) replies.Late ∷ event 1 (shared_asks.Halt None) replies.Done ∷ event 2 (lock a1 None) replies.Got ∷ []
 
 story_served : AreServed first story
-story_served = (((running, refl, refl), refl, (false, refl)), (((running, refl, refl), refl, (false, refl)), (((running, refl, refl), refl, (false, refl)), (((running, refl, refl), refl, (false, refl)), tt))))
+story_served = (
+  ((running, refl, refl), refl, (false, refl)),
+  (
+    ((running, refl, refl), refl, (false, refl)),
+    (((running, refl, refl), refl, (false, refl)), (((running, refl, refl), refl, (false, refl)), tt)),
+  ),
+)
 
 story_left : count_of (state_of first story).locks 2 a1 ∷ count_of (state_of first story).locks 1 a ∷ [] ≡ 1 ∷ 0 ∷ []
 story_left = refl
 
-story_told : log_of 2 story ≡ (lock a1 at_once, replies.Late) ∷ (lock a1 None, replies.Got) ∷ []
+story_told : log_of 2 story ≡ (asks.Shared (lock a1 at_once), replies.Late) ∷ (asks.Shared (lock a1 None), replies.Got) ∷ []
 story_told = refl
 
 story_counted : events_of 1 story ≡ 2
@@ -224,18 +231,18 @@ story_counted = refl
 
 -- ---- transactions
 
-abbrev set : Name → List ℕ → Ask
-set n text = asks.Access (accesses.Set n text)
+abbrev set : Name → List ℕ → SharedAsk
+set n text = shared_asks.Access (accesses.Set n text)
 
-abbrev get : Name → Ask
-get n = asks.Access (accesses.Value n)
+abbrev get : Name → SharedAsk
+get n = shared_asks.Access (accesses.Value n)
 
 abbrev is : Option (List ℕ) → Option Reply
 is text = Some (replies.Answer (answers.Value text))
 
 -- job 1 begins and sets ^A: it sees that itself, and nobody else does
 abbrev begun : Shared
-begun = then first 1 (asks.Begin kinds.Serial)
+begun = then first 1 (shared_asks.Begin kinds.Serial)
 
 abbrev changed : Shared
 changed = then begun 1 (set a (codes "1"))
@@ -250,16 +257,16 @@ unseen_by_another : told changed 2 (get a) false ≡ is None
 unseen_by_another = refl
 
 -- until it is committed, and never where it is rolled back, as a halt does too
-seen_when_committed : told (then changed 1 asks.Commit) 2 (get a) false ≡ is (Some (codes "1"))
+seen_when_committed : told (then changed 1 shared_asks.Commit) 2 (get a) false ≡ is (Some (codes "1"))
 seen_when_committed = refl
 
-committed_once : served (then changed 1 asks.Commit) 1 asks.Commit false ≡ Some (replies.Done, then changed 1 asks.Commit)
+committed_once : answered (then changed 1 shared_asks.Commit) 1 shared_asks.Commit false ≡ Some (replies.Done, then changed 1 shared_asks.Commit)
 committed_once = refl
 
-forgotten : then changed 1 asks.Rollback ≡ first
+forgotten : then changed 1 shared_asks.Rollback ≡ first
 forgotten = refl
 
-halt_forgets : (then changed 1 (asks.Halt None)).globals ≡ []
+halt_forgets : (then changed 1 (shared_asks.Halt None)).globals ≡ []
 halt_forgets = refl
 
 -- the other job's changes are made at once, and seen in the transaction
@@ -270,14 +277,14 @@ seen_in_it = refl
 abbrev outdated : Shared
 outdated = then (then (then begun 1 (get a)) 1 (set b (codes "1"))) 2 (set a (codes "2"))
 
-clashes : told outdated 1 asks.Commit false ≡ Some (replies.Clash (record { place = 1; then = kepts.Nothing; now = kepts.Text (codes "2") }))
+clashes : told outdated 1 shared_asks.Commit false ≡ Some (replies.Clash (record { place = 1; then = kepts.Nothing; now = kepts.Text (codes "2") }))
 clashes = refl
 
-clash_forgets : told (then outdated 1 asks.Commit) 1 (get b) false ≡ is None
+clash_forgets : told (then outdated 1 shared_asks.Commit) 1 (get b) false ≡ is None
 clash_forgets = refl
 
 -- one that isn't SERIAL is committed
-committed_plain : told (then (then (then (then (then first 1 (asks.Begin kinds.Plain)) 1 (get a)) 1 (set b (codes "1"))) 2 (set a (codes "2"))) 1 asks.Commit) 2 (get b) false
+committed_plain : told (then (then (then (then (then first 1 (shared_asks.Begin kinds.Plain)) 1 (get a)) 1 (set b (codes "1"))) 2 (set a (codes "2"))) 1 shared_asks.Commit) 2 (get b) false
     ≡ is (Some (codes "1"))
 committed_plain = refl
 
@@ -288,30 +295,30 @@ gained = then begun 1 (lock a None)
 gained_at_once : told gained 2 (lock a at_once) false ≡ Some replies.Late
 gained_at_once = refl
 
-given_back : (then gained 1 asks.Rollback).locks ≡ []
+given_back : (then gained 1 shared_asks.Rollback).locks ≡ []
 given_back = refl
 
-kept_by_commit : count_of (then gained 1 asks.Commit).locks 1 a ≡ 1
+kept_by_commit : count_of (then gained 1 shared_asks.Commit).locks 1 a ≡ 1
 kept_by_commit = refl
 
 -- an unlock waits for the commit, and a rollback forgets it
 abbrev waiting : Shared
-waiting = then (then locked 1 (asks.Begin kinds.Serial)) 1 (unlock a)
+waiting = then (then locked 1 (shared_asks.Begin kinds.Serial)) 1 (unlock a)
 
-unlock_done : told (then locked 1 (asks.Begin kinds.Serial)) 1 (unlock a) false ≡ Some replies.Done
+unlock_done : told (then locked 1 (shared_asks.Begin kinds.Serial)) 1 (unlock a) false ≡ Some replies.Done
 unlock_done = refl
 
 held_still : count_of waiting.locks 1 a ≡ 1
 held_still = refl
 
-unlocked_by_commit : count_of (then waiting 1 asks.Commit).locks 1 a ≡ 0
+unlocked_by_commit : count_of (then waiting 1 shared_asks.Commit).locks 1 a ≡ 0
 unlocked_by_commit = refl
 
-held_by_rollback : count_of (then waiting 1 asks.Rollback).locks 1 a ≡ 1
+held_by_rollback : count_of (then waiting 1 shared_asks.Rollback).locks 1 a ≡ 1
 held_by_rollback = refl
 
 -- a second beginning changes nothing
-begun_once : served changed 1 (asks.Begin kinds.Plain) false ≡ Some (replies.Done, changed)
+begun_once : answered changed 1 (shared_asks.Begin kinds.Plain) false ≡ Some (replies.Done, changed)
 begun_once = refl
 
 -- a change of a local name is no access of the transaction
@@ -323,27 +330,27 @@ abbrev five : Shared
 five = then first 1 (set a (codes "5"))
 
 abbrev serial : ℕ → Shared → Shared
-serial job s = then s job (asks.Begin kinds.Serial)
+serial job s = then s job (shared_asks.Begin kinds.Serial)
 
 abbrev both_read : Shared
 both_read = then (serial 2 (then (serial 1 five) 1 (get a))) 2 (get a)
 
 abbrev added : Shared
-added = then (then (then both_read 1 (set a (codes "6"))) 1 asks.Commit) 2 (set a (codes "6"))
+added = then (then (then both_read 1 (set a (codes "6"))) 1 shared_asks.Commit) 2 (set a (codes "6"))
 
-added_clashes : told added 2 asks.Commit false ≡ Some (replies.Clash (record { place = 1; then = kepts.Text (codes "5"); now = kepts.Text (codes "6") }))
+added_clashes : told added 2 shared_asks.Commit false ≡ Some (replies.Clash (record { place = 1; then = kepts.Text (codes "5"); now = kepts.Text (codes "6") }))
 added_clashes = refl
 
 abbrev again_read : Shared
-again_read = serial 2 (then added 2 asks.Commit)
+again_read = serial 2 (then added 2 shared_asks.Commit)
 
 again_six : told again_read 2 (get a) false ≡ is (Some (codes "6"))
 again_six = refl
 
 abbrev added_twice : Shared
-added_twice = then (then (then again_read 2 (get a)) 2 (set a (codes "7"))) 2 asks.Commit
+added_twice = then (then (then again_read 2 (get a)) 2 (set a (codes "7"))) 2 shared_asks.Commit
 
-added_twice_done : served (then (then again_read 2 (get a)) 2 (set a (codes "7"))) 2 asks.Commit false ≡ Some (replies.Done, added_twice)
+added_twice_done : answered (then (then again_read 2 (get a)) 2 (set a (codes "7"))) 2 shared_asks.Commit false ≡ Some (replies.Done, added_twice)
 added_twice_done = refl
 
 seven : told added_twice 1 (get a) false ≡ is (Some (codes "7"))
@@ -351,41 +358,44 @@ seven = refl
 
 -- write skew: each job reads what the other writes. The second clashes at its first access
 abbrev skew : Shared
-skew = then (then (then (then (then (serial 2 (then (serial 1 (then (then first 1 (set a (codes "0"))) 1 (set b (codes "0")))) 1 (get b))) 2 (get a)) 1 (set a (codes "1"))) 1 asks.Commit) 2 (set b (codes "1"))) 1 (get a)
+skew =
+    let both = then (then first 1 (set a (codes "0"))) 1 (set b (codes "0")) in
+    let one = then (serial 2 (then (serial 1 both) 1 (get b))) 2 (get a) in
+    then (then (then (then one 1 (set a (codes "1"))) 1 shared_asks.Commit) 2 (set b (codes "1"))) 1 (get a)
 
-skew_clashes : told skew 2 asks.Commit false ≡ Some (replies.Clash (record { place = 1; then = kepts.Text (codes "0"); now = kepts.Text (codes "1") }))
+skew_clashes : told skew 2 shared_asks.Commit false ≡ Some (replies.Clash (record { place = 1; then = kepts.Text (codes "0"); now = kepts.Text (codes "1") }))
 skew_clashes = refl
 
 -- a subscript that wasn't there when the transaction looked: what is kept of one that is a number is the number
 abbrev from_none : Name
 from_none = global (codes "A") ([] ∷ [])
 
-abbrev order : Name → Ask
-order n = asks.Access (accesses.Order n directions.Forward)
+abbrev order : Name → SharedAsk
+order n = shared_asks.Access (accesses.Order n directions.Forward)
 
 abbrev phantom : Shared
 phantom = then (then (serial 1 first) 1 (order from_none)) 2 (set a1 (codes "x"))
 
-phantom_clashes : told phantom 1 asks.Commit false ≡ Some (replies.Clash (record { place = 1; then = kepts.Nothing; now = kepts.Number (pos 1) }))
+phantom_clashes : told phantom 1 shared_asks.Commit false ≡ Some (replies.Clash (record { place = 1; then = kepts.Nothing; now = kepts.Number (pos 1) }))
 phantom_clashes = refl
 
 -- the place of an access counts the changes and the unlocks before it
 abbrev counted : Shared
 counted = then (then (then (serial 1 first) 1 (set b (codes "1"))) 1 (unlock a)) 1 (get a)
 
-counted_clashes : told (then counted 2 (set a (codes "2"))) 1 asks.Commit false ≡ Some (replies.Clash (record { place = 3; then = kepts.Nothing; now = kepts.Text (codes "2") }))
+counted_clashes : told (then counted 2 (set a (codes "2"))) 1 shared_asks.Commit false ≡ Some (replies.Clash (record { place = 3; then = kepts.Nothing; now = kepts.Text (codes "2") }))
 counted_clashes = refl
 
 -- a read of what the transaction itself wrote before can't clash, and one from before it wrote can
 abbrev own_first : Shared
 own_first = then (then (then (serial 1 first) 1 (set a (codes "1"))) 1 (get a)) 2 (set a (codes "2"))
 
-own_first_done : told own_first 1 asks.Commit false ≡ Some replies.Done
+own_first_done : told own_first 1 shared_asks.Commit false ≡ Some replies.Done
 own_first_done = refl
 
 -- its own kill hides what others give below
 abbrev killed : Shared
-killed = then (then (serial 1 (then first 2 (set a1 (codes "1")))) 1 (asks.Access (accesses.Kill a))) 2 (set a1 (codes "2"))
+killed = then (then (serial 1 (then first 2 (set a1 (codes "1")))) 1 (shared_asks.Access (accesses.Kill a))) 2 (set a1 (codes "2"))
 
 killed_hides : told killed 1 (order from_none) false ≡ Some (replies.Answer (answers.Order None))
 killed_hides = refl

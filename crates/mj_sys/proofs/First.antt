@@ -7,7 +7,7 @@ use Rattle.mj_locktab.specs.Locks.{LocksApart}
 use Rattle.mj_sys.specs.Shared.{Shared, are_global}
 use Rattle.mj_sys.specs.Opening.{opening_of}
 use Rattle.mj_sys.specs.History.{History}
-use Rattle.mj_sys.specs.System.{Recorded, IsKept, AreCounts}
+use Rattle.mj_sys.specs.System.{Recorded, MatchesHistory, AreCounts}
 use Rattle.mj_sys.specs.Kept.{Service}
 use Rattle.mj_sys.proofs.Waiting.{none_waiting}
 
@@ -20,7 +20,7 @@ nothing = record { history = []; claimed = 0 }
 
 module _ (globals : Content) (shelves : List Shelf) (starts : List Started) (opening : Shared) (is : opening_of globals shelves starts ≡ opening)
     (global : are_global globals ≡ true) where
-  first : IsKept opening (opening_of globals shelves starts) nothing
+  first : MatchesHistory opening (opening_of globals shelves starts) nothing
   first = record {
     replay = is;
     served = tt;
@@ -35,8 +35,8 @@ module _ (globals : Content) (shelves : List Shelf) (starts : List Started) (ope
   none_counted = record { all = refl; each = λ k below. absurd (let no : ⊥ = omega (arith, below) in no) }
 
   pub kept_first : (v : Service) (history : History) (counts : List ℕ) → v ≡ record { state = opening_of globals shelves starts; claimed = 0 } → history ≡ [] → counts ≡ []
-      → IsKept opening v.state (record { history = history; claimed = v.claimed }) × AreCounts counts (record { history = history; claimed = v.claimed })
+      → MatchesHistory opening v.state (record { history = history; claimed = v.claimed }) × AreCounts counts (record { history = history; claimed = v.claimed })
   kept_first v history counts at none zero =
-      let P : Service → History → List ℕ → Type 0 = λ w h l. IsKept opening w.state (record { history = h; claimed = w.claimed }) × AreCounts l (record { history = h; claimed = w.claimed }) in
+      let P : Service → History → List ℕ → Type 0 = λ w h l. MatchesHistory opening w.state (record { history = h; claimed = w.claimed }) × AreCounts l (record { history = h; claimed = w.claimed }) in
       subst (λ w. P w history counts) (sym at) (subst (λ h. P (record { state = opening_of globals shelves starts; claimed = 0 }) h counts) (sym none)
       (subst (λ l. P (record { state = opening_of globals shelves starts; claimed = 0 }) [] l) (sym zero) (first, none_counted)))

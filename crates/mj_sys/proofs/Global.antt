@@ -16,9 +16,11 @@ use Rattle.mj_store.specs.Runs.{name_of, after_access, after_accesses}
 use Rattle.mj_store.specs.declared.access.Access.{Access}
 use Rattle.mj_store.specs.declared.access.Access.TheVariants as accesses
 use Rattle.mj_ask.specs.Started.{Started}
-use Rattle.mj_ask.specs.Late.{is_over}
+use Rattle.mj_ask.specs.Late.{is_timed_out}
 use Rattle.mj_ask.specs.declared.ask.Ask.{Ask}
 use Rattle.mj_ask.specs.declared.ask.Ask.TheVariants as asks
+use Rattle.mj_ask.specs.declared.ask.SharedAsk.{SharedAsk}
+use Rattle.mj_ask.specs.declared.ask.SharedAsk.TheVariants as shared_asks
 use Rattle.mj_ask.specs.declared.ask.Reply.{Reply}
 use Rattle.mj_ask.specs.declared.ask.Reply.TheVariants as replies
 use Rattle.mj_dev.specs.Shelves.{principal}
@@ -28,7 +30,7 @@ use Rattle.mj_locktab.specs.declared.taken.Taken.TheVariants as takes
 use Rattle.mj_locktab.specs.Locks.{Locks}
 use Rattle.mj_locktab.specs.Tries.{outcome_of as try_of, after_try}
 use Rattle.mj_txlog.specs.Accesses.{Transaction, writes_of}
-use Rattle.mj_txn.specs.Closing.{closed_by}
+use Rattle.mj_txn.specs.Closing.{commit_closed}
 use Rattle.mj_txn.specs.Testing.{outcome_of}
 use Rattle.mj_txn.specs.declared.committing.Outcome.{Outcome}
 use Rattle.mj_txn.specs.declared.committing.Outcome.TheVariants as outcomes
@@ -36,7 +38,7 @@ use Rattle.mj_sys.specs.Devices.{Device, device_at, with_device, opened_by}
 use Rattle.mj_sys.specs.Transactions.{closed_as}
 use Rattle.mj_sys.specs.System.{changes_globals, change_globals}
 use Rattle.mj_sys.proofs.Waiting.{both_true, and_true, open_own}
-use Rattle.mj_sys.specs.Shared.{Shared, are_global, changed, open_of, globals_after, busy, tried, open_free, open_known, has_room, served}
+use Rattle.mj_sys.specs.Shared.{Shared, are_global, changed, open_of, globals_after, busy, tried, open_free, open_known, has_room, answered, served}
 use Rattle.mj_sys.specs.History.{left_by}
 
 -- ---- what an access to a global leaves
@@ -102,7 +104,7 @@ access_after (Some t) a es h = h
 
 -- a commit
 outcome_global : (t : Transaction) (job : ℕ) (es : Content) (locks : Locks) (o : Outcome) → changes_globals (Some t) ≡ true → are_global es ≡ true
-    → are_global (closed_by t job es locks o).globals ≡ true
+    → are_global (commit_closed t job es locks o).globals ≡ true
 outcome_global t job es locks outcomes.Done own h = accesses_global (writes_of t.accesses) es own h
 outcome_global t job es locks (outcomes.Clash c) own h = h
 
@@ -116,7 +118,7 @@ module _ (s : Shared) (h : are_global s.globals ≡ true) (own : change_globals 
   Stays o = are_global (left_by s o).globals ≡ true
 
   by_busy : (timeout : Option ℤ) → Stays (busy s timeout true)
-  by_busy timeout = by (is_over timeout true) where
+  by_busy timeout = by (is_timed_out timeout true) where
     by : (b : Bool) → Stays (cond b (Some (replies.Late, s)) None)
     by true = h
     by false = h
@@ -150,25 +152,20 @@ module _ (s : Shared) (h : are_global s.globals ≡ true) (own : change_globals 
   by_name job name timeout true = h
   by_name job name timeout false = by_found job name timeout (device_at s.devices name)
 
-  by_start : (b : Bool) (start : Started) → Stays (Some (cond b (replies.Job (length s.rows + 1), record s { rows = s.rows ++ opened start ∷ []; transactions = s.transactions ++ None ∷ [] }) (replies.Limit, s)))
+  by_start : (b : Bool) (start : Started)
+      → Stays (Some (cond b (replies.Job (length s.rows + 1), record s { rows = s.rows ++ opened start ∷ []; transactions = s.transactions ++ None ∷ [] })
+      (replies.Limit, s)))
   by_start true start = h
   by_start false start = h
 
+  answered_global : (job : ℕ) (ask : SharedAsk) → Stays (answered s job ask true)
+  answered_global job (shared_asks.Access a) = access_after (open_of s job) a s.globals h
+  answered_global job (shared_asks.Try names timeout) = by_try job names timeout (try_of s.locks job names) (after_try s.locks job names)
+  answered_global job (shared_asks.Open name timeout) = by_name job name timeout (bytes_eq name principal)
+  answered_global job (shared_asks.Start start timeout) = by_start (has_room s) start
+  answered_global job shared_asks.Commit = closed_global (open_of s job) job s.globals s.locks (open_own s.transactions job own) h
+  answered_global job _ = h
+
   pub stays_global : (job : ℕ) (ask : Ask) → Stays (served s job ask true)
-  stays_global job (asks.Access a) = access_after (open_of s job) a s.globals h
-  stays_global job (asks.Try names timeout) = by_try job names timeout (try_of s.locks job names) (after_try s.locks job names)
-  stays_global job (asks.Unlock names) = h
-  stays_global job asks.UnlockAll = h
-  stays_global job (asks.Open name timeout) = by_name job name timeout (bytes_eq name principal)
-  stays_global job (asks.Close name) = h
-  stays_global job (asks.Start start timeout) = by_start (has_room s) start
-  stays_global job (asks.Halt fault) = h
-  stays_global job (asks.Begin kind) = h
-  stays_global job asks.Commit = closed_global (open_of s job) job s.globals s.locks (open_own s.transactions job own) h
-  stays_global job asks.Rollback = h
-  stays_global job (asks.DeviceBegin device) = h
-  stays_global job (asks.DeviceWrite device bytes) = h
-  stays_global job (asks.DeviceLine device timeout) = h
-  stays_global job (asks.DeviceByte device timeout) = h
-  stays_global job (asks.DeviceEnd device) = h
-  stays_global job (asks.Rest time) = h
+  stays_global job (asks.Shared ask) = answered_global job ask
+  stays_global job _ = h

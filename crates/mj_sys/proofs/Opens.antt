@@ -2,14 +2,14 @@
 use Rattle.std.proofs.Common.{◌≡◌, ℕ, Bool, true, false, List, Option, Some, None, refl, sym, ap, ◌∙◌, subst, eqb→eq, eq-eqb}
 use Rattle.std.specs.Prelude.{ℤ, T, nat_lt, ◌==◌, if◌then◌else◌}
 use Rattle.std.specs.Str.{bytes_eq}
-use Rattle.mj_ask.specs.declared.ask.Ask.TheVariants as asks
+use Rattle.mj_ask.specs.declared.ask.SharedAsk.TheVariants as shared_asks
 use Rattle.mj_ask.specs.declared.ask.Reply.{Reply}
 use Rattle.mj_ask.specs.declared.ask.Reply.TheVariants as replies
 use Rattle.mj_dev.specs.Shelves.{principal}
 use Rattle.mj_sys.specs.Devices.{Device, device_at, with_device, opened_by, holder_of}
-use Rattle.mj_ask.specs.Late.{is_over}
-use Rattle.mj_sys.specs.Shared.{Shared, served, takes_session}
-use Rattle.mj_sys.specs.Kept.{Service, Comes}
+use Rattle.mj_ask.specs.Late.{is_timed_out}
+use Rattle.mj_sys.specs.Shared.{Shared, answered, moves_session}
+use Rattle.mj_sys.specs.Kept.{Service, ComesOfAsk}
 use Rattle.mj_sys.specs.declared.served.Held.TheVariants as helds
 use Rattle.mj_sys.specs.declared.shared.Outcome.TheVariants as outcomes
 
@@ -25,7 +25,8 @@ other_job h job apart = at (h == job) refl where
 
 -- it is told this, by a session or without one
 abbrev pub Told : Shared → ℕ → List ℕ → Option ℤ → Bool → Reply → Shared → Bool → Type 0
-Told s job name timeout late reply new by = (served s job (asks.Open name timeout) late ≡ Some (reply, new)) × (takes_session s (asks.Open name timeout) ≡ by)
+Told s job name timeout late reply new by =
+    (answered s job (shared_asks.Open name timeout) late ≡ Some (reply, new)) × (moves_session s (shared_asks.Open name timeout) ≡ by)
 
 module _ (s : Shared) (job : ℕ) (name : List ℕ) (timeout : Option ℤ) (late : Bool) where
   pub own_principal : bytes_eq name principal ≡ true → Told s job name timeout late replies.Got s false
@@ -47,27 +48,27 @@ module _ (s : Shared) (job : ℕ) (name : List ℕ) (timeout : Option ℤ) (late
   own d h e there held is = (rw (e, there, held, same_job h job is) refl, rw (e, there, held) refl)
 
   pub late_for : (d : Device) (h : ℕ) → bytes_eq name principal ≡ false → device_at s.devices name ≡ Some d → d.holder ≡ Some h → (h ≡ job → ⊥)
-      → is_over timeout late ≡ true → Told s job name timeout late replies.Late s false
+      → is_timed_out timeout late ≡ true → Told s job name timeout late replies.Late s false
   late_for d h e there held other over = (rw (e, there, held, other_job h job other, over) refl, rw (e, there, held) refl)
 
   pub busy_by : (d : Device) (h : ℕ) → bytes_eq name principal ≡ false → device_at s.devices name ≡ Some d → d.holder ≡ Some h → (h ≡ job → ⊥)
-      → is_over timeout late ≡ false
-      → (served s job (asks.Open name timeout) late ≡ None) × (holder_of s.devices name ≡ Some h)
+      → is_timed_out timeout late ≡ false
+      → (answered s job (shared_asks.Open name timeout) late ≡ None) × (holder_of s.devices name ≡ Some h)
   busy_by d h e there held other soon =
       (rw (e, there, held, other_job h job other, soon) refl, ap (λ (o : Option Device). elim o as (λ _. Option ℕ) [ None ↦ None | Some x ↦ x.holder ]) there ∙ held)
 
 -- where nobody holds it, one goes to the job if one is left
 pub free : (s : Shared) (name : List ℕ) (timeout : Option ℤ) (d : Device) → bytes_eq name principal ≡ false → device_at s.devices name ≡ Some d → d.holder ≡ None
-    → takes_session s (asks.Open name timeout) ≡ nat_lt d.taken d.sessions
+    → moves_session s (shared_asks.Open name timeout) ≡ nat_lt d.taken d.sessions
 free s name timeout d e there nobody = rw (e, there, nobody) refl
 
 -- what a busy device comes to
 module _ (v : Service) (job : ℕ) (name : List ℕ) (timeout : Option ℤ) (late : Bool) (d : Device) (h : ℕ) where
   pub others : (n : List ℕ) → n ≡ name → bytes_eq name principal ≡ false → device_at v.state.devices name ≡ Some d → d.holder ≡ Some h → (h ≡ job → ⊥)
-      → Comes v job (asks.Open name timeout) late (if is_over timeout late then outcomes.Told replies.Late replies.Late else outcomes.Busy h (helds.Device n)) v
-  others n same e there held other = by_time (is_over timeout late) refl where
-    by_time : (over : Bool) → is_over timeout late ≡ over
-        → Comes v job (asks.Open name timeout) late (if over then outcomes.Told replies.Late replies.Late else outcomes.Busy h (helds.Device n)) v
+      → ComesOfAsk v job (shared_asks.Open name timeout) late (if is_timed_out timeout late then outcomes.Told replies.Late replies.Late else outcomes.Busy h (helds.Device n)) v
+  others n same e there held other = by_time (is_timed_out timeout late) refl where
+    by_time : (over : Bool) → is_timed_out timeout late ≡ over
+        → ComesOfAsk v job (shared_asks.Open name timeout) late (if over then outcomes.Told replies.Late replies.Late else outcomes.Busy h (helds.Device n)) v
     by_time true over = let t = late_for v.state job name timeout late d h e there held other over in (t.0, t.1, refl, refl)
     by_time false soon =
         let t = busy_by v.state job name timeout late d h e there held other soon in

@@ -19,7 +19,7 @@ use Rattle.mj_txlog.specs.declared.entry.Entry.TheVariants as entries
 use Rattle.mj_txlog.specs.declared.entry.Unlock.{Unlock}
 use Rattle.mj_sys.specs.Transactions.{Transactions, transaction_of, with_transaction, with_waiting, begun_as}
 use Rattle.mj_sys.specs.Shared.{changed}
-use Rattle.mj_sys.specs.Kept.{after_taken}
+use Rattle.mj_sys.specs.Kept.{transaction_after_try}
 use Rattle.mj_sys.specs.Passed.{changes_limit, counted, IsCounted, killed_by, IsPassed, ArePassed}
 use Rattle.mj_sys.specs.declared.passed.Passed.{Passed}
 use Rattle.mj_sys.proofs.Places.{with_twice}
@@ -42,7 +42,7 @@ killed_waiting (Some t) u = by (is_full t) where
   by false = killed_unlock t.accesses u
 
 -- nor do names that are got, or a beginning
-pub killed_taken : (t : Option Transaction) (names : List Name) (taken : Taken) → killed_by (after_taken t names taken) ≡ killed_by t
+pub killed_taken : (t : Option Transaction) (names : List Name) (taken : Taken) → killed_by (transaction_after_try t names taken) ≡ killed_by t
 killed_taken None names takes.Got = refl
 killed_taken (Some t) names takes.Got = refl
 killed_taken t names (takes.Busy holder name) = refl
@@ -244,7 +244,7 @@ back_like globals n ts out back ps job own left put same was =
     subst (λ l. ArePassed globals n l ps) (sym (put ∙ ap (λ l. with_transaction l job own) left ∙ with_twice ts job None own)) (all_like globals n ts ps job own same was)
 
 -- a transaction after a try, whatever came of it, and after an unlock
-pub killed_try : {E : Type 0} (own own' : Option Transaction) (names : List Name) (P : Type 0) (r : Result Taken E) → IfOk r (λ taken. own' ≡ after_taken own names taken)
+pub killed_try : {E : Type 0} (own own' : Option Transaction) (names : List Name) (P : Type 0) (r : Result Taken E) → IfOk r (λ taken. own' ≡ transaction_after_try own names taken)
     → OnErr r (P × (own' ≡ own)) → killed_by own' ≡ killed_by own
 killed_try own own' names P (Ok taken) ok err = ap killed_by ok ∙ killed_taken own names taken
 killed_try own own' names P (Err e) ok err = ap killed_by err.1

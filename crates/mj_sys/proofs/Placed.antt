@@ -9,7 +9,7 @@ use Rattle.std.proofs.lemmas.Slice.Eq.{bytes_eq-Decides}
 use Rattle.std.proofs.lemmas.List.Quantifiers.{position-Some}
 use Rattle.mj_dev.specs.Shelves.{Shelf, is_named, one_taken, after_take, left_of, principal}
 use Rattle.mj_dev.proofs.Shelves.{found-none, found-named, with_first-at}
-use Rattle.mj_sys.specs.Devices.{Device, device_at, with_device, opened_by, closed_by, freed}
+use Rattle.mj_sys.specs.Devices.{Device, device_at, with_device, opened_by, released_by, freed}
 use Rattle.mj_sys.specs.Opening.{device_of, free_devices}
 use Rattle.mj_sys.specs.Kept.{devices_of, without}
 
@@ -98,17 +98,17 @@ close_if : (b : Bool) (p : ℕ) (s : Shelf) (k : ℕ)
 close_if true p s k = refl
 close_if false p s k = refl
 
-pub closed_device : (p job : ℕ) (s : Shelf) (k : Option ℕ) → closed_by job (device_of p s k) ≡ device_of p s (without job k)
+pub closed_device : (p job : ℕ) (s : Shelf) (k : Option ℕ) → released_by job (device_of p s k) ≡ device_of p s (without job k)
 closed_device p job s None = refl
 closed_device p job s (Some k) = close_if (k == job) p s k
 
 pub closed_there : (p job : ℕ) (name : List ℕ) (shelves : List Shelf) (holders : List (Option ℕ)) (at : ℕ) (h : Option ℕ) → length holders ≡ length shelves
     → position (is_named name) shelves ≡ Some at
-    → with_device (devices_of p shelves holders) name (closed_by job) ≡ devices_of p shelves (set holders at (without job (get_or holders at h)))
+    → with_device (devices_of p shelves holders) name (released_by job) ≡ devices_of p shelves (set holders at (without job (get_or holders at h)))
 closed_there p job name shelves holders at h same is =
     let d : Shelf = record { name = name; left = 0; taken = 0 } in
     let there = found name shelves at d is in
-    changed_there p name (closed_by job) shelves holders at d h (get_or shelves at d) (without job (get_or holders at h)) same there
+    changed_there p name (released_by job) shelves holders at d h (get_or shelves at d) (without job (get_or holders at h)) same there
     (closed_device p job (get_or shelves at d) (get_or holders at h))
     ∙ ap (λ l. devices_of p l (set holders at (without job (get_or holders at h)))) (set-get_or shelves at d)
 

@@ -9,8 +9,8 @@ use Rattle.mj_sys.specs.Transactions.{Transactions, transaction_of, with_transac
 use Rattle.mj_subs.specs.Name.{Name}
 use Rattle.mj_locktab.specs.declared.taken.Taken.{Taken}
 use Rattle.mj_locktab.specs.declared.taken.Taken.TheVariants as takes
-use Rattle.mj_txn.specs.Closing.{after_taken as taken_in}
-use Rattle.mj_sys.specs.Kept.{as_reply, after_taken}
+use Rattle.mj_txn.specs.Closing.{gained_by_try as taken_in}
+use Rattle.mj_sys.specs.Kept.{as_reply, transaction_after_try}
 
 set_twice : (ts : Transactions) (k : ℕ) (one other : Option Transaction) → slice_set (slice_set ts k one) k other ≡ slice_set ts k other
 set_twice [] zero one other = refl
@@ -70,12 +70,12 @@ one_more n = next n ∙ ap (λ m. replicate m None) (let e : suc n ≡ n + 1 = o
   next (suc m) = ap (λ l. None ∷ l) (next m)
 
 -- a try where no transaction is open, and in one
-pub taken_none : (names : List Name) (taken : Taken) → after_taken None names taken ≡ None
+pub taken_none : (names : List Name) (taken : Taken) → transaction_after_try None names taken ≡ None
 taken_none names takes.Got = refl
 taken_none names (takes.Busy holder name) = refl
 taken_none names takes.Limit = refl
 
-pub taken_some : (t : Transaction) (names : List Name) (taken : Taken) → Some (taken_in t names taken) ≡ after_taken (Some t) names taken
+pub taken_some : (t : Transaction) (names : List Name) (taken : Taken) → Some (taken_in t names taken) ≡ transaction_after_try (Some t) names taken
 taken_some t names takes.Got = refl
 taken_some t names (takes.Busy holder name) = refl
 taken_some t names takes.Limit = refl

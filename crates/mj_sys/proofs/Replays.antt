@@ -10,6 +10,8 @@ use Rattle.std.proofs.lemmas.List.{length-set, get_or-set_same, get_or-set_other
 use Rattle.std.proofs.lemmas.List.Sums.{sum_by-append, count_by-le-length}
 use Rattle.mj_ask.specs.declared.ask.Ask.{Ask}
 use Rattle.mj_ask.specs.declared.ask.Ask.TheVariants as asks
+use Rattle.mj_ask.specs.declared.ask.SharedAsk.{SharedAsk}
+use Rattle.mj_ask.specs.declared.ask.SharedAsk.TheVariants as shared_asks
 use Rattle.mj_ask.specs.declared.ask.Reply.{Reply}
 use Rattle.mj_ask.specs.declared.ask.Reply.TheVariants as replies
 use Rattle.mj_ask.specs.Fits.{is_shared}
@@ -22,10 +24,10 @@ use Rattle.mj_locktab.specs.Tries.{outcome_of, after_try}
 use Rattle.mj_subs.specs.Name.{Name}
 use Rattle.mj_sys.specs.declared.event.Event.{Event}
 use Rattle.mj_sys.specs.Devices.{Device, device_at}
-use Rattle.mj_ask.specs.Late.{is_over}
-use Rattle.mj_sys.specs.Shared.{Shared, are_global, busy, tried, open_free, open_known, served}
+use Rattle.mj_ask.specs.Late.{is_timed_out}
+use Rattle.mj_sys.specs.Shared.{Shared, are_global, busy, tried, open_free, open_known, answered, served}
 use Rattle.mj_sys.specs.History.{History, left_by, after, state_of, IsServed, AreServed, events_of, log_of}
-use Rattle.mj_sys.specs.System.{Recorded, IsKept, AreCounts, change_globals, history_limit}
+use Rattle.mj_sys.specs.System.{Recorded, MatchesHistory, AreCounts, change_globals, history_limit}
 use Rattle.mj_sys.specs.Told.{recorded}
 use Rattle.mj_sys.proofs.Global.{stays_global}
 use Rattle.mj_sys.proofs.Waiting.{stays_waiting}
@@ -38,7 +40,7 @@ yes_no e = cc
 
 module _ (s : Shared) where
   pub left_busy : (timeout : Option ℤ) (late : Bool) → left_by s (busy s timeout late) ≡ s
-  left_busy timeout late = at (is_over timeout late) where
+  left_busy timeout late = at (is_timed_out timeout late) where
     at : (b : Bool) → left_by s (cond b (Some (replies.Late, s)) None) ≡ s
     at true = refl
     at false = refl
@@ -75,24 +77,14 @@ module _ (s : Shared) where
   left_named job name timeout late true = refl
   left_named job name timeout late false = left_found job name timeout late (device_at s.devices name)
 
+  left_answered : (job : ℕ) (ask : SharedAsk) (late : Bool) → left_by s (answered s job ask late) ≡ left_by s (answered s job ask true)
+  left_answered job (shared_asks.Try names timeout) late = left_tried job names timeout late (outcome_of s.locks job names) (after_try s.locks job names)
+  left_answered job (shared_asks.Open name timeout) late = left_named job name timeout late (bytes_eq name principal)
+  left_answered job _ late = refl
+
   left_same : (job : ℕ) (ask : Ask) (late : Bool) → left_by s (served s job ask late) ≡ left_by s (served s job ask true)
-  left_same job (asks.Access a) late = refl
-  left_same job (asks.Try names timeout) late = left_tried job names timeout late (outcome_of s.locks job names) (after_try s.locks job names)
-  left_same job (asks.Unlock names) late = refl
-  left_same job asks.UnlockAll late = refl
-  left_same job (asks.Open name timeout) late = left_named job name timeout late (bytes_eq name principal)
-  left_same job (asks.Close name) late = refl
-  left_same job (asks.Start start timeout) late = refl
-  left_same job (asks.Halt fault) late = refl
-  left_same job (asks.Begin kind) late = refl
-  left_same job asks.Commit late = refl
-  left_same job asks.Rollback late = refl
-  left_same job (asks.DeviceBegin device) late = refl
-  left_same job (asks.DeviceWrite device bytes) late = refl
-  left_same job (asks.DeviceLine device timeout) late = refl
-  left_same job (asks.DeviceByte device timeout) late = refl
-  left_same job (asks.DeviceEnd device) late = refl
-  left_same job (asks.Rest time) late = refl
+  left_same job (asks.Shared ask) late = left_answered job ask late
+  left_same job _ late = refl
 
   pub left : (job : ℕ) (ask : Ask) (late : Bool) (reply : Reply) (t : Shared) → served s job ask late ≡ Some (reply, t) → left_by s (served s job ask true) ≡ t
   left job ask late reply t e = sym (left_same job ask late) ∙ ap (left_by s) e
@@ -155,7 +147,7 @@ none_of job e apart = ap (λ b. 0 + cond b 1 0) (other_job e.job job apart)
 -- ---- what the type of the system keeps
 
 module _ (opening state : Shared) (old : Recorded) (job : ℕ) (ask : Ask) (late : Bool) (reply : Reply) (new : Shared)
-    (kept : IsKept opening state old) (live : IsLive state.rows job) (mine : job ≤ old.claimed) (room : length old.history < history_limit)
+    (kept : MatchesHistory opening state old) (live : IsLive state.rows job) (mine : job ≤ old.claimed) (room : length old.history < history_limit)
     (shared : is_shared ask ≡ true) (apart : LocksApart new.locks) (told : served state job ask late ≡ Some (reply, new)) where
   abbrev pub event : Event
   event = record { job = job; ask = ask; reply = reply }
@@ -166,7 +158,7 @@ module _ (opening state : Shared) (old : Recorded) (job : ℕ) (ask : Ask) (late
       ∙ ap (λ s. left_by s (served s job ask true)) kept.replay
       ∙ sym (state_with opening old.history event)
 
-  pub kept_on : IsKept opening new (recorded old job ask reply)
+  pub kept_on : MatchesHistory opening new (recorded old job ask reply)
   kept_on =
       let here : IsServed state event = (live, shared, (late, told ∙ ap (λ s. Some (reply, s)) (sym (left state job ask late reply new told)))) in
       record {
@@ -223,12 +215,12 @@ module _ (counts : List ℕ) (seen : Recorded) (job : ℕ) (ask : Ask) (reply : 
   counts_on = record { all = long ∙ are.all; each = λ k below. each_on (k == (job - 1)) k refl (subst (λ n. k < n) long below) }
 
 -- a row more is claimed
-module _ (opening state : Shared) (counts : List ℕ) (seen : Recorded) (kept : IsKept opening state seen) (are : AreCounts counts seen) (claimed : ℕ)
+module _ (opening state : Shared) (counts : List ℕ) (seen : Recorded) (kept : MatchesHistory opening state seen) (are : AreCounts counts seen) (claimed : ℕ)
     (next : claimed ≡ seen.claimed + 1) where
   abbrev pub wider : Recorded
   wider = record { history = seen.history; claimed = claimed }
 
-  pub kept_wider : (new : Shared) → new ≡ state → IsKept opening new wider
+  pub kept_wider : (new : Shared) → new ≡ state → MatchesHistory opening new wider
   kept_wider new same = record {
     replay = same ∙ kept.replay;
     served = kept.served;

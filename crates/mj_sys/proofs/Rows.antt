@@ -9,6 +9,8 @@ use Rattle.std.proofs.lemmas.List.Sums.{sum_by-append}
 use Rattle.mj_ask.specs.Started.{Started}
 use Rattle.mj_ask.specs.declared.ask.Ask.{Ask}
 use Rattle.mj_ask.specs.declared.ask.Ask.TheVariants as asks
+use Rattle.mj_ask.specs.declared.ask.SharedAsk.{SharedAsk}
+use Rattle.mj_ask.specs.declared.ask.SharedAsk.TheVariants as shared_asks
 use Rattle.mj_ask.specs.declared.ask.Reply.{Reply}
 use Rattle.mj_ask.specs.declared.ask.Reply.TheVariants as replies
 use Rattle.mj_dev.specs.Shelves.{principal}
@@ -20,7 +22,7 @@ use Rattle.mj_locktab.specs.Tries.{outcome_of, after_try}
 use Rattle.mj_subs.specs.Name.{Name}
 use Rattle.mj_sys.specs.declared.event.Event.{Event}
 use Rattle.mj_sys.specs.Devices.{Device, device_at, with_device, opened_by}
-use Rattle.mj_sys.specs.Shared.{Shared, busy, tried, open_free, open_known, has_room, served}
+use Rattle.mj_sys.specs.Shared.{Shared, busy, tried, open_free, open_known, has_room, answered, served}
 use Rattle.mj_sys.specs.History.{History, left_by, after, state_of, AreServed, events_of, log_of}
 use Rattle.mj_sys.specs.System.{KeepsRows}
 use Rattle.mj_sys.proofs.Opens.{same_job}
@@ -145,28 +147,22 @@ module _ (s : Shared) where
   by_name job name timeout true = keeps_same s.rows
   by_name job name timeout false = by_found job name timeout (device_at s.devices name)
 
-  by_start : (b : Bool) (start : Started) → Left (Some (cond b (replies.Job (length s.rows + 1), record s { rows = s.rows ++ opened start ∷ []; transactions = s.transactions ++ None ∷ [] }) (replies.Limit, s)))
+  by_start : (b : Bool) (start : Started)
+      → Left (Some (cond b (replies.Job (length s.rows + 1), record s { rows = s.rows ++ opened start ∷ []; transactions = s.transactions ++ None ∷ [] })
+      (replies.Limit, s)))
   by_start true start = added s.rows (opened start ∷ [])
   by_start false start = keeps_same s.rows
 
+  by_shared : (job : ℕ) (ask : SharedAsk) → Left (answered s job ask true)
+  by_shared job (shared_asks.Try names timeout) = by_try job names timeout (outcome_of s.locks job names) (after_try s.locks job names)
+  by_shared job (shared_asks.Open name timeout) = by_name job name timeout (bytes_eq name principal)
+  by_shared job (shared_asks.Start start timeout) = by_start (has_room s) start
+  by_shared job (shared_asks.Halt fault) = ended s.rows job
+  by_shared job _ = keeps_same s.rows
+
   by_ask : (job : ℕ) (ask : Ask) → Left (served s job ask true)
-  by_ask job (asks.Access a) = keeps_same s.rows
-  by_ask job (asks.Try names timeout) = by_try job names timeout (outcome_of s.locks job names) (after_try s.locks job names)
-  by_ask job (asks.Unlock names) = keeps_same s.rows
-  by_ask job asks.UnlockAll = keeps_same s.rows
-  by_ask job (asks.Open name timeout) = by_name job name timeout (bytes_eq name principal)
-  by_ask job (asks.Close name) = keeps_same s.rows
-  by_ask job (asks.Start start timeout) = by_start (has_room s) start
-  by_ask job (asks.Halt fault) = ended s.rows job
-  by_ask job (asks.Begin kind) = keeps_same s.rows
-  by_ask job asks.Commit = keeps_same s.rows
-  by_ask job asks.Rollback = keeps_same s.rows
-  by_ask job (asks.DeviceBegin device) = keeps_same s.rows
-  by_ask job (asks.DeviceWrite device bytes) = keeps_same s.rows
-  by_ask job (asks.DeviceLine device timeout) = keeps_same s.rows
-  by_ask job (asks.DeviceByte device timeout) = keeps_same s.rows
-  by_ask job (asks.DeviceEnd device) = keeps_same s.rows
-  by_ask job (asks.Rest time) = keeps_same s.rows
+  by_ask job (asks.Shared ask) = by_shared job ask
+  by_ask job _ = keeps_same s.rows
 
 -- ---- a history
 

@@ -9,10 +9,12 @@ use Rattle.mj_store.specs.Runs.{name_of}
 use Rattle.mj_store.specs.declared.access.Access.{Access}
 use Rattle.mj_store.specs.declared.access.Answer.{Answer}
 use Rattle.mj_store.specs.declared.access.Answer.TheVariants as answers
-use Rattle.mj_ask.specs.Late.{is_over}
+use Rattle.mj_ask.specs.Late.{is_timed_out}
 use Rattle.mj_ask.specs.Started.{Started}
 use Rattle.mj_ask.specs.declared.ask.Ask.{Ask}
 use Rattle.mj_ask.specs.declared.ask.Ask.TheVariants as asks
+use Rattle.mj_ask.specs.declared.ask.SharedAsk.{SharedAsk}
+use Rattle.mj_ask.specs.declared.ask.SharedAsk.TheVariants as shared_asks
 use Rattle.mj_ask.specs.declared.ask.Kind.{Kind}
 use Rattle.mj_ask.specs.declared.ask.Reply.{Reply}
 use Rattle.mj_ask.specs.declared.ask.Reply.TheVariants as replies
@@ -29,7 +31,7 @@ use Rattle.mj_txlog.specs.declared.entry.Unlock.{Unlock}
 use Rattle.mj_txlog.specs.declared.entry.Unlock.TheVariants as unlocks
 use Rattle.mj_sys.specs.Devices.{Device, device_at, with_device, opened_by}
 use Rattle.mj_sys.specs.Transactions.{Transactions, transaction_of, with_transaction, with_access, with_names, with_waiting, begun_as}
-use Rattle.mj_sys.specs.Shared.{Shared, open_of, busy, tried, open_free, open_known, has_room, served}
+use Rattle.mj_sys.specs.Shared.{Shared, open_of, busy, tried, open_free, open_known, has_room, answered, served}
 use Rattle.mj_sys.specs.System.{changes_globals, change_globals}
 use Rattle.mj_sys.specs.History.{left_by}
 
@@ -116,7 +118,8 @@ own_names : (t : Option Transaction) (names : List Name) → changes_globals t �
 own_names None names h = refl
 own_names (Some t) names h = h
 
-own_full : (t : Transaction) (u : Unlock) (b : Bool) → changes_globals (Some t) ≡ true → changes_globals (Some (cond b t (record t { accesses = t.accesses ++ entries.Unlock u ∷ [] }))) ≡ true
+own_full : (t : Transaction) (u : Unlock) (b : Bool) → changes_globals (Some t) ≡ true
+    → changes_globals (Some (cond b t (record t { accesses = t.accesses ++ entries.Unlock u ∷ [] }))) ≡ true
 own_full t u true h = h
 own_full t u false h = writes_more t.accesses (entries.Unlock u) h refl
 
@@ -135,7 +138,7 @@ module _ (s : Shared) (h : change_globals s.transactions ≡ true) where
   Stays o = change_globals (left_by s o).transactions ≡ true
 
   by_busy : (timeout : Option ℤ) → Stays (busy s timeout true)
-  by_busy timeout = by (is_over timeout true) where
+  by_busy timeout = by (is_timed_out timeout true) where
     by : (b : Bool) → Stays (cond b (Some (replies.Late, s)) None)
     by true = h
     by false = h
@@ -179,25 +182,24 @@ module _ (s : Shared) (h : change_globals s.transactions ≡ true) where
   here : (job : ℕ) (t : Option Transaction) → changes_globals t ≡ true → change_globals (with_transaction s.transactions job t) ≡ true
   here job t own = own_with s.transactions job t own h
 
+  given : (job : ℕ) (u : Unlock) → change_globals (with_transaction s.transactions job (with_waiting (open_of s job) u)) ≡ true
+  given job u = here job (with_waiting (open_of s job) u) (own_waiting (open_of s job) u (open_own s.transactions job h))
+
+  answered_waiting : (job : ℕ) (ask : SharedAsk) → Stays (answered s job ask true)
+  answered_waiting job (shared_asks.Access a) =
+      here job (with_access (open_of s job) s.globals a) (own_access (open_of s job) s.globals a (open_own s.transactions job h))
+  answered_waiting job (shared_asks.Try names timeout) = by_try job names timeout (try_of s.locks job names) (after_try s.locks job names)
+  answered_waiting job (shared_asks.Unlock names) = given job (unlocks.Names names)
+  answered_waiting job shared_asks.UnlockAll = given job unlocks.All
+  answered_waiting job (shared_asks.Open name timeout) = by_name job name timeout (bytes_eq name principal)
+  answered_waiting job (shared_asks.Close name) = h
+  answered_waiting job (shared_asks.Start start timeout) = by_start (has_room s) start
+  answered_waiting job (shared_asks.Begin kind) = here job (begun_as (open_of s job) kind) (own_begun (open_of s job) kind (open_own s.transactions job h))
+  answered_waiting job _ = here job None refl
+
   pub stays_waiting : (job : ℕ) (ask : Ask) → Stays (served s job ask true)
-  stays_waiting job (asks.Access a) = here job (with_access (open_of s job) s.globals a) (own_access (open_of s job) s.globals a (open_own s.transactions job h))
-  stays_waiting job (asks.Try names timeout) = by_try job names timeout (try_of s.locks job names) (after_try s.locks job names)
-  stays_waiting job (asks.Unlock names) =
-      here job (with_waiting (open_of s job) (unlocks.Names names)) (own_waiting (open_of s job) (unlocks.Names names) (open_own s.transactions job h))
-  stays_waiting job asks.UnlockAll = here job (with_waiting (open_of s job) unlocks.All) (own_waiting (open_of s job) unlocks.All (open_own s.transactions job h))
-  stays_waiting job (asks.Open name timeout) = by_name job name timeout (bytes_eq name principal)
-  stays_waiting job (asks.Close name) = h
-  stays_waiting job (asks.Start start timeout) = by_start (has_room s) start
-  stays_waiting job (asks.Halt fault) = here job None refl
-  stays_waiting job (asks.Begin kind) = here job (begun_as (open_of s job) kind) (own_begun (open_of s job) kind (open_own s.transactions job h))
-  stays_waiting job asks.Commit = here job None refl
-  stays_waiting job asks.Rollback = here job None refl
-  stays_waiting job (asks.DeviceBegin device) = h
-  stays_waiting job (asks.DeviceWrite device bytes) = h
-  stays_waiting job (asks.DeviceLine device timeout) = h
-  stays_waiting job (asks.DeviceByte device timeout) = h
-  stays_waiting job (asks.DeviceEnd device) = h
-  stays_waiting job (asks.Rest time) = h
+  stays_waiting job (asks.Shared ask) = answered_waiting job ask
+  stays_waiting job _ = h
 
 -- at first none is open
 pub none_waiting : (n : ℕ) → change_globals (replicate n None) ≡ true

@@ -40,9 +40,9 @@ abbrev pub opened_by : ℕ → Device → Device
 opened_by job d = record d { taken = d.taken + 1; holder = Some job }
 
 -- the job's hold of the name ends; that of another stays
-abbrev pub closed_by : ℕ → Device → Device
-closed_by job d = if is_held_by job d then record d { holder = None } else d
+abbrev pub released_by : ℕ → Device → Device
+released_by job d = if is_held_by job d then record d { holder = None } else d
 
 -- all names that the job holds are free
 abbrev pub freed : Devices → ℕ → Devices
-freed devices job = map (closed_by job) devices
+freed devices job = map (released_by job) devices

@@ -2,6 +2,8 @@
 use Rattle.std.specs.Prelude.{◌≡◌, ℕ, ◌+◌, ◌-◌, ◌≤◌, ◌==◌, ◌++◌, slice_set, if◌then◌else◌, List, [], ◌∷◌, length, Bool, true, false, Option, Some, None}
 use Rattle.std.specs.List.{slice_index_or}
 use Rattle.mj_ask.specs.declared.ask.Ask.{Ask}
+use Rattle.mj_ask.specs.declared.ask.Ask.TheVariants as asks
+use Rattle.mj_ask.specs.declared.ask.SharedAsk.{SharedAsk}
 use Rattle.mj_ask.specs.declared.ask.Reply.{Reply}
 use Rattle.mj_ask.specs.declared.ask.Reply.TheVariants as replies
 use Rattle.mj_dev.specs.Heard.{Heard, IsNew}
@@ -16,9 +18,9 @@ use Rattle.mj_txlog.specs.Accesses.{Transaction}
 use Rattle.mj_sys.specs.Transactions.{with_names}
 use Rattle.mj_sys.specs.Devices.{Devices, sessions_of}
 use Rattle.mj_sys.specs.Opening.{device_of}
-use Rattle.mj_sys.specs.Shared.{Shared, served, takes_session}
+use Rattle.mj_sys.specs.Shared.{Shared, answered, moves_session}
 use Rattle.mj_sys.specs.History.{History}
-use Rattle.mj_sys.specs.System.{Keeps, Claimed}
+use Rattle.mj_sys.specs.System.{Blocks, Claimed}
 use Rattle.mj_sys.specs.declared.served.Served.{Served}
 use Rattle.mj_sys.specs.declared.served.Served.TheVariants as serveds
 use Rattle.mj_sys.specs.declared.shared.Outcome.{Outcome}
@@ -45,24 +47,25 @@ pub record AreTogether (principals : ℕ) (shelves : List Shelf) (holders : List
 
 -- What comes of an ask: it is told a reply, which is there twice; or a new session goes to the job; or it is busy, by what another has. No row is
 -- claimed by it.
-abbrev pub Comes : Service → ℕ → Ask → Bool → Outcome Heard → Service → Type 0
-Comes old job ask late (outcomes.Told reply again) new =
-    (served old.state job ask late ≡ Some (reply, new.state))
-    × (takes_session old.state ask ≡ false)
+abbrev pub ComesOfAsk : Service → ℕ → SharedAsk → Bool → Outcome Heard → Service → Type 0
+ComesOfAsk old job ask late (outcomes.Told reply again) new =
+    (answered old.state job ask late ≡ Some (reply, new.state))
+    × (moves_session old.state ask ≡ false)
     × (again ≡ reply)
     × (new.claimed ≡ old.claimed)
-Comes old job ask late (outcomes.Opened session) new =
-    (served old.state job ask late ≡ Some (replies.Got, new.state))
-    × (takes_session old.state ask ≡ true)
+ComesOfAsk old job ask late (outcomes.Opened session) new =
+    (answered old.state job ask late ≡ Some (replies.Got, new.state))
+    × (moves_session old.state ask ≡ true)
     × IsNew session
     × (new.claimed ≡ old.claimed)
-Comes old job ask late (outcomes.Busy holder held) new = (served old.state job ask late ≡ None) × Keeps old.state job ask holder held × (new ≡ old)
+ComesOfAsk old job ask late (outcomes.Busy holder held) new =
+    (answered old.state job ask late ≡ None) × Blocks old.state job ask holder held × (new ≡ old)
 
 -- the transaction after a try: what is got is gained by it
-abbrev pub after_taken : Option Transaction → List Name → Taken → Option Transaction
-after_taken t names takes.Got = with_names t names
-after_taken t names (takes.Busy holder name) = t
-after_taken t names takes.Limit = t
+abbrev pub transaction_after_try : Option Transaction → List Name → Taken → Option Transaction
+transaction_after_try t names takes.Got = with_names t names
+transaction_after_try t names (takes.Busy holder name) = t
+transaction_after_try t names takes.Limit = t
 
 -- what an unlock is told
 abbrev pub as_reply : Answer → Reply
@@ -88,17 +91,17 @@ kept_reply (outcomes.Busy holder held) = None
 
 -- The event is written down: the history has it at its end, its job's count is one more, and the claim's too. Where there is no reply, all
 -- stays.
-abbrev pub IsWritten : Option Reply → Ask → History → List ℕ → Claimed → History → List ℕ → Claimed → Type 0
-IsWritten None ask history counts claim history' counts' claim' = (history' ≡ history) × (counts' ≡ counts) × (claim' ≡ claim)
-IsWritten (Some reply) ask history counts claim history' counts' claim' =
+abbrev pub IsWrittenDown : Option Reply → Ask → History → List ℕ → Claimed → History → List ℕ → Claimed → Type 0
+IsWrittenDown None ask history counts claim history' counts' claim' = (history' ≡ history) × (counts' ≡ counts) × (claim' ≡ claim)
+IsWrittenDown (Some reply) ask history counts claim history' counts' claim' =
     (history' ≡ history ++ record { job = claim.job; ask = ask; reply = reply } ∷ [])
     × (counts' ≡ slice_set counts (claim.job - 1) (slice_index_or counts (claim.job - 1) 0 + 1))
     × (claim' ≡ record claim { events = claim.events + 1 })
 
 -- the ask is served, and what came of it is told and written down
-pub record Goes (old : Service) (history : History) (counts : List ℕ) (claim : Claimed) (ask : Ask) (late : Bool) (told : Served Heard)
+pub record ServesAndRecords (old : Service) (history : History) (counts : List ℕ) (claim : Claimed) (ask : SharedAsk) (late : Bool) (told : Served Heard)
     (new : Service) (history' : History) (counts' : List ℕ) (claim' : Claimed) : Type 0 where
   pub outcome : Outcome Heard
-  pub comes : Comes old claim.job ask late outcome new
+  pub comes : ComesOfAsk old claim.job ask late outcome new
   pub is_told : told ≡ told_of outcome
-  pub is_written : IsWritten (kept_reply outcome) ask history counts claim history' counts' claim'
+  pub is_written : IsWrittenDown (kept_reply outcome) (asks.Shared ask) history counts claim history' counts' claim'

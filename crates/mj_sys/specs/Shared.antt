@@ -8,9 +8,11 @@ use Rattle.mj_store.specs.declared.access.Access.{Access}
 use Rattle.mj_subs.specs.Name.{Name}
 use Rattle.mj_ask.specs.declared.ask.Kind.{Kind}
 use Rattle.mj_ask.specs.Started.{Started}
-use Rattle.mj_ask.specs.Late.{is_over}
+use Rattle.mj_ask.specs.Late.{is_timed_out}
 use Rattle.mj_ask.specs.declared.ask.Ask.{Ask}
 use Rattle.mj_ask.specs.declared.ask.Ask.TheVariants as asks
+use Rattle.mj_ask.specs.declared.ask.SharedAsk.{SharedAsk}
+use Rattle.mj_ask.specs.declared.ask.SharedAsk.TheVariants as shared_asks
 use Rattle.mj_ask.specs.declared.ask.Reply.{Reply}
 use Rattle.mj_ask.specs.declared.ask.Reply.TheVariants as replies
 use Rattle.mj_locktab.specs.declared.taken.Taken.{Taken}
@@ -25,7 +27,7 @@ use Rattle.mj_txlog.specs.declared.entry.Unlock.{Unlock}
 use Rattle.mj_txlog.specs.declared.entry.Unlock.TheVariants as unlocks
 use Rattle.mj_txn.specs.Closing.{Closed}
 use Rattle.mj_sys.specs.Transactions.{Transactions, transaction_of, with_transaction, told_to, with_access, with_names, unlock_told, after_unlock, with_waiting, begun_as, closed_as, locks_back}
-use Rattle.mj_sys.specs.Devices.{Device, Devices, device_at, sessions_of, with_device, opened_by, closed_by, freed}
+use Rattle.mj_sys.specs.Devices.{Device, Devices, device_at, sessions_of, with_device, opened_by, released_by, freed}
 
 -- the globals, which job holds which names and which devices, a row for each job, and the transactions that jobs have open
 pub record Shared : Type 0 where
@@ -41,7 +43,7 @@ open_of s job = transaction_of s.transactions job
 
 -- an ask that is busy is told that it is late where its timeout is over. Else it is told nothing yet
 abbrev pub busy : Shared → Option ℤ → Bool → Option (Reply × Shared)
-busy s timeout late = if is_over timeout late then Some (replies.Late, s) else None
+busy s timeout late = if is_timed_out timeout late then Some (replies.Late, s) else None
 
 -- only names of globals have texts there. So a local name is absent from it
 abbrev pub are_global : Content → Bool
@@ -79,8 +81,8 @@ given_up s job u t = (
 )
 
 -- a transaction begins
-abbrev pub begun : Shared → ℕ → Kind → Shared
-begun s job kind = record s { transactions = with_transaction s.transactions job (begun_as (open_of s job) kind) }
+abbrev pub transaction_begun : Shared → ℕ → Kind → Shared
+transaction_begun s job kind = record s { transactions = with_transaction s.transactions job (begun_as (open_of s job) kind) }
 
 -- a transaction is committed, or clashes, and isn't open any more
 abbrev pub closed : Shared → ℕ → Closed → Reply × Shared
@@ -125,34 +127,38 @@ started s start =
 abbrev pub halted : Shared → ℕ → Shared
 halted s job = record s { locks = after_give_all s.locks job; devices = freed s.devices job; rows = with_ended s.rows job }
 
--- What a job's ask is told, and what is shared then; none where it is busy. A busy ask with a timeout may be told that it is late. To begin
--- where a transaction is open, and to commit or roll back where none is, is done and changes nothing. What a device session serves, or none,
--- is told nothing here.
+-- What a job's ask to all that is shared is told, and what is shared then; none where it is busy. A busy ask with a timeout may be told that it
+-- is late. To begin where a transaction is open, and to commit or roll back where none is, is done and changes nothing.
+abbrev pub answered : Shared → ℕ → SharedAsk → Bool → Option (Reply × Shared)
+answered s job (shared_asks.Access a) late = Some (accessed s job a (open_of s job))
+answered s job (shared_asks.Try names timeout) late =
+    tried s job names timeout late (outcome_of s.locks job names) (after_try s.locks job names)
+answered s job (shared_asks.Unlock names) late = Some (given_up s job (unlocks.Names names) (open_of s job))
+answered s job shared_asks.UnlockAll late = Some (given_up s job unlocks.All (open_of s job))
+answered s job (shared_asks.Open name timeout) late = open_named s job name timeout late
+answered s job (shared_asks.Close name) late = Some (replies.Done, record s { devices = with_device s.devices name (released_by job) })
+answered s job (shared_asks.Start start timeout) late = Some (started s start)
+answered s job (shared_asks.Halt fault) late = Some (replies.Done, halted (undone s job) job)
+answered s job (shared_asks.Begin kind) late = Some (replies.Done, transaction_begun s job kind)
+answered s job shared_asks.Commit late = Some (closed s job (closed_as (open_of s job) job s.globals s.locks))
+answered s job shared_asks.Rollback late = Some (replies.Done, undone s job)
+
+-- What any ask of a job is told here. What a device session serves, or the clock, is told nothing here.
 abbrev pub served : Shared → ℕ → Ask → Bool → Option (Reply × Shared)
-served s job (asks.Access a) late = Some (accessed s job a (open_of s job))
-served s job (asks.Try names timeout) late = tried s job names timeout late (outcome_of s.locks job names) (after_try s.locks job names)
-served s job (asks.Unlock names) late = Some (given_up s job (unlocks.Names names) (open_of s job))
-served s job asks.UnlockAll late = Some (given_up s job unlocks.All (open_of s job))
-served s job (asks.Open name timeout) late = open_named s job name timeout late
-served s job (asks.Close name) late = Some (replies.Done, record s { devices = with_device s.devices name (closed_by job) })
-served s job (asks.Start start timeout) late = Some (started s start)
-served s job (asks.Halt fault) late = Some (replies.Done, halted (undone s job) job)
-served s job (asks.Begin kind) late = Some (replies.Done, begun s job kind)
-served s job asks.Commit late = Some (closed s job (closed_as (open_of s job) job s.globals s.locks))
-served s job asks.Rollback late = Some (replies.Done, undone s job)
-served s job (asks.DeviceBegin device) late = None
-served s job (asks.DeviceWrite device bytes) late = None
-served s job (asks.DeviceLine device timeout) late = None
-served s job (asks.DeviceByte device timeout) late = None
-served s job (asks.DeviceEnd device) late = None
-served s job (asks.Rest time) late = None
+served s job (asks.Shared ask) late = answered s job ask late
+served s job _ late = None
 
 -- whether a session of a known device goes to the job: no job holds it, and it has one left
 abbrev pub has_session : Device → Bool
 has_session d = is_none d.holder && nat_lt d.taken d.sessions
 
 -- whether an ask is told that it has a device by a session that goes to the job. To open what the job has already moves none
-abbrev pub takes_session : Shared → Ask → Bool
-takes_session s (asks.Open name timeout) =
+abbrev pub moves_session : Shared → SharedAsk → Bool
+moves_session s (shared_asks.Open name timeout) =
     if bytes_eq name principal then false else elim (device_at s.devices name) [ None ↦ false | Some d ↦ has_session d ]
+moves_session s _ = false
+
+-- and so of any ask
+abbrev pub takes_session : Shared → Ask → Bool
+takes_session s (asks.Shared ask) = moves_session s ask
 takes_session s _ = false

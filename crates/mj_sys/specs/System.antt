@@ -4,6 +4,8 @@ use Rattle.std.specs.List.{slice_index_or, list_all}
 use Rattle.mj_ask.specs.Started.{Started}
 use Rattle.mj_ask.specs.declared.ask.Ask.{Ask}
 use Rattle.mj_ask.specs.declared.ask.Ask.TheVariants as asks
+use Rattle.mj_ask.specs.declared.ask.SharedAsk.{SharedAsk}
+use Rattle.mj_ask.specs.declared.ask.SharedAsk.TheVariants as shared_asks
 use Rattle.mj_jobs.specs.Rows.{Row, row_at}
 use Rattle.mj_locktab.specs.Locks.{LocksApart}
 use Rattle.mj_locktab.specs.Tries.{IsInTheWay}
@@ -42,7 +44,7 @@ pub record Claimed : Type 0 where
 
 -- What is shared is what the history leaves, each event of which was served; only names of globals have texts in it; no name of one job
 -- overlaps a name of another; and a row that isn't claimed has no events.
-pub record IsKept (opening state : Shared) (seen : Recorded) : Type 0 where
+pub record MatchesHistory (opening state : Shared) (seen : Recorded) : Type 0 where
   pub replay : state ≡ state_of opening seen.history
   pub served : AreServed opening seen.history
   pub global : are_global state.globals ≡ true
@@ -61,9 +63,14 @@ pub record KeepsRows (old new : List Row) : Type 0 where
   pub more : length old ≤ length new
   pub starts : (job : ℕ) (row : Row) → row_at old job ≡ Some row → (row' : Row) × (row_at new job ≡ Some row') × (row'.start ≡ row.start)
 
--- another job has what keeps the job from what it asks: a name that overlaps one of a lock, or the device
-abbrev pub Keeps : Shared → ℕ → Ask → ℕ → Held → Type 0
-Keeps s job (asks.Try names timeout) holder (helds.Name name) = IsInTheWay s.locks job names holder name
-Keeps s job (asks.Open device timeout) holder (helds.Device name) =
+-- another job has what keeps the job from what it asks of all that is shared: a name that overlaps one of a lock, or the device
+abbrev pub Blocks : Shared → ℕ → SharedAsk → ℕ → Held → Type 0
+Blocks s job (shared_asks.Try names timeout) holder (helds.Name name) = IsInTheWay s.locks job names holder name
+Blocks s job (shared_asks.Open device timeout) holder (helds.Device name) =
     (name ≡ device) × (holder ≡ job → ⊥) × (holder_of s.devices name ≡ Some holder)
-Keeps s job _ holder held = ⊥
+Blocks s job _ holder held = ⊥
+
+-- and from what it asks at all
+abbrev pub KeepsBusy : Shared → ℕ → Ask → ℕ → Held → Type 0
+KeepsBusy s job (asks.Shared ask) holder held = Blocks s job ask holder held
+KeepsBusy s job _ holder held = ⊥

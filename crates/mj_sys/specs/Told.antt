@@ -11,14 +11,14 @@ use Rattle.mj_sys.specs.declared.served.Refused.{Refused}
 use Rattle.mj_sys.specs.declared.served.Refused.TheVariants as refusals
 use Rattle.mj_sys.specs.Shared.{Shared, served, takes_session}
 use Rattle.mj_sys.specs.History.{state_of, events_of}
-use Rattle.mj_sys.specs.System.{Keeps, Recorded, Claimed, history_limit}
+use Rattle.mj_sys.specs.System.{KeepsBusy, Recorded, Claimed, history_limit}
 
 -- The ask is told its reply, and what is shared is what that leaves; or it has got a device by a session with which nothing was done yet; or it
 -- is busy, by what another has, and nothing changes.
-abbrev pub Tells : Shared → ℕ → Ask → Bool → Served Heard → Shared → Type 0
-Tells old job ask late (serveds.Reply reply) new = (served old job ask late ≡ Some (reply, new)) × (takes_session old ask ≡ false)
-Tells old job ask late (serveds.Opened session) new = (served old job ask late ≡ Some (replies.Got, new)) × (takes_session old ask ≡ true) × IsNew session
-Tells old job ask late (serveds.Busy holder held) new = (served old job ask late ≡ None) × Keeps old job ask holder held × (new ≡ old)
+abbrev pub ServiceTells : Shared → ℕ → Ask → Bool → Served Heard → Shared → Type 0
+ServiceTells old job ask late (serveds.Reply reply) new = (served old job ask late ≡ Some (reply, new)) × (takes_session old ask ≡ false)
+ServiceTells old job ask late (serveds.Opened session) new = (served old job ask late ≡ Some (replies.Got, new)) × (takes_session old ask ≡ true) × IsNew session
+ServiceTells old job ask late (serveds.Busy holder held) new = (served old job ask late ≡ None) × KeepsBusy old job ask holder held × (new ≡ old)
 
 -- the reply that the history has of it, none where it is busy
 abbrev pub reply_of : Served Heard → Option Reply
@@ -47,11 +47,11 @@ pub record Serves (opening : Shared) (old : Recorded) (claim : Claimed) (ask : A
     : Type 0 where
   pub turn : IsTurn opening old claim
   pub room : length old.history < history_limit
-  pub tells : Tells (state_of opening old.history) claim.job ask late told (state_of opening new.history)
+  pub tells : ServiceTells (state_of opening old.history) claim.job ask late told (state_of opening new.history)
   pub records : Records old claim ask (reply_of told) new claim'
 
 -- When each refusal comes: it isn't the claim's turn, the history is full, or memory was wanting. The turn is looked at first, then the room.
-abbrev pub IsRefused : Shared → Recorded → Claimed → Refused → Type 0
-IsRefused opening old claim (refusals.Turn expected) = (expected ≡ events_of claim.job old.history) × (IsTurn opening old claim → ⊥)
-IsRefused opening old claim refusals.Full = IsTurn opening old claim × (length old.history ≡ history_limit)
-IsRefused opening old claim refusals.Memory = IsTurn opening old claim × (length old.history < history_limit)
+abbrev pub IsServiceRefused : Shared → Recorded → Claimed → Refused → Type 0
+IsServiceRefused opening old claim (refusals.Turn expected) = (expected ≡ events_of claim.job old.history) × (IsTurn opening old claim → ⊥)
+IsServiceRefused opening old claim refusals.Full = IsTurn opening old claim × (length old.history ≡ history_limit)
+IsServiceRefused opening old claim refusals.Memory = IsTurn opening old claim × (length old.history < history_limit)

@@ -10,7 +10,7 @@ ghost use Rattle.mj_sys.specs.Shared.{changed};
 use mj_ask::Reply;
 use mj_globs::Globals;
 use mj_store::{Access, Answer, Nodes, Store, perform};
-use mj_subs::{Name, SUBSCRIPT_LIMIT, Subs};
+use mj_subs::{Name, SUBSCRIPTS_LIMIT, Subs};
 use mj_text::{Failure, Fault, Text};
 use std::alloc::AllocError;
 
@@ -76,5 +76,5 @@ fn is_too_deep(name: &Name, nodes: &[(Subs, Text)]) -> bool
     let above = name.subscripts().len();
     nodes
         .iter()
-        .any(|node| SUBSCRIPT_LIMIT < above + node.0.len())
+        .any(|node| SUBSCRIPTS_LIMIT < above + node.0.len())
 }

@@ -1,8 +1,9 @@
 // What all jobs share, and the history of what they asked and were told.
 //
 // `specs/Shared.antt` has what is shared, the globals, the locks, who has which device, a row for each job and the transactions that are open, and
-// how an ask is answered on it (`served`); `specs/Transactions.antt` what it makes of an open transaction; `specs/Opening.antt` what is shared
-// when a system begins. `specs/History.antt` has what a history of events leaves of it, and when each event of one was served;
+// how an ask of it is answered (`answered`; `served` is so of any ask); `specs/Transactions.antt` what it makes of an open transaction;
+// `specs/Opening.antt` what is shared when a system begins. `specs/History.antt` has what a history of events leaves of it, and when each event of one
+// was served;
 // `specs/System.antt` what the type of the system keeps; `specs/Told.antt` what a call of `serve` tells. `specs/Passed.antt` has what the reads of open
 // transactions passed over, which the state keeps beside them and nothing above sees.
 // `proofs/Examples.antt` has worked examples of `served`.

@@ -2,27 +2,26 @@
 
 ghost use Rattle.std.specs.Prelude.{◌≡◌, ◌+◌, ◌≤◌, ◌↔◌, ℤ, length, map, replicate, false, true, None, Some, if◌then◌else◌, IfOk, IfErr, OnErr, IfSome, IfNone, IsTrue};
 ghost use Rattle.std.specs.Str.{bytes_eq};
-ghost use Rattle.mj_ask.specs.Fits.{is_shared};
-ghost use Rattle.mj_ask.specs.Late.{is_over};
-ghost use Rattle.mj_ask.specs.declared.ask.Ask.TheVariants as asks;
+ghost use Rattle.mj_ask.specs.Late.{is_timed_out};
+ghost use Rattle.mj_ask.specs.declared.ask.SharedAsk.TheVariants as shared_asks;
 ghost use Rattle.mj_dev.specs.Heard.{IsNew};
 ghost use Rattle.mj_dev.specs.Shelves.{principal, left_of};
 ghost use Rattle.mj_jobs.specs.Rows.{Row, row_at, IsLive};
 ghost use Rattle.mj_locktab.specs.Locks.{LocksApart};
 ghost use Rattle.mj_ask.specs.declared.ask.Reply.TheVariants as replies;
-ghost use Rattle.mj_sys.specs.Devices.{with_device, closed_by};
-ghost use Rattle.mj_sys.specs.Shared.{begun as begun_in, undone, halted, takes_session};
+ghost use Rattle.mj_sys.specs.Devices.{with_device, released_by};
+ghost use Rattle.mj_sys.specs.Shared.{transaction_begun as begun_in, undone, halted, moves_session};
 ghost use Rattle.mj_txlog.specs.declared.entry.Unlock.TheVariants as unlocks;
 ghost use Rattle.mj_sys.specs.declared.shared.Outcome.TheVariants as outcomes;
 ghost use Rattle.mj_sys.specs.Opening.{opening_of};
-ghost use Rattle.mj_sys.specs.Kept.{Comes, without};
+ghost use Rattle.mj_sys.specs.Kept.{ComesOfAsk, without};
 
 use crate::opening::Unmade;
 use crate::passed::none_passed;
 use crate::served::Held;
 use crate::transacted::Transacted;
 use crate::transactions::none_open;
-use mj_ask::{Ask, Kind, Names, Reply, Start};
+use mj_ask::{Kind, Names, Reply, SharedAsk, Start};
 use mj_dev::{Device, Pool, Session};
 use mj_globs::Globals;
 use mj_jobs::{Claimed, Jobs, ROWS_LIMIT};
@@ -174,10 +173,10 @@ impl<D: Device> Shared<D> {
     }
 
     // Whether a session goes to a job by this ask: it is to open a device that nobody holds, and of which a session is left.
-    pub fn takes_session(&self, ask: &Ask) -> bool
-        ensures { result ≡ takes_session self.now.state ask.now }
+    pub fn takes_session(&self, ask: &SharedAsk) -> bool
+        ensures { result ≡ moves_session self.now.state ask.now }
     {
-        let Ask::Open(name, _) = ask else {
+        let SharedAsk::Open(name, _) = ask else {
             return false;
         };
         if is_principal(self.alloc, name) {
@@ -215,11 +214,10 @@ impl<D: Device> Shared<D> {
     pub fn serve(
         &mut self,
         job: u32,
-        ask: &Ask,
+        ask: &SharedAsk,
         late: bool,
     ) -> Result<Outcome<Session<D>>, AllocError>
-        requires { is_shared ask.now ≡ true }
-        ensures ok { IfOk result (λ outcome. Comes self.old job ask.now late outcome self.new) }
+        ensures ok { IfOk result (λ outcome. ComesOfAsk self.old job ask.now late outcome self.new) }
         ensures apart { LocksApart self.new.state.locks }
         ensures err { OnErr result (self.new ≡ self.old) }
     {
@@ -229,48 +227,46 @@ impl<D: Device> Shared<D> {
     }
 
     // Answers it by its kind.
-    fn answer(&mut self, job: u32, ask: &Ask, late: bool) -> Result<Outcome<Session<D>>, AllocError>
-        requires { is_shared ask.now ≡ true }
-        ensures ok { IfOk result (λ outcome. Comes self.old job ask.now late outcome self.new) }
+    fn answer(
+        &mut self,
+        job: u32,
+        ask: &SharedAsk,
+        late: bool,
+    ) -> Result<Outcome<Session<D>>, AllocError>
+        ensures ok { IfOk result (λ outcome. ComesOfAsk self.old job ask.now late outcome self.new) }
         ensures err { OnErr result (self.new ≡ self.old) }
     {
         match ask {
-            Ask::Access(access) => self.access(job, access),
-            Ask::Try(names, timeout) => self.try_take(job, names, *timeout, late),
-            Ask::Unlock(names) => self.unlock(job, names),
-            Ask::UnlockAll => self.unlock_all(job),
-            Ask::Open(name, timeout) => self.open(job, name, *timeout, late),
-            Ask::Close(name) => {
+            SharedAsk::Access(access) => self.access(job, access),
+            SharedAsk::Try(names, timeout) => self.try_take(job, names, *timeout, late),
+            SharedAsk::Unlock(names) => self.unlock(job, names),
+            SharedAsk::UnlockAll => self.unlock_all(job),
+            SharedAsk::Open(name, timeout) => self.open(job, name, *timeout, late),
+            SharedAsk::Close(name) => {
                 self.close(job, name);
                 Ok(Outcome::Told(Reply::Done, Reply::Done))
             }
-            Ask::Start(start, timeout) => self.start(job, start, *timeout, late),
-            Ask::Halt(_) => {
+            SharedAsk::Start(start, timeout) => self.start(job, start, *timeout, late),
+            SharedAsk::Halt(_) => {
                 self.roll_back(job);
                 self.halt(job);
                 Ok(Outcome::Told(Reply::Done, Reply::Done))
             }
-            Ask::Begin(kind) => {
+            SharedAsk::Begin(kind) => {
                 self.begin(job, *kind);
                 Ok(Outcome::Told(Reply::Done, Reply::Done))
             }
-            Ask::Commit => self.commit(job),
-            Ask::Rollback => {
+            SharedAsk::Commit => self.commit(job),
+            SharedAsk::Rollback => {
                 self.roll_back(job);
                 Ok(Outcome::Told(Reply::Done, Reply::Done))
             }
-            Ask::DeviceBegin(_)
-            | Ask::DeviceWrite(_, _)
-            | Ask::DeviceLine(_, _)
-            | Ask::DeviceByte(_, _)
-            | Ask::DeviceEnd(_)
-            | Ask::Rest(_) => unreachable!(),
         }
     }
 
     // An access, in the job's transaction if it has one open.
     fn access(&mut self, job: u32, of: &Access) -> Result<Outcome<Session<D>>, AllocError>
-        ensures ok { IfOk result (λ outcome. Comes self.old job (asks.Access of.now) false outcome self.new) }
+        ensures ok { IfOk result (λ outcome. ComesOfAsk self.old job (shared_asks.Access of.now) false outcome self.new) }
         ensures err { OnErr result (self.new ≡ self.old) }
     {
         let (reply, again) = self.transacted.access(job, of)?;
@@ -285,7 +281,7 @@ impl<D: Device> Shared<D> {
         timeout: Option<Num>,
         late: bool,
     ) -> Result<Outcome<Session<D>>, AllocError>
-        ensures ok { IfOk result (λ outcome. Comes self.old job (asks.Try names.now timeout) late outcome self.new) }
+        ensures ok { IfOk result (λ outcome. ComesOfAsk self.old job (shared_asks.Try names.now timeout) late outcome self.new) }
         ensures err { OnErr result (self.new ≡ self.old) }
     {
         let taken = self
@@ -300,7 +296,7 @@ impl<D: Device> Shared<D> {
 
     // An unlock of names.
     fn unlock(&mut self, job: u32, names: &Names) -> Result<Outcome<Session<D>>, AllocError>
-        ensures ok { IfOk result (λ outcome. Comes self.old job (asks.Unlock names.now) false outcome self.new) }
+        ensures ok { IfOk result (λ outcome. ComesOfAsk self.old job (shared_asks.Unlock names.now) false outcome self.new) }
         ensures err { OnErr result (self.new ≡ self.old) }
     {
         let (reply, again) = self
@@ -311,7 +307,7 @@ impl<D: Device> Shared<D> {
 
     // An unlock of all names.
     fn unlock_all(&mut self, job: u32) -> Result<Outcome<Session<D>>, AllocError>
-        ensures ok { IfOk result (λ outcome. Comes self.old job asks.UnlockAll false outcome self.new) }
+        ensures ok { IfOk result (λ outcome. ComesOfAsk self.old job shared_asks.UnlockAll false outcome self.new) }
         ensures err { OnErr result (self.new ≡ self.old) }
     {
         let (reply, again) = self.transacted.unlock_all(&mut self.locks, job)?;
@@ -327,7 +323,7 @@ impl<D: Device> Shared<D> {
 
     // TCOMMIT: a transaction isn't open any more, and its changes are made where it doesn't clash.
     fn commit(&mut self, job: u32) -> Result<Outcome<Session<D>>, AllocError>
-        ensures ok { IfOk result (λ outcome. Comes self.old job asks.Commit false outcome self.new) }
+        ensures ok { IfOk result (λ outcome. ComesOfAsk self.old job shared_asks.Commit false outcome self.new) }
         ensures err { OnErr result (self.new ≡ self.old) }
     {
         let (reply, again) = self.transacted.commit(&mut self.locks, job)?;
@@ -349,7 +345,7 @@ impl<D: Device> Shared<D> {
         timeout: Option<Num>,
         late: bool,
     ) -> Result<Outcome<Session<D>>, AllocError>
-        ensures ok { IfOk result (λ outcome. Comes self.old job (asks.Open name.now timeout) late outcome self.new) }
+        ensures ok { IfOk result (λ outcome. ComesOfAsk self.old job (shared_asks.Open name.now timeout) late outcome self.new) }
         ensures err { OnErr result (self.new ≡ self.old) }
     {
         if is_principal(self.alloc, name) {
@@ -373,7 +369,7 @@ impl<D: Device> Shared<D> {
 
     // CLOSE of a name.
     fn close(&mut self, job: u32, name: &Text)
-        ensures { self.new ≡ record { state = record self.old.state { devices = with_device self.old.state.devices name.now (closed_by job) }; claimed = self.old.claimed } }
+        ensures { self.new ≡ record { state = record self.old.state { devices = with_device self.old.state.devices name.now (released_by job) }; claimed = self.old.claimed } }
     {
         if let Some(place) = self.pool.place(name) {
             release(&mut self.holders[place], job);
@@ -389,7 +385,7 @@ impl<D: Device> Shared<D> {
         timeout: Option<Num>,
         late: bool,
     ) -> Result<Outcome<Session<D>>, AllocError>
-        ensures ok { IfOk result (λ outcome. Comes self.old job (asks.Start start.now timeout) late outcome self.new) }
+        ensures ok { IfOk result (λ outcome. ComesOfAsk self.old job (shared_asks.Start start.now timeout) late outcome self.new) }
         ensures err { OnErr result (self.new ≡ self.old) }
     {
         let rows = self.jobs.len();
@@ -419,9 +415,9 @@ impl<D: Device> Shared<D> {
 
 // An ask that another job is in the way of. Where its timeout is over it is told so.
 fn busy<S>(timeout: Option<Num>, late: bool, holder: u32, held: Held) -> Outcome<S>
-    ensures { result ≡ (if is_over timeout late then outcomes.Told replies.Late replies.Late else outcomes.Busy holder held) }
+    ensures { result ≡ (if is_timed_out timeout late then outcomes.Told replies.Late replies.Late else outcomes.Busy holder held) }
 {
-    if is_over(timeout, late) {
+    if is_timed_out(timeout, late) {
         Outcome::Told(Reply::Late, Reply::Late)
     } else {
         Outcome::Busy(holder, held)
@@ -429,8 +425,8 @@ fn busy<S>(timeout: Option<Num>, late: bool, holder: u32, held: Held) -> Outcome
 }
 
 // Whether there is a timeout, and it is over.
-fn is_over(timeout: Option<Num>, late: bool) -> bool
-    ensures { result ≡ is_over timeout late }
+fn is_timed_out(timeout: Option<Num>, late: bool) -> bool
+    ensures { result ≡ is_timed_out timeout late }
 {
     match timeout {
         None => false,

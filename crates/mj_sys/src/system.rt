@@ -2,6 +2,7 @@
 
 ghost use Rattle.std.specs.Prelude.{◌≡◌, ℕ, true, ◌+◌, ◌<◌, ◌≤◌, ◌↔◌, ◌-◌, ◌^◌, ◌∷◌, ◌++◌, [], length, slice_set, slice_index_or, vec_len, vec_capacity, Some, IfOk, IfErr, OnOk, OnErr, IfSome, IfNone, IsTrue};
 ghost use Rattle.mj_ask.specs.Fits.{is_shared};
+ghost use Rattle.mj_ask.specs.declared.ask.Ask.TheVariants as asks;
 ghost use Rattle.mj_dev.specs.Heard.{IsNew};
 ghost use Rattle.mj_dev.specs.Shelves.{principal, left_of};
 ghost use Rattle.mj_jobs.specs.Rows.{Row, row_at, IsLive, rows_limit};
@@ -10,8 +11,8 @@ ghost use Rattle.mj_sys.specs.Opening.{opening_of};
 ghost use Rattle.mj_sys.specs.Shared.{are_global, takes_session};
 ghost use Rattle.mj_sys.specs.History.{state_of, AreServed, events_of, log_of};
 ghost use Rattle.mj_sys.specs.System.{history_limit, KeepsRows};
-ghost use Rattle.mj_sys.specs.Told.{Serves, IsRefused, IsTurn};
-ghost use Rattle.mj_sys.specs.Kept.{Goes, IsWritten, kept_reply, told_of};
+ghost use Rattle.mj_sys.specs.Told.{Serves, IsServiceRefused, IsTurn};
+ghost use Rattle.mj_sys.specs.Kept.{ServesAndRecords, IsWrittenDown, kept_reply, told_of};
 ghost use Rattle.mj_sys.specs.declared.served.Refused.TheVariants as refusals;
 
 use crate::claim::Claim;
@@ -19,7 +20,7 @@ use crate::event::Event;
 use crate::opening::{Opening, Unmade};
 use crate::served::{Refused, Served};
 use crate::shared::{Outcome, Shared};
-use mj_ask::{Ask, Reply, Start};
+use mj_ask::{Ask, Reply, SharedAsk, Start};
 use mj_dev::{Device, Pool, Session};
 use mj_globs::Globals;
 use mj_locktab::LockTable;
@@ -40,14 +41,14 @@ pub struct System<D: Device, O: Opening> {
 }
 
 impl<D: Device, O: Opening> Model for System<D, O> {
-    ghost use Rattle.mj_sys.specs.System.{Recorded, IsKept, AreCounts};
+    ghost use Rattle.mj_sys.specs.System.{Recorded, MatchesHistory, AreCounts};
 
     ghost Value = { Recorded };
 
     ghost view = { λ s. record { history = s.history.items; claimed = s.shared.claimed } };
 
     ghost invariant = { λ s.
-        IsKept O.opening s.shared.state (record { history = s.history.items; claimed = s.shared.claimed })
+        MatchesHistory O.opening s.shared.state (record { history = s.history.items; claimed = s.shared.claimed })
         × AreCounts s.counts.items (record { history = s.history.items; claimed = s.shared.claimed }) };
 }
 
@@ -100,22 +101,24 @@ impl<D: Device, O: Opening> System<D, O> {
     pub fn takes_session(&self, ask: &Ask) -> bool
         ensures { result ≡ takes_session (state_of O.opening self.now.history) ask.now }
     {
-        self.shared.takes_session(ask)
+        match ask {
+            Ask::Shared(ask) => self.shared.takes_session(ask),
+            Ask::Device(_, _) | Ask::Rest(_) => false,
+        }
     }
 
-    /// Serves an ask of a claim's job. Where it is busy for another job, and has a timeout that is over, or is said to be `late`, it is told
-    /// that it is late. What can be refused is refused in this order: a claim whose row wasn't claimed here, whose job has ended or has another
-    /// number of events, a history that is full, and memory; then nothing changes. A claim doesn't know whose it is: one of another system is
-    /// refused only where it is told apart by these.
-    pub fn serve(
+    /// Serves an ask of a claim's job to what all jobs share. Where it is busy for another job, and has a timeout that is over, or is said to be
+    /// `late`, it is told that it is late. What can be refused is refused in this order: a claim whose row wasn't claimed here, whose job has ended
+    /// or has another number of events, a history that is full, and memory; then nothing changes. A claim doesn't know whose it is: one of another
+    /// system is refused only where it is told apart by these.
+    pub fn serve_shared(
         &mut self,
         claim: &mut Claim,
-        ask: &Ask,
+        ask: &SharedAsk,
         late: bool,
     ) -> Result<Served<Session<D>>, Refused>
-        requires { is_shared ask.now ≡ true }
-        ensures ok { IfOk result (λ told. Serves O.opening self.old claim.old ask.now late told self.new claim.new) }
-        ensures refused { IfErr result (λ why. IsRefused O.opening self.old claim.old why) }
+        ensures ok { IfOk result (λ told. Serves O.opening self.old claim.old (asks.Shared ask.now) late told self.new claim.new) }
+        ensures refused { IfErr result (λ why. IsServiceRefused O.opening self.old claim.old why) }
         ensures kept { OnErr result ((self.new ≡ self.old) × (claim.new ≡ claim.old)) }
     {
         if !self.is_turn(claim) {
@@ -134,6 +137,24 @@ impl<D: Device, O: Opening> System<D, O> {
             ask,
             late,
         )
+    }
+
+    /// Serves an ask of a claim's job that goes to what all jobs share, as `serve_shared` does.
+    pub fn serve(
+        &mut self,
+        claim: &mut Claim,
+        ask: &Ask,
+        late: bool,
+    ) -> Result<Served<Session<D>>, Refused>
+        requires { is_shared ask.now ≡ true }
+        ensures ok { IfOk result (λ told. Serves O.opening self.old claim.old ask.now late told self.new claim.new) }
+        ensures refused { IfErr result (λ why. IsServiceRefused O.opening self.old claim.old why) }
+        ensures kept { OnErr result ((self.new ≡ self.old) × (claim.new ≡ claim.old)) }
+    {
+        match ask {
+            Ask::Shared(ask) => self.serve_shared(claim, ask, late),
+            Ask::Device(_, _) | Ask::Rest(_) => unreachable!(),
+        }
     }
 
     // Whether it is the claim's turn.
@@ -217,14 +238,13 @@ fn serve_next<D: Device>(
     history: &mut Vec<Event>,
     counts: &mut Vec<u64>,
     claim: &mut Claim,
-    ask: &Ask,
+    ask: &SharedAsk,
     late: bool,
 ) -> Result<Served<Session<D>>, Refused>
-    requires shared { is_shared ask.now ≡ true }
     requires place { claim.old.job ≤ length counts.old.items }
     requires few { slice_index_or counts.old.items (claim.old.job - 1) 0 < 2 ^ 64 - 1 }
     requires few_claimed { claim.old.events < 2 ^ 64 - 1 }
-    ensures ok { IfOk result (λ told. Goes shared.old history.old.items counts.old.items claim.old ask.now late told shared.new history.new.items counts.new.items claim.new) }
+    ensures ok { IfOk result (λ told. ServesAndRecords shared.old history.old.items counts.old.items claim.old ask.now late told shared.new history.new.items counts.new.items claim.new) }
     ensures apart { LocksApart shared.new.state.locks }
     ensures err { IfErr result (λ why. why ≡ refusals.Memory) }
     ensures kept { OnErr result ((shared.new ≡ shared.old) × (history.new.items ≡ history.old.items) × (counts.new.items ≡ counts.old.items) × (claim.new ≡ claim.old)) }
@@ -246,13 +266,13 @@ fn serve_next<D: Device>(
 }
 
 // Makes room for an event of this ask, and copies it.
-fn room_and_copy(history: &mut Vec<Event>, ask: &Ask) -> Result<Ask, AllocError>
+fn room_and_copy(history: &mut Vec<Event>, ask: &SharedAsk) -> Result<Ask, AllocError>
     ensures same { history.new.items ≡ history.old.items }
     ensures room { OnOk result (vec_len history.new < vec_capacity history.new) }
-    ensures copy { IfOk result (λ copy. copy ≡ ask.now) }
+    ensures copy { IfOk result (λ copy. copy ≡ asks.Shared ask.now) }
 {
     history.reserve(1)?;
-    ask.try_clone()
+    Ok(Ask::Shared(ask.try_clone()?))
 }
 
 // Tells what came of an ask, and writes it down.
@@ -268,7 +288,7 @@ fn tell<S>(
     requires few { slice_index_or counts.old.items (claim.old.job - 1) 0 < 2 ^ 64 - 1 }
     requires few_claimed { claim.old.events < 2 ^ 64 - 1 }
     ensures told { result ≡ told_of outcome }
-    ensures written { IsWritten (kept_reply outcome) ask history.old.items counts.old.items claim.old history.new.items counts.new.items claim.new }
+    ensures written { IsWrittenDown (kept_reply outcome) ask history.old.items counts.old.items claim.old history.new.items counts.new.items claim.new }
 {
     match outcome {
         Outcome::Told(reply, again) => {

@@ -2,11 +2,11 @@
 
 ghost use Rattle.std.specs.Prelude.{◌≡◌, ◌++◌, ◌-◌, ◌∷◌, [], length, take, None, IfOk, OnOk, OnErr};
 ghost use Rattle.mj_ask.specs.declared.ask.Reply.TheVariants as replies;
-ghost use Rattle.mj_locktab.specs.Tries.{outcome_of as try_of, after_try, Tells};
+ghost use Rattle.mj_locktab.specs.Tries.{outcome_of as try_of, after_try, TryGives};
 ghost use Rattle.mj_txlog.specs.declared.entry.Unlock.TheVariants as unlocks;
 ghost use Rattle.mj_sys.specs.Transactions.{transaction_of, with_transaction, told_to, with_access, unlock_told, after_unlock, with_waiting, begun_as, closed_as, locks_back};
 ghost use Rattle.mj_sys.specs.Shared.{globals_after};
-ghost use Rattle.mj_sys.specs.Kept.{after_taken};
+ghost use Rattle.mj_sys.specs.Kept.{transaction_after_try};
 ghost use Rattle.mj_sys.specs.Passed.{ArePassed};
 
 use crate::passed::{Passed, forget};
@@ -120,8 +120,8 @@ impl Transacted {
     ) -> Result<Taken, AllocError>
         ensures taken { IfOk result (λ taken. taken ≡ try_of locks.old job names.now) }
         ensures locks { OnOk result (locks.new ≡ after_try locks.old job names.now) }
-        ensures meaning { IfOk result (λ taken. Tells locks.old job names.now taken locks.new) }
-        ensures after { IfOk result (λ taken. self.new ≡ record { globals = self.old.globals; transactions = with_transaction self.old.transactions job (after_taken (transaction_of self.old.transactions job) names.now taken) }) }
+        ensures meaning { IfOk result (λ taken. TryGives locks.old job names.now taken locks.new) }
+        ensures after { IfOk result (λ taken. self.new ≡ record { globals = self.old.globals; transactions = with_transaction self.old.transactions job (transaction_after_try (transaction_of self.old.transactions job) names.now taken) }) }
         ensures err { OnErr result ((locks.new ≡ locks.old) × (self.new ≡ self.old)) }
     {
         let mut own = take_out(&mut self.logs, job);

@@ -2,13 +2,13 @@
 
 ghost use Rattle.std.specs.Prelude.{◌≡◌, ◌≤◌, ◌<◌, ℕ, suc, length, replicate, None, IfOk, OnOk, OnErr, IfSome, IfNone};
 ghost use Rattle.mj_ask.specs.declared.ask.Reply.TheVariants as replies;
-ghost use Rattle.mj_locktab.specs.Tries.{outcome_of as try_of, after_try, Tells};
+ghost use Rattle.mj_locktab.specs.Tries.{outcome_of as try_of, after_try, TryGives};
 ghost use Rattle.mj_txlog.specs.declared.entry.Unlock.TheVariants as unlocks;
 ghost use Rattle.mj_sys.specs.Transactions.{transaction_of, with_transaction, told_to, with_access, unlock_told, after_unlock, with_waiting, begun_as, closed_as, locks_back};
 ghost use Rattle.mj_sys.specs.Shared.{changed, globals_after};
 ghost use Rattle.mj_sys.specs.Passed.{IsCounted, IsPassed};
 ghost use Rattle.mj_store.specs.Runs.{answer_of};
-ghost use Rattle.mj_sys.specs.Kept.{after_taken, as_reply};
+ghost use Rattle.mj_sys.specs.Kept.{transaction_after_try, as_reply};
 
 use crate::accessed::answer;
 use crate::passed::{Passed, count, count_write};
@@ -142,8 +142,8 @@ pub fn try_take(
 ) -> Result<Taken, AllocError>
     ensures taken { IfOk result (λ taken. taken ≡ try_of locks.old job names.now) }
     ensures locks { OnOk result (locks.new ≡ after_try locks.old job names.now) }
-    ensures meaning { IfOk result (λ taken. Tells locks.old job names.now taken locks.new) }
-    ensures own { IfOk result (λ taken. own.new ≡ after_taken own.old names.now taken) }
+    ensures meaning { IfOk result (λ taken. TryGives locks.old job names.now taken locks.new) }
+    ensures own { IfOk result (λ taken. own.new ≡ transaction_after_try own.old names.now taken) }
     ensures err { OnErr result ((locks.new ≡ locks.old) × (own.new ≡ own.old)) }
 {
     match own {

@@ -94,7 +94,8 @@ module _ (part : List ℕ) where
   FindsNeedle-find_from hay start r h = IsFirst-same _ _ _ r _ h (find_from-FindsNeedle hay start)
 
 -- what the search of a slice from `start` on says of the text
-pub FindsNeedle-text : (text part hay needle : List ℕ) (start : ℕ) → hay ≡ text → needle ≡ part → start ≤ length hay → (r : Option ℕ) → FindsNeedle (take (length hay - start) (drop start hay)) needle 0 r → FindsNeedle text part start (option_map (λ k. k + start) r)
+pub FindsNeedle-text : (text part hay needle : List ℕ) (start : ℕ) → hay ≡ text → needle ≡ part → start ≤ length hay → (r : Option ℕ)
+    → FindsNeedle (take (length hay - start) (drop start hay)) needle 0 r → FindsNeedle text part start (option_map (λ k. k + start) r)
 FindsNeedle-text text part hay needle start same_text same_part within r h =
     let Found : List ℕ → List ℕ → Type 0 = λ xs ys. FindsNeedle xs ys start (option_map (λ k. k + start) r) in
     let rest = subst (λ (xs : List ℕ). FindsNeedle xs needle 0 r) (take_rest hay start) h in

@@ -3,6 +3,7 @@ use Rattle.std.specs.Prelude.{ℕ, ℤ, pos, negsuc, ◌≤◌, ◌≤ℤ◌, Li
 use Rattle.std.specs.Arc.{arc_value}
 use Rattle.std.specs.Fmt.{signed_decimal}
 use Rattle.mj_text.specs.declared.text.TheConstants.{TEXT_LIMIT}
+use Rattle.mj_text.specs.declared.short.TheConstants.{SHORT_LIMIT}
 use Rattle.mj_text.specs.declared.text.Kept.{Kept}
 use Rattle.mj_text.specs.declared.text.Kept.TheVariants.{Number, Short, Long}
 use Rattle.mj_text.specs.Short.{short_bytes}
@@ -18,7 +19,7 @@ bytes_of (Short s) = short_bytes s
 bytes_of (Long shared) = (arc_value shared).items
 
 -- what is kept is a whole number, or bytes within the limit
-abbrev pub IsWithin : Kept → Type 0
-IsWithin (Number n) = IsWhole n
-IsWithin (Short s) = s.len ≤ 15
-IsWithin (Long shared) = length ((arc_value shared).items) ≤ TEXT_LIMIT
+abbrev pub IsTextWithin : Kept → Type 0
+IsTextWithin (Number n) = IsWhole n
+IsTextWithin (Short s) = s.len ≤ SHORT_LIMIT
+IsTextWithin (Long shared) = length ((arc_value shared).items) ≤ TEXT_LIMIT

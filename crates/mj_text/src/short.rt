@@ -2,6 +2,7 @@
 
 ghost use Rattle.std.specs.Prelude.{◌≡◌, ◌≤◌, ◌+◌, ◌++◌, length, IsTrue};
 ghost use Rattle.std.specs.Str.{bytes_eq};
+ghost use Rattle.mj_text.specs.declared.short.TheConstants.{SHORT_LIMIT};
 
 /// The greatest number of bytes that take no memory: with their number they are two words.
 pub(crate) const SHORT_LIMIT: usize = 15;
@@ -12,7 +13,7 @@ pub(crate) struct Short {
     _start: [u64; 0],
     len: u8,
     room: [u8; SHORT_LIMIT],
-    ghost fits: { len ≤ 15 },
+    ghost fits: { len ≤ SHORT_LIMIT },
 }
 
 impl Short {
@@ -72,7 +73,7 @@ impl Short {
         alike
     }
 
-    // The same, byte by byte.
+    // Whether they are the same bytes, looked at one by one.
     #[inline(never)]
     fn has_bytes_of(&self, other: &Short) -> bool
         ensures { result ≡ bytes_eq (short_bytes self.now) (short_bytes other.now) }

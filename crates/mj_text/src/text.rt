@@ -62,11 +62,11 @@ impl Model for Text {
 
     ghost Value = { List ℕ };
 
-    ghost use Rattle.mj_text.specs.Kept.{bytes_of, IsWithin};
+    ghost use Rattle.mj_text.specs.Kept.{bytes_of, IsTextWithin};
 
     ghost view = { λ t. bytes_of t.kept };
 
-    ghost invariant = { λ t. IsWithin t.kept };
+    ghost invariant = { λ t. IsTextWithin t.kept };
 }
 
 impl Text {
@@ -220,8 +220,8 @@ impl Text {
         self.append_anew(other)
     }
 
-    // The same of few bytes, or of bytes that others share, which are copied. There is room behind the copy then, since what was put to a text once
-    // often is again.
+    // Puts the bytes of `other` behind few bytes, or behind bytes that others share, which are copied. There is room behind the copy then, since what was
+    // put to a text once often is again.
     fn append_anew(&mut self, other: &Text) -> Result<(), Failure>
         ensures ok { OnOk result (self.new ≡ self.old ++ other.now) }
         ensures long { (result ≡ Err (failure.Fault fault.Length)) ↔ (TEXT_LIMIT < length self.old + length other.now) }
@@ -281,7 +281,7 @@ impl Text {
         }
     }
 
-    /// The same text once more.
+    /// A copy.
     pub fn try_clone(&self) -> Result<Text, AllocError>
         ensures { IfOk result (λ t. t ≡ self.now) }
     {
@@ -306,7 +306,7 @@ impl Text {
         }
     }
 
-    // The same of two texts of which one may have to be spelled.
+    // How it compares with `other` byte by byte, where one of them may have to be spelled.
     #[inline(never)]
     fn cmp_spelled(&self, other: &Text) -> Ordering
         ensures { result ≡ slice_cmp nat_cmp self.now other.now }

@@ -19,7 +19,7 @@ use Rattle.mj_trace.specs.declared.refusal.TraceError.TheVariants as errors
 use Rattle.mj_trace.specs.declared.run.Run.TheVariants as runs
 use Rattle.mj_trace.specs.Spelling.{event_text}
 use Rattle.mj_trace.specs.Trace.{Traced, header, pool_line, start_line}
-use Rattle.mj_trace.specs.Reading.{onward, front, behind, skipped, count_in, text_in, ask_in, reply_in}
+use Rattle.mj_trace.specs.Reading.{onward, front, behind_bytes, skipped, count_in, text_in, ask_in, reply_in}
 
 -- ---- one line
 
@@ -43,11 +43,11 @@ is_piece (pieces.Device name count) = true
 is_piece (pieces.Start entry) = is_entry entry
 is_piece (pieces.Event job ask reply) = are_told ask reply
 
-abbrev pub told : ℕ → Ask → List ℕ → Option Piece
-told job ask rest = option_map (λ reply. pieces.Event job ask reply) (reply_in ask (skipped rest))
+abbrev pub event_piece : ℕ → Ask → List ℕ → Option Piece
+event_piece job ask rest = option_map (λ reply. pieces.Event job ask reply) (reply_in ask (skipped rest))
 
 abbrev pub asked : ℕ → List ℕ → Option Piece
-asked job rest = onward (told job) (ask_in (skipped rest))
+asked job rest = onward (event_piece job) (ask_in (skipped rest))
 
 -- an event
 abbrev pub event_in : List ℕ → Option Piece
@@ -71,7 +71,7 @@ piece_with line word rest =
 
 -- what a line may say
 abbrev pub piece_in : List ℕ → Option Piece
-piece_in line = piece_with line (front runs.Letters line) (behind runs.Letters line)
+piece_in line = piece_with line (front runs.Letters line) (behind_bytes runs.Letters line)
 
 -- what was found, where it is spelled so
 abbrev pub respelled : List ℕ → Option Piece → Option Piece

@@ -23,6 +23,10 @@ use Rattle.mj_ask.specs.declared.clash.Kept.{Kept}
 use Rattle.mj_ask.specs.declared.clash.Kept.TheVariants as kepts
 use Rattle.mj_ask.specs.declared.ask.Ask.{Ask}
 use Rattle.mj_ask.specs.declared.ask.Ask.TheVariants as asks
+use Rattle.mj_ask.specs.declared.ask.SharedAsk.{SharedAsk}
+use Rattle.mj_ask.specs.declared.ask.SharedAsk.TheVariants as shared_asks
+use Rattle.mj_ask.specs.declared.ask.DeviceAsk.{DeviceAsk}
+use Rattle.mj_ask.specs.declared.ask.DeviceAsk.TheVariants as device_asks
 use Rattle.mj_ask.specs.declared.ask.Reply.{Reply}
 use Rattle.mj_ask.specs.declared.ask.Reply.TheVariants as replies
 use Rattle.mj_gfile.specs.declared.field.Field.{Field}
@@ -50,8 +54,8 @@ is_in runs.Filled c = not (c == 32)
 abbrev pub front : Run → List ℕ → List ℕ
 front run bs = front_by (is_in run) bs
 
-abbrev pub behind : Run → List ℕ → List ℕ
-behind run bs = rest_by (is_in run) bs
+abbrev pub behind_bytes : Run → List ℕ → List ℕ
+behind_bytes run bs = rest_by (is_in run) bs
 
 -- what follows the first byte
 abbrev pub skipped : List ℕ → List ℕ
@@ -71,7 +75,7 @@ number_read (Err fault) rest = None
 
 -- the number at the front
 abbrev pub number_in : List ℕ → Option (ℤ × List ℕ)
-number_in bs = number_read (reading (front runs.Number bs)) (behind runs.Number bs)
+number_in bs = number_read (reading (front runs.Number bs)) (behind_bytes runs.Number bs)
 
 -- a number without a sign that is below this one
 abbrev pub below : ℕ → ℤ → List ℕ → Option (ℕ × List ℕ)
@@ -142,7 +146,7 @@ name_of global word rest =
     else None
 
 abbrev pub name_on : Bool → List ℕ → Option (Name × List ℕ)
-name_on global bs = name_of global (front runs.Word bs) (behind runs.Word bs)
+name_on global bs = name_of global (front runs.Word bs) (behind_bytes runs.Word bs)
 
 -- the name at the front
 abbrev pub name_in : List ℕ → Option (Name × List ℕ)
@@ -192,14 +196,17 @@ timed bs (Some p) = (Some p.0, p.1)
 abbrev pub timeout_in : List ℕ → Option ℤ × List ℕ
 timeout_in bs = if begins_with 58 (skipped bs) then timed bs (number_in (skipped (skipped bs))) else (None, bs)
 
-abbrev pub started : Option Entry → List ℕ → Option (Ask × List ℕ)
+-- an ask that its timeout ends, if there is one
+abbrev pub timed_by : {A : Type 0} → (Option ℤ → A) → List ℕ → Option (A × List ℕ)
+timed_by ask bs = Some (ask (timeout_in bs).0, (timeout_in bs).1)
+
+abbrev pub started : Option Entry → List ℕ → Option (SharedAsk × List ℕ)
 started None rest = None
-started (Some entry) rest =
-    onward (λ values more. Some (asks.Start (record { entry = entry; values = values }) (timeout_in more).0, (timeout_in more).1)) (values_in (skipped rest))
+started (Some entry) rest = onward (λ values. timed_by (shared_asks.Start (record { entry = entry; values = values }))) (values_in (skipped rest))
 
 -- the start of another job, behind its word
-abbrev pub start_in : List ℕ → Option (Ask × List ℕ)
-start_in bs = started (entry_of (front runs.Filled bs)) (behind runs.Filled bs)
+abbrev pub start_in : List ℕ → Option (SharedAsk × List ℕ)
+start_in bs = started (entry_of (front runs.Filled bs)) (behind_bytes runs.Filled bs)
 
 -- ---- faults
 
@@ -229,30 +236,14 @@ fault_of n =
     else (if n == 21 then Some faults.Char
     else (if n == 22 then Some faults.Params else None)))))))))))))))))))))
 
-abbrev pub halted : ℕ → List ℕ → Option (Ask × List ℕ)
-halted n rest = option_map (λ fault. (asks.Halt (Some fault), rest)) (fault_of n)
+abbrev pub halted : ℕ → List ℕ → Option (SharedAsk × List ℕ)
+halted n rest = option_map (λ fault. (shared_asks.Halt (Some fault), rest)) (fault_of n)
 
 -- the end of a job, behind its word: by a fault or by none
-abbrev pub halt_in : List ℕ → Option (Ask × List ℕ)
-halt_in bs = if begins_with 70 (skipped bs) then onward halted (count_in (skipped (skipped bs))) else Some (asks.Halt None, bs)
+abbrev pub halt_in : List ℕ → Option (SharedAsk × List ℕ)
+halt_in bs = if begins_with 70 (skipped bs) then onward halted (count_in (skipped (skipped bs))) else Some (shared_asks.Halt None, bs)
 
--- ---- asks
-
--- what is asked of a device, by the word for it
-abbrev pub device_with : List ℕ → List ℕ → List ℕ → Option (Ask × List ℕ)
-device_with device word rest =
-    if bytes_eq word (codes "begin") then Some (asks.DeviceBegin device, rest)
-    else (if bytes_eq word (codes "end") then Some (asks.DeviceEnd device, rest)
-    else (if bytes_eq word (codes "line") then Some (asks.DeviceLine device (timeout_in rest).0, (timeout_in rest).1)
-    else (if bytes_eq word (codes "byte") then Some (asks.DeviceByte device (timeout_in rest).0, (timeout_in rest).1)
-    else (if bytes_eq word (codes "write") then option_map (λ p. (asks.DeviceWrite device p.0, p.1)) (text_in (skipped rest)) else None))))
-
-abbrev pub device_on : List ℕ → List ℕ → Option (Ask × List ℕ)
-device_on device rest = device_with device (front runs.Letters (skipped rest)) (behind runs.Letters (skipped rest))
-
--- what is asked of a device, behind the word for devices
-abbrev pub device_in : List ℕ → Option (Ask × List ℕ)
-device_in bs = onward device_on (text_in bs)
+-- ---- what is asked of what all jobs share
 
 abbrev pub way_of : ℤ → Direction
 way_of n = if int_lt n (pos 0) then directions.Backward else directions.Forward
@@ -269,49 +260,82 @@ access_with word name rest =
     else (if bytes_eq word (codes "set") then option_map (λ p. (accesses.Set name p.0, p.1)) (text_in (skipped rest))
     else (if bytes_eq word (codes "put") then option_map (λ p. (accesses.Put name p.0, p.1)) (subtree_in (skipped rest)) else None)))))))
 
-abbrev pub begun : List ℕ → List ℕ → List ℕ → Option (Ask × List ℕ)
-begun rest word more = if bytes_eq word (codes "serial") then Some (asks.Begin kinds.Serial, more) else Some (asks.Begin kinds.Plain, rest)
+-- an access, whose word stands before
+abbrev pub access_in : List ℕ → List ℕ → Option (SharedAsk × List ℕ)
+access_in word bs = option_map (λ p. (shared_asks.Access p.0, p.1)) (onward (access_with word) (name_in bs))
+
+-- the begin of a transaction, by the word behind it and what follows that
+abbrev pub begin_in : List ℕ → List ℕ → List ℕ → Option (SharedAsk × List ℕ)
+begin_in rest word more = if bytes_eq word (codes "serial") then Some (shared_asks.Begin kinds.Serial, more) else Some (shared_asks.Begin kinds.Plain, rest)
 
 -- the names to unlock, or all
-abbrev pub unlock_in : List ℕ → Option (Ask × List ℕ)
-unlock_in bs = if begins_with 42 bs then Some (asks.UnlockAll, skipped bs) else option_map (λ p. (asks.Unlock p.0, p.1)) (names_in bs)
+abbrev pub unlock_in : List ℕ → Option (SharedAsk × List ℕ)
+unlock_in bs = if begins_with 42 bs then Some (shared_asks.UnlockAll, skipped bs) else option_map (λ p. (shared_asks.Unlock p.0, p.1)) (names_in bs)
 
--- the names to take, a device that is opened or closed, and seconds to wait, each behind its word
-abbrev pub try_in : List ℕ → Option (Ask × List ℕ)
-try_in bs = option_map (λ p. (asks.Try p.0 (timeout_in p.1).0, (timeout_in p.1).1)) (names_in bs)
+-- the names to take, and a device that is opened or closed, each behind its word
+abbrev pub try_in : List ℕ → Option (SharedAsk × List ℕ)
+try_in bs = onward (λ names. timed_by (shared_asks.Try names)) (names_in bs)
 
-abbrev pub open_in : List ℕ → Option (Ask × List ℕ)
-open_in bs = option_map (λ p. (asks.Open p.0 (timeout_in p.1).0, (timeout_in p.1).1)) (text_in bs)
+abbrev pub open_in : List ℕ → Option (SharedAsk × List ℕ)
+open_in bs = onward (λ device. timed_by (shared_asks.Open device)) (text_in bs)
 
-abbrev pub close_in : List ℕ → Option (Ask × List ℕ)
-close_in bs = option_map (λ p. (asks.Close p.0, p.1)) (text_in bs)
+abbrev pub close_in : List ℕ → Option (SharedAsk × List ℕ)
+close_in bs = option_map (λ p. (shared_asks.Close p.0, p.1)) (text_in bs)
 
-abbrev pub rest_in : List ℕ → Option (Ask × List ℕ)
-rest_in bs = option_map (λ p. (asks.Rest p.0, p.1)) (number_in bs)
-
--- an access, whose word stands before
-abbrev pub access_in : List ℕ → List ℕ → Option (Ask × List ℕ)
-access_in word bs = option_map (λ p. (asks.Access p.0, p.1)) (onward (access_with word) (name_in bs))
-
--- an ask, by its first word: behind a word that is none of these stands the name of a global
-abbrev pub ask_with : List ℕ → List ℕ → Option (Ask × List ℕ)
-ask_with word rest =
-    if bytes_eq word (codes "dev") then device_in (skipped rest)
-    else (if bytes_eq word (codes "try") then try_in (skipped rest)
+-- what is asked of what all share, by its first word: behind a word that is none of these stands the name of a global
+abbrev pub shared_with : List ℕ → List ℕ → Option (SharedAsk × List ℕ)
+shared_with word rest =
+    if bytes_eq word (codes "try") then try_in (skipped rest)
     else (if bytes_eq word (codes "unlock") then unlock_in (skipped rest)
-    else (if bytes_eq word (codes "begin") then begun rest (front runs.Letters (skipped rest)) (behind runs.Letters (skipped rest))
-    else (if bytes_eq word (codes "commit") then Some (asks.Commit, rest)
-    else (if bytes_eq word (codes "rollback") then Some (asks.Rollback, rest)
+    else (if bytes_eq word (codes "begin") then begin_in rest (front runs.Letters (skipped rest)) (behind_bytes runs.Letters (skipped rest))
+    else (if bytes_eq word (codes "commit") then Some (shared_asks.Commit, rest)
+    else (if bytes_eq word (codes "rollback") then Some (shared_asks.Rollback, rest)
     else (if bytes_eq word (codes "open") then open_in (skipped rest)
     else (if bytes_eq word (codes "close") then close_in (skipped rest)
     else (if bytes_eq word (codes "start") then start_in (skipped rest)
-    else (if bytes_eq word (codes "rest") then rest_in (skipped rest)
     else (if bytes_eq word (codes "halt") then halt_in rest
-    else access_in word (skipped rest)))))))))))
+    else access_in word (skipped rest)))))))))
+
+-- ---- what is asked of a session of a device
+
+-- what is asked, by the word for it
+abbrev pub device_with : List ℕ → List ℕ → Option (DeviceAsk × List ℕ)
+device_with word rest =
+    if bytes_eq word (codes "begin") then Some (device_asks.Begin, rest)
+    else (if bytes_eq word (codes "end") then Some (device_asks.End, rest)
+    else (if bytes_eq word (codes "line") then timed_by device_asks.Line rest
+    else (if bytes_eq word (codes "byte") then timed_by device_asks.Byte rest
+    else (if bytes_eq word (codes "write") then option_map (λ p. (device_asks.Write p.0, p.1)) (text_in (skipped rest)) else None))))
+
+abbrev pub device_in : List ℕ → Option (DeviceAsk × List ℕ)
+device_in bs = device_with (front runs.Letters bs) (behind_bytes runs.Letters bs)
+
+-- ---- asks
+
+abbrev pub asked_of : List ℕ → List ℕ → Option (Ask × List ℕ)
+asked_of device rest = option_map (λ p. (asks.Device device p.0, p.1)) (device_in (skipped rest))
+
+-- an ask of a device, behind the word for devices: the name of the device, and what is asked
+abbrev pub on_device : List ℕ → Option (Ask × List ℕ)
+on_device bs = onward asked_of (text_in bs)
+
+-- seconds to wait, behind their word
+abbrev pub rest_in : List ℕ → Option (Ask × List ℕ)
+rest_in bs = option_map (λ p. (asks.Rest p.0, p.1)) (number_in bs)
+
+abbrev pub on_shared : Option (SharedAsk × List ℕ) → Option (Ask × List ℕ)
+on_shared o = option_map (λ p. (asks.Shared p.0, p.1)) o
+
+-- an ask, by its first word
+abbrev pub ask_with : List ℕ → List ℕ → Option (Ask × List ℕ)
+ask_with word rest =
+    if bytes_eq word (codes "dev") then on_device (skipped rest)
+    else (if bytes_eq word (codes "rest") then rest_in (skipped rest)
+    else on_shared (shared_with word rest))
 
 -- the ask at the front
 abbrev pub ask_in : List ℕ → Option (Ask × List ℕ)
-ask_in bs = ask_with (front runs.Letters bs) (behind runs.Letters bs)
+ask_in bs = ask_with (front runs.Letters bs) (behind_bytes runs.Letters bs)
 
 -- ---- replies
 
@@ -332,7 +356,7 @@ answer_in (accesses.Put n nodes) bs = None
 
 abbrev pub number_kept : List ℕ → Option (Kept × List ℕ)
 number_kept bs =
-    if is_absent (front runs.Number bs) then Some (kepts.Nothing, behind runs.Number bs) else option_map (λ p. (kepts.Number p.0, p.1)) (number_in bs)
+    if is_absent (front runs.Number bs) then Some (kepts.Nothing, behind_bytes runs.Number bs) else option_map (λ p. (kepts.Number p.0, p.1)) (number_in bs)
 
 -- what a clash keeps, at the front
 abbrev pub kept_in : List ℕ → Option (Kept × List ℕ)
@@ -349,27 +373,27 @@ clash_then place rest = onward (clash_now place) (kept_in (skipped rest))
 
 -- a clash, or a number of a job, behind its word
 abbrev pub clash_in : List ℕ → Option Reply
-clash_in bs = onward clash_then (count_in (skipped (behind runs.Letters bs)))
+clash_in bs = onward clash_then (count_in (skipped (behind_bytes runs.Letters bs)))
 
 abbrev pub job_in : List ℕ → Option Reply
-job_in bs = option_map (λ p. replies.Job p.0) (count_in (skipped (behind runs.Letters bs)))
+job_in bs = option_map (λ p. replies.Job p.0) (count_in (skipped (behind_bytes runs.Letters bs)))
 
 -- a reply that is no word
 abbrev pub given_in : Ask → List ℕ → Option Reply
-given_in (asks.Access a) bs = option_map replies.Answer (answer_in a bs)
-given_in (asks.DeviceLine device timeout) bs = option_map (λ p. replies.Line p.0) (text_in bs)
-given_in (asks.DeviceByte device timeout) bs = option_map (λ p. replies.Byte p.0) (code_in bs)
-given_in (asks.Start start timeout) bs = job_in bs
-given_in asks.Commit bs = clash_in bs
+given_in (asks.Shared (shared_asks.Access a)) bs = option_map replies.Answer (answer_in a bs)
+given_in (asks.Device device (device_asks.Line timeout)) bs = option_map (λ p. replies.Line p.0) (text_in bs)
+given_in (asks.Device device (device_asks.Byte timeout)) bs = option_map (λ p. replies.Byte p.0) (code_in bs)
+given_in (asks.Shared (shared_asks.Start start timeout)) bs = job_in bs
+given_in (asks.Shared shared_asks.Commit) bs = clash_in bs
 given_in _ bs = None
 
 -- that it is done, or that a limit is passed: an access is answered so
 abbrev pub done_of : Ask → Reply
-done_of (asks.Access a) = replies.Answer answers_are.Done
+done_of (asks.Shared (shared_asks.Access a)) = replies.Answer answers_are.Done
 done_of _ = replies.Done
 
 abbrev pub limit_of : Ask → Reply
-limit_of (asks.Access a) = replies.Answer answers_are.Limit
+limit_of (asks.Shared (shared_asks.Access a)) = replies.Answer answers_are.Limit
 limit_of _ = replies.Limit
 
 -- the reply to an ask

@@ -12,6 +12,10 @@ use Rattle.mj_ask.specs.declared.clash.Kept.{Kept}
 use Rattle.mj_ask.specs.declared.clash.Kept.TheVariants as kepts
 use Rattle.mj_ask.specs.declared.ask.Ask.{Ask}
 use Rattle.mj_ask.specs.declared.ask.Ask.TheVariants as asks
+use Rattle.mj_ask.specs.declared.ask.SharedAsk.{SharedAsk}
+use Rattle.mj_ask.specs.declared.ask.SharedAsk.TheVariants as shared_asks
+use Rattle.mj_ask.specs.declared.ask.DeviceAsk.{DeviceAsk}
+use Rattle.mj_ask.specs.declared.ask.DeviceAsk.TheVariants as device_asks
 use Rattle.mj_ask.specs.declared.ask.Reply.{Reply}
 use Rattle.mj_ask.specs.declared.ask.Reply.TheVariants as replies
 use Rattle.mj_gfile.specs.Listing.{is_text}
@@ -52,24 +56,28 @@ timeout_fits timeout = elim timeout [ None ↦ true | Some n ↦ is_in_range n ]
 abbrev pub value_fits : Option (List ℕ) → Bool
 value_fits value = elim value [ None ↦ true | Some t ↦ is_text t ]
 
+-- what is asked of what all jobs share
+abbrev pub shared_fits : SharedAsk → Bool
+shared_fits (shared_asks.Access a) = access_fits a
+shared_fits (shared_asks.Try names timeout) = list_all name_fits names && timeout_fits timeout
+shared_fits (shared_asks.Unlock names) = list_all name_fits names
+shared_fits (shared_asks.Open device timeout) = is_text device && timeout_fits timeout
+shared_fits (shared_asks.Close device) = is_text device
+shared_fits (shared_asks.Start start timeout) = list_all value_fits start.values && timeout_fits timeout
+shared_fits _ = true
+
+-- what is asked of a session of a device
+abbrev pub device_fits : DeviceAsk → Bool
+device_fits (device_asks.Write bytes) = is_text bytes
+device_fits (device_asks.Line timeout) = timeout_fits timeout
+device_fits (device_asks.Byte timeout) = timeout_fits timeout
+device_fits _ = true
+
+-- an ask, by who serves it
 abbrev pub ask_fits : Ask → Bool
-ask_fits (asks.DeviceBegin device) = is_text device
-ask_fits (asks.DeviceWrite device bytes) = is_text device && is_text bytes
-ask_fits (asks.DeviceLine device timeout) = is_text device && timeout_fits timeout
-ask_fits (asks.DeviceByte device timeout) = is_text device && timeout_fits timeout
-ask_fits (asks.DeviceEnd device) = is_text device
-ask_fits (asks.Access a) = access_fits a
-ask_fits (asks.Try names timeout) = list_all name_fits names && timeout_fits timeout
-ask_fits (asks.Unlock names) = list_all name_fits names
-ask_fits (asks.Open device timeout) = is_text device && timeout_fits timeout
-ask_fits (asks.Close device) = is_text device
-ask_fits (asks.Start start timeout) = list_all value_fits start.values && timeout_fits timeout
+ask_fits (asks.Shared a) = shared_fits a
+ask_fits (asks.Device device a) = is_text device && device_fits a
 ask_fits (asks.Rest n) = is_in_range n
-ask_fits asks.UnlockAll = true
-ask_fits (asks.Begin kind) = true
-ask_fits asks.Commit = true
-ask_fits asks.Rollback = true
-ask_fits (asks.Halt fault) = true
 
 abbrev pub answer_fits : Answer → Bool
 answer_fits (answers_are.Value v) = value_fits v

@@ -13,6 +13,7 @@ use Rattle.mj_store.specs.declared.access.Access.TheVariants as accesses
 use Rattle.mj_store.specs.declared.access.Answer.{Answer}
 use Rattle.mj_store.specs.declared.access.Answer.TheVariants as answers_are
 use Rattle.mj_ask.specs.Written.{entry_text}
+use Rattle.mj_ask.specs.Started.{Started}
 use Rattle.mj_ask.specs.declared.ask.Kind.{Kind}
 use Rattle.mj_ask.specs.declared.ask.Kind.TheVariants as kinds
 use Rattle.mj_ask.specs.declared.clash.Kept.{Kept}
@@ -20,6 +21,10 @@ use Rattle.mj_ask.specs.declared.clash.Kept.TheVariants as kepts
 use Rattle.mj_ask.specs.declared.clash.Clash.{Clash}
 use Rattle.mj_ask.specs.declared.ask.Ask.{Ask}
 use Rattle.mj_ask.specs.declared.ask.Ask.TheVariants as asks
+use Rattle.mj_ask.specs.declared.ask.SharedAsk.{SharedAsk}
+use Rattle.mj_ask.specs.declared.ask.SharedAsk.TheVariants as shared_asks
+use Rattle.mj_ask.specs.declared.ask.DeviceAsk.{DeviceAsk}
+use Rattle.mj_ask.specs.declared.ask.DeviceAsk.TheVariants as device_asks
 use Rattle.mj_ask.specs.declared.ask.Reply.{Reply}
 use Rattle.mj_ask.specs.declared.ask.Reply.TheVariants as replies
 use Rattle.mj_gfile.specs.Spelling.{listed_text, listed_subscript, listed_subscripts, listed_name}
@@ -113,28 +118,37 @@ abbrev pub fault_text : Option Fault → List ℕ
 fault_text None = []
 fault_text (Some f) = codes " F" ++ decimal (code_of f)
 
--- what is asked of a device's session
-abbrev pub device_text : List ℕ → List ℕ → List ℕ
-device_text device what = codes "dev " ++ listed_text device ++ spaced what
+-- the start of another job: where it starts, with which values, and how long it may wait for a place
+abbrev pub start_text : Started → Option ℤ → List ℕ
+start_text start timeout = codes "start " ++ entry_text start.entry ++ spaced (values_text start.values ++ timeout_text timeout)
 
+-- what is asked of what all jobs share
+abbrev pub shared_text : SharedAsk → List ℕ
+shared_text (shared_asks.Access a) = access_text a
+shared_text (shared_asks.Try names timeout) = codes "try " ++ names_text names ++ timeout_text timeout
+shared_text (shared_asks.Unlock names) = codes "unlock " ++ names_text names
+shared_text shared_asks.UnlockAll = codes "unlock *"
+shared_text (shared_asks.Begin kind) = codes "begin" ++ kind_text kind
+shared_text shared_asks.Commit = codes "commit"
+shared_text shared_asks.Rollback = codes "rollback"
+shared_text (shared_asks.Open device timeout) = codes "open " ++ listed_text device ++ timeout_text timeout
+shared_text (shared_asks.Close device) = codes "close " ++ listed_text device
+shared_text (shared_asks.Start start timeout) = start_text start timeout
+shared_text (shared_asks.Halt fault) = codes "halt" ++ fault_text fault
+
+-- what is asked of a session of a device
+abbrev pub device_text : DeviceAsk → List ℕ
+device_text device_asks.Begin = codes "begin"
+device_text (device_asks.Write bytes) = codes "write " ++ listed_text bytes
+device_text (device_asks.Line timeout) = codes "line" ++ timeout_text timeout
+device_text (device_asks.Byte timeout) = codes "byte" ++ timeout_text timeout
+device_text device_asks.End = codes "end"
+
+-- an ask, by who serves it
 abbrev pub ask_text : Ask → List ℕ
-ask_text (asks.DeviceBegin device) = device_text device (codes "begin")
-ask_text (asks.DeviceWrite device bytes) = device_text device (codes "write " ++ listed_text bytes)
-ask_text (asks.DeviceLine device timeout) = device_text device (codes "line" ++ timeout_text timeout)
-ask_text (asks.DeviceByte device timeout) = device_text device (codes "byte" ++ timeout_text timeout)
-ask_text (asks.DeviceEnd device) = device_text device (codes "end")
-ask_text (asks.Access a) = access_text a
-ask_text (asks.Try names timeout) = codes "try " ++ names_text names ++ timeout_text timeout
-ask_text (asks.Unlock names) = codes "unlock " ++ names_text names
-ask_text asks.UnlockAll = codes "unlock *"
-ask_text (asks.Begin kind) = codes "begin" ++ kind_text kind
-ask_text asks.Commit = codes "commit"
-ask_text asks.Rollback = codes "rollback"
-ask_text (asks.Open device timeout) = codes "open " ++ listed_text device ++ timeout_text timeout
-ask_text (asks.Close device) = codes "close " ++ listed_text device
-ask_text (asks.Start start timeout) = codes "start " ++ entry_text start.entry ++ spaced (values_text start.values ++ timeout_text timeout)
+ask_text (asks.Shared a) = shared_text a
+ask_text (asks.Device device a) = codes "dev " ++ listed_text device ++ spaced (device_text a)
 ask_text (asks.Rest n) = codes "rest " ++ signed_decimal n
-ask_text (asks.Halt fault) = codes "halt" ++ fault_text fault
 
 -- ---- replies
 

@@ -2,20 +2,20 @@
 
 ghost use Rattle.std.specs.Prelude.{◌≡◌, Some, IfOk};
 ghost use Rattle.std.specs.Option.{option_map};
-ghost use Rattle.mj_trace.specs.Reading.{try_in, open_in, close_in, rest_in, access_in};
-ghost use Rattle.mj_trace.specs.Reading.{timeout_in, start_in, fault_of, halt_in, device_with, device_in, way_of, access_with, begun, unlock_in, ask_with, ask_in};
+ghost use Rattle.mj_trace.specs.Reading.{timeout_in, start_in, fault_of, halt_in, way_of, access_with, access_in, begin_in, unlock_in, try_in, open_in};
+ghost use Rattle.mj_trace.specs.Reading.{close_in, shared_with, device_with, device_in, on_device, rest_in, ask_with, ask_in};
 
 use crate::found::{Found, find_text, read_count, read_number};
 use crate::members::{find_name, find_names, find_subtree, find_values};
 use crate::run::{Run, begins_with, skip, split};
-use mj_ask::{Ask, Entry, Kind, Start};
+use mj_ask::{Ask, DeviceAsk, Entry, Kind, SharedAsk, Start};
 use mj_num::Num;
 use mj_store::{Access, Direction};
 use mj_subs::Name;
-use mj_text::{Fault, Text};
+use mj_text::Fault;
 use std::alloc::{AllocError, Global};
 
-/// The ask at the front.
+/// Finds the ask at the front.
 pub(crate) fn find_ask<'a>(alloc: Global, bytes: &'a [u8]) -> Result<Found<'a, Ask>, AllocError>
     ensures { IfOk result (λ r. option_map (λ p. (p.0, p.1.now)) r ≡ ask_in bytes.now) }
 {
@@ -23,7 +23,7 @@ pub(crate) fn find_ask<'a>(alloc: Global, bytes: &'a [u8]) -> Result<Found<'a, A
     find_ask_with(alloc, word, rest)
 }
 
-// The ask with this word.
+// Finds the ask with this word.
 fn find_ask_with<'a>(
     alloc: Global,
     word: &[u8],
@@ -33,7 +33,25 @@ fn find_ask_with<'a>(
 {
     if word == b"dev".as_slice() {
         find_device(alloc, skip(rest))
-    } else if word == b"try".as_slice() {
+    } else if word == b"rest".as_slice() {
+        Ok(find_rest(skip(rest)))
+    } else {
+        match find_shared(alloc, word, rest)? {
+            Some((ask, behind)) => Ok(Some((Ask::Shared(ask), behind))),
+            None => Ok(None),
+        }
+    }
+}
+
+// Finds what is asked of what all jobs share, which has this word.
+fn find_shared<'a>(
+    alloc: Global,
+    word: &[u8],
+    rest: &'a [u8],
+) -> Result<Found<'a, SharedAsk>, AllocError>
+    ensures { IfOk result (λ r. option_map (λ p. (p.0, p.1.now)) r ≡ shared_with word.now rest.now) }
+{
+    if word == b"try".as_slice() {
         find_try(alloc, skip(rest))
     } else if word == b"unlock".as_slice() {
         find_unlock(alloc, skip(rest))
@@ -41,17 +59,15 @@ fn find_ask_with<'a>(
         let (kind, behind) = split(skip(rest), Run::Letters);
         Ok(Some(begin_of(rest, kind, behind)))
     } else if word == b"commit".as_slice() {
-        Ok(Some((Ask::Commit, rest)))
+        Ok(Some((SharedAsk::Commit, rest)))
     } else if word == b"rollback".as_slice() {
-        Ok(Some((Ask::Rollback, rest)))
+        Ok(Some((SharedAsk::Rollback, rest)))
     } else if word == b"open".as_slice() {
         find_open(alloc, skip(rest))
     } else if word == b"close".as_slice() {
         find_close(alloc, skip(rest))
     } else if word == b"start".as_slice() {
         find_start(alloc, skip(rest))
-    } else if word == b"rest".as_slice() {
-        Ok(find_rest(skip(rest)))
     } else if word == b"halt".as_slice() {
         Ok(find_halt(rest))
     } else {
@@ -59,7 +75,7 @@ fn find_ask_with<'a>(
     }
 }
 
-// The timeout at the front, if there is one, and what follows it.
+// Reads the timeout at the front, if there is one, and gives what follows it.
 fn read_timeout(bytes: &[u8]) -> (Option<Num>, &[u8])
     ensures { (result.0, result.1.now) ≡ timeout_in bytes.now }
 {
@@ -72,39 +88,48 @@ fn read_timeout(bytes: &[u8]) -> (Option<Num>, &[u8])
     }
 }
 
-// What is asked of a device.
+// Finds an ask of a device: its name, and what is asked of it.
 fn find_device<'a>(alloc: Global, bytes: &'a [u8]) -> Result<Found<'a, Ask>, AllocError>
-    ensures { IfOk result (λ r. option_map (λ p. (p.0, p.1.now)) r ≡ device_in bytes.now) }
+    ensures { IfOk result (λ r. option_map (λ p. (p.0, p.1.now)) r ≡ on_device bytes.now) }
 {
     let Some((device, behind)) = find_text(alloc, bytes)? else {
         return Ok(None);
     };
-    let (word, rest) = split(skip(behind), Run::Letters);
-    find_device_with(alloc, device, word, rest)
+    match find_device_ask(alloc, skip(behind))? {
+        Some((ask, rest)) => Ok(Some((Ask::Device(device, ask), rest))),
+        None => Ok(None),
+    }
 }
 
-// The same, by the word for it.
-fn find_device_with<'a>(
+// Finds what is asked of a session of a device.
+fn find_device_ask<'a>(alloc: Global, bytes: &'a [u8]) -> Result<Found<'a, DeviceAsk>, AllocError>
+    ensures { IfOk result (λ r. option_map (λ p. (p.0, p.1.now)) r ≡ device_in bytes.now) }
+{
+    let (word, rest) = split(bytes, Run::Letters);
+    find_device_ask_with(alloc, word, rest)
+}
+
+// Finds what is asked of a session of a device by this word.
+fn find_device_ask_with<'a>(
     alloc: Global,
-    device: Text,
     word: &[u8],
     rest: &'a [u8],
-) -> Result<Found<'a, Ask>, AllocError>
-    ensures { IfOk result (λ r. option_map (λ p. (p.0, p.1.now)) r ≡ device_with device word.now rest.now) }
+) -> Result<Found<'a, DeviceAsk>, AllocError>
+    ensures { IfOk result (λ r. option_map (λ p. (p.0, p.1.now)) r ≡ device_with word.now rest.now) }
 {
     if word == b"begin".as_slice() {
-        Ok(Some((Ask::DeviceBegin(device), rest)))
+        Ok(Some((DeviceAsk::Begin, rest)))
     } else if word == b"end".as_slice() {
-        Ok(Some((Ask::DeviceEnd(device), rest)))
+        Ok(Some((DeviceAsk::End, rest)))
     } else if word == b"line".as_slice() {
         let (timeout, behind) = read_timeout(rest);
-        Ok(Some((Ask::DeviceLine(device, timeout), behind)))
+        Ok(Some((DeviceAsk::Line(timeout), behind)))
     } else if word == b"byte".as_slice() {
         let (timeout, behind) = read_timeout(rest);
-        Ok(Some((Ask::DeviceByte(device, timeout), behind)))
+        Ok(Some((DeviceAsk::Byte(timeout), behind)))
     } else if word == b"write".as_slice() {
         match find_text(alloc, skip(rest))? {
-            Some((text, behind)) => Ok(Some((Ask::DeviceWrite(device, text), behind))),
+            Some((text, behind)) => Ok(Some((DeviceAsk::Write(text), behind))),
             None => Ok(None),
         }
     } else {
@@ -112,64 +137,64 @@ fn find_device_with<'a>(
     }
 }
 
-// The names to take.
-fn find_try<'a>(alloc: Global, bytes: &'a [u8]) -> Result<Found<'a, Ask>, AllocError>
+// Finds the names to take.
+fn find_try<'a>(alloc: Global, bytes: &'a [u8]) -> Result<Found<'a, SharedAsk>, AllocError>
     ensures { IfOk result (λ r. option_map (λ p. (p.0, p.1.now)) r ≡ try_in bytes.now) }
 {
     let Some((names, behind)) = find_names(alloc, bytes)? else {
         return Ok(None);
     };
     let (timeout, rest) = read_timeout(behind);
-    Ok(Some((Ask::Try(names, timeout), rest)))
+    Ok(Some((SharedAsk::Try(names, timeout), rest)))
 }
 
-// The names to give up, or all.
-fn find_unlock<'a>(alloc: Global, bytes: &'a [u8]) -> Result<Found<'a, Ask>, AllocError>
+// Finds the names to give up, or that it is all.
+fn find_unlock<'a>(alloc: Global, bytes: &'a [u8]) -> Result<Found<'a, SharedAsk>, AllocError>
     ensures { IfOk result (λ r. option_map (λ p. (p.0, p.1.now)) r ≡ unlock_in bytes.now) }
 {
     if begins_with(b'*', bytes) {
-        return Ok(Some((Ask::UnlockAll, skip(bytes))));
+        return Ok(Some((SharedAsk::UnlockAll, skip(bytes))));
     }
     match find_names(alloc, bytes)? {
-        Some((names, rest)) => Ok(Some((Ask::Unlock(names), rest))),
+        Some((names, rest)) => Ok(Some((SharedAsk::Unlock(names), rest))),
         None => Ok(None),
     }
 }
 
-// The begin of a transaction, where the word behind it and what follows that are given.
-fn begin_of<'a>(rest: &'a [u8], word: &[u8], behind: &'a [u8]) -> (Ask, &'a [u8])
-    ensures { Some (result.0, result.1.now) ≡ begun rest.now word.now behind.now }
+// Tells by the word behind it which transaction begins, and gives what follows.
+fn begin_of<'a>(rest: &'a [u8], word: &[u8], behind: &'a [u8]) -> (SharedAsk, &'a [u8])
+    ensures { Some (result.0, result.1.now) ≡ begin_in rest.now word.now behind.now }
 {
     if word == b"serial".as_slice() {
-        (Ask::Begin(Kind::Serial), behind)
+        (SharedAsk::Begin(Kind::Serial), behind)
     } else {
-        (Ask::Begin(Kind::Plain), rest)
+        (SharedAsk::Begin(Kind::Plain), rest)
     }
 }
 
-// A device that is opened.
-fn find_open<'a>(alloc: Global, bytes: &'a [u8]) -> Result<Found<'a, Ask>, AllocError>
+// Finds a device that is opened.
+fn find_open<'a>(alloc: Global, bytes: &'a [u8]) -> Result<Found<'a, SharedAsk>, AllocError>
     ensures { IfOk result (λ r. option_map (λ p. (p.0, p.1.now)) r ≡ open_in bytes.now) }
 {
     let Some((device, behind)) = find_text(alloc, bytes)? else {
         return Ok(None);
     };
     let (timeout, rest) = read_timeout(behind);
-    Ok(Some((Ask::Open(device, timeout), rest)))
+    Ok(Some((SharedAsk::Open(device, timeout), rest)))
 }
 
-// A device that is closed.
-fn find_close<'a>(alloc: Global, bytes: &'a [u8]) -> Result<Found<'a, Ask>, AllocError>
+// Finds a device that is closed.
+fn find_close<'a>(alloc: Global, bytes: &'a [u8]) -> Result<Found<'a, SharedAsk>, AllocError>
     ensures { IfOk result (λ r. option_map (λ p. (p.0, p.1.now)) r ≡ close_in bytes.now) }
 {
     match find_text(alloc, bytes)? {
-        Some((device, rest)) => Ok(Some((Ask::Close(device), rest))),
+        Some((device, rest)) => Ok(Some((SharedAsk::Close(device), rest))),
         None => Ok(None),
     }
 }
 
-// Another job that starts.
-fn find_start<'a>(alloc: Global, bytes: &'a [u8]) -> Result<Found<'a, Ask>, AllocError>
+// Finds the start of another job.
+fn find_start<'a>(alloc: Global, bytes: &'a [u8]) -> Result<Found<'a, SharedAsk>, AllocError>
     ensures { IfOk result (λ r. option_map (λ p. (p.0, p.1.now)) r ≡ start_in bytes.now) }
 {
     let (entry, behind) = split(bytes, Run::Filled);
@@ -180,7 +205,7 @@ fn find_start<'a>(alloc: Global, bytes: &'a [u8]) -> Result<Found<'a, Ask>, Allo
         Ok(Some((values, more))) => {
             let (timeout, rest) = read_timeout(more);
             let start = Start::new(entry, values.into_list());
-            Ok(Some((Ask::Start(start, timeout), rest)))
+            Ok(Some((SharedAsk::Start(start, timeout), rest)))
         }
         Ok(None) => {
             drop(entry);
@@ -193,7 +218,7 @@ fn find_start<'a>(alloc: Global, bytes: &'a [u8]) -> Result<Found<'a, Ask>, Allo
     }
 }
 
-// Seconds to wait.
+// Finds seconds to wait.
 fn find_rest(bytes: &[u8]) -> Found<'_, Ask>
     ensures { option_map (λ p. (p.0, p.1.now)) result ≡ rest_in bytes.now }
 {
@@ -203,23 +228,23 @@ fn find_rest(bytes: &[u8]) -> Found<'_, Ask>
     }
 }
 
-// The end of a job.
-fn find_halt(bytes: &[u8]) -> Found<'_, Ask>
+// Finds the end of a job.
+fn find_halt(bytes: &[u8]) -> Found<'_, SharedAsk>
     ensures { option_map (λ p. (p.0, p.1.now)) result ≡ halt_in bytes.now }
 {
     if !begins_with(b'F', skip(bytes)) {
-        return Some((Ask::Halt(None), bytes));
+        return Some((SharedAsk::Halt(None), bytes));
     }
     let Some((code, rest)) = read_count(skip(skip(bytes))) else {
         return None;
     };
     match fault_of(code) {
-        Some(fault) => Some((Ask::Halt(Some(fault)), rest)),
+        Some(fault) => Some((SharedAsk::Halt(Some(fault)), rest)),
         None => None,
     }
 }
 
-// The fault of this number.
+// Gives the fault of this number.
 fn fault_of(code: u32) -> Option<Fault>
     ensures { result ≡ fault_of code }
 {
@@ -250,24 +275,24 @@ fn fault_of(code: u32) -> Option<Fault>
     }
 }
 
-// An access, whose word stands before.
+// Finds an access, whose word stands before.
 fn find_access<'a>(
     alloc: Global,
     word: &[u8],
     bytes: &'a [u8],
-) -> Result<Found<'a, Ask>, AllocError>
+) -> Result<Found<'a, SharedAsk>, AllocError>
     ensures { IfOk result (λ r. option_map (λ p. (p.0, p.1.now)) r ≡ access_in word.now bytes.now) }
 {
     let Some((name, behind)) = find_name(alloc, bytes)? else {
         return Ok(None);
     };
     match find_access_with(alloc, word, name, behind)? {
-        Some((access, rest)) => Ok(Some((Ask::Access(access), rest))),
+        Some((access, rest)) => Ok(Some((SharedAsk::Access(access), rest))),
         None => Ok(None),
     }
 }
 
-// The access with this word.
+// Finds the access with this word.
 fn find_access_with<'a>(
     alloc: Global,
     word: &[u8],
@@ -324,6 +349,7 @@ fn find_access_with<'a>(
     }
 }
 
+// Gives the direction of a search.
 fn way_of(number: Num) -> Direction
     ensures { result ≡ way_of number }
 {

@@ -1,12 +1,15 @@
 // What a job asks is written.
+#![tactic(auto, using(mj_gfile::proofs::Longer::begins_same, mj_gfile::proofs::Longer::begins_more, mj_gfile::proofs::Longer::begins_trans))]
 
 ghost use Rattle.std.specs.Prelude.{◌≡◌, ◌++◌, codes, OnOk};
-ghost use Rattle.mj_ask.specs.Written.{entry_text};
-ghost use Rattle.mj_gfile.specs.Spelling.{listed_text, listed_name};
-ghost use Rattle.mj_trace.specs.Spelling.{spaced, values_text, timeout_text, direction_text, access_text, kind_text, ask_text};
+ghost use Rattle.mj_gfile.specs.Spelling.{listed_name};
+ghost use Rattle.mj_gfile.specs.Begins.{HasFront};
+ghost use Rattle.mj_trace.specs.Spelling.{values_text, timeout_text, start_text, direction_text, access_text, kind_text, shared_text, device_text, ask_text};
 
-use crate::fields::{put_fault, put_names, put_number, put_subtree, put_timeout, put_values};
-use mj_ask::{Ask, Kind, Start};
+use crate::fields::{
+    put_entry, put_fault, put_names, put_number, put_subtree, put_timeout, put_values,
+};
+use mj_ask::{Ask, DeviceAsk, Kind, SharedAsk, Start};
 use mj_gfile::{put_name, put_text};
 use mj_num::Num;
 use mj_store::{Access, Direction};
@@ -16,70 +19,88 @@ use std::alloc::{AllocError, Global};
 
 /// Puts an ask to the end of some bytes, as a trace has it. After want of memory a part of it may stand there.
 pub fn put_ask(alloc: Global, bytes: &mut Vec<u8>, ask: &Ask) -> Result<(), AllocError>
-    ensures { OnOk result (bytes.new.items ≡ bytes.old.items ++ ask_text ask.now) }
+    ensures ok { OnOk result (bytes.new.items ≡ bytes.old.items ++ ask_text ask.now) }
+    ensures kept { HasFront bytes.old.items bytes.new.items }
 {
     match ask {
-        Ask::DeviceBegin(device) => put_device(bytes, device, b" begin"),
-        Ask::DeviceWrite(device, text) => {
-            put_device(bytes, device, b" write ")?;
-            put_text(bytes, text)
-        }
-        Ask::DeviceLine(device, timeout) => {
-            put_device(bytes, device, b" line")?;
-            put_timeout(bytes, *timeout)
-        }
-        Ask::DeviceByte(device, timeout) => {
-            put_device(bytes, device, b" byte")?;
-            put_timeout(bytes, *timeout)
-        }
-        Ask::DeviceEnd(device) => put_device(bytes, device, b" end"),
-        Ask::Access(access) => put_access(bytes, access),
-        Ask::Try(names, timeout) => {
-            bytes.extend_from_slice(b"try ")?;
-            put_names(bytes, names.as_slice())?;
-            put_timeout(bytes, *timeout)
-        }
-        Ask::Unlock(names) => {
-            bytes.extend_from_slice(b"unlock ")?;
-            put_names(bytes, names.as_slice())
-        }
-        Ask::UnlockAll => bytes.extend_from_slice(b"unlock *"),
-        Ask::Begin(kind) => put_begin(bytes, *kind),
-        Ask::Commit => bytes.extend_from_slice(b"commit"),
-        Ask::Rollback => bytes.extend_from_slice(b"rollback"),
-        Ask::Open(device, timeout) => {
-            bytes.extend_from_slice(b"open ")?;
+        Ask::Shared(ask) => put_shared(alloc, bytes, ask),
+        Ask::Device(device, ask) => {
+            bytes.extend_from_slice(b"dev ")?;
             put_text(bytes, device)?;
-            put_timeout(bytes, *timeout)
+            bytes.push(b' ')?;
+            put_device_ask(bytes, ask)
         }
-        Ask::Close(device) => {
-            bytes.extend_from_slice(b"close ")?;
-            put_text(bytes, device)
-        }
-        Ask::Start(start, timeout) => put_start(alloc, bytes, start, *timeout),
         Ask::Rest(seconds) => {
             bytes.extend_from_slice(b"rest ")?;
             put_number(bytes, *seconds)
         }
-        Ask::Halt(fault) => {
+    }
+}
+
+// Puts what is asked of what all jobs share to the end.
+fn put_shared(alloc: Global, bytes: &mut Vec<u8>, ask: &SharedAsk) -> Result<(), AllocError>
+    ensures ok { OnOk result (bytes.new.items ≡ bytes.old.items ++ shared_text ask.now) }
+    ensures kept { HasFront bytes.old.items bytes.new.items }
+{
+    match ask {
+        SharedAsk::Access(access) => put_access(bytes, access),
+        SharedAsk::Try(names, timeout) => {
+            bytes.extend_from_slice(b"try ")?;
+            put_names(bytes, names.as_slice())?;
+            put_timeout(bytes, *timeout)
+        }
+        SharedAsk::Unlock(names) => {
+            bytes.extend_from_slice(b"unlock ")?;
+            put_names(bytes, names.as_slice())
+        }
+        SharedAsk::UnlockAll => bytes.extend_from_slice(b"unlock *"),
+        SharedAsk::Begin(kind) => put_begin(bytes, *kind),
+        SharedAsk::Commit => bytes.extend_from_slice(b"commit"),
+        SharedAsk::Rollback => bytes.extend_from_slice(b"rollback"),
+        SharedAsk::Open(device, timeout) => {
+            bytes.extend_from_slice(b"open ")?;
+            put_text(bytes, device)?;
+            put_timeout(bytes, *timeout)
+        }
+        SharedAsk::Close(device) => {
+            bytes.extend_from_slice(b"close ")?;
+            put_text(bytes, device)
+        }
+        SharedAsk::Start(start, timeout) => put_start(alloc, bytes, start, *timeout),
+        SharedAsk::Halt(fault) => {
             bytes.extend_from_slice(b"halt")?;
             put_fault(bytes, *fault)
         }
     }
 }
 
-// Puts what is asked of a device's session to the end; the word has its blanks.
-fn put_device(bytes: &mut Vec<u8>, device: &Text, word: &[u8]) -> Result<(), AllocError>
-    ensures { OnOk result (bytes.new.items ≡ bytes.old.items ++ (codes "dev " ++ (listed_text device.now ++ word.now))) }
+// Puts what is asked of a session of a device to the end.
+fn put_device_ask(bytes: &mut Vec<u8>, ask: &DeviceAsk) -> Result<(), AllocError>
+    ensures ok { OnOk result (bytes.new.items ≡ bytes.old.items ++ device_text ask.now) }
+    ensures kept { HasFront bytes.old.items bytes.new.items }
 {
-    bytes.extend_from_slice(b"dev ")?;
-    put_text(bytes, device)?;
-    bytes.extend_from_slice(word)
+    match ask {
+        DeviceAsk::Begin => bytes.extend_from_slice(b"begin"),
+        DeviceAsk::Write(text) => {
+            bytes.extend_from_slice(b"write ")?;
+            put_text(bytes, text)
+        }
+        DeviceAsk::Line(timeout) => {
+            bytes.extend_from_slice(b"line")?;
+            put_timeout(bytes, *timeout)
+        }
+        DeviceAsk::Byte(timeout) => {
+            bytes.extend_from_slice(b"byte")?;
+            put_timeout(bytes, *timeout)
+        }
+        DeviceAsk::End => bytes.extend_from_slice(b"end"),
+    }
 }
 
 // Puts an access to the end.
 fn put_access(bytes: &mut Vec<u8>, access: &Access) -> Result<(), AllocError>
-    ensures { OnOk result (bytes.new.items ≡ bytes.old.items ++ access_text access.now) }
+    ensures ok { OnOk result (bytes.new.items ≡ bytes.old.items ++ access_text access.now) }
+    ensures kept { HasFront bytes.old.items bytes.new.items }
 {
     match access {
         Access::Value(name) => put_named(bytes, b"value ", name),
@@ -107,14 +128,17 @@ fn put_access(bytes: &mut Vec<u8>, access: &Access) -> Result<(), AllocError>
 
 // Puts a word, which has its blank, and a name to the end.
 fn put_named(bytes: &mut Vec<u8>, word: &[u8], name: &Name) -> Result<(), AllocError>
-    ensures { OnOk result (bytes.new.items ≡ bytes.old.items ++ (word.now ++ listed_name name.now)) }
+    ensures ok { OnOk result (bytes.new.items ≡ bytes.old.items ++ (word.now ++ listed_name name.now)) }
+    ensures kept { HasFront bytes.old.items bytes.new.items }
 {
     bytes.extend_from_slice(word)?;
     put_name(bytes, name)
 }
 
+// Puts the direction of a search to the end.
 fn put_direction(bytes: &mut Vec<u8>, direction: Direction) -> Result<(), AllocError>
-    ensures { OnOk result (bytes.new.items ≡ bytes.old.items ++ direction_text direction) }
+    ensures ok { OnOk result (bytes.new.items ≡ bytes.old.items ++ direction_text direction) }
+    ensures kept { HasFront bytes.old.items bytes.new.items }
 {
     match direction {
         Direction::Forward => bytes.extend_from_slice(b"1"),
@@ -124,7 +148,8 @@ fn put_direction(bytes: &mut Vec<u8>, direction: Direction) -> Result<(), AllocE
 
 // Puts the begin of a transaction to the end.
 fn put_begin(bytes: &mut Vec<u8>, kind: Kind) -> Result<(), AllocError>
-    ensures { OnOk result (bytes.new.items ≡ bytes.old.items ++ (codes "begin" ++ kind_text kind)) }
+    ensures ok { OnOk result (bytes.new.items ≡ bytes.old.items ++ (codes "begin" ++ kind_text kind)) }
+    ensures kept { HasFront bytes.old.items bytes.new.items }
 {
     bytes.extend_from_slice(match kind {
         Kind::Serial => b"begin serial".as_slice(),
@@ -139,12 +164,23 @@ fn put_start(
     start: &Start,
     timeout: Option<Num>,
 ) -> Result<(), AllocError>
-    ensures { OnOk result (bytes.new.items ≡ bytes.old.items ++ (codes "start " ++ entry_text start.now.entry ++ spaced (values_text start.now.values ++ timeout_text timeout))) }
+    ensures ok { OnOk result (bytes.new.items ≡ bytes.old.items ++ start_text start.now timeout) }
+    ensures kept { HasFront bytes.old.items bytes.new.items }
 {
-    bytes.extend_from_slice(b"start ")?;
-    let entry = start.entry().spell(alloc)?;
-    bytes.extend_from_slice(&entry)?;
+    put_entry(alloc, bytes, start.entry())?;
     bytes.push(b' ')?;
-    put_values(bytes, start.values())?;
+    put_given(bytes, start.values(), timeout)
+}
+
+// Puts what the start of a job gives it to the end: its values, and how long it may wait.
+fn put_given(
+    bytes: &mut Vec<u8>,
+    values: &[Option<Text>],
+    timeout: Option<Num>,
+) -> Result<(), AllocError>
+    ensures ok { OnOk result (bytes.new.items ≡ bytes.old.items ++ (values_text values.now ++ timeout_text timeout)) }
+    ensures kept { HasFront bytes.old.items bytes.new.items }
+{
+    put_values(bytes, values)?;
     put_timeout(bytes, timeout)
 }

@@ -1,20 +1,25 @@
 // The fields of events are written. After want of memory a part of one may stand at the end.
+#![tactic(auto, using(mj_gfile::proofs::Longer::begins_same, mj_gfile::proofs::Longer::begins_more, mj_gfile::proofs::Longer::begins_trans))]
 
 ghost use Rattle.std.specs.Prelude.{◌≡◌, ◌++◌, decimal, OnOk};
 ghost use Rattle.std.specs.Fmt.{signed_decimal};
+ghost use Rattle.mj_gfile.specs.Begins.{HasFront};
 ghost use Rattle.mj_trace.specs.Spelling.{timeout_text, names_text, place_text, node_text, subtree_text, value_text, values_text, fault_text};
+ghost use Rattle.mj_trace.specs.Trace.{start_line};
 
 use itoa::Buffer;
+use mj_ask::Entry;
 use mj_gfile::{put_name, put_subscripts, put_text};
 use mj_num::Num;
 use mj_store::Nodes;
 use mj_subs::{Name, Sub};
 use mj_text::{Fault, Text};
-use std::alloc::AllocError;
+use std::alloc::{AllocError, Global};
 
 /// Puts a number in decimal to the end.
 pub(crate) fn put_count(bytes: &mut Vec<u8>, count: u32) -> Result<(), AllocError>
-    ensures { OnOk result (bytes.new.items ≡ bytes.old.items ++ decimal count) }
+    ensures ok { OnOk result (bytes.new.items ≡ bytes.old.items ++ decimal count) }
+    ensures kept { HasFront bytes.old.items bytes.new.items }
 {
     let mut buffer = Buffer::new();
     bytes.extend_from_slice(buffer.format(count).as_bytes())
@@ -22,7 +27,8 @@ pub(crate) fn put_count(bytes: &mut Vec<u8>, count: u32) -> Result<(), AllocErro
 
 /// Puts a number to the end.
 pub(crate) fn put_number(bytes: &mut Vec<u8>, number: Num) -> Result<(), AllocError>
-    ensures { OnOk result (bytes.new.items ≡ bytes.old.items ++ signed_decimal number) }
+    ensures ok { OnOk result (bytes.new.items ≡ bytes.old.items ++ signed_decimal number) }
+    ensures kept { HasFront bytes.old.items bytes.new.items }
 {
     let mut buffer = Buffer::new();
     bytes.extend_from_slice(buffer.format(number.value()).as_bytes())
@@ -30,7 +36,8 @@ pub(crate) fn put_number(bytes: &mut Vec<u8>, number: Num) -> Result<(), AllocEr
 
 /// Puts a timeout to the end, where there is one.
 pub(crate) fn put_timeout(bytes: &mut Vec<u8>, timeout: Option<Num>) -> Result<(), AllocError>
-    ensures { OnOk result (bytes.new.items ≡ bytes.old.items ++ timeout_text timeout) }
+    ensures ok { OnOk result (bytes.new.items ≡ bytes.old.items ++ timeout_text timeout) }
+    ensures kept { HasFront bytes.old.items bytes.new.items }
 {
     let Some(number) = timeout else {
         return Ok(());
@@ -41,7 +48,8 @@ pub(crate) fn put_timeout(bytes: &mut Vec<u8>, timeout: Option<Num>) -> Result<(
 
 /// Puts names to the end, with commas between them.
 pub(crate) fn put_names(bytes: &mut Vec<u8>, names: &[Name]) -> Result<(), AllocError>
-    ensures { OnOk result (bytes.new.items ≡ bytes.old.items ++ names_text names.now) }
+    ensures ok { OnOk result (bytes.new.items ≡ bytes.old.items ++ names_text names.now) }
+    ensures kept { HasFront bytes.old.items bytes.new.items }
 {
     let [first, rest @ ..] = names else {
         return Ok(());
@@ -56,7 +64,8 @@ pub(crate) fn put_names(bytes: &mut Vec<u8>, names: &[Name]) -> Result<(), Alloc
 
 // Puts the place of a node below a name to the end.
 fn put_place(bytes: &mut Vec<u8>, place: &[Sub]) -> Result<(), AllocError>
-    ensures { OnOk result (bytes.new.items ≡ bytes.old.items ++ place_text place.now) }
+    ensures ok { OnOk result (bytes.new.items ≡ bytes.old.items ++ place_text place.now) }
+    ensures kept { HasFront bytes.old.items bytes.new.items }
 {
     if place.is_empty() {
         return bytes.extend_from_slice(b"()");
@@ -66,7 +75,8 @@ fn put_place(bytes: &mut Vec<u8>, place: &[Sub]) -> Result<(), AllocError>
 
 // Puts a node to the end.
 fn put_node(bytes: &mut Vec<u8>, place: &[Sub], text: &Text) -> Result<(), AllocError>
-    ensures { OnOk result (bytes.new.items ≡ bytes.old.items ++ node_text (place.now, text.now)) }
+    ensures ok { OnOk result (bytes.new.items ≡ bytes.old.items ++ node_text (place.now, text.now)) }
+    ensures kept { HasFront bytes.old.items bytes.new.items }
 {
     put_place(bytes, place)?;
     bytes.push(b'=')?;
@@ -75,7 +85,8 @@ fn put_node(bytes: &mut Vec<u8>, place: &[Sub], text: &Text) -> Result<(), Alloc
 
 /// Puts nodes to the end, in braces.
 pub(crate) fn put_subtree(bytes: &mut Vec<u8>, nodes: &Nodes) -> Result<(), AllocError>
-    ensures { OnOk result (bytes.new.items ≡ bytes.old.items ++ subtree_text nodes.now) }
+    ensures ok { OnOk result (bytes.new.items ≡ bytes.old.items ++ subtree_text nodes.now) }
+    ensures kept { HasFront bytes.old.items bytes.new.items }
 {
     bytes.push(b'{')?;
     if let [first, rest @ ..] = nodes.as_slice() {
@@ -91,7 +102,8 @@ pub(crate) fn put_subtree(bytes: &mut Vec<u8>, nodes: &Nodes) -> Result<(), Allo
 
 // Puts a value to the end that a job starts with.
 fn put_value(bytes: &mut Vec<u8>, value: &Option<Text>) -> Result<(), AllocError>
-    ensures { OnOk result (bytes.new.items ≡ bytes.old.items ++ value_text value.now) }
+    ensures ok { OnOk result (bytes.new.items ≡ bytes.old.items ++ value_text value.now) }
+    ensures kept { HasFront bytes.old.items bytes.new.items }
 {
     match value {
         None => bytes.extend_from_slice(b"-"),
@@ -101,7 +113,8 @@ fn put_value(bytes: &mut Vec<u8>, value: &Option<Text>) -> Result<(), AllocError
 
 /// Puts the values to the end that a job starts with, in parentheses.
 pub(crate) fn put_values(bytes: &mut Vec<u8>, values: &[Option<Text>]) -> Result<(), AllocError>
-    ensures { OnOk result (bytes.new.items ≡ bytes.old.items ++ values_text values.now) }
+    ensures ok { OnOk result (bytes.new.items ≡ bytes.old.items ++ values_text values.now) }
+    ensures kept { HasFront bytes.old.items bytes.new.items }
 {
     bytes.push(b'(')?;
     if let [first, rest @ ..] = values {
@@ -115,9 +128,20 @@ pub(crate) fn put_values(bytes: &mut Vec<u8>, values: &[Option<Text>]) -> Result
     Ok(())
 }
 
+/// Puts where a job starts to the end, behind the word for it.
+pub(crate) fn put_entry(alloc: Global, bytes: &mut Vec<u8>, entry: &Entry) -> Result<(), AllocError>
+    ensures ok { OnOk result (bytes.new.items ≡ bytes.old.items ++ start_line entry.now) }
+    ensures kept { HasFront bytes.old.items bytes.new.items }
+{
+    bytes.extend_from_slice(b"start ")?;
+    let spelled = entry.spell(alloc)?;
+    bytes.extend_from_slice(&spelled)
+}
+
 /// Puts the number of a fault to the end, where there is one.
 pub(crate) fn put_fault(bytes: &mut Vec<u8>, fault: Option<Fault>) -> Result<(), AllocError>
-    ensures { OnOk result (bytes.new.items ≡ bytes.old.items ++ fault_text fault) }
+    ensures ok { OnOk result (bytes.new.items ≡ bytes.old.items ++ fault_text fault) }
+    ensures kept { HasFront bytes.old.items bytes.new.items }
 {
     let Some(fault) = fault else {
         return Ok(());

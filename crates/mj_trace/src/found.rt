@@ -14,7 +14,7 @@ use std::alloc::{AllocError, Global};
 /// What stands at the front of some bytes, and what follows it, or none where none stands there.
 pub(crate) type Found<'a, T> = Option<(T, &'a [u8])>;
 
-/// The number at the front.
+/// Reads the number at the front.
 pub(crate) fn read_number(bytes: &[u8]) -> Found<'_, Num>
     ensures { option_map (λ p. (p.0, p.1.now)) result ≡ number_in bytes.now }
 {
@@ -25,7 +25,7 @@ pub(crate) fn read_number(bytes: &[u8]) -> Found<'_, Num>
     }
 }
 
-/// The count at the front.
+/// Reads the count at the front.
 pub(crate) fn read_count(bytes: &[u8]) -> Found<'_, u32>
     ensures { option_map (λ p. (p.0, p.1.now)) result ≡ count_in bytes.now }
 {
@@ -38,7 +38,7 @@ pub(crate) fn read_count(bytes: &[u8]) -> Found<'_, u32>
     }
 }
 
-/// The code of a byte at the front.
+/// Reads the code of a byte at the front.
 pub(crate) fn read_code(bytes: &[u8]) -> Found<'_, u8>
     ensures { option_map (λ p. (p.0, p.1.now)) result ≡ code_in bytes.now }
 {
@@ -51,7 +51,7 @@ pub(crate) fn read_code(bytes: &[u8]) -> Found<'_, u8>
     }
 }
 
-/// The text in listing quotes at the front.
+/// Finds the text in listing quotes at the front.
 pub(crate) fn find_text<'a>(alloc: Global, bytes: &'a [u8]) -> Result<Found<'a, Text>, AllocError>
     ensures { IfOk result (λ r. option_map (λ p. (p.0, p.1.now)) r ≡ text_in bytes.now) }
 {
@@ -64,7 +64,7 @@ pub(crate) fn find_text<'a>(alloc: Global, bytes: &'a [u8]) -> Result<Found<'a, 
     }
 }
 
-/// The subscript at the front: a text in listing quotes, the empty one too, or a number.
+/// Finds the subscript at the front: a text in listing quotes, the empty one too, or a number.
 pub(crate) fn find_subscript<'a>(
     alloc: Global,
     bytes: &'a [u8],

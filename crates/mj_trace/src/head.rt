@@ -1,33 +1,58 @@
-// The lines of a trace are written.
+// The lines of a trace are written. A trace is put into bytes that its writer keeps: first its opening, then each event.
+#![tactic(auto, using(mj_gfile::proofs::Longer::begins_same, mj_gfile::proofs::Longer::begins_more, mj_gfile::proofs::Longer::begins_trans))]
 
-ghost use Rattle.std.specs.Prelude.{◌≡◌, ◌++◌, ◌∷◌, [], IfOk, OnOk};
-ghost use Rattle.mj_trace.specs.Spelling.{event_text};
-ghost use Rattle.mj_trace.specs.Trace.{pool_line, pool_lines, start_line, start_lines, opening_text};
+ghost use Rattle.std.specs.Prelude.{◌≡◌, ◌++◌, ◌∷◌, [], if◌then◌else◌, is_ok, IfOk, OnOk};
+ghost use Rattle.mj_gfile.specs.Begins.{HasFront};
+ghost use Rattle.mj_trace.specs.Spelling.{spaced, ask_text, reply_text, event_text};
+ghost use Rattle.mj_trace.specs.Trace.{pool_line, pool_lines, start_lines, opening_text};
 
 use crate::HEADER;
 use crate::asks::put_ask;
-use crate::fields::put_count;
+use crate::fields::{put_count, put_entry};
 use crate::replies::put_reply;
 use mj_ask::{Ask, Entry, Reply};
 use mj_gfile::put_text;
 use mj_text::Text;
 use std::alloc::{AllocError, Global};
 
-/// What a trace has before its events: its first line, one for each device with the number of its sessions, one for each start.
-pub fn opening(alloc: Global, pool: &[(Text, u32)], starts: &[Entry]) -> Result<Vec<u8>, AllocError>
-    ensures { IfOk result (λ bytes. bytes.items ≡ opening_text pool.now starts.now) }
+/// Puts what a trace has before its events to the end of some bytes: its first line, one for each device with the number of its sessions, one for each start.
+/// Where memory is refused the bytes stay as they were.
+pub fn put_opening(
+    alloc: Global,
+    bytes: &mut Vec<u8>,
+    pool: &[(Text, u32)],
+    starts: &[Entry],
+) -> Result<(), AllocError>
+    ensures { bytes.new.items ≡ (if is_ok result then bytes.old.items ++ opening_text pool.now starts.now else bytes.old.items) }
 {
-    let mut bytes = Vec::new(alloc);
+    let before = bytes.len();
+    let put = add_opening(alloc, bytes, pool, starts);
+    if put.is_err() {
+        bytes.truncate(before);
+    }
+    put
+}
+
+// Puts what a trace has before its events to the end. After want of memory a part of it may stand there.
+fn add_opening(
+    alloc: Global,
+    bytes: &mut Vec<u8>,
+    pool: &[(Text, u32)],
+    starts: &[Entry],
+) -> Result<(), AllocError>
+    ensures ok { OnOk result (bytes.new.items ≡ bytes.old.items ++ opening_text pool.now starts.now) }
+    ensures kept { HasFront bytes.old.items bytes.new.items }
+{
     bytes.extend_from_slice(HEADER)?;
     bytes.push(b'\n')?;
-    put_pool(&mut bytes, pool)?;
-    put_starts(alloc, &mut bytes, starts)?;
-    Ok(bytes)
+    put_pool(bytes, pool)?;
+    put_starts(alloc, bytes, starts)
 }
 
 // Puts the lines of devices to the end.
 fn put_pool(bytes: &mut Vec<u8>, pool: &[(Text, u32)]) -> Result<(), AllocError>
-    ensures { OnOk result (bytes.new.items ≡ bytes.old.items ++ pool_lines pool.now) }
+    ensures ok { OnOk result (bytes.new.items ≡ bytes.old.items ++ pool_lines pool.now) }
+    ensures kept { HasFront bytes.old.items bytes.new.items }
 {
     for (device, count) in pool {
         put_device(bytes, device, *count)?;
@@ -38,7 +63,8 @@ fn put_pool(bytes: &mut Vec<u8>, pool: &[(Text, u32)]) -> Result<(), AllocError>
 
 // Puts the line of a device to the end, without its byte 10.
 pub(crate) fn put_device(bytes: &mut Vec<u8>, device: &Text, count: u32) -> Result<(), AllocError>
-    ensures { OnOk result (bytes.new.items ≡ bytes.old.items ++ pool_line (device.now, count)) }
+    ensures ok { OnOk result (bytes.new.items ≡ bytes.old.items ++ pool_line (device.now, count)) }
+    ensures kept { HasFront bytes.old.items bytes.new.items }
 {
     bytes.extend_from_slice(b"pool ")?;
     put_text(bytes, device)?;
@@ -48,33 +74,81 @@ pub(crate) fn put_device(bytes: &mut Vec<u8>, device: &Text, count: u32) -> Resu
 
 // Puts the lines of starts to the end.
 fn put_starts(alloc: Global, bytes: &mut Vec<u8>, starts: &[Entry]) -> Result<(), AllocError>
-    ensures { OnOk result (bytes.new.items ≡ bytes.old.items ++ start_lines starts.now) }
+    ensures ok { OnOk result (bytes.new.items ≡ bytes.old.items ++ start_lines starts.now) }
+    ensures kept { HasFront bytes.old.items bytes.new.items }
 {
     for start in starts {
-        put_start(alloc, bytes, start)?;
+        put_entry(alloc, bytes, start)?;
         bytes.push(b'\n')?;
     }
     Ok(())
 }
 
-// Puts the line of a start to the end, without its byte 10.
-pub(crate) fn put_start(alloc: Global, bytes: &mut Vec<u8>, start: &Entry) -> Result<(), AllocError>
-    ensures { OnOk result (bytes.new.items ≡ bytes.old.items ++ start_line start.now) }
+/// Puts an event to the end of some bytes: its line, and byte 10. Where memory is refused the bytes stay as they were.
+pub fn put_event(
+    alloc: Global,
+    bytes: &mut Vec<u8>,
+    job: u32,
+    ask: &Ask,
+    reply: &Reply,
+) -> Result<(), AllocError>
+    ensures { bytes.new.items ≡ (if is_ok result then bytes.old.items ++ (event_text job ask.now reply.now ++ 10 ∷ []) else bytes.old.items) }
 {
-    bytes.extend_from_slice(b"start ")?;
-    let entry = start.spell(alloc)?;
-    bytes.extend_from_slice(&entry)
+    let before = bytes.len();
+    let put = add_event(alloc, bytes, job, ask, reply);
+    if put.is_err() {
+        bytes.truncate(before);
+    }
+    put
 }
 
-/// The line of an event, without its byte 10: the job's number, what it asked, and what it was told.
+// Puts an event to the end. After want of memory a part of it may stand there.
+fn add_event(
+    alloc: Global,
+    bytes: &mut Vec<u8>,
+    job: u32,
+    ask: &Ask,
+    reply: &Reply,
+) -> Result<(), AllocError>
+    ensures ok { OnOk result (bytes.new.items ≡ bytes.old.items ++ (event_text job ask.now reply.now ++ 10 ∷ [])) }
+    ensures kept { HasFront bytes.old.items bytes.new.items }
+{
+    put_line(alloc, bytes, job, ask, reply)?;
+    bytes.push(b'\n')?;
+    Ok(())
+}
+
+// Puts the line of an event to the end, without its byte 10.
+fn put_line(
+    alloc: Global,
+    bytes: &mut Vec<u8>,
+    job: u32,
+    ask: &Ask,
+    reply: &Reply,
+) -> Result<(), AllocError>
+    ensures ok { OnOk result (bytes.new.items ≡ bytes.old.items ++ event_text job ask.now reply.now) }
+    ensures kept { HasFront bytes.old.items bytes.new.items }
+{
+    put_count(bytes, job)?;
+    bytes.push(b' ')?;
+    put_told(alloc, bytes, ask, reply)
+}
+
+// Puts what was asked and what was told to the end.
+fn put_told(alloc: Global, bytes: &mut Vec<u8>, ask: &Ask, reply: &Reply) -> Result<(), AllocError>
+    ensures ok { OnOk result (bytes.new.items ≡ bytes.old.items ++ (ask_text ask.now ++ spaced (reply_text reply.now))) }
+    ensures kept { HasFront bytes.old.items bytes.new.items }
+{
+    put_ask(alloc, bytes, ask)?;
+    bytes.push(b' ')?;
+    put_reply(bytes, reply)
+}
+
+/// Gives the line of an event, without its byte 10: the job's number, what it asked, and what it was told.
 pub fn event_line(alloc: Global, job: u32, ask: &Ask, reply: &Reply) -> Result<Vec<u8>, AllocError>
     ensures { IfOk result (λ bytes. bytes.items ≡ event_text job ask.now reply.now) }
 {
     let mut bytes = Vec::new(alloc);
-    put_count(&mut bytes, job)?;
-    bytes.push(b' ')?;
-    put_ask(alloc, &mut bytes, ask)?;
-    bytes.push(b' ')?;
-    put_reply(&mut bytes, reply)?;
+    put_line(alloc, &mut bytes, job, ask, reply)?;
     Ok(bytes)
 }

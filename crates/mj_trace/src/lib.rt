@@ -1,8 +1,9 @@
 // Traces of runs: a text of lines, by which a run is shown to somebody else.
 //
-// There is one spelling for each trace: `write_trace` writes it, `trace_text` of `specs/Trace.antt`, with the asks and replies of `specs/Spelling.antt`, and `read_trace`
-// reads it back. What else it is given it refuses, by the first line that is none: `reading_of` of `specs/Lines.antt`. What a line may say is found from the left
-// to the right (`specs/Reading.antt`); then it is spelled again, and must be the line. `specs/Laws.antt` has the laws.
+// There is one spelling for each trace: `trace_text` of `specs/Trace.antt`, with the asks and replies of `specs/Spelling.antt`. `write_trace` writes
+// it. A caller that has no `Trace` puts the opening and then each event into bytes of its own: `put_opening`, `put_event`. `read_trace` reads a trace
+// back. What else it is given it refuses, by the first line that is none: `reading_of` of `specs/Lines.antt`. What a line may say is found from the
+// left to the right (`specs/Reading.antt`); then it is spelled again, and must be the line. `specs/Laws.antt` has the laws.
 #![tactic(auto)]
 
 mod asked;
@@ -21,7 +22,7 @@ mod told;
 mod trace;
 
 pub use asks::put_ask;
-pub use head::{event_line, opening};
+pub use head::{event_line, put_event, put_opening};
 pub use read::read_trace;
 pub use refusal::TraceError;
 pub use replies::put_reply;

@@ -40,7 +40,7 @@ pub(crate) fn read_all<'a, L: List>(
     Ok(None)
 }
 
-/// A list up to the byte that closes it, where none is given.
+/// Reads a list up to the byte that closes it, from an empty list on.
 pub(crate) fn read_closed<'a, L: List>(
     alloc: Global,
     none: L,

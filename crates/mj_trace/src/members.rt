@@ -10,7 +10,7 @@ use crate::lists::{List, read_all, read_closed};
 use crate::run::{Run, begins_with, skip, split};
 use mj_ask::Names;
 use mj_store::Nodes;
-use mj_subs::{Name, SUBSCRIPT_LIMIT, Sub, Subs, is_word};
+use mj_subs::{Name, SUBSCRIPTS_LIMIT, Sub, Subs, is_word};
 use mj_text::Text;
 use std::alloc::{AllocError, Global};
 use std::marker::Model;
@@ -22,7 +22,7 @@ impl List for Subs {
         let Some((sub, rest)) = find_subscript(alloc, bytes)? else {
             return Ok(None);
         };
-        if self.len() >= SUBSCRIPT_LIMIT {
+        if self.len() >= SUBSCRIPTS_LIMIT {
             drop(sub);
             return Ok(None);
         }
@@ -33,7 +33,7 @@ impl List for Subs {
     }
 }
 
-/// The subscripts behind `(`.
+/// Finds the subscripts behind `(`.
 pub(crate) fn find_subscripts<'a>(
     alloc: Global,
     bytes: &'a [u8],
@@ -43,7 +43,7 @@ pub(crate) fn find_subscripts<'a>(
     read_closed(alloc, Subs::new(alloc), b')', bytes)
 }
 
-/// The name at the front.
+/// Finds the name at the front.
 pub(crate) fn find_name<'a>(alloc: Global, bytes: &'a [u8]) -> Result<Found<'a, Name>, AllocError>
     ensures { IfOk result (λ r. option_map (λ p. (p.0, p.1.now)) r ≡ name_in bytes.now) }
 {
@@ -54,7 +54,7 @@ pub(crate) fn find_name<'a>(alloc: Global, bytes: &'a [u8]) -> Result<Found<'a, 
     }
 }
 
-// The same of a name of this kind, behind its `^`.
+// Finds a name of this kind, behind its `^`.
 fn find_name_of<'a>(
     alloc: Global,
     global: bool,
@@ -78,7 +78,7 @@ fn find_name_of<'a>(
     Ok(Some((name, rest)))
 }
 
-// The name of this kind with this word.
+// Makes the name of this kind with this word.
 fn name_of(alloc: Global, global: bool, word: &[u8], subs: Subs) -> Result<Name, AllocError>
     requires { is_word word.now ≡ true }
     ensures { IfOk result (λ name. name ≡ record { global = global; word = word.now; subscripts = subs }) }
@@ -106,7 +106,7 @@ impl List for Names {
     }
 }
 
-/// The names at the front.
+/// Finds the names at the front.
 pub(crate) fn find_names<'a>(alloc: Global, bytes: &'a [u8]) -> Result<Found<'a, Names>, AllocError>
     ensures { IfOk result (λ r. option_map (λ p. (p.0, p.1.now)) r ≡ names_in bytes.now) }
 {
@@ -130,7 +130,7 @@ pub(crate) fn find_names<'a>(alloc: Global, bytes: &'a [u8]) -> Result<Found<'a,
     }
 }
 
-// The node at the front: its subscripts, and its text.
+// Finds the node at the front: its subscripts, and its text.
 fn find_node<'a>(alloc: Global, bytes: &'a [u8]) -> Result<Found<'a, (Subs, Text)>, AllocError>
     ensures { IfOk result (λ r. option_map (λ p. (p.0, p.1.now)) r ≡ node_in bytes.now) }
 {
@@ -163,7 +163,7 @@ impl List for Nodes {
     }
 }
 
-/// The nodes in braces at the front.
+/// Finds the nodes in braces at the front.
 pub(crate) fn find_subtree<'a>(
     alloc: Global,
     bytes: &'a [u8],
@@ -173,7 +173,7 @@ pub(crate) fn find_subtree<'a>(
     read_closed(alloc, Nodes::new(alloc), b'}', skip(bytes))
 }
 
-// The value at the front.
+// Finds the value at the front.
 fn find_value<'a>(alloc: Global, bytes: &'a [u8]) -> Result<Found<'a, Option<Text>>, AllocError>
     ensures { IfOk result (λ r. option_map (λ p. (p.0, p.1.now)) r ≡ value_in bytes.now) }
 {
@@ -213,7 +213,7 @@ impl List for Values {
 }
 
 impl Values {
-    /// The values, for keeps.
+    /// Gives the values for keeps.
     pub(crate) fn into_list(self) -> Vec<Option<Text>>
         ensures { result.items ≡ self }
     {
@@ -221,7 +221,7 @@ impl Values {
     }
 }
 
-/// The values in parentheses at the front.
+/// Finds the values in parentheses at the front.
 pub(crate) fn find_values<'a>(
     alloc: Global,
     bytes: &'a [u8],

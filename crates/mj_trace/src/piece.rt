@@ -5,8 +5,9 @@ ghost use Rattle.std.specs.Str.{bytes_eq};
 ghost use Rattle.mj_trace.specs.Lines.{piece_text, is_piece, are_told, event_in, pooled, starting, piece_in, piece_of};
 
 use crate::asked::find_ask;
+use crate::fields::put_entry;
 use crate::found::{find_text, read_count};
-use crate::head::{event_line, put_device, put_start};
+use crate::head::{event_line, put_device};
 use crate::run::{Run, skip, split};
 use crate::told::find_reply;
 use mj_ask::{Ask, Entry, Reply, is_ask, is_reply};
@@ -24,7 +25,7 @@ pub(crate) enum Piece {
     Event(u32, Ask, Reply),
 }
 
-/// What a line says, without its byte 10: what is found there, where it is spelled so.
+/// Reads what a line says, without its byte 10: what is found there, where it is spelled so.
 pub(crate) fn read_piece(alloc: Global, line: &[u8]) -> Result<Option<Piece>, AllocError>
     ensures { IfOk result (λ r. r ≡ piece_of line.now) }
 {
@@ -55,7 +56,7 @@ fn is_spelled(alloc: Global, piece: &Piece, line: &[u8]) -> Result<bool, AllocEr
     Ok(spelled.as_slice() == line)
 }
 
-// The line of it.
+// Spells the line of it.
 fn spell(alloc: Global, piece: &Piece) -> Result<Vec<u8>, AllocError>
     ensures { IfOk result (λ bytes. bytes.items ≡ piece_text piece.now) }
 {
@@ -67,7 +68,7 @@ fn spell(alloc: Global, piece: &Piece) -> Result<Vec<u8>, AllocError>
         }
         Piece::Start(entry) => {
             let mut bytes = Vec::new(alloc);
-            put_start(alloc, &mut bytes, entry)?;
+            put_entry(alloc, &mut bytes, entry)?;
             Ok(bytes)
         }
         Piece::Event(job, ask, reply) => event_line(alloc, *job, ask, reply),
@@ -85,13 +86,14 @@ fn is_piece(piece: &Piece) -> bool
     }
 }
 
+// Whether what was asked and told can be written, and the reply is one to the ask.
 fn are_told(ask: &Ask, reply: &Reply) -> bool
     ensures { result ≡ are_told ask.now reply.now }
 {
     is_ask(ask) && is_reply(reply) && ask.has_reply(reply)
 }
 
-// What a line may say.
+// Finds what a line may say.
 fn find_piece(alloc: Global, line: &[u8]) -> Result<Option<Piece>, AllocError>
     ensures { IfOk result (λ r. r ≡ piece_in line.now) }
 {
@@ -105,7 +107,7 @@ fn find_piece(alloc: Global, line: &[u8]) -> Result<Option<Piece>, AllocError>
     }
 }
 
-// A device, behind its word.
+// Finds a device, behind its word.
 fn find_device(alloc: Global, bytes: &[u8]) -> Result<Option<Piece>, AllocError>
     ensures { IfOk result (λ r. r ≡ pooled bytes.now) }
 {
@@ -118,7 +120,7 @@ fn find_device(alloc: Global, bytes: &[u8]) -> Result<Option<Piece>, AllocError>
     }
 }
 
-// A start, behind its word.
+// Finds a start, behind its word.
 fn find_start(alloc: Global, bytes: &[u8]) -> Result<Option<Piece>, AllocError>
     ensures { IfOk result (λ r. r ≡ starting bytes.now) }
 {
@@ -128,7 +130,7 @@ fn find_start(alloc: Global, bytes: &[u8]) -> Result<Option<Piece>, AllocError>
     }
 }
 
-// An event.
+// Finds an event.
 fn find_event(alloc: Global, line: &[u8]) -> Result<Option<Piece>, AllocError>
     ensures { IfOk result (λ r. r ≡ event_in line.now) }
 {

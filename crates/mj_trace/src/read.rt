@@ -14,7 +14,7 @@ use crate::trace::Trace;
 use mj_gfile::split_line;
 use std::alloc::Global;
 
-/// The trace that some bytes are. A trace is refused for want of memory alone, and anything else by the first line that is none: one more than there
+/// Reads the trace that some bytes are. A trace is refused for want of memory alone, and anything else by the first line that is none: one more than there
 /// may be before one that isn't spelled so. The line where the first start should stand is refused where there is none.
 pub fn read_trace(alloc: Global, bytes: &[u8]) -> Result<Trace, TraceError>
     ensures ok { IfOk result (λ trace. reading_of bytes.now ≡ Ok trace) }
@@ -26,6 +26,7 @@ pub fn read_trace(alloc: Global, bytes: &[u8]) -> Result<Trace, TraceError>
     read(alloc, bytes)
 }
 
+// Reads the header, and then the lines behind it.
 fn read(alloc: Global, bytes: &[u8]) -> Result<Trace, TraceError>
     ensures ok { IfOk result (λ trace. reading_of bytes.now ≡ Ok trace) }
     ensures err { IfErr result (λ e. (e ≡ error.Memory) ⊎ (reading_of bytes.now ≡ Err e)) }
@@ -39,7 +40,7 @@ fn read(alloc: Global, bytes: &[u8]) -> Result<Trace, TraceError>
     read_lines(alloc, rest)
 }
 
-// The trace that the lines behind the header are. What owns it does nothing else that can fail, since each way out of such a function drops it.
+// Reads the trace that the lines behind the header are. What owns it does nothing else that can fail, since each way out of such a function drops it.
 fn read_lines(alloc: Global, bytes: &[u8]) -> Result<Trace, TraceError>
     requires { length bytes.now + 2 < 2 ^ 64 }
     ensures ok { IfOk result (λ trace. lines_from no_lines 2 (lines_of bytes.now) ≡ Ok trace) }
@@ -55,7 +56,7 @@ fn read_lines(alloc: Global, bytes: &[u8]) -> Result<Trace, TraceError>
     }
 }
 
-// These lines are put into a trace without a line.
+// Puts these lines into a trace without a line.
 fn add_lines(alloc: Global, trace: &mut Trace, bytes: &[u8]) -> Result<(), TraceError>
     requires none { trace.old ≡ no_lines }
     requires few { length bytes.now + 2 < 2 ^ 64 }
@@ -78,7 +79,7 @@ fn add_lines(alloc: Global, trace: &mut Trace, bytes: &[u8]) -> Result<(), Trace
     }
 }
 
-// Why the line of this number is refused that no byte 10 ends.
+// Tells why the line of this number is refused that no byte 10 ends.
 fn unfinished(trace: &Trace, number: usize) -> TraceError
     ensures { result ≡ unfinished trace.now number }
 {
@@ -89,7 +90,7 @@ fn unfinished(trace: &Trace, number: usize) -> TraceError
     }
 }
 
-// The line of this number is put behind the others.
+// Puts the line of this number behind the others.
 fn add_line(alloc: Global, trace: &mut Trace, number: usize, line: &[u8]) -> Result<(), TraceError>
     ensures ok { OnOk result (lined trace.old number line.now ≡ Ok trace.new) }
     ensures err { IfErr result (λ e. (e ≡ error.Memory) ⊎ (lined trace.old number line.now ≡ Err e)) }

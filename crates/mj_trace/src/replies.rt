@@ -1,7 +1,9 @@
 // What a job was told is written.
+#![tactic(auto, using(mj_gfile::proofs::Longer::begins_same, mj_gfile::proofs::Longer::begins_more, mj_gfile::proofs::Longer::begins_trans))]
 
 ghost use Rattle.std.specs.Prelude.{◌≡◌, ◌++◌, OnOk};
-ghost use Rattle.mj_trace.specs.Spelling.{answer_text, kept_text, clash_text, reply_text};
+ghost use Rattle.mj_gfile.specs.Begins.{HasFront};
+ghost use Rattle.mj_trace.specs.Spelling.{spaced, answer_text, kept_text, clash_text, reply_text};
 
 use crate::fields::{put_count, put_number, put_subtree};
 use mj_ask::{Clash, Kept, Reply};
@@ -11,7 +13,8 @@ use std::alloc::AllocError;
 
 /// Puts a reply to the end of some bytes, as a trace has it. After want of memory a part of it may stand there.
 pub fn put_reply(bytes: &mut Vec<u8>, reply: &Reply) -> Result<(), AllocError>
-    ensures { OnOk result (bytes.new.items ≡ bytes.old.items ++ reply_text reply.now) }
+    ensures ok { OnOk result (bytes.new.items ≡ bytes.old.items ++ reply_text reply.now) }
+    ensures kept { HasFront bytes.old.items bytes.new.items }
 {
     match reply {
         Reply::Done => bytes.extend_from_slice(b"done"),
@@ -37,7 +40,8 @@ pub fn put_reply(bytes: &mut Vec<u8>, reply: &Reply) -> Result<(), AllocError>
 
 // Puts an answer to an access to the end.
 fn put_answer(bytes: &mut Vec<u8>, answer: &Answer) -> Result<(), AllocError>
-    ensures { OnOk result (bytes.new.items ≡ bytes.old.items ++ answer_text answer.now) }
+    ensures ok { OnOk result (bytes.new.items ≡ bytes.old.items ++ answer_text answer.now) }
+    ensures kept { HasFront bytes.old.items bytes.new.items }
 {
     match answer {
         Answer::Value(Some(text)) => put_text(bytes, text),
@@ -55,7 +59,8 @@ fn put_answer(bytes: &mut Vec<u8>, answer: &Answer) -> Result<(), AllocError>
 
 // Puts what a clash keeps of an answer to the end.
 fn put_kept(bytes: &mut Vec<u8>, kept: &Kept) -> Result<(), AllocError>
-    ensures { OnOk result (bytes.new.items ≡ bytes.old.items ++ kept_text kept.now) }
+    ensures ok { OnOk result (bytes.new.items ≡ bytes.old.items ++ kept_text kept.now) }
+    ensures kept { HasFront bytes.old.items bytes.new.items }
 {
     match kept {
         Kept::Nothing => bytes.extend_from_slice(b"-"),
@@ -66,13 +71,21 @@ fn put_kept(bytes: &mut Vec<u8>, kept: &Kept) -> Result<(), AllocError>
     }
 }
 
+// Puts a blank and what a clash keeps of an answer to the end.
+fn put_kept_behind(bytes: &mut Vec<u8>, kept: &Kept) -> Result<(), AllocError>
+    ensures ok { OnOk result (bytes.new.items ≡ bytes.old.items ++ spaced (kept_text kept.now)) }
+    ensures kept { HasFront bytes.old.items bytes.new.items }
+{
+    bytes.push(b' ')?;
+    put_kept(bytes, kept)
+}
+
 // Puts a clash to the end.
 fn put_clash(bytes: &mut Vec<u8>, clash: &Clash) -> Result<(), AllocError>
-    ensures { OnOk result (bytes.new.items ≡ bytes.old.items ++ clash_text clash.entry.now) }
+    ensures ok { OnOk result (bytes.new.items ≡ bytes.old.items ++ clash_text clash.entry.now) }
+    ensures kept { HasFront bytes.old.items bytes.new.items }
 {
     put_count(bytes, clash.place)?;
-    bytes.push(b' ')?;
-    put_kept(bytes, &clash.then)?;
-    bytes.push(b' ')?;
-    put_kept(bytes, &clash.now)
+    put_kept_behind(bytes, &clash.then)?;
+    put_kept_behind(bytes, &clash.now)
 }

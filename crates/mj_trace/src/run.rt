@@ -1,7 +1,7 @@
 // Bytes at the front of others.
 
 ghost use Rattle.std.specs.Prelude.{◌≡◌};
-ghost use Rattle.mj_trace.specs.Reading.{is_in, front, behind, skipped, begins_with};
+ghost use Rattle.mj_trace.specs.Reading.{is_in, front, behind_bytes, skipped, begins_with};
 
 /// Which bytes stand in a run of them.
 #[derive(Clone, Copy, PartialEq, Eq, Debug)]
@@ -27,10 +27,10 @@ fn is_in(run: Run, byte: u8) -> bool
     }
 }
 
-/// The bytes of such a run at the front, and what follows them.
+/// Splits off the bytes of such a run at the front, and gives what follows them too.
 pub(crate) fn split(bytes: &[u8], run: Run) -> (&[u8], &[u8])
     ensures front { result.0.now ≡ front run bytes.now }
-    ensures behind { result.1.now ≡ behind run bytes.now }
+    ensures behind { result.1.now ≡ behind_bytes run bytes.now }
 {
     for (place, byte) in bytes.iter().enumerate() {
         if !is_in(run, *byte) {
@@ -40,7 +40,7 @@ pub(crate) fn split(bytes: &[u8], run: Run) -> (&[u8], &[u8])
     bytes.split_at(bytes.len())
 }
 
-/// What follows the first byte.
+/// Gives what follows the first byte.
 pub(crate) fn skip(bytes: &[u8]) -> &[u8]
     ensures { result.now ≡ skipped bytes.now }
 {

@@ -7,11 +7,11 @@ ghost use Rattle.mj_trace.specs.Reading.{is_absent, answer_in, number_kept, kept
 use crate::found::{Found, find_subscript, find_text, read_code, read_count, read_number};
 use crate::members::{find_name, find_subtree};
 use crate::run::{Run, begins_with, skip, split};
-use mj_ask::{Ask, BoxedClash, Clash, Kept, Reply};
+use mj_ask::{Ask, BoxedClash, Clash, DeviceAsk, Kept, Reply, SharedAsk};
 use mj_store::{Access, Answer};
 use std::alloc::{AllocError, Global};
 
-/// The reply to an ask.
+/// Finds the reply to an ask.
 pub(crate) fn find_reply(
     alloc: Global,
     ask: &Ask,
@@ -38,48 +38,50 @@ pub(crate) fn find_reply(
     })
 }
 
+// Gives the reply that it is done: an access is answered so.
 fn done_of(ask: &Ask) -> Reply
     ensures { result ≡ done_of ask.now }
 {
     match ask {
-        Ask::Access(_) => Reply::Answer(Answer::Done),
+        Ask::Shared(SharedAsk::Access(_)) => Reply::Answer(Answer::Done),
         _ => Reply::Done,
     }
 }
 
+// Gives the reply that a limit would be passed: an access is answered so.
 fn limit_of(ask: &Ask) -> Reply
     ensures { result ≡ limit_of ask.now }
 {
     match ask {
-        Ask::Access(_) => Reply::Answer(Answer::Limit),
+        Ask::Shared(SharedAsk::Access(_)) => Reply::Answer(Answer::Limit),
         _ => Reply::Limit,
     }
 }
 
-// A reply that is no word.
+// Finds a reply that is no word.
 fn find_given(alloc: Global, ask: &Ask, bytes: &[u8]) -> Result<Option<Reply>, AllocError>
     ensures { IfOk result (λ r. r ≡ given_in ask.now bytes.now) }
 {
     match ask {
-        Ask::Access(access) => match find_answer(alloc, access, bytes)? {
+        Ask::Shared(SharedAsk::Access(access)) => match find_answer(alloc, access, bytes)? {
             Some(answer) => Ok(Some(Reply::Answer(answer))),
             None => Ok(None),
         },
-        Ask::DeviceLine(_, _) => match find_text(alloc, bytes)? {
+        Ask::Device(_, DeviceAsk::Line(_)) => match find_text(alloc, bytes)? {
             Some((text, _)) => Ok(Some(Reply::Line(text))),
             None => Ok(None),
         },
-        Ask::DeviceByte(_, _) => match read_code(bytes) {
+        Ask::Device(_, DeviceAsk::Byte(_)) => match read_code(bytes) {
             Some((code, _)) => Ok(Some(Reply::Byte(code))),
             None => Ok(None),
         },
-        Ask::Start(_, _) => Ok(read_job(bytes)),
-        Ask::Commit => find_clash(alloc, bytes),
+        Ask::Shared(SharedAsk::Start(_, _)) => Ok(read_job(bytes)),
+        Ask::Shared(SharedAsk::Commit) => find_clash(alloc, bytes),
         _ => Ok(None),
     }
 }
 
-// What an access is answered.
+// Finds what an access is answered.
 fn find_answer(alloc: Global, access: &Access, bytes: &[u8]) -> Result<Option<Answer>, AllocError>
     ensures { IfOk result (λ r. r ≡ answer_in access.now bytes.now) }
 {
@@ -130,7 +132,7 @@ fn is_absent(bytes: &[u8]) -> bool
     bytes == b"-".as_slice()
 }
 
-// The number of a job, behind its word.
+// Reads the number of a job, behind its word.
 fn read_job(bytes: &[u8]) -> Option<Reply>
     ensures { result ≡ job_in bytes.now }
 {
@@ -141,7 +143,7 @@ fn read_job(bytes: &[u8]) -> Option<Reply>
     }
 }
 
-// A clash, behind its word.
+// Finds a clash, behind its word.
 fn find_clash(alloc: Global, bytes: &[u8]) -> Result<Option<Reply>, AllocError>
     ensures { IfOk result (λ r. r ≡ clash_in bytes.now) }
 {
@@ -168,7 +170,7 @@ fn find_clash(alloc: Global, bytes: &[u8]) -> Result<Option<Reply>, AllocError>
     }
 }
 
-// What a clash keeps.
+// Finds what a clash keeps.
 fn find_kept<'a>(alloc: Global, bytes: &'a [u8]) -> Result<Found<'a, Kept>, AllocError>
     ensures { IfOk result (λ r. option_map (λ p. (p.0, p.1.now)) r ≡ kept_in bytes.now) }
 {
@@ -192,7 +194,7 @@ fn find_kept<'a>(alloc: Global, bytes: &'a [u8]) -> Result<Found<'a, Kept>, Allo
     }
 }
 
-// A number that a clash keeps, or nothing.
+// Reads a number that a clash keeps, or nothing.
 fn read_kept_number(bytes: &[u8]) -> Found<'_, Kept>
     ensures { option_map (λ p. (p.0, p.1.now)) result ≡ number_kept bytes.now }
 {

@@ -6,16 +6,17 @@ ghost use Rattle.std.specs.Option.{option_copied};
 ghost use Rattle.mj_trace.specs.Trace.{trace_text, event_lines};
 ghost use Rattle.mj_trace.specs.Lines.{no_lines, is_full, stands_behind, principal, may_start, may_follow, with_piece};
 
-use crate::head::{event_line, opening};
+use crate::head::{put_event, put_opening};
 use crate::piece::Piece;
 use mj_ask::{Ask, Entry, Reply};
 use mj_text::{Digits, Text};
 use std::alloc::{AllocError, Global};
 use std::marker::Model;
 
-/// The most first jobs, and the most events of a run.
+/// The most first jobs of a run.
 const STARTS_LIMIT: usize = 255;
 
+/// The most events of a run.
 const EVENTS_LIMIT: usize = 1_000_000;
 
 /// A run as it is written down: the devices that there are, where the first jobs start, and what each job asked and was told.
@@ -35,7 +36,7 @@ impl Model for Trace {
 }
 
 impl Trace {
-    /// The trace of these: each device by its name with the number of its sessions, the starts, and the events with their jobs.
+    /// Makes the trace of these: each device by its name with the number of its sessions, the starts, and the events with their jobs.
     pub fn new(pool: Vec<(Text, u32)>, starts: Vec<Entry>, events: Vec<(u32, Ask, Reply)>) -> Trace
         ensures { result ≡ record { pool = pool.items; starts = starts.items; events = events.items } }
     {
@@ -46,28 +47,28 @@ impl Trace {
         }
     }
 
-    /// The devices, each with the number of its sessions.
+    /// Gives the devices, each with the number of its sessions.
     pub fn pool(&self) -> &[(Text, u32)]
         ensures { result.now ≡ self.now.pool }
     {
         &self.pool
     }
 
-    /// Where the first jobs start.
+    /// Tells where the first jobs start.
     pub fn starts(&self) -> &[Entry]
         ensures { result.now ≡ self.now.starts }
     {
         &self.starts
     }
 
-    /// What each job asked and was told, in order.
+    /// Gives what each job asked and was told, in order.
     pub fn events(&self) -> &[(u32, Ask, Reply)]
         ensures { result.now ≡ self.now.events }
     {
         &self.events
     }
 
-    /// A trace without a line.
+    /// Makes a trace without a line.
     pub(crate) fn empty(alloc: Global) -> Trace
         ensures { result ≡ no_lines }
     {
@@ -100,7 +101,7 @@ impl Trace {
         }
     }
 
-    /// One line more.
+    /// Adds a line.
     pub(crate) fn add(&mut self, piece: Piece) -> Result<(), AllocError>
         ensures { OnOk result (self.new ≡ with_piece self.old piece) }
     {
@@ -130,7 +131,7 @@ fn may_start(pool: &[(Text, u32)], count: usize) -> bool
     count < STARTS_LIMIT && count < principal(pool) as usize
 }
 
-// The sessions of the principal device.
+// Gives the sessions of the principal device.
 fn principal(pool: &[(Text, u32)]) -> u32
     ensures { result ≡ principal pool.now }
 {
@@ -142,6 +143,7 @@ fn principal(pool: &[(Text, u32)]) -> u32
     0
 }
 
+// Whether this is the name of the principal device.
 fn is_principal(name: &Text) -> bool
     ensures { result ≡ bytes_eq name.now (codes "0") }
 {
@@ -153,7 +155,8 @@ fn is_principal(name: &Text) -> bool
 pub fn write_trace(alloc: Global, trace: &Trace) -> Result<Vec<u8>, AllocError>
     ensures { IfOk result (λ bytes. bytes.items ≡ trace_text trace.now) }
 {
-    let mut bytes = opening(alloc, &trace.pool, &trace.starts)?;
+    let mut bytes = Vec::new(alloc);
+    put_opening(alloc, &mut bytes, &trace.pool, &trace.starts)?;
     put_events(alloc, &mut bytes, &trace.events)?;
     Ok(bytes)
 }
@@ -167,9 +170,7 @@ fn put_events(
     ensures { OnOk result (bytes.new.items ≡ bytes.old.items ++ event_lines events.now) }
 {
     for (job, ask, reply) in events {
-        let line = event_line(alloc, *job, ask, reply)?;
-        bytes.extend_from_slice(&line)?;
-        bytes.push(b'\n')?;
+        put_event(alloc, bytes, *job, ask, reply)?;
     }
     Ok(())
 }

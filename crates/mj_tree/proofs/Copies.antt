@@ -29,9 +29,11 @@ module _ {K V : Type 0} where
   behind_none (e ∷ es) = ap (λ (r : List (List K × V)). e ∷ r) (behind_none es)
 
   -- one child more is gathered
-  pub gathered : (front f g : List K) (s : K) (child : List (List K × V)) (before after total : List (List K × V)) (left rest : List (K × List (List K × V))) → before ++ behind front (below left) ≡ total → f ≡ front → left ≡ (s, child) ∷ rest → g ≡ f ++ s ∷ [] → after ≡ before ++ behind g child → after ++ behind front (below rest) ≡ total
+  pub gathered : (front f g : List K) (s : K) (child : List (List K × V)) (before after total : List (List K × V)) (left rest : List (K × List (List K × V)))
+      → before ++ behind front (below left) ≡ total → f ≡ front → left ≡ (s, child) ∷ rest → g ≡ f ++ s ∷ [] → after ≡ before ++ behind g child → after ++ behind front (below rest) ≡ total
   gathered front f g s child before after total left rest all same next longer more =
-      ap (λ (xs : List (List K × V)). xs ++ behind front (below rest)) (more ∙ ap (λ (p : List K). before ++ behind p child) (longer ∙ ap (λ (p : List K). p ++ s ∷ []) same) ∙ ap (λ (xs : List (List K × V)). before ++ xs) (behind_one front s child))
+      ap (λ (xs : List (List K × V)). xs ++ behind front (below rest)) (more ∙ ap (λ (p : List K). before ++ behind p child) (longer ∙ ap (λ (p : List K). p ++ s ∷ []) same)
+      ∙ ap (λ (xs : List (List K × V)). before ++ xs) (behind_one front s child))
       ∙ joined before (behind front (under s child)) (behind front (below rest))
       ∙ ap (λ (xs : List (List K × V)). before ++ xs) (sym (behind-append front (under s child) (below rest)))
       ∙ ap (λ (ks : List (K × List (List K × V))). before ++ behind front (below ks)) (sym next)

@@ -19,7 +19,8 @@ module _ {K V : Type 0} (R : K → K → Ordering) where
   without-append p [] ys = refl
   without-append p (x ∷ xs) ys =
       ap (λ (r : List (List K × V)). cond (is_none (after_front R p x.0)) (x ∷ r) r) (without-append p xs ys)
-      ∙ elim (is_none (after_front R p x.0)) as (λ b. cond b (x ∷ (without R p xs ++ without R p ys)) (without R p xs ++ without R p ys) ≡ cond b (x ∷ without R p xs) (without R p xs) ++ without R p ys) [ true ↦ refl | false ↦ refl ]
+      ∙ elim (is_none (after_front R p x.0)) as (λ b. cond b (x ∷ (without R p xs ++ without R p ys)) (without R p xs ++ without R p ys)
+      ≡ cond b (x ∷ without R p xs) (without R p xs) ++ without R p ys) [ true ↦ refl | false ↦ refl ]
 
   pub without_all : (nodes : List (List K × V)) → without R [] nodes ≡ []
   without_all [] = refl
@@ -29,7 +30,14 @@ module _ {K V : Type 0} (R : K → K → Ordering) where
   passed_down s t p [] = refl
   passed_down s t p (e ∷ es) =
       ap (λ (r : List (List K × V)). cond (is_none (cond (eq_by_cmp R s t) (after_front R p e.0) None)) ((t ∷ e.0, e.1) ∷ r) r) (passed_down s t p es)
-      ∙ elim (is_none (cond (eq_by_cmp R s t) (after_front R p e.0) None)) as (λ b. cond b ((t ∷ e.0, e.1) ∷ under t (filter (λ e. is_none (cond (eq_by_cmp R s t) (after_front R p e.0) None)) es)) (under t (filter (λ e. is_none (cond (eq_by_cmp R s t) (after_front R p e.0) None)) es)) ≡ under t (cond b (e ∷ filter (λ e. is_none (cond (eq_by_cmp R s t) (after_front R p e.0) None)) es) (filter (λ e. is_none (cond (eq_by_cmp R s t) (after_front R p e.0) None)) es))) [ true ↦ refl | false ↦ refl ]
+      ∙ elim (is_none (cond (eq_by_cmp R s t) (after_front R p e.0) None)) as (λ b.
+      cond b ((t ∷ e.0, e.1) ∷ under t (filter (λ e. is_none (cond (eq_by_cmp R s t) (after_front R p e.0) None)) es))
+      (under t (filter (λ e. is_none (cond (eq_by_cmp R s t) (after_front R p e.0) None)) es))
+      ≡ under t (cond b (e ∷ filter (λ e. is_none (cond (eq_by_cmp R s t) (after_front R p e.0) None)) es) (filter (λ e. is_none (cond (eq_by_cmp R s t) (after_front R p e.0) None)) es))) [
+        | true ↦
+            refl
+        | false ↦ refl
+      ]
 
   picked : (p : List K) (b : Bool) (nodes : List (List K × V)) → filter (λ (e : List K × V). is_none (cond b (after_front R p e.0) None)) nodes ≡ cond b (without R p nodes) nodes
   picked p true nodes = refl
@@ -51,12 +59,14 @@ module _ {K V : Type 0} (R : K → K → Ordering) where
       ] none
 
   -- else it goes from that child
-  without_child : IsTotalOrder R → (s : K) (p : List K) (ks : List (K × List (List K × V))) (c : List (List K × V)) → T (is_sorted R ks) → lookup (is_at (R s)) ks ≡ Some c → without R (s ∷ p) (below ks) ≡ below (set_value (is_at (R s)) ks (without R p c))
+  without_child : IsTotalOrder R → (s : K) (p : List K) (ks : List (K × List (List K × V))) (c : List (List K × V)) → T (is_sorted R ks) → lookup (is_at (R s)) ks ≡ Some c
+      → without R (s ∷ p) (below ks) ≡ below (set_value (is_at (R s)) ks (without R p c))
   without_child o s p [] c h there = absurd cc
   without_child o s p (k ∷ ks) c h there =
       without-append (s ∷ p) (under k.0 k.1) (below ks)
       ∙ ap (λ (xs : List (List K × V)). xs ++ without R (s ∷ p) (below ks)) (without-under s k.0 p k.1)
-      ∙ elim (R s k.0) as (λ r. R s k.0 ≡ r → cond (is_eq r) (Some k.1) (lookup (is_at (R s)) ks) ≡ Some c → under k.0 (cond (is_eq r) (without R p k.1) k.1) ++ without R (s ∷ p) (below ks) ≡ below (cond (is_eq r) ((k.0, without R p c) ∷ ks) (k ∷ set_value (is_at (R s)) ks (without R p c)))) [
+      ∙ elim (R s k.0) as (λ r. R s k.0 ≡ r → cond (is_eq r) (Some k.1) (lookup (is_at (R s)) ks) ≡ Some c
+      → under k.0 (cond (is_eq r) (without R p k.1) k.1) ++ without R (s ∷ p) (below ks) ≡ below (cond (is_eq r) ((k.0, without R p c) ∷ ks) (k ∷ set_value (is_at (R s)) ks (without R p c)))) [
         | Less ↦ λ e l. ap (λ (xs : List (List K × V)). under k.0 k.1 ++ xs) (without_child o s p ks c (second_so _ _ h) l)
         | Equal ↦ λ e l. let same : k.1 ≡ c = cc in (λ i. under k.0 (without R p (same i)) ++ without_none s p ks (lookup_before R s ks (tied_before R o s k.0 ks e (first_so _ _ h))) i)
         | Greater ↦ λ e l. ap (λ (xs : List (List K × V)). under k.0 k.1 ++ xs) (without_child o s p ks c (second_so _ _ h) l)
@@ -87,12 +97,15 @@ module _ {K V : Type 0} (R : K → K → Ordering) where
         | false ↦ λ e. subst (λ b. AreFilled (cond b (set_value (is_at (R s)) ks w) (k ∷ remove_entry (is_at (R s)) (set_value (is_at (R s)) ks w)))) (sym e) (f.0, filled_removed s ks w f.1)
       ] refl
 
-  module _ (o : IsTotalOrder R) (ks : List (K × List (List K × V))) (s : K) (p : List K) (c w : List (List K × V)) (there : lookup (is_at (R s)) ks ≡ Some c) (h : T (is_sorted R ks)) (gone : w ≡ without R p c) where
+  module _ (o : IsTotalOrder R) (ks : List (K × List (List K × V))) (s : K) (p : List K) (c w : List (List K × V)) (there : lookup (is_at (R s)) ks ≡ Some c) (h : T (is_sorted R ks))
+      (gone : w ≡ without R p c) where
     pub kill_written : (es : List (K × List (List K × V))) (text : Option V) → es ≡ set_value (is_at (R s)) ks w → own text ++ below es ≡ without R (s ∷ p) (own text ++ below ks)
     kill_written es text written =
-        sym (kept_own s p text ks ∙ ap (λ (xs : List (List K × V)). own text ++ xs) (without_child o s p ks c h there ∙ ap (λ (n : List (List K × V)). below (set_value (is_at (R s)) ks n)) (sym gone) ∙ ap below (sym written)))
+        sym (kept_own s p text ks ∙ ap (λ (xs : List (List K × V)). own text ++ xs) (without_child o s p ks c h there ∙ ap (λ (n : List (List K × V)). below (set_value (is_at (R s)) ks n)) (sym gone)
+        ∙ ap below (sym written)))
 
-    pub kill_removed : (es fs : List (K × List (List K × V))) (text : Option V) → es ≡ set_value (is_at (R s)) ks w → fs ≡ remove_entry (is_at (R s)) es → w ≡ [] → own text ++ below fs ≡ without R (s ∷ p) (own text ++ below ks)
+    pub kill_removed : (es fs : List (K × List (List K × V))) (text : Option V) → es ≡ set_value (is_at (R s)) ks w → fs ≡ remove_entry (is_at (R s)) es → w ≡ []
+        → own text ++ below fs ≡ without R (s ∷ p) (own text ++ below ks)
     kill_removed es fs text written removed empty =
         ap (λ (xs : List (List K × V)). own text ++ xs)
         (ap below removed

@@ -46,7 +46,10 @@ module _ {K V : Type 0} (R : K → K → Ordering) where
   later-append p [] ys = refl
   later-append p (x ∷ xs) ys =
       ap (λ (r : List (List K × V)). cond (is_lt (slice_cmp R p x.0)) (x ∷ r) r) (later-append p xs ys)
-      ∙ elim (is_lt (slice_cmp R p x.0)) as (λ b. cond b (x ∷ (later R p xs ++ later R p ys)) (later R p xs ++ later R p ys) ≡ cond b (x ∷ later R p xs) (later R p xs) ++ later R p ys) [ true ↦ refl | false ↦ refl ]
+      ∙ elim (is_lt (slice_cmp R p x.0)) as (λ b. cond b (x ∷ (later R p xs ++ later R p ys)) (later R p xs ++ later R p ys) ≡ cond b (x ∷ later R p xs) (later R p xs) ++ later R p ys) [
+        | true ↦ refl
+        | false ↦ refl
+      ]
 
   later_own : (s : K) (p : List K) (text : Option V) (rest : List (List K × V)) → later R (s ∷ p) (own text ++ rest) ≡ later R (s ∷ p) rest
   later_own s p None rest = refl
@@ -67,7 +70,10 @@ module _ {K V : Type 0} (R : K → K → Ordering) where
       (λ i. cond (is_lt (ordering_then (e i) (slice_cmp R p x.0))) ((t ∷ x.0, x.1) ∷ later-under s t p xs Less e i) (later-under s t p xs Less e i))
   later-under s t p (x ∷ xs) Equal e =
       (λ i. cond (is_lt (ordering_then (e i) (slice_cmp R p x.0))) ((t ∷ x.0, x.1) ∷ later-under s t p xs Equal e i) (later-under s t p xs Equal e i))
-      ∙ elim (is_lt (slice_cmp R p x.0)) as (λ b. cond b ((t ∷ x.0, x.1) ∷ under t (later R p xs)) (under t (later R p xs)) ≡ under t (cond b (x ∷ later R p xs) (later R p xs))) [ true ↦ refl | false ↦ refl ]
+      ∙ elim (is_lt (slice_cmp R p x.0)) as (λ b. cond b ((t ∷ x.0, x.1) ∷ under t (later R p xs)) (under t (later R p xs)) ≡ under t (cond b (x ∷ later R p xs) (later R p xs))) [
+        | true ↦ refl
+        | false ↦ refl
+      ]
   later-under s t p (x ∷ xs) Greater e =
       (λ i. cond (is_lt (ordering_then (e i) (slice_cmp R p x.0))) ((t ∷ x.0, x.1) ∷ later-under s t p xs Greater e i) (later-under s t p xs Greater e i))
 
@@ -81,19 +87,23 @@ module _ {K V : Type 0} (R : K → K → Ordering) where
     later_below s p [] h = refl
     later_below s p (k ∷ ks) h =
         later-append (s ∷ p) (under k.0 k.1) (below ks)
-        ∙ elim (R s k.0) as (λ r. R s k.0 ≡ r → later R (s ∷ p) (under k.0 k.1) ++ later R (s ∷ p) (below ks) ≡ under s (later R p (nodes_of (cond (is_eq r) (Some k.1) (lookup (is_at (R s)) ks)))) ++ below (cond (is_lt r) (k ∷ beyond R s ks) (beyond R s ks))) [
+        ∙ elim (R s k.0) as (λ r. R s k.0 ≡ r → later R (s ∷ p) (under k.0 k.1) ++ later R (s ∷ p) (below ks)
+        ≡ under s (later R p (nodes_of (cond (is_eq r) (Some k.1) (lookup (is_at (R s)) ks)))) ++ below (cond (is_lt r) (k ∷ beyond R s ks) (beyond R s ks))) [
           | Less ↦ λ e.
               let none = lookup_before R s ks (before_less R o s k.0 ks e (first_so _ _ h)) in
-              (λ i. later-under s k.0 p k.1 Less e i ++ (later_below s p ks (second_so _ _ h) ∙ ap (λ (c : Option (List (List K × V))). under s (later R p (nodes_of c)) ++ below (beyond R s ks)) none) i)
+              (λ i. later-under s k.0 p k.1 Less e i ++ (later_below s p ks (second_so _ _ h) ∙ ap (λ (c : Option (List (List K × V))). under s (later R p (nodes_of c)) ++ below (beyond R s ks)) none)
+              i)
               ∙ ap (λ (c : Option (List (List K × V))). under s (later R p (nodes_of c)) ++ (under k.0 k.1 ++ below (beyond R s ks))) (sym none)
           | Equal ↦ λ e.
               let none = lookup_before R s ks (tied_before R o s k.0 ks e (first_so _ _ h)) in
-              (λ i. later-under s k.0 p k.1 Equal e i ++ (later_below s p ks (second_so _ _ h) ∙ ap (λ (c : Option (List (List K × V))). under s (later R p (nodes_of c)) ++ below (beyond R s ks)) none) i)
+              (λ i. later-under s k.0 p k.1 Equal e i ++ (later_below s p ks (second_so _ _ h)
+              ∙ ap (λ (c : Option (List (List K × V))). under s (later R p (nodes_of c)) ++ below (beyond R s ks)) none) i)
               ∙ ap (λ (t : K). under t (later R p k.1) ++ below (beyond R s ks)) (sym (same s k.0 e))
           | Greater ↦ λ e. (λ i. later-under s k.0 p k.1 Greater e i ++ later_below s p ks (second_so _ _ h) i)
         ] refl
 
-    module _ (path : List K) (s : K) (le : 1 ≤ length path) (is : s ≡ get_or path 0 s) (node : List (List K × V)) (text : Option V) (ks : List (K × List (List K × V))) (view : own text ++ below ks ≡ node) (h : T (is_sorted R ks)) where
+    module _ (path : List K) (s : K) (le : 1 ≤ length path) (is : s ≡ get_or path 0 s) (node : List (List K × V)) (text : Option V) (ks : List (K × List (List K × V)))
+        (view : own text ++ below ks ≡ node) (h : T (is_sorted R ks)) where
       after_first : List K
       after_first = take (length path - 1) (drop 1 path)
 
@@ -106,7 +116,10 @@ module _ {K V : Type 0} (R : K → K → Ordering) where
       later_split = (λ i. later R (of_path i) (sym view i)) ∙ later_own s after_first text (below ks) ∙ later_below s after_first ks h
 
       -- the next place isn't in the child at the first subscript
-      pub turn_aside : (r : Option (ℕ × Bor K × Bor (List (List K × V)))) → lead (later R (take (length path - 1) (drop 1 path)) (nodes_of (lookup (is_at (R s)) ks))) ≡ None → MatchOption r (lead (below (beyond R s ks)) ≡ None) (λ t. (t.0 ≡ 0) × (0 < length t.2.now) × (lead (below (beyond R s ks)) ≡ option_map (λ q. t.1.now ∷ q) (lead t.2.now))) → MatchOption r (lead (later R path node) ≡ None) (λ t. (t.0 ≤ length path) × (0 < length t.2.now) × (lead (later R path node) ≡ option_map (λ q. take t.0 path ++ t.1.now ∷ q) (lead t.2.now)))
+      pub turn_aside : (r : Option (ℕ × Bor K × Bor (List (List K × V)))) → lead (later R (take (length path - 1) (drop 1 path)) (nodes_of (lookup (is_at (R s)) ks))) ≡ None
+          → MatchOption r (lead (below (beyond R s ks)) ≡ None) (λ t. (t.0 ≡ 0) × (0 < length t.2.now) × (lead (below (beyond R s ks)) ≡ option_map (λ q. t.1.now ∷ q) (lead t.2.now)))
+          → MatchOption r (lead (later R path node) ≡ None) (λ t. (t.0 ≤ length path) × (0 < length t.2.now)
+          × (lead (later R path node) ≡ option_map (λ q. take t.0 path ++ t.1.now ∷ q) (lead t.2.now)))
       unfolding after_first
       turn_aside None none a =
           ap lead later_split ∙ lead_rest _ _ (lead-under s (later R after_first (nodes_of (lookup (is_at (R s)) ks))) ∙ ap (option_map (λ p. s ∷ p)) none) ∙ a
@@ -119,7 +132,9 @@ module _ {K V : Type 0} (R : K → K → Ordering) where
       )
 
       -- the next place is in that child
-      pub turn_deeper : (c b : List (List K × V)) (stay : ℕ) (n : K) → lookup (is_at (R s)) ks ≡ Some c → stay ≤ length (take (length path - 1) (drop 1 path)) → 0 < length b → lead (later R (take (length path - 1) (drop 1 path)) c) ≡ option_map (λ q. take stay (take (length path - 1) (drop 1 path)) ++ n ∷ q) (lead b) → (stay + 1 ≤ length path) × (0 < length b) × (lead (later R path node) ≡ option_map (λ q. take (stay + 1) path ++ n ∷ q) (lead b))
+      pub turn_deeper : (c b : List (List K × V)) (stay : ℕ) (n : K) → lookup (is_at (R s)) ks ≡ Some c → stay ≤ length (take (length path - 1) (drop 1 path)) → 0 < length b
+          → lead (later R (take (length path - 1) (drop 1 path)) c) ≡ option_map (λ q. take stay (take (length path - 1) (drop 1 path)) ++ n ∷ q) (lead b)
+          → (stay + 1 ≤ length path) × (0 < length b) × (lead (later R path node) ≡ option_map (λ q. take (stay + 1) path ++ n ∷ q) (lead b))
       unfolding after_first
       turn_deeper c [] stay n there few some is = absurd (omega (arith, some))
       turn_deeper c (e ∷ es) stay n there few some is = (
@@ -127,7 +142,8 @@ module _ {K V : Type 0} (R : K → K → Ordering) where
         some,
         ap lead later_split
             ∙ lead_front (under s (later R after_first (nodes_of (lookup (is_at (R s)) ks)))) (below (beyond R s ks)) (s ∷ (take stay after_first ++ n ∷ e.0))
-            (lead-under s (later R after_first (nodes_of (lookup (is_at (R s)) ks))) ∙ ap (λ (l : Option (List (List K × V))). option_map (λ p. s ∷ p) (lead (later R after_first (nodes_of l)))) there ∙ ap (option_map (λ p. s ∷ p)) is)
+            (lead-under s (later R after_first (nodes_of (lookup (is_at (R s)) ks))) ∙ ap (λ (l : Option (List (List K × V))). option_map (λ p. s ∷ p) (lead (later R after_first (nodes_of l)))) there
+            ∙ ap (option_map (λ p. s ∷ p)) is)
             ∙ ap (λ (p : List K). Some (p ++ n ∷ e.0)) (ap (λ k. take k (s ∷ after_first)) {x = suc stay} {y = stay + 1} (omega arith) ∙ ap (take (stay + 1)) (sym of_path)),
       )
 
@@ -196,7 +212,8 @@ module _ {K X : Type 0} (R : K → K → Ordering) where
   around_of o s es fs h between =
       subst (λ (xs : List (K × X)). Around s es xs) (sym (between ∙ filter_same (λ k. is_le (R s k.0) && true) (λ k. is_le (R s k.0)) (λ k. after_all (is_le (R s k.0))) es)) (from_around o s es h)
 
-module _ {K V : Type 0} (R : K → K → Ordering) (o : IsTotalOrder R) (s : K) (es fs : List (K × List (List K × V))) (h : T (is_sorted R es)) (between : fs ≡ entries_between R (Included s) Unbounded es) where
+module _ {K V : Type 0} (R : K → K → Ordering) (o : IsTotalOrder R) (s : K) (es fs : List (K × List (List K × V))) (h : T (is_sorted R es))
+    (between : fs ≡ entries_between R (Included s) Unbounded es) where
   -- nothing stands from the subscript on
   pub around_none : fs ≡ [] → (lookup (is_at (R s)) es ≡ None) × (lead (below (beyond R s es)) ≡ None)
   around_none none =
@@ -208,7 +225,8 @@ module _ {K V : Type 0} (R : K → K → Ordering) (o : IsTotalOrder R) (s : K) 
     first_around = subst (λ (xs : List (K × List (List K × V))). Around R s es xs) taken (around_of R o s es fs h between)
 
     -- the first that does stands beyond it
-    pub around_aside : AreFilled es → is_eq (R s x.0.now) ≡ false → (lookup (is_at (R s)) es ≡ None) × (0 < length x.1.now) × (lead (below (beyond R s es)) ≡ option_map (λ q. x.0.now ∷ q) (lead x.1.now))
+    pub around_aside : AreFilled es → is_eq (R s x.0.now) ≡ false → (lookup (is_at (R s)) es ≡ None) × (0 < length x.1.now)
+        × (lead (below (beyond R s es)) ≡ option_map (λ q. x.0.now ∷ q) (lead x.1.now))
     around_aside f is =
         let a = first_around.1 is in
         let some : AreFilled (deref_pair x ∷ t) = subst AreFilled a.1 (filled_beyond R s es f) in
@@ -221,7 +239,8 @@ module _ {K V : Type 0} (R : K → K → Ordering) (o : IsTotalOrder R) (s : K) 
         (a.0, ap (λ (ks : List (K × List (List K × V))). lead (below ks)) (a.1 ∙ none))
 
     -- it stands at it, and another one beyond
-    pub around_next : (y : Bor K × Bor (List (List K × V))) (u : List (K × List (List K × V))) → AreFilled es → is_eq (R s x.0.now) ≡ true → t ≡ deref_pair y ∷ u → (lookup (is_at (R s)) es ≡ Some x.1.now) × (0 < length y.1.now) × (lead (below (beyond R s es)) ≡ option_map (λ q. y.0.now ∷ q) (lead y.1.now))
+    pub around_next : (y : Bor K × Bor (List (List K × V))) (u : List (K × List (List K × V))) → AreFilled es → is_eq (R s x.0.now) ≡ true → t ≡ deref_pair y ∷ u
+        → (lookup (is_at (R s)) es ≡ Some x.1.now) × (0 < length y.1.now) × (lead (below (beyond R s es)) ≡ option_map (λ q. y.0.now ∷ q) (lead y.1.now))
     around_next y u f is more =
         let a = first_around.0 is in
         let some : AreFilled (deref_pair y ∷ u) = subst AreFilled (a.1 ∙ more) (filled_beyond R s es f) in

@@ -54,7 +54,8 @@ module _ {K V : Type 0} (R : K → K → Ordering) where
   picked p false [] = refl
   picked p false (e ∷ es) = picked p false es
 
-  passed_down : (s t : K) (p : List K) (nodes : List (List K × V)) → subtree R (s ∷ p) (under t nodes) ≡ filter_map (λ (e : List K × V). option_map (λ l. (l, e.1)) (cond (eq_by_cmp R s t) (after_front R p e.0) None)) nodes
+  passed_down : (s t : K) (p : List K) (nodes : List (List K × V)) → subtree R (s ∷ p) (under t nodes)
+      ≡ filter_map (λ (e : List K × V). option_map (λ l. (l, e.1)) (cond (eq_by_cmp R s t) (after_front R p e.0) None)) nodes
   passed_down s t p [] = refl
   passed_down s t p (e ∷ es) = ap (cons_option (option_map (λ l. (l, e.1)) (cond (eq_by_cmp R s t) (after_front R p e.0) None))) (passed_down s t p es)
 
@@ -70,7 +71,8 @@ module _ {K V : Type 0} (R : K → K → Ordering) where
 
   -- ---- the text at a list of subscripts
 
-  found_there : (o : Option (List K)) (v : V) (rest : List (List K × V)) → cond (is_end R o) (Some v) (find (slice_cmp R) [] rest) ≡ find (slice_cmp R) [] (cons_option (option_map (λ l. (l, v)) o) rest)
+  found_there : (o : Option (List K)) (v : V) (rest : List (List K × V)) → cond (is_end R o) (Some v) (find (slice_cmp R) [] rest)
+      ≡ find (slice_cmp R) [] (cons_option (option_map (λ l. (l, v)) o) rest)
   found_there None v rest = refl
   found_there (Some []) v rest = refl
   found_there (Some (s ∷ l)) v rest = refl
@@ -114,7 +116,7 @@ module _ {K V : Type 0} (R : K → K → Ordering) where
   data_branch None k ks h = λ i. cond (no_own_below (k ∷ ks) i) 1 0 + cond (one_below k.0 k.1 (below ks) h.0 i) 10 0
   data_branch (Some text) k ks h = λ i. 1 + cond (one_below k.0 k.1 (below ks) h.0 i) 10 0
 
-  -- the same where it is told that some child is there
+  -- what such a node holds, where it is told that some child is there
   pub data_told : (text : Option V) (ks : List (K × List (List K × V))) → (length ks ≡ 0 → ⊥) → AreFilled ks → data_of (own text ++ below ks) ≡ cond (is_some text) 11 10
   data_told text [] n h = absurd (n refl)
   data_told None (k ∷ ks) n h = data_branch None k ks h
@@ -135,7 +137,8 @@ module _ {K V : Type 0} (R : K → K → Ordering) where
         ] refl
 
     -- what stands at and below a list of subscripts is what stands there in the child at the first of them
-    pub subtree_child : (s : K) (p : List K) (text : Option V) (ks : List (K × List (List K × V))) → T (is_sorted R ks) → subtree R (s ∷ p) (own text ++ below ks) ≡ subtree R p (nodes_of (lookup (is_at (R s)) ks))
+    pub subtree_child : (s : K) (p : List K) (text : Option V) (ks : List (K × List (List K × V))) → T (is_sorted R ks)
+        → subtree R (s ∷ p) (own text ++ below ks) ≡ subtree R p (nodes_of (lookup (is_at (R s)) ks))
     subtree_child s p None ks h = subtree_below s p ks h
     subtree_child s p (Some text) ks h = subtree_below s p ks h
 
@@ -155,6 +158,8 @@ no_elements [] lt = refl
 no_elements (y ∷ ys) lt = absurd (omega arith)
 
 -- a question at a list of subscripts that a pattern took apart
-pub subtree_step : {K V : Type 0} (R : K → K → Ordering) (o : IsTotalOrder R) (path : List K) (s : K) → 1 ≤ length path → s ≡ get_or path 0 s → (node : List (List K × V)) (text : Option V) (ks : List (K × List (List K × V))) → own text ++ below ks ≡ node → T (is_sorted R ks) → subtree R path node ≡ subtree R (take (length path - 1) (drop 1 path)) (nodes_of (lookup (is_at (R s)) ks))
+pub subtree_step : {K V : Type 0} (R : K → K → Ordering) (o : IsTotalOrder R) (path : List K) (s : K) → 1 ≤ length path → s ≡ get_or path 0 s
+    → (node : List (List K × V)) (text : Option V) (ks : List (K × List (List K × V))) → own text ++ below ks ≡ node → T (is_sorted R ks)
+    → subtree R path node ≡ subtree R (take (length path - 1) (drop 1 path)) (nodes_of (lookup (is_at (R s)) ks))
 subtree_step {K} {V} R o path s le is node text ks view h =
     (λ i. subtree R (first_and_rest path s le is i) (sym view i)) ∙ subtree_child R o s (take (length path - 1) (drop 1 path)) text ks h

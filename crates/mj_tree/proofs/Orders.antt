@@ -37,7 +37,8 @@ filled (x ∷ xs) none = refl
 pub keys_filter : {K X : Type 0} (test : K → Bool) (es : List (K × X)) → keys_of (filter (λ e. test e.0) es) ≡ filter test (keys_of es)
 keys_filter test [] = refl
 keys_filter test (e ∷ es) =
-    elim (test e.0) as (λ b. keys_of (cond b (e ∷ filter (λ e. test e.0) es) (filter (λ e. test e.0) es)) ≡ cond b (e.0 ∷ filter test (keys_of es)) (filter test (keys_of es))) [ true ↦ ap (λ ys. e.0 ∷ ys) (keys_filter test es) | false ↦ keys_filter test es ]
+    elim (test e.0) as (λ b. keys_of (cond b (e ∷ filter (λ e. test e.0) es) (filter (λ e. test e.0) es))
+    ≡ cond b (e.0 ∷ filter test (keys_of es)) (filter test (keys_of es))) [ true ↦ ap (λ ys. e.0 ∷ ys) (keys_filter test es) | false ↦ keys_filter test es ]
 
 keys_append : {K X : Type 0} (es fs : List (K × X)) → keys_of (es ++ fs) ≡ keys_of es ++ keys_of fs
 keys_append [] fs = refl
@@ -91,18 +92,21 @@ module _ {K : Type 0} (R : K → K → Ordering) (o : IsTotalOrder R) where
         sym (ap (λ ks. least (flip_args R) ks) keys ∙ last_wins None (keys_of t) x.0.now tt (subst (λ ks. IsStrictlySortedBy R ks) keys rises))
 
     -- where no subscript is asked from
-    pub first_of_all : (r : Option (Bor K × Bor X)) (es fs t : List (K × X)) (s : K) (blank : Bool) → blank ≡ true → fs ≡ es → TakesFirst deref_pair fs r t → IsStrictlySortedBy R (keys_of es) → option_map (λ e. e.0.now) r ≡ next_past R Forward blank s (keys_of es)
+    pub first_of_all : (r : Option (Bor K × Bor X)) (es fs t : List (K × X)) (s : K) (blank : Bool) → blank ≡ true → fs ≡ es → TakesFirst deref_pair fs r t → IsStrictlySortedBy R (keys_of es)
+        → option_map (λ e. e.0.now) r ≡ next_past R Forward blank s (keys_of es)
     first_of_all r es fs t s blank is whole h rises =
         first_taken r es t (subst (λ xs. TakesFirst deref_pair xs r t) whole h) rises
         ∙ sym (ap (λ b. next_past R Forward b s (keys_of es)) is ∙ ap (λ ks. least R ks) (filter_each (keys_of es)))
 
-    pub last_of_all : (r : Option (Bor K × Bor X)) (es fs t : List (K × X)) (s : K) (blank : Bool) → blank ≡ true → fs ≡ es → TakesLast deref_pair fs r t → IsStrictlySortedBy R (keys_of es) → option_map (λ e. e.0.now) r ≡ next_past R Backward blank s (keys_of es)
+    pub last_of_all : (r : Option (Bor K × Bor X)) (es fs t : List (K × X)) (s : K) (blank : Bool) → blank ≡ true → fs ≡ es → TakesLast deref_pair fs r t → IsStrictlySortedBy R (keys_of es)
+        → option_map (λ e. e.0.now) r ≡ next_past R Backward blank s (keys_of es)
     last_of_all r es fs t s blank is whole h rises =
         last_taken r es t (subst (λ xs. TakesLast deref_pair xs r t) whole h) rises
         ∙ sym (ap (λ b. next_past R Backward b s (keys_of es)) is ∙ ap (λ ks. least (flip_args R) ks) (filter_each (keys_of es)))
 
     -- where one is
-    pub first_after : (r : Option (Bor K × Bor X)) (es fs t : List (K × X)) (s : K) (blank : Bool) → blank ≡ false → fs ≡ entries_between R (Excluded s) Unbounded es → TakesFirst deref_pair fs r t → IsStrictlySortedBy R (keys_of es) → option_map (λ e. e.0.now) r ≡ next_past R Forward blank s (keys_of es)
+    pub first_after : (r : Option (Bor K × Bor X)) (es fs t : List (K × X)) (s : K) (blank : Bool) → blank ≡ false → fs ≡ entries_between R (Excluded s) Unbounded es → TakesFirst deref_pair fs r t
+        → IsStrictlySortedBy R (keys_of es) → option_map (λ e. e.0.now) r ≡ next_past R Forward blank s (keys_of es)
     first_after r es fs t s blank is between h rises =
         let part : keys_of fs ≡ filter (λ t. is_lt (R s t)) (keys_of es) =
         ap (λ xs. keys_of xs) between ∙ keys_filter (λ k. is_lt (R s k) && true) es ∙ filter_same (λ k. is_lt (R s k) && true) (λ k. is_lt (R s k)) (λ k. after_all (is_lt (R s k))) (keys_of es)
@@ -111,7 +115,8 @@ module _ {K : Type 0} (R : K → K → Ordering) (o : IsTotalOrder R) where
         ∙ ap (λ ks. least R ks) part
         ∙ sym (ap (λ b. next_past R Forward b s (keys_of es)) is)
 
-    pub last_before : (r : Option (Bor K × Bor X)) (es fs t : List (K × X)) (s : K) (blank : Bool) → blank ≡ false → fs ≡ entries_between R Unbounded (Excluded s) es → TakesLast deref_pair fs r t → IsStrictlySortedBy R (keys_of es) → option_map (λ e. e.0.now) r ≡ next_past R Backward blank s (keys_of es)
+    pub last_before : (r : Option (Bor K × Bor X)) (es fs t : List (K × X)) (s : K) (blank : Bool) → blank ≡ false → fs ≡ entries_between R Unbounded (Excluded s) es → TakesLast deref_pair fs r t
+        → IsStrictlySortedBy R (keys_of es) → option_map (λ e. e.0.now) r ≡ next_past R Backward blank s (keys_of es)
     last_before r es fs t s blank is between h rises =
         let part : keys_of fs ≡ filter (λ t. is_lt (R t s)) (keys_of es) =
         ap (λ xs. keys_of xs) between ∙ keys_filter (λ k. not (is_le (R s k))) es ∙ filter_same (λ k. not (is_le (R s k))) (λ k. is_lt (R k s)) (turned s) (keys_of es)
@@ -133,10 +138,12 @@ module _ {K : Type 0} (Q : K → K → Ordering) (self : (k : K) → is_lt (Q k 
       ] refl
 
 module _ {K V : Type 0} (Q : K → K → Ordering) (self : (k : K) → is_lt (Q k k) ≡ false) (test : K → Bool) where
-  repeats : (acc : Option K) (k : K) (nodes : List (List K × V)) (rest : List (List K × V)) → (T (test k) → first_of Q acc k ≡ acc) → fold (first_of Q) acc (filter test (first_subscripts (under k nodes ++ rest))) ≡ fold (first_of Q) acc (filter test (first_subscripts rest))
+  repeats : (acc : Option K) (k : K) (nodes : List (List K × V)) (rest : List (List K × V)) → (T (test k) → first_of Q acc k ≡ acc)
+      → fold (first_of Q) acc (filter test (first_subscripts (under k nodes ++ rest))) ≡ fold (first_of Q) acc (filter test (first_subscripts rest))
   repeats acc k [] rest stays = refl
   repeats acc k (e ∷ es) rest stays =
-      elim (test k) as (λ b. (T b → first_of Q acc k ≡ acc) → fold (first_of Q) acc (cond b (k ∷ filter test (first_subscripts (under k es ++ rest))) (filter test (first_subscripts (under k es ++ rest)))) ≡ fold (first_of Q) acc (filter test (first_subscripts rest))) [
+      elim (test k) as (λ b. (T b → first_of Q acc k ≡ acc) → fold (first_of Q) acc
+      (cond b (k ∷ filter test (first_subscripts (under k es ++ rest))) (filter test (first_subscripts (under k es ++ rest)))) ≡ fold (first_of Q) acc (filter test (first_subscripts rest))) [
         | true ↦ λ s. ap (λ a. fold (first_of Q) a (filter test (first_subscripts (under k es ++ rest)))) (s tt) ∙ repeats acc k es rest stays
         | false ↦ λ s. repeats acc k es rest stays
       ] stays
@@ -145,7 +152,8 @@ module _ {K V : Type 0} (Q : K → K → Ordering) (self : (k : K) → is_lt (Q 
   once_each acc [] f = refl
   once_each acc ((k, []) ∷ ks) f = absurd (omega (arith, f.0))
   once_each acc ((k, e ∷ es) ∷ ks) f =
-      elim (test k) as (λ b. test k ≡ b → fold (first_of Q) acc (cond b (k ∷ filter test (first_subscripts (under k es ++ below ks))) (filter test (first_subscripts (under k es ++ below ks)))) ≡ fold (first_of Q) acc (cond b (k ∷ filter test (keys_of ks)) (filter test (keys_of ks)))) [
+      elim (test k) as (λ b. test k ≡ b → fold (first_of Q) acc (cond b (k ∷ filter test (first_subscripts (under k es ++ below ks))) (filter test (first_subscripts (under k es ++ below ks))))
+      ≡ fold (first_of Q) acc (cond b (k ∷ filter test (keys_of ks)) (filter test (keys_of ks)))) [
         | true ↦ λ t. repeats (first_of Q acc k) k es (below ks) (λ _. once_more Q self acc k) ∙ once_each (first_of Q acc k) ks f.1
         | false ↦ λ t. repeats acc k es (below ks) (λ h. absurd (subst (λ b. T b) t h)) ∙ once_each acc ks f.1
       ] refl
@@ -159,5 +167,6 @@ not_itself o Forward k = ap (λ r. is_lt r) (tied_itself o k)
 not_itself o Backward k = ap (λ r. is_lt r) (tied_itself o k)
 
 -- $ORDER among the children of a node
-pub order_children : {K V : Type 0} {R : K → K → Ordering} (o : IsTotalOrder R) (way : Direction) (blank : Bool) (s : K) (text : Option V) (ks : List (K × List (List K × V))) → AreFilled ks → next_past R way blank s (first_subscripts (own text ++ below ks)) ≡ next_past R way blank s (keys_of ks)
+pub order_children : {K V : Type 0} {R : K → K → Ordering} (o : IsTotalOrder R) (way : Direction) (blank : Bool) (s : K) (text : Option V) (ks : List (K × List (List K × V))) → AreFilled ks
+    → next_past R way blank s (first_subscripts (own text ++ below ks)) ≡ next_past R way blank s (keys_of ks)
 order_children {R = R} o way blank s text ks f = of_children (along way R) (not_itself o way) (λ t. blank || is_lt (along way R s t)) text ks f

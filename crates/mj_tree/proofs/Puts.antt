@@ -23,14 +23,16 @@ module _ {K V : Type 0} (R : K → K → Ordering) where
   put_over : (s t : K) (p : List K) (v : V) (nodes rest : List (List K × V)) → R s t ≡ Greater → put (slice_cmp R) (s ∷ p) v (under t nodes ++ rest) ≡ under t nodes ++ put (slice_cmp R) (s ∷ p) v rest
   put_over s t p v [] rest h = refl
   put_over s t p v (e ∷ es) rest h =
-      ap (λ r. by_order (ordering_then r (slice_cmp R p e.0)) ((s ∷ p, v) ∷ (t ∷ e.0, e.1) ∷ (under t es ++ rest)) ((t ∷ e.0, v) ∷ (under t es ++ rest)) ((t ∷ e.0, e.1) ∷ put (slice_cmp R) (s ∷ p) v (under t es ++ rest))) h
+      ap (λ r. by_order (ordering_then r (slice_cmp R p e.0)) ((s ∷ p, v) ∷ (t ∷ e.0, e.1) ∷ (under t es ++ rest)) ((t ∷ e.0, v) ∷ (under t es ++ rest))
+      ((t ∷ e.0, e.1) ∷ put (slice_cmp R) (s ∷ p) v (under t es ++ rest))) h
       ∙ ap (λ (r : List (List K × V)). (t ∷ e.0, e.1) ∷ r) (put_over s t p v es rest h)
 
   put_first : (s : K) (p : List K) (v : V) (ks : List (K × List (List K × V))) → T (below_all R s ks) → AreFilled ks → put (slice_cmp R) (s ∷ p) v (below ks) ≡ (s ∷ p, v) ∷ below ks
   put_first s p v [] h f = refl
   put_first s p v ((t, []) ∷ ks) h f = absurd (omega (arith, f.0))
   put_first s p v ((t, e ∷ es) ∷ ks) h f =
-      ap (λ r. by_order (ordering_then r (slice_cmp R p e.0)) ((s ∷ p, v) ∷ (t ∷ e.0, e.1) ∷ (under t es ++ below ks)) ((t ∷ e.0, v) ∷ (under t es ++ below ks)) ((t ∷ e.0, e.1) ∷ put (slice_cmp R) (s ∷ p) v (under t es ++ below ks))) (is_less _ (first_so _ _ h))
+      ap (λ r. by_order (ordering_then r (slice_cmp R p e.0)) ((s ∷ p, v) ∷ (t ∷ e.0, e.1) ∷ (under t es ++ below ks)) ((t ∷ e.0, v) ∷ (under t es ++ below ks))
+      ((t ∷ e.0, e.1) ∷ put (slice_cmp R) (s ∷ p) v (under t es ++ below ks))) (is_less _ (first_so _ _ h))
 
   pub filled_put : (p : List K) (v : V) (nodes : List (List K × V)) → 0 < length (put (slice_cmp R) p v nodes)
   filled_put p v [] = omega arith
@@ -40,23 +42,34 @@ module _ {K V : Type 0} (R : K → K → Ordering) where
   pub filled_insert : (ks : List (K × List (List K × V))) (s : K) (nodes : List (List K × V)) → AreFilled ks → 0 < length nodes → AreFilled (insert_entry R ks s nodes)
   filled_insert [] s nodes f n = (n, tt)
   filled_insert (k ∷ ks) s nodes f n =
-      elim (R s k.0) as (λ r. AreFilled (match_ordering r ((s, nodes) ∷ k ∷ ks) ((k.0, nodes) ∷ ks) (k ∷ insert_entry R ks s nodes))) [ Less ↦ (n, f) | Equal ↦ (n, f.1) | Greater ↦ (f.0, filled_insert ks s nodes f.1 n) ]
+      elim (R s k.0) as (λ r. AreFilled (match_ordering r ((s, nodes) ∷ k ∷ ks) ((k.0, nodes) ∷ ks) (k ∷ insert_entry R ks s nodes))) [
+        | Less ↦ (n, f)
+        | Equal ↦ (n, f.1)
+        | Greater ↦ (f.0, filled_insert ks s nodes f.1 n)
+      ]
 
   module _ (o : IsTotalOrder R) where
-    put_same : (s : K) (p : List K) (v : V) (nodes : List (List K × V)) (ks : List (K × List (List K × V))) → T (below_all R s ks) → AreFilled ks → put (slice_cmp R) (s ∷ p) v (under s nodes ++ below ks) ≡ under s (put (slice_cmp R) p v nodes) ++ below ks
+    put_same : (s : K) (p : List K) (v : V) (nodes : List (List K × V)) (ks : List (K × List (List K × V))) → T (below_all R s ks) → AreFilled ks
+        → put (slice_cmp R) (s ∷ p) v (under s nodes ++ below ks) ≡ under s (put (slice_cmp R) p v nodes) ++ below ks
     put_same s p v [] ks h f = put_first s p v ks h f
     put_same s p v (e ∷ es) ks h f =
-        ap (λ r. by_order (ordering_then r (slice_cmp R p e.0)) ((s ∷ p, v) ∷ (s ∷ e.0, e.1) ∷ (under s es ++ below ks)) ((s ∷ e.0, v) ∷ (under s es ++ below ks)) ((s ∷ e.0, e.1) ∷ put (slice_cmp R) (s ∷ p) v (under s es ++ below ks))) (tied_itself o s)
-        ∙ elim (slice_cmp R p e.0) as (λ r. by_order r ((s ∷ p, v) ∷ (s ∷ e.0, e.1) ∷ (under s es ++ below ks)) ((s ∷ e.0, v) ∷ (under s es ++ below ks)) ((s ∷ e.0, e.1) ∷ put (slice_cmp R) (s ∷ p) v (under s es ++ below ks)) ≡ under s (by_order r ((p, v) ∷ e ∷ es) ((e.0, v) ∷ es) (e ∷ put (slice_cmp R) p v es)) ++ below ks) [
+        ap (λ r. by_order (ordering_then r (slice_cmp R p e.0)) ((s ∷ p, v) ∷ (s ∷ e.0, e.1) ∷ (under s es ++ below ks)) ((s ∷ e.0, v) ∷ (under s es ++ below ks))
+        ((s ∷ e.0, e.1) ∷ put (slice_cmp R) (s ∷ p) v (under s es ++ below ks))) (tied_itself o s)
+        ∙ elim (slice_cmp R p e.0) as (λ r. by_order r ((s ∷ p, v) ∷ (s ∷ e.0, e.1) ∷ (under s es ++ below ks)) ((s ∷ e.0, v) ∷ (under s es ++ below ks))
+        ((s ∷ e.0, e.1) ∷ put (slice_cmp R) (s ∷ p) v (under s es ++ below ks)) ≡ under s (by_order r ((p, v) ∷ e ∷ es) ((e.0, v) ∷ es) (e ∷ put (slice_cmp R) p v es)) ++ below ks) [
           | Less ↦ refl
           | Equal ↦ refl
           | Greater ↦ ap (λ (r : List (List K × V)). (s ∷ e.0, e.1) ∷ r) (put_same s p v es ks h f)
         ]
 
-    put_below : IsAntisymmetric R → (s : K) (p : List K) (v : V) (ks : List (K × List (List K × V))) → T (is_sorted R ks) → AreFilled ks → put (slice_cmp R) (s ∷ p) v (below ks) ≡ below (insert_entry R ks s (put (slice_cmp R) p v (nodes_of (lookup (is_at (R s)) ks))))
+    put_below : IsAntisymmetric R → (s : K) (p : List K) (v : V) (ks : List (K × List (List K × V))) → T (is_sorted R ks) → AreFilled ks
+        → put (slice_cmp R) (s ∷ p) v (below ks) ≡ below (insert_entry R ks s (put (slice_cmp R) p v (nodes_of (lookup (is_at (R s)) ks))))
     put_below same s p v [] h f = refl
     put_below same s p v (k ∷ ks) h f =
-        elim (R s k.0) as (λ r. R s k.0 ≡ r → put (slice_cmp R) (s ∷ p) v (under k.0 k.1 ++ below ks) ≡ below (match_ordering r ((s, put (slice_cmp R) p v (nodes_of (cond (is_eq r) (Some k.1) (lookup (is_at (R s)) ks)))) ∷ k ∷ ks) ((k.0, put (slice_cmp R) p v (nodes_of (cond (is_eq r) (Some k.1) (lookup (is_at (R s)) ks)))) ∷ ks) (k ∷ insert_entry R ks s (put (slice_cmp R) p v (nodes_of (cond (is_eq r) (Some k.1) (lookup (is_at (R s)) ks))))))) [
+        elim (R s k.0) as (λ r. R s k.0 ≡ r → put (slice_cmp R) (s ∷ p) v (under k.0 k.1 ++ below ks)
+        ≡ below (match_ordering r ((s, put (slice_cmp R) p v (nodes_of (cond (is_eq r) (Some k.1) (lookup (is_at (R s)) ks)))) ∷ k ∷ ks)
+        ((k.0, put (slice_cmp R) p v (nodes_of (cond (is_eq r) (Some k.1) (lookup (is_at (R s)) ks)))) ∷ ks)
+        (k ∷ insert_entry R ks s (put (slice_cmp R) p v (nodes_of (cond (is_eq r) (Some k.1) (lookup (is_at (R s)) ks))))))) [
           | Less ↦ λ e.
               let late = before_less R o s k.0 ks e (first_so _ _ h) in
               put_first s p v (k ∷ ks) (both_so (is_lt (R s k.0)) (below_all R s ks) (subst (λ r. T (is_lt r)) (sym e) tt) late) f
@@ -66,7 +79,8 @@ module _ {K V : Type 0} (R : K → K → Ordering) where
         ] refl
 
     -- a text below the first of some subscripts is put into the child there
-    pub put_child : IsAntisymmetric R → (s : K) (p : List K) (v : V) (text : Option V) (ks : List (K × List (List K × V))) → T (is_sorted R ks) → AreFilled ks → put (slice_cmp R) (s ∷ p) v (own text ++ below ks) ≡ own text ++ below (insert_entry R ks s (put (slice_cmp R) p v (nodes_of (lookup (is_at (R s)) ks))))
+    pub put_child : IsAntisymmetric R → (s : K) (p : List K) (v : V) (text : Option V) (ks : List (K × List (List K × V))) → T (is_sorted R ks) → AreFilled ks
+        → put (slice_cmp R) (s ∷ p) v (own text ++ below ks) ≡ own text ++ below (insert_entry R ks s (put (slice_cmp R) p v (nodes_of (lookup (is_at (R s)) ks))))
     put_child same s p v None ks h f = put_below same s p v ks h f
     put_child same s p v (Some text) ks h f = ap (λ (r : List (List K × V)). ([], text) ∷ r) (put_below same s p v ks h f)
 
@@ -90,7 +104,8 @@ module _ {K V : Type 0} (R : K → K → Ordering) where
   filled_after (Ok x) p v c w ok err n = subst (λ (m : List (List K × V)). 0 < length m) (sym ok) (filled_put R p v c)
   filled_after (Err e) p v c w ok err n = subst (λ (m : List (List K × V)). 0 < length m) (sym err) n
 
-  module _ (o : IsTotalOrder R) (ks es : List (K × List (List K × V))) (s : K) (c w : List (List K × V)) (written : es ≡ set_value (is_at (R s)) ks w) (there : lookup (is_at (R s)) ks ≡ Some c) (h : T (is_sorted R ks)) (f : AreFilled ks) where
+  module _ (o : IsTotalOrder R) (ks es : List (K × List (List K × V))) (s : K) (c w : List (List K × V)) (written : es ≡ set_value (is_at (R s)) ks w) (there : lookup (is_at (R s)) ks ≡ Some c)
+      (h : T (is_sorted R ks)) (f : AreFilled ks) where
     pub sorted_written : T (is_sorted R es)
     sorted_written = subst (λ (xs : List (K × List (List K × V))). T (is_sorted R xs)) (insert-set_value R o ks s c w h there ∙ sym written) (sorted_insert R o ks s w h)
 
@@ -100,13 +115,16 @@ module _ {K V : Type 0} (R : K → K → Ordering) where
     pub put_written : IsAntisymmetric R → (p : List K) (v : V) (text : Option V) → w ≡ put (slice_cmp R) p v c → own text ++ below es ≡ put (slice_cmp R) (s ∷ p) v (own text ++ below ks)
     put_written same p v text is =
         let nested = put_child R o same s p v text ks h f in
-        ap (λ (xs : List (K × List (List K × V))). own text ++ below xs) (written ∙ ap (set_value (is_at (R s)) ks) (is ∙ ap (λ (l : Option (List (List K × V))). put (slice_cmp R) p v (nodes_of l)) (sym there)) ∙ sym (insert-set_value R o ks s c (put (slice_cmp R) p v (nodes_of (lookup (is_at (R s)) ks))) h there))
+        ap (λ (xs : List (K × List (List K × V))). own text ++ below xs) (written ∙ ap (set_value (is_at (R s)) ks)
+        (is ∙ ap (λ (l : Option (List (List K × V))). put (slice_cmp R) p v (nodes_of l)) (sym there))
+        ∙ sym (insert-set_value R o ks s c (put (slice_cmp R) p v (nodes_of (lookup (is_at (R s)) ks))) h there))
         ∙ sym nested
 
     pub same_written : (text : Option V) → w ≡ c → own text ++ below es ≡ own text ++ below ks
     same_written text is = ap (λ (xs : List (K × List (List K × V))). own text ++ below xs) (written ∙ ap (set_value (is_at (R s)) ks) is ∙ set_value_same R ks s c there)
 
-  module _ (o : IsTotalOrder R) (ks es : List (K × List (List K × V))) (s : K) (p : List K) (v : V) (n : List (List K × V)) (added : es ≡ insert_entry R ks s n) (fresh : n ≡ put (slice_cmp R) p v []) (h : T (is_sorted R ks)) (f : AreFilled ks) where
+  module _ (o : IsTotalOrder R) (ks es : List (K × List (List K × V))) (s : K) (p : List K) (v : V) (n : List (List K × V)) (added : es ≡ insert_entry R ks s n) (fresh : n ≡ put (slice_cmp R) p v [])
+      (h : T (is_sorted R ks)) (f : AreFilled ks) where
     pub sorted_added : T (is_sorted R es)
     sorted_added = subst (λ (xs : List (K × List (List K × V))). T (is_sorted R xs)) (sym added) (sorted_insert R o ks s n h)
 
@@ -115,11 +133,13 @@ module _ {K V : Type 0} (R : K → K → Ordering) where
 
     pub put_added : IsAntisymmetric R → (text : Option V) → lookup (is_at (R s)) ks ≡ None → own text ++ below es ≡ put (slice_cmp R) (s ∷ p) v (own text ++ below ks)
     put_added same text none =
-        ap (λ (xs : List (K × List (List K × V))). own text ++ below xs) (added ∙ ap (insert_entry R ks s) (fresh ∙ ap (λ (l : Option (List (List K × V))). put (slice_cmp R) p v (nodes_of l)) (sym none)))
+        ap (λ (xs : List (K × List (List K × V))). own text ++ below xs) (added ∙ ap (insert_entry R ks s)
+        (fresh ∙ ap (λ (l : Option (List (List K × V))). put (slice_cmp R) p v (nodes_of l)) (sym none)))
         ∙ sym (put_child R o same s p v text ks h f)
 
 -- where the child may not have been added, and all is then as it was
-pub sound_either : {K V A E : Type 0} (R : K → K → Ordering) (o : IsTotalOrder R) (r : Result A E) (ks es : List (K × List (List K × V))) (s : K) (n : List (List K × V)) → OnOk r (es ≡ insert_entry R ks s n) → OnErr r (es ≡ ks) → 0 < length n → T (is_sorted R ks) × AreFilled ks → T (is_sorted R es) × AreFilled es
+pub sound_either : {K V A E : Type 0} (R : K → K → Ordering) (o : IsTotalOrder R) (r : Result A E) (ks es : List (K × List (List K × V))) (s : K) (n : List (List K × V))
+    → OnOk r (es ≡ insert_entry R ks s n) → OnErr r (es ≡ ks) → 0 < length n → T (is_sorted R ks) × AreFilled ks → T (is_sorted R es) × AreFilled es
 sound_either {K} {V} R o (Ok x) ks es s n ok err filled h =
     subst (λ (xs : List (K × List (List K × V))). T (is_sorted R xs) × AreFilled xs) (sym ok) (sorted_insert R o ks s n h.0, filled_insert R ks s n h.1 filled)
 sound_either {K} {V} R o (Err e) ks es s n ok err filled h =

@@ -26,7 +26,8 @@ module _ {K V : Type 0} (R : K → K → Ordering) (o : IsTotalOrder (slice_cmp 
   rises_kill p old new is h =
       subst (λ (es : List (List K × V)). T (is_sorted (slice_cmp R) es)) (sym is) (is_sorted-where_key (slice_cmp R) (λ q. is_none (after_front R p q)) old h)
 
-  pub rises_set : {A E : Type 0} (r : Result A E) (p : List K) (v : V) (old new : List (List K × V)) → OnOk r (new ≡ put (slice_cmp R) p v old) → OnErr r (new ≡ old) → T (is_sorted (slice_cmp R) old) → T (is_sorted (slice_cmp R) new)
+  pub rises_set : {A E : Type 0} (r : Result A E) (p : List K) (v : V) (old new : List (List K × V)) → OnOk r (new ≡ put (slice_cmp R) p v old) → OnErr r (new ≡ old) → T (is_sorted (slice_cmp R) old)
+      → T (is_sorted (slice_cmp R) new)
   rises_set (Ok x) p v old new ok err h = subst (λ (es : List (List K × V)). T (is_sorted (slice_cmp R) es)) (sym ok) (is_sorted-put (slice_cmp R) o p v old h)
   rises_set (Err e) p v old new ok err h = subst (λ (es : List (List K × V)). T (is_sorted (slice_cmp R) es)) (sym err) h
 
@@ -34,7 +35,8 @@ module _ {K V : Type 0} (R : K → K → Ordering) (o : IsTotalOrder (slice_cmp 
   rises_behind p [] nodes h = h
   rises_behind p (e ∷ es) nodes h = rises_behind p es (put (slice_cmp R) (p ++ e.0) e.1 nodes) (is_sorted-put (slice_cmp R) o (p ++ e.0) e.1 nodes h)
 
-  pub rises_put : {A E : Type 0} (r : Result A E) (p : List K) (more old new : List (List K × V)) → OnOk r (new ≡ put_behind R p more old) → OnErr r (new ≡ old) → T (is_sorted (slice_cmp R) old) → T (is_sorted (slice_cmp R) new)
+  pub rises_put : {A E : Type 0} (r : Result A E) (p : List K) (more old new : List (List K × V)) → OnOk r (new ≡ put_behind R p more old) → OnErr r (new ≡ old) → T (is_sorted (slice_cmp R) old)
+      → T (is_sorted (slice_cmp R) new)
   rises_put (Ok x) p more old new ok err h = subst (λ (es : List (List K × V)). T (is_sorted (slice_cmp R) es)) (sym ok) (rises_behind p more old h)
   rises_put (Err e) p more old new ok err h = subst (λ (es : List (List K × V)). T (is_sorted (slice_cmp R) es)) (sym err) h
 
@@ -58,7 +60,8 @@ module _ {K V : Type 0} (R : K → K → Ordering) (o : IsTotalOrder (slice_cmp 
   pub next_lead : (p : List K) (nodes : List (List K × V)) → T (is_sorted (slice_cmp R) nodes) → lead (later R p nodes) ≡ next_after R p nodes
   next_lead p nodes h =
       let part : keys_of (later R p nodes) ≡ filter (λ q. is_lt (slice_cmp R p q)) (keys_of nodes) = keys_filter (λ q. is_lt (slice_cmp R p q)) nodes in
-      sym (least_lead (later R p nodes) (subst (λ ks. IsStrictlySortedBy (slice_cmp R) ks) (sym part) (IsStrictlySortedBy-filter (slice_cmp R) (λ q. is_lt (slice_cmp R p q)) (keys_of nodes) (keys_rise (slice_cmp R) nodes h))))
+      sym (least_lead (later R p nodes) (subst (λ ks. IsStrictlySortedBy (slice_cmp R) ks) (sym part)
+      (IsStrictlySortedBy-filter (slice_cmp R) (λ q. is_lt (slice_cmp R p q)) (keys_of nodes) (keys_rise (slice_cmp R) nodes h))))
       ∙ ap (λ ks. least (slice_cmp R) ks) part
 
 but_last-append : {K : Type 0} (s : K) (front : List K) (last : K) → but_last s (front ++ last ∷ []) ≡ s ∷ front
@@ -69,11 +72,13 @@ last_of-append : {K : Type 0} (s : K) (front : List K) (last : K) → last_of s 
 last_of-append s [] last = refl
 last_of-append s (t ∷ front) last = last_of-append t front last
 
-order_split : (way : Direction) (front : List (List ℕ)) (last : List ℕ) (nodes : Subtree) → order_in (front ++ last ∷ []) way nodes ≡ next_past subscript_cmp way (is_empty last) last (first_subscripts (subtree subscript_cmp front nodes))
+order_split : (way : Direction) (front : List (List ℕ)) (last : List ℕ) (nodes : Subtree)
+    → order_in (front ++ last ∷ []) way nodes ≡ next_past subscript_cmp way (is_empty last) last (first_subscripts (subtree subscript_cmp front nodes))
 order_split way [] last nodes = refl
 order_split way (s ∷ front) last nodes =
     (λ i. next_past subscript_cmp way (is_empty (last_of-append s front last i)) (last_of-append s front last i) (first_subscripts (subtree subscript_cmp (but_last-append s front last i) nodes)))
 
 -- $ORDER where the last subscript is told apart
-pub order_of_split : (way : Direction) (p front : List (List ℕ)) (last : List ℕ) (nodes : Subtree) → p ≡ front ++ last ∷ [] → order_in p way nodes ≡ next_past subscript_cmp way (is_empty last) last (first_subscripts (subtree subscript_cmp front nodes))
+pub order_of_split : (way : Direction) (p front : List (List ℕ)) (last : List ℕ) (nodes : Subtree) → p ≡ front ++ last ∷ []
+    → order_in p way nodes ≡ next_past subscript_cmp way (is_empty last) last (first_subscripts (subtree subscript_cmp front nodes))
 order_of_split way p front last nodes e = ap (λ (q : List (List ℕ)). order_in q way nodes) e ∙ order_split way front last nodes

@@ -73,7 +73,8 @@ module _ {K V : Type 0} (R : K → K → Ordering) where
   undone-append [] p value es = refl
   undone-append (w ∷ ws) p value es = ap (restored R w.0 w.1) (undone-append ws p value es)
 
-module _ {K V : Type 0} (R : K → K → Ordering) (o : IsTotalOrder R) (p : K) (before : Option V) (v : V) (es fs : List (K × V)) (h : T (is_sorted R es)) (was : before ≡ find R p es) (is : fs ≡ put R p v es) where
+module _ {K V : Type 0} (R : K → K → Ordering) (o : IsTotalOrder R) (p : K) (before : Option V) (v : V) (es fs : List (K × V)) (h : T (is_sorted R es)) (was : before ≡ find R p es)
+    (is : fs ≡ put R p v es) where
   back : restored R p before fs ≡ es
   back = (λ i. restored R p (was i) (is i)) ∙ restored_put R o p v es h
 
@@ -93,7 +94,8 @@ apart Equal s h = absurd cc
 apart Greater s h = refl
 
 module _ {K V : Type 0} (R : K → K → Ordering) where
-  restored_over : (s t : K) (p : List K) (value : Option V) (nodes rest : List (List K × V)) → is_eq (R s t) ≡ false → restored (slice_cmp R) (s ∷ p) value (under t nodes ++ rest) ≡ under t nodes ++ restored (slice_cmp R) (s ∷ p) value rest
+  restored_over : (s t : K) (p : List K) (value : Option V) (nodes rest : List (List K × V)) → is_eq (R s t) ≡ false
+      → restored (slice_cmp R) (s ∷ p) value (under t nodes ++ rest) ≡ under t nodes ++ restored (slice_cmp R) (s ∷ p) value rest
   restored_over s t p value [] rest h = refl
   restored_over s t p value (e ∷ es) rest h =
       ap (λ b. cond b (entry_before (t ∷ e.0) value (under t es ++ rest)) ((t ∷ e.0, e.1) ∷ restored (slice_cmp R) (s ∷ p) value (under t es ++ rest))) (apart (R s t) (slice_cmp R p e.0) h)
@@ -102,7 +104,8 @@ module _ {K V : Type 0} (R : K → K → Ordering) where
   restored_none : (s : K) (p : List K) (value : Option V) (ks : List (K × List (List K × V))) → lookup (is_at (R s)) ks ≡ None → restored (slice_cmp R) (s ∷ p) value (below ks) ≡ below ks
   restored_none s p value [] none = refl
   restored_none s p value (k ∷ ks) none =
-      elim (is_eq (R s k.0)) as (λ b. is_eq (R s k.0) ≡ b → cond b (Some k.1) (lookup (is_at (R s)) ks) ≡ None → restored (slice_cmp R) (s ∷ p) value (under k.0 k.1 ++ below ks) ≡ under k.0 k.1 ++ below ks) [
+      elim (is_eq (R s k.0)) as (λ b. is_eq (R s k.0) ≡ b → cond b (Some k.1) (lookup (is_at (R s)) ks) ≡ None
+      → restored (slice_cmp R) (s ∷ p) value (under k.0 k.1 ++ below ks) ≡ under k.0 k.1 ++ below ks) [
         | true ↦ λ e l. absurd cc
         | false ↦ λ e l. restored_over s k.0 p value k.1 (below ks) e ∙ ap (λ (r : List (List K × V)). under k.0 k.1 ++ r) (restored_none s p value ks l)
       ] refl none
@@ -111,19 +114,24 @@ module _ {K V : Type 0} (R : K → K → Ordering) where
   entry_under t k None es rest = refl
   entry_under t k (Some v) es rest = refl
 
-  restored_in : (s t : K) (p : List K) (value : Option V) (nodes rest : List (List K × V)) → R s t ≡ Equal → restored (slice_cmp R) (s ∷ p) value rest ≡ rest → restored (slice_cmp R) (s ∷ p) value (under t nodes ++ rest) ≡ under t (restored (slice_cmp R) p value nodes) ++ rest
+  restored_in : (s t : K) (p : List K) (value : Option V) (nodes rest : List (List K × V)) → R s t ≡ Equal → restored (slice_cmp R) (s ∷ p) value rest ≡ rest
+      → restored (slice_cmp R) (s ∷ p) value (under t nodes ++ rest) ≡ under t (restored (slice_cmp R) p value nodes) ++ rest
   restored_in s t p value [] rest e same = same
   restored_in s t p value (x ∷ xs) rest e same =
       ap (λ r. cond (is_eq (ordering_then r (slice_cmp R p x.0))) (entry_before (t ∷ x.0) value (under t xs ++ rest)) ((t ∷ x.0, x.1) ∷ restored (slice_cmp R) (s ∷ p) value (under t xs ++ rest))) e
-      ∙ elim (is_eq (slice_cmp R p x.0)) as (λ b. cond b (entry_before (t ∷ x.0) value (under t xs ++ rest)) ((t ∷ x.0, x.1) ∷ restored (slice_cmp R) (s ∷ p) value (under t xs ++ rest)) ≡ under t (cond b (entry_before x.0 value xs) (x ∷ restored (slice_cmp R) p value xs)) ++ rest) [
+      ∙ elim (is_eq (slice_cmp R p x.0)) as (λ b. cond b (entry_before (t ∷ x.0) value (under t xs ++ rest)) ((t ∷ x.0, x.1) ∷ restored (slice_cmp R) (s ∷ p) value (under t xs ++ rest))
+      ≡ under t (cond b (entry_before x.0 value xs) (x ∷ restored (slice_cmp R) p value xs)) ++ rest) [
         | true ↦ entry_under t x.0 value xs rest
         | false ↦ ap (λ (r : List (List K × V)). (t ∷ x.0, x.1) ∷ r) (restored_in s t p value xs rest e same)
       ]
 
-  restored_child : IsTotalOrder R → (s : K) (p : List K) (value : Option V) (ks : List (K × List (List K × V))) (c : List (List K × V)) → T (is_sorted R ks) → lookup (is_at (R s)) ks ≡ Some c → restored (slice_cmp R) (s ∷ p) value (below ks) ≡ below (set_value (is_at (R s)) ks (restored (slice_cmp R) p value c))
+  restored_child : IsTotalOrder R → (s : K) (p : List K) (value : Option V) (ks : List (K × List (List K × V))) (c : List (List K × V)) → T (is_sorted R ks) → lookup (is_at (R s)) ks ≡ Some c
+      → restored (slice_cmp R) (s ∷ p) value (below ks) ≡ below (set_value (is_at (R s)) ks (restored (slice_cmp R) p value c))
   restored_child o s p value [] c h there = absurd cc
   restored_child o s p value (k ∷ ks) c h there =
-      elim (R s k.0) as (λ r. R s k.0 ≡ r → cond (is_eq r) (Some k.1) (lookup (is_at (R s)) ks) ≡ Some c → restored (slice_cmp R) (s ∷ p) value (under k.0 k.1 ++ below ks) ≡ below (cond (is_eq r) ((k.0, restored (slice_cmp R) p value c) ∷ ks) (k ∷ set_value (is_at (R s)) ks (restored (slice_cmp R) p value c)))) [
+      elim (R s k.0) as (λ r. R s k.0 ≡ r → cond (is_eq r) (Some k.1) (lookup (is_at (R s)) ks) ≡ Some c
+      → restored (slice_cmp R) (s ∷ p) value (under k.0 k.1 ++ below ks) ≡ below (cond (is_eq r) ((k.0, restored (slice_cmp R) p value c) ∷ ks)
+      (k ∷ set_value (is_at (R s)) ks (restored (slice_cmp R) p value c)))) [
         | Less ↦ λ e l. restored_over s k.0 p value k.1 (below ks) (ap is_eq e) ∙ ap (λ (xs : List (List K × V)). under k.0 k.1 ++ xs) (restored_child o s p value ks c (second_so _ _ h) l)
         | Equal ↦ λ e l.
             let same : k.1 ≡ c = cc in
@@ -132,12 +140,14 @@ module _ {K V : Type 0} (R : K → K → Ordering) where
         | Greater ↦ λ e l. restored_over s k.0 p value k.1 (below ks) (ap is_eq e) ∙ ap (λ (xs : List (List K × V)). under k.0 k.1 ++ xs) (restored_child o s p value ks c (second_so _ _ h) l)
       ] refl there
 
-  past_own : (s : K) (p : List K) (value text : Option V) (ks : List (K × List (List K × V))) → restored (slice_cmp R) (s ∷ p) value (own text ++ below ks) ≡ own text ++ restored (slice_cmp R) (s ∷ p) value (below ks)
+  past_own : (s : K) (p : List K) (value text : Option V) (ks : List (K × List (List K × V)))
+      → restored (slice_cmp R) (s ∷ p) value (own text ++ below ks) ≡ own text ++ restored (slice_cmp R) (s ∷ p) value (below ks)
   past_own s p value None ks = refl
   past_own s p value (Some text) ks = refl
 
   -- nothing changes where no child stands at the first subscript
-  pub restore_none : (s : K) (p : List K) (value text : Option V) (ks : List (K × List (List K × V))) → lookup (is_at (R s)) ks ≡ None → restored (slice_cmp R) (s ∷ p) value (own text ++ below ks) ≡ own text ++ below ks
+  pub restore_none : (s : K) (p : List K) (value text : Option V) (ks : List (K × List (List K × V))) → lookup (is_at (R s)) ks ≡ None
+      → restored (slice_cmp R) (s ∷ p) value (own text ++ below ks) ≡ own text ++ below ks
   restore_none s p value text ks none = past_own s p value text ks ∙ ap (λ (xs : List (List K × V)). own text ++ xs) (restored_none s p value ks none)
 
   -- the text of the node itself, where it has one
@@ -149,12 +159,15 @@ module _ {K V : Type 0} (R : K → K → Ordering) where
   restore_no_own value None ks e = restored_absent (slice_cmp R) [] value (below ks) (find_own R None ks)
   restore_no_own value (Some text) ks e = absurd cc
 
-  module _ (o : IsTotalOrder R) (ks : List (K × List (List K × V))) (s : K) (p : List K) (value : Option V) (c w : List (List K × V)) (there : lookup (is_at (R s)) ks ≡ Some c) (h : T (is_sorted R ks)) (is : w ≡ restored (slice_cmp R) p value c) where
+  module _ (o : IsTotalOrder R) (ks : List (K × List (List K × V))) (s : K) (p : List K) (value : Option V) (c w : List (List K × V)) (there : lookup (is_at (R s)) ks ≡ Some c)
+      (h : T (is_sorted R ks)) (is : w ≡ restored (slice_cmp R) p value c) where
     pub restore_written : (es : List (K × List (List K × V))) (text : Option V) → es ≡ set_value (is_at (R s)) ks w → own text ++ below es ≡ restored (slice_cmp R) (s ∷ p) value (own text ++ below ks)
     restore_written es text written =
-        sym (past_own s p value text ks ∙ ap (λ (xs : List (List K × V)). own text ++ xs) (restored_child o s p value ks c h there ∙ ap (λ (n : List (List K × V)). below (set_value (is_at (R s)) ks n)) (sym is) ∙ sym (ap below written)))
+        sym (past_own s p value text ks ∙ ap (λ (xs : List (List K × V)). own text ++ xs)
+        (restored_child o s p value ks c h there ∙ ap (λ (n : List (List K × V)). below (set_value (is_at (R s)) ks n)) (sym is) ∙ sym (ap below written)))
 
-    pub restore_removed : (es fs : List (K × List (List K × V))) (text : Option V) → es ≡ set_value (is_at (R s)) ks w → fs ≡ remove_entry (is_at (R s)) es → w ≡ [] → own text ++ below fs ≡ restored (slice_cmp R) (s ∷ p) value (own text ++ below ks)
+    pub restore_removed : (es fs : List (K × List (List K × V))) (text : Option V) → es ≡ set_value (is_at (R s)) ks w → fs ≡ remove_entry (is_at (R s)) es → w ≡ []
+        → own text ++ below fs ≡ restored (slice_cmp R) (s ∷ p) value (own text ++ below ks)
     restore_removed es fs text written removed empty =
         ap (λ (xs : List (List K × V)). own text ++ xs)
         (ap below removed

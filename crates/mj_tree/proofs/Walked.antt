@@ -19,12 +19,15 @@ module _ {A : Type 0} (takes : A → Content → A → Type 0) (more : (r s t : 
   Leads s left first all = (t : A) → takes s left t → takes first all t
 
   -- behind the text of the node itself the children are left
-  pub from_own : (g : Bool) (w : List ℕ) (front : List (List ℕ)) (text : Option (List ℕ)) (ks : List (List ℕ × Subtree)) (node : Subtree) (r s : A) → own text ++ below ks ≡ node → takes r (named g w (behind front (own text))) s → Leads s (named g w (behind front (below ks))) r (named g w (behind front node))
+  pub from_own : (g : Bool) (w : List ℕ) (front : List (List ℕ)) (text : Option (List ℕ)) (ks : List (List ℕ × Subtree)) (node : Subtree) (r s : A) → own text ++ below ks ≡ node
+      → takes r (named g w (behind front (own text))) s → Leads s (named g w (behind front (below ks))) r (named g w (behind front node))
   from_own g w front text ks node r s is took = λ t left.
       subst (λ (xs : Content). takes r xs t) (sym (named_parts g w front (own text) (below ks)) ∙ ap (λ (n : Subtree). named g w (behind front n)) is) (more r s t _ _ took left)
 
   -- one child more was walked
-  pub past_child : (g : Bool) (w : List ℕ) (front f longer : List (List ℕ)) (sub : List ℕ) (child : Subtree) (ks rest : List (List ℕ × Subtree)) (first s now : A) (all : Content) → Leads s (named g w (behind front (below ks))) first all → f ≡ front → ks ≡ (sub, child) ∷ rest → longer ≡ f ++ sub ∷ [] → takes s (named g w (behind longer child)) now → Leads now (named g w (behind front (below rest))) first all
+  pub past_child : (g : Bool) (w : List ℕ) (front f longer : List (List ℕ)) (sub : List ℕ) (child : Subtree) (ks rest : List (List ℕ × Subtree)) (first s now : A) (all : Content)
+      → Leads s (named g w (behind front (below ks))) first all → f ≡ front → ks ≡ (sub, child) ∷ rest → longer ≡ f ++ sub ∷ [] → takes s (named g w (behind longer child)) now
+      → Leads now (named g w (behind front (below rest))) first all
   past_child g w front f longer sub child ks rest first s now all leads same next is took = λ t left.
       leads t (subst (λ (xs : Content). takes s xs t)
       ((λ i. named g w (behind ((is ∙ ap (λ (p : List (List ℕ)). p ++ sub ∷ []) same) i) child) ++ named g w (behind front (below rest)))

@@ -43,15 +43,18 @@ module _ {K X : Type 0} (R : K → K → Ordering) where
   pub set_value_twice : (ks : List (K × X)) (s : K) (w x : X) → set_value (is_at (R s)) (set_value (is_at (R s)) ks w) x ≡ set_value (is_at (R s)) ks x
   set_value_twice [] s w x = refl
   set_value_twice (k ∷ ks) s w x =
-      elim (is_eq (R s k.0)) as (λ b. is_eq (R s k.0) ≡ b → set_value (is_at (R s)) (cond b ((k.0, w) ∷ ks) (k ∷ set_value (is_at (R s)) ks w)) x ≡ cond b ((k.0, x) ∷ ks) (k ∷ set_value (is_at (R s)) ks x)) [
+      elim (is_eq (R s k.0)) as (λ b. is_eq (R s k.0) ≡ b → set_value (is_at (R s)) (cond b ((k.0, w) ∷ ks) (k ∷ set_value (is_at (R s)) ks w)) x
+      ≡ cond b ((k.0, x) ∷ ks) (k ∷ set_value (is_at (R s)) ks x)) [
         | true ↦ λ e. ap (λ b. cond b ((k.0, x) ∷ ks) ((k.0, w) ∷ set_value (is_at (R s)) ks x)) e
-        | false ↦ λ e. ap (λ b. cond b ((k.0, x) ∷ set_value (is_at (R s)) ks w) (k ∷ set_value (is_at (R s)) (set_value (is_at (R s)) ks w) x)) e ∙ ap (λ (r : List (K × X)). k ∷ r) (set_value_twice ks s w x)
+        | false ↦ λ e.
+            ap (λ b. cond b ((k.0, x) ∷ set_value (is_at (R s)) ks w) (k ∷ set_value (is_at (R s)) (set_value (is_at (R s)) ks w) x)) e ∙ ap (λ (r : List (K × X)). k ∷ r) (set_value_twice ks s w x)
       ] refl
 
   pub lookup_written : (ks : List (K × X)) (s : K) (c w : X) → lookup (is_at (R s)) ks ≡ Some c → lookup (is_at (R s)) (set_value (is_at (R s)) ks w) ≡ Some w
   lookup_written [] s c w there = absurd cc
   lookup_written (k ∷ ks) s c w there =
-      elim (is_eq (R s k.0)) as (λ b. is_eq (R s k.0) ≡ b → cond b (Some k.1) (lookup (is_at (R s)) ks) ≡ Some c → lookup (is_at (R s)) (cond b ((k.0, w) ∷ ks) (k ∷ set_value (is_at (R s)) ks w)) ≡ Some w) [
+      elim (is_eq (R s k.0)) as (λ b. is_eq (R s k.0) ≡ b → cond b (Some k.1) (lookup (is_at (R s)) ks) ≡ Some c
+      → lookup (is_at (R s)) (cond b ((k.0, w) ∷ ks) (k ∷ set_value (is_at (R s)) ks w)) ≡ Some w) [
         | true ↦ λ b e. ap (λ t. cond t (Some w) (lookup (is_at (R s)) ks)) b
         | false ↦ λ b e. ap (λ t. cond t (Some k.1) (lookup (is_at (R s)) (set_value (is_at (R s)) ks w))) b ∙ lookup_written ks s c w e
       ] refl there
@@ -85,7 +88,11 @@ module _ {K X : Type 0} (R : K → K → Ordering) (o : IsTotalOrder R) where
   insert_entry-put : (ks : List (K × X)) (s : K) (w : X) → insert_entry R ks s w ≡ put R s w ks
   insert_entry-put [] s w = refl
   insert_entry-put (k ∷ ks) s w =
-      elim (R s k.0) as (λ r. match_ordering r ((s, w) ∷ k ∷ ks) ((k.0, w) ∷ ks) (k ∷ insert_entry R ks s w) ≡ by_order r ((s, w) ∷ k ∷ ks) ((k.0, w) ∷ ks) (k ∷ put R s w ks)) [ Less ↦ refl | Equal ↦ refl | Greater ↦ ap (λ r. k ∷ r) (insert_entry-put ks s w) ]
+      elim (R s k.0) as (λ r. match_ordering r ((s, w) ∷ k ∷ ks) ((k.0, w) ∷ ks) (k ∷ insert_entry R ks s w) ≡ by_order r ((s, w) ∷ k ∷ ks) ((k.0, w) ∷ ks) (k ∷ put R s w ks)) [
+        | Less ↦ refl
+        | Equal ↦ refl
+        | Greater ↦ ap (λ r. k ∷ r) (insert_entry-put ks s w)
+      ]
 
   pub sorted_insert : (ks : List (K × X)) (s : K) (w : X) → T (is_sorted R ks) → T (is_sorted R (insert_entry R ks s w))
   sorted_insert ks s w h = subst (λ es. T (is_sorted R es)) (sym (insert_entry-put ks s w)) (is_sorted-put R o s w ks h)
@@ -94,7 +101,8 @@ module _ {K X : Type 0} (R : K → K → Ordering) (o : IsTotalOrder R) where
   pub insert-set_value : (ks : List (K × X)) (s : K) (c w : X) → T (is_sorted R ks) → lookup (is_at (R s)) ks ≡ Some c → insert_entry R ks s w ≡ set_value (is_at (R s)) ks w
   insert-set_value [] s c w h there = absurd cc
   insert-set_value (k ∷ ks) s c w h there =
-      elim (R s k.0) as (λ r. R s k.0 ≡ r → cond (is_eq r) (Some k.1) (lookup (is_at (R s)) ks) ≡ Some c → match_ordering r ((s, w) ∷ k ∷ ks) ((k.0, w) ∷ ks) (k ∷ insert_entry R ks s w) ≡ cond (is_eq r) ((k.0, w) ∷ ks) (k ∷ set_value (is_at (R s)) ks w)) [
+      elim (R s k.0) as (λ r. R s k.0 ≡ r → cond (is_eq r) (Some k.1) (lookup (is_at (R s)) ks) ≡ Some c
+      → match_ordering r ((s, w) ∷ k ∷ ks) ((k.0, w) ∷ ks) (k ∷ insert_entry R ks s w) ≡ cond (is_eq r) ((k.0, w) ∷ ks) (k ∷ set_value (is_at (R s)) ks w)) [
         | Less ↦ λ e l. let none = lookup_before R s ks (before_less s k.0 ks e (first_so _ _ h)) in absurd (cc (none, l))
         | Equal ↦ λ e l. refl
         | Greater ↦ λ e l. ap (λ r. k ∷ r) (insert-set_value ks s c w (second_so _ _ h) l)
@@ -106,7 +114,8 @@ module _ {K X : Type 0} (R : K → K → Ordering) (o : IsTotalOrder R) where
   pub lookup_added : (ks : List (K × X)) (s : K) (w : X) → lookup (is_at (R s)) ks ≡ None → lookup (is_at (R s)) (insert_entry R ks s w) ≡ Some w
   lookup_added [] s w none = ap (λ r. cond (is_eq r) (Some w) None) (tied_itself o s)
   lookup_added (k ∷ ks) s w none =
-      elim (R s k.0) as (λ r. R s k.0 ≡ r → cond (is_eq r) (Some k.1) (lookup (is_at (R s)) ks) ≡ None → lookup (is_at (R s)) (match_ordering r ((s, w) ∷ k ∷ ks) ((k.0, w) ∷ ks) (k ∷ insert_entry R ks s w)) ≡ Some w) [
+      elim (R s k.0) as (λ r. R s k.0 ≡ r → cond (is_eq r) (Some k.1) (lookup (is_at (R s)) ks) ≡ None
+      → lookup (is_at (R s)) (match_ordering r ((s, w) ∷ k ∷ ks) ((k.0, w) ∷ ks) (k ∷ insert_entry R ks s w)) ≡ Some w) [
         | Less ↦ λ e l. ap (λ r. cond (is_eq r) (Some w) (lookup (is_at (R s)) (k ∷ ks))) (tied_itself o s)
         | Equal ↦ λ e l. absurd cc
         | Greater ↦ λ e l. ap (λ r. cond (is_eq r) (Some k.1) (lookup (is_at (R s)) (insert_entry R ks s w))) e ∙ lookup_added ks s w l
@@ -115,8 +124,11 @@ module _ {K X : Type 0} (R : K → K → Ordering) (o : IsTotalOrder R) where
   pub added_twice : (ks : List (K × X)) (s : K) (w x : X) → lookup (is_at (R s)) ks ≡ None → set_value (is_at (R s)) (insert_entry R ks s w) x ≡ insert_entry R ks s x
   added_twice [] s w x none = ap (λ r. cond (is_eq r) ((s, x) ∷ []) ((s, w) ∷ [])) (tied_itself o s)
   added_twice (k ∷ ks) s w x none =
-      elim (R s k.0) as (λ r. R s k.0 ≡ r → cond (is_eq r) (Some k.1) (lookup (is_at (R s)) ks) ≡ None → set_value (is_at (R s)) (match_ordering r ((s, w) ∷ k ∷ ks) ((k.0, w) ∷ ks) (k ∷ insert_entry R ks s w)) x ≡ match_ordering r ((s, x) ∷ k ∷ ks) ((k.0, x) ∷ ks) (k ∷ insert_entry R ks s x)) [
+      elim (R s k.0) as (λ r. R s k.0 ≡ r → cond (is_eq r) (Some k.1) (lookup (is_at (R s)) ks) ≡ None
+      → set_value (is_at (R s)) (match_ordering r ((s, w) ∷ k ∷ ks) ((k.0, w) ∷ ks) (k ∷ insert_entry R ks s w)) x
+      ≡ match_ordering r ((s, x) ∷ k ∷ ks) ((k.0, x) ∷ ks) (k ∷ insert_entry R ks s x)) [
         | Less ↦ λ e l. ap (λ r. cond (is_eq r) ((s, x) ∷ k ∷ ks) ((s, w) ∷ set_value (is_at (R s)) (k ∷ ks) x)) (tied_itself o s)
         | Equal ↦ λ e l. absurd cc
-        | Greater ↦ λ e l. ap (λ r. cond (is_eq r) ((k.0, x) ∷ insert_entry R ks s w) (k ∷ set_value (is_at (R s)) (insert_entry R ks s w) x)) e ∙ ap (λ (r : List (K × X)). k ∷ r) (added_twice ks s w x l)
+        | Greater ↦ λ e l.
+            ap (λ r. cond (is_eq r) ((k.0, x) ∷ insert_entry R ks s w) (k ∷ set_value (is_at (R s)) (insert_entry R ks s w) x)) e ∙ ap (λ (r : List (K × X)). k ∷ r) (added_twice ks s w x l)
       ] refl none

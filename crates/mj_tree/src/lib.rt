@@ -11,5 +11,5 @@ mod node;
 mod sink;
 mod tree;
 
-pub use sink::{Sink, Stop};
+pub use sink::{Sink, SinkStop};
 pub use tree::Tree;

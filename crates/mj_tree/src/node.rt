@@ -1,6 +1,6 @@
 // A node: a text of its own, and children by their subscripts.
 
-ghost use Rattle.std.specs.Prelude.{◌≡◌, ◌<◌, ◌≤◌, ◌↔◌, [], ◌∷◌, ◌++◌, take, length, option_copied, IsTrue, IfSome, IfOk, OnOk, OnErr, MatchOption, T};
+ghost use Rattle.std.specs.Prelude.{◌≡◌, ◌↔◌, [], ◌∷◌, ◌++◌, option_copied, IsTrue, IfSome, IfOk, OnOk, OnErr, MatchOption, T};
 ghost use Rattle.std.specs.Option.{option_map};
 ghost use Rattle.std.specs.FinMap.{find, is_sorted, put};
 ghost use Rattle.std.specs.Cmp.Lexicographic.{slice_cmp};
@@ -8,12 +8,13 @@ ghost use Rattle.mj_subs.specs.Collation.{subscript_cmp};
 ghost use Rattle.std.specs.BTreeMap.{keys, insert_entry, is_at};
 ghost use Rattle.std.specs.Map.{lookup, remove_entry};
 ghost use Rattle.mj_store.specs.declared.store.Direction.TheVariants as way;
-ghost use Rattle.mj_store.specs.Nodes.{is_empty, subtree, data_of, first_subscripts, next_past};
-ghost use Rattle.mj_tree.specs.Nest.{AreFilled, behind, below, beyond, lead, later, nodes_of, own, without};
+ghost use Rattle.mj_store.specs.Nodes.{is_empty, subtree, data_of, next_past};
+ghost use Rattle.mj_store.specs.Questions.{next_from};
+ghost use Rattle.mj_tree.specs.Nest.{AreFilled, IsAside, IsNoneAside, IsTurn, behind, lead, later, nodes_of, own, without};
 ghost use Rattle.mj_tree.specs.Undo.{restored};
 ghost use Rattle.mj_tree.specs.Walks.{named};
 
-use crate::sink::{Sink, Stop};
+use crate::sink::{Sink, SinkStop};
 use mj_store::{Direction, Nodes};
 use mj_subs::{Sub, Subs};
 use mj_text::Text;
@@ -129,7 +130,7 @@ impl Node {
         }
     }
 
-    /// The same of subscripts that are told by their texts.
+    /// Whether a text stands at subscripts that are told by their texts, and whether one stands below them.
     pub fn data_at(&self, path: &[Text]) -> Result<u8, AllocError>
         ensures { IfOk result (λ d. d ≡ data_of (subtree subscript_cmp path.now self.now)) }
     {
@@ -153,7 +154,7 @@ impl Node {
 
     /// The next subscript after `last` at the place below `front`, in a direction. From the empty one it is the first.
     pub fn order(&self, front: &[Sub], last: &Sub, direction: Direction) -> Option<&Sub>
-        ensures { option_copied result ≡ next_past subscript_cmp direction (is_empty last.now) last.now (first_subscripts (subtree subscript_cmp front.now self.now)) }
+        ensures { option_copied result ≡ next_from direction last.now (subtree subscript_cmp front.now self.now) }
     {
         match self.at(front) {
             None => None,
@@ -164,14 +165,14 @@ impl Node {
         }
     }
 
-    /// The same of subscripts that are told by their texts.
+    /// The next subscript after `last` at the place below `front`, in a direction, where subscripts are told by their texts.
     pub fn order_at(
         &self,
         front: &[Text],
         last: &Text,
         direction: Direction,
     ) -> Result<Option<&Sub>, AllocError>
-        ensures { IfOk result (λ next. option_copied next ≡ next_past subscript_cmp direction (is_empty last.now) last.now (first_subscripts (subtree subscript_cmp front.now self.now))) }
+        ensures { IfOk result (λ next. option_copied next ≡ next_from direction last.now (subtree subscript_cmp front.now self.now)) }
     {
         match self.at_texts(front)? {
             None => Ok(None),
@@ -200,7 +201,7 @@ impl Node {
 
     // Where the next place leaves the path: how many of the path's subscripts stay, the subscript after them, and the child there.
     fn turn(&self, path: &[Sub]) -> Option<(usize, &Sub, &Node)>
-        ensures { MatchOption result (lead (later subscript_cmp path.now self.now) ≡ None) (λ t. (t.0 ≤ length path.now) × (0 < length t.2.now) × (lead (later subscript_cmp path.now self.now) ≡ option_map (λ rest. take t.0 path.now ++ t.1.now ∷ rest) (lead t.2.now))) }
+        ensures { MatchOption result (lead (later subscript_cmp path.now self.now) ≡ None) (λ t. IsTurn path.now self.now t.0 t.1.now t.2.now) }
     {
         match path {
             [] => match self.children.iter().next() {
@@ -278,7 +279,7 @@ impl Node {
         word: &[u8],
         front: &mut Subs,
         sink: &mut S,
-    ) -> Result<(), Stop>
+    ) -> Result<(), SinkStop>
         ensures taken { OnOk result (S.takes sink.old (named global word.now (behind front.old self.now)) sink.new) }
         ensures front { OnOk result (front.new ≡ front.old) }
     {
@@ -291,7 +292,7 @@ impl Node {
         Ok(())
     }
 
-    /// The same node once more.
+    /// A copy.
     pub fn try_clone(&self, alloc: Global) -> Result<Node, AllocError>
         ensures { IfOk result (λ n. n ≡ self.now) }
     {
@@ -414,7 +415,7 @@ fn child_at<'a>(
     Ok(children.get(&sub))
 }
 
-// One child more, or another one in place of that at its subscript.
+// Adds a child, or puts it in place of that at its subscript.
 fn add(children: &mut BTreeMap<Sub, Node>, sub: &Sub, child: Node) -> Result<(), AllocError>
     ensures ok { OnOk result (children.new.entries ≡ insert_entry subscript_cmp children.old.entries sub.now child) }
     ensures err { OnErr result (children.new.entries ≡ children.old.entries) }
@@ -440,7 +441,7 @@ fn walk_own<S: Sink>(
     word: &[u8],
     front: &Subs,
     sink: &mut S,
-) -> Result<(), Stop>
+) -> Result<(), SinkStop>
     ensures { OnOk result (S.takes sink.old (named global word.now (behind front.now (own text.now))) sink.new) }
 {
     match text {
@@ -477,7 +478,7 @@ fn around<'a>(
     requires rises { T (is_sorted subscript_cmp children.now.entries) }
     requires filled { AreFilled children.now.entries }
     ensures child { option_copied result.0 ≡ lookup (is_at (subscript_cmp sub.now)) children.now.entries }
-    ensures aside { MatchOption result.1 (lead (below (beyond subscript_cmp sub.now children.now.entries)) ≡ None) (λ t. (t.0 ≡ 0) × (0 < length t.2.now) × (lead (below (beyond subscript_cmp sub.now children.now.entries)) ≡ option_map (λ rest. t.1.now ∷ rest) (lead t.2.now))) }
+    ensures aside { MatchOption result.1 (IsNoneAside sub.now children.now.entries) (λ t. IsAside sub.now children.now.entries t.0 t.1.now t.2.now) }
 {
     let mut from = children.range((Bound::Included(sub), Bound::Unbounded));
     match from.next() {
@@ -526,7 +527,7 @@ fn subscript<'a>(child: Option<(&'a Sub, &'a Node)>) -> Option<&'a Sub>
     }
 }
 
-// The child at a subscript goes, if there is one.
+// Takes the child at a subscript out, if there is one.
 fn remove(children: &mut BTreeMap<Sub, Node>, sub: &Sub)
     ensures { children.new.entries ≡ remove_entry (is_at (subscript_cmp sub.now)) children.old.entries }
 {

@@ -10,21 +10,21 @@ use std::alloc::AllocError;
 
 /// Why not all is taken.
 #[derive(Clone, Copy, PartialEq, Eq, Debug)]
-pub enum Stop {
+pub enum SinkStop {
     /// an allocation was refused
     Memory,
     /// what it goes to takes no more
     Closed,
 }
 
-impl From<AllocError> for Stop {
-    ghost use Rattle.mj_tree.specs.declared.sink.Stop.TheVariants as stop;
+impl From<AllocError> for SinkStop {
+    ghost use Rattle.mj_tree.specs.declared.sink.SinkStop.TheVariants as stop;
     ghost use Rattle.std.specs.Prelude.{◌≡◌};
 
     ghost from_gives = { λ e r. r ≡ stop.Memory };
 
-    fn from(_error: AllocError) -> Stop {
-        Stop::Memory
+    fn from(_error: AllocError) -> SinkStop {
+        SinkStop::Memory
     }
 }
 
@@ -46,6 +46,6 @@ pub trait Sink {
         word: &[u8],
         subscripts: &Subs,
         text: &Text,
-    ) -> Result<(), Stop>
+    ) -> Result<(), SinkStop>
         ensures { OnOk result (takes self.old ((name global word.now subscripts.now, text.now) ∷ []) self.new) };
 }

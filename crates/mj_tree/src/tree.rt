@@ -12,9 +12,9 @@ ghost use Rattle.mj_text.specs.declared.fault.Failure.TheVariants as failure;
 ghost use Rattle.mj_text.specs.declared.fault.Fault.TheVariants as fault;
 
 use crate::node::{Node, append, extend};
-use crate::sink::{Sink, Stop};
+use crate::sink::{Sink, SinkStop};
 use mj_store::{Direction, Nodes};
-use mj_subs::{SUBSCRIPT_LIMIT, Sub, Subs};
+use mj_subs::{SUBSCRIPTS_LIMIT, Sub, Subs};
 use mj_text::{Failure, Fault, Text};
 use std::alloc::{AllocError, Global};
 use std::marker::Model;
@@ -54,11 +54,11 @@ impl Tree {
         }
     }
 
-    /// Its lists rise, so each stands once.
+    /// Says that its lists rise, so that each stands once.
     pub fn rises(&self)
         ensures { T (is_sorted (slice_cmp subscript_cmp) self.now) }
     {
-        let _root = &self.root;
+        let _root = &self.root; // for the proof
     }
 
     /// Whether it has no text.
@@ -96,7 +96,7 @@ impl Tree {
         self.root.data(path.as_slice())
     }
 
-    /// The same of subscripts that are told by their texts. No list of subscripts is made.
+    /// 0, 1, 10 or 11, for subscripts that are told by their texts. No list of subscripts is made.
     pub fn data_at(&self, path: &[Text]) -> Result<u8, AllocError>
         ensures { IfOk result (λ d. d ≡ data_of (subtree subscript_cmp path.now self.now)) }
     {
@@ -112,7 +112,7 @@ impl Tree {
         self.root.order(front, last, direction)
     }
 
-    /// The same of subscripts that are told by their texts. No list of subscripts is made.
+    /// The next subscript in place of the last one, in a direction, where subscripts are told by their texts. No list of subscripts is made.
     pub fn order_at(&self, path: &[Text], direction: Direction) -> Result<Option<&Sub>, AllocError>
         ensures { IfOk result (λ next. option_copied next ≡ order_in path.now direction self.now) }
     {
@@ -137,14 +137,14 @@ impl Tree {
     }
 
     /// Has a sink take its texts, in order, each by the name of this kind and word with its list.
-    pub fn walk<S: Sink>(&self, global: bool, word: &[u8], sink: &mut S) -> Result<(), Stop>
+    pub fn walk<S: Sink>(&self, global: bool, word: &[u8], sink: &mut S) -> Result<(), SinkStop>
         ensures { OnOk result (S.takes sink.old (named global word.now self.now) sink.new) }
     {
         self.root
             .walk(global, word, &mut Subs::new(self.alloc), sink)
     }
 
-    /// The list has this text from now on.
+    /// Gives the list this text.
     pub fn set(&mut self, path: &Subs, text: &Text) -> Result<(), AllocError>
         ensures ok { OnOk result (self.new ≡ put (slice_cmp subscript_cmp) path.now text.now self.old) }
         ensures err { OnErr result (self.new ≡ self.old) }
@@ -153,7 +153,7 @@ impl Tree {
         self.root.set(self.alloc, path.as_slice(), text)
     }
 
-    /// The list of the subscripts that are told by their texts has this text from now on.
+    /// Gives the list of the subscripts that are told by their texts this text.
     pub fn set_at(&mut self, path: &[Text], text: &Text) -> Result<(), AllocError>
         ensures ok { OnOk result (self.new ≡ put (slice_cmp subscript_cmp) path.now text.now self.old) }
         ensures err { OnErr result (self.new ≡ self.old) }
@@ -168,7 +168,7 @@ impl Tree {
         }
     }
 
-    // The same of one subscript, which stands in place.
+    // Gives a text to the list of one subscript, which stands in place.
     fn set_one(&mut self, one: &Text, text: &Text) -> Result<(), AllocError>
         ensures ok { OnOk result (self.new ≡ put (slice_cmp subscript_cmp) (one.now ∷ []) text.now self.old) }
         ensures err { OnErr result (self.new ≡ self.old) }
@@ -178,7 +178,7 @@ impl Tree {
         self.root.set(self.alloc, &path, text)
     }
 
-    // The same of two.
+    // Gives a text to the list of two subscripts, which stand in place.
     fn set_two(&mut self, one: &Text, two: &Text, text: &Text) -> Result<(), AllocError>
         ensures ok { OnOk result (self.new ≡ put (slice_cmp subscript_cmp) (one.now ∷ two.now ∷ []) text.now self.old) }
         ensures err { OnErr result (self.new ≡ self.old) }
@@ -191,21 +191,21 @@ impl Tree {
         self.root.set(self.alloc, &path, text)
     }
 
-    /// The list without a subscript has this text from now on. It takes no memory.
+    /// Gives the list without a subscript this text. It takes no memory.
     pub fn assign(&mut self, text: Text)
         ensures { self.new ≡ put (slice_cmp subscript_cmp) [] text self.old }
     {
         self.root.assign(text);
     }
 
-    /// The list and every list below it go.
+    /// Takes the list and every list below it out.
     pub fn kill(&mut self, path: &Subs)
         ensures { self.new ≡ without subscript_cmp path.now self.old }
     {
         self.root.kill(path.as_slice());
     }
 
-    /// The list of the subscripts that are told by their texts and every list below it go.
+    /// Takes the list of the subscripts that are told by their texts and every list below it out.
     pub fn kill_at(&mut self, path: &[Text]) -> Result<(), AllocError>
         ensures ok { OnOk result (self.new ≡ without subscript_cmp path.now self.old) }
         ensures err { OnErr result (self.new ≡ self.old) }
@@ -220,7 +220,7 @@ impl Tree {
         }
     }
 
-    // The same of one subscript, which stands in place.
+    // Takes the list of one subscript, which stands in place, and every list below it out.
     fn kill_one(&mut self, one: &Text) -> Result<(), AllocError>
         ensures ok { OnOk result (self.new ≡ without subscript_cmp (one.now ∷ []) self.old) }
         ensures err { OnErr result (self.new ≡ self.old) }
@@ -230,8 +230,8 @@ impl Tree {
         Ok(())
     }
 
-    /// The list followed by each of the nodes' lists has that node's text from now on. Nothing goes. `Limit` where one would be too
-    /// long, and otherwise nothing but memory can be wanting.
+    /// Gives the list followed by each of the nodes' lists that node's text. Nothing is taken out. `Limit` where one would be too long, and
+    /// otherwise nothing but memory can be wanting.
     pub fn put(&mut self, path: &Subs, nodes: &Nodes) -> Result<(), Failure>
         ensures ok { OnOk result (self.new ≡ put_behind subscript_cmp path.now nodes.now self.old) }
         ensures limit { (result ≡ Err (failure.Fault fault.Limit)) ↔ IsTrue (is_too_long path.now nodes.now) }
@@ -313,7 +313,7 @@ impl Tree {
         self.root.restore(path.as_slice(), text);
     }
 
-    /// The same tree once more.
+    /// A copy.
     pub fn try_clone(&self) -> Result<Tree, AllocError>
         ensures { IfOk result (λ t. t ≡ self.now) }
     {
@@ -359,5 +359,5 @@ fn is_too_long(path: &Subs, nodes: &[(Subs, Text)]) -> bool
     let above = path.len();
     nodes
         .iter()
-        .any(|node| SUBSCRIPT_LIMIT < above + node.0.len())
+        .any(|node| SUBSCRIPTS_LIMIT < above + node.0.len())
 }

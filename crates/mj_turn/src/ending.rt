@@ -5,41 +5,41 @@ ghost use Rattle.mj_machine.specs.Kept.{Does, Stays, replied};
 ghost use Rattle.mj_turn.specs.Faults.{telling, closing, closing_one, halting};
 
 use crate::fault::fault_text;
-use mj_ask::{Ask, Reply};
+use mj_ask::{Ask, DeviceAsk, Reply, SharedAsk};
 use mj_machine::asking::wait;
-use mj_machine::{Control, Machine, Step};
-use mj_open::principal;
+use mj_machine::{Control, Machine, TurnOutcome};
+use mj_open_devices::principal;
 use mj_text::{Fault, Text};
 use std::alloc::{AllocError, Global};
 
-/// A fault is told of, but not to a principal device that failed. Whether its line is written changes nothing.
+/// Writes the line that tells of a fault, but not to a principal device that failed. Whether it is written changes nothing.
 #[inline(never)]
 pub fn tell_fault(
     alloc: Global,
     fault: Fault,
     machine: &mut Machine,
     given: Option<&Reply>,
-) -> Result<Step, AllocError>
+) -> Result<TurnOutcome, AllocError>
     ensures ok { IfOk result (λ step. Does (λ next. telling fault) machine.old (replied given.entry) step machine.new) }
     ensures err { OnErr result (Stays machine.old machine.new) }
 {
     if machine.devices.principal_failed() {
         machine.control = Control::Closing(0, Some(fault));
-        return Ok(Step::Next);
+        return Ok(TurnOutcome::Next);
     }
     match given {
         None => {
             let line = fault_text(alloc, fault, machine)?;
-            wait(alloc, Ask::DeviceWrite(principal(alloc), line))
+            wait(alloc, Ask::Device(principal(alloc), DeviceAsk::Write(line)))
         }
         Some(_) => {
             machine.control = Control::Closing(0, Some(fault));
-            Ok(Step::Took)
+            Ok(TurnOutcome::Took)
         }
     }
 }
 
-/// Where so many of its sessions have ended, the next one ends, or, where there is none, the job.
+/// Ends the next session of the job, behind so many others, or, where there is none, the job.
 #[inline(never)]
 pub fn close(
     alloc: Global,
@@ -47,7 +47,7 @@ pub fn close(
     fault: Option<Fault>,
     machine: &mut Machine,
     given: Option<&Reply>,
-) -> Result<Step, AllocError>
+) -> Result<TurnOutcome, AllocError>
     ensures ok { IfOk result (λ step. Does (λ next. closing done fault) machine.old (replied given.entry) step machine.new) }
     ensures err { OnErr result (Stays machine.old machine.new) }
 {
@@ -57,7 +57,7 @@ pub fn close(
     }
 }
 
-// The session of a device ends, behind so many others.
+// Ends the session of a device, behind so many others.
 fn end_session(
     alloc: Global,
     done: usize,
@@ -65,36 +65,36 @@ fn end_session(
     fault: Option<Fault>,
     machine: &mut Machine,
     given: Option<&Reply>,
-) -> Result<Step, AllocError>
+) -> Result<TurnOutcome, AllocError>
     requires { done + 1 < 2 ^ 64 }
     ensures ok { IfOk result (λ step. Does (λ next. closing_one done device fault) machine.old (replied given.entry) step machine.new) }
     ensures err { OnErr result (Stays machine.old machine.new) }
 {
     match given {
-        None => wait(alloc, Ask::DeviceEnd(device)),
+        None => wait(alloc, Ask::Device(device, DeviceAsk::End)),
         Some(_) => {
             drop(device);
             machine.control = Control::Closing(done + 1, fault);
-            Ok(Step::Took)
+            Ok(TurnOutcome::Took)
         }
     }
 }
 
-// The job ends.
+// Ends the job.
 fn finish(
     alloc: Global,
     fault: Option<Fault>,
     machine: &mut Machine,
     given: Option<&Reply>,
-) -> Result<Step, AllocError>
+) -> Result<TurnOutcome, AllocError>
     ensures ok { IfOk result (λ step. Does (λ next. halting fault) machine.old (replied given.entry) step machine.new) }
     ensures err { OnErr result (Stays machine.old machine.new) }
 {
     match given {
-        None => wait(alloc, Ask::Halt(fault)),
+        None => wait(alloc, Ask::Shared(SharedAsk::Halt(fault))),
         Some(_) => {
             machine.control = Control::Over;
-            Ok(Step::Took)
+            Ok(TurnOutcome::Took)
         }
     }
 }

@@ -13,7 +13,7 @@ use mj_machine::Machine;
 use mj_text::{Digits, Failure, Fault, Text};
 use std::alloc::{AllocError, Global};
 
-/// The line that tells of a fault in the innermost frame, or in none; with its end, and at the beginning of a line of the
+/// Makes the line that tells of a fault in the innermost frame, or in none; with its end, and at the beginning of a line of the
 /// device.
 pub fn fault_text(alloc: Global, fault: Fault, machine: &Machine) -> Result<Text, AllocError>
     ensures { IfOk result (λ t. t ≡ fault_bytes fault (state_of machine.now)) }
@@ -26,7 +26,7 @@ pub fn fault_text(alloc: Global, fault: Fault, machine: &Machine) -> Result<Text
     )
 }
 
-// The same by the column of the device, and the place.
+// Makes that line by the column of the device and the place.
 fn told_text(
     alloc: Global,
     fault: Fault,
@@ -50,7 +50,7 @@ fn told_text(
     }
 }
 
-// A place, or `-` where there is none.
+// Writes a place, or `-` where there is none.
 fn put_line(line: &mut Vec<u8>, place: Option<&Place>) -> Result<(), AllocError>
     ensures text { OnOk result (line.new.items ≡ line.old.items ++ place_text (line_at place.entry)) }
     ensures short { OnOk result (length line.new.items ≤ length line.old.items + 72) }

@@ -5,18 +5,19 @@
 // changes nothing. Among units that are checked it leads only to where no operand and no FOR is missing (`specs/Sound.antt`).
 //
 // Here is what control does: lines, calls, blocks, jumps, FORs, NEW, the ends of frames, and the turns before a job's first instruction and after its
-// last. What the instructions on data do is in `mj_machine` and `mj_access`, what those of the world outside do in `mj_sharing` and `mj_talk`, and what
-// those of transactions do in `mj_restart`.
+// last. What the instructions on data do is in `mj_machine` and `mj_variable_ops`, what those of the world outside do in `mj_lock_ops` and
+// `mj_device_ops`, and what those of transactions do in `mj_transaction_ops`. How frames begin and end (`calling`, `entering`, `leaving`), and how FORs go
+// on (`repeat`), serves `mj_segment` as well.
 #![tactic(auto)]
 
-mod calling;
+pub mod calling;
 mod ending;
-mod entering;
+pub mod entering;
 mod fault;
 mod flow;
-mod leaving;
+pub mod leaving;
 mod news;
-mod repeat;
+pub mod repeat;
 mod start;
 mod turn;
 

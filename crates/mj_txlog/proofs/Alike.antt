@@ -122,18 +122,23 @@ module _ (m : Name) where
     pub filled : (g c : Content) → T (is_sorted name_cmp g) → find name_cmp m (after_put c n (subtree_at g n)) ≡ first_found (find name_cmp m g) (find name_cmp m c)
     filled [] c h = refl
     filled (x ∷ g) c h =
-        elim (rest_of n x.0) as (λ r. rest_of n x.0 ≡ r → find name_cmp m (after_put c n (cons_option (option_map (λ l. (l, x.1)) r) (subtree_at g n))) ≡ first_found (cond (eq_by_cmp name_cmp m x.0) (Some x.1) (find name_cmp m g)) (find name_cmp m c)) [
+        elim (rest_of n x.0) as (λ r. rest_of n x.0 ≡ r → find name_cmp m (after_put c n (cons_option (option_map (λ l. (l, x.1)) r) (subtree_at g n)))
+        ≡ first_found (cond (eq_by_cmp name_cmp m x.0) (Some x.1) (find name_cmp m g)) (find name_cmp m c)) [
           | None ↦ λ e.
               filled g c (second_so _ _ h)
-              ∙ elim (eq_by_cmp name_cmp m x.0) as (λ t. eq_by_cmp name_cmp m x.0 ≡ t → first_found (find name_cmp m g) (find name_cmp m c) ≡ first_found (cond t (Some x.1) (find name_cmp m g)) (find name_cmp m c)) [
+              ∙ elim (eq_by_cmp name_cmp m x.0) as (λ t. eq_by_cmp name_cmp m x.0 ≡ t → first_found (find name_cmp m g) (find name_cmp m c)
+              ≡ first_found (cond t (Some x.1) (find name_cmp m g)) (find name_cmp m c)) [
                 | true ↦ λ q. let none : rest_of n m ≡ None = ap (rest_of n) (tied x.0 q) ∙ e in absurd (cc)
                 | false ↦ λ q. refl
               ] refl
           | Some l ↦ λ e.
               filled g (after_set c (followed_by n l) x.1) (second_so _ _ h)
               ∙ ap (first_found (find name_cmp m g)) (find_set c (followed_by n l) x.1 ∙ ap (λ (k : Name). cond (eq_by_cmp name_cmp m k) (Some x.1) (find name_cmp m c)) (rest_split n x.0 l e))
-              ∙ elim (eq_by_cmp name_cmp m x.0) as (λ t. eq_by_cmp name_cmp m x.0 ≡ t → first_found (find name_cmp m g) (cond t (Some x.1) (find name_cmp m c)) ≡ first_found (cond t (Some x.1) (find name_cmp m g)) (find name_cmp m c)) [
-                | true ↦ λ q. let none : find name_cmp m g ≡ None = ap (λ (k : Name). find name_cmp k g) (tied x.0 q) ∙ nothing_there x.0 g (first_so _ _ h) in ap (λ (t : Option (List ℕ)). first_found t (Some x.1)) none
+              ∙ elim (eq_by_cmp name_cmp m x.0) as (λ t. eq_by_cmp name_cmp m x.0 ≡ t → first_found (find name_cmp m g) (cond t (Some x.1) (find name_cmp m c))
+              ≡ first_found (cond t (Some x.1) (find name_cmp m g)) (find name_cmp m c)) [
+                | true ↦ λ q.
+                    let none : find name_cmp m g ≡ None = ap (λ (k : Name). find name_cmp k g) (tied x.0 q) ∙ nothing_there x.0 g (first_so _ _ h) in
+                    ap (λ (t : Option (List ℕ)). first_found t (Some x.1)) none
                 | false ↦ λ q. refl
               ] refl
         ] refl
@@ -157,7 +162,8 @@ module _ (n : Name) where
   start_alike g new h is = at_each (λ m b e. ap (find name_cmp m) is ∙ filled_alone m n b e g h)
 
   -- one access more on both
-  step_one : (m : Name) (b : List (List ℕ)) → rest_of n m ≡ Some b → (e : Entry) (c d : Content) → find name_cmp m c ≡ find name_cmp m d → find name_cmp m (cond (meets n e) (seen c (e ∷ [])) c) ≡ find name_cmp m (seen d (e ∷ []))
+  step_one : (m : Name) (b : List (List ℕ)) → rest_of n m ≡ Some b → (e : Entry) (c d : Content) → find name_cmp m c ≡ find name_cmp m d
+      → find name_cmp m (cond (meets n e) (seen c (e ∷ [])) c) ≡ find name_cmp m (seen d (e ∷ []))
   step_one m b below (entry.Unlock u) c d is = is
   step_one m b below (entry.Access a r) c d is =
       elim (is_write a) as (λ w. find name_cmp m (cond (w && overlaps (name_of a) n) (after_accesses (cond w (a ∷ []) []) c) c) ≡ find name_cmp m (after_accesses (cond w (a ∷ []) []) d)) [
@@ -171,19 +177,22 @@ module _ (n : Name) where
   step_alike : (e : Entry) (c d : Content) → AreAlike n c d → AreAlike n (cond (meets n e) (seen c (e ∷ [])) c) (seen d (e ∷ []))
   step_alike e c d h = at_each (λ m b below. step_one m b below e c d (h m (ap is_some below)))
 
-  seen_next : (m : Name) (g : Content) (es : Accesses) (i : ℕ) (e : Entry) → i < length es → e ≡ get_or es i e → find name_cmp m (seen (seen g (take i es)) (e ∷ [])) ≡ find name_cmp m (seen g (take (i + 1) es))
+  seen_next : (m : Name) (g : Content) (es : Accesses) (i : ℕ) (e : Entry) → i < length es → e ≡ get_or es i e
+      → find name_cmp m (seen (seen g (take i es)) (e ∷ [])) ≡ find name_cmp m (seen g (take (i + 1) es))
   seen_next m g es i e lt here =
       ap (find name_cmp m) (sym (seen_more g (take i es) e) ∙ ap (λ (ys : Accesses). seen g ys) (ap (λ (y : Entry). take i es ++ y ∷ []) here ∙ sym (take_more es i e lt)))
 
   -- the text of n itself
-  pub next_text : (g : Content) (es : Accesses) (i : ℕ) (e : Entry) (now next : Content) → i < length es → e ≡ get_or es i e → find name_cmp n now ≡ find name_cmp n (seen g (take i es)) → next ≡ cond (meets n e) (seen now (e ∷ [])) now → find name_cmp n next ≡ find name_cmp n (seen g (take (i + 1) es))
+  pub next_text : (g : Content) (es : Accesses) (i : ℕ) (e : Entry) (now next : Content) → i < length es → e ≡ get_or es i e → find name_cmp n now ≡ find name_cmp n (seen g (take i es))
+      → next ≡ cond (meets n e) (seen now (e ∷ [])) now → find name_cmp n next ≡ find name_cmp n (seen g (take (i + 1) es))
   next_text g es i e now next lt here h is =
       ap (find name_cmp n) is ∙ step_one n [] (rest_itself n) e now (seen g (take i es)) h ∙ seen_next n g es i e lt here
 
   pub text_set : (c : Content) (v : List ℕ) → find name_cmp n (after_set c n v) ≡ Some v
   text_set c v = find_set n c n v ∙ ap (λ r. cond (is_eq r) (Some v) (find name_cmp n c)) (tied_itself name_cmp_total n)
 
-  pub next_alike : (g : Content) (es : Accesses) (i : ℕ) (e : Entry) (now next : Content) → i < length es → e ≡ get_or es i e → AreAlike n now (seen g (take i es)) → next ≡ cond (meets n e) (seen now (e ∷ [])) now → AreAlike n next (seen g (take (i + 1) es))
+  pub next_alike : (g : Content) (es : Accesses) (i : ℕ) (e : Entry) (now next : Content) → i < length es → e ≡ get_or es i e → AreAlike n now (seen g (take i es))
+      → next ≡ cond (meets n e) (seen now (e ∷ [])) now → AreAlike n next (seen g (take (i + 1) es))
   next_alike g es i e now next lt here h is m at =
       ap (find name_cmp m) is
       ∙ step_alike e now (seen g (take i es)) h m at
@@ -196,8 +205,10 @@ module _ (n : Name) where
   unmet_alike g (entry.Access a r ∷ es) none m at =
       elim (is_write a) as (λ w. ((w && overlaps (name_of a) n) || list_any (meets n) es) ≡ false → find name_cmp m g ≡ find name_cmp m (after_accesses (cond w (a ∷ writes_of es) (writes_of es)) g)) [
         | false ↦ λ e. unmet_alike g es e m at
-        | true ↦ λ e. elim (overlaps (name_of a) n) as (λ o. overlaps (name_of a) n ≡ o → (o || list_any (meets n) es) ≡ false → find name_cmp m g ≡ find name_cmp m (after_accesses (writes_of es) (after_access a g))) [
-          | true ↦ λ q t. absurd cc
-          | false ↦ λ q t. at_each {P = λ k. find name_cmp k g ≡ find name_cmp k (after_access a g)} (λ k b below. sym (unmet k n b below a g q)) m at ∙ unmet_alike (after_access a g) es t m at
-        ] refl e
+        | true ↦ λ e.
+            elim (overlaps (name_of a) n) as (λ o. overlaps (name_of a) n ≡ o → (o || list_any (meets n) es) ≡ false
+            → find name_cmp m g ≡ find name_cmp m (after_accesses (writes_of es) (after_access a g))) [
+              | true ↦ λ q t. absurd cc
+              | false ↦ λ q t. at_each {P = λ k. find name_cmp k g ≡ find name_cmp k (after_access a g)} (λ k b below. sym (unmet k n b below a g q)) m at ∙ unmet_alike (after_access a g) es t m at
+            ] refl e
       ] none

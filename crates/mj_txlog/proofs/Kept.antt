@@ -25,7 +25,8 @@ module _ (gone : Content) (n : Name) where
 
   module _ (m : Name) where
     -- a text at another name
-    unset : (k : Name) (c : Content) (v : List ℕ) → (eq_by_cmp name_cmp m k ≡ true → went gone m ≡ went gone k) → (b w : Bool) → went gone k ≡ b → went gone m ≡ w → (b ≡ w → false ≡ true) → find name_cmp m (after_set c k v) ≡ find name_cmp m c
+    unset : (k : Name) (c : Content) (v : List ℕ) → (eq_by_cmp name_cmp m k ≡ true → went gone m ≡ went gone k) → (b w : Bool) → went gone k ≡ b → went gone m ≡ w → (b ≡ w → false ≡ true)
+        → find name_cmp m (after_set c k v) ≡ find name_cmp m c
     unset k c v same b w x y apart =
         find_set m c k v
         ∙ elim (eq_by_cmp name_cmp m k) as (λ t. eq_by_cmp name_cmp m k ≡ t → cond t (Some v) (find name_cmp m c) ≡ find name_cmp m c) [
@@ -63,7 +64,8 @@ first_or m n b below None y = refl
 first_or m n b below (Some v) y = refl
 
 -- so a store with what is kept and the own texts over it is as what is seen
-pub kept_alike : (o : Laid) (es : Accesses) (n : Name) (g new : Content) → IsLaid o es → T (is_sorted name_cmp g) → T (is_sorted name_cmp o.over) → new ≡ after_put (kept o.gone n [] (subtree_at g n)) n (subtree_at o.over n) → AreAlike n new (seen g es)
+pub kept_alike : (o : Laid) (es : Accesses) (n : Name) (g new : Content) → IsLaid o es → T (is_sorted name_cmp g) → T (is_sorted name_cmp o.over)
+    → new ≡ after_put (kept o.gone n [] (subtree_at g n)) n (subtree_at o.over n) → AreAlike n new (seen g es)
 kept_alike o es n g new laid rises over is =
     at_each n {P = λ m. find name_cmp m new ≡ find name_cmp m (seen g es)} (λ m b e.
     let mine = kept o.gone n [] (subtree_at g n) in

@@ -118,13 +118,15 @@ module _ (m : Name) where
   pub find_killed : (c : Content) (n : Name) → find name_cmp m (after_kill c n) ≡ cond (is_none (rest_of n m)) (find name_cmp m c) None
   find_killed c n = find-where_key name_cmp (λ k. is_none (rest_of n k)) m (λ x e. ap (λ k. is_none (rest_of n k)) (sym (name_cmp-IsAntisymmetric m x e))) c
 
-  set_laid : (c over : Content) (n : Name) (v : List ℕ) (t : Option (List ℕ)) → find name_cmp m c ≡ option_or (find name_cmp m over) t → find name_cmp m (after_set c n v) ≡ option_or (find name_cmp m (after_set over n v)) t
+  set_laid : (c over : Content) (n : Name) (v : List ℕ) (t : Option (List ℕ)) → find name_cmp m c ≡ option_or (find name_cmp m over) t
+      → find name_cmp m (after_set c n v) ≡ option_or (find name_cmp m (after_set over n v)) t
   set_laid c over n v t h =
       find_set c n v
       ∙ elim (eq_by_cmp name_cmp m n) as (λ b. cond b (Some v) (find name_cmp m c) ≡ option_or (cond b (Some v) (find name_cmp m over)) t) [ true ↦ refl | false ↦ h ]
       ∙ ap (λ (o : Option (List ℕ)). option_or o t) (sym (find_set over n v))
 
-  put_laid : (c over : Content) (n : Name) (nodes : Subtree) (t : Option (List ℕ)) → find name_cmp m c ≡ option_or (find name_cmp m over) t → find name_cmp m (after_put c n nodes) ≡ option_or (find name_cmp m (after_put over n nodes)) t
+  put_laid : (c over : Content) (n : Name) (nodes : Subtree) (t : Option (List ℕ)) → find name_cmp m c ≡ option_or (find name_cmp m over) t
+      → find name_cmp m (after_put c n nodes) ≡ option_or (find name_cmp m (after_put over n nodes)) t
   put_laid c over n [] t h = h
   put_laid c over n (x ∷ nodes) t h = put_laid (after_set c (followed_by n x.0) x.1) (after_set over (followed_by n x.0) x.1) n nodes t (set_laid c over (followed_by n x.0) x.1 t h)
 
@@ -318,11 +320,13 @@ found_here n (x ∷ c) = by (rest_of n x.0) refl (found_here n c)
           | Greater ↦ λ q. refl
         ] refl
 
-    by : (r : Option (List (List ℕ))) → rest_of n x.0 ≡ r → here_in (subtree_at c n) ≡ is_some (find name_cmp n c) → here_in (nodes_with r x.1 (subtree_at c n)) ≡ is_some (cond (eq_by_cmp name_cmp n x.0) (Some x.1) (find name_cmp n c))
+    by : (r : Option (List (List ℕ))) → rest_of n x.0 ≡ r → here_in (subtree_at c n) ≡ is_some (find name_cmp n c)
+        → here_in (nodes_with r x.1 (subtree_at c n)) ≡ is_some (cond (eq_by_cmp name_cmp n x.0) (Some x.1) (find name_cmp n c))
     by None e rest = rest ∙ sym (ap (λ b. is_some (cond b (Some x.1) (find name_cmp n c))) (apart None e (λ f. absurd cc)))
     by (Some []) e rest =
         let same : n ≡ x.0 = ap (with_subscripts n) (sym (nil_after n.subscripts)) ∙ rest_split n x.0 [] e in
-        sym (ap (λ (k : Name). is_some (cond (eq_by_cmp name_cmp n k) (Some x.1) (find name_cmp n c))) (sym same) ∙ ap (λ r. is_some (cond (is_eq r) (Some x.1) (find name_cmp n c))) (tied_itself name_cmp_total n))
+        sym (ap (λ (k : Name). is_some (cond (eq_by_cmp name_cmp n k) (Some x.1) (find name_cmp n c))) (sym same)
+        ∙ ap (λ r. is_some (cond (is_eq r) (Some x.1) (find name_cmp n c))) (tied_itself name_cmp_total n))
     by (Some (s ∷ l)) e rest = rest ∙ sym (ap (λ b. is_some (cond b (Some x.1) (find name_cmp n c))) (apart (Some (s ∷ l)) e (λ f. absurd cc)))
 
 -- a text below the name is one of its nodes
@@ -363,7 +367,9 @@ below_to n (x ∷ c) h = by (rest_of n x.0) refl (below_to n c) h
         record {
           s = s;
           b = l;
-          there = ap (λ (k : Name). is_some (cond (eq_by_cmp name_cmp m k) (Some x.1) (find name_cmp m c))) (sym (rest_split n x.0 (s ∷ l) e)) ∙ ap (λ r. is_some (cond (is_eq r) (Some x.1) (find name_cmp m c))) (tied_itself name_cmp_total m);
+          there =
+              ap (λ (k : Name). is_some (cond (eq_by_cmp name_cmp m k) (Some x.1) (find name_cmp m c))) (sym (rest_split n x.0 (s ∷ l) e))
+              ∙ ap (λ r. is_some (cond (is_eq r) (Some x.1) (find name_cmp m c))) (tied_itself name_cmp_total m);
         }
 
 pub none_gone : (d : ℕ) → not (nat_eq d 0) ≡ false → d ≡ 0
@@ -386,7 +392,8 @@ module _ (o : Laid) (es : Accesses) (n : Name) (laid : IsLaid o es) (globals : C
   either_below false true e f =
       let i = below_to n globals f in
       let m = followed_by n (i.s ∷ i.b) in
-      below_from n i.s i.b (seen globals es) (either_text m (clear_below o.gone n (i.s ∷ i.b) stays none) ∙ ap (λ t. is_some (find name_cmp m o.over) || t) i.there ∙ or_true (is_some (find name_cmp m o.over)))
+      below_from n i.s i.b (seen globals es) (either_text m (clear_below o.gone n (i.s ∷ i.b) stays none) ∙ ap (λ t. is_some (find name_cmp m o.over) || t) i.there
+      ∙ or_true (is_some (find name_cmp m o.over)))
   either_below false false e f =
       elim (below_in (subtree_at (seen globals es) n)) as (λ t. below_in (subtree_at (seen globals es) n) ≡ t → t ≡ false) [
         | false ↦ λ q. refl

@@ -33,7 +33,8 @@ module _ (n : Name) where
   kept_below : (c : Content) → subtree_at (where_key name_cmp is_below c) n ≡ subtree_at c n
   kept_below [] = refl
   kept_below (x ∷ c) =
-      elim (rest_of n x.0) as (λ r. rest_of n x.0 ≡ r → subtree_at (cond (is_some r) (x ∷ where_key name_cmp is_below c) (where_key name_cmp is_below c)) n ≡ cons_option (option_map (λ l. (l, x.1)) r) (subtree_at c n)) [
+      elim (rest_of n x.0) as (λ r. rest_of n x.0 ≡ r → subtree_at (cond (is_some r) (x ∷ where_key name_cmp is_below c) (where_key name_cmp is_below c)) n
+      ≡ cons_option (option_map (λ l. (l, x.1)) r) (subtree_at c n)) [
         | None ↦ λ e. kept_below c
         | Some l ↦ λ e. λ i. cons_option (option_map (λ l. (l, x.1)) (e i)) (kept_below c i)
       ] refl
@@ -48,7 +49,8 @@ module _ (n : Name) where
     pub subtree_alike : subtree_at c n ≡ subtree_at d n
     subtree_alike =
         sym (kept_below c)
-        ∙ ap (λ (es : Content). subtree_at es n) (same_entries name_cmp name_cmp_total name_cmp-IsAntisymmetric (where_key name_cmp is_below c) (where_key name_cmp is_below d) (is_sorted-where_key name_cmp is_below c g) (is_sorted-where_key name_cmp is_below d h) at_name)
+        ∙ ap (λ (es : Content). subtree_at es n) (same_entries name_cmp name_cmp_total name_cmp-IsAntisymmetric (where_key name_cmp is_below c) (where_key name_cmp is_below d)
+        (is_sorted-where_key name_cmp is_below c g) (is_sorted-where_key name_cmp is_below d h) at_name)
         ∙ kept_below d
 
 module _ (c d : Content) (g : T (is_sorted name_cmp c)) (h : T (is_sorted name_cmp d)) where
@@ -69,11 +71,13 @@ module _ (c d : Content) (g : T (is_sorted name_cmp c)) (h : T (is_sorted name_c
   answer_alike (access.Put n nodes) r alike = absurd cc
 
 -- a store that is alike answers as what is seen
-pub answer_below : (a : Access) (reach : Name) (c g : Content) (es : Accesses) (out : Answer) → is_write a ≡ false → T (is_sorted name_cmp c) → T (is_sorted name_cmp g) → reach ≡ reach_of a → AreAlike reach c (seen g es) → out ≡ answer_of a c → out ≡ answer_of a (seen g es)
+pub answer_below : (a : Access) (reach : Name) (c g : Content) (es : Accesses) (out : Answer) → is_write a ≡ false → T (is_sorted name_cmp c) → T (is_sorted name_cmp g) → reach ≡ reach_of a
+    → AreAlike reach c (seen g es) → out ≡ answer_of a c → out ≡ answer_of a (seen g es)
 answer_below a reach c g es out read hc hg is alike answers =
     answers ∙ answer_alike c (seen g es) hc (rises_seen g es hg) a read (λ m at. alike m (ap (λ (k : Name). is_some (rest_of k m)) is ∙ at))
 
 -- and so do the globals, where no write meets what the read depends on
-pub answer_unmet : (a : Access) (reach : Name) (g : Content) (es : Accesses) (out : Answer) → is_write a ≡ false → T (is_sorted name_cmp g) → reach ≡ reach_of a → list_any (meets reach) es ≡ false → out ≡ answer_of a g → out ≡ answer_of a (seen g es)
+pub answer_unmet : (a : Access) (reach : Name) (g : Content) (es : Accesses) (out : Answer) → is_write a ≡ false → T (is_sorted name_cmp g) → reach ≡ reach_of a → list_any (meets reach) es ≡ false
+    → out ≡ answer_of a g → out ≡ answer_of a (seen g es)
 answer_unmet a reach g es out read hg is none answers =
     answer_below a reach g g es out read hg hg is (unmet_alike reach g es none) answers

@@ -14,8 +14,8 @@ use Rattle.mj_txlog.specs.Laid.{Laid, IsLaid, is_before}
 use Rattle.mj_txlog.proofs.Firsts.{IsNext, IsPast, none_past, only_next, own_alone, own_first, other_first, passed, past_on, not_both, lt_not, second_true}
 use Rattle.mj_txlog.specs.Sight.{AreAlike}
 use Rattle.mj_txlog.specs.Skips.{IsBare, AreBareAlong, IsJump}
-use Rattle.mj_txlog.specs.declared.next.Step.{Step}
-use Rattle.mj_txlog.specs.declared.next.Step.TheVariants as step
+use Rattle.mj_txlog.specs.declared.next.StepOutcome.{StepOutcome}
+use Rattle.mj_txlog.specs.declared.next.StepOutcome.TheVariants as step
 use Rattle.mj_txlog.specs.Steps.{IsStep, IsFound}
 use Rattle.mj_txlog.proofs.Bare.{left_own, nothing_bare}
 use Rattle.mj_txlog.proofs.Looks.{subtree_alike}
@@ -38,7 +38,9 @@ module _ (o : Laid) (es : Accesses) (laid : IsLaid o es) (g : Content) (f : Name
 
   -- the next one of those that are seen
   the_next : (r : Option (List ℕ)) → IsNext (along way subscript_cmp) (level (seen g es) f) (is_past way s) r → r ≡ order_at (seen g es) (followed_by f (s ∷ [])) way
-  the_next r h = only_next (along way subscript_cmp) (along_total way) (along_same way) (level (seen g es) f) (is_past way s) r (order_at (seen g es) (followed_by f (s ∷ [])) way) h (order_next (seen g es) f s way)
+  the_next r h =
+      only_next (along way subscript_cmp) (along_total way) (along_same way) (level (seen g es) f) (is_past way s) r (order_at (seen g es) (followed_by f (s ∷ [])) way) h
+      (order_next (seen g es) f s way)
 
   own_next : (r : Option (List ℕ)) → r ≡ order_at o.over (followed_by f (s ∷ [])) way → IsNext (along way subscript_cmp) (level o.over f) (is_past way s) r
   own_next r e = subst (λ (x : Option (List ℕ)). IsNext (along way subscript_cmp) (level o.over f) (is_past way s) x) (sym e) (order_next o.over f s way)
@@ -49,25 +51,31 @@ module _ (o : Laid) (es : Accesses) (laid : IsLaid o es) (g : Content) (f : Name
   own_only : (r : Option (List ℕ)) → r ≡ order_at o.over (followed_by f (s ∷ [])) way → None ≡ order_at g (followed_by f (t ∷ [])) way → r ≡ order_at (seen g es) (followed_by f (s ∷ [])) way
   own_only r e none =
       the_next r
-      (own_alone (along way subscript_cmp) (along_total way) (along_same way) (is_past way s) (is_past way t) (level o.over f) (level g f) (level (seen g es) f) up down past r (other_next None none) (own_next r e))
+      (own_alone (along way subscript_cmp) (along_total way) (along_same way) (is_past way s) (is_past way t) (level o.over f) (level g f) (level (seen g es) f) up down past r (other_next None none)
+      (own_next r e))
 
-  own_sooner : (r : Option (List ℕ)) (u : List ℕ) → r ≡ order_at o.over (followed_by f (s ∷ [])) way → Some u ≡ order_at g (followed_by f (t ∷ [])) way → is_before (along way subscript_cmp) u r ≡ false → r ≡ order_at (seen g es) (followed_by f (s ∷ [])) way
+  own_sooner : (r : Option (List ℕ)) (u : List ℕ) → r ≡ order_at o.over (followed_by f (s ∷ [])) way → Some u ≡ order_at g (followed_by f (t ∷ [])) way
+      → is_before (along way subscript_cmp) u r ≡ false → r ≡ order_at (seen g es) (followed_by f (s ∷ [])) way
   own_sooner r u e k b =
       the_next r
-      (own_first (along way subscript_cmp) (along_total way) (along_same way) (is_past way s) (is_past way t) (level o.over f) (level g f) (level (seen g es) f) up down past u r (other_next (Some u) k) (own_next r e) b)
+      (own_first (along way subscript_cmp) (along_total way) (along_same way) (is_past way s) (is_past way t) (level o.over f) (level g f) (level (seen g es) f) up down past u r
+      (other_next (Some u) k) (own_next r e) b)
 
   -- the own one is, where none of the globals comes before it
-  own_here : (r : Option (List ℕ)) → r ≡ order_at o.over (followed_by f (s ∷ [])) way → ((u : List ℕ) → order_at g (followed_by f (t ∷ [])) way ≡ Some u → is_before (along way subscript_cmp) u r ≡ false) → r ≡ order_at (seen g es) (followed_by f (s ∷ [])) way
+  own_here : (r : Option (List ℕ)) → r ≡ order_at o.over (followed_by f (s ∷ [])) way
+      → ((u : List ℕ) → order_at g (followed_by f (t ∷ [])) way ≡ Some u → is_before (along way subscript_cmp) u r ≡ false) → r ≡ order_at (seen g es) (followed_by f (s ∷ [])) way
   own_here r e h =
       elim (order_at g (followed_by f (t ∷ [])) way) as (λ x. order_at g (followed_by f (t ∷ [])) way ≡ x → r ≡ order_at (seen g es) (followed_by f (s ∷ [])) way) [
         | None ↦ λ k. own_only r e (sym k)
         | Some u ↦ λ k. own_sooner r u e (sym k) (h u k)
       ] refl
 
-  other_sooner : (r : Option (List ℕ)) (u : List ℕ) → r ≡ order_at o.over (followed_by f (s ∷ [])) way → Some u ≡ order_at g (followed_by f (t ∷ [])) way → is_before (along way subscript_cmp) u r ≡ true → stands (seen g es) (followed_by f (u ∷ [])) ≡ true → Some u ≡ order_at (seen g es) (followed_by f (s ∷ [])) way
+  other_sooner : (r : Option (List ℕ)) (u : List ℕ) → r ≡ order_at o.over (followed_by f (s ∷ [])) way → Some u ≡ order_at g (followed_by f (t ∷ [])) way
+      → is_before (along way subscript_cmp) u r ≡ true → stands (seen g es) (followed_by f (u ∷ [])) ≡ true → Some u ≡ order_at (seen g es) (followed_by f (s ∷ [])) way
   other_sooner r u e k b there =
       the_next (Some u)
-      (other_first (along way subscript_cmp) (along_total way) (along_same way) (is_past way s) (is_past way t) (level o.over f) (level g f) (level (seen g es) f) up down past u r (other_next (Some u) k) (own_next r e) b there)
+      (other_first (along way subscript_cmp) (along_total way) (along_same way) (is_past way s) (is_past way t) (level o.over f) (level g f) (level (seen g es) f) up down past u r
+      (other_next (Some u) k) (own_next r e) b there)
 
   -- what is seen where nothing of the globals is left is an own text
   bare_own : (v : List ℕ) → IsBare g o.gone f v → level (seen g es) f v ≡ true → level o.over f v ≡ true
@@ -76,12 +84,14 @@ module _ (o : Laid) (es : Accesses) (laid : IsLaid o es) (g : Content) (f : Name
   pub run_passed : (u d : List ℕ) → Some u ≡ order_at g (followed_by f (t ∷ [])) way → is_empty d ≡ false → IsJump g o.gone f way u d → ArePassed o.over g (seen g es) f way s d
   run_passed u d k full jump =
       subst (λ (b : Bool). IsPast (along way subscript_cmp) (is_past way s) (λ v. b || is_lt (along way subscript_cmp d v)) (level o.over f) (level g f) (level (seen g es) f)) (sym full)
-      (passed (along way subscript_cmp) (along_total way) (along_same way) (is_past way s) (is_past way t) (level o.over f) (level g f) (level (seen g es) f) up down past u d (other_next (Some u) k) jump.ahead
+      (passed (along way subscript_cmp) (along_total way) (along_same way) (is_past way s) (is_past way t) (level o.over f) (level g f) (level (seen g es) f) up down past u d (other_next (Some u) k)
+      jump.ahead
       (λ v above below. bare_own v (jump.bare v above below))
       (λ v x y. past_on (along way subscript_cmp) (along_total way) (along_same way) (is_empty s) s u v x y))
 
 -- from what was passed last to what is passed next
-pub joins_on : (o : Laid) (es : Accesses) (laid : IsLaid o es) (g : Content) (f : Name) (way : Direction) (t u d : List ℕ) → Some u ≡ order_at g (followed_by f (t ∷ [])) way → IsBare g o.gone f t → IsJump g o.gone f way u d → AreBareAlong g o.gone f way t d
+pub joins_on : (o : Laid) (es : Accesses) (laid : IsLaid o es) (g : Content) (f : Name) (way : Direction) (t u d : List ℕ) → Some u ≡ order_at g (followed_by f (t ∷ [])) way → IsBare g o.gone f t
+    → IsJump g o.gone f way u d → AreBareAlong g o.gone f way t d
 joins_on o es laid g f way t u d k here jump v above below =
     let next = other_next o es laid g f way t t (none_passed o.over g (seen g es) f way t) (Some u) k in
     elim (is_lt (along way subscript_cmp v u)) as (λ b. is_lt (along way subscript_cmp v u) ≡ b → IsBare g o.gone f v) [
@@ -97,7 +107,8 @@ joins_on o es laid g f way t u d k here jump v above below =
     ] refl
 
 -- $ORDER of a store that is as what is seen, at a name and below it
-pub copied_order : (f : Name) (s : List ℕ) (way : Direction) (below g : Content) (es : Accesses) → T (is_sorted name_cmp below) → T (is_sorted name_cmp g) → AreAlike f below (seen g es) → order_at below (followed_by f (s ∷ [])) way ≡ order_at (seen g es) (followed_by f (s ∷ [])) way
+pub copied_order : (f : Name) (s : List ℕ) (way : Direction) (below g : Content) (es : Accesses) → T (is_sorted name_cmp below) → T (is_sorted name_cmp g) → AreAlike f below (seen g es)
+    → order_at below (followed_by f (s ∷ [])) way ≡ order_at (seen g es) (followed_by f (s ∷ [])) way
 copied_order f s way below g es h k alike =
     order_level below f s way
     ∙ ap (λ (nodes : Subtree). next_past subscript_cmp way (is_empty s) s (first_subscripts nodes)) (subtree_alike f below (seen g es) h (rises_seen g es k) alike)
@@ -116,7 +127,8 @@ pub told : (c : Content) (n : Name) (b r : Bool) → r ≡ not (nat_eq (data_at 
 told c n b r e k = sym (data_stands c n) ∙ sym e ∙ k
 
 -- what a step came to, from where all that was passed over is to be seen only where an own text is
-pub found_next : (o : Laid) (g : Content) (f : Name) (way : Direction) (s t : List ℕ) → ((es : Accesses) → IsLaid o es → ArePassed o.over g (seen g es) f way s t) → (mine : Option (List ℕ)) → mine ≡ order_at o.over (followed_by f (s ∷ [])) way → (step : Step) (d : List ℕ) → IsStep g o f way mine t step d → IsFound g o f s way mine step
+pub found_next : (o : Laid) (g : Content) (f : Name) (way : Direction) (s t : List ℕ) → ((es : Accesses) → IsLaid o es → ArePassed o.over g (seen g es) f way s t) → (mine : Option (List ℕ))
+    → mine ≡ order_at o.over (followed_by f (s ∷ [])) way → (step : StepOutcome) (d : List ℕ) → IsStep g o f way mine t step d → IsFound g o f s way mine step
 found_next o g f way s t past mine e step.Own d h = λ es laid. own_here o es laid g f way s t (past es laid) mine e h
 found_next o g f way s t past mine e (step.Other u) d h = λ es laid.
     other_sooner o es laid g f way s t (past es laid) mine u e (sym h.0) h.1 (told (seen g es) (followed_by f (u ∷ [])) true true (sym (h.2 es laid)) refl)

@@ -11,7 +11,7 @@ use Rattle.mj_subs.specs.Laws.Ties.{subscript_cmp-IsAntisymmetric, name_cmp-IsAn
 use Rattle.mj_store.specs.Questions.{Content, with_subscripts, value_at, rest_of}
 use Rattle.mj_store.specs.Changes.{after_set, after_kill, followed_by}
 use Rattle.mj_txlog.specs.Accesses.{front_of}
-use Rattle.mj_txlog.specs.Skips.{IsBare, AreBare, AreSkips, IsRun, IsNextRun, Joins, later_of, front, last}
+use Rattle.mj_txlog.specs.Skips.{IsBare, AreBare, AreSkips, LiesInRun, IsNextRun, Joins, later_of, front, last}
 use Rattle.mj_txlog.proofs.Laid.{find_set, find_killed}
 use Rattle.mj_txlog.proofs.Firsts.{lt_asym, not_before, not_both, eq_is}
 use Rattle.mj_txlog.proofs.Stands.{last_is, but_last_is}
@@ -95,7 +95,7 @@ pub same_joins : (runs : Content) (f : Name) (c to : List ℕ) → Joins runs f 
 same_joins runs f c to g gone skips bare = skips
 
 -- a run in which the first of what is joined lies, which is as long as both
-pub within : (runs new : Content) (f : Name) (from to c d : List ℕ) → IsRun runs f from c d → Joins runs f c (later_of d to) new → Joins runs f from to new
+pub within : (runs new : Content) (f : Name) (from to c d : List ℕ) → LiesInRun runs f from c d → Joins runs f c (later_of d to) new → Joins runs f from to new
 within runs new f from to c d run joins g gone skips bare =
     joins g gone skips (swap (is_lt (subscript_cmp to d)) refl)
   where
@@ -107,7 +107,8 @@ within runs new f from to c d run joins g gone skips bare =
         by (is_lt (subscript_cmp d u)) refl
       where
         by : (t : Bool) → is_lt (subscript_cmp d u) ≡ t → IsBare g gone f u
-        by true past = bare u (not_before subscript_cmp subscript_cmp_total subscript_cmp-IsAntisymmetric from d u run.to (lt_asym subscript_cmp subscript_cmp_total subscript_cmp-IsAntisymmetric d u past)) below
+        by true past =
+            bare u (not_before subscript_cmp subscript_cmp_total subscript_cmp-IsAntisymmetric from d u run.to (lt_asym subscript_cmp subscript_cmp_total subscript_cmp-IsAntisymmetric d u past)) below
         by false h = mine u above h
 
     swap : (t : Bool) → is_lt (subscript_cmp to d) ≡ t → AreBare g gone f c (cond t d to)

@@ -87,7 +87,9 @@ stands_to n (x ∷ c) h = by (rest_of n x.0) refl (stands_to n c) h
         let m = followed_by n l in
         record {
           b = l;
-          there = ap (λ (k : Name). is_some (cond (eq_by_cmp name_cmp m k) (Some x.1) (find name_cmp m c))) (sym (rest_split n x.0 l e)) ∙ ap (λ r. is_some (cond (is_eq r) (Some x.1) (find name_cmp m c))) (tied_itself name_cmp_total m);
+          there =
+              ap (λ (k : Name). is_some (cond (eq_by_cmp name_cmp m k) (Some x.1) (find name_cmp m c))) (sym (rest_split n x.0 l e))
+              ∙ ap (λ r. is_some (cond (is_eq r) (Some x.1) (find name_cmp m c))) (tied_itself name_cmp_total m);
         }
 
 -- ---- one level below a name
@@ -102,11 +104,15 @@ front_one [] [] t = refl
 front_one [] (s ∷ q) t = refl
 front_one (s ∷ p) [] t = refl
 front_one (s ∷ p) (u ∷ q) t =
-    elim (eq_by_cmp subscript_cmp s u) as (λ b. cond b (after_front subscript_cmp (p ++ t ∷ []) q) None ≡ one_more t (cond b (after_front subscript_cmp p q) None)) [ true ↦ front_one p q t | false ↦ refl ]
+    elim (eq_by_cmp subscript_cmp s u) as (λ b. cond b (after_front subscript_cmp (p ++ t ∷ []) q) None ≡ one_more t (cond b (after_front subscript_cmp p q) None)) [
+      | true ↦ front_one p q t
+      | false ↦ refl
+    ]
 
 rest_more : (f x : Name) (t : List ℕ) → rest_of (followed_by f (t ∷ [])) x ≡ one_more t (rest_of f x)
 rest_more f x t =
-    elim (same_word f x) as (λ b. cond b (after_front subscript_cmp (f.subscripts ++ t ∷ []) x.subscripts) None ≡ one_more t (cond b (after_front subscript_cmp f.subscripts x.subscripts) None)) [ true ↦ front_one f.subscripts x.subscripts t | false ↦ refl ]
+    elim (same_word f x) as (λ b. cond b (after_front subscript_cmp (f.subscripts ++ t ∷ []) x.subscripts) None
+    ≡ one_more t (cond b (after_front subscript_cmp f.subscripts x.subscripts) None)) [ true ↦ front_one f.subscripts x.subscripts t | false ↦ refl ]
 
 -- a subscript is one of the first ones below a name where a text stands at or below that name with it
 pub level_stands : (c : Content) (f : Name) (t : List ℕ) → among subscript_cmp (first_subscripts (subtree_at c f)) t ≡ stands c (followed_by f (t ∷ []))
@@ -119,7 +125,8 @@ level_stands (x ∷ c) f t =
     by None h = h
     by (Some []) h = h
     by (Some (s ∷ l)) h =
-        elim (eq_by_cmp subscript_cmp t s) as (λ b. (b || among subscript_cmp (first_subscripts (subtree_at c f)) t) ≡ not (is_empty (nodes_with (cond b (Some l) None) x.1 (subtree_at c (followed_by f (t ∷ [])))))) [ true ↦ refl | false ↦ h ]
+        elim (eq_by_cmp subscript_cmp t s) as (λ b. (b || among subscript_cmp (first_subscripts (subtree_at c f)) t)
+        ≡ not (is_empty (nodes_with (cond b (Some l) None) x.1 (subtree_at c (followed_by f (t ∷ [])))))) [ true ↦ refl | false ↦ h ]
 
 pub last_is : (t s : List ℕ) (q : List (List ℕ)) → last_of t (q ++ s ∷ []) ≡ s
 last_is t s [] = refl
@@ -232,7 +239,8 @@ module _ (o : Laid) (es : Accesses) (laid : IsLaid o es) (g : Content) where
       (λ h.
       let i = stands_to n (seen g es) h in
       let m = followed_by n i.b in
-      stands_from n i.b o.over (gone_some (value_at o.over m) (value_at g m) (ap (λ b. is_some (option_or (value_at o.over m) (cond b None (value_at g m)))) (sym (went_below o.gone n i.b w)) ∙ sym (ap is_some (laid m g)) ∙ i.there)))
+      stands_from n i.b o.over (gone_some (value_at o.over m) (value_at g m) (ap (λ b. is_some (option_or (value_at o.over m) (cond b None (value_at g m)))) (sym (went_below o.gone n i.b w))
+      ∙ sym (ap is_some (laid m g)) ∙ i.there)))
       (own_stands n)
 
   pub other_text : (n : Name) (b : List (List ℕ)) → went o.gone (followed_by n b) ≡ false → is_some (value_at g (followed_by n b)) ≡ true → stands (seen g es) n ≡ true
@@ -317,7 +325,8 @@ leaf_level c f t h =
     (leaf_firsts (here_in nodes) (first_subscripts nodes) (ap (λ b. nat_lt (cond (here_in nodes) 1 0 + cond b 10 0) 10) (sym (below_firsts nodes)) ∙ h))
 
 -- and so nothing of what is seen is there, where that is said of the own texts and of the globals
-pub leaf_order : (o : Laid) (es : Accesses) → IsLaid o es → (g : Content) (f : Name) (s : List ℕ) (way : Direction) → nat_lt (data_at o.over f) 10 ≡ true → nat_lt (data_at g f) 10 ≡ true → None ≡ order_at (seen g es) (followed_by f (s ∷ [])) way
+pub leaf_order : (o : Laid) (es : Accesses) → IsLaid o es → (g : Content) (f : Name) (s : List ℕ) (way : Direction) → nat_lt (data_at o.over f) 10 ≡ true → nat_lt (data_at g f) 10 ≡ true
+    → None ≡ order_at (seen g es) (followed_by f (s ∷ [])) way
 leaf_order o es laid g f s way h k =
     only_next (along way subscript_cmp) (along_total way) (along_same way) (level (seen g es) f) (is_past way s) None (order_at (seen g es) (followed_by f (s ∷ [])) way)
     (λ t x. elim (seen_stands o es laid g (followed_by f (t ∷ [])) x) [
@@ -327,9 +336,11 @@ leaf_order o es laid g f s way h k =
     (order_next (seen g es) f s way)
 
 -- below a name that went, $ORDER is that of the own texts
-pub gone_order : (o : Laid) (es : Accesses) → IsLaid o es → (g : Content) (f : Name) (s : List ℕ) (way : Direction) → went o.gone f ≡ true → order_at o.over (followed_by f (s ∷ [])) way ≡ order_at (seen g es) (followed_by f (s ∷ [])) way
+pub gone_order : (o : Laid) (es : Accesses) → IsLaid o es → (g : Content) (f : Name) (s : List ℕ) (way : Direction) → went o.gone f ≡ true
+    → order_at o.over (followed_by f (s ∷ [])) way ≡ order_at (seen g es) (followed_by f (s ∷ [])) way
 gone_order o es laid g f s way w =
     let r = order_at o.over (followed_by f (s ∷ [])) way in
     only_next (along way subscript_cmp) (along_total way) (along_same way) (level (seen g es) f) (is_past way s) r (order_at (seen g es) (followed_by f (s ∷ [])) way)
-    (next_like (along way subscript_cmp) (level o.over f) (level (seen g es) f) (is_past way s) r (λ t. sym (gone_stands o es laid g (followed_by f (t ∷ [])) (went_below o.gone f (t ∷ []) w))) (order_next o.over f s way))
+    (next_like (along way subscript_cmp) (level o.over f) (level (seen g es) f) (is_past way s) r (λ t. sym (gone_stands o es laid g (followed_by f (t ∷ [])) (went_below o.gone f (t ∷ []) w)))
+    (order_next o.over f s way))
     (order_next (seen g es) f s way)

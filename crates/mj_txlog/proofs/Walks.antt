@@ -189,7 +189,8 @@ beyond_split f s q = by (after_front subscript_cmp f q) refl
         let lt : is_lt (S (f ++ s ∷ []) q) ≡ false = ap (λ (z : List (List ℕ)). is_lt (S (f ++ s ∷ []) z)) (sym (front_split f q [] e)) ∙ ap is_lt (front_cmp f (s ∷ []) []) in
         ap (λ b. b && is_none (after_front subscript_cmp (f ++ s ∷ []) q)) lt ∙ sym (and_false (is_lt (S f q)))
     by (Some (t ∷ l)) e =
-        let lt : is_lt (S (f ++ s ∷ []) q) ≡ is_lt (ordering_then (subscript_cmp s t) (S [] l)) = ap (λ (z : List (List ℕ)). is_lt (S (f ++ s ∷ []) z)) (sym (front_split f q (t ∷ l) e)) ∙ ap is_lt (front_cmp f (s ∷ []) (t ∷ l)) in
+        let lt : is_lt (S (f ++ s ∷ []) q) ≡ is_lt (ordering_then (subscript_cmp s t) (S [] l)) =
+        ap (λ (z : List (List ℕ)). is_lt (S (f ++ s ∷ []) z)) (sym (front_split f q (t ∷ l) e)) ∙ ap is_lt (front_cmp f (s ∷ []) (t ∷ l)) in
         let rest : after_front subscript_cmp (f ++ s ∷ []) q ≡ cond (is_eq (subscript_cmp s t)) (Some l) None = front_one f q s ∙ ap (one_more s) e in
         (λ i. lt i && is_none (rest i))
         ∙ elim (subscript_cmp s t) as (λ r. (is_lt (ordering_then r (S [] l)) && is_none (cond (is_eq r) (Some l) None)) ≡ (is_lt r || (is_lt (S f q) && false))) [
@@ -217,7 +218,8 @@ paths c n = map (λ e. e.0) (subtree_at c (with_subscripts n []))
 
 same_places : (n : Name) (q l : List (List ℕ)) → is_eq (S q l) ≡ eq_by_cmp name_cmp (with_subscripts n q) (with_subscripts n l)
 same_places n q l = is_as (is_eq (S q l)) (eq_by_cmp name_cmp (with_subscripts n q) (with_subscripts n l))
-    (λ h. subst (λ (z : List (List ℕ)). eq_by_cmp name_cmp (with_subscripts n q) (with_subscripts n z) ≡ true) (lists_same q l (eq_is (S q l) h)) (ap is_eq (tied_itself name_cmp_total (with_subscripts n q))))
+    (λ h. subst (λ (z : List (List ℕ)). eq_by_cmp name_cmp (with_subscripts n q) (with_subscripts n z) ≡ true) (lists_same q l (eq_is (S q l) h))
+    (ap is_eq (tied_itself name_cmp_total (with_subscripts n q))))
     (λ h. subst (λ (z : List (List ℕ)). is_eq (S q z) ≡ true)
     (ap (λ (k : Name). k.subscripts) (name_cmp-IsAntisymmetric (with_subscripts n q) (with_subscripts n l) (eq_is (name_cmp (with_subscripts n q) (with_subscripts n l)) h)))
     (ap is_eq (tied_itself lists_order q)))
@@ -230,13 +232,16 @@ paths_has (x ∷ c) n q = by (rest_of (with_subscripts n []) x.0) refl (paths_ha
     apart none =
         let m = with_subscripts n q in
         elim (name_cmp m x.0) as (λ t. name_cmp m x.0 ≡ t → is_eq t ≡ false) [
-          | Equal ↦ λ u. let there : rest_of (with_subscripts n []) x.0 ≡ Some q = ap (rest_of (with_subscripts n [])) (sym (name_cmp-IsAntisymmetric m x.0 u)) ∙ rest_followed (with_subscripts n []) q in absurd (cc)
+          | Equal ↦ λ u.
+              let there : rest_of (with_subscripts n []) x.0 ≡ Some q = ap (rest_of (with_subscripts n [])) (sym (name_cmp-IsAntisymmetric m x.0 u)) ∙ rest_followed (with_subscripts n []) q in
+              absurd (cc)
           | Less ↦ λ u. refl
           | Greater ↦ λ u. refl
         ] refl
 
     by : (r : Option (List (List ℕ))) → rest_of (with_subscripts n []) x.0 ≡ r → among S (paths c n) q ≡ has c n q
-        → among S (map (λ e. e.0) (nodes_with r x.1 (subtree_at c (with_subscripts n [])))) q ≡ is_some (cond (eq_by_cmp name_cmp (with_subscripts n q) x.0) (Some x.1) (find name_cmp (with_subscripts n q) c))
+        → among S (map (λ e. e.0) (nodes_with r x.1 (subtree_at c (with_subscripts n [])))) q
+        ≡ is_some (cond (eq_by_cmp name_cmp (with_subscripts n q) x.0) (Some x.1) (find name_cmp (with_subscripts n q) c))
     by None e h = h ∙ sym (ap (λ b. is_some (cond b (Some x.1) (find name_cmp (with_subscripts n q) c))) (apart e))
     by (Some l) e h =
         (λ i. is_eq (S q l) || h i)
@@ -262,7 +267,8 @@ module _ (c : Content) (n : Name) where
   level_none : (f : List (List ℕ)) (P : List ℕ → Bool) → IsNext subscript_cmp (level c (with_subscripts n f)) P None → IsNext S (has c n) (λ q. on P (after_front subscript_cmp f q)) None
   level_none f P h = λ q x. on_none P (after_front subscript_cmp f q) (λ t l e. h t (has_level f q t l x e))
 
-  level_first : (f : List (List ℕ)) (P : List ℕ → Bool) (s : List ℕ) (r : Option (List (List ℕ))) → IsNext subscript_cmp (level c (with_subscripts n f)) P (Some s) → IsNext S (has c n) (is_within (f ++ s ∷ [])) r
+  level_first : (f : List (List ℕ)) (P : List ℕ → Bool) (s : List ℕ) (r : Option (List (List ℕ))) → IsNext subscript_cmp (level c (with_subscripts n f)) P (Some s)
+      → IsNext S (has c n) (is_within (f ++ s ∷ [])) r
       → (is_some r ≡ true) × IsNext S (has c n) (λ q. on P (after_front subscript_cmp f q)) r
   level_first f P s None k h =
       let p = f ++ s ∷ [] in
@@ -296,7 +302,8 @@ module _ (c : Content) (n : Name) where
   pub not_here : is_some (value_at c n) ≡ false → first_in c n (is_within n.subscripts) ≡ first_in c n (is_below n.subscripts)
   not_here none =
       let p = n.subscripts in
-      sym (first_is (is_below p) (found (is_within p)) (next_where S (has c n) (is_within p) (is_below p) (found (is_within p)) (λ q x. by p none q x (after_front subscript_cmp p q) refl) (is_found (is_within p))))
+      sym (first_is (is_below p) (found (is_within p)) (next_where S (has c n) (is_within p) (is_below p) (found (is_within p)) (λ q x. by p none q x (after_front subscript_cmp p q) refl)
+      (is_found (is_within p))))
     where
       by : (p : List (List ℕ)) → has c n p ≡ false → (q : List (List ℕ)) → has c n q ≡ true → (r : Option (List (List ℕ))) → after_front subscript_cmp p q ≡ r → is_some r ≡ is_filled r
       by p none q x None e = refl
@@ -312,40 +319,48 @@ module _ (c : Content) (n : Name) where
       (level_none p (is_past Forward []) (subst (λ (r : Option (List ℕ)). IsNext subscript_cmp (level c n) (is_past Forward []) r) e (order_next c n [] Forward))))
 
   -- else the first text below is the first one with that subscript
-  pub first_below : (s : List ℕ) → order_at c (followed_by n ([] ∷ [])) Forward ≡ Some s → first_in c (followed_by n (s ∷ [])) (is_within (n.subscripts ++ s ∷ [])) ≡ first_in c n (is_below n.subscripts)
+  pub first_below : (s : List ℕ) → order_at c (followed_by n ([] ∷ [])) Forward ≡ Some s
+      → first_in c (followed_by n (s ∷ [])) (is_within (n.subscripts ++ s ∷ [])) ≡ first_in c n (is_below n.subscripts)
   first_below s e =
       let p = n.subscripts in
       let r = found (is_within (p ++ s ∷ [])) in
       sym (first_is (is_below p) r
       (next_where S (has c n) (λ q. on (is_past Forward []) (after_front subscript_cmp p q)) (is_below p) r (λ q x. on_blank (after_front subscript_cmp p q))
-      (level_first p (is_past Forward []) s r (subst (λ (t : Option (List ℕ)). IsNext subscript_cmp (level c n) (is_past Forward []) t) e (order_next c n [] Forward)) (is_found (is_within (p ++ s ∷ [])))).1))
+      (level_first p (is_past Forward []) s r (subst (λ (t : Option (List ℕ)). IsNext subscript_cmp (level c n) (is_past Forward []) t) e (order_next c n [] Forward))
+      (is_found (is_within (p ++ s ∷ [])))).1))
 
   -- nothing is past a name without subscripts
   pub none_past : first_in c n (is_beyond []) ≡ None
   none_past = first_is (is_beyond []) None (λ q x. and_false (is_lt (S [] q)))
 
   -- from a subscript to the next one, which isn't blank, is past it
-  strict : (f : List (List ℕ)) (s t : List ℕ) → is_empty t ≡ false → IsNext subscript_cmp (level c (with_subscripts n f)) (is_past Forward s) (Some t) → IsNext subscript_cmp (level c (with_subscripts n f)) (λ u. is_lt (subscript_cmp s u)) (Some t)
+  strict : (f : List (List ℕ)) (s t : List ℕ) → is_empty t ≡ false → IsNext subscript_cmp (level c (with_subscripts n f)) (is_past Forward s) (Some t)
+      → IsNext subscript_cmp (level c (with_subscripts n f)) (λ u. is_lt (subscript_cmp s u)) (Some t)
   strict f (b ∷ s) t e h = h
   strict f [] [] e h = absurd cc
   strict f [] (b ∷ t) e h = (h.0, refl, λ u x z. h.2 u x refl)
 
-  strict_none : (f : List (List ℕ)) (s : List ℕ) → IsNext subscript_cmp (level c (with_subscripts n f)) (is_past Forward s) None → IsNext subscript_cmp (level c (with_subscripts n f)) (λ u. is_lt (subscript_cmp s u)) None
+  strict_none : (f : List (List ℕ)) (s : List ℕ) → IsNext subscript_cmp (level c (with_subscripts n f)) (is_past Forward s) None
+      → IsNext subscript_cmp (level c (with_subscripts n f)) (λ u. is_lt (subscript_cmp s u)) None
   strict_none f (b ∷ s) h = h
   strict_none f [] h = λ u x. not_both true refl (h u x)
 
   -- past a name is the first text with the next subscript in place of its last one
-  pub first_past : (f : List (List ℕ)) (s t : List ℕ) → order_at c (with_subscripts n (f ++ s ∷ [])) Forward ≡ Some t → is_empty t ≡ false → first_in c (with_subscripts n (f ++ t ∷ [])) (is_within (f ++ t ∷ [])) ≡ first_in c n (is_beyond (f ++ s ∷ []))
+  pub first_past : (f : List (List ℕ)) (s t : List ℕ) → order_at c (with_subscripts n (f ++ s ∷ [])) Forward ≡ Some t → is_empty t ≡ false
+      → first_in c (with_subscripts n (f ++ t ∷ [])) (is_within (f ++ t ∷ [])) ≡ first_in c n (is_beyond (f ++ s ∷ []))
   first_past f s t e full =
       let P : List ℕ → Bool = λ u. is_lt (subscript_cmp s u) in
       let r = found (is_within (f ++ t ∷ [])) in
-      let k = level_first f P t r (strict f s t full (subst (λ (u : Option (List ℕ)). IsNext subscript_cmp (level c (with_subscripts n f)) (is_past Forward s) u) e (order_next c (with_subscripts n f) s Forward))) (is_found (is_within (f ++ t ∷ []))) in
+      let k =
+      level_first f P t r (strict f s t full (subst (λ (u : Option (List ℕ)). IsNext subscript_cmp (level c (with_subscripts n f)) (is_past Forward s) u) e
+      (order_next c (with_subscripts n f) s Forward))) (is_found (is_within (f ++ t ∷ []))) in
       sym (first_is (is_beyond (f ++ s ∷ [])) r
       (next_where S (has c n) (λ q. on P (after_front subscript_cmp f q) || is_beyond f q) (is_beyond (f ++ s ∷ [])) r (λ q x. sym (beyond_split f s q))
       (next_first S (has c n) (λ q. on P (after_front subscript_cmp f q)) (is_beyond f) r k.0 (λ u v x y. beyond_last f u v (on_some P (after_front subscript_cmp f u) x) y) k.1)))
 
   -- and past the name above it, where there is none
-  pub none_beside : (f : List (List ℕ)) (s : List ℕ) → order_at c (with_subscripts n (f ++ s ∷ [])) Forward ≡ None → first_in c (with_subscripts n f) (is_beyond f) ≡ first_in c n (is_beyond (f ++ s ∷ []))
+  pub none_beside : (f : List (List ℕ)) (s : List ℕ) → order_at c (with_subscripts n (f ++ s ∷ [])) Forward ≡ None
+      → first_in c (with_subscripts n f) (is_beyond f) ≡ first_in c n (is_beyond (f ++ s ∷ []))
   none_beside f s e =
       let P : List ℕ → Bool = λ u. is_lt (subscript_cmp s u) in
       let r = found (is_beyond f) in
@@ -380,4 +395,5 @@ module _ (c : Content) (n : Name) where
       let r = found (is_beyond p) in
       first_is (λ q. is_lt (S p q)) r
       (next_where S (has c n) (λ q. is_below p q || is_beyond p q) (λ q. is_lt (S p q)) r (λ q x. sym (after_split p q))
-      (next_second S (has c n) (is_below p) (is_beyond p) r (subst (λ (t : Option (List (List ℕ))). IsNext S (has c n) (is_below p) t) (map_none (found (is_below p)) e) (is_found (is_below p))) (is_found (is_beyond p))))
+      (next_second S (has c n) (is_below p) (is_beyond p) r (subst (λ (t : Option (List (List ℕ))). IsNext S (has c n) (is_below p) t) (map_none (found (is_below p)) e) (is_found (is_below p)))
+      (is_found (is_beyond p))))

@@ -9,6 +9,7 @@ use Rattle.mj_store.specs.declared.access.Access.{Access}
 use Rattle.mj_store.specs.declared.access.Access.TheVariants as access
 use Rattle.mj_store.specs.declared.access.Answer.{Answer}
 use Rattle.mj_store.specs.declared.access.Answer.TheVariants as answer
+use Rattle.mj_txlog.specs.declared.log.TheConstants.{ACCESSES_LIMIT}
 use Rattle.mj_txlog.specs.declared.entry.Unlock.{Unlock}
 use Rattle.mj_txlog.specs.declared.entry.Entry.{Entry}
 use Rattle.mj_txlog.specs.declared.entry.Entry.TheVariants as entry
@@ -45,9 +46,9 @@ pub record Transaction : Type 0 where
   pub accesses : Accesses
   pub gained : List Name
 
--- a transaction takes no more than 65,536 accesses (this profile)
+-- a transaction takes no more accesses than these (this profile)
 abbrev pub is_full : Transaction → Bool
-is_full t = not (nat_lt (length t.accesses) 65536)
+is_full t = not (nat_lt (length t.accesses) ACCESSES_LIMIT)
 
 -- the answer to an access in a transaction, on the globals as they are
 abbrev pub reply_in : Transaction → Content → Access → Answer

@@ -1,12 +1,13 @@
 -- A transaction's own writes, as they lie over the globals: what the globals would be asked is answered without looking at each of the writes.
-use Rattle.std.specs.Prelude.{◌≡◌, ℕ, zero, suc, Bool, true, false, nat_eq, cond, ◌&&◌, ◌||◌, ◌+◌, List, [], length, take, Option, Some, None}
+use Rattle.std.specs.Prelude.{◌≡◌, ℕ, zero, suc, Bool, true, false, not, nat_eq, cond, ◌&&◌, ◌||◌, ◌+◌, List, [], ◌∷◌, length, take, Option, Some, None}
 use Rattle.std.specs.Option.{is_some, option_or}
 use Rattle.std.specs.declared.cmp.Ordering.{Ordering}
 use Rattle.std.specs.Ordering.{is_lt}
 use Rattle.mj_subs.specs.Name.{Name}
-use Rattle.mj_store.specs.Questions.{Content, with_subscripts, value_at, data_at}
-use Rattle.mj_store.specs.Changes.{after_set}
+use Rattle.mj_store.specs.Questions.{Content, with_subscripts, value_at, data_at, order_at}
+use Rattle.mj_store.specs.Changes.{after_set, followed_by}
 use Rattle.mj_store.specs.Runs.{after_access}
+use Rattle.mj_store.specs.declared.store.Direction.{Direction}
 use Rattle.mj_store.specs.declared.access.Access.{Access}
 use Rattle.mj_store.specs.declared.access.Access.TheVariants as access
 use Rattle.mj_txlog.specs.declared.entry.Entry.{Entry}
@@ -47,6 +48,18 @@ text_over o n below = option_or (value_at o.over n) (cond (went o.gone n) None b
 -- the own writes are those of these accesses: over whatever globals, each name has the text that is seen
 abbrev pub IsLaid : Laid → Accesses → Type 0
 IsLaid o accesses = (n : Name) (globals : Content) → value_at (seen globals accesses) n ≡ text_over o n (value_at globals n)
+
+-- a content, and besides it the text of a name, where that didn't go
+abbrev pub with_kept : Laid → Content → Name → List ℕ → Content
+with_kept o content n text = cond (went o.gone n) content (after_set content n text)
+
+-- this comes next of what is seen below f, from a subscript on in a direction, whatever accesses made the own writes
+abbrev pub IsSeenNext : Content → Laid → Name → List ℕ → Direction → Option (List ℕ) → Type 0
+IsSeenNext globals o f s way next = (es : Accesses) → IsLaid o es → next ≡ order_at (seen globals es) (followed_by f (s ∷ [])) way
+
+-- something is seen at the name or below it, whatever accesses made the own writes
+abbrev pub IsSeen : Content → Laid → Name → Type 0
+IsSeen globals o n = (es : Accesses) → IsLaid o es → not (nat_eq (data_at (seen globals es) n) 0) ≡ true
 
 -- no own write is to the name or to one below it
 abbrev pub is_clear : Laid → Name → Bool

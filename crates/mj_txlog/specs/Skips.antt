@@ -1,5 +1,5 @@
 -- What the reads of a transaction have passed over: runs of subscripts below names, of which nothing in the globals is to be seen.
-use Rattle.std.specs.Prelude.{◌≡◌, ℕ, false, cond, List, [], ◌∷◌, Some, None}
+use Rattle.std.specs.Prelude.{◌≡◌, ℕ, Bool, true, false, cond, List, [], ◌∷◌, Some, None}
 use Rattle.std.specs.List.{fold}
 use Rattle.std.specs.Ordering.{is_lt}
 use Rattle.mj_subs.specs.Name.{Name}
@@ -63,7 +63,7 @@ abbrev pub KeepSkips : Content → Laid → Content → Type 0
 KeepSkips globals o runs = (accesses : Accesses) → IsLaid o accesses → AreSkips globals o.gone runs
 
 -- A subscript lies in a run from the one to the other.
-pub record IsRun (runs : Content) (f : Name) (u c d : List ℕ) : Type 0 where
+pub record LiesInRun (runs : Content) (f : Name) (u c d : List ℕ) : Type 0 where
   pub there : value_at runs (followed_by f (c ∷ [])) ≡ Some d
   pub from : is_lt (subscript_cmp u c) ≡ false
   pub to : is_lt (subscript_cmp d u) ≡ false
@@ -75,7 +75,7 @@ far_end way.Backward c d = c
 
 -- It is the far end of a run in which the subscript lies.
 abbrev pub IsFar : Content → Name → List ℕ → Direction → List ℕ → Type 0
-IsFar runs f u way far = (c d : List ℕ) × IsRun runs f u c d × (far ≡ far_end way c d)
+IsFar runs f u way far = (c d : List ℕ) × LiesInRun runs f u c d × (far ≡ far_end way c d)
 
 -- what is kept has runs of old ones, and this one besides, wherever all are so
 abbrev pub Joins : Content → Name → List ℕ → List ℕ → Content → Type 0
@@ -91,3 +91,13 @@ pub record IsNextRun (runs : Content) (f : Name) (to : List ℕ) (n : Name) (d :
   pub at : n ≡ followed_by f (first ∷ [])
   pub there : value_at runs n ≡ Some d
   pub from : is_lt (subscript_cmp to first) ≡ false
+
+-- what is kept stays true, where nothing is left from the one subscript to the other in a direction
+abbrev pub KeepsAlong : Content → Name → Direction → List ℕ → List ℕ → Content → Type 0
+KeepsAlong old f way a b new = (globals gone : Content) → AreSkips globals gone old → AreBareAlong globals gone f way a b → AreSkips globals gone new
+
+-- it does where nothing is left from the next subscript to the far one, nor from where the step began, if something was passed before
+abbrev pub KeepsPassed : Content → Name → Direction → Bool → List ℕ → List ℕ → List ℕ → Content → Type 0
+KeepsPassed old f way is_passed at next far new =
+    (globals gone : Content) → AreSkips globals gone old → (is_passed ≡ true → AreBareAlong globals gone f way at far)
+    → AreBareAlong globals gone f way next far → AreSkips globals gone new

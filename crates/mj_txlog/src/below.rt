@@ -1,10 +1,10 @@
 // A small store of what a transaction sees at a name and below it.
 
-ghost use Rattle.std.specs.Prelude.{◌≡◌, IfOk, OnOk, cond};
-ghost use Rattle.mj_store.specs.Changes.{after_set, followed_by};
+ghost use Rattle.std.specs.Prelude.{◌≡◌, IfOk, OnOk};
+ghost use Rattle.mj_store.specs.Changes.{followed_by};
 ghost use Rattle.mj_txlog.specs.Accesses.{Accesses, seen};
 ghost use Rattle.mj_txlog.specs.Sight.{AreAlike};
-ghost use Rattle.mj_txlog.specs.Laid.{went, IsLaid};
+ghost use Rattle.mj_txlog.specs.Laid.{with_kept, IsLaid};
 
 use crate::names::followed;
 use crate::overlay::Overlay;
@@ -29,17 +29,17 @@ pub(crate) fn seen_below(
     for node in nodes.as_slice() {
         add_kept(&mut below, own, name, &node.0, &node.1)?;
     }
-    drop(nodes);
+    drop(nodes); // for the proof
     let texts = own.over().subtree(name)?;
     let added = below.put(name, &texts);
-    drop(texts);
+    drop(texts); // for the proof
     match added {
         Ok(()) => Ok(below),
         Err(_) => Err(AllocError),
     }
 }
 
-// A node of the globals goes to the store, if it didn't go.
+// Puts a node of the globals to the store, if it didn't go.
 fn add_kept(
     below: &mut Globals,
     own: &Overlay,
@@ -47,7 +47,7 @@ fn add_kept(
     more: &Subs,
     text: &Text,
 ) -> Result<(), AllocError>
-    ensures { OnOk result (below.new ≡ cond (went own.now.gone (followed_by name.now more.now)) below.old (after_set below.old (followed_by name.now more.now) text.now)) }
+    ensures { OnOk result (below.new ≡ with_kept own.now below.old (followed_by name.now more.now) text.now) }
 {
     let at = followed(below.allocator(), name, more)?;
     let added = match own.went(&at) {
@@ -55,6 +55,6 @@ fn add_kept(
         Ok(false) => below.set(&at, text),
         Err(refused) => Err(refused),
     };
-    drop(at);
+    drop(at); // for the proof
     added
 }

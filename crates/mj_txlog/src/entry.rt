@@ -1,13 +1,10 @@
 // What stands in the list of a transaction's accesses.
 
 ghost use Rattle.std.specs.Prelude.{◌≡◌};
-ghost use Rattle.mj_store.specs.Changes.{is_too_deep as too_deep};
 ghost use Rattle.mj_txlog.specs.Accesses.{is_refused, is_write};
 
 use crate::names::NameList;
-use mj_store::{Access, Answer};
-use mj_subs::{Name, SUBSCRIPT_LIMIT, Subs};
-use mj_text::Text;
+use mj_store::{Access, Answer, is_too_deep};
 
 /// An unlock that waits for the commit.
 #[derive(Drop)]
@@ -45,14 +42,4 @@ pub fn is_refused(access: &Access) -> bool
         Access::Put(name, nodes) => is_too_deep(name, nodes.as_slice()),
         _ => false,
     }
-}
-
-// Whether a list would follow the name with more subscripts than a name can have.
-fn is_too_deep(name: &Name, nodes: &[(Subs, Text)]) -> bool
-    ensures { result ≡ too_deep name.now nodes.now }
-{
-    let above = name.subscripts().len();
-    nodes
-        .iter()
-        .any(|node| SUBSCRIPT_LIMIT < above + node.0.len())
 }

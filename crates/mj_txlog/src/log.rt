@@ -6,7 +6,6 @@ ghost use Rattle.mj_txlog.specs.declared.entry.Entry.TheVariants.{Access as acce
 ghost use Rattle.mj_txlog.specs.Accesses.{is_write, is_full, reply_in, seen, with_entry, with_reply, with_unlock, unlock_reply, with_gained};
 ghost use Rattle.mj_txlog.specs.Skips.{AreSkips, gone_by};
 
-use crate::answers::copy_of;
 use crate::entry::{Entry, Unlock, is_refused, is_write};
 use crate::names::copies_of;
 use crate::overlay::Overlay;
@@ -19,7 +18,7 @@ use std::alloc::{AllocError, Global};
 use std::marker::Model;
 
 /// The most accesses that a transaction has.
-pub const ACCESS_LIMIT: usize = 65_536;
+pub const ACCESSES_LIMIT: usize = 65_536;
 
 /// An open transaction.
 #[derive(Drop)]
@@ -35,6 +34,7 @@ pub struct TxLog {
 impl Model for TxLog {
     ghost use Rattle.std.specs.Prelude.{◌≡◌, ◌≤◌, length};
     ghost use Rattle.mj_txlog.specs.Accesses.{Transaction};
+    ghost use Rattle.mj_txlog.specs.declared.log.TheConstants.{ACCESSES_LIMIT};
     ghost use Rattle.mj_txlog.specs.Laid.{IsLaid};
     ghost use Rattle.mj_txlog.specs.Skips.{gone_by};
 
@@ -42,7 +42,7 @@ impl Model for TxLog {
 
     ghost view = { λ t. record { serial = t.serial; accesses = t.entries.items; gained = t.gained.items } };
 
-    ghost invariant = { λ t. (length t.entries.items ≤ 65536) × IsLaid t.own t.entries.items × (t.own.gone ≡ gone_by t.entries.items) };
+    ghost invariant = { λ t. (length t.entries.items ≤ ACCESSES_LIMIT) × IsLaid t.own t.entries.items × (t.own.gone ≡ gone_by t.entries.items) };
 }
 
 impl TxLog {
@@ -75,7 +75,7 @@ impl TxLog {
     /// Its accesses, in order.
     pub fn entries(&self) -> &[Entry]
         ensures value { result.now ≡ self.now.accesses }
-        ensures limit { length result.now ≤ ACCESS_LIMIT }
+        ensures limit { length result.now ≤ ACCESSES_LIMIT }
     {
         &self.entries
     }
@@ -108,20 +108,19 @@ impl TxLog {
             return self.write(access);
         }
         if self.is_full() {
-            drop(access);
+            drop(access); // for the proof
             return Ok((Answer::Limit, Answer::Limit));
         }
         match self.answers(globals, skips, &access) {
             Ok((told, kept)) => self.append(access, told, kept),
             Err(refused) => {
-                drop(access);
+                drop(access); // for the proof
                 Err(refused)
             }
         }
     }
 
-    // The answer to a read, to be given twice and to be kept. Here and below, what isn't given on is given to `drop`: a function at whose end
-    // an access or an answer is dropped by itself takes a long proof.
+    // The answer to a read, to be given twice and to be kept.
     fn answers(
         &self,
         globals: &Globals,
@@ -136,10 +135,10 @@ impl TxLog {
         ensures kept { IfOk result (λ x. x.1 ≡ answer_of read.now (seen globals.now self.now.accesses)) }
     {
         let answer = answer(self.alloc, globals, &self.entries, &self.own, skips, read)?;
-        match twice(self.alloc, &answer) {
+        match twice(&answer) {
             Ok((again, kept)) => Ok(((answer, again), kept)),
             Err(refused) => {
-                drop(answer);
+                drop(answer); // for the proof
                 Err(refused)
             }
         }
@@ -160,7 +159,7 @@ impl TxLog {
         match self.push(Entry::Access(access, kept)) {
             Ok(()) => Ok(told),
             Err(refused) => {
-                drop(told);
+                drop(told); // for the proof
                 Err(refused)
             }
         }
@@ -184,7 +183,7 @@ impl TxLog {
                 Ok(())
             }
             Err(refused) => {
-                drop(entry);
+                drop(entry); // for the proof
                 Err(refused)
             }
         }
@@ -199,28 +198,28 @@ impl TxLog {
         ensures unchanged { OnErr result (self.new ≡ self.old) }
     {
         if self.is_full() || is_refused(&access) {
-            drop(access);
+            drop(access); // for the proof
             return Ok((Answer::Limit, Answer::Limit));
         }
         self.push(Entry::Access(access, Answer::Done))?;
         Ok((Answer::Done, Answer::Done))
     }
 
-    /// An unlock, which waits for the commit. Past the limit it is answered that it passes one, and isn't appended.
+    /// Appends an unlock, which waits for the commit. Past the limit it is answered that it passes one, and isn't appended.
     pub fn unlock(&mut self, unlock: Unlock) -> Result<Answer, AllocError>
         ensures answer { IfOk result (λ a. a ≡ unlock_reply self.old) }
         ensures appended { OnOk result (self.new ≡ with_unlock self.old unlock) }
         ensures unchanged { OnErr result (self.new ≡ self.old) }
     {
         if self.is_full() {
-            drop(unlock);
+            drop(unlock); // for the proof
             return Ok(Answer::Limit);
         }
         self.push(Entry::Unlock(unlock))?;
         Ok(Answer::Done)
     }
 
-    /// One count more of the lock of each name, which a rollback gives back: all of them, or none.
+    /// Counts the lock of each name once more, which a rollback gives back: all of them, or none.
     pub fn gain(&mut self, names: &[Name]) -> Result<(), AllocError>
         ensures gained { OnOk result (self.new ≡ with_gained self.old names.now) }
         ensures unchanged { OnErr result (self.new ≡ self.old) }
@@ -234,20 +233,20 @@ impl TxLog {
     pub fn is_full(&self) -> bool
         ensures { result ≡ is_full self.now }
     {
-        ACCESS_LIMIT <= self.entries.len()
+        ACCESSES_LIMIT <= self.entries.len()
     }
 }
 
-// The answer twice more.
-fn twice(alloc: Global, answer: &Answer) -> Result<(Answer, Answer), AllocError>
+// Two copies of the answer.
+fn twice(answer: &Answer) -> Result<(Answer, Answer), AllocError>
     ensures one { IfOk result (λ two. two.0 ≡ answer.now) }
     ensures other { IfOk result (λ two. two.1 ≡ answer.now) }
 {
-    let one = copy_of(alloc, answer)?;
-    match copy_of(alloc, answer) {
+    let one = answer.try_clone()?;
+    match answer.try_clone() {
         Ok(other) => Ok((one, other)),
         Err(refused) => {
-            drop(one);
+            drop(one); // for the proof
             Err(refused)
         }
     }

@@ -4,7 +4,7 @@ ghost use Rattle.std.specs.Prelude.{◌≡◌, ◌<◌, ◌++◌, ◌∷◌, [],
 ghost use Rattle.mj_store.specs.Questions.{with_subscripts};
 ghost use Rattle.mj_store.specs.Changes.{followed_by};
 
-use mj_subs::{Name, SUBSCRIPT_LIMIT, Sub, Subs};
+use mj_subs::{Name, SUBSCRIPTS_LIMIT, Sub, Subs};
 use std::alloc::{AllocError, Global};
 use std::marker::Model;
 
@@ -49,7 +49,7 @@ impl NameList {
         &self.list
     }
 
-    /// One more, at the end.
+    /// Puts one more at the end.
     pub fn push(&mut self, name: Name) -> Result<(), AllocError>
         ensures { self.new ≡ (if is_ok result then self.old ++ name ∷ [] else self.old) }
     {
@@ -58,7 +58,7 @@ impl NameList {
     }
 }
 
-// The same names once more.
+// Copies of names.
 pub(crate) fn copies_of(alloc: Global, names: &[Name]) -> Result<Vec<Name>, AllocError>
     ensures { IfOk result (λ copies. copies.items ≡ names.now) }
 {
@@ -98,9 +98,9 @@ fn subs_of(alloc: Global, list: &[Sub]) -> Result<Subs, AllocError>
 // The name with one subscript more, for which there is room.
 pub(crate) fn with_one(alloc: Global, name: &Name, sub: &Sub) -> Result<Name, AllocError>
     ensures value { IfOk result (λ n. n ≡ followed_by name.now (sub.now ∷ [])) }
-    ensures room { IfOk result (λ n. length name.now.subscripts < SUBSCRIPT_LIMIT) }
+    ensures room { IfOk result (λ n. length name.now.subscripts < SUBSCRIPTS_LIMIT) }
 {
-    if SUBSCRIPT_LIMIT <= name.subscripts().len() {
+    if SUBSCRIPTS_LIMIT <= name.subscripts().len() {
         return Err(AllocError);
     }
     let word = name.word().try_clone()?;
@@ -129,7 +129,7 @@ pub(crate) fn followed(alloc: Global, name: &Name, more: &Subs) -> Result<Name, 
     })
 }
 
-// One subscript more.
+// Puts one more subscript at the end.
 fn add_one(subs: &mut Subs, sub: &Sub) -> Result<(), AllocError>
     ensures { OnOk result (subs.new ≡ subs.old ++ sub.now ∷ []) }
 {

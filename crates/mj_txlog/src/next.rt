@@ -4,7 +4,7 @@
 // own kills, the first is the answer. One of the globals below which nothing is left is passed over, whatever stood below it, and with it all that
 // reads before it passed over on from there (`skips.rt`).
 
-ghost use Rattle.std.specs.Prelude.{◌≡◌, ℕ, List, Some, ◌∷◌, [], true, false, not, nat_eq, nat_lt, length, ◌<◌, IfOk, IfNone};
+ghost use Rattle.std.specs.Prelude.{◌≡◌, Some, ◌∷◌, [], true, false, not, nat_eq, nat_lt, length, ◌<◌, IfOk, IfNone};
 ghost use Rattle.std.specs.Option.{IfSome};
 ghost use Rattle.mj_subs.specs.Collation.{subscript_cmp};
 ghost use Rattle.mj_store.specs.declared.store.Direction.TheVariants as way;
@@ -12,24 +12,24 @@ ghost use Rattle.mj_store.specs.Nodes.{along};
 ghost use Rattle.mj_store.specs.Questions.{Content, order_at, data_at};
 ghost use Rattle.mj_store.specs.Changes.{followed_by};
 ghost use Rattle.mj_txlog.specs.Accesses.{Accesses, seen};
-ghost use Rattle.mj_txlog.specs.Laid.{IsLaid, is_before};
-ghost use Rattle.mj_txlog.specs.Skips.{IsBare, AreAllBare, AreSkips, AreBareAlong, IsJump, KeepSkips};
-ghost use Rattle.mj_txlog.specs.Steps.{IsStep, IsFound, IsMove};
+ghost use Rattle.mj_txlog.specs.Laid.{IsLaid, IsSeen, IsSeenNext, is_before};
+ghost use Rattle.mj_txlog.specs.Skips.{IsBare, AreAllBare, AreSkips, IsJump, KeepSkips, KeepsAlong, KeepsPassed};
+ghost use Rattle.mj_txlog.specs.Steps.{IsStep, IsFound, IsMove, IsNextBefore, IsNoneBefore};
 
 use crate::below::seen_below;
-use crate::log::ACCESS_LIMIT;
+use crate::log::ACCESSES_LIMIT;
 use crate::names::{cut_to, with_one};
 use crate::overlay::Overlay;
 use crate::skips::Skips;
 use mj_globs::Globals;
 use mj_store::{Direction, Store};
-use mj_subs::{Name, SUBSCRIPT_LIMIT, Sub};
+use mj_subs::{Name, SUBSCRIPTS_LIMIT, Sub};
 use mj_text::Text;
 use std::alloc::{AllocError, Global};
 
 // What a step over the globals comes to.
 #[derive(Drop)]
-enum Step {
+enum StepOutcome {
     // the own text at hand stands next
     Own,
     // this subscript of the globals does
@@ -52,23 +52,23 @@ pub(crate) fn next_below(
     way: Direction,
 ) -> Result<Option<Sub>, AllocError>
     requires { KeepSkips globals.now own.now skips.old }
-    ensures next { IfOk result (λ next. (es : Accesses) → IsLaid own.now es → next ≡ order_at (seen globals.now es) (followed_by front.now (from.now ∷ [])) way) }
+    ensures next { IfOk result (λ next. IsSeenNext globals.now own.now front.now from.now way next) }
     ensures skips { KeepSkips globals.now own.now skips.new }
 {
-    if front.subscripts().len() < SUBSCRIPT_LIMIT {
+    if front.subscripts().len() < SUBSCRIPTS_LIMIT {
         let mine = next_in(own.over(), front, from, way)?;
         return match next_of_both(globals, own, skips, front, from, &mine, way) {
-            Ok(Step::Own) => Ok(mine),
-            Ok(Step::Other(next)) => {
-                drop(mine);
+            Ok(StepOutcome::Own) => Ok(mine),
+            Ok(StepOutcome::Other(next)) => {
+                drop(mine); // for the proof
                 Ok(Some(next))
             }
-            Ok(Step::Passed | Step::Unclear) => {
-                drop(mine);
+            Ok(StepOutcome::Passed | StepOutcome::Unclear) => {
+                drop(mine); // for the proof
                 next_copied(globals, own, front, from, way)
             }
             Err(refused) => {
-                drop(mine);
+                drop(mine); // for the proof
                 Err(refused)
             }
         };
@@ -89,23 +89,23 @@ fn next_of_both(
     from: &Sub,
     mine: &Option<Sub>,
     way: Direction,
-) -> Result<Step, AllocError>
+) -> Result<StepOutcome, AllocError>
     requires skips { KeepSkips globals.now own.now skips.old }
-    requires room { length front.now.subscripts < SUBSCRIPT_LIMIT }
+    requires room { length front.now.subscripts < SUBSCRIPTS_LIMIT }
     requires mine { mine.now ≡ order_at own.now.over (followed_by front.now (from.now ∷ [])) way }
     ensures found { IfOk result (λ found. IsFound globals.now own.now front.now from.now way mine.now found) }
     ensures skips { KeepSkips globals.now own.now skips.new }
 {
     if own.went(front)? || is_covered(globals.allocator(), skips, front)? {
-        return Ok(Step::Own);
+        return Ok(StepOutcome::Own);
     }
     let mut at = from.try_clone()?;
     let found = pass_over(globals, own, skips, front, &mut at, mine, way);
-    drop(at);
+    drop(at); // for the proof
     found
 }
 
-// The same, from where nothing was passed over yet.
+// Which of two stands next, in steps over the globals that begin where nothing was passed over yet.
 #[cycle(ahead)]
 fn pass_over(
     globals: &Globals,
@@ -115,24 +115,24 @@ fn pass_over(
     at: &mut Sub,
     mine: &Option<Sub>,
     way: Direction,
-) -> Result<Step, AllocError>
+) -> Result<StepOutcome, AllocError>
     requires skips { KeepSkips globals.now own.now skips.old }
-    requires room { length front.now.subscripts < SUBSCRIPT_LIMIT }
+    requires room { length front.now.subscripts < SUBSCRIPTS_LIMIT }
     requires mine { mine.now ≡ order_at own.now.over (followed_by front.now (at.old ∷ [])) way }
     ensures found { IfOk result (λ found. IsFound globals.now own.now front.now at.old way mine.now found) }
     ensures skips { KeepSkips globals.now own.now skips.new }
 {
     let mut is_passed = false;
-    for _ in 0..ACCESS_LIMIT {
+    for _ in 0..ACCESSES_LIMIT {
         match take_step(globals, own, skips, front, at, is_passed, mine, way)? {
-            Step::Passed => is_passed = true,
+            StepOutcome::Passed => is_passed = true,
             found => return Ok(found),
         }
     }
-    Ok(Step::Passed)
+    Ok(StepOutcome::Passed)
 }
 
-// One step from a subscript, up to which all was passed over: what comes next is seen, or it and what follows it is passed over too.
+// Takes one step from a subscript, up to which all was passed over: what comes next is seen, or it and what follows it is passed over too.
 #[cycle(ahead)]
 fn take_step(
     globals: &Globals,
@@ -143,26 +143,26 @@ fn take_step(
     is_passed: bool,
     mine: &Option<Sub>,
     way: Direction,
-) -> Result<Step, AllocError>
+) -> Result<StepOutcome, AllocError>
     requires skips { KeepSkips globals.now own.now skips.old }
-    requires room { length front.now.subscripts < SUBSCRIPT_LIMIT }
+    requires room { length front.now.subscripts < SUBSCRIPTS_LIMIT }
     requires bare { (es : Accesses) → IsLaid own.now es → is_passed ≡ true → IsBare globals.now own.now.gone front.now at.old }
     ensures step { IfOk result (λ step. IsStep globals.now own.now front.now way mine.now at.old step at.new) }
     ensures skips { KeepSkips globals.now own.now skips.new }
 {
     let next = match next_before(globals, front, at, mine, way)? {
-        None => return Ok(Step::Own),
+        None => return Ok(StepOutcome::Own),
         Some(next) => next,
     };
     match far_from(globals, own, skips, front, &next, way) {
-        Ok(None) => Ok(Step::Other(next)),
+        Ok(None) => Ok(StepOutcome::Other(next)),
         Ok(Some(far)) => {
             let step = pass_on(skips, front, at, is_passed, &next, far, way);
-            drop(next);
+            drop(next); // for the proof
             step
         }
         Err(refused) => {
-            drop(next);
+            drop(next); // for the proof
             Err(refused)
         }
     }
@@ -177,9 +177,9 @@ fn is_covered(alloc: Global, skips: &Skips, name: &Name) -> Result<bool, AllocEr
     for count in 0..list.len() {
         let above = cut_to(alloc, name, &list[..count])?;
         let found = skips.end_of(&above, &list[count], Direction::Forward);
-        drop(above);
+        drop(above); // for the proof
         if let Some(far) = found? {
-            drop(far);
+            drop(far); // for the proof
             return Ok(true);
         }
     }
@@ -198,9 +198,9 @@ fn far_from(
     way: Direction,
 ) -> Result<Option<Sub>, AllocError>
     requires skips { KeepSkips globals.now own.now skips.old }
-    requires room { length front.now.subscripts < SUBSCRIPT_LIMIT }
+    requires room { length front.now.subscripts < SUBSCRIPTS_LIMIT }
     ensures passed { IfOk result (λ r. IfSome r (λ far. (es : Accesses) → IsLaid own.now es → IsJump globals.now own.now.gone front.now way next.now far)) }
-    ensures stands { IfOk result (λ r. IfNone r ((es : Accesses) → IsLaid own.now es → not (nat_eq (data_at (seen globals.now es) (followed_by front.now (next.now ∷ []))) 0) ≡ true)) }
+    ensures stands { IfOk result (λ r. IfNone r (IsSeen globals.now own.now (followed_by front.now (next.now ∷ [])))) }
     ensures skips { KeepSkips globals.now own.now skips.new }
 {
     if let Some(far) = skips.end_of(front, next, way)? {
@@ -209,23 +209,23 @@ fn far_from(
     let child = with_one(globals.allocator(), front, next)?;
     match stands(globals, own, skips, &child) {
         Ok(true) => {
-            drop(child);
+            drop(child); // for the proof
             Ok(None)
         }
         Ok(false) => {
             // What was passed over below it isn't looked at any more, and would stand between a run and what lies in it.
             skips.forget(&child);
-            drop(child);
+            drop(child); // for the proof
             Ok(Some(next.try_clone()?))
         }
         Err(refused) => {
-            drop(child);
+            drop(child); // for the proof
             Err(refused)
         }
     }
 }
 
-// The step goes on to the far one, if that isn't blank, and what lies up to it is kept as passed over.
+// Goes on to the far one, if that isn't blank, and keeps what lies up to it as passed over.
 fn pass_on(
     skips: &mut Skips,
     front: &Name,
@@ -234,27 +234,27 @@ fn pass_on(
     next: &Sub,
     far: Sub,
     way: Direction,
-) -> Result<Step, AllocError>
+) -> Result<StepOutcome, AllocError>
     ensures step { IfOk result (λ step. IsMove step far at.new) }
-    ensures skips { (globals gone : Content) → AreSkips globals gone skips.old → (is_passed ≡ true → AreBareAlong globals gone front.now way at.old far) → AreBareAlong globals gone front.now way next.now far → AreSkips globals gone skips.new }
+    ensures skips { KeepsPassed skips.old front.now way is_passed at.old next.now far skips.new }
 {
     if far.is_empty() {
-        drop(far);
-        return Ok(Step::Unclear);
+        drop(far); // for the proof
+        return Ok(StepOutcome::Unclear);
     }
     match keep(skips, front, at, is_passed, next, &far, way) {
         Ok(()) => {
             *at = far;
-            Ok(Step::Passed)
+            Ok(StepOutcome::Passed)
         }
         Err(refused) => {
-            drop(far);
+            drop(far); // for the proof
             Err(refused)
         }
     }
 }
 
-// What lies from a subscript to the far one, in a direction, is kept as passed over, with what lies between and the last that was passed before, if one was.
+// Keeps what lies from a subscript to the far one, in a direction, as passed over, with what lies between it and the last that was passed before, if one was.
 fn keep(
     skips: &mut Skips,
     front: &Name,
@@ -264,7 +264,7 @@ fn keep(
     far: &Sub,
     way: Direction,
 ) -> Result<(), AllocError>
-    ensures { (globals gone : Content) → AreSkips globals gone skips.old → (is_passed ≡ true → AreBareAlong globals gone front.now way at.now far.now) → AreBareAlong globals gone front.now way next.now far.now → AreSkips globals gone skips.new }
+    ensures { KeepsPassed skips.old front.now way is_passed at.now next.now far.now skips.new }
 {
     if is_passed {
         keep_from(skips, front, at, far, way)
@@ -273,7 +273,7 @@ fn keep(
     }
 }
 
-// What lies from the one subscript to the other, in a direction, is kept as passed over.
+// Keeps what lies from the one subscript to the other, in a direction, as passed over.
 fn keep_from(
     skips: &mut Skips,
     front: &Name,
@@ -281,7 +281,7 @@ fn keep_from(
     far: &Sub,
     way: Direction,
 ) -> Result<(), AllocError>
-    ensures { (globals gone : Content) → AreSkips globals gone skips.old → AreBareAlong globals gone front.now way from.now far.now → AreSkips globals gone skips.new }
+    ensures { KeepsAlong skips.old front.now way from.now far.now skips.new }
 {
     match way {
         Direction::Forward => skips.join(front, from, far),
@@ -340,14 +340,14 @@ pub(crate) fn first_sub(
     name: &Name,
 ) -> Result<Option<Sub>, AllocError>
     requires { KeepSkips globals.now own.now skips.old }
-    ensures next { IfOk result (λ next. (es : Accesses) → IsLaid own.now es → next ≡ order_at (seen globals.now es) (followed_by name.now ([] ∷ [])) way.Forward) }
+    ensures next { IfOk result (λ next. IsSeenNext globals.now own.now name.now [] way.Forward next) }
     ensures skips { KeepSkips globals.now own.now skips.new }
 {
     let blank = Sub::from_text(Text::new(globals.allocator()));
     next_below(globals, own, skips, name, &blank, Direction::Forward)
 }
 
-// The same, where what stands below the name is copied.
+// The next subscript below a name, in a direction, where what stands below the name is copied.
 fn next_copied(
     globals: &Globals,
     own: &Overlay,
@@ -355,13 +355,13 @@ fn next_copied(
     from: &Sub,
     way: Direction,
 ) -> Result<Option<Sub>, AllocError>
-    ensures { IfOk result (λ next. (es : Accesses) → IsLaid own.now es → next ≡ order_at (seen globals.now es) (followed_by front.now (from.now ∷ [])) way) }
+    ensures { IfOk result (λ next. IsSeenNext globals.now own.now front.now from.now way next) }
 {
     globals.rises();
     let below = seen_below(globals, own, front)?;
     below.rises();
     let next = next_in(&below, front, from, way);
-    drop(below);
+    drop(below); // for the proof
     next
 }
 
@@ -379,7 +379,7 @@ fn next_in(
         None => Ok(None),
         Some(next) => kept(next),
     };
-    drop(at);
+    drop(at); // for the proof
     next
 }
 
@@ -391,15 +391,15 @@ fn next_before(
     other: &Option<Sub>,
     way: Direction,
 ) -> Result<Option<Sub>, AllocError>
-    ensures before { IfOk result (λ next. IfSome next (λ u. (order_at store.now (followed_by front.now (from.now ∷ [])) way ≡ Some u) × (is_before (along way subscript_cmp) u other.now ≡ true))) }
-    ensures none { IfOk result (λ next. IfNone next ((u : List ℕ) → order_at store.now (followed_by front.now (from.now ∷ [])) way ≡ Some u → is_before (along way subscript_cmp) u other.now ≡ false)) }
+    ensures before { IfOk result (λ next. IfSome next (IsNextBefore store.now front.now from.now way other.now)) }
+    ensures none { IfOk result (λ next. IfNone next (IsNoneBefore store.now front.now from.now way other.now)) }
 {
     let at = with_one(store.allocator(), front, from)?;
     let next = match store.order(&at, way) {
         Some(next) if is_before(next, other, way) => kept(next),
         _ => Ok(None),
     };
-    drop(at);
+    drop(at); // for the proof
     next
 }
 

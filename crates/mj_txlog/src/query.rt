@@ -9,7 +9,7 @@ ghost use Rattle.mj_store.specs.Questions.{query_at};
 ghost use Rattle.mj_txlog.specs.Accesses.{Accesses, seen};
 ghost use Rattle.mj_txlog.specs.Laid.{IsLaid};
 ghost use Rattle.mj_txlog.specs.Skips.{KeepSkips};
-ghost use Rattle.mj_txlog.specs.Walks.{first_in, is_within, is_below, is_beyond};
+ghost use Rattle.mj_txlog.specs.Walks.{IsSeenFirst, is_within, is_below, is_beyond};
 
 use crate::names::{cut_to, with_one};
 use crate::next::{first_sub, next_below};
@@ -46,7 +46,7 @@ fn first_within(
     name: &Name,
 ) -> Result<Option<Name>, AllocError>
     requires { KeepSkips globals.now own.now skips.old }
-    ensures next { IfOk result (λ next. (es : Accesses) → IsLaid own.now es → next ≡ first_in (seen globals.now es) name.now (is_within name.now.subscripts)) }
+    ensures next { IfOk result (λ next. IsSeenFirst globals.now own.now name.now (is_within name.now.subscripts) next) }
     ensures skips { KeepSkips globals.now own.now skips.new }
 {
     if own.is_text(globals, name)? {
@@ -64,7 +64,7 @@ fn first_below(
     name: &Name,
 ) -> Result<Option<Name>, AllocError>
     requires { KeepSkips globals.now own.now skips.old }
-    ensures next { IfOk result (λ next. (es : Accesses) → IsLaid own.now es → next ≡ first_in (seen globals.now es) name.now (is_below name.now.subscripts)) }
+    ensures next { IfOk result (λ next. IsSeenFirst globals.now own.now name.now (is_below name.now.subscripts) next) }
     ensures skips { KeepSkips globals.now own.now skips.new }
 {
     match first_sub(globals, own, skips, name)? {
@@ -72,7 +72,7 @@ fn first_below(
         Some(sub) => {
             let child = with_one(globals.allocator(), name, &sub)?;
             let found = first_within(globals, own, skips, &child);
-            drop(child);
+            drop(child); // for the proof
             found
         }
     }
@@ -87,7 +87,7 @@ fn first_past(
     name: &Name,
 ) -> Result<Option<Option<Name>>, AllocError>
     requires { KeepSkips globals.now own.now skips.old }
-    ensures next { IfOk result (λ x. IfSome x (λ next. (es : Accesses) → IsLaid own.now es → next ≡ first_in (seen globals.now es) name.now (is_beyond name.now.subscripts))) }
+    ensures next { IfOk result (λ x. IfSome x (λ next. IsSeenFirst globals.now own.now name.now (is_beyond name.now.subscripts) next)) }
     ensures skips { KeepSkips globals.now own.now skips.new }
 {
     match name.subscripts().as_slice() {
@@ -95,7 +95,7 @@ fn first_past(
         [above @ .., last] => {
             let front = cut_to(globals.allocator(), name, above)?;
             let found = first_beside(globals, own, skips, &front, last);
-            drop(front);
+            drop(front); // for the proof
             found
         }
     }
@@ -112,7 +112,7 @@ fn first_beside(
     last: &Sub,
 ) -> Result<Option<Option<Name>>, AllocError>
     requires { KeepSkips globals.now own.now skips.old }
-    ensures next { IfOk result (λ x. IfSome x (λ next. (es : Accesses) → IsLaid own.now es → next ≡ first_in (seen globals.now es) front.now (is_beyond (front.now.subscripts ++ last.now ∷ [])))) }
+    ensures next { IfOk result (λ x. IfSome x (λ next. IsSeenFirst globals.now own.now front.now (is_beyond (front.now.subscripts ++ last.now ∷ [])) next)) }
     ensures skips { KeepSkips globals.now own.now skips.new }
 {
     match next_below(globals, own, skips, front, last, Direction::Forward)? {
@@ -123,7 +123,7 @@ fn first_beside(
             }
             let beside = with_one(globals.allocator(), front, &sub)?;
             let found = first_within(globals, own, skips, &beside);
-            drop(beside);
+            drop(beside); // for the proof
             Ok(Some(found?))
         }
     }

@@ -63,12 +63,11 @@ fn seen_answer(
 {
     let reach = reach_of(alloc, read)?;
     let answer = answer_at(globals, own, skips, read, &reach);
-    drop(reach);
+    drop(reach); // for the proof
     answer
 }
 
-// The same where that name is at hand. The name is given to `drop` above, and the store below: a function at whose ends either is dropped
-// by itself takes a long proof.
+// The answer to a read, where the name on which it depends is at hand.
 fn answer_at(
     globals: &Globals,
     own: &Overlay,
@@ -165,7 +164,7 @@ fn answer_among(
     let below = seen_below(globals, own, reach)?;
     below.rises();
     let found = look(&below, read);
-    drop(below);
+    drop(below); // for the proof
     found
 }
 

@@ -10,7 +10,7 @@ ghost use Rattle.std.specs.Ordering.{is_lt};
 ghost use Rattle.mj_subs.specs.Collation.{subscript_cmp};
 ghost use Rattle.mj_store.specs.Questions.{value_at};
 ghost use Rattle.mj_store.specs.Changes.{followed_by, after_set, after_kill};
-ghost use Rattle.mj_txlog.specs.Skips.{IsRun, IsFar, IsNextRun, Joins, far_end, later_of};
+ghost use Rattle.mj_txlog.specs.Skips.{LiesInRun, IsFar, IsNextRun, Joins, far_end, later_of};
 
 use crate::names::with_one;
 use mj_globs::Globals;
@@ -46,7 +46,7 @@ impl Skips {
         }
     }
 
-    /// None is left.
+    /// Forgets all runs.
     pub fn clear(&mut self)
         ensures { self.new ≡ [] }
     {
@@ -68,23 +68,23 @@ impl Skips {
         Ok(Some(far_end(way, first, last)))
     }
 
-    // What lies from the one subscript to the other, in collating order, was passed over. It is joined with the run in which the first of them lies, and with one
-    // that begins up to the other. At want of memory a run may be lost, of which more will be passed over once more.
+    // Keeps what lies from the one subscript to the other, in collating order, as passed over, joined with the run in which the first of them lies, and with
+    // one that begins up to the other. At want of memory a run may be lost, of which more will be passed over once more.
     pub(crate) fn join(&mut self, front: &Name, from: &Sub, to: &Sub) -> Result<(), AllocError>
         ensures { Joins self.old front.now from.now to.now self.new }
     {
         match self.run_of(front, from)? {
             Some((first, last)) => {
                 let done = self.lengthen(front, &first, later(&last, to));
-                drop(first);
-                drop(last);
+                drop(first); // for the proof
+                drop(last); // for the proof
                 done
             }
             None => self.lengthen(front, from, to),
         }
     }
 
-    // A run from the one subscript to the other, with one that begins behind its first and not behind its last.
+    // Keeps a run from the one subscript to the other, joined with one that begins behind its first and not behind its last.
     fn lengthen(&mut self, front: &Name, first: &Sub, to: &Sub) -> Result<(), AllocError>
         ensures { Joins self.old front.now first.now to.now self.new }
     {
@@ -93,11 +93,11 @@ impl Skips {
             Ok(found) => self.put_run(front, first, &at, found, to),
             Err(refused) => Err(refused),
         };
-        drop(at);
+        drop(at); // for the proof
         done
     }
 
-    // The same, where the name with the first subscript is at hand, and the run that is found.
+    // Keeps a run, where the name with its first subscript is at hand, and the run that it is joined with.
     fn put_run(
         &mut self,
         front: &Name,
@@ -113,23 +113,23 @@ impl Skips {
         match found {
             Some((name, last)) => {
                 self.forget(&name);
-                drop(name);
+                drop(name); // for the proof
                 let done = self.set(at, later(&last, to));
-                drop(last);
+                drop(last); // for the proof
                 done
             }
             None => self.set(at, to),
         }
     }
 
-    // No run stands at a name, or below it.
+    // Forgets the runs that stand at a name and below it.
     pub(crate) fn forget(&mut self, name: &Name)
         ensures { self.new ≡ after_kill self.old name.now }
     {
         self.runs.kill(name);
     }
 
-    // A run stands at a name.
+    // Keeps a run at a name.
     fn set(&mut self, at: &Name, last: &Sub) -> Result<(), AllocError>
         ensures ok { OnOk result (self.new ≡ after_set self.old at.now last.now) }
         ensures err { OnErr result (self.new ≡ self.old) }
@@ -151,11 +151,11 @@ impl Skips {
         match self.last_at(&name) {
             Ok(Some(last)) => Ok(Some((name, last))),
             Ok(None) => {
-                drop(name);
+                drop(name); // for the proof
                 Ok(None)
             }
             Err(refused) => {
-                drop(name);
+                drop(name); // for the proof
                 Err(refused)
             }
         }
@@ -163,18 +163,18 @@ impl Skips {
 
     // The run in which the subscript lies, if that is found: its first and its last subscript.
     fn run_of(&self, front: &Name, sub: &Sub) -> Result<Option<(Sub, Sub)>, AllocError>
-        ensures { IfOk result (λ found. IfSome found (λ run. IsRun self.now front.now sub.now run.0 run.1)) }
+        ensures { IfOk result (λ found. IfSome found (λ run. LiesInRun self.now front.now sub.now run.0 run.1)) }
     {
         let at = with_one(self.alloc, front, sub)?;
         let found = self.run_at(&at, front, sub);
-        drop(at);
+        drop(at); // for the proof
         found
     }
 
-    // The same, where the name with the subscript is at hand.
+    // The run in which the subscript lies, if that is found, where the name with the subscript is at hand.
     fn run_at(&self, at: &Name, front: &Name, sub: &Sub) -> Result<Option<(Sub, Sub)>, AllocError>
         requires { at.now ≡ followed_by front.now (sub.now ∷ []) }
-        ensures { IfOk result (λ found. IfSome found (λ run. IsRun self.now front.now sub.now run.0 run.1)) }
+        ensures { IfOk result (λ found. IfSome found (λ run. LiesInRun self.now front.now sub.now run.0 run.1)) }
     {
         if self.runs.value(at).is_some() {
             return self.run_from(front, sub, sub);
@@ -192,25 +192,25 @@ impl Skips {
         first: &Sub,
         sub: &Sub,
     ) -> Result<Option<(Sub, Sub)>, AllocError>
-        ensures { IfOk result (λ found. IfSome found (λ run. IsRun self.now front.now sub.now run.0 run.1)) }
+        ensures { IfOk result (λ found. IfSome found (λ run. LiesInRun self.now front.now sub.now run.0 run.1)) }
     {
         if sub < first {
             return Ok(None);
         }
         let name = with_one(self.alloc, front, first)?;
         let last = self.last_at(&name);
-        drop(name);
+        drop(name); // for the proof
         let Some(last) = last? else {
             return Ok(None);
         };
         if last < *sub {
-            drop(last);
+            drop(last); // for the proof
             return Ok(None);
         }
         match first.try_clone() {
             Ok(first) => Ok(Some((first, last))),
             Err(refused) => {
-                drop(last);
+                drop(last); // for the proof
                 Err(refused)
             }
         }
@@ -233,11 +233,11 @@ fn far_end(way: Direction, first: Sub, last: Sub) -> Sub
 {
     match way {
         Direction::Forward => {
-            drop(first);
+            drop(first); // for the proof
             last
         }
         Direction::Backward => {
-            drop(last);
+            drop(last); // for the proof
             first
         }
     }

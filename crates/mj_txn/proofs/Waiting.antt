@@ -4,20 +4,20 @@ use Rattle.std.proofs.lemmas.List.{take_more}
 use Rattle.mj_subs.specs.Name.{Name}
 use Rattle.mj_locktab.specs.declared.hold.Hold.{Hold}
 use Rattle.mj_locktab.specs.declared.taken.Taken.TheVariants as takes
-use Rattle.mj_locktab.specs.Locks.{Locks, IsKept, is_over}
+use Rattle.mj_locktab.specs.Locks.{Locks, IsLockTable, is_past_limit}
 use Rattle.mj_locktab.specs.Changes.{after_take, after_give}
-use Rattle.mj_locktab.specs.Tries.{conflict_of, told, left, outcome_of, after_try}
+use Rattle.mj_locktab.specs.Tries.{conflict_of, try_answer, left, outcome_of, after_try}
 use Rattle.mj_locktab.proofs.Counts.{given_back}
 use Rattle.mj_txlog.specs.declared.entry.Entry.{Entry}
 use Rattle.mj_txlog.specs.declared.entry.Entry.TheVariants as entry
 use Rattle.mj_txlog.specs.Accesses.{Accesses}
 use Rattle.mj_txn.specs.Closing.{unlocked, unlocked_by}
 
-pub given_after : (locks : Locks) (job : ℕ) (names : List Name) → IsKept locks → outcome_of locks job names ≡ takes.Got
+pub given_after : (locks : Locks) (job : ℕ) (names : List Name) → IsLockTable locks → outcome_of locks job names ≡ takes.Got
     → after_give (after_try locks job names) job names ≡ locks
-given_after locks job names kept got = by (conflict_of locks job names) (is_over (after_take locks job names) job) got
+given_after locks job names kept got = by (conflict_of locks job names) (is_past_limit (after_take locks job names) job) got
   where
-    by : (o : Option (Hold × ℕ)) (b : Bool) → told o b ≡ takes.Got → after_give (left o b locks (after_take locks job names)) job names ≡ locks
+    by : (o : Option (Hold × ℕ)) (b : Bool) → try_answer o b ≡ takes.Got → after_give (left o b locks (after_take locks job names)) job names ≡ locks
     by (Some e) b h = absurd cc
     by None true h = absurd cc
     by None false h = given_back locks job names kept.in_order kept.counted

@@ -35,10 +35,10 @@ abbrev pub after_told : Transaction → Content → Access → Transaction
 after_told t globals a = if is_local_write a then t else with_reply t a (reply_in t globals a)
 
 -- a try of names in a transaction is one as elsewhere (8.2.12: LOCK); what it takes is gained by the transaction
-abbrev pub after_taken : Transaction → List Name → Taken → Transaction
-after_taken t names takes.Got = with_gained t names
-after_taken t names (takes.Busy holder name) = t
-after_taken t names takes.Limit = t
+abbrev pub gained_by_try : Transaction → List Name → Taken → Transaction
+gained_by_try t names takes.Got = with_gained t names
+gained_by_try t names (takes.Busy holder name) = t
+gained_by_try t names takes.Limit = t
 
 -- one unlock that waited
 abbrev pub unlocked_by : Locks → ℕ → Unlock → Locks
@@ -67,12 +67,12 @@ pub record Closed : Type 0 where
   pub locks : Locks
 
 -- A commit that is done makes all changes, and then the unlocks that waited. One that clashes is rolled back (this profile)
-abbrev pub closed_by : Transaction → ℕ → Content → Locks → Outcome → Closed
-closed_by t job globals locks outcome.Done =
+abbrev pub commit_closed : Transaction → ℕ → Content → Locks → Outcome → Closed
+commit_closed t job globals locks outcome.Done =
     record { reply = replies.Done; globals = seen globals t.accesses; locks = unlocked locks job t.accesses }
-closed_by t job globals locks (outcome.Clash c) =
+commit_closed t job globals locks (outcome.Clash c) =
     record { reply = replies.Clash (clash_of c); globals = globals; locks = rolled_back t job locks }
 
 -- TCOMMIT (8.2.19)
 abbrev pub committed : Transaction → ℕ → Content → Locks → Closed
-committed t job globals locks = closed_by t job globals locks (outcome_of t globals)
+committed t job globals locks = commit_closed t job globals locks (outcome_of t globals)

@@ -8,8 +8,8 @@ ghost use Rattle.mj_txlog.specs.Skips.{AreSkips};
 ghost use Rattle.mj_txn.specs.Commits.{HoldsNow, Hold, IsOther, DiffersNow, Differs};
 
 use mj_globs::Globals;
-use mj_store::{Access, Answer};
-use mj_txlog::{ACCESS_LIMIT, Entry, Overlay, Skips, answer, copy_of, is_same, is_write};
+use mj_store::{Access, Answer, is_same_answer};
+use mj_txlog::{ACCESSES_LIMIT, Entry, Overlay, Skips, answer, is_write};
 use std::alloc::{AllocError, Global};
 
 /// A read that has another answer now.
@@ -30,7 +30,7 @@ pub fn first_changed(
     globals: &Globals,
     entries: &[Entry],
 ) -> Result<Option<Changed>, AllocError>
-    requires { length entries.now ≤ ACCESS_LIMIT }
+    requires { length entries.now ≤ ACCESSES_LIMIT }
     ensures { IfOk result (λ r. MatchOption r (Hold globals.now [] entries.now) (λ c. Differs globals.now entries.now c.place c.then c.now)) }
 {
     let mut own = Overlay::new(alloc);
@@ -49,7 +49,7 @@ fn first_over(
     own: &mut Overlay,
     skips: &mut Skips,
 ) -> Result<Option<Changed>, AllocError>
-    requires limit { length entries.now ≤ ACCESS_LIMIT }
+    requires limit { length entries.now ≤ ACCESSES_LIMIT }
     requires none { IsLaid own.old [] }
     requires skips { AreSkips globals.now own.old.gone skips.old }
     ensures { IfOk result (λ r. MatchOption r (Hold globals.now [] entries.now) (λ c. Differs globals.now entries.now c.place c.then c.now)) }
@@ -73,7 +73,7 @@ fn changed_now(
     skips: &mut Skips,
     entry: &Entry,
 ) -> Result<Option<Changed>, AllocError>
-    requires room { length earlier.now < ACCESS_LIMIT }
+    requires room { length earlier.now < ACCESSES_LIMIT }
     requires own { IsLaid own.now earlier.now }
     requires skips { AreSkips globals.now own.now.gone skips.old }
     ensures skips { AreSkips globals.now own.now.gone skips.new }
@@ -100,7 +100,7 @@ fn changed_read(
     read: &Access,
     then: &Answer,
 ) -> Result<Option<Changed>, AllocError>
-    requires room { length earlier.now < ACCESS_LIMIT }
+    requires room { length earlier.now < ACCESSES_LIMIT }
     requires own { IsLaid own.now earlier.now }
     requires skips { AreSkips globals.now own.now.gone skips.old }
     requires read { is_write read.now ≡ false }
@@ -108,12 +108,12 @@ fn changed_read(
     ensures changed { IfOk result (λ r. MatchOption r (answer_of read.now (seen globals.now earlier.now) ≡ then.now) (λ c. IsOther globals.now earlier.now read.now then.now c.place c.then c.now)) }
 {
     let now = answer(alloc, globals, earlier, own, skips, read)?;
-    if is_same(&now, then) {
+    if is_same_answer(&now, then) {
         return Ok(None);
     }
     Ok(Some(Changed {
         place: earlier.len() as u32 + 1,
-        then: copy_of(alloc, then)?,
+        then: then.try_clone()?,
         now,
     }))
 }

@@ -1,8 +1,8 @@
 // How an open transaction serves its job's asks, and how it is closed.
 
 ghost use Rattle.std.specs.Prelude.{◌≡◌, ◌∷◌, [], IfOk, OnOk, OnErr};
-ghost use Rattle.mj_locktab.specs.Tries.{outcome_of as try_of, after_try, Tells};
-ghost use Rattle.mj_txn.specs.Closing.{is_local_write, told_in, after_told, after_taken, unlocked, unlocked_by, rolled_back, committed, clash_of};
+ghost use Rattle.mj_locktab.specs.Tries.{outcome_of as try_of, after_try, TryGives};
+ghost use Rattle.mj_txn.specs.Closing.{is_local_write, told_in, after_told, gained_by_try, unlocked, unlocked_by, rolled_back, committed, clash_of};
 ghost use Rattle.mj_ask.specs.declared.ask.Reply.TheVariants as replies;
 ghost use Rattle.mj_txlog.specs.Accesses.{unlock_reply, with_unlock};
 ghost use Rattle.mj_txlog.specs.Skips.{AreSkips, gone_by};
@@ -61,8 +61,8 @@ pub fn try_take(
 ) -> Result<Taken, AllocError>
     ensures taken { IfOk result (λ taken. taken ≡ try_of locks.old job names.now) }
     ensures locks { OnOk result (locks.new ≡ after_try locks.old job names.now) }
-    ensures meaning { IfOk result (λ taken. Tells locks.old job names.now taken locks.new) }
-    ensures log { IfOk result (λ taken. log.new ≡ after_taken log.old names.now taken) }
+    ensures meaning { IfOk result (λ taken. TryGives locks.old job names.now taken locks.new) }
+    ensures log { IfOk result (λ taken. log.new ≡ gained_by_try log.old names.now taken) }
     ensures unchanged { OnErr result ((locks.new ≡ locks.old) × (log.new ≡ log.old)) }
 {
     locks.keeps();

@@ -5,7 +5,7 @@ ghost use Rattle.mj_txn.specs.Commits.{change_of, changes_of};
 
 use mj_globs::Change;
 use mj_store::Access;
-use mj_txlog::{Entry, copy_of_nodes, is_refused};
+use mj_txlog::{Entry, is_refused};
 use std::alloc::{AllocError, Global};
 
 /// The changes that the accesses make, in order.
@@ -44,7 +44,7 @@ fn change_of(alloc: Global, access: &Access) -> Result<Option<Change>, AllocErro
             if is_refused(access) {
                 None
             } else {
-                Some(Change::Put(name.try_clone()?, copy_of_nodes(alloc, nodes)?))
+                Some(Change::Put(name.try_clone()?, nodes.try_clone()?))
             }
         }
         _ => None,

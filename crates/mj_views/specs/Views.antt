@@ -5,7 +5,7 @@ use Rattle.mj_semantics.specs.State.{Frame}
 use Rattle.mj_locktab.specs.Locks.{Locks}
 
 -- a job's frames, the innermost first, and its locals
-pub record Stand : Type 0 where
+pub record JobView : Type 0 where
   pub frames : List Frame
   pub locals : Content
 
@@ -13,17 +13,17 @@ pub record Stand : Type 0 where
 pub record Viewed : Type 0 where
   pub globals : Content
   pub locks : Locks
-  pub jobs : List Stand
+  pub jobs : List JobView
 
 -- the job of this number, if it is there
-abbrev pub job_in : Viewed → ℕ → Option Stand
+abbrev pub job_in : Viewed → ℕ → Option JobView
 job_in view zero = None
 job_in view (suc k) = slice_get view.jobs k
 
-abbrev pub frames_seen : Option Stand → Option (List Frame)
+abbrev pub frames_seen : Option JobView → Option (List Frame)
 frames_seen job = option_map (λ j. j.frames) job
 
-abbrev pub locals_seen : Option Stand → Option Content
+abbrev pub locals_seen : Option JobView → Option Content
 locals_seen job = option_map (λ j. j.locals) job
 
 -- views of places that follow one another, from this one on

@@ -7,7 +7,7 @@ use mj_frames::Frame;
 use mj_locals::Locals;
 use std::alloc::{AllocError, Global};
 
-/// The same frames once more.
+/// Copies frames.
 pub fn copy_frames(alloc: Global, frames: &[Frame]) -> Result<Vec<Frame>, AllocError>
     ensures { IfOk result (λ copies. frames_of copies.items ≡ frames_of frames.now) }
 {
@@ -18,7 +18,7 @@ pub fn copy_frames(alloc: Global, frames: &[Frame]) -> Result<Vec<Frame>, AllocE
     Ok(copies)
 }
 
-// The same frame once more.
+// Copies a frame.
 fn copy_frame(frame: &Frame) -> Result<Frame, AllocError>
     ensures { IfOk result (λ copy. frame_of copy ≡ frame_of frame.now) }
 {
@@ -32,7 +32,7 @@ fn copy_frame(frame: &Frame) -> Result<Frame, AllocError>
     })
 }
 
-/// Locals with the same content, of which nothing is saved.
+/// Copies locals, without what NEW saved of them.
 pub fn copy_locals(alloc: Global, locals: &Locals) -> Result<Locals, AllocError>
     ensures { IfOk result (λ copy. copy.now ≡ locals.now.now) }
 {

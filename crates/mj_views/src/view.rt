@@ -54,9 +54,10 @@ impl View {
         })
     }
 
-    /// The next job, with these frames and locals.
+    /// Adds the next job, with these frames and locals.
     pub fn add_job(&mut self, frames: &[Frame], locals: &Locals) -> Result<(), AllocError>
-        ensures ok { OnOk result (self.new ≡ record self.old { jobs = self.old.jobs ++ record { frames = frames_of frames.now; locals = locals.now.now } ∷ [] }) }
+        ensures ok { OnOk result
+            (self.new ≡ record self.old { jobs = self.old.jobs ++ record { frames = frames_of frames.now; locals = locals.now.now } ∷ [] }) }
         ensures err { OnErr result (self.new ≡ self.old) }
     {
         self.jobs.reserve(1)?;
@@ -105,7 +106,7 @@ impl View {
     }
 }
 
-// A job with these frames and locals once more.
+// Copies a job's frames and locals.
 fn copy_job(alloc: Global, frames: &[Frame], locals: &Locals) -> Result<Standing, AllocError>
     ensures frames { IfOk result (λ job. frames_of job.frames.items ≡ frames_of frames.now) }
     ensures locals { IfOk result (λ job. job.locals.now ≡ locals.now.now) }

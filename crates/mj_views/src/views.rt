@@ -23,7 +23,7 @@ impl Model for Views {
 }
 
 impl Views {
-    /// No view, and the first one is to be that of place 0.
+    /// Makes an empty list of views, of which the first is to be that of place 0.
     pub fn none(alloc: Global) -> Views
         ensures { result ≡ record { first = 0; views = [] } }
     {
@@ -33,7 +33,7 @@ impl Views {
         }
     }
 
-    /// All views go, and the next one is to be that of this place.
+    /// Drops all views; the next one is to be that of this place.
     pub fn begin(&mut self, place: usize)
         ensures { self.new ≡ record { first = place; views = [] } }
     {
@@ -41,7 +41,7 @@ impl Views {
         self.first = place;
     }
 
-    /// The view of the next place.
+    /// Adds the view of the next place.
     pub fn push(&mut self, view: View) -> Result<(), AllocError>
         ensures ok { OnOk result (self.new ≡ record self.old { views = self.old.views ++ view ∷ [] }) }
         ensures err { OnErr result (self.new ≡ self.old) }
@@ -60,7 +60,7 @@ impl Views {
         self.views.get(place - self.first)
     }
 
-    /// All views go.
+    /// Drops all views.
     pub fn clear(&mut self)
         ensures { self.new ≡ record self.old { views = [] } }
     {

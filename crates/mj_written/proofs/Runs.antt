@@ -8,21 +8,20 @@ use Rattle.mj_oper.specs.Operators.{binary_value, unary_value, truth_value}
 use Rattle.mj_num.specs.Number.{reading}
 use Rattle.mj_subs.specs.Name.{Name, is_word}
 use Rattle.mj_ask.specs.declared.ask.Ask.{Ask}
-use Rattle.mj_ask.specs.declared.ask.Ask.TheVariants.{DeviceBegin}
 use Rattle.mj_ask.specs.declared.ask.Reply.{Reply}
 use Rattle.mj_ask.specs.declared.entry.Entry.{Entry}
 use Rattle.mj_ask.specs.Written.{is_entry}
 use Rattle.mj_ask.specs.Formed.{is_ask, is_reply}
 use Rattle.mj_ask.proofs.Lists.{both_true}
 use Rattle.mj_ast.specs.declared.sign.Sign.TheVariants.{Comma, Colon, Close, Equals}
-use Rattle.mj_ast.specs.declared.routine.Mark.{Mark as FormatMark}
+use Rattle.mj_ast.specs.declared.routine.FormatMark.{FormatMark}
 use Rattle.mj_ast.specs.declared.expr.Scope.{Scope}
 use Rattle.mj_ast.specs.declared.expr.Scope.TheVariants.{Local, Global}
 use Rattle.mj_ast.specs.declared.function.NameFunction.{NameFunction}
-use Rattle.mj_ast.specs.Syntax.{Expr, Chain, Tails, Done, Then, Operand, Literal, Value, Intrinsic, Unary, Group, Call, About, Select, Variable, Var, Exprs, No, More as Another, Choices, Last, Before, Destination, Plain, Pieces, Targets, One, Several, Assignment, Killed, Gone, Spared, Merged, Layout, Output, Shown, Format, Coded, Opened, Received, Input, Prompted, Arranged, Into, Called as Calling, Jumped as Jumping, Started as Starting, LockNames, Lone, Together, Locked, Range, Single, Endless, UpTo, Command, Set, Write, Halt, Hang, Job, Lock, OpenDevice, UseDevice, CloseDevice, Read, Kill, Merge, If, Else, For, Forever, Do, Goto, Quit, New, Restartable, TStart, TCommit, TRestart, TRollback, Break, Step, Line, Routine}
+use Rattle.mj_ast.specs.Syntax.{Expr, Chain, Tails, Done, Then, Operand, Literal, Value, Intrinsic, Unary, Group, Call, About, Select, Variable, Var, Exprs, No, More as Another, Choices, Last, Before, Destination, Plain, Pieces, Targets, One, Several, Assignment, Killed, Gone, Spared, Merged, Output, Shown, Format, Coded, Opened, Received, Input, Prompted, Arranged, Into, Called as Calling, Jumped as Jumping, Started as Starting, LockNames, Lone, Together, Locked, Range, Single, Endless, UpTo, Command, Set, Write, Halt, Hang, Job, Lock, OpenDevice, UseDevice, CloseDevice, Read, Kill, Merge, If, Else, For, Forever, Do, Goto, Quit, New, Restartable, TStart, TCommit, TRestart, TRollback, Break, LineCommand, Line, Routine}
 use Rattle.mj_ast.specs.Expressions.{Symbol, Name as NameSymbol, Mark, scoped, expr_symbols, tails_symbols, operand_symbols, variable_symbols, list_symbols, more_symbols, choices_symbols}
-use Rattle.mj_ast.specs.Commands.{Part, Put, Place as PlacePart, Text, with_commas, behind_commas, more_parts, destination_parts, targets_parts, assignment_parts, mark_part, column_parts, layout_parts, output_parts, opened_parts, read_mode_parts, received_parts, input_parts, killed_parts, merged_parts, value_parts, target_parts, guard_parts, wait_parts, actual_parts, actuals_parts, called_parts, jumped_parts, started_parts, mode_parts, variable_parts, lock_names_parts, locked_parts, range_parts, command_parts}
-use Rattle.mj_semantics.specs.State.{State, Locals, Place, principal, level_of, special_value, set_test, spare, passed, popped, pushed, at_place, may_go}
+use Rattle.mj_ast.specs.Commands.{Part, Put, Place as PlacePart, Text, with_commas, behind_commas, more_parts, destination_parts, targets_parts, assignment_parts, mark_part, column_parts, output_parts, opened_parts, read_mode_parts, received_parts, input_parts, killed_parts, merged_parts, value_parts, target_parts, guard_parts, wait_parts, actual_parts, actuals_parts, called_parts, jumped_parts, started_parts, mode_parts, variable_parts, lock_names_parts, locked_parts, range_parts, command_parts}
+use Rattle.mj_semantics.specs.State.{State, Locals, Place, principal, level_of, special_value, set_test, kill_except, passed, popped, pushed, at_place, may_go}
 use Rattle.mj_semantics.specs.Outcome.{Outcome, Needs, Timed, no_restart, turn}
 use Rattle.mj_semantics.specs.Lines.{Here, place_at, next_line, line_before, lines_of, line_at, levels_of, line_number, entered, entry_of}
 use Rattle.mj_semantics.specs.Points.{Leave, Ways, Loop, Once, Always, By, Point, AtLine, Called, Jumped, Pass, Started, Points}
@@ -118,7 +117,7 @@ record IsWays (w : Ways) : Type 0 where
   leave : IsLeave w.leave
 
 -- a pass of a FOR
-record IsPass (here : Here) (loop : Loop) (body : List Step) (after : Timed) (ways : Ways) : Type 0 where
+record IsPass (here : Here) (loop : Loop) (body : List LineCommand) (after : Timed) (ways : Ways) : Type 0 where
   word : is_word here.routine ≡ true
   loop_is : IsLoop loop
   body_is : Each IsStepWorded body
@@ -222,14 +221,14 @@ module _ (P : Points) (points : ArePoints P) (here : Here) (word : is_word here.
 
   kills : (x : Killed) {f : Timed} → Each IsPartWorded (killed_parts x) → Asks f → Asks (kill P here x f)
   kills (Gone v) h l = name_asks v h.0 (λ x n. a_turn (removes x n l))
-  kills (Spared words) h l = names_ask words (a_turn (changed {c = spare words} (spares words) l))
+  kills (Spared words) h l = names_ask words (a_turn (changed {c = kill_except words} (spares words) l))
 
   kills_list : (list : List Killed) {f : Timed} → Parted killed_parts list → Asks f → Asks (kill_list P here list f)
   kills_list [] h l = l
   kills_list (x ∷ list) h l = kills x h.0 (kills_list list h.1 l)
 
   kills_all : (list : List Killed) {f : Timed} → Parted killed_parts list → Asks f → Asks (kill_all P here list f)
-  kills_all [] h l = a_turn (changed {c = spare []} (spares []) l)
+  kills_all [] h l = a_turn (changed {c = kill_except []} (spares []) l)
   kills_all (x ∷ list) h l = kills_list (x ∷ list) h l
 
   merges : (m : Merged) {f : Timed} → Each IsPartWorded (merged_parts m) → Asks f → Asks (merge P here m f)
@@ -330,10 +329,10 @@ module _ (P : Points) (points : ArePoints P) (here : Here) (word : is_word here.
   if_asks [] h l m = a_turn (tests true l m)
   if_asks (e ∷ es) h l m = ifs_ask (e ∷ es) h l m
 
-  a_pass : (loop : Loop) (body : List Step) {f : Timed} {w : Ways} → IsLoop loop → Each IsStepWorded body → Asks f → IsWays w → Asks (P (Pass here loop body f w))
+  a_pass : (loop : Loop) (body : List LineCommand) {f : Timed} {w : Ways} → IsLoop loop → Each IsStepWorded body → Asks f → IsWays w → Asks (P (Pass here loop body f w))
   a_pass loop body {f} {w} h b l k = points.by (Pass here loop body f w) (record { word = word; loop_is = h; body_is = b; after_is = l; ways_are = k })
 
-  ranges_ask : (x : Name) (rs : List Range) (body : List Step) {w : Ways} → IsNamed x → Parted range_parts rs → Each IsStepWorded body → IsWays w → Asks (ranges P here x rs body w)
+  ranges_ask : (x : Name) (rs : List Range) (body : List LineCommand) {w : Ways} → IsNamed x → Parted range_parts rs → Each IsStepWorded body → IsWays w → Asks (ranges P here x rs body w)
   ranges_ask x [] body n h b w = a_turn w.line_end
   ranges_ask x (Single a ∷ rs) body n h b w =
       evaluates a h.0.0 (λ v. a_turn (stores x v n (a_pass Once body tt b (ranges_ask x rs body n h.1 b w) w)))
@@ -380,7 +379,7 @@ module _ (P : Points) (points : ArePoints P) (here : Here) (word : is_word here.
   starts_transaction a {f} l =
       names_ask (listed_by a) (a_turn (begins_transaction (restored_by a) (serial_by a) l (a_turn (points.by (Started f) l))))
 
-  obeys : (c : Command) (o : Option Expr) (body : List Step) {w : Ways} {f : Timed} → IsConditionWorded o → Each IsPartWorded (command_parts c) → Each IsStepWorded body → IsWays w → Asks f
+  obeys : (c : Command) (o : Option Expr) (body : List LineCommand) {w : Ways} {f : Timed} → IsConditionWorded o → Each IsPartWorded (command_parts c) → Each IsStepWorded body → IsWays w → Asks f
       → Asks (obey P here c o body w f)
   obeys (Set list) o body k h b w l = where_so o k (assigns_all list (items assignment_parts list h) l) l
   obeys (Write list) o body k h b w l = where_so o k (outputs_all list (items output_parts list h) l) l
@@ -408,7 +407,7 @@ module _ (P : Points) (points : ArePoints P) (here : Here) (word : is_word here.
   obeys TRollback o body k h b w l = where_so o k (a_turn (rolls_back l)) l
   obeys Break o body k h b w l = where_so o k (a_turn l) l
 
-  obeys_all : (steps : List Step) {w : Ways} → Each IsStepWorded steps → IsWays w → Asks (obey_all P here steps w)
+  obeys_all : (steps : List LineCommand) {w : Ways} → Each IsStepWorded steps → IsWays w → Asks (obey_all P here steps w)
   obeys_all [] h w = w.line_end
   obeys_all (step ∷ steps) h w = obeys step.command step.condition steps h.0.condition h.0.parts h.1 w (obeys_all steps h.1 w)
 
@@ -512,7 +511,7 @@ points_ask image w (suc d) = record { by = λ p h. record { by = (point_asks ima
 
 starts_ask : (image : List Routine) (job : Start) (d : ℕ) → Each IsRoutineWorded image → is_word job.entry.routine ≡ true → Asks (starting image job d)
 starts_ask image job d w h =
-    a_turn (to_its_device principal (DeviceBegin principal) refl
+    a_turn (to_its_device principal _
     (λ r p. (points_ask image w d).by (Called false job.entry job.values _) (h, λ v. ended)))
 
 opens : (job : ℕ) → IsFormed (opening job)

@@ -8,7 +8,7 @@ use Rattle.mj_store.specs.Questions.{Subtree}
 use Rattle.mj_store.specs.Changes.{after_set}
 use Rattle.mj_ask.specs.Formed.{is_subtree}
 use Rattle.mj_ast.specs.Routines.{IsName}
-use Rattle.mj_semantics.specs.State.{Locals, Words, Only, Saved, Frame, Mark, State, covers, put_back, undone, newed, plain_name, bound, passed, popped, spare, hold, those_of, marked, raised, lowered, settled, restored_at, back_at, restarted}
+use Rattle.mj_semantics.specs.State.{Locals, Words, Only, Saved, Frame, TransactionMark, State, covers, put_back, undone, newed, plain_name, bound, passed, popped, kill_except, hold, those_of, marked, raised, lowered, settled, restored_at, back_at, restarted}
 use Rattle.mj_semantics.specs.Sharing.{in_time}
 use Rattle.mj_rou.specs.Words.{Each}
 use Rattle.mj_written.specs.Formed.{are_locals}
@@ -20,7 +20,7 @@ abbrev pub IsSaved : Saved → Type 0
 IsSaved v = are_locals v.locals ≡ true
 
 -- what a mark keeps for a restart is formed
-abbrev pub IsMarked : Option Mark → Type 0
+abbrev pub IsMarked : Option TransactionMark → Type 0
 IsMarked None = Unit {0}
 IsMarked (Some m) = are_locals m.locals ≡ true
 
@@ -91,7 +91,7 @@ passes_on formals vs s n h =
     let k : IsFormed (newed (Only formals) s) = news (Only formals) s h in
     record { locals = binds formals vs (newed (Only formals) s).locals n k.locals; saved = k.saved; mark = k.mark; held = k.held }
 
-pub spares : (words : List (List ℕ)) (s : State) → IsFormed s → IsFormed (spare words s)
+pub spares : (words : List (List ℕ)) (s : State) → IsFormed s → IsFormed (kill_except words s)
 spares words s h = record { locals = some_stay (λ w. list_any (bytes_eq w) words) s.locals h.locals; saved = h.saved; mark = h.mark; held = h.held }
 
 pub holds_on : (nodes : Subtree) (s : State) → is_subtree nodes ≡ true → IsFormed s → IsFormed (hold nodes s)
@@ -119,7 +119,7 @@ lowers s h = record { locals = h.locals; saved = h.saved; mark = h.mark; held = 
 pub settles : (s : State) → IsFormed s → IsFormed (settled s)
 settles s h = record { locals = h.locals; saved = h.saved; mark = tt; held = h.held }
 
-restores : (m : Mark) (now : Locals) → are_locals m.locals ≡ true → are_locals now ≡ true → are_locals (restored_at m now) ≡ true
+restores : (m : TransactionMark) (now : Locals) → are_locals m.locals ≡ true → are_locals now ≡ true → are_locals (restored_at m now) ≡ true
 restores m now h k = by m.restored
   where
     by : (o : Option Words) → are_locals (elim o [ None ↦ now | Some words ↦ put_back (record { words = words; locals = m.locals }) now ]) ≡ true
@@ -129,7 +129,7 @@ restores m now h k = by m.restored
 pub restarts : (s : State) → IsFormed s → IsFormed (restarted s)
 restarts s h = by s.mark h.mark
   where
-    by : (o : Option Mark) → IsMarked o → IsFormed (elim o [ None ↦ s | Some m ↦ back_at m s ])
+    by : (o : Option TransactionMark) → IsMarked o → IsFormed (elim o [ None ↦ s | Some m ↦ back_at m s ])
     by None k = h
     by (Some m) k = record {
       locals = restores m (undone (take (length s.saved - m.height) s.saved) s.locals) k (undoes (take (length s.saved - m.height) s.saved) s.locals (first_ones (length s.saved - m.height) s.saved h.saved) h.locals);

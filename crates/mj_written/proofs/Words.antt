@@ -21,6 +21,9 @@ use Rattle.mj_store.specs.declared.access.Answer.{Answer}
 use Rattle.mj_store.specs.declared.access.Answer.TheVariants as answers_are
 use Rattle.mj_ask.specs.declared.ask.Ask.{Ask}
 use Rattle.mj_ask.specs.declared.ask.Ask.TheVariants as ask_kinds
+use Rattle.mj_ask.specs.declared.ask.SharedAsk.TheVariants as shared_asks
+use Rattle.mj_ask.specs.declared.ask.DeviceAsk.{DeviceAsk}
+use Rattle.mj_ask.specs.declared.ask.DeviceAsk.TheVariants as device_asks
 use Rattle.mj_ask.specs.declared.ask.Reply.{Reply}
 use Rattle.mj_ask.specs.declared.ask.Reply.TheVariants as replies_are
 use Rattle.mj_ask.specs.declared.entry.Entry.{Entry}
@@ -32,22 +35,21 @@ use Rattle.mj_ast.specs.declared.routine.LockMode.{LockMode}
 use Rattle.mj_ast.specs.declared.routine.LockMode.TheVariants as mode
 use Rattle.mj_ast.specs.declared.function.NameFunction.{NameFunction}
 use Rattle.mj_ast.specs.declared.function.NameFunction.TheVariants as names
-use Rattle.mj_ast.specs.declared.routine.Mark.{Mark}
+use Rattle.mj_ast.specs.declared.routine.FormatMark.{FormatMark}
 use Rattle.mj_ast.specs.declared.routine.ReadMode.{ReadMode}
-use Rattle.mj_ast.specs.declared.routine.ReadMode.TheVariants as read_mode
 use Rattle.mj_ast.specs.Syntax.{Renewed, Fresh, Kept}
 use Rattle.mj_strfn.specs.Functions.{assigned_pieces, set_piece_value}
 use Rattle.mj_semantics.specs.State.{State, Words as Listed, Only, AllBut, accessed, wrote, broke, counted, hold, has_failed, principal, ending_order, is_at_mark, newed, devices_limit, is_open, may_close, column_at, with_device, used, dropped, marked, raised, lowered, settled, can_restart, is_serial, restarted}
 use Rattle.mj_semantics.specs.Outcome.{Outcome, Needs, Ended, More, Handler, Timed, turn, turns, look, change, asking, over, no_restart, until, restartable, go_back, halt, ends, end, fault_bytes, fault, steps_limit, ask, tell, is_failed, to_device, need, given}
-use Rattle.mj_semantics.specs.Names.{direction_of, spelled, told}
+use Rattle.mj_semantics.specs.Names.{direction_of, spelled, function_told}
 use Rattle.mj_semantics.specs.Functions.{needed, optional}
 use Rattle.mj_semantics.specs.Accesses.{answer_told, answered, access, value_told, nodes_told}
 use Rattle.mj_semantics.specs.Evaluation.{read, about}
 use Rattle.mj_semantics.specs.Points.{Loop, Once, Always, By}
 use Rattle.mj_semantics.specs.Sharing.{is_limit, in_time, served, out_of_transaction, hang, start_job, unlock_all, take_names, give_names, lock}
-use Rattle.mj_semantics.specs.Commands.{Aim, Whole, Part, store, or_empty, renewed, renew, put, put_all, remove, named, take_nodes, put_these, put_nodes, renewal, new_list, new_all, frames_limit, quit_frame, deeper, write, tab_bytes, tab, coded, write_code, if_test, is_within, stepped, again, first, reading_two}
-use Rattle.mj_semantics.specs.Transactions.{levels_limit, kind_of, begin_transaction, in_transaction, is_clash, commit, roll_back, give_back, begin_again}
-use Rattle.mj_semantics.specs.Devices.{is_got, has_no_session, obtained, obtain, begin_session, open_device, use_device, end_session, give_up, close, is_input, input_ask, input_told, read_input}
+use Rattle.mj_semantics.specs.Commands.{Aim, Whole, Part, store, or_empty, renewed, assign_piece, put, put_all, remove, named, take_nodes, put_these, put_nodes, renewal, new_list, new_all, frames_limit, quit_frame, deeper, write, tab_bytes, tab, coded, write_code, if_test, is_within, stepped, for_again, first, reading_two}
+use Rattle.mj_semantics.specs.Transactions.{levels_limit, kind_of, begin_transaction, in_transaction, is_clash, commit, roll_back, roll_back_for_restart, begin_restart}
+use Rattle.mj_semantics.specs.Devices.{is_got, has_no_session, obtained, request_device, begin_session, open_device, use_device, end_session, give_up, close, is_input, input_ask, input_told, read_input}
 use Rattle.mj_rou.specs.Words.{Each}
 use Rattle.mj_written.specs.Formed.{are_locals}
 use Rattle.mj_written.proofs.Locals.{subtree_fits, set_stays, kill_stays, put_kept}
@@ -108,17 +110,18 @@ is_over : Asks over
 is_over = a_turn (record { by = λ n h s rs e k t. tt })
 
 halted : {f : Option Fault} → Asks (halt f)
-halted {f} = a_turn (replied_to (ask_kinds.Halt f) refl (λ r p. is_over))
+halted {f} = a_turn (replied_to _ refl (λ r p. is_over))
 
 all_end : (f : Option Fault) (names : List (List ℕ)) → Asks (ends names f)
 all_end f [] = halted
-all_end f (name ∷ names) = a_turn (replied_to (ask_kinds.DeviceEnd name) refl (λ r p. all_end f names))
+all_end f (name ∷ names) = a_turn (replied_to _ refl (λ r p. all_end f names))
 
 pub ended : {f : Option Fault} → Asks (end f)
 ended {f = f} = looked (λ s k. all_end f (ending_order s.devices))
 
 pub faulted : {f : Fault} → Asks (fault f)
-faulted {f} = a_turn (looked (λ s k. chosen (has_failed principal s) (ended {f = Some f}) (replied_to (ask_kinds.DeviceWrite principal (fault_bytes f s)) refl (λ r p. ended {f = Some f}))))
+faulted {f} = a_turn (looked (λ s k. chosen (has_failed principal s) (ended {f = Some f})
+    (replied_to (ask_kinds.Device principal (device_asks.Write (fault_bytes f s))) refl (λ r p. ended {f = Some f}))))
 
 pub needs : {A : Type 0} (f : Fault) {g : A → Timed} (o : Option A) → ((v : A) → Asks (g v)) → Asks (need f o g)
 needs f None l = faulted
@@ -141,8 +144,9 @@ breaks name s h = record { locals = h.locals; saved = h.saved; mark = h.mark; he
 pub asked : (a : Ask) {f : Reply → Timed} → is_ask a ≡ true → ((r : Reply) → is_reply r ≡ true → Asks (f r)) → Asks (ask a f)
 asked a q l = looked (λ s k. chosen (nat_lt s.replied steps_limit) (replied_to a q (λ r p. changed {c = counted} count_on (l r p))) (faulted {f = Steps}))
 
-pub to_its_device : (name : List ℕ) (a : Ask) {f : Reply → Timed} → is_ask a ≡ true → ((r : Reply) → is_reply r ≡ true → Asks (f r)) → Asks (to_device name a f)
-to_its_device name a q l = asked a q (λ r p. chosen (is_failed r) (changed {c = broke name} (breaks name) (faulted {f = Device})) (l r p))
+-- each ask of a device can be written
+pub to_its_device : (name : List ℕ) (a : DeviceAsk) {f : Reply → Timed} → ((r : Reply) → is_reply r ≡ true → Asks (f r)) → Asks (to_device name a f)
+to_its_device name a l = asked (ask_kinds.Device name a) refl (λ r p. chosen (is_failed r) (changed {c = broke name} (breaks name) (faulted {f = Device})) (l r p))
 
 -- Restarts.
 
@@ -199,8 +203,8 @@ pub makes : (a : Access) {f : Answer → Timed} → IsAllowed a → ((x : Answer
 makes a {f} w l = by (name_of a).global refl
   where
     by : (b : Bool) → (name_of a).global ≡ b
-        → Asks (if b then ask (ask_kinds.Access a) (λ r. given (answered (answer_told r)) f) else look (λ s. change (accessed a) (given (answered (answer_of a s.locals)) f)))
-    by true e = asked (ask_kinds.Access a) (w.asked e) (λ r p. with_answer (answer_told r) (reply_nodes r p) l)
+        → Asks (if b then ask (ask_kinds.Shared (shared_asks.Access a)) (λ r. given (answered (answer_told r)) f) else look (λ s. change (accessed a) (given (answered (answer_of a s.locals)) f)))
+    by true e = asked _ (w.asked e) (λ r p. with_answer (answer_told r) (reply_nodes r p) l)
     by false e =
         looked (λ s k. changed {c = accessed a} (λ t j. record { locals = w.kept e t.locals j.locals; saved = j.saved; mark = j.mark; held = j.held })
         (with_answer (answer_of a s.locals) (w.nodes s.locals k.locals) l))
@@ -243,14 +247,14 @@ pub reads : (x : Name) {f : List ℕ → Timed} → IsNamed x → ((v : List ℕ
 reads x h l = makes (accesses.Value x) (value_may x h) (λ a p. needs Undefined (value_told a) l)
 
 pub is_about : (k : NameFunction) (x : Name) (o : Option (List ℕ)) {f : List ℕ → Timed} → Suits k x → ((v : List ℕ) → Asks (f v)) → Asks (about k x o f)
-is_about names.Data x o h l = makes (accesses.Data x) (data_may x h) (λ r p. is_given (told names.Data o r) l)
-is_about names.Get x o h l = makes (accesses.Value x) (value_may x h) (λ r p. is_given (told names.Get o r) l)
+is_about names.Data x o h l = makes (accesses.Data x) (data_may x h) (λ r p. is_given (function_told names.Data o r) l)
+is_about names.Get x o h l = makes (accesses.Value x) (value_may x h) (λ r p. is_given (function_told names.Get o r) l)
 is_about names.Name x o h l = is_given (spelled x) l
-is_about names.Query x o h l = makes (accesses.Query x) (query_may x h) (λ r p. is_given (told names.Query o r) l)
+is_about names.Query x o h l = makes (accesses.Query x) (query_may x h) (λ r p. is_given (function_told names.Query o r) l)
 is_about names.Order x o {f} h l = by (direction_of o)
   where
-    by : (d : Result Direction Fault) → Asks (given (then_value d (λ way. Ok (accesses.Order x way))) (λ a. access a (λ r. given (told names.Order o r) f)))
-    by (Ok way) = makes (accesses.Order x way) (order_may x way h) (λ r p. is_given (told names.Order o r) l)
+    by : (d : Result Direction Fault) → Asks (given (then_value d (λ way. Ok (accesses.Order x way))) (λ a. access a (λ r. given (function_told names.Order o r) f)))
+    by (Ok way) = makes (accesses.Order x way) (order_may x way h) (λ r p. is_given (function_told names.Order o r) l)
     by (Err e) = faulted
 
 -- Commands.
@@ -261,7 +265,7 @@ stores x v h l = makes (accesses.Set x v) (set_may x v h) (λ a p. l)
 renews_pieces : (x : Name) (d : List ℕ) (range : ℕ × ℕ) (e : List ℕ) {f : List ℕ → Timed} → IsNamed x → ((v : List ℕ) → Asks (f v)) → Asks (renewed x d range e f)
 renews_pieces x d range e h l = makes (accesses.Value x) (value_may x h) (λ a p. is_given (set_piece_value (or_empty (value_told a)) d range e) l)
 
-renews : (x : Name) (ts : List (List ℕ)) (e : List ℕ) {f : Timed} {g : List ℕ → Timed} → IsNamed x → Asks f → ((v : List ℕ) → Asks (g v)) → Asks (renew x ts e f g)
+renews : (x : Name) (ts : List (List ℕ)) (e : List ℕ) {f : Timed} {g : List ℕ → Timed} → IsNamed x → Asks f → ((v : List ℕ) → Asks (g v)) → Asks (assign_piece x ts e f g)
 renews x ts e {f} {g} h skipped l = is_given (assigned_pieces (needed 0 ts) (optional 1 ts) (optional 2 ts)) at
   where
     at : (range : Option (ℕ × ℕ)) → Asks (elim range [ None ↦ f | Some r ↦ renewed x (needed 0 ts) r e g ])
@@ -324,9 +328,9 @@ pub writes : (bytes : List ℕ) {f : Timed} → Asks f → Asks (write bytes f)
 writes [] l = l
 writes (x ∷ bytes) l =
     chosen (nat_lt TEXT_LIMIT (length (x ∷ bytes))) faulted
-    (looked (λ s k. to_its_device s.current (ask_kinds.DeviceWrite s.current (x ∷ bytes)) refl (λ r p. changed {c = wrote (x ∷ bytes)} (write_on (x ∷ bytes)) l)))
+    (looked (λ s k. to_its_device s.current (device_asks.Write (x ∷ bytes)) (λ r p. changed {c = wrote (x ∷ bytes)} (write_on (x ∷ bytes)) l)))
 
-pub tabs : (marks : List Mark) (v : List ℕ) {f : Timed} → Asks f → Asks (tab marks v f)
+pub tabs : (marks : List FormatMark) (v : List ℕ) {f : Timed} → Asks f → Asks (tab marks v f)
 tabs marks v l = is_given (reading v) (λ n. looked (λ s k. writes (tab_bytes marks n (column_at s.current s)) l))
 
 pub writes_code : (v : List ℕ) {f : Timed} → Asks f → Asks (write_code v f)
@@ -346,7 +350,7 @@ steps_on : (x : Name) (step : ℤ) (end : Option ℤ) (i : ℤ) {f f' : Timed} �
 steps_on x step None i h l m = is_given (sum_of i step) (λ j. stores x (canonic_text j) h m)
 steps_on x step (Some end) i h l m = chosen (is_within step end (i +ℤ step)) (stores x (canonic_text (i +ℤ step)) h m) l
 
-pub goes_again : (loop : Loop) {f f' : Timed} → IsLoop loop → Asks f → Asks f' → Asks (again loop f f')
+pub goes_again : (loop : Loop) {f f' : Timed} → IsLoop loop → Asks f → Asks f' → Asks (for_again loop f f')
 goes_again Once h l m = l
 goes_again Always h l m = m
 goes_again (By x step end) h l m =
@@ -368,13 +372,13 @@ out_of : {f : Timed} → Asks f → Asks (out_of_transaction f)
 out_of l = looked (λ s k. chosen (nat_lt 0 s.level) (faulted {f = InTransaction}) l)
 
 pub hangs : (v : List ℕ) {f : Timed} → Asks f → Asks (hang v f)
-hangs v l = is_given (reading v) (λ n. chosen (int_lt (pos 0) n) (asked (ask_kinds.Rest n) refl (λ r p. l)) l)
+hangs v l = is_given (reading v) (λ n. chosen (int_lt (pos 0) n) (asked _ refl (λ r p. l)) l)
 
 pub starts_job : (entry : Entry) (vs : List (Option (List ℕ))) (timeout : Option ℤ) {f : Timed} → is_entry entry ≡ true → Asks f → Asks (start_job entry vs timeout f)
-starts_job entry vs timeout h l = out_of (asked (ask_kinds.Start (record { entry = entry; values = vs }) timeout) h (λ r p. serves timeout r l))
+starts_job entry vs timeout h l = out_of (asked _ h (λ r p. serves timeout r l))
 
 pub unlocks_all : {f : Timed} → Asks f → Asks (unlock_all f)
-unlocks_all l = out_of (asked ask_kinds.UnlockAll refl (λ r p. serves None r l))
+unlocks_all l = out_of (asked _ refl (λ r p. serves None r l))
 
 all_names : (xs : List Name) → Each IsNamed xs → list_all is_name xs ≡ true
 all_names [] h = refl
@@ -386,11 +390,11 @@ lock_names x xs h =
 
 takes_names : (xs : List Name) (timeout : Option ℤ) {f : Timed} → Each IsNamed xs → Asks f → Asks (take_names xs timeout f)
 takes_names [] timeout h l = l
-takes_names (x ∷ xs) timeout h l = asked (ask_kinds.Try (x ∷ xs) timeout) (lock_names x xs h) (λ r p. serves timeout r l)
+takes_names (x ∷ xs) timeout h l = asked _ (lock_names x xs h) (λ r p. serves timeout r l)
 
 gives_names : (xs : List Name) (timeout : Option ℤ) {f : Timed} → Each IsNamed xs → Asks f → Asks (give_names xs timeout f)
 gives_names [] timeout h l = l
-gives_names (x ∷ xs) timeout h l = asked (ask_kinds.Unlock (x ∷ xs)) (lock_names x xs h) (λ r p. serves timeout r l)
+gives_names (x ∷ xs) timeout h l = asked _ (lock_names x xs h) (λ r p. serves timeout r l)
 
 pub locks : (m : LockMode) (xs : List Name) (timeout : Option ℤ) {f : Timed} → Each IsNamed xs → Asks f → Asks (lock m xs timeout f)
 locks mode.Whole xs timeout h l = a_turn (unlocks_all (a_turn (takes_names xs timeout h l)))
@@ -417,15 +421,15 @@ is_obtained name timeout r l m =
     (chosen (is_got r) (changed {c = in_time timeout true} (times timeout true) (changed {c = with_device name} (opens_one name) m))
     (changed {c = in_time timeout false} (times timeout false) l))
 
-obtains : (name : List ℕ) (timeout : Option ℤ) {f g : Timed} → Asks f → Asks g → Asks (obtain name timeout f g)
+obtains : (name : List ℕ) (timeout : Option ℤ) {f g : Timed} → Asks f → Asks g → Asks (request_device name timeout f g)
 obtains name timeout l m =
     looked (λ s k.
     chosen (is_open name s) (changed {c = in_time timeout true} (times timeout true) l)
     (chosen (nat_lt devices_limit (length s.devices)) (faulted {f = Limit})
-    (asked (ask_kinds.Open name timeout) refl (λ r p. is_obtained name timeout r l m))))
+    (asked (ask_kinds.Shared (shared_asks.Open name timeout)) refl (λ r p. is_obtained name timeout r l m))))
 
 begins_session : (name : List ℕ) {f : Timed} → Asks f → Asks (begin_session name f)
-begins_session name l = to_its_device name (ask_kinds.DeviceBegin name) refl (λ r p. l)
+begins_session name l = to_its_device name _ (λ r p. l)
 
 pub opens_device : (name : List ℕ) (timeout : Option ℤ) {f : Timed} → Asks f → Asks (open_device name timeout f)
 opens_device name timeout l = obtains name timeout l (a_turn (begins_session name l))
@@ -437,32 +441,27 @@ ends_session : (name : List ℕ) {f g h : Timed} → Asks f → Asks g → Asks 
 ends_session name l m w =
     looked (λ s k.
     chosen (may_close name s)
-    (asked (ask_kinds.DeviceEnd name) refl (λ r p. changed {c = dropped name} (drops_one name) (chosen (is_failed r) m w)))
+    (asked (ask_kinds.Device name device_asks.End) refl (λ r p. changed {c = dropped name} (drops_one name) (chosen (is_failed r) m w)))
     l)
 
 gives_up : (name : List ℕ) {f : Timed} → Asks f → Asks (give_up name f)
-gives_up name l = tells (ask_kinds.Close name) refl l
+gives_up name l = tells _ refl l
 
 pub closes : (name : List ℕ) {f : Timed} → Asks f → Asks (close name f)
 closes name l = ends_session name l (a_turn (gives_up name (faulted {f = Device}))) (a_turn (gives_up name l))
 
--- what is asked for can be written
-input_is : (m : ReadMode) (name : List ℕ) (timeout : Option ℤ) → is_ask (input_ask m name timeout) ≡ true
-input_is read_mode.Line name timeout = refl
-input_is read_mode.Byte name timeout = refl
-
 pub reads_input : (m : ReadMode) (timeout : Option ℤ) {f : List ℕ → Timed} → ((v : List ℕ) → Asks (f v)) → Asks (read_input m timeout f)
 reads_input m timeout l =
     looked (λ s k.
-    to_its_device s.current (input_ask m s.current timeout) (input_is m s.current timeout)
-    (λ r p. changed {c = in_time timeout (is_input r)} (times timeout (is_input r)) (l (input_told m r))))
+    to_its_device s.current (input_ask m timeout) (λ r p.
+    changed {c = in_time timeout (is_input r)} (times timeout (is_input r)) (l (input_told m r))))
 
 -- Transactions.
 
 pub begins_transaction : (o : Option Listed) (serial : Bool) {f f' : Timed} → Asks f → Asks f' → Asks (begin_transaction o serial f f')
 begins_transaction o serial l m =
     looked (λ s k.
-    chosen (nat_eq s.level 0) (asked (ask_kinds.Begin (kind_of serial)) refl (λ r p. changed {c = marked o serial} (marks o serial) m))
+    chosen (nat_eq s.level 0) (asked (ask_kinds.Shared (shared_asks.Begin (kind_of serial))) refl (λ r p. changed {c = marked o serial} (marks o serial) m))
     (chosen (nat_lt s.level levels_limit) (changed {c = raised} raises l) (faulted {f = Limit})))
 
 within : {f : Timed} → Asks f → Asks (in_transaction f)
@@ -472,13 +471,13 @@ pub commits : {f f' : Timed} → Asks f → Asks f' → Asks (commit f f')
 commits l m =
     within (looked (λ s k.
     chosen (nat_lt 1 s.level) (changed {c = lowered} lowers m)
-    (asked ask_kinds.Commit refl (λ r p. chosen (is_clash r) l (changed {c = settled} settles m)))))
+    (asked (ask_kinds.Shared shared_asks.Commit) refl (λ r p. chosen (is_clash r) l (changed {c = settled} settles m)))))
 
 pub rolls_back : {f : Timed} → Asks f → Asks (roll_back f)
-rolls_back l = within (asked ask_kinds.Rollback refl (λ r p. changed {c = settled} settles l))
+rolls_back l = within (asked _ refl (λ r p. changed {c = settled} settles l))
 
-pub gives_back : {f : Timed} → Asks f → Asks (give_back f)
-gives_back l = within (looked (λ s k. chosen (can_restart s) (asked ask_kinds.Rollback refl (λ r p. l)) (faulted {f = NoRestart})))
+pub gives_back : {f : Timed} → Asks f → Asks (roll_back_for_restart f)
+gives_back l = within (looked (λ s k. chosen (can_restart s) (asked (ask_kinds.Shared shared_asks.Rollback) refl (λ r p. l)) (faulted {f = NoRestart})))
 
-pub begins_again : Asks begin_again
-begins_again = looked (λ s k. asked (ask_kinds.Begin (kind_of (is_serial s))) refl (λ r p. changed {c = restarted} goes_back gone_back))
+pub begins_again : Asks begin_restart
+begins_again = looked (λ s k. asked (ask_kinds.Shared (shared_asks.Begin (kind_of (is_serial s)))) refl (λ r p. changed {c = restarted} goes_back gone_back))

@@ -24,6 +24,8 @@ use Rattle.mj_gfile.specs.Reading.{Whole, is_number_byte, is_any_word, quoted_at
 use Rattle.mj_gfile.specs.Listing.{is_short, are_small, is_small, is_small_node, begun_by, lines_of, is_after, judged, before, followed, nodes_of, headed, reading_of, are_bytes, is_text, is_subscript, is_node, AreGlobals, IsReading}
 use Rattle.mj_gfile.specs.Laws.Texts.{both_true, IsQuoted, quoted_at-quoted, quoted_at-IsQuoted}
 use Rattle.mj_gfile.specs.Laws.Names.{canonic_numbers, more_pass, AreSubs, name_in-listed, IsNameAt, IsNamed, name_in-IsNamed}
+use Rattle.mj_subs.specs.declared.subs.TheConstants.{SUBSCRIPTS_LIMIT}
+use Rattle.mj_subs.specs.declared.word.TheConstants.{WORD_LIMIT}
 
 -- ---- one line
 
@@ -103,7 +105,7 @@ line_of-IsLine (c ∷ cs) = by (eqb c 94) refl
 
 -- ---- within the limits
 
-any_word : (w : List ℕ) → is_word w ≡ (is_any_word w && nat_le (length w) 31)
+any_word : (w : List ℕ) → is_word w ≡ (is_any_word w && nat_le (length w) WORD_LIMIT)
 any_word [] = refl
 any_word (c ∷ cs) = refl
 
@@ -124,11 +126,11 @@ of_subs (s ∷ ss) k h =
 -- a node is spelled, and within the limits
 node_parts : (e : Name × List ℕ) → is_node e ≡ true → IsSpelled e × (is_small_node e ≡ true)
 node_parts e h =
-    let a = both_true (e.0.global && is_word e.0.word && nat_le (length e.0.subscripts) 31 && list_all is_subscript e.0.subscripts) (is_text e.1) h in
-    let b = both_true (e.0.global && is_word e.0.word && nat_le (length e.0.subscripts) 31) (list_all is_subscript e.0.subscripts) a.0 in
-    let c = both_true (e.0.global && is_word e.0.word) (nat_le (length e.0.subscripts) 31) b.0 in
+    let a = both_true (e.0.global && is_word e.0.word && nat_le (length e.0.subscripts) SUBSCRIPTS_LIMIT && list_all is_subscript e.0.subscripts) (is_text e.1) h in
+    let b = both_true (e.0.global && is_word e.0.word && nat_le (length e.0.subscripts) SUBSCRIPTS_LIMIT) (list_all is_subscript e.0.subscripts) a.0 in
+    let c = both_true (e.0.global && is_word e.0.word) (nat_le (length e.0.subscripts) SUBSCRIPTS_LIMIT) b.0 in
     let d = both_true e.0.global (is_word e.0.word) c.0 in
-    let w = both_true (is_any_word e.0.word) (nat_le (length e.0.word) 31) (sym (any_word e.0.word) ∙ d.1) in
+    let w = both_true (is_any_word e.0.word) (nat_le (length e.0.word) WORD_LIMIT) (sym (any_word e.0.word) ∙ d.1) in
     let s = subs_of e.0.subscripts b.1 in
     let t = both_true (is_short e.1) (are_bytes e.1) a.1 in
     (record { global = d.0; word = w.0; subs = s.0; text = t.1 }, (λ i. (w.1 i && (c.1 i && s.1 i)) && t.0 i))
@@ -136,8 +138,8 @@ node_parts e h =
 node_whole : (e : Name × List ℕ) → IsSpelled e → is_small_node e ≡ true → is_node e ≡ true
 node_whole e k h =
     let a = both_true (is_small e.0) (is_short e.1) h in
-    let b = both_true (nat_le (length e.0.word) 31) (are_small e.0.subscripts) a.0 in
-    let c = both_true (nat_le (length e.0.subscripts) 31) (list_all is_short e.0.subscripts) b.1 in
+    let b = both_true (nat_le (length e.0.word) WORD_LIMIT) (are_small e.0.subscripts) a.0 in
+    let c = both_true (nat_le (length e.0.subscripts) SUBSCRIPTS_LIMIT) (list_all is_short e.0.subscripts) b.1 in
     let w = any_word e.0.word ∙ (λ i. k.word i && b.0 i) in
     λ i. (((k.global i && w i) && c.0 i) && of_subs e.0.subscripts k.subs c.1 i) && (a.1 i && k.text i)
 
@@ -332,7 +334,8 @@ abbrev AreListed : Option Name → List (List ℕ × Bool) → Result Content Re
 AreListed last ls (Err e) = Unit {0}
 AreListed last ls (Ok es) = (bytes_of ls ≡ listed_lines es) × (list_all is_node es ≡ true) × Rises last es
 
-one_more : (last : Option Name) (l : List ℕ) (ls : List (List ℕ × Bool)) (e : Name × List ℕ) (r : Result Content ReadError) → l ≡ listed_line e → is_node e ≡ true → is_after last e.0 ≡ true → AreListed (Some e.0) ls r → AreListed last ((l, true) ∷ ls) (before e r)
+one_more : (last : Option Name) (l : List ℕ) (ls : List (List ℕ × Bool)) (e : Name × List ℕ) (r : Result Content ReadError) → l ≡ listed_line e → is_node e ≡ true → is_after last e.0 ≡ true
+    → AreListed (Some e.0) ls r → AreListed last ((l, true) ∷ ls) (before e r)
 unfolding bytes_of
 one_more last l ls e (Err x) is node after h = tt
 one_more last l ls e (Ok es) is node after h = ((λ i. is i ++ 10 ∷ h.0 i), (λ i. node i && h.1 i), (after, h.2))
@@ -342,7 +345,8 @@ module _ (last : Option Name) (k : ℕ) (l : List ℕ) (ls : List (List ℕ × B
   in_place e true a is node = one_more last l ls e (more e) is node a (rec e)
   in_place e false a is node = tt
 
-  in_limits : (e : Name × List ℕ) (b : Bool) → is_small_node e ≡ b → l ≡ listed_line e → IsSpelled e → AreListed last ((l, true) ∷ ls) (followed (cond b (cond (is_after last e.0) (Ok e) (Err (error.Order k))) (Err (error.Limit k))) more)
+  in_limits : (e : Name × List ℕ) (b : Bool) → is_small_node e ≡ b → l ≡ listed_line e → IsSpelled e
+      → AreListed last ((l, true) ∷ ls) (followed (cond b (cond (is_after last e.0) (Ok e) (Err (error.Order k))) (Err (error.Limit k))) more)
   in_limits e true s is spelled = in_place e (is_after last e.0) refl is (node_whole e spelled s)
   in_limits e false s is spelled = tt
 
@@ -390,7 +394,8 @@ pub lists_them : (bs : List ℕ) (r : Result Content ReadError) → IfOk r (λ g
 lists_them bs (Ok g) h = ((reading bs).lists g).0 h
 lists_them bs (Err e) h = tt
 
-pub lists_all : (bs : List ℕ) (r : Result Content ReadError) → IfErr r (λ e. (e ≡ error.Memory) ⊎ (reading_of bs ≡ Err e)) → (content : Content) → bs ≡ listing_of content → AreGlobals content → IfErr r (λ e. e ≡ error.Memory)
+pub lists_all : (bs : List ℕ) (r : Result Content ReadError) → IfErr r (λ e. (e ≡ error.Memory) ⊎ (reading_of bs ≡ Err e)) → (content : Content) → bs ≡ listing_of content → AreGlobals content
+    → IfErr r (λ e. e ≡ error.Memory)
 lists_all bs (Ok g) h content is are = tt
 lists_all bs (Err e) h content is are = by h (((reading bs).lists content).1 (is, are))
   where

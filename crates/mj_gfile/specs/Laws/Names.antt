@@ -239,7 +239,8 @@ unfolding subscripts_of
 subscripts_of-IsListed zero bs = tt
 subscripts_of-IsListed (suc k) bs = listed_by bs (subscripts_of k) (subscripts_of-IsListed k) (item_at bs) (item_at-IsItem bs)
   where
-    listed_by : (bs : List ℕ) (more : List ℕ → Option (List (List ℕ) × List ℕ)) → ((cs : List ℕ) → IsListed cs (more cs)) → (o : Option (List ℕ × Bool × List ℕ)) → IsItem bs o → IsListed bs (continued_by more o)
+    listed_by : (bs : List ℕ) (more : List ℕ → Option (List (List ℕ) × List ℕ)) → ((cs : List ℕ) → IsListed cs (more cs)) → (o : Option (List ℕ × Bool × List ℕ)) → IsItem bs o
+        → IsListed bs (continued_by more o)
     listed_by bs more rec None h = tt
     listed_by bs more rec (Some (s, false, cs)) h = (h.0 ∙ sym (append_assoc (listed_subscript s) (41 ∷ []) cs), (h.1, tt))
     listed_by bs more rec (Some (s, true, cs)) h = one_more bs s cs (more cs) h.0 h.1 (rec cs)
@@ -296,10 +297,11 @@ kind_read : (g : Bool) (w : List ℕ) (ss : List (List ℕ)) (r : List ℕ) → 
 kind_read true w ss r h f e = name_in-listed true w ss r h f e
 kind_read false [] ss r h f e = absurd cc
 kind_read false (c ∷ cs) ss r h f e =
-    ap (λ b. cond b (name_in true (cs ++ (listed_subscripts ss ++ r))) (name_in false (c ∷ (cs ++ (listed_subscripts ss ++ r))))) (no_caret c (both_true (is_ascii_alphabetic c || eqb c 37) (list_all is_ascii_alphanumeric cs) h).0)
+    ap (λ b. cond b (name_in true (cs ++ (listed_subscripts ss ++ r))) (name_in false (c ∷ (cs ++ (listed_subscripts ss ++ r)))))
+    (no_caret c (both_true (is_ascii_alphabetic c || eqb c 37) (list_all is_ascii_alphanumeric cs) h).0)
     ∙ name_in-listed false (c ∷ cs) ss r h f e
 
--- the same of a name of either kind
+-- what is read of a listed name of either kind
 pub name_at-listed : (n : Name) (r : List ℕ) → is_any_word n.word ≡ true → AreSubs n.subscripts → Ends r → name_at (listed_name n ++ r) ≡ Some (n, r)
 name_at-listed n r h f e = ap name_at (append_assoc (word_text n.global n.word) (listed_subscripts n.subscripts) r) ∙ kind_read n.global n.word n.subscripts r h f e
 
@@ -334,7 +336,8 @@ name_in-IsNamed g bs = by (is_any_word (front_by is_word_byte bs)) refl
     by : (b : Bool) → is_any_word (front_by is_word_byte bs) ≡ b → IsNamed g bs (cond b (name_with g (front_by is_word_byte bs) (rest_by is_word_byte bs)) None)
     by false e = tt
     by true e =
-        subst (λ l. IsNamed g l (name_with g (front_by is_word_byte bs) (rest_by is_word_byte bs))) (sym (front-rest is_word_byte bs)) (rest_named g (front_by is_word_byte bs) (rest_by is_word_byte bs) e)
+        subst (λ l. IsNamed g l (name_with g (front_by is_word_byte bs) (rest_by is_word_byte bs))) (sym (front-rest is_word_byte bs))
+        (rest_named g (front_by is_word_byte bs) (rest_by is_word_byte bs) e)
 
 -- what a reading of a name of either kind says of the bytes
 pub record IsNameOf (bs : List ℕ) (n : Name) (r : List ℕ) : Type 0 where
@@ -348,9 +351,19 @@ IsNamedOf bs (Some p) = IsNameOf bs p.0 p.1
 
 of_kind : (g : Bool) (bs : List ℕ) (n : Name) (r : List ℕ) → IsNameAt g bs n r → IsNameOf (word_text g bs) n r
 of_kind true bs n r k =
-    record { word = k.word; subs = k.subs; spells = ap (λ l. 94 ∷ l) (k.spells ∙ sym (append_assoc n.word (listed_subscripts n.subscripts) r)) ∙ ap (λ g. (word_text g n.word ++ listed_subscripts n.subscripts) ++ r) (sym k.kind) }
+    record {
+      word = k.word;
+      subs = k.subs;
+      spells = ap (λ l. 94 ∷ l) (k.spells ∙ sym (append_assoc n.word (listed_subscripts n.subscripts) r))
+          ∙ ap (λ g. (word_text g n.word ++ listed_subscripts n.subscripts) ++ r) (sym k.kind);
+    }
 of_kind false bs n r k =
-    record { word = k.word; subs = k.subs; spells = k.spells ∙ sym (append_assoc n.word (listed_subscripts n.subscripts) r) ∙ ap (λ g. (word_text g n.word ++ listed_subscripts n.subscripts) ++ r) (sym k.kind) }
+    record {
+      word = k.word;
+      subs = k.subs;
+      spells = k.spells ∙ sym (append_assoc n.word (listed_subscripts n.subscripts) r)
+          ∙ ap (λ g. (word_text g n.word ++ listed_subscripts n.subscripts) ++ r) (sym k.kind);
+    }
 
 kind_named : (g : Bool) (bs : List ℕ) (o : Option (Name × List ℕ)) → IsNamed g bs o → IsNamedOf (word_text g bs) o
 kind_named g bs None h = tt

@@ -66,7 +66,8 @@ module _ (c : ℕ) (xs : List ℕ) where
       let high : c / 16 < 16 = omega arith in
       let low : c % 16 < 16 = omega arith in
       let whole : 16 * (c / 16) + c % 16 ≡ c = omega arith in
-      (λ i. cond (digit_no_slash (c / 16) high i) (preceded 92 (quoted_at Whole (digit_byte (c % 16) ∷ xs))) (cond (digit_is (c / 16) high i) (quoted_at (Digit (digit_byte (c / 16))) (digit_byte (c % 16) ∷ xs)) None))
+      (λ i. cond (digit_no_slash (c / 16) high i) (preceded 92 (quoted_at Whole (digit_byte (c % 16) ∷ xs)))
+      (cond (digit_is (c / 16) high i) (quoted_at (Digit (digit_byte (c / 16))) (digit_byte (c % 16) ∷ xs)) None))
       ∙ (λ i. cond (digit_is (c % 16) low i) (unshown (16 * digit_back (c / 16) high i + digit_back (c % 16) low i) (quoted_at Whole xs)) None)
       ∙ ap (λ n. unshown n (quoted_at Whole xs)) whole
       ∙ ap (λ b. cond b None (preceded c (quoted_at Whole xs))) s
@@ -151,11 +152,13 @@ module _ (h l n : ℕ) (is : n ≡ 16 * digit_value h + digit_value l) (p : is_d
   unit_quoted bs o true s k = tt
   unit_quoted bs o false s k = preceded_quoted n (92 ∷ h ∷ l ∷ []) bs o (spelled s) (below_256 n below) k
 
-digits_quoted : (h l : ℕ) (bs : List ℕ) (o : Option (List ℕ × List ℕ)) → is_digit_byte h ≡ true → is_digit_byte l ≡ true → IsQuoted bs o → IsQuoted (92 ∷ h ∷ l ∷ bs) (unshown (16 * digit_value h + digit_value l) o)
+digits_quoted : (h l : ℕ) (bs : List ℕ) (o : Option (List ℕ × List ℕ)) → is_digit_byte h ≡ true → is_digit_byte l ≡ true → IsQuoted bs o
+    → IsQuoted (92 ∷ h ∷ l ∷ bs) (unshown (16 * digit_value h + digit_value l) o)
 digits_quoted h l bs o p q k =
     unit_quoted h l (16 * digit_value h + digit_value l) refl p q bs o (is_shown (16 * digit_value h + digit_value l)) refl k
 
-whole_step : (c : ℕ) (cs : List ℕ) (a b d : Bool) → eqb c 34 ≡ a → eqb c 92 ≡ b → is_shown c ≡ d → IsQuoted (34 ∷ cs) (quoted_at Quote cs) → IsQuoted (92 ∷ cs) (quoted_at Slash cs) → IsQuoted cs (quoted_at Whole cs) → IsQuoted (c ∷ cs) (cond a (quoted_at Quote cs) (cond b (quoted_at Slash cs) (cond d (preceded c (quoted_at Whole cs)) None)))
+whole_step : (c : ℕ) (cs : List ℕ) (a b d : Bool) → eqb c 34 ≡ a → eqb c 92 ≡ b → is_shown c ≡ d → IsQuoted (34 ∷ cs) (quoted_at Quote cs) → IsQuoted (92 ∷ cs) (quoted_at Slash cs)
+    → IsQuoted cs (quoted_at Whole cs) → IsQuoted (c ∷ cs) (cond a (quoted_at Quote cs) (cond b (quoted_at Slash cs) (cond d (preceded c (quoted_at Whole cs)) None)))
 unfolding by_kind
 whole_step c cs true b d p q s x y z = subst (λ e. IsQuoted (e ∷ cs) (quoted_at Quote cs)) (sym (eqb-true c 34 p)) x
 whole_step c cs false true d p q s x y z = subst (λ e. IsQuoted (e ∷ cs) (quoted_at Slash cs)) (sym (eqb-true c 92 q)) y
@@ -167,13 +170,15 @@ quote_step c cs true p z =
     subst (λ e. IsQuoted (34 ∷ e ∷ cs) (preceded 34 (quoted_at Whole cs))) (sym (eqb-true c 34 p)) (preceded_quoted 34 (34 ∷ 34 ∷ []) cs (quoted_at Whole cs) refl refl z)
 quote_step c cs false p z = (refl, refl)
 
-slash_step : (c : ℕ) (cs : List ℕ) (a b : Bool) → eqb c 92 ≡ a → is_digit_byte c ≡ b → IsQuoted cs (quoted_at Whole cs) → (is_digit_byte c ≡ true → IsQuoted (92 ∷ c ∷ cs) (quoted_at (Digit c) cs)) → IsQuoted (92 ∷ c ∷ cs) (cond a (preceded 92 (quoted_at Whole cs)) (cond b (quoted_at (Digit c) cs) None))
+slash_step : (c : ℕ) (cs : List ℕ) (a b : Bool) → eqb c 92 ≡ a → is_digit_byte c ≡ b → IsQuoted cs (quoted_at Whole cs) → (is_digit_byte c ≡ true → IsQuoted (92 ∷ c ∷ cs) (quoted_at (Digit c) cs))
+    → IsQuoted (92 ∷ c ∷ cs) (cond a (preceded 92 (quoted_at Whole cs)) (cond b (quoted_at (Digit c) cs) None))
 slash_step c cs true b p q z more =
     subst (λ e. IsQuoted (92 ∷ e ∷ cs) (preceded 92 (quoted_at Whole cs))) (sym (eqb-true c 92 p)) (preceded_quoted 92 (92 ∷ 92 ∷ []) cs (quoted_at Whole cs) refl refl z)
 slash_step c cs false true p q z more = more q
 slash_step c cs false false p q z more = tt
 
-digit_step : (h c : ℕ) (cs : List ℕ) (b : Bool) → is_digit_byte h ≡ true → is_digit_byte c ≡ b → IsQuoted cs (quoted_at Whole cs) → IsQuoted (92 ∷ h ∷ c ∷ cs) (cond b (unshown (16 * digit_value h + digit_value c) (quoted_at Whole cs)) None)
+digit_step : (h c : ℕ) (cs : List ℕ) (b : Bool) → is_digit_byte h ≡ true → is_digit_byte c ≡ b → IsQuoted cs (quoted_at Whole cs)
+    → IsQuoted (92 ∷ h ∷ c ∷ cs) (cond b (unshown (16 * digit_value h + digit_value c) (quoted_at Whole cs)) None)
 digit_step h c cs true p q z = digits_quoted h c cs (quoted_at Whole cs) p q z
 digit_step h c cs false p q z = tt
 

@@ -41,6 +41,10 @@ pub no_list : (r : List ℕ) → Ends r → begins_with 40 r ≡ false
 no_list [] e = refl
 no_list (c ∷ cs) e = e.3
 
+-- a choice whose test fails
+pub if_not : {A : Type 0} {b : Bool} (x y : A) → b ≡ false → cond b x y ≡ y
+if_not x y e = ap (λ b. cond b x y) e
+
 module _ (p : ℕ → Bool) where
   pub front_all : (s r : List ℕ) → list_all p s ≡ true → Stops p r → front_by p (s ++ r) ≡ s
   front_all [] [] h m = refl
@@ -167,12 +171,14 @@ few_on acc s ss f = (omega (arith, f.0, length-append acc (s ∷ [])), (both_tru
 abbrev tail : List ℕ → List (List ℕ) → List ℕ
 tail r ts = listed_rest ts ++ r
 
-pub subscripts_found : (s : List ℕ) (ss : List (List ℕ)) (r : List ℕ) → length (s ∷ ss) ≤ 31 → are_texts (s ∷ ss) ≡ true → subscripts_in ((listed_subscript s ++ listed_rest ss) ++ r) ≡ Some (s ∷ ss, r)
+pub subscripts_found : (s : List ℕ) (ss : List (List ℕ)) (r : List ℕ) → length (s ∷ ss) ≤ 31 → are_texts (s ∷ ss) ≡ true
+    → subscripts_in ((listed_subscript s ++ listed_rest ss) ++ r) ≡ Some (s ∷ ss, r)
 subscripts_found s ss r few h =
     ap subscripts_in (append_assoc (listed_subscript s) (listed_rest ss) r)
-    ∙ ap (λ b. cond b (Some ([], skipped (listed_subscript s ++ tail r ss))) (option_map (λ p. (p.0, skipped p.1)) (all_more subscript_more (length (listed_subscript s ++ tail r ss) + 1) [] (listed_subscript s ++ tail r ss)))) (no_close s (tail r ss))
+    ∙ if_not _ (option_map (λ p. (p.0, skipped p.1)) (all_more subscript_more (length (listed_subscript s ++ tail r ss) + 1) [] (listed_subscript s ++ tail r ss))) (no_close s (tail r ss))
     ∙ ap (option_map (λ p. (p.0, skipped p.1)))
-    (all_found subscript_more listed_subscript (tail r) FewTexts few_more few_on (refl, refl, refl, refl) refl (λ x xs. append_assoc (44 ∷ listed_subscript x) (listed_rest xs) r) [] s ss (omega (arith, few), h))
+    (all_found subscript_more listed_subscript (tail r) FewTexts few_more few_on (refl, refl, refl, refl) refl
+    (λ x xs. append_assoc (44 ∷ listed_subscript x) (listed_rest xs) r) [] s ss (omega (arith, few), h))
 
 -- ---- names
 
@@ -203,21 +209,27 @@ list_stops : (ss : List (List ℕ)) (r : List ℕ) → Ends r → Stops is_word_
 list_stops [] r e = no_word r e
 list_stops (s ∷ ss) r e = refl
 
+-- a name behind its word: its subscripts, if it has some
+abbrev listed_on : Bool → List ℕ → List ℕ → Option (Name × List ℕ)
+listed_on g w bs = cond (begins_with 40 bs) (onward (with_subscripts g w) (subscripts_in (skipped bs))) (with_subscripts g w [] bs)
+
 list_found : (g : Bool) (w : List ℕ) (ss : List (List ℕ)) (r : List ℕ) → length ss ≤ 31 → are_texts ss ≡ true → Ends r
-    → cond (begins_with 40 (listed_subscripts ss ++ r)) (onward (with_subscripts g w) (subscripts_in (skipped (listed_subscripts ss ++ r)))) (with_subscripts g w [] (listed_subscripts ss ++ r)) ≡ Some (made g w ss, r)
-list_found g w [] r few h e = ap (λ b. cond b (onward (with_subscripts g w) (subscripts_in (skipped r))) (with_subscripts g w [] r)) (no_list r e)
+    → listed_on g w (listed_subscripts ss ++ r) ≡ Some (made g w ss, r)
+list_found g w [] r few h e = if_not (onward (with_subscripts g w) (subscripts_in (skipped r))) (with_subscripts g w [] r) (no_list r e)
 list_found g w (s ∷ ss) r few h e = ap (onward (with_subscripts g w)) (subscripts_found s ss r few h)
 
-name_on_found : (g : Bool) (w : List ℕ) (ss : List (List ℕ)) (r : List ℕ) → is_word w ≡ true → length ss ≤ 31 → are_texts ss ≡ true → Ends r → name_on g (w ++ (listed_subscripts ss ++ r)) ≡ Some (made g w ss, r)
+name_on_found : (g : Bool) (w : List ℕ) (ss : List (List ℕ)) (r : List ℕ) → is_word w ≡ true → length ss ≤ 31 → are_texts ss ≡ true → Ends r
+    → name_on g (w ++ (listed_subscripts ss ++ r)) ≡ Some (made g w ss, r)
 name_on_found g w ss r h few t e =
     let all = word_bytes w h in
     let f = front_all is_word_byte w (listed_subscripts ss ++ r) all (list_stops ss r e) in
     let b = rest_all is_word_byte w (listed_subscripts ss ++ r) all (list_stops ss r e) in
     (λ i. name_of g (f i) (b i))
-    ∙ ap (λ x. cond x (cond (begins_with 40 (listed_subscripts ss ++ r)) (onward (with_subscripts g w) (subscripts_in (skipped (listed_subscripts ss ++ r)))) (with_subscripts g w [] (listed_subscripts ss ++ r))) None) h
+    ∙ ap (λ x. cond x (listed_on g w (listed_subscripts ss ++ r)) None) h
     ∙ list_found g w ss r few t e
 
-kind_found : (g : Bool) (w : List ℕ) (ss : List (List ℕ)) (r : List ℕ) → is_word w ≡ true → length ss ≤ 31 → are_texts ss ≡ true → Ends r → name_in (word_text g w ++ (listed_subscripts ss ++ r)) ≡ Some (made g w ss, r)
+kind_found : (g : Bool) (w : List ℕ) (ss : List (List ℕ)) (r : List ℕ) → is_word w ≡ true → length ss ≤ 31 → are_texts ss ≡ true → Ends r
+    → name_in (word_text g w ++ (listed_subscripts ss ++ r)) ≡ Some (made g w ss, r)
 kind_found true w ss r h few t e = name_on_found true w ss r h few t e
 kind_found false w ss r h few t e =
     ap (λ b. cond b (name_on true (skipped (w ++ (listed_subscripts ss ++ r)))) (name_on false (w ++ (listed_subscripts ss ++ r)))) (word_no_caret w (listed_subscripts ss ++ r) h)

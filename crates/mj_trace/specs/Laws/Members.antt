@@ -14,7 +14,7 @@ use Rattle.mj_gfile.specs.Laws.Texts.{both_true}
 use Rattle.mj_trace.specs.Spelling.{rest_of_names, names_text, node_text, rest_of_nodes, subtree_text, value_text, rest_of_values, values_text, timeout_text}
 use Rattle.mj_trace.specs.Reading.{onward, skipped, begins_with, number_in, appended, continued, all_more, closed, subscripts_in, name_in, name_more, names_in, node_with, node_in, node_more, subtree_in, value_in, value_more, values_in, timed, timeout_in}
 use Rattle.mj_trace.specs.Sized.{are_texts, name_fits, nodes_fit, timeout_fits, value_fits}
-use Rattle.mj_trace.specs.Laws.Found.{Ends, number_found, text_found, all_found, subscripts_found, name_found}
+use Rattle.mj_trace.specs.Laws.Found.{if_not, Ends, number_found, text_found, all_found, subscripts_found, name_found}
 
 -- ---- names
 
@@ -98,7 +98,7 @@ unfolding AreNodes
 subtree_found [] r h e = refl
 subtree_found (x ∷ xs) r h e =
     ap (closed node_more 125 []) (ap (λ l. l ++ r) (append_assoc (node_text x) (rest_of_nodes xs) (125 ∷ [])) ∙ append_assoc (node_text x) (rest_of_nodes xs ++ 125 ∷ []) r)
-    ∙ ap (λ b. cond b (Some ([], skipped (node_text x ++ node_tail r xs))) (option_map (λ p. (p.0, skipped p.1)) (all_more node_more (length (node_text x ++ node_tail r xs) + 1) [] (node_text x ++ node_tail r xs)))) (no_brace x (node_tail r xs))
+    ∙ if_not _ (option_map (λ p. (p.0, skipped p.1)) (all_more node_more (length (node_text x ++ node_tail r xs) + 1) [] (node_text x ++ node_tail r xs))) (no_brace x (node_tail r xs))
     ∙ ap (option_map (λ p. (p.0, skipped p.1))) (all_found node_more node_text (node_tail r) AreNodes node_reads node_on (refl, refl, refl, refl) refl (node_step r) [] x xs h)
 
 -- ---- values
@@ -110,7 +110,8 @@ value_found (Some t) r h e = ap (option_map (λ p. (Some p.0, p.1))) (text_found
 AreValues : List (Option (List ℕ)) → List (Option (List ℕ)) → Type 0
 AreValues acc vs = list_all value_fits vs ≡ true
 
-value_reads : (acc : List (Option (List ℕ))) (x : Option (List ℕ)) (xs : List (Option (List ℕ))) (r : List ℕ) → AreValues acc (x ∷ xs) → Ends r → value_more acc (value_text x ++ r) ≡ Some (acc ++ x ∷ [], r)
+value_reads : (acc : List (Option (List ℕ))) (x : Option (List ℕ)) (xs : List (Option (List ℕ))) (r : List ℕ) → AreValues acc (x ∷ xs) → Ends r
+    → value_more acc (value_text x ++ r) ≡ Some (acc ++ x ∷ [], r)
 unfolding AreValues
 value_reads acc x xs r h e = ap (appended true acc) (value_found x r (both_true (value_fits x) (list_all value_fits xs) h).0 e)
 
@@ -134,7 +135,8 @@ unfolding AreValues
 values_found [] r h = refl
 values_found (x ∷ xs) r h =
     ap (closed value_more 41 []) (ap (λ l. l ++ r) (append_assoc (value_text x) (rest_of_values xs) (41 ∷ [])) ∙ append_assoc (value_text x) (rest_of_values xs ++ 41 ∷ []) r)
-    ∙ ap (λ b. cond b (Some ([], skipped (value_text x ++ value_tail r xs))) (option_map (λ p. (p.0, skipped p.1)) (all_more value_more (length (value_text x ++ value_tail r xs) + 1) [] (value_text x ++ value_tail r xs)))) (no_parenthesis x (value_tail r xs))
+    ∙ if_not _ (option_map (λ p. (p.0, skipped p.1)) (all_more value_more (length (value_text x ++ value_tail r xs) + 1) [] (value_text x ++ value_tail r xs)))
+    (no_parenthesis x (value_tail r xs))
     ∙ ap (option_map (λ p. (p.0, skipped p.1))) (all_found value_more value_text (value_tail r) AreValues value_reads value_on (refl, refl, refl, refl) refl (value_step r) [] x xs h)
 
 -- ---- timeouts

@@ -58,7 +58,8 @@ events_added (w ∷ vs) v =
 text_of : List (List ℕ × ℕ) → List Entry → List (ℕ × Ask × Reply) → List ℕ
 text_of pool starts events = trace_text (record { pool = pool; starts = starts; events = events })
 
-device_text : (pool : List (List ℕ × ℕ)) (starts : List Entry) (events : List (ℕ × Ask × Reply)) (d : List ℕ × ℕ) → is_empty starts ≡ true → is_empty events ≡ true → text_of (pool ++ d ∷ []) starts events ≡ text_of pool starts events ++ (pool_line d ++ 10 ∷ [])
+device_text : (pool : List (List ℕ × ℕ)) (starts : List Entry) (events : List (ℕ × Ask × Reply)) (d : List ℕ × ℕ) → is_empty starts ≡ true → is_empty events ≡ true
+    → text_of (pool ++ d ∷ []) starts events ≡ text_of pool starts events ++ (pool_line d ++ 10 ∷ [])
 unfolding text_of
 device_text pool (s ∷ starts) events d e f = absurd cc
 device_text pool [] (v ∷ events) d e f = absurd cc
@@ -69,14 +70,16 @@ device_text pool [] [] d e f =
     ∙ ap (λ l. header ++ 10 ∷ (l ++ more)) (sym (append-nil (pool_lines pool)))
     ∙ ap (λ l. l ++ more) (sym (append-nil (header ++ 10 ∷ (pool_lines pool ++ []))))
 
-start_text : (pool : List (List ℕ × ℕ)) (starts : List Entry) (events : List (ℕ × Ask × Reply)) (s : Entry) → is_empty events ≡ true → text_of pool (starts ++ s ∷ []) events ≡ text_of pool starts events ++ (start_line s ++ 10 ∷ [])
+start_text : (pool : List (List ℕ × ℕ)) (starts : List Entry) (events : List (ℕ × Ask × Reply)) (s : Entry) → is_empty events ≡ true
+    → text_of pool (starts ++ s ∷ []) events ≡ text_of pool starts events ++ (start_line s ++ 10 ∷ [])
 unfolding text_of
 start_text pool starts (v ∷ events) s f = absurd cc
 start_text pool starts [] s f =
     ap (λ l. (header ++ 10 ∷ (pool_lines pool ++ l)) ++ []) (starts_added starts s)
     ∙ simp (append_assoc, append-nil) refl
 
-events_text : (pool : List (List ℕ × ℕ)) (starts : List Entry) (events : List (ℕ × Ask × Reply)) (v : ℕ × Ask × Reply) → text_of pool starts (events ++ v ∷ []) ≡ text_of pool starts events ++ (event_text v.0 v.1 v.2 ++ 10 ∷ [])
+events_text : (pool : List (List ℕ × ℕ)) (starts : List Entry) (events : List (ℕ × Ask × Reply)) (v : ℕ × Ask × Reply)
+    → text_of pool starts (events ++ v ∷ []) ≡ text_of pool starts events ++ (event_text v.0 v.1 v.2 ++ 10 ∷ [])
 unfolding text_of
 events_text pool starts events v =
     ap (λ l. (header ++ 10 ∷ (pool_lines pool ++ start_lines starts)) ++ l) (events_added events v)
@@ -191,7 +194,8 @@ abbrev AreSaid : Traced → List (List ℕ × Bool) → Result Traced TraceError
 AreSaid t ls (Err e) = Unit {0}
 AreSaid t ls (Ok u) = (trace_text u ≡ trace_text t ++ bytes_of ls) × IsFront u × (is_empty u.starts ≡ false)
 
-one_more : (t : Traced) (p : Piece) (l : List ℕ) (ls : List (List ℕ × Bool)) (r : Result Traced TraceError) → l ≡ piece_text p → may_follow t p ≡ true → AreSaid (with_piece t p) ls r → AreSaid t ((l, true) ∷ ls) r
+one_more : (t : Traced) (p : Piece) (l : List ℕ) (ls : List (List ℕ × Bool)) (r : Result Traced TraceError) → l ≡ piece_text p → may_follow t p ≡ true → AreSaid (with_piece t p) ls r
+    → AreSaid t ((l, true) ∷ ls) r
 unfolding bytes_of
 one_more t p l ls (Err e) is m h = tt
 one_more t p l ls (Ok u) is m h = (
@@ -202,7 +206,8 @@ one_more t p l ls (Ok u) is m h = (
 )
 
 module _ (t : Traced) (k : ℕ) (l : List ℕ) (ls : List (List ℕ × Bool)) (more : Traced → Result Traced TraceError) (f : IsFront t) (rec : (u : Traced) → IsFront u → AreSaid u ls (more u)) where
-  follows : (p : Piece) (b : Bool) → may_follow t p ≡ b → is_full t ≡ false → l ≡ piece_text p → is_piece p ≡ true → AreSaid t ((l, true) ∷ ls) (then_more more (cond b (Ok (with_piece t p)) (Err (errors.Line k))))
+  follows : (p : Piece) (b : Bool) → may_follow t p ≡ b → is_full t ≡ false → l ≡ piece_text p → is_piece p ≡ true
+      → AreSaid t ((l, true) ∷ ls) (then_more more (cond b (Ok (with_piece t p)) (Err (errors.Line k))))
   follows p false m full is can = tt
   follows p true m full is can = one_more t p l ls (more (with_piece t p)) is m (rec (with_piece t p) (front_added t p f full can m))
 
@@ -264,7 +269,7 @@ reading_said bs = subst (λ x. IsSaid x (reading_of bs)) (bytes-lines bs) (heade
 pub is_said : (bs : List ℕ) (t : Traced) → reading_of bs ≡ Ok t → (bs ≡ trace_text t) × IsTrace t
 is_said bs t e = subst (IsSaid bs) e (reading_said bs)
 
--- the same of what a call gives
+-- what a call gives is a trace, and the bytes are how it is written
 pub says_it : (bs : List ℕ) (r : Result Traced TraceError) → IfOk r (λ t. reading_of bs ≡ Ok t) → IfOk r (λ t. (bs ≡ trace_text t) × IsTrace t)
 says_it bs (Ok t) h = is_said bs t h
 says_it bs (Err e) h = tt

@@ -22,6 +22,8 @@ use Rattle.mj_ask.specs.declared.clash.Kept.TheVariants as kepts
 use Rattle.mj_ask.specs.declared.clash.Clash.{Clash}
 use Rattle.mj_ask.specs.declared.ask.Ask.{Ask}
 use Rattle.mj_ask.specs.declared.ask.Ask.TheVariants as asks
+use Rattle.mj_ask.specs.declared.ask.SharedAsk.TheVariants as shared_asks
+use Rattle.mj_ask.specs.declared.ask.DeviceAsk.TheVariants as device_asks
 use Rattle.mj_ask.specs.declared.ask.Reply.{Reply}
 use Rattle.mj_ask.specs.declared.ask.Reply.TheVariants as replies
 use Rattle.mj_ask.specs.Formed.{is_global_name, is_name, is_kept, is_clash, is_answer, is_reply}
@@ -33,11 +35,11 @@ use Rattle.mj_gfile.specs.Laws.Texts.{both_true}
 use Rattle.mj_gfile.specs.Laws.Names.{canonic_numbers}
 use Rattle.mj_trace.specs.declared.run.Run.TheVariants as runs
 use Rattle.mj_trace.specs.Spelling.{subtree_text, answer_text, kept_text, clash_text, reply_text}
-use Rattle.mj_trace.specs.Reading.{onward, front, behind, number_in, count_in, code_in, text_in, subscript_in, name_in, subtree_in, is_absent, number_kept, kept_in, clash_now, clash_then, given_in, done_of, limit_of, reply_in}
+use Rattle.mj_trace.specs.Reading.{onward, front, behind_bytes, number_in, count_in, code_in, text_in, subscript_in, name_in, subtree_in, is_absent, number_kept, kept_in, clash_now, clash_then, given_in, done_of, limit_of, reply_in}
 use Rattle.mj_trace.specs.Sized.{is_count, is_code, name_fits, nodes_fit, answer_fits, kept_fits, reply_fits}
-use Rattle.mj_trace.specs.Laws.Found.{Ends, front_all, rest_all, no_number, number_bytes, number_found, count_found, code_found, text_found, subscript_found}
+use Rattle.mj_trace.specs.Laws.Found.{if_not, Ends, front_all, rest_all, no_number, number_bytes, number_found, count_found, code_found, text_found, subscript_found}
 use Rattle.mj_trace.specs.Laws.Members.{name_is_found, subtree_found}
-use Rattle.mj_trace.specs.Laws.Asked.{IsTold, global_sized}
+use Rattle.mj_trace.specs.Laws.Asked.{FollowsAsk, global_sized}
 
 -- ---- which bytes begin what
 
@@ -75,12 +77,12 @@ apart c h = record {
   end = grind (arith, nat_tests);
 }
 
-given_told : (bs : List ℕ) → IsGiven bs → IsTold bs
+given_told : (bs : List ℕ) → IsGiven bs → FollowsAsk bs
 given_told [] h = absurd h
 given_told (c ∷ cs) h = let p = apart c h in record { untimed = p.colon; unfaulted = p.fault; plain = p.serial }
 
 passed : {A : Type 0} {b : Bool} {z : A} (x k : A) → b ≡ false → k ≡ z → cond b x k ≡ z
-passed x k e f = ap (λ b. cond b x k) e ∙ f
+passed x k e f = if_not x k e ∙ f
 
 other_word : (c : ℕ) (cs : List ℕ) (w : ℕ) (ws : List ℕ) → eqb c w ≡ false → bytes_eq (c ∷ cs) (w ∷ ws) ≡ false
 other_word c cs w ws e = ap (λ b. b && bytes_eq cs ws) e
@@ -156,17 +158,20 @@ subtree_all nodes h = ap subtree_in (sym (append-nil (subtree_text nodes))) ∙ 
 
 -- ---- answers
 
-text_answer : (n : Name) (t : List ℕ) → is_text t ≡ true → reply_in (asks.Access (accesses.Value n)) (listed_text t) ≡ Some (replies.Answer (answers_are.Value (Some t)))
+text_answer : (n : Name) (t : List ℕ) → is_text t ≡ true → reply_in (asks.Shared (shared_asks.Access (accesses.Value n))) (listed_text t) ≡ Some (replies.Answer (answers_are.Value (Some t)))
 text_answer n t h =
-    given_when (asks.Access (accesses.Value n)) (listed_text t) refl ∙ ap (λ (o : Option (List ℕ × List ℕ)). option_map replies.Answer (option_map (λ p. answers_are.Value (Some p.0)) o)) (text_all t h)
+    given_when (asks.Shared (shared_asks.Access (accesses.Value n))) (listed_text t) refl
+    ∙ ap (λ (o : Option (List ℕ × List ℕ)). option_map replies.Answer (option_map (λ p. answers_are.Value (Some p.0)) o)) (text_all t h)
 
-data_answer : (n : Name) (d : ℕ) → is_code d ≡ true → reply_in (asks.Access (accesses.Data n)) (decimal d) ≡ Some (replies.Answer (answers_are.Data d))
+data_answer : (n : Name) (d : ℕ) → is_code d ≡ true → reply_in (asks.Shared (shared_asks.Access (accesses.Data n))) (decimal d) ≡ Some (replies.Answer (answers_are.Data d))
 data_answer n d h =
-    given_when (asks.Access (accesses.Data n)) (decimal d) (number_mark (pos d) (code_ranged d h)) ∙ ap (λ (o : Option (ℕ × List ℕ)). option_map replies.Answer (option_map (λ p. answers_are.Data p.0) o)) (code_all d h)
+    given_when (asks.Shared (shared_asks.Access (accesses.Data n))) (decimal d) (number_mark (pos d) (code_ranged d h))
+    ∙ ap (λ (o : Option (ℕ × List ℕ)). option_map replies.Answer (option_map (λ p. answers_are.Data p.0) o)) (code_all d h)
 
-order_answer : (n : Name) (way : Direction) (s : List ℕ) → is_text s ≡ true → reply_in (asks.Access (accesses.Order n way)) (listed_subscript s) ≡ Some (replies.Answer (answers_are.Order (Some s)))
+order_answer : (n : Name) (way : Direction) (s : List ℕ) → is_text s ≡ true
+    → reply_in (asks.Shared (shared_asks.Access (accesses.Order n way))) (listed_subscript s) ≡ Some (replies.Answer (answers_are.Order (Some s)))
 order_answer n way s h =
-    given_when (asks.Access (accesses.Order n way)) (listed_subscript s) (subscript_mark s)
+    given_when (asks.Shared (shared_asks.Access (accesses.Order n way))) (listed_subscript s) (subscript_mark s)
     ∙ ap (λ b. option_map replies.Answer (cond b (Some (answers_are.Order None)) (option_map (λ p. answers_are.Order (Some p.0)) (subscript_in (listed_subscript s))))) (subscript_there s)
     ∙ ap (λ (o : Option (List ℕ × List ℕ)). option_map replies.Answer (option_map (λ p. answers_are.Order (Some p.0)) o)) (subscript_all s h)
 
@@ -176,62 +181,31 @@ name_there n g = subst (λ b. is_absent (word_text b n.word ++ listed_subscripts
 global_is : (n : Name) → is_global_name n ≡ true → n.global ≡ true
 global_is n h = (both_true n.global (is_name n) h).0
 
-query_answer : (n m : Name) → is_global_name m ≡ true → name_fits m ≡ true → reply_in (asks.Access (accesses.Query n)) (listed_name m) ≡ Some (replies.Answer (answers_are.Query (Some m)))
+query_answer : (n m : Name) → is_global_name m ≡ true → name_fits m ≡ true
+    → reply_in (asks.Shared (shared_asks.Access (accesses.Query n))) (listed_name m) ≡ Some (replies.Answer (answers_are.Query (Some m)))
 query_answer n m h k =
-    given_when (asks.Access (accesses.Query n)) (listed_name m) (name_mark m (global_is m h))
+    given_when (asks.Shared (shared_asks.Access (accesses.Query n))) (listed_name m) (name_mark m (global_is m h))
     ∙ ap (λ b. option_map replies.Answer (cond b (Some (answers_are.Query None)) (option_map (λ p. answers_are.Query (Some p.0)) (name_in (listed_name m))))) (name_there m (global_is m h))
     ∙ ap (λ (o : Option (Name × List ℕ)). option_map replies.Answer (option_map (λ p. answers_are.Query (Some p.0)) o)) (name_all m h k)
 
-subtree_answer : (n : Name) (nodes : Subtree) → nodes_fit nodes ≡ true → reply_in (asks.Access (accesses.Subtree n)) (subtree_text nodes) ≡ Some (replies.Answer (answers_are.Subtree nodes))
+subtree_answer : (n : Name) (nodes : Subtree) → nodes_fit nodes ≡ true
+    → reply_in (asks.Shared (shared_asks.Access (accesses.Subtree n))) (subtree_text nodes) ≡ Some (replies.Answer (answers_are.Subtree nodes))
 subtree_answer n nodes h =
-    given_when (asks.Access (accesses.Subtree n)) (subtree_text nodes) refl ∙ ap (λ (o : Option (Subtree × List ℕ)). option_map replies.Answer (option_map (λ p. answers_are.Subtree p.0) o)) (subtree_all nodes h)
+    given_when (asks.Shared (shared_asks.Access (accesses.Subtree n))) (subtree_text nodes) refl
+    ∙ ap (λ (o : Option (Subtree × List ℕ)). option_map replies.Answer (option_map (λ p. answers_are.Subtree p.0) o)) (subtree_all nodes h)
 
-answer_found : (a : Access) (x : Answer) → answers a x ≡ true → is_answer x ≡ true → answer_fits x ≡ true → reply_in (asks.Access a) (answer_text x) ≡ Some (replies.Answer x)
+answer_found : (a : Access) (x : Answer) → answers a x ≡ true → is_answer x ≡ true → answer_fits x ≡ true → reply_in (asks.Shared (shared_asks.Access a)) (answer_text x) ≡ Some (replies.Answer x)
 answer_found a answers_are.Done h k f = refl
 answer_found a answers_are.Limit h k f = refl
 answer_found (accesses.Value n) (answers_are.Value None) h k f = refl
 answer_found (accesses.Value n) (answers_are.Value (Some v)) h k f = text_answer n v f
-answer_found (accesses.Data n) (answers_are.Value y) h k f = absurd cc
-answer_found (accesses.Order n way) (answers_are.Value y) h k f = absurd cc
-answer_found (accesses.Query n) (answers_are.Value y) h k f = absurd cc
-answer_found (accesses.Subtree n) (answers_are.Value y) h k f = absurd cc
-answer_found (accesses.Set n t) (answers_are.Value y) h k f = absurd cc
-answer_found (accesses.Kill n) (answers_are.Value y) h k f = absurd cc
-answer_found (accesses.Put n nodes) (answers_are.Value y) h k f = absurd cc
-answer_found (accesses.Value n) (answers_are.Data y) h k f = absurd cc
 answer_found (accesses.Data n) (answers_are.Data d) h k f = data_answer n d f
-answer_found (accesses.Order n way) (answers_are.Data y) h k f = absurd cc
-answer_found (accesses.Query n) (answers_are.Data y) h k f = absurd cc
-answer_found (accesses.Subtree n) (answers_are.Data y) h k f = absurd cc
-answer_found (accesses.Set n t) (answers_are.Data y) h k f = absurd cc
-answer_found (accesses.Kill n) (answers_are.Data y) h k f = absurd cc
-answer_found (accesses.Put n nodes) (answers_are.Data y) h k f = absurd cc
-answer_found (accesses.Value n) (answers_are.Order y) h k f = absurd cc
-answer_found (accesses.Data n) (answers_are.Order y) h k f = absurd cc
 answer_found (accesses.Order n way) (answers_are.Order None) h k f = refl
 answer_found (accesses.Order n way) (answers_are.Order (Some s)) h k f = order_answer n way s f
-answer_found (accesses.Query n) (answers_are.Order y) h k f = absurd cc
-answer_found (accesses.Subtree n) (answers_are.Order y) h k f = absurd cc
-answer_found (accesses.Set n t) (answers_are.Order y) h k f = absurd cc
-answer_found (accesses.Kill n) (answers_are.Order y) h k f = absurd cc
-answer_found (accesses.Put n nodes) (answers_are.Order y) h k f = absurd cc
-answer_found (accesses.Value n) (answers_are.Query y) h k f = absurd cc
-answer_found (accesses.Data n) (answers_are.Query y) h k f = absurd cc
-answer_found (accesses.Order n way) (answers_are.Query y) h k f = absurd cc
 answer_found (accesses.Query n) (answers_are.Query None) h k f = refl
 answer_found (accesses.Query n) (answers_are.Query (Some m)) h k f = query_answer n m k f
-answer_found (accesses.Subtree n) (answers_are.Query y) h k f = absurd cc
-answer_found (accesses.Set n t) (answers_are.Query y) h k f = absurd cc
-answer_found (accesses.Kill n) (answers_are.Query y) h k f = absurd cc
-answer_found (accesses.Put n nodes) (answers_are.Query y) h k f = absurd cc
-answer_found (accesses.Value n) (answers_are.Subtree y) h k f = absurd cc
-answer_found (accesses.Data n) (answers_are.Subtree y) h k f = absurd cc
-answer_found (accesses.Order n way) (answers_are.Subtree y) h k f = absurd cc
-answer_found (accesses.Query n) (answers_are.Subtree y) h k f = absurd cc
 answer_found (accesses.Subtree n) (answers_are.Subtree es) h k f = subtree_answer n es f
-answer_found (accesses.Set n t) (answers_are.Subtree y) h k f = absurd cc
-answer_found (accesses.Kill n) (answers_are.Subtree y) h k f = absurd cc
-answer_found (accesses.Put n nodes) (answers_are.Subtree y) h k f = absurd cc
+answer_found _ _ h k f = absurd cc
 
 -- ---- clashes
 
@@ -244,8 +218,9 @@ kept_number n r h e = by (signed_decimal n) refl (number_mark n h)
 
     there : number_kept (signed_decimal n ++ r) ≡ Some (kepts.Number n, r)
     there =
-        ap (λ s. cond (is_absent s) (Some (kepts.Nothing, behind runs.Number (signed_decimal n ++ r))) (option_map (λ p. (kepts.Number p.0, p.1)) (number_in (signed_decimal n ++ r)))) f
-        ∙ ap (λ b. cond b (Some (kepts.Nothing, behind runs.Number (signed_decimal n ++ r))) (option_map (λ p. (kepts.Number p.0, p.1)) (number_in (signed_decimal n ++ r)))) (canonic_there (signed_decimal n) (is_canonic-canonic_text n (IsInRange-from n h)))
+        ap (λ s. cond (is_absent s) (Some (kepts.Nothing, behind_bytes runs.Number (signed_decimal n ++ r))) (option_map (λ p. (kepts.Number p.0, p.1)) (number_in (signed_decimal n ++ r)))) f
+        ∙ ap (λ b. cond b (Some (kepts.Nothing, behind_bytes runs.Number (signed_decimal n ++ r))) (option_map (λ p. (kepts.Number p.0, p.1)) (number_in (signed_decimal n ++ r))))
+        (canonic_there (signed_decimal n) (is_canonic-canonic_text n (IsInRange-from n h)))
         ∙ ap (option_map (λ p. (kepts.Number p.0, p.1))) (number_found n r h e)
 
     digit : (c : ℕ) → is_number_byte c ≡ true → (eqb c 34 ≡ false) × (eqb c 94 ≡ false) × (eqb c 123 ≡ false)
@@ -268,12 +243,14 @@ kept_found (kepts.Name n) r h f e =
     let found = name_is_found n r (global_sized n h f) e in
     by n.global (global_is n h) found
   where
-    by : (g : Bool) → g ≡ true → name_in ((word_text g n.word ++ listed_subscripts n.subscripts) ++ r) ≡ Some (n, r) → kept_in ((word_text g n.word ++ listed_subscripts n.subscripts) ++ r) ≡ Some (kepts.Name n, r)
+    by : (g : Bool) → g ≡ true → name_in ((word_text g n.word ++ listed_subscripts n.subscripts) ++ r) ≡ Some (n, r)
+        → kept_in ((word_text g n.word ++ listed_subscripts n.subscripts) ++ r) ≡ Some (kepts.Name n, r)
     by true i found = ap (option_map (λ p. (kepts.Name p.0, p.1))) found
     by false i found = absurd cc
 kept_found (kepts.Subtree nodes) r h f e = ap (option_map (λ p. (kepts.Subtree p.0, p.1))) (subtree_found nodes r f e)
 
-clash_found : (clash : Clash) → is_clash clash ≡ true → reply_fits (replies.Clash clash) ≡ true → reply_in asks.Commit (codes "clash " ++ clash_text clash) ≡ Some (replies.Clash clash)
+clash_found : (clash : Clash) → is_clash clash ≡ true → reply_fits (replies.Clash clash) ≡ true
+    → reply_in (asks.Shared shared_asks.Commit) (codes "clash " ++ clash_text clash) ≡ Some (replies.Clash clash)
 clash_found clash h f =
     let a = both_true (nat_lt 0 clash.place && is_kept clash.then) (is_kept clash.now) h in
     let b = both_true (nat_lt 0 clash.place) (is_kept clash.then) a.0 in
@@ -287,137 +264,40 @@ clash_found clash h f =
 -- ---- replies
 
 done_is : (a : Ask) → is_reply_to a replies.Done ≡ true → done_of a ≡ replies.Done
-done_is (asks.DeviceBegin d) h = refl
-done_is (asks.DeviceWrite d t) h = refl
-done_is (asks.DeviceLine d timeout) h = refl
-done_is (asks.DeviceByte d timeout) h = refl
-done_is (asks.DeviceEnd d) h = refl
-done_is (asks.Access a) h = absurd cc
-done_is (asks.Try names timeout) h = refl
-done_is (asks.Unlock names) h = refl
-done_is asks.UnlockAll h = refl
-done_is (asks.Begin kind) h = refl
-done_is asks.Commit h = refl
-done_is asks.Rollback h = refl
-done_is (asks.Open d timeout) h = refl
-done_is (asks.Close d) h = refl
-done_is (asks.Start start timeout) h = refl
-done_is (asks.Rest n) h = refl
-done_is (asks.Halt fault) h = refl
+done_is (asks.Shared (shared_asks.Access a)) h = absurd cc
+done_is _ h = refl
 
 limit_is : (a : Ask) → is_reply_to a replies.Limit ≡ true → limit_of a ≡ replies.Limit
-limit_is (asks.DeviceBegin d) h = refl
-limit_is (asks.DeviceWrite d t) h = refl
-limit_is (asks.DeviceLine d timeout) h = refl
-limit_is (asks.DeviceByte d timeout) h = refl
-limit_is (asks.DeviceEnd d) h = refl
-limit_is (asks.Access a) h = absurd cc
-limit_is (asks.Try names timeout) h = refl
-limit_is (asks.Unlock names) h = refl
-limit_is asks.UnlockAll h = refl
-limit_is (asks.Begin kind) h = refl
-limit_is asks.Commit h = refl
-limit_is asks.Rollback h = refl
-limit_is (asks.Open d timeout) h = refl
-limit_is (asks.Close d) h = refl
-limit_is (asks.Start start timeout) h = refl
-limit_is (asks.Rest n) h = refl
-limit_is (asks.Halt fault) h = refl
+limit_is (asks.Shared (shared_asks.Access a)) h = absurd cc
+limit_is _ h = refl
 
 line_found : (a : Ask) (t : List ℕ) → is_reply_to a (replies.Line t) ≡ true → is_text t ≡ true → reply_in a (listed_text t) ≡ Some (replies.Line t)
-line_found (asks.DeviceBegin d) t h f = absurd cc
-line_found (asks.DeviceWrite d b) t h f = absurd cc
-line_found (asks.DeviceLine d timeout) t h f = given_when (asks.DeviceLine d timeout) (listed_text t) refl ∙ ap (option_map (λ p. replies.Line p.0)) (text_all t f)
-line_found (asks.DeviceByte d timeout) t h f = absurd cc
-line_found (asks.DeviceEnd d) t h f = absurd cc
-line_found (asks.Access a) t h f = absurd cc
-line_found (asks.Try names timeout) t h f = absurd cc
-line_found (asks.Unlock names) t h f = absurd cc
-line_found asks.UnlockAll t h f = absurd cc
-line_found (asks.Begin kind) t h f = absurd cc
-line_found asks.Commit t h f = absurd cc
-line_found asks.Rollback t h f = absurd cc
-line_found (asks.Open d timeout) t h f = absurd cc
-line_found (asks.Close d) t h f = absurd cc
-line_found (asks.Start start timeout) t h f = absurd cc
-line_found (asks.Rest n) t h f = absurd cc
-line_found (asks.Halt fault) t h f = absurd cc
+line_found (asks.Device d (device_asks.Line timeout)) t h f =
+    given_when (asks.Device d (device_asks.Line timeout)) (listed_text t) refl ∙ ap (option_map (λ p. replies.Line p.0)) (text_all t f)
+line_found (asks.Shared (shared_asks.Access a)) t h f = absurd cc
+line_found _ t h f = absurd cc
 
 byte_found : (a : Ask) (b : ℕ) → is_reply_to a (replies.Byte b) ≡ true → is_code b ≡ true → reply_in a (decimal b) ≡ Some (replies.Byte b)
-byte_found (asks.DeviceBegin d) b h f = absurd cc
-byte_found (asks.DeviceWrite d t) b h f = absurd cc
-byte_found (asks.DeviceLine d timeout) b h f = absurd cc
-byte_found (asks.DeviceByte d timeout) b h f = given_when (asks.DeviceByte d timeout) (decimal b) (number_mark (pos b) (code_ranged b f)) ∙ ap (option_map (λ p. replies.Byte p.0)) (code_all b f)
-byte_found (asks.DeviceEnd d) b h f = absurd cc
-byte_found (asks.Access a) b h f = absurd cc
-byte_found (asks.Try names timeout) b h f = absurd cc
-byte_found (asks.Unlock names) b h f = absurd cc
-byte_found asks.UnlockAll b h f = absurd cc
-byte_found (asks.Begin kind) b h f = absurd cc
-byte_found asks.Commit b h f = absurd cc
-byte_found asks.Rollback b h f = absurd cc
-byte_found (asks.Open d timeout) b h f = absurd cc
-byte_found (asks.Close d) b h f = absurd cc
-byte_found (asks.Start start timeout) b h f = absurd cc
-byte_found (asks.Rest n) b h f = absurd cc
-byte_found (asks.Halt fault) b h f = absurd cc
+byte_found (asks.Device d (device_asks.Byte timeout)) b h f =
+    given_when (asks.Device d (device_asks.Byte timeout)) (decimal b) (number_mark (pos b) (code_ranged b f)) ∙ ap (option_map (λ p. replies.Byte p.0)) (code_all b f)
+byte_found (asks.Shared (shared_asks.Access a)) b h f = absurd cc
+byte_found _ b h f = absurd cc
 
 job_found : (a : Ask) (j : ℕ) → is_reply_to a (replies.Job j) ≡ true → is_count j ≡ true → reply_in a (codes "job " ++ decimal j) ≡ Some (replies.Job j)
-job_found (asks.DeviceBegin d) j h f = absurd cc
-job_found (asks.DeviceWrite d t) j h f = absurd cc
-job_found (asks.DeviceLine d timeout) j h f = absurd cc
-job_found (asks.DeviceByte d timeout) j h f = absurd cc
-job_found (asks.DeviceEnd d) j h f = absurd cc
-job_found (asks.Access a) j h f = absurd cc
-job_found (asks.Try names timeout) j h f = absurd cc
-job_found (asks.Unlock names) j h f = absurd cc
-job_found asks.UnlockAll j h f = absurd cc
-job_found (asks.Begin kind) j h f = absurd cc
-job_found asks.Commit j h f = absurd cc
-job_found asks.Rollback j h f = absurd cc
-job_found (asks.Open d timeout) j h f = absurd cc
-job_found (asks.Close d) j h f = absurd cc
-job_found (asks.Start start timeout) j h f = ap (option_map (λ p. replies.Job p.0)) (count_all j f)
-job_found (asks.Rest n) j h f = absurd cc
-job_found (asks.Halt fault) j h f = absurd cc
+job_found (asks.Shared (shared_asks.Start start timeout)) j h f = ap (option_map (λ p. replies.Job p.0)) (count_all j f)
+job_found (asks.Device d device_asks.Begin) j h f = absurd cc
+job_found _ j h f = absurd cc
 
-clashes_found : (a : Ask) (clash : Clash) → is_reply_to a (replies.Clash clash) ≡ true → is_clash clash ≡ true → reply_fits (replies.Clash clash) ≡ true → reply_in a (codes "clash " ++ clash_text clash) ≡ Some (replies.Clash clash)
-clashes_found (asks.DeviceBegin d) clash h k f = absurd cc
-clashes_found (asks.DeviceWrite d t) clash h k f = absurd cc
-clashes_found (asks.DeviceLine d timeout) clash h k f = absurd cc
-clashes_found (asks.DeviceByte d timeout) clash h k f = absurd cc
-clashes_found (asks.DeviceEnd d) clash h k f = absurd cc
-clashes_found (asks.Access a) clash h k f = absurd cc
-clashes_found (asks.Try names timeout) clash h k f = absurd cc
-clashes_found (asks.Unlock names) clash h k f = absurd cc
-clashes_found asks.UnlockAll clash h k f = absurd cc
-clashes_found (asks.Begin kind) clash h k f = absurd cc
-clashes_found asks.Commit clash h k f = clash_found clash k f
-clashes_found asks.Rollback clash h k f = absurd cc
-clashes_found (asks.Open d timeout) clash h k f = absurd cc
-clashes_found (asks.Close d) clash h k f = absurd cc
-clashes_found (asks.Start start timeout) clash h k f = absurd cc
-clashes_found (asks.Rest n) clash h k f = absurd cc
-clashes_found (asks.Halt fault) clash h k f = absurd cc
+clashes_found : (a : Ask) (clash : Clash) → is_reply_to a (replies.Clash clash) ≡ true → is_clash clash ≡ true → reply_fits (replies.Clash clash) ≡ true
+    → reply_in a (codes "clash " ++ clash_text clash) ≡ Some (replies.Clash clash)
+clashes_found (asks.Shared shared_asks.Commit) clash h k f = clash_found clash k f
+clashes_found (asks.Device d device_asks.Begin) clash h k f = absurd cc
+clashes_found _ clash h k f = absurd cc
 
 answers_found : (a : Ask) (x : Answer) → is_reply_to a (replies.Answer x) ≡ true → is_answer x ≡ true → answer_fits x ≡ true → reply_in a (answer_text x) ≡ Some (replies.Answer x)
-answers_found (asks.DeviceBegin d) x h k f = absurd cc
-answers_found (asks.DeviceWrite d t) x h k f = absurd cc
-answers_found (asks.DeviceLine d timeout) x h k f = absurd cc
-answers_found (asks.DeviceByte d timeout) x h k f = absurd cc
-answers_found (asks.DeviceEnd d) x h k f = absurd cc
-answers_found (asks.Access a) x h k f = answer_found a x h k f
-answers_found (asks.Try names timeout) x h k f = absurd cc
-answers_found (asks.Unlock names) x h k f = absurd cc
-answers_found asks.UnlockAll x h k f = absurd cc
-answers_found (asks.Begin kind) x h k f = absurd cc
-answers_found asks.Commit x h k f = absurd cc
-answers_found asks.Rollback x h k f = absurd cc
-answers_found (asks.Open d timeout) x h k f = absurd cc
-answers_found (asks.Close d) x h k f = absurd cc
-answers_found (asks.Start start timeout) x h k f = absurd cc
-answers_found (asks.Rest n) x h k f = absurd cc
-answers_found (asks.Halt fault) x h k f = absurd cc
+answers_found (asks.Shared (shared_asks.Access a)) x h k f = answer_found a x h k f
+answers_found (asks.Device d device_asks.Begin) x h k f = absurd cc
+answers_found _ x h k f = absurd cc
 
 -- a reply of the table, within the limits, is found
 pub reply_found : (a : Ask) (r : Reply) → is_reply_to a r ≡ true → is_reply r ≡ true → reply_fits r ≡ true → reply_in a (reply_text r) ≡ Some r
@@ -434,7 +314,7 @@ reply_found a (replies.Byte b) h k f = byte_found a b h f
 reply_found a (replies.Job n) h k f = job_found a n h f
 reply_found a (replies.Clash clash) h k f = clashes_found a clash h k f
 
-answer_told : (x : Answer) → is_answer x ≡ true → answer_fits x ≡ true → IsTold (answer_text x)
+answer_told : (x : Answer) → is_answer x ≡ true → answer_fits x ≡ true → FollowsAsk (answer_text x)
 answer_told answers_are.Done k f = record { untimed = refl; unfaulted = refl; plain = refl }
 answer_told answers_are.Limit k f = record { untimed = refl; unfaulted = refl; plain = refl }
 answer_told (answers_are.Value None) k f = record { untimed = refl; unfaulted = refl; plain = refl }
@@ -447,7 +327,7 @@ answer_told (answers_are.Query (Some n)) k f = given_told (listed_name n) (name_
 answer_told (answers_are.Subtree nodes) k f = given_told (subtree_text nodes) refl
 
 -- no reply goes on with the ask before it
-pub reply_told : (r : Reply) → is_reply r ≡ true → reply_fits r ≡ true → IsTold (reply_text r)
+pub reply_told : (r : Reply) → is_reply r ≡ true → reply_fits r ≡ true → FollowsAsk (reply_text r)
 reply_told replies.Done k f = record { untimed = refl; unfaulted = refl; plain = refl }
 reply_told (replies.Answer x) k f = answer_told x k f
 reply_told replies.Limit k f = record { untimed = refl; unfaulted = refl; plain = refl }

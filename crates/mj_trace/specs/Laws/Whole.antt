@@ -24,8 +24,8 @@ use Rattle.mj_trace.specs.declared.refusal.TraceError.{TraceError}
 use Rattle.mj_trace.specs.declared.refusal.TraceError.TheVariants as errors
 use Rattle.mj_trace.specs.Spelling.{ask_text, reply_text, event_text}
 use Rattle.mj_trace.specs.Trace.{Traced, header, pool_line, pool_lines, start_line, start_lines, event_lines, trace_text}
-use Rattle.mj_trace.specs.Reading.{onward, front, behind}
-use Rattle.mj_trace.specs.Lines.{piece_text, are_told, is_event, is_piece, told, asked, event_in, counted, piece_with, piece_in, respelled, piece_of, starts_limit, events_limit, is_before, stands_behind, last_device, principal, may_start, may_follow, with_piece, followed_by, then_more, lines_from, no_lines, headed, reading_of, rises, IsTrace}
+use Rattle.mj_trace.specs.Reading.{onward, front, behind_bytes}
+use Rattle.mj_trace.specs.Lines.{piece_text, are_told, is_event, is_piece, event_piece, asked, event_in, counted, piece_with, piece_in, respelled, piece_of, starts_limit, events_limit, is_before, stands_behind, last_device, principal, may_start, may_follow, with_piece, followed_by, then_more, lines_from, no_lines, headed, reading_of, rises, IsTrace}
 use Rattle.mj_trace.specs.Sized.{is_count, ask_fits, reply_fits, IsSized}
 use Rattle.mj_trace.specs.Laws.Spelled.{last_pushed, one_longer}
 use Rattle.mj_trace.specs.Laws.Found.{number_bytes, count_found, text_found}
@@ -46,11 +46,11 @@ digit_no_letter c h = grind (arith, nat_tests)
 numbered : (s r : List ℕ) → IsGiven s → list_all is_number_byte s ≡ true → piece_in (s ++ r) ≡ event_in (s ++ r)
 numbered [] r g h = absurd g
 numbered (c ∷ cs) r g h =
-    ap (λ b. piece_with (c ∷ (cs ++ r)) (cond b (c ∷ front runs.Letters (cs ++ r)) []) (cond b (behind runs.Letters (cs ++ r)) (c ∷ (cs ++ r))))
+    ap (λ b. piece_with (c ∷ (cs ++ r)) (cond b (c ∷ front runs.Letters (cs ++ r)) []) (cond b (behind_bytes runs.Letters (cs ++ r)) (c ∷ (cs ++ r))))
     (digit_no_letter c (both_true (is_number_byte c) (list_all is_number_byte cs) h).0)
 
 -- an event that can be written, within the limits
-record IsWritten (job : ℕ) (a : Ask) (r : Reply) : Type 0 where
+record IsEventWritten (job : ℕ) (a : Ask) (r : Reply) : Type 0 where
   number : is_count job ≡ true
   ask : is_ask a ≡ true
   ask_sized : ask_fits a ≡ true
@@ -58,7 +58,7 @@ record IsWritten (job : ℕ) (a : Ask) (r : Reply) : Type 0 where
   reply_sized : reply_fits r ≡ true
   told : is_reply_to a r ≡ true
 
-written : (job : ℕ) (a : Ask) (r : Reply) → are_told a r ≡ true → (is_count job && ask_fits a && reply_fits r) ≡ true → IsWritten job a r
+written : (job : ℕ) (a : Ask) (r : Reply) → are_told a r ≡ true → (is_count job && ask_fits a && reply_fits r) ≡ true → IsEventWritten job a r
 written job a r h k =
     let p = both_true (is_ask a && is_reply r) (is_reply_to a r) h in
     let q = both_true (is_ask a) (is_reply r) p.0 in
@@ -66,13 +66,13 @@ written job a r h k =
     let y = both_true (is_count job) (ask_fits a) x.0 in
     record { number = y.0; ask = q.0; ask_sized = y.1; reply = q.1; reply_sized = x.1; told = p.1 }
 
-event_found : (job : ℕ) (a : Ask) (r : Reply) → IsWritten job a r → are_told a r ≡ true → piece_of (event_text job a r) ≡ Some (pieces.Event job a r)
+event_found : (job : ℕ) (a : Ask) (r : Reply) → IsEventWritten job a r → are_told a r ≡ true → piece_of (event_text job a r) ≡ Some (pieces.Event job a r)
 event_found job a r w h =
     let range = count_ranged job w.number in
     respelled_found (pieces.Event job a r) (event_text job a r)
     (numbered (decimal job) (32 ∷ (ask_text a ++ 32 ∷ reply_text r)) (number_mark (pos job) range) (number_bytes (pos job) range)
     ∙ ap (onward asked) (count_found job (32 ∷ (ask_text a ++ 32 ∷ reply_text r)) w.number (refl, refl, refl, refl))
-    ∙ ap (onward (told job)) (ask_found a (reply_text r) w.ask w.ask_sized (reply_told r w.reply w.reply_sized))
+    ∙ ap (onward (event_piece job)) (ask_found a (reply_text r) w.ask w.ask_sized (reply_told r w.reply w.reply_sized))
     ∙ ap (option_map (λ reply. pieces.Event job a reply)) (reply_found a r w.told w.reply w.reply_sized))
     h refl
 
@@ -109,7 +109,8 @@ is_sized_event e = is_count e.0 && ask_fits e.1 && reply_fits e.2
 abbrev at : List (List ℕ × ℕ) → List Entry → List (ℕ × Ask × Reply) → Traced
 at pool starts events = record { pool = pool; starts = starts; events = events }
 
-events_read : (pool : List (List ℕ × ℕ)) (starts : List Entry) (acc : List (ℕ × Ask × Reply)) (k : ℕ) (es : List (ℕ × Ask × Reply)) → is_empty starts ≡ false → list_all is_event es ≡ true → list_all is_sized_event es ≡ true → length acc + length es ≤ events_limit
+events_read : (pool : List (List ℕ × ℕ)) (starts : List Entry) (acc : List (ℕ × Ask × Reply)) (k : ℕ) (es : List (ℕ × Ask × Reply)) → is_empty starts ≡ false → list_all is_event es ≡ true
+    → list_all is_sized_event es ≡ true → length acc + length es ≤ events_limit
     → lines_from (at pool starts acc) k (lines_of (event_lines es)) ≡ Ok (at pool starts (acc ++ es))
 unfolding is_sized_event
 events_read pool starts acc k [] some can fit few =
@@ -118,7 +119,8 @@ events_read pool starts acc k ((job, a, r) ∷ es) some can fit few =
     let p = both_true (are_told a r) (list_all is_event es) can in
     let q = both_true (is_count job && ask_fits a && reply_fits r) (list_all is_sized_event es) fit in
     let w = written job a r p.0 q.0 in
-    follows (at pool starts acc) k (pieces.Event job a r) (event_lines es) (event_within job a r w.number w.ask w.ask_sized w.reply w.reply_sized) (omega (arith, few)) (event_found job a r w p.0) (ap not some)
+    follows (at pool starts acc) k (pieces.Event job a r) (event_lines es) (event_within job a r w.number w.ask w.ask_sized w.reply w.reply_sized) (omega (arith, few)) (event_found job a r w p.0)
+    (ap not some)
     ∙ events_read pool starts (acc ++ (job, a, r) ∷ []) (suc k) es some p.1 q.1 (omega (arith, few, one_longer acc (job, a, r)))
     ∙ ap (λ xs. Ok (at pool starts xs)) (append_assoc acc ((job, a, r) ∷ []) es)
 
@@ -126,7 +128,8 @@ some_more : (acc : List Entry) (s : Entry) (ss : List Entry) → is_empty (acc +
 some_more [] s ss = refl
 some_more (x ∷ acc) s ss = refl
 
-starts_read : (pool : List (List ℕ × ℕ)) (acc : List Entry) (k : ℕ) (ss : List Entry) (es : List (ℕ × Ask × Reply)) → list_all is_entry ss ≡ true → is_empty (acc ++ ss) ≡ false → length acc + length ss ≤ starts_limit → length acc + length ss ≤ principal pool
+starts_read : (pool : List (List ℕ × ℕ)) (acc : List Entry) (k : ℕ) (ss : List Entry) (es : List (ℕ × Ask × Reply)) → list_all is_entry ss ≡ true → is_empty (acc ++ ss) ≡ false
+    → length acc + length ss ≤ starts_limit → length acc + length ss ≤ principal pool
     → list_all is_event es ≡ true → list_all is_sized_event es ≡ true → length es ≤ events_limit
     → lines_from (at pool acc []) k (lines_of (start_lines ss ++ event_lines es)) ≡ Ok (at pool (acc ++ ss) es)
 unfolding no_end
@@ -138,7 +141,8 @@ starts_read pool acc k (s ∷ ss) es can some few sessions good fit most =
     let may : may_start pool (length acc) ≡ true = λ i. below (length acc) starts_limit (omega (arith, few)) i && below (length acc) (principal pool) (omega (arith, sessions)) i in
     ap (λ l. lines_from (at pool acc []) k (lines_of l)) (append_assoc (start_line s) (10 ∷ start_lines ss) (event_lines es))
     ∙ follows (at pool acc []) k (pieces.Start s) (start_lines ss ++ event_lines es) (entry_within s p.0) (omega arith) (start_found s p.0) may
-    ∙ starts_read pool (acc ++ s ∷ []) (suc k) ss es p.1 (ap is_empty (append_assoc acc (s ∷ []) ss) ∙ some) (omega (arith, few, one_longer acc s)) (omega (arith, sessions, one_longer acc s)) good fit most
+    ∙ starts_read pool (acc ++ s ∷ []) (suc k) ss es p.1 (ap is_empty (append_assoc acc (s ∷ []) ss) ∙ some) (omega (arith, few, one_longer acc s))
+    (omega (arith, sessions, one_longer acc s)) good fit most
     ∙ ap (λ xs. Ok (at pool xs es)) (append_assoc acc (s ∷ []) ss)
 
 rises_behind : (acc : List (List ℕ × ℕ)) (name : List ℕ) (count : ℕ) (ds : List (List ℕ × ℕ)) → rises (acc ++ (name, count) ∷ ds) ≡ true → stands_behind (last_device acc) name ≡ true
@@ -157,13 +161,15 @@ pool_read : (acc : List (List ℕ × ℕ)) (k : ℕ) (ds : List (List ℕ × ℕ
 unfolding is_sized_device no_end
 pool_read acc k [] ss es up sized can some few sessions good fit most =
     let same = append-nil acc in
-    starts_read acc [] k ss es can some (omega (arith, few)) (let here : length ss ≤ principal acc = subst (λ ds. length ss ≤ principal ds) same sessions in omega (arith, here)) good fit most ∙ ap (λ ds. Ok (at ds ss es)) (sym same)
+    starts_read acc [] k ss es can some (omega (arith, few)) (let here : length ss ≤ principal acc = subst (λ ds. length ss ≤ principal ds) same sessions in omega (arith, here)) good fit most
+    ∙ ap (λ ds. Ok (at ds ss es)) (sym same)
 pool_read acc k ((name, count) ∷ ds) ss es up sized can some few sessions good fit most =
     let p = both_true (is_text name && is_count count) (list_all is_sized_device ds) sized in
     let q = both_true (is_text name) (is_count count) p.0 in
     let same = append_assoc acc ((name, count) ∷ []) ds in
     ap (λ l. lines_from (at acc [] []) k (lines_of l)) (append_assoc (pool_line (name, count)) (10 ∷ pool_lines ds) (start_lines ss ++ event_lines es))
-    ∙ follows (at acc [] []) k (pieces.Device name count) (pool_lines ds ++ (start_lines ss ++ event_lines es)) (device_line_within name count q.1) (omega arith) (device_found name count q.0 q.1) (rises_behind acc name count ds up)
+    ∙ follows (at acc [] []) k (pieces.Device name count) (pool_lines ds ++ (start_lines ss ++ event_lines es)) (device_line_within name count q.1) (omega arith) (device_found name count q.0 q.1)
+    (rises_behind acc name count ds up)
     ∙ pool_read (acc ++ (name, count) ∷ []) (suc k) ds ss es (ap rises same ∙ up) p.1 can some few (subst (λ xs. length ss ≤ principal xs) (sym same) sessions) good fit most
     ∙ ap (λ xs. Ok (at xs ss es)) same
 
@@ -180,12 +186,13 @@ is_read t h k =
 ok_same : (r : Result Traced TraceError) (u t : Traced) → r ≡ Ok u → r ≡ Ok t → u ≡ t
 ok_same r u t e f = cc
 
--- the same of what a call gives
+-- what a call gives of a trace that can be written is this trace
 pub reads_it : (bs : List ℕ) (r : Result Traced TraceError) → IfOk r (λ t. reading_of bs ≡ Ok t) → (t : Traced) → bs ≡ trace_text t → IsTrace t → IsSized t → IfOk r (λ u. u ≡ t)
 reads_it bs (Ok u) h t is a b = ok_same (reading_of bs) u t h (ap reading_of is ∙ is_read t a b)
 reads_it bs (Err e) h t is a b = tt
 
-pub reads_all : (bs : List ℕ) (r : Result Traced TraceError) → IfErr r (λ e. (e ≡ errors.Memory) ⊎ (reading_of bs ≡ Err e)) → (t : Traced) → bs ≡ trace_text t → IsTrace t → IsSized t → IfErr r (λ e. e ≡ errors.Memory)
+pub reads_all : (bs : List ℕ) (r : Result Traced TraceError) → IfErr r (λ e. (e ≡ errors.Memory) ⊎ (reading_of bs ≡ Err e)) → (t : Traced) → bs ≡ trace_text t → IsTrace t → IsSized t
+    → IfErr r (λ e. e ≡ errors.Memory)
 reads_all bs (Ok u) h t is a b = tt
 reads_all bs (Err e) h t is a b = by h (ap reading_of is ∙ is_read t a b)
   where

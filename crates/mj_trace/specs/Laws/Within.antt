@@ -1,6 +1,6 @@
 -- No line that is spelled holds byte 10.
 use Rattle.std.proofs.Common.{◌≡◌, ℕ, ℤ, pos, Bool, true, false, ◌&&◌, List, [], ◌∷◌, ◌++◌, length, Option, Some, None, refl, arith}
-use Rattle.std.specs.Prelude.{◌||◌, nat_lt, nat_le, codes, decimal}
+use Rattle.std.specs.Prelude.{◌||◌, nat_lt, nat_le, decimal}
 use Rattle.std.specs.List.{list_all}
 use Rattle.std.specs.Fmt.{signed_decimal}
 use Rattle.std.specs.Char.{is_ascii_digit}
@@ -25,17 +25,21 @@ use Rattle.mj_ask.specs.declared.clash.Kept.TheVariants as kepts
 use Rattle.mj_ask.specs.declared.clash.Clash.{Clash}
 use Rattle.mj_ask.specs.declared.ask.Ask.{Ask}
 use Rattle.mj_ask.specs.declared.ask.Ask.TheVariants as asks
+use Rattle.mj_ask.specs.declared.ask.SharedAsk.{SharedAsk}
+use Rattle.mj_ask.specs.declared.ask.SharedAsk.TheVariants as shared_asks
+use Rattle.mj_ask.specs.declared.ask.DeviceAsk.{DeviceAsk}
+use Rattle.mj_ask.specs.declared.ask.DeviceAsk.TheVariants as device_asks
 use Rattle.mj_ask.specs.declared.ask.Reply.{Reply}
 use Rattle.mj_ask.specs.declared.ask.Reply.TheVariants as replies
-use Rattle.mj_ask.specs.Formed.{is_name, is_global_name, is_search_name, are_filled, are_filled_before_last, is_subtree, is_access, are_names, is_ask, is_kept, is_clash, is_answer, is_reply}
+use Rattle.mj_ask.specs.Formed.{is_name, is_global_name, is_search_name, are_filled, are_filled_before_last, is_subtree, is_access, are_names, is_shared_ask, is_ask, is_kept, is_clash, is_answer, is_reply}
 use Rattle.mj_gfile.specs.Spelling.{listed_text, listed_subscripts, listed_name}
 use Rattle.mj_gfile.specs.Reading.{is_word_byte, is_number_byte}
 use Rattle.mj_gfile.specs.Listing.{is_text}
 use Rattle.mj_gfile.specs.Laws.Texts.{both_true}
 use Rattle.mj_gfile.specs.Laws.Names.{more_pass}
 use Rattle.mj_gfile.specs.Laws.Listings.{no_end, AreWithin, within-append, above_ten, number_above, text_within, subscript_within, subscripts_within}
-use Rattle.mj_trace.specs.Spelling.{rest_of_names, names_text, place_text, node_text, rest_of_nodes, nodes_between, subtree_text, value_text, rest_of_values, values_between, values_text, timeout_text, direction_text, access_text, device_text, ask_text, answer_text, kept_text, clash_text, reply_text, event_text}
-use Rattle.mj_trace.specs.Sized.{is_count, name_fits, value_fits, timeout_fits, ask_fits, answer_fits, kept_fits, reply_fits}
+use Rattle.mj_trace.specs.Spelling.{rest_of_names, names_text, place_text, node_text, rest_of_nodes, nodes_between, subtree_text, value_text, rest_of_values, values_between, values_text, timeout_text, direction_text, access_text, shared_text, device_text, ask_text, answer_text, kept_text, clash_text, reply_text, event_text}
+use Rattle.mj_trace.specs.Sized.{is_count, name_fits, value_fits, timeout_fits, shared_fits, device_fits, ask_fits, answer_fits, kept_fits, reply_fits}
 use Rattle.mj_trace.specs.Laws.Found.{number_bytes, word_bytes}
 use Rattle.mj_trace.specs.Laws.Asked.{code_small}
 use Rattle.mj_trace.specs.Laws.Told.{count_ranged, code_ranged}
@@ -73,7 +77,8 @@ word_of_global n h = word_of_name n (both_true n.global (is_name n) h).1
 
 word_of_search : (n : Name) → is_search_name n ≡ true → is_word n.word ≡ true
 word_of_search n h =
-    (both_true n.global (is_word n.word) (both_true (n.global && is_word n.word) (nat_le (length n.subscripts) 31) (both_true (n.global && is_word n.word && nat_le (length n.subscripts) 31) (are_filled_before_last n.subscripts) h).0).0).1
+    let few = both_true (n.global && is_word n.word && nat_le (length n.subscripts) 31) (are_filled_before_last n.subscripts) h in
+    (both_true n.global (is_word n.word) (both_true (n.global && is_word n.word) (nat_le (length n.subscripts) 31) few.0).0).1
 
 rest_names_within : (ns : List Name) → list_all is_name ns ≡ true → AreWithin (rest_of_names ns)
 unfolding no_end
@@ -151,10 +156,6 @@ entry_within e h =
 
 -- ---- asks
 
-device_within : (d what : List ℕ) → AreWithin what → AreWithin (device_text d what)
-unfolding no_end
-device_within d what h = within-append (listed_text d) (32 ∷ what) (text_within d) h
-
 direction_within : (d : Direction) → AreWithin (direction_text d)
 unfolding no_end
 direction_within directions.Forward = refl
@@ -175,30 +176,37 @@ access_within (accesses.Put n nodes) h =
 all_names : (ns : List Name) → are_names ns ≡ true → list_all is_name ns ≡ true
 all_names ns h = (both_true (nat_lt 0 (length ns)) (list_all is_name ns) h).1
 
+shared_within : (a : SharedAsk) → is_shared_ask a ≡ true → shared_fits a ≡ true → AreWithin (shared_text a)
+unfolding no_end
+shared_within (shared_asks.Access a) h k = access_within a h
+shared_within (shared_asks.Try names timeout) h k =
+    let q = both_true (list_all name_fits names) (timeout_fits timeout) k in
+    within-append (names_text names) (timeout_text timeout) (names_within names (all_names names h)) (timeout_within timeout q.1)
+shared_within (shared_asks.Unlock names) h k = names_within names (all_names names h)
+shared_within (shared_asks.Begin kinds.Plain) h k = refl
+shared_within (shared_asks.Open d timeout) h k =
+    within-append (listed_text d) (timeout_text timeout) (text_within d) (timeout_within timeout (both_true (is_text d) (timeout_fits timeout) k).1)
+shared_within (shared_asks.Close d) h k = text_within d
+shared_within (shared_asks.Start start timeout) h k =
+    let q = both_true (list_all value_fits start.values) (timeout_fits timeout) k in
+    within-append (entry_text start.entry) (32 ∷ (values_text start.values ++ timeout_text timeout)) (entry_within start.entry h)
+    (within-append (values_text start.values) (timeout_text timeout) (values_within start.values) (timeout_within timeout q.1))
+shared_within (shared_asks.Halt None) h k = refl
+shared_within (shared_asks.Halt (Some f)) h k = count_within (code_of f) (code_small f)
+shared_within _ h k = refl
+
+device_within : (a : DeviceAsk) → device_fits a ≡ true → AreWithin (device_text a)
+unfolding no_end
+device_within (device_asks.Write t) k = text_within t
+device_within (device_asks.Line timeout) k = timeout_within timeout k
+device_within (device_asks.Byte timeout) k = timeout_within timeout k
+device_within _ k = refl
+
 pub ask_within : (a : Ask) → is_ask a ≡ true → ask_fits a ≡ true → AreWithin (ask_text a)
 unfolding no_end
-ask_within (asks.DeviceBegin d) h k = device_within d (codes "begin") refl
-ask_within (asks.DeviceWrite d t) h k = device_within d (codes "write " ++ listed_text t) (text_within t)
-ask_within (asks.DeviceLine d timeout) h k = device_within d (codes "line" ++ timeout_text timeout) (timeout_within timeout (both_true (is_text d) (timeout_fits timeout) k).1)
-ask_within (asks.DeviceByte d timeout) h k = device_within d (codes "byte" ++ timeout_text timeout) (timeout_within timeout (both_true (is_text d) (timeout_fits timeout) k).1)
-ask_within (asks.DeviceEnd d) h k = device_within d (codes "end") refl
-ask_within (asks.Access a) h k = access_within a h
-ask_within (asks.Try names timeout) h k =
-    within-append (names_text names) (timeout_text timeout) (names_within names (all_names names h)) (timeout_within timeout (both_true (list_all name_fits names) (timeout_fits timeout) k).1)
-ask_within (asks.Unlock names) h k = names_within names (all_names names h)
-ask_within asks.UnlockAll h k = refl
-ask_within (asks.Begin kinds.Serial) h k = refl
-ask_within (asks.Begin kinds.Plain) h k = refl
-ask_within asks.Commit h k = refl
-ask_within asks.Rollback h k = refl
-ask_within (asks.Open d timeout) h k = within-append (listed_text d) (timeout_text timeout) (text_within d) (timeout_within timeout (both_true (is_text d) (timeout_fits timeout) k).1)
-ask_within (asks.Close d) h k = text_within d
-ask_within (asks.Start start timeout) h k =
-    within-append (entry_text start.entry) (32 ∷ (values_text start.values ++ timeout_text timeout)) (entry_within start.entry h)
-    (within-append (values_text start.values) (timeout_text timeout) (values_within start.values) (timeout_within timeout (both_true (list_all value_fits start.values) (timeout_fits timeout) k).1))
+ask_within (asks.Shared a) h k = shared_within a h k
+ask_within (asks.Device d a) h k = within-append (listed_text d) (32 ∷ device_text a) (text_within d) (device_within a (both_true (is_text d) (device_fits a) k).1)
 ask_within (asks.Rest n) h k = number_within n k
-ask_within (asks.Halt None) h k = refl
-ask_within (asks.Halt (Some f)) h k = count_within (code_of f) (code_small f)
 
 -- ---- replies
 

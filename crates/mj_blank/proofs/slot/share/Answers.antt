@@ -19,7 +19,8 @@ answer-requires g c =
     let opening = g.O.Opening.opening in
     let S : Served Heard → Type 0 = λ t. Serves opening c.args.system.now c.args.claim.now ask c.args.late t c.serve.new.self c.serve.new.claim in
     let serves = subst S c.in-Ok-Reply.field-0-is c.in-Ok-Reply.ensures.ok in
-    let fit : fits ask c.in-Ok-Reply.reply ≡ true = fits_served (state_of opening c.args.system.now.history) c.args.claim.now.job ask c.args.late c.in-Ok-Reply.reply (state_of opening c.serve.new.self.history)
+    let fit : fits ask c.in-Ok-Reply.reply ≡ true =
+    fits_served (state_of opening c.args.system.now.history) c.args.claim.now.job ask c.args.late c.in-Ok-Reply.reply (state_of opening c.serve.new.self.history)
     shared serves.tells.0 in
     (ask, pending, fit)
 
@@ -48,5 +49,15 @@ returns-in-Ok-Opened-clause-ok g c =
     let S : Served Heard → Type 0 = λ t. Serves opening c.args.system.now c.args.claim.now ask c.args.late t c.serve.new.self c.serve.new.claim in
     let serves = subst S c.in-Ok-Opened.field-0-is c.in-Ok-Opened.ensures.ok in
     let fit : fits ask reply ≡ true = fits_served (state_of opening c.args.system.now.history) c.args.claim.now.job ask c.args.late reply (state_of opening c.serve.new.self.history)
-    shared serves.tells.0 in
-    (ask, pending, (reply, fit, serves.tells.0, serves.records.0, serves.records.1, (c.answer-in-Ok-Opened.ensures.log ask pending, c.answer-in-Ok-Opened.ensures.run, c.answer-in-Ok-Opened.ensures.spent)))
+    shared serves.tells.0 in (
+      ask,
+      pending,
+      (
+        reply,
+        fit,
+        serves.tells.0,
+        serves.records.0,
+        serves.records.1,
+        (c.answer-in-Ok-Opened.ensures.log ask pending, c.answer-in-Ok-Opened.ensures.run, c.answer-in-Ok-Opened.ensures.spent),
+      ),
+    )

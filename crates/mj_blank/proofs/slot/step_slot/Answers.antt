@@ -4,9 +4,9 @@ use Rattle.mj_load.specs.Image.{routines_of}
 use Rattle.mj_jobs.specs.Rows.{IsLive}
 use Rattle.std.specs.Prelude.{Ok, option_copied}
 use Rattle.std.specs.declared.alloc.AllocError.{AllocError}
-use Rattle.mj_core.specs.Run.{Log, GoesOn, HasEnded}
-use Rattle.mj_core.specs.Told.{Told, spent_after}
-use Rattle.mj_core.specs.Turn.{Turn}
+use Rattle.mj_jobvm.specs.Run.{Log, GoesOn, HasEnded}
+use Rattle.mj_jobvm.specs.Told.{AdvanceTells, spent_after}
+use Rattle.mj_jobvm.specs.declared.job.Turn.{Turn}
 use Rattle.mj_sys.specs.History.{state_of}
 use Rattle.mj_core.specs.Runs.{start_in}
 use Rattle.mj_blank.specs.Ties.{Placed, IsTied, IsPlaced}
@@ -20,7 +20,8 @@ ask-requires-clause-asks g c =
     let P : Placed → Type 0 = λ p. IsPlaced c.args.image.now g.O.Opening.opening c.args.system.now p in
     let tied : IsTied c.args.image.now g.O.Opening.opening c.args.system.now s.claim s.job s.heeds = subst P (sym c.slot.view_is) c.requires.tied in
     let start = start_in s.claim.job s.claim.start in
-    ap is_some (needed c.args.image.now start c.advance.new.self.run (let T : Turn → Type 0 = λ t. Told (routines_of c.args.image.now) start t c.advance.new.self.run in subst T c.in-Ok-Asks.field-0-is (c.in-Ok-Asks.ensures.told start tied.run))).1
+    ap is_some (needed c.args.image.now start c.advance.new.self.run (let T : Turn → Type 0 = λ t. AdvanceTells (routines_of c.args.image.now) start t c.advance.new.self.run in
+    subst T c.in-Ok-Asks.field-0-is (c.in-Ok-Asks.ensures.told start tied.run))).1
 
 pub returns-in-Ok-Ran-clause-gives : goal.returns-in-Ok-Ran-clause-gives
 returns-in-Ok-Ran-clause-gives g c =
@@ -32,8 +33,14 @@ returns-in-Ok-Ran-clause-gives g c =
     let S : Turn → Type 0 = λ t. spent ≡ spent_after {E = AllocError} (Ok t) 10000 s.job.run.spent in
     let counted = subst S c.in-Ok-Ran.field-0-is c.in-Ok-Ran.ensures.spent in
     let Q : Log → Type 0 = λ l. GoesOn (routines_of c.args.image.now) start l spent in
-    rw (← c.slot.view_is)
-    (counted, subst Q c.advance.ensures.log (let T : Turn → Type 0 = λ t. Told (routines_of c.args.image.now) start t c.advance.new.self.run in subst T c.in-Ok-Ran.field-0-is (c.in-Ok-Ran.ensures.told start tied.run)), refl, c.advance.ensures.log, refl)
+    rw (← c.slot.view_is) (
+      counted,
+      subst Q c.advance.ensures.log (let T : Turn → Type 0 = λ t. AdvanceTells (routines_of c.args.image.now) start t c.advance.new.self.run in
+          subst T c.in-Ok-Ran.field-0-is (c.in-Ok-Ran.ensures.told start tied.run)),
+      refl,
+      c.advance.ensures.log,
+      refl,
+    )
 
 pub returns-in-Ok-Ended-clause-gives : goal.returns-in-Ok-Ended-clause-gives
 returns-in-Ok-Ended-clause-gives g c =
@@ -42,8 +49,17 @@ returns-in-Ok-Ended-clause-gives g c =
     let tied : IsTied c.args.image.now g.O.Opening.opening c.args.system.now s.claim s.job s.heeds = subst P (sym c.slot.view_is) c.requires.tied in
     let start = start_in s.claim.job s.claim.start in
     let Q : Log → Type 0 = λ l. HasEnded (routines_of c.args.image.now) start l in
-    rw (← c.slot.view_is)
-    (subst Q c.advance.ensures.log (let T : Turn → Type 0 = λ t. Told (routines_of c.args.image.now) start t c.advance.new.self.run in subst T c.in-Ok-Ended.field-0-is (c.in-Ok-Ended.ensures.told start tied.run)), refl, (c.advance.ensures.log, (let U : Turn → Type 0 = λ t. c.advance.new.self.run.spent ≡ spent_after {E = AllocError} (Ok t) 10000 s.job.run.spent in subst U c.in-Ok-Ended.field-0-is c.in-Ok-Ended.ensures.spent), refl))
+    rw (← c.slot.view_is) (
+      subst Q c.advance.ensures.log (let T : Turn → Type 0 = λ t. AdvanceTells (routines_of c.args.image.now) start t c.advance.new.self.run in
+          subst T c.in-Ok-Ended.field-0-is (c.in-Ok-Ended.ensures.told start tied.run)),
+      refl,
+      (
+        c.advance.ensures.log,
+        (let U : Turn → Type 0 = λ t. c.advance.new.self.run.spent ≡ spent_after {E = AllocError} (Ok t) 10000 s.job.run.spent in
+            subst U c.in-Ok-Ended.field-0-is c.in-Ok-Ended.ensures.spent),
+        refl,
+      ),
+    )
 
 pub returns-in-Ok-Asks-clause-gives : goal.returns-in-Ok-Asks-clause-gives
 returns-in-Ok-Asks-clause-gives g c =
@@ -57,7 +73,9 @@ returns-in-Ok-Asks-clause-gives g c =
     let live : IsLive (state_of opening system.history).rows s.claim.job = subst L (sym c.slot.view_is) c.requires.live in
     let start = start_in s.claim.job s.claim.start in
     let given = option_copied c.args.given in
-    let n = needed image start c.advance.new.self.run (let T : Turn → Type 0 = λ t. Told (routines_of c.args.image.now) start t c.advance.new.self.run in subst T c.in-Ok-Asks.field-0-is (c.in-Ok-Asks.ensures.told start tied.run)) in
+    let n =
+    needed image start c.advance.new.self.run (let T : Turn → Type 0 = λ t. AdvanceTells (routines_of c.args.image.now) start t c.advance.new.self.run in
+    subst T c.in-Ok-Asks.field-0-is (c.in-Ok-Asks.ensures.told start tied.run)) in
     rw (← c.slot.view_is)
     (stepped_ok image opening system c.ask.new.system s.claim c.ask.new.claim s.job c.advance.new.self c.ask.new.job s.heeds c.ask.new.heeds c.args.late given
     tied (c.advance.ensures.run start tied.run) c.advance.ensures.log live n.0 n.1 n.2
@@ -76,7 +94,9 @@ returns-in-Ok-Asks-clause-refused g c =
     let live : IsLive (state_of opening system.history).rows s.claim.job = subst L (sym c.slot.view_is) c.requires.live in
     let start = start_in s.claim.job s.claim.start in
     let given = option_copied c.args.given in
-    let n = needed image start c.advance.new.self.run (let T : Turn → Type 0 = λ t. Told (routines_of c.args.image.now) start t c.advance.new.self.run in subst T c.in-Ok-Asks.field-0-is (c.in-Ok-Asks.ensures.told start tied.run)) in
+    let n =
+    needed image start c.advance.new.self.run (let T : Turn → Type 0 = λ t. AdvanceTells (routines_of c.args.image.now) start t c.advance.new.self.run in
+    subst T c.in-Ok-Asks.field-0-is (c.in-Ok-Asks.ensures.told start tied.run)) in
     rw (← c.slot.view_is)
     (stepped_err image opening system c.ask.new.system s.claim c.ask.new.claim s.job c.advance.new.self c.ask.new.job s.heeds c.ask.new.heeds c.args.late given
     tied (c.advance.ensures.run start tied.run) c.advance.ensures.log live n.0 n.1 n.2
@@ -95,7 +115,9 @@ returns-in-Ok-Asks-clause-kept g c =
     let live : IsLive (state_of opening system.history).rows s.claim.job = subst L (sym c.slot.view_is) c.requires.live in
     let start = start_in s.claim.job s.claim.start in
     let given = option_copied c.args.given in
-    let n = needed image start c.advance.new.self.run (let T : Turn → Type 0 = λ t. Told (routines_of c.args.image.now) start t c.advance.new.self.run in subst T c.in-Ok-Asks.field-0-is (c.in-Ok-Asks.ensures.told start tied.run)) in
+    let n =
+    needed image start c.advance.new.self.run (let T : Turn → Type 0 = λ t. AdvanceTells (routines_of c.args.image.now) start t c.advance.new.self.run in
+    subst T c.in-Ok-Asks.field-0-is (c.in-Ok-Asks.ensures.told start tied.run)) in
     rw (← c.slot.view_is)
     (stepped_still image opening system c.ask.new.system s.claim c.ask.new.claim s.job c.advance.new.self c.ask.new.job s.heeds c.ask.new.heeds c.args.late given
     tied (c.advance.ensures.run start tied.run) c.advance.ensures.log live n.0 n.1 n.2
@@ -114,7 +136,9 @@ returns-in-Ok-Asks-clause-tied g c =
     let live : IsLive (state_of opening system.history).rows s.claim.job = subst L (sym c.slot.view_is) c.requires.live in
     let start = start_in s.claim.job s.claim.start in
     let given = option_copied c.args.given in
-    let n = needed image start c.advance.new.self.run (let T : Turn → Type 0 = λ t. Told (routines_of c.args.image.now) start t c.advance.new.self.run in subst T c.in-Ok-Asks.field-0-is (c.in-Ok-Asks.ensures.told start tied.run)) in
+    let n =
+    needed image start c.advance.new.self.run (let T : Turn → Type 0 = λ t. AdvanceTells (routines_of c.args.image.now) start t c.advance.new.self.run in
+    subst T c.in-Ok-Asks.field-0-is (c.in-Ok-Asks.ensures.told start tied.run)) in
     stepped_tied image opening system c.ask.new.system s.claim c.ask.new.claim s.job c.advance.new.self c.ask.new.job s.heeds c.ask.new.heeds c.args.late given
     tied (c.advance.ensures.run start tied.run) c.advance.ensures.log live n.0 n.1 n.2
     (let U : Turn → Type 0 = λ t. c.advance.new.self.run.spent ≡ spent_after {E = AllocError} (Ok t) 10000 s.job.run.spent in subst U c.in-Ok-Asks.field-0-is c.in-Ok-Asks.ensures.spent)

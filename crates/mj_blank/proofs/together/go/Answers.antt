@@ -5,7 +5,7 @@ use Rattle.std.proofs.lemmas.Result.{err_from_is_err_and}
 use Rattle.mj_load.specs.Image.{routines_of}
 use Rattle.mj_jobs.specs.Rows.{IsLive}
 use Rattle.mj_sys.specs.History.{state_of}
-use Rattle.mj_events.specs.declared.happened.Happened.{Happened}
+use Rattle.mj_core.specs.declared.happened.Happened.{Happened}
 use Rattle.mj_core.specs.declared.seen.Seen.TheVariants as seen
 use Rattle.mj_core.specs.declared.slot.Made.{Made}
 use Rattle.mj_core.specs.declared.slot.Made.TheVariants as made
@@ -44,7 +44,8 @@ returns-in_err-step_slot-clause-made g c = λ row is.
     let p = err_from_is_err_and c.from_residual.result c.from_residual.ensures.1 in
     rw (p.1, p.2)
     (makes_none c.args.image.now g.O.Opening.opening c.args.system.now c.args.slots.now c.requires.kept.0 c.args.order.now.items c.requires.kept.1 c.args.at slot
-    c.step_slot.new.slot here c.step_slot.ensures.claim.0 c.args.late (option_copied c.args.given) c.step_slot.new.system c.step_slot.ensures.tied c.requires.short c.args.over.now 255 c.requires.few row is
+    c.step_slot.new.slot here c.step_slot.ensures.claim.0 c.args.late (option_copied c.args.given) c.step_slot.new.system c.step_slot.ensures.tied c.requires.short c.args.over.now 255
+    c.requires.few row is
     c.in_err-step_slot.field-0.0 c.in_err-step_slot.ensures.refused c.in_err-step_slot.ensures.kept)
 
 -- what is written down of an event
@@ -60,7 +61,8 @@ returns-in-Event-clause-kept g c = λ waiting kept.
     let slot : Placed = slice_index_or c.args.slots.now c.args.at c.index-slots-at.result in
     let here : slice_get c.args.slots.now c.args.at ≡ Some slot = slice_get-get_or c.args.slots.now c.args.at c.index-slots-at.result c.requires.there in
     let steps : Steps (routines_of c.args.image.now) g.O.Opening.opening c.args.late (option_copied c.args.given) c.args.system.now slot made.Event c.step_slot.new.system c.step_slot.new.slot =
-    (let S : Made → Type 0 = λ m. Steps (routines_of c.args.image.now) g.O.Opening.opening c.args.late (option_copied c.args.given) c.args.system.now slot m c.step_slot.new.system c.step_slot.new.slot in
+    (let S : Made → Type 0 = λ m. Steps (routines_of c.args.image.now) g.O.Opening.opening c.args.late (option_copied c.args.given) c.args.system.now slot m c.step_slot.new.system
+    c.step_slot.new.slot in
     subst S c.in-Event.is c.in_ok-step_slot.ensures.gives) in
     let written : c.push_reserved.new.self.items ≡ order_on c.args.order.now.items c.args.at slot.job.run.log made.Event =
     c.push_reserved.ensures.items
@@ -75,7 +77,8 @@ returns-in-Event-clause-made g c = λ row is.
     let slot : Placed = slice_index_or c.args.slots.now c.args.at c.index-slots-at.result in
     let here : slice_get c.args.slots.now c.args.at ≡ Some slot = slice_get-get_or c.args.slots.now c.args.at c.index-slots-at.result c.requires.there in
     let steps : Steps (routines_of c.args.image.now) g.O.Opening.opening c.args.late (option_copied c.args.given) c.args.system.now slot made.Event c.step_slot.new.system c.step_slot.new.slot =
-    (let S : Made → Type 0 = λ m. Steps (routines_of c.args.image.now) g.O.Opening.opening c.args.late (option_copied c.args.given) c.args.system.now slot m c.step_slot.new.system c.step_slot.new.slot in
+    (let S : Made → Type 0 = λ m. Steps (routines_of c.args.image.now) g.O.Opening.opening c.args.late (option_copied c.args.given) c.args.system.now slot m c.step_slot.new.system
+    c.step_slot.new.slot in
     subst S c.in-Event.is c.in_ok-step_slot.ensures.gives) in
     let written : c.push_reserved.new.self.items ≡ order_on c.args.order.now.items c.args.at slot.job.run.log made.Event =
     c.push_reserved.ensures.items
@@ -88,15 +91,18 @@ returns-in-Event-clause-made g c = λ row is.
     subst (λ n. P n c.push_reserved.new.self.items) (sym (c.len-place.ensures ∙ c.args.order.now.ok.0))
     (subst (λ o. P (length c.args.order.now.items) o) (sym written)
     (makes_step c.args.image.now g.O.Opening.opening c.args.system.now c.args.slots.now c.requires.kept.0 c.args.order.now.items c.requires.kept.1 c.args.at slot
-    c.step_slot.new.slot here c.step_slot.ensures.claim.0 c.args.late (option_copied c.args.given) c.step_slot.new.system c.step_slot.ensures.tied c.requires.short c.args.over.now 255 c.requires.few row is
+    c.step_slot.new.slot here c.step_slot.ensures.claim.0 c.args.late (option_copied c.args.given) c.step_slot.new.system c.step_slot.ensures.tied c.requires.short c.args.over.now 255
+    c.requires.few row is
     c.ended_by_halt.ensures c.requires.live made.Event steps))
 
 pub returns-in-Busy-clause-kept : goal.returns-in-Busy-clause-kept
 returns-in-Busy-clause-kept g c = λ waiting kept.
     let slot : Placed = slice_index_or c.args.slots.now c.args.at c.index-slots-at.result in
     let here : slice_get c.args.slots.now c.args.at ≡ Some slot = slice_get-get_or c.args.slots.now c.args.at c.index-slots-at.result c.requires.there in
-    let steps : Steps (routines_of c.args.image.now) g.O.Opening.opening c.args.late (option_copied c.args.given) c.args.system.now slot (made.Busy c.in-Busy.holder c.in-Busy.held) c.step_slot.new.system c.step_slot.new.slot =
-    (let S : Made → Type 0 = λ m. Steps (routines_of c.args.image.now) g.O.Opening.opening c.args.late (option_copied c.args.given) c.args.system.now slot m c.step_slot.new.system c.step_slot.new.slot in
+    let steps : Steps (routines_of c.args.image.now) g.O.Opening.opening c.args.late (option_copied c.args.given) c.args.system.now slot (made.Busy c.in-Busy.holder c.in-Busy.held)
+    c.step_slot.new.system c.step_slot.new.slot =
+    (let S : Made → Type 0 = λ m. Steps (routines_of c.args.image.now) g.O.Opening.opening c.args.late (option_copied c.args.given) c.args.system.now slot m c.step_slot.new.system
+    c.step_slot.new.slot in
     subst S c.in-Busy.is c.in_ok-step_slot.ensures.gives) in
     keeps_step c.args.image.now g.O.Opening.opening c.args.system.now c.args.slots.now waiting c.args.order.now.items kept c.args.at slot c.step_slot.new.slot here
     c.step_slot.ensures.claim.0 c.args.late (option_copied c.args.given) c.step_slot.new.system c.step_slot.ensures.tied c.requires.short (made.Busy c.in-Busy.holder c.in-Busy.held) steps
@@ -105,11 +111,14 @@ pub returns-in-Busy-clause-made : goal.returns-in-Busy-clause-made
 returns-in-Busy-clause-made g c = λ row is.
     let slot : Placed = slice_index_or c.args.slots.now c.args.at c.index-slots-at.result in
     let here : slice_get c.args.slots.now c.args.at ≡ Some slot = slice_get-get_or c.args.slots.now c.args.at c.index-slots-at.result c.requires.there in
-    let steps : Steps (routines_of c.args.image.now) g.O.Opening.opening c.args.late (option_copied c.args.given) c.args.system.now slot (made.Busy c.in-Busy.holder c.in-Busy.held) c.step_slot.new.system c.step_slot.new.slot =
-    (let S : Made → Type 0 = λ m. Steps (routines_of c.args.image.now) g.O.Opening.opening c.args.late (option_copied c.args.given) c.args.system.now slot m c.step_slot.new.system c.step_slot.new.slot in
+    let steps : Steps (routines_of c.args.image.now) g.O.Opening.opening c.args.late (option_copied c.args.given) c.args.system.now slot (made.Busy c.in-Busy.holder c.in-Busy.held)
+    c.step_slot.new.system c.step_slot.new.slot =
+    (let S : Made → Type 0 = λ m. Steps (routines_of c.args.image.now) g.O.Opening.opening c.args.late (option_copied c.args.given) c.args.system.now slot m c.step_slot.new.system
+    c.step_slot.new.slot in
     subst S c.in-Busy.is c.in_ok-step_slot.ensures.gives) in
     makes_step c.args.image.now g.O.Opening.opening c.args.system.now c.args.slots.now c.requires.kept.0 c.args.order.now.items c.requires.kept.1 c.args.at slot
-    c.step_slot.new.slot here c.step_slot.ensures.claim.0 c.args.late (option_copied c.args.given) c.step_slot.new.system c.step_slot.ensures.tied c.requires.short c.args.over.now 255 c.requires.few row is
+    c.step_slot.new.slot here c.step_slot.ensures.claim.0 c.args.late (option_copied c.args.given) c.step_slot.new.system c.step_slot.ensures.tied c.requires.short c.args.over.now 255
+    c.requires.few row is
     c.ended_by_halt.ensures c.requires.live (made.Busy c.in-Busy.holder c.in-Busy.held) steps
 
 pub returns-in-NotYet-clause-kept : goal.returns-in-NotYet-clause-kept
@@ -117,7 +126,8 @@ returns-in-NotYet-clause-kept g c = λ waiting kept.
     let slot : Placed = slice_index_or c.args.slots.now c.args.at c.index-slots-at.result in
     let here : slice_get c.args.slots.now c.args.at ≡ Some slot = slice_get-get_or c.args.slots.now c.args.at c.index-slots-at.result c.requires.there in
     let steps : Steps (routines_of c.args.image.now) g.O.Opening.opening c.args.late (option_copied c.args.given) c.args.system.now slot made.NotYet c.step_slot.new.system c.step_slot.new.slot =
-    (let S : Made → Type 0 = λ m. Steps (routines_of c.args.image.now) g.O.Opening.opening c.args.late (option_copied c.args.given) c.args.system.now slot m c.step_slot.new.system c.step_slot.new.slot in
+    (let S : Made → Type 0 = λ m. Steps (routines_of c.args.image.now) g.O.Opening.opening c.args.late (option_copied c.args.given) c.args.system.now slot m c.step_slot.new.system
+    c.step_slot.new.slot in
     subst S c.in-NotYet.is c.in_ok-step_slot.ensures.gives) in
     keeps_step c.args.image.now g.O.Opening.opening c.args.system.now c.args.slots.now waiting c.args.order.now.items kept c.args.at slot c.step_slot.new.slot here
     c.step_slot.ensures.claim.0 c.args.late (option_copied c.args.given) c.step_slot.new.system c.step_slot.ensures.tied c.requires.short made.NotYet steps
@@ -127,10 +137,12 @@ returns-in-NotYet-clause-made g c = λ row is.
     let slot : Placed = slice_index_or c.args.slots.now c.args.at c.index-slots-at.result in
     let here : slice_get c.args.slots.now c.args.at ≡ Some slot = slice_get-get_or c.args.slots.now c.args.at c.index-slots-at.result c.requires.there in
     let steps : Steps (routines_of c.args.image.now) g.O.Opening.opening c.args.late (option_copied c.args.given) c.args.system.now slot made.NotYet c.step_slot.new.system c.step_slot.new.slot =
-    (let S : Made → Type 0 = λ m. Steps (routines_of c.args.image.now) g.O.Opening.opening c.args.late (option_copied c.args.given) c.args.system.now slot m c.step_slot.new.system c.step_slot.new.slot in
+    (let S : Made → Type 0 = λ m. Steps (routines_of c.args.image.now) g.O.Opening.opening c.args.late (option_copied c.args.given) c.args.system.now slot m c.step_slot.new.system
+    c.step_slot.new.slot in
     subst S c.in-NotYet.is c.in_ok-step_slot.ensures.gives) in
     makes_step c.args.image.now g.O.Opening.opening c.args.system.now c.args.slots.now c.requires.kept.0 c.args.order.now.items c.requires.kept.1 c.args.at slot
-    c.step_slot.new.slot here c.step_slot.ensures.claim.0 c.args.late (option_copied c.args.given) c.step_slot.new.system c.step_slot.ensures.tied c.requires.short c.args.over.now 255 c.requires.few row is
+    c.step_slot.new.slot here c.step_slot.ensures.claim.0 c.args.late (option_copied c.args.given) c.step_slot.new.system c.step_slot.ensures.tied c.requires.short c.args.over.now 255
+    c.requires.few row is
     c.ended_by_halt.ensures c.requires.live made.NotYet steps
 
 pub returns-in-Unfit-clause-kept : goal.returns-in-Unfit-clause-kept
@@ -138,7 +150,8 @@ returns-in-Unfit-clause-kept g c = λ waiting kept.
     let slot : Placed = slice_index_or c.args.slots.now c.args.at c.index-slots-at.result in
     let here : slice_get c.args.slots.now c.args.at ≡ Some slot = slice_get-get_or c.args.slots.now c.args.at c.index-slots-at.result c.requires.there in
     let steps : Steps (routines_of c.args.image.now) g.O.Opening.opening c.args.late (option_copied c.args.given) c.args.system.now slot made.Unfit c.step_slot.new.system c.step_slot.new.slot =
-    (let S : Made → Type 0 = λ m. Steps (routines_of c.args.image.now) g.O.Opening.opening c.args.late (option_copied c.args.given) c.args.system.now slot m c.step_slot.new.system c.step_slot.new.slot in
+    (let S : Made → Type 0 = λ m. Steps (routines_of c.args.image.now) g.O.Opening.opening c.args.late (option_copied c.args.given) c.args.system.now slot m c.step_slot.new.system
+    c.step_slot.new.slot in
     subst S c.in-Unfit.is c.in_ok-step_slot.ensures.gives) in
     keeps_step c.args.image.now g.O.Opening.opening c.args.system.now c.args.slots.now waiting c.args.order.now.items kept c.args.at slot c.step_slot.new.slot here
     c.step_slot.ensures.claim.0 c.args.late (option_copied c.args.given) c.step_slot.new.system c.step_slot.ensures.tied c.requires.short made.Unfit steps
@@ -148,10 +161,12 @@ returns-in-Unfit-clause-made g c = λ row is.
     let slot : Placed = slice_index_or c.args.slots.now c.args.at c.index-slots-at.result in
     let here : slice_get c.args.slots.now c.args.at ≡ Some slot = slice_get-get_or c.args.slots.now c.args.at c.index-slots-at.result c.requires.there in
     let steps : Steps (routines_of c.args.image.now) g.O.Opening.opening c.args.late (option_copied c.args.given) c.args.system.now slot made.Unfit c.step_slot.new.system c.step_slot.new.slot =
-    (let S : Made → Type 0 = λ m. Steps (routines_of c.args.image.now) g.O.Opening.opening c.args.late (option_copied c.args.given) c.args.system.now slot m c.step_slot.new.system c.step_slot.new.slot in
+    (let S : Made → Type 0 = λ m. Steps (routines_of c.args.image.now) g.O.Opening.opening c.args.late (option_copied c.args.given) c.args.system.now slot m c.step_slot.new.system
+    c.step_slot.new.slot in
     subst S c.in-Unfit.is c.in_ok-step_slot.ensures.gives) in
     makes_step c.args.image.now g.O.Opening.opening c.args.system.now c.args.slots.now c.requires.kept.0 c.args.order.now.items c.requires.kept.1 c.args.at slot
-    c.step_slot.new.slot here c.step_slot.ensures.claim.0 c.args.late (option_copied c.args.given) c.step_slot.new.system c.step_slot.ensures.tied c.requires.short c.args.over.now 255 c.requires.few row is
+    c.step_slot.new.slot here c.step_slot.ensures.claim.0 c.args.late (option_copied c.args.given) c.step_slot.new.system c.step_slot.ensures.tied c.requires.short c.args.over.now 255
+    c.requires.few row is
     c.ended_by_halt.ensures c.requires.live made.Unfit steps
 
 pub returns-in-Ran-clause-kept : goal.returns-in-Ran-clause-kept
@@ -159,7 +174,8 @@ returns-in-Ran-clause-kept g c = λ waiting kept.
     let slot : Placed = slice_index_or c.args.slots.now c.args.at c.index-slots-at.result in
     let here : slice_get c.args.slots.now c.args.at ≡ Some slot = slice_get-get_or c.args.slots.now c.args.at c.index-slots-at.result c.requires.there in
     let steps : Steps (routines_of c.args.image.now) g.O.Opening.opening c.args.late (option_copied c.args.given) c.args.system.now slot made.Ran c.step_slot.new.system c.step_slot.new.slot =
-    (let S : Made → Type 0 = λ m. Steps (routines_of c.args.image.now) g.O.Opening.opening c.args.late (option_copied c.args.given) c.args.system.now slot m c.step_slot.new.system c.step_slot.new.slot in
+    (let S : Made → Type 0 = λ m. Steps (routines_of c.args.image.now) g.O.Opening.opening c.args.late (option_copied c.args.given) c.args.system.now slot m c.step_slot.new.system
+    c.step_slot.new.slot in
     subst S c.in-Ran.is c.in_ok-step_slot.ensures.gives) in
     keeps_step c.args.image.now g.O.Opening.opening c.args.system.now c.args.slots.now waiting c.args.order.now.items kept c.args.at slot c.step_slot.new.slot here
     c.step_slot.ensures.claim.0 c.args.late (option_copied c.args.given) c.step_slot.new.system c.step_slot.ensures.tied c.requires.short made.Ran steps
@@ -169,10 +185,12 @@ returns-in-Ran-clause-made g c = λ row is.
     let slot : Placed = slice_index_or c.args.slots.now c.args.at c.index-slots-at.result in
     let here : slice_get c.args.slots.now c.args.at ≡ Some slot = slice_get-get_or c.args.slots.now c.args.at c.index-slots-at.result c.requires.there in
     let steps : Steps (routines_of c.args.image.now) g.O.Opening.opening c.args.late (option_copied c.args.given) c.args.system.now slot made.Ran c.step_slot.new.system c.step_slot.new.slot =
-    (let S : Made → Type 0 = λ m. Steps (routines_of c.args.image.now) g.O.Opening.opening c.args.late (option_copied c.args.given) c.args.system.now slot m c.step_slot.new.system c.step_slot.new.slot in
+    (let S : Made → Type 0 = λ m. Steps (routines_of c.args.image.now) g.O.Opening.opening c.args.late (option_copied c.args.given) c.args.system.now slot m c.step_slot.new.system
+    c.step_slot.new.slot in
     subst S c.in-Ran.is c.in_ok-step_slot.ensures.gives) in
     makes_step c.args.image.now g.O.Opening.opening c.args.system.now c.args.slots.now c.requires.kept.0 c.args.order.now.items c.requires.kept.1 c.args.at slot
-    c.step_slot.new.slot here c.step_slot.ensures.claim.0 c.args.late (option_copied c.args.given) c.step_slot.new.system c.step_slot.ensures.tied c.requires.short c.args.over.now 255 c.requires.few row is
+    c.step_slot.new.slot here c.step_slot.ensures.claim.0 c.args.late (option_copied c.args.given) c.step_slot.new.system c.step_slot.ensures.tied c.requires.short c.args.over.now 255
+    c.requires.few row is
     c.ended_by_halt.ensures c.requires.live made.Ran steps
 
 pub returns-in-Ended-clause-kept : goal.returns-in-Ended-clause-kept
@@ -180,7 +198,8 @@ returns-in-Ended-clause-kept g c = λ waiting kept.
     let slot : Placed = slice_index_or c.args.slots.now c.args.at c.index-slots-at.result in
     let here : slice_get c.args.slots.now c.args.at ≡ Some slot = slice_get-get_or c.args.slots.now c.args.at c.index-slots-at.result c.requires.there in
     let steps : Steps (routines_of c.args.image.now) g.O.Opening.opening c.args.late (option_copied c.args.given) c.args.system.now slot made.Ended c.step_slot.new.system c.step_slot.new.slot =
-    (let S : Made → Type 0 = λ m. Steps (routines_of c.args.image.now) g.O.Opening.opening c.args.late (option_copied c.args.given) c.args.system.now slot m c.step_slot.new.system c.step_slot.new.slot in
+    (let S : Made → Type 0 = λ m. Steps (routines_of c.args.image.now) g.O.Opening.opening c.args.late (option_copied c.args.given) c.args.system.now slot m c.step_slot.new.system
+    c.step_slot.new.slot in
     subst S c.in-Ended.is c.in_ok-step_slot.ensures.gives) in
     keeps_step c.args.image.now g.O.Opening.opening c.args.system.now c.args.slots.now waiting c.args.order.now.items kept c.args.at slot c.step_slot.new.slot here
     c.step_slot.ensures.claim.0 c.args.late (option_copied c.args.given) c.step_slot.new.system c.step_slot.ensures.tied c.requires.short made.Ended steps
@@ -190,8 +209,10 @@ returns-in-Ended-clause-made g c = λ row is.
     let slot : Placed = slice_index_or c.args.slots.now c.args.at c.index-slots-at.result in
     let here : slice_get c.args.slots.now c.args.at ≡ Some slot = slice_get-get_or c.args.slots.now c.args.at c.index-slots-at.result c.requires.there in
     let steps : Steps (routines_of c.args.image.now) g.O.Opening.opening c.args.late (option_copied c.args.given) c.args.system.now slot made.Ended c.step_slot.new.system c.step_slot.new.slot =
-    (let S : Made → Type 0 = λ m. Steps (routines_of c.args.image.now) g.O.Opening.opening c.args.late (option_copied c.args.given) c.args.system.now slot m c.step_slot.new.system c.step_slot.new.slot in
+    (let S : Made → Type 0 = λ m. Steps (routines_of c.args.image.now) g.O.Opening.opening c.args.late (option_copied c.args.given) c.args.system.now slot m c.step_slot.new.system
+    c.step_slot.new.slot in
     subst S c.in-Ended.is c.in_ok-step_slot.ensures.gives) in
     makes_step c.args.image.now g.O.Opening.opening c.args.system.now c.args.slots.now c.requires.kept.0 c.args.order.now.items c.requires.kept.1 c.args.at slot
-    c.step_slot.new.slot here c.step_slot.ensures.claim.0 c.args.late (option_copied c.args.given) c.step_slot.new.system c.step_slot.ensures.tied c.requires.short c.args.over.now 255 c.requires.few row is
+    c.step_slot.new.slot here c.step_slot.ensures.claim.0 c.args.late (option_copied c.args.given) c.step_slot.new.system c.step_slot.ensures.tied c.requires.short c.args.over.now 255
+    c.requires.few row is
     c.ended_by_halt.ensures c.requires.live made.Ended steps

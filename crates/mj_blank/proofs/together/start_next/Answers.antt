@@ -1,6 +1,6 @@
 use Rattle.std.proofs.Common.{◌≡◌, ◌++◌, ◌∷◌, [], Some, sym, ap, ◌∙◌}
 use Rattle.mj_ask.specs.Started.{Started}
-use Rattle.mj_core.specs.Jobs.{Running}
+use Rattle.mj_jobvm.specs.Jobs.{Running}
 use Rattle.mj_sys.specs.System.{Claimed}
 use Rattle.mj_blank.proofs.Admitting.{same_claim, slot_kept, slot_woven, slot_turns}
 use Rattle.mj_blank.proofs.together.start_next.Goals as goal
@@ -15,7 +15,8 @@ returns-clause-kept g c =
     (c.into_parts-entry.ensures.entry ∙ ap (λ (s : Started). s.entry) start) (c.into_parts-entry.ensures.values ∙ ap (λ (s : Started). s.values) start)
     c.start-job.result (ap (λ (j : Running). j.run.log) c.start-job.ensures.opening) (ap (λ (j : Running). j.run.spent) c.start-job.ensures.opening) c.start-job.ensures.run
     c.new.result c.new.ensures
-    c.push_reserved.new.self.items (c.push_reserved.ensures.items ∙ ap (λ l. l ++ record { claim = c.in-Some-take.claim; job = c.start-job.result; heeds = c.new.result } ∷ []) c.in_ok-reserve.ensures.items) c.take.new.self c.take.ensures.after
+    c.push_reserved.new.self.items (c.push_reserved.ensures.items ∙ ap (λ l. l ++ record { claim = c.in-Some-take.claim; job = c.start-job.result; heeds = c.new.result } ∷ [])
+    c.in_ok-reserve.ensures.items) c.take.new.self c.take.ensures.after
 
 pub returns-clause-woven : goal.returns-clause-woven
 returns-clause-woven g c =
@@ -27,7 +28,8 @@ returns-clause-woven g c =
     (c.into_parts-entry.ensures.entry ∙ ap (λ (s : Started). s.entry) start) (c.into_parts-entry.ensures.values ∙ ap (λ (s : Started). s.values) start)
     c.start-job.result (ap (λ (j : Running). j.run.log) c.start-job.ensures.opening) (ap (λ (j : Running). j.run.spent) c.start-job.ensures.opening) c.start-job.ensures.run
     c.new.result c.new.ensures
-    c.push_reserved.new.self.items (c.push_reserved.ensures.items ∙ ap (λ l. l ++ record { claim = c.in-Some-take.claim; job = c.start-job.result; heeds = c.new.result } ∷ []) c.in_ok-reserve.ensures.items)
+    c.push_reserved.new.self.items (c.push_reserved.ensures.items ∙ ap (λ l. l ++ record { claim = c.in-Some-take.claim; job = c.start-job.result; heeds = c.new.result } ∷ [])
+    c.in_ok-reserve.ensures.items)
 
 pub returns-clause-turns : goal.returns-clause-turns
 returns-clause-turns g c =
@@ -39,4 +41,5 @@ returns-clause-turns g c =
     (c.into_parts-entry.ensures.entry ∙ ap (λ (s : Started). s.entry) start) (c.into_parts-entry.ensures.values ∙ ap (λ (s : Started). s.values) start)
     c.start-job.result (ap (λ (j : Running). j.run.log) c.start-job.ensures.opening) (ap (λ (j : Running). j.run.spent) c.start-job.ensures.opening) c.start-job.ensures.run
     c.new.result c.new.ensures
-    c.push_reserved.new.self.items (c.push_reserved.ensures.items ∙ ap (λ l. l ++ record { claim = c.in-Some-take.claim; job = c.start-job.result; heeds = c.new.result } ∷ []) c.in_ok-reserve.ensures.items)
+    c.push_reserved.new.self.items (c.push_reserved.ensures.items ∙ ap (λ l. l ++ record { claim = c.in-Some-take.claim; job = c.start-job.result; heeds = c.new.result } ∷ [])
+    c.in_ok-reserve.ensures.items)

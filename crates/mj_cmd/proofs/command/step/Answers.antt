@@ -1,6 +1,7 @@
 use Rattle.std.proofs.Common.{◌∙◌}
 use Rattle.mj_ast.specs.Commands.{meant}
-use Rattle.mj_cmd.proofs.Follow.{refuses_from, room_for, clause_is, step_written}
+use Rattle.mj_cmd.proofs.Follow.{refuses_from, room_for}
+use Rattle.mj_cmd.proofs.FollowLines.{clause_is, step_written}
 use Rattle.mj_cmd.proofs.command.step.Goals as goal
 
 pub returns-in-Err-clause-reads : goal.returns-in-Err-clause-reads

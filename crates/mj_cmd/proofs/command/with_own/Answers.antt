@@ -8,7 +8,8 @@ use Rattle.mj_ast.specs.Trees.{assignment_of, output_of, opened_of, input_of, ki
 use Rattle.mj_lex.specs.Seen.{tokens_seen}
 use Rattle.mj_line.specs.Forms.{Calls, Jumps, Starts, LockWanted, LockEnd, SetTarget, SetEnd, OutputWanted, OutputEnd, Writes, Reads, DeviceWanted, DeviceWaited, KillWanted, KillEnd, MergeInto, MergeEnd, ValueWanted, ValueEnd, ForWanted, LimitEnd, EntryWanted, GuardEnd, NewWanted, NewEnd, RestartWanted, SerialEnd, may_be_bare}
 use Rattle.mj_line.specs.Machine.{Behind, At, args_rest, run}
-use Rattle.mj_cmd.proofs.Follow.{room_for, args_end, blank_opens, at_keyword, reads_as_err, refuses_from}
+use Rattle.mj_cmd.proofs.Follow.{room_for, args_end, reads_as_err, refuses_from}
+use Rattle.mj_cmd.proofs.FollowLines.{blank_opens, at_keyword}
 use Rattle.mj_cmd.proofs.Lists.{items_written, items_parts}
 use Rattle.mj_cmd.proofs.command.with_own.Goals as goal
 
@@ -40,7 +41,8 @@ returns-in_ok-arguments-in-Write-clause-reads c = λ m r o condition.
 
 pub returns-in_ok-arguments-in-Kill-clause-reads : goal.returns-in_ok-arguments-in-Kill-clause-reads
 returns-in_ok-arguments-in-Kill-clause-reads c = λ m r o condition.
-    let a = c.in_ok-arguments-in-Kill.ensures.reads tt m (room_for c.args.phrases.limited m c.args.tokens.now c.args.behind.now c.requires.room r) (c.requires.other (ap (λ (k : Keyword). may_be_bare (Of k)) c.in-Kill.is)) o condition (Of keyword.Kill) [] in
+    let a = c.in_ok-arguments-in-Kill.ensures.reads tt m (room_for c.args.phrases.limited m c.args.tokens.now c.args.behind.now c.requires.room r)
+    (c.requires.other (ap (λ (k : Keyword). may_be_bare (Of k)) c.in-Kill.is)) o condition (Of keyword.Kill) [] in
     let kw = ap (λ (k : Keyword). run m (tokens_seen c.in_ok-arguments-in-Kill.rest.now) (At (Behind (args_rest o condition (Of k) a.0)))) (sym c.in-Kill.is) in (
       a.0,
       λ l. ((Kill (map killed_of c.in_ok-arguments-in-Kill.arguments.items), items_parts killed_of killed_parts c.in_ok-arguments-in-Kill.arguments.items a.0 (a.1 l), refl), sym c.in-Kill.is),
@@ -66,7 +68,8 @@ returns-in_ok-arguments-in-Merge-clause-reads c = λ m r o condition.
 
 pub returns-in_ok-arguments-in-If-clause-reads : goal.returns-in_ok-arguments-in-If-clause-reads
 returns-in_ok-arguments-in-If-clause-reads c = λ m r o condition.
-    let a = c.in_ok-arguments-in-If.ensures.reads true m (room_for c.args.phrases.limited m c.args.tokens.now c.args.behind.now c.requires.room r) (inr (c.requires.other (ap (λ (k : Keyword). may_be_bare (Of k)) c.in-If.is))) o condition (Of keyword.If) [] in
+    let a = c.in_ok-arguments-in-If.ensures.reads true m (room_for c.args.phrases.limited m c.args.tokens.now c.args.behind.now c.requires.room r)
+    (inr (c.requires.other (ap (λ (k : Keyword). may_be_bare (Of k)) c.in-If.is))) o condition (Of keyword.If) [] in
     let kw = ap (λ (k : Keyword). run m (tokens_seen c.in_ok-arguments-in-If.rest.now) (At (Behind (args_rest o condition (Of k) a.0)))) (sym c.in-If.is) in (
       a.0,
       λ l. ((If (map expr_of c.in_ok-arguments-in-If.arguments.items), items_parts expr_of value_parts c.in_ok-arguments-in-If.arguments.items a.0 (a.1 l), refl), sym c.in-If.is),
@@ -79,7 +82,8 @@ returns-in_ok-arguments-in-If-clause-reads c = λ m r o condition.
 
 pub returns-in_ok-arguments-in-Do-clause-reads : goal.returns-in_ok-arguments-in-Do-clause-reads
 returns-in_ok-arguments-in-Do-clause-reads c = λ m r o condition.
-    let a = c.in_ok-arguments-in-Do.ensures.reads tt m (room_for c.args.phrases.limited m c.args.tokens.now c.args.behind.now c.requires.room r) (c.requires.other (ap (λ (k : Keyword). may_be_bare (Of k)) c.in-Do.is)) o condition (Of keyword.Do) [] in
+    let a = c.in_ok-arguments-in-Do.ensures.reads tt m (room_for c.args.phrases.limited m c.args.tokens.now c.args.behind.now c.requires.room r)
+    (c.requires.other (ap (λ (k : Keyword). may_be_bare (Of k)) c.in-Do.is)) o condition (Of keyword.Do) [] in
     let kw = ap (λ (k : Keyword). run m (tokens_seen c.in_ok-arguments-in-Do.rest.now) (At (Behind (args_rest o condition (Of k) a.0)))) (sym c.in-Do.is) in (
       a.0,
       λ l. let w = items_written called_of called_parts plain_called c.in_ok-arguments-in-Do.arguments.items a.0 (a.1 l) in ((Do w.0, w.1, ap Do w.2), sym c.in-Do.is),
@@ -105,7 +109,8 @@ returns-in_ok-arguments-in-Goto-clause-reads c = λ m r o condition.
 
 pub returns-in_ok-arguments-in-New-clause-reads : goal.returns-in_ok-arguments-in-New-clause-reads
 returns-in_ok-arguments-in-New-clause-reads c = λ m r o condition.
-    let a = c.in_ok-arguments-in-New.ensures.reads tt m (room_for c.args.phrases.limited m c.args.tokens.now c.args.behind.now c.requires.room r) (c.requires.other (ap (λ (k : Keyword). may_be_bare (Of k)) c.in-New.is)) o condition (Of keyword.New) [] in
+    let a = c.in_ok-arguments-in-New.ensures.reads tt m (room_for c.args.phrases.limited m c.args.tokens.now c.args.behind.now c.requires.room r)
+    (c.requires.other (ap (λ (k : Keyword). may_be_bare (Of k)) c.in-New.is)) o condition (Of keyword.New) [] in
     let kw = ap (λ (k : Keyword). run m (tokens_seen c.in_ok-arguments-in-New.rest.now) (At (Behind (args_rest o condition (Of k) a.0)))) (sym c.in-New.is) in (
       a.0,
       λ l. ((New (map renewed_of c.in_ok-arguments-in-New.arguments.items), items_parts renewed_of renewed_parts c.in_ok-arguments-in-New.arguments.items a.0 (a.1 l), refl), sym c.in-New.is),
@@ -157,7 +162,8 @@ returns-in_ok-arguments-in-Job-clause-reads c = λ m r o condition.
 
 pub returns-in_ok-arguments-in-Lock-clause-reads : goal.returns-in_ok-arguments-in-Lock-clause-reads
 returns-in_ok-arguments-in-Lock-clause-reads c = λ m r o condition.
-    let a = c.in_ok-arguments-in-Lock.ensures.reads tt m (room_for c.args.phrases.limited m c.args.tokens.now c.args.behind.now c.requires.room r) (c.requires.other (ap (λ (k : Keyword). may_be_bare (Of k)) c.in-Lock.is)) o condition (Of keyword.Lock) [] in
+    let a = c.in_ok-arguments-in-Lock.ensures.reads tt m (room_for c.args.phrases.limited m c.args.tokens.now c.args.behind.now c.requires.room r)
+    (c.requires.other (ap (λ (k : Keyword). may_be_bare (Of k)) c.in-Lock.is)) o condition (Of keyword.Lock) [] in
     let kw = ap (λ (k : Keyword). run m (tokens_seen c.in_ok-arguments-in-Lock.rest.now) (At (Behind (args_rest o condition (Of k) a.0)))) (sym c.in-Lock.is) in (
       a.0,
       λ l. ((Lock (map locked_of c.in_ok-arguments-in-Lock.arguments.items), items_parts locked_of locked_parts c.in_ok-arguments-in-Lock.arguments.items a.0 (a.1 l), refl), sym c.in-Lock.is),
@@ -225,91 +231,135 @@ returns-in_ok-arguments-in-Read-clause-reads c = λ m r o condition.
 pub returns-in_err-arguments-in-Set-clause-reads : goal.returns-in_err-arguments-in-Set-clause-reads
 returns-in_err-arguments-in-Set-clause-reads c = λ m r o condition.
     reads_as_err c.args.phrases.limited _ _ c.from_residual.result c.in_err-arguments-in-Set.field-0.0 m c.args.tokens.now _ _ c.from_residual.ensures.1
-    (refuses_from c.args.phrases.limited c.in_err-arguments-in-Set.field-0.0 _ _ (at_keyword m o condition c.args.keyword keyword.Set (tokens_seen c.args.tokens.now) c.in-Set.is ∙ blank_opens m o condition (Of keyword.Set) (SetTarget false) (tokens_seen c.args.tokens.now) (tokens_seen c.args.behind.now) c.requires.blank refl)
+    (refuses_from c.args.phrases.limited c.in_err-arguments-in-Set.field-0.0 _ _
+    (at_keyword m o condition c.args.keyword keyword.Set (tokens_seen c.args.tokens.now) c.in-Set.is ∙
+    blank_opens m o condition (Of keyword.Set) (SetTarget false) (tokens_seen c.args.tokens.now) (tokens_seen c.args.behind.now) c.requires.blank refl)
     (c.in_err-arguments-in-Set.ensures.reads tt m (room_for c.args.phrases.limited m c.args.tokens.now c.args.behind.now c.requires.room r) tt o condition (Of keyword.Set) []))
 
 pub returns-in_err-arguments-in-Write-clause-reads : goal.returns-in_err-arguments-in-Write-clause-reads
 returns-in_err-arguments-in-Write-clause-reads c = λ m r o condition.
-    reads_as_err c.args.phrases.limited _ _ c.from_residual-in_err-arguments-in-Write.result c.in_err-arguments-in-Write.field-0.0 m c.args.tokens.now _ _ c.from_residual-in_err-arguments-in-Write.ensures.1
-    (refuses_from c.args.phrases.limited c.in_err-arguments-in-Write.field-0.0 _ _ (at_keyword m o condition c.args.keyword keyword.Write (tokens_seen c.args.tokens.now) c.in-Write.is ∙ blank_opens m o condition (Of keyword.Write) (OutputWanted Writes) (tokens_seen c.args.tokens.now) (tokens_seen c.args.behind.now) c.requires.blank refl)
+    reads_as_err c.args.phrases.limited _ _ c.from_residual-in_err-arguments-in-Write.result c.in_err-arguments-in-Write.field-0.0 m c.args.tokens.now _ _
+    c.from_residual-in_err-arguments-in-Write.ensures.1
+    (refuses_from c.args.phrases.limited c.in_err-arguments-in-Write.field-0.0 _ _
+    (at_keyword m o condition c.args.keyword keyword.Write (tokens_seen c.args.tokens.now) c.in-Write.is ∙
+    blank_opens m o condition (Of keyword.Write) (OutputWanted Writes) (tokens_seen c.args.tokens.now) (tokens_seen c.args.behind.now) c.requires.blank refl)
     (c.in_err-arguments-in-Write.ensures.reads tt m (room_for c.args.phrases.limited m c.args.tokens.now c.args.behind.now c.requires.room r) tt o condition (Of keyword.Write) []))
 
 pub returns-in_err-arguments-in-Hang-clause-reads : goal.returns-in_err-arguments-in-Hang-clause-reads
 returns-in_err-arguments-in-Hang-clause-reads c = λ m r o condition.
-    reads_as_err c.args.phrases.limited _ _ c.from_residual-in_err-arguments-in-Hang.result c.in_err-arguments-in-Hang.field-0.0 m c.args.tokens.now _ _ c.from_residual-in_err-arguments-in-Hang.ensures.1
-    (refuses_from c.args.phrases.limited c.in_err-arguments-in-Hang.field-0.0 _ _ (at_keyword m o condition c.args.keyword keyword.Hang (tokens_seen c.args.tokens.now) c.in-Hang.is ∙ blank_opens m o condition (Of keyword.Hang) (ValueWanted false) (tokens_seen c.args.tokens.now) (tokens_seen c.args.behind.now) c.requires.blank refl)
+    reads_as_err c.args.phrases.limited _ _ c.from_residual-in_err-arguments-in-Hang.result c.in_err-arguments-in-Hang.field-0.0 m c.args.tokens.now _ _
+    c.from_residual-in_err-arguments-in-Hang.ensures.1
+    (refuses_from c.args.phrases.limited c.in_err-arguments-in-Hang.field-0.0 _ _
+    (at_keyword m o condition c.args.keyword keyword.Hang (tokens_seen c.args.tokens.now) c.in-Hang.is ∙
+    blank_opens m o condition (Of keyword.Hang) (ValueWanted false) (tokens_seen c.args.tokens.now) (tokens_seen c.args.behind.now) c.requires.blank refl)
     (c.in_err-arguments-in-Hang.ensures.reads false m (room_for c.args.phrases.limited m c.args.tokens.now c.args.behind.now c.requires.room r) (inl refl) o condition (Of keyword.Hang) []))
 
 pub returns-in_err-arguments-in-Job-clause-reads : goal.returns-in_err-arguments-in-Job-clause-reads
 returns-in_err-arguments-in-Job-clause-reads c = λ m r o condition.
     reads_as_err c.args.phrases.limited _ _ c.from_residual-in_err-arguments-in-Job.result c.in_err-arguments-in-Job.field-0.0 m c.args.tokens.now _ _ c.from_residual-in_err-arguments-in-Job.ensures.1
-    (refuses_from c.args.phrases.limited c.in_err-arguments-in-Job.field-0.0 _ _ (at_keyword m o condition c.args.keyword keyword.Job (tokens_seen c.args.tokens.now) c.in-Job.is ∙ blank_opens m o condition (Of keyword.Job) (EntryWanted Starts true) (tokens_seen c.args.tokens.now) (tokens_seen c.args.behind.now) c.requires.blank refl)
+    (refuses_from c.args.phrases.limited c.in_err-arguments-in-Job.field-0.0 _ _
+    (at_keyword m o condition c.args.keyword keyword.Job (tokens_seen c.args.tokens.now) c.in-Job.is ∙
+    blank_opens m o condition (Of keyword.Job) (EntryWanted Starts true) (tokens_seen c.args.tokens.now) (tokens_seen c.args.behind.now) c.requires.blank refl)
     (c.in_err-arguments-in-Job.ensures.reads tt m (room_for c.args.phrases.limited m c.args.tokens.now c.args.behind.now c.requires.room r) tt o condition (Of keyword.Job) []))
 
 pub returns-in_err-arguments-in-Lock-clause-reads : goal.returns-in_err-arguments-in-Lock-clause-reads
 returns-in_err-arguments-in-Lock-clause-reads c = λ m r o condition.
-    reads_as_err c.args.phrases.limited _ _ c.from_residual-in_err-arguments-in-Lock.result c.in_err-arguments-in-Lock.field-0.0 m c.args.tokens.now _ _ c.from_residual-in_err-arguments-in-Lock.ensures.1
-    (refuses_from c.args.phrases.limited c.in_err-arguments-in-Lock.field-0.0 _ _ (at_keyword m o condition c.args.keyword keyword.Lock (tokens_seen c.args.tokens.now) c.in-Lock.is ∙ blank_opens m o condition (Of keyword.Lock) (LockWanted true) (tokens_seen c.args.tokens.now) (tokens_seen c.args.behind.now) c.requires.blank refl)
-    (c.in_err-arguments-in-Lock.ensures.reads tt m (room_for c.args.phrases.limited m c.args.tokens.now c.args.behind.now c.requires.room r) (c.requires.other (ap (λ (k : Keyword). may_be_bare (Of k)) c.in-Lock.is)) o condition (Of keyword.Lock) []))
+    reads_as_err c.args.phrases.limited _ _ c.from_residual-in_err-arguments-in-Lock.result c.in_err-arguments-in-Lock.field-0.0 m c.args.tokens.now _ _
+    c.from_residual-in_err-arguments-in-Lock.ensures.1
+    (refuses_from c.args.phrases.limited c.in_err-arguments-in-Lock.field-0.0 _ _
+    (at_keyword m o condition c.args.keyword keyword.Lock (tokens_seen c.args.tokens.now) c.in-Lock.is ∙
+    blank_opens m o condition (Of keyword.Lock) (LockWanted true) (tokens_seen c.args.tokens.now) (tokens_seen c.args.behind.now) c.requires.blank refl)
+    (c.in_err-arguments-in-Lock.ensures.reads tt m (room_for c.args.phrases.limited m c.args.tokens.now c.args.behind.now c.requires.room r)
+    (c.requires.other (ap (λ (k : Keyword). may_be_bare (Of k)) c.in-Lock.is)) o condition (Of keyword.Lock) []))
 
 pub returns-in_err-arguments-in-Kill-clause-reads : goal.returns-in_err-arguments-in-Kill-clause-reads
 returns-in_err-arguments-in-Kill-clause-reads c = λ m r o condition.
-    reads_as_err c.args.phrases.limited _ _ c.from_residual-in_err-arguments-in-Kill.result c.in_err-arguments-in-Kill.field-0.0 m c.args.tokens.now _ _ c.from_residual-in_err-arguments-in-Kill.ensures.1
-    (refuses_from c.args.phrases.limited c.in_err-arguments-in-Kill.field-0.0 _ _ (at_keyword m o condition c.args.keyword keyword.Kill (tokens_seen c.args.tokens.now) c.in-Kill.is ∙ blank_opens m o condition (Of keyword.Kill) (KillWanted true) (tokens_seen c.args.tokens.now) (tokens_seen c.args.behind.now) c.requires.blank refl)
-    (c.in_err-arguments-in-Kill.ensures.reads tt m (room_for c.args.phrases.limited m c.args.tokens.now c.args.behind.now c.requires.room r) (c.requires.other (ap (λ (k : Keyword). may_be_bare (Of k)) c.in-Kill.is)) o condition (Of keyword.Kill) []))
+    reads_as_err c.args.phrases.limited _ _ c.from_residual-in_err-arguments-in-Kill.result c.in_err-arguments-in-Kill.field-0.0 m c.args.tokens.now _ _
+    c.from_residual-in_err-arguments-in-Kill.ensures.1
+    (refuses_from c.args.phrases.limited c.in_err-arguments-in-Kill.field-0.0 _ _
+    (at_keyword m o condition c.args.keyword keyword.Kill (tokens_seen c.args.tokens.now) c.in-Kill.is ∙
+    blank_opens m o condition (Of keyword.Kill) (KillWanted true) (tokens_seen c.args.tokens.now) (tokens_seen c.args.behind.now) c.requires.blank refl)
+    (c.in_err-arguments-in-Kill.ensures.reads tt m (room_for c.args.phrases.limited m c.args.tokens.now c.args.behind.now c.requires.room r)
+    (c.requires.other (ap (λ (k : Keyword). may_be_bare (Of k)) c.in-Kill.is)) o condition (Of keyword.Kill) []))
 
 pub returns-in_err-arguments-in-Merge-clause-reads : goal.returns-in_err-arguments-in-Merge-clause-reads
 returns-in_err-arguments-in-Merge-clause-reads c = λ m r o condition.
-    reads_as_err c.args.phrases.limited _ _ c.from_residual-in_err-arguments-in-Merge.result c.in_err-arguments-in-Merge.field-0.0 m c.args.tokens.now _ _ c.from_residual-in_err-arguments-in-Merge.ensures.1
-    (refuses_from c.args.phrases.limited c.in_err-arguments-in-Merge.field-0.0 _ _ (at_keyword m o condition c.args.keyword keyword.Merge (tokens_seen c.args.tokens.now) c.in-Merge.is ∙ blank_opens m o condition (Of keyword.Merge) MergeInto (tokens_seen c.args.tokens.now) (tokens_seen c.args.behind.now) c.requires.blank refl)
+    reads_as_err c.args.phrases.limited _ _ c.from_residual-in_err-arguments-in-Merge.result c.in_err-arguments-in-Merge.field-0.0 m c.args.tokens.now _ _
+    c.from_residual-in_err-arguments-in-Merge.ensures.1
+    (refuses_from c.args.phrases.limited c.in_err-arguments-in-Merge.field-0.0 _ _
+    (at_keyword m o condition c.args.keyword keyword.Merge (tokens_seen c.args.tokens.now) c.in-Merge.is ∙
+    blank_opens m o condition (Of keyword.Merge) MergeInto (tokens_seen c.args.tokens.now) (tokens_seen c.args.behind.now) c.requires.blank refl)
     (c.in_err-arguments-in-Merge.ensures.reads tt m (room_for c.args.phrases.limited m c.args.tokens.now c.args.behind.now c.requires.room r) tt o condition (Of keyword.Merge) []))
 
 pub returns-in_err-arguments-in-If-clause-reads : goal.returns-in_err-arguments-in-If-clause-reads
 returns-in_err-arguments-in-If-clause-reads c = λ m r o condition.
     reads_as_err c.args.phrases.limited _ _ c.from_residual-in_err-arguments-in-If.result c.in_err-arguments-in-If.field-0.0 m c.args.tokens.now _ _ c.from_residual-in_err-arguments-in-If.ensures.1
-    (refuses_from c.args.phrases.limited c.in_err-arguments-in-If.field-0.0 _ _ (at_keyword m o condition c.args.keyword keyword.If (tokens_seen c.args.tokens.now) c.in-If.is ∙ blank_opens m o condition (Of keyword.If) (ValueWanted true) (tokens_seen c.args.tokens.now) (tokens_seen c.args.behind.now) c.requires.blank refl)
-    (c.in_err-arguments-in-If.ensures.reads true m (room_for c.args.phrases.limited m c.args.tokens.now c.args.behind.now c.requires.room r) (inr (c.requires.other (ap (λ (k : Keyword). may_be_bare (Of k)) c.in-If.is))) o condition (Of keyword.If) []))
+    (refuses_from c.args.phrases.limited c.in_err-arguments-in-If.field-0.0 _ _
+    (at_keyword m o condition c.args.keyword keyword.If (tokens_seen c.args.tokens.now) c.in-If.is ∙
+    blank_opens m o condition (Of keyword.If) (ValueWanted true) (tokens_seen c.args.tokens.now) (tokens_seen c.args.behind.now) c.requires.blank refl)
+    (c.in_err-arguments-in-If.ensures.reads true m (room_for c.args.phrases.limited m c.args.tokens.now c.args.behind.now c.requires.room r)
+    (inr (c.requires.other (ap (λ (k : Keyword). may_be_bare (Of k)) c.in-If.is))) o condition (Of keyword.If) []))
 
 pub returns-in_err-arguments-in-Do-clause-reads : goal.returns-in_err-arguments-in-Do-clause-reads
 returns-in_err-arguments-in-Do-clause-reads c = λ m r o condition.
     reads_as_err c.args.phrases.limited _ _ c.from_residual-in_err-arguments-in-Do.result c.in_err-arguments-in-Do.field-0.0 m c.args.tokens.now _ _ c.from_residual-in_err-arguments-in-Do.ensures.1
-    (refuses_from c.args.phrases.limited c.in_err-arguments-in-Do.field-0.0 _ _ (at_keyword m o condition c.args.keyword keyword.Do (tokens_seen c.args.tokens.now) c.in-Do.is ∙ blank_opens m o condition (Of keyword.Do) (EntryWanted Calls true) (tokens_seen c.args.tokens.now) (tokens_seen c.args.behind.now) c.requires.blank refl)
-    (c.in_err-arguments-in-Do.ensures.reads tt m (room_for c.args.phrases.limited m c.args.tokens.now c.args.behind.now c.requires.room r) (c.requires.other (ap (λ (k : Keyword). may_be_bare (Of k)) c.in-Do.is)) o condition (Of keyword.Do) []))
+    (refuses_from c.args.phrases.limited c.in_err-arguments-in-Do.field-0.0 _ _
+    (at_keyword m o condition c.args.keyword keyword.Do (tokens_seen c.args.tokens.now) c.in-Do.is ∙
+    blank_opens m o condition (Of keyword.Do) (EntryWanted Calls true) (tokens_seen c.args.tokens.now) (tokens_seen c.args.behind.now) c.requires.blank refl)
+    (c.in_err-arguments-in-Do.ensures.reads tt m (room_for c.args.phrases.limited m c.args.tokens.now c.args.behind.now c.requires.room r)
+    (c.requires.other (ap (λ (k : Keyword). may_be_bare (Of k)) c.in-Do.is)) o condition (Of keyword.Do) []))
 
 pub returns-in_err-arguments-in-Goto-clause-reads : goal.returns-in_err-arguments-in-Goto-clause-reads
 returns-in_err-arguments-in-Goto-clause-reads c = λ m r o condition.
-    reads_as_err c.args.phrases.limited _ _ c.from_residual-in_err-arguments-in-Goto.result c.in_err-arguments-in-Goto.field-0.0 m c.args.tokens.now _ _ c.from_residual-in_err-arguments-in-Goto.ensures.1
-    (refuses_from c.args.phrases.limited c.in_err-arguments-in-Goto.field-0.0 _ _ (at_keyword m o condition c.args.keyword keyword.Goto (tokens_seen c.args.tokens.now) c.in-Goto.is ∙ blank_opens m o condition (Of keyword.Goto) (EntryWanted Jumps true) (tokens_seen c.args.tokens.now) (tokens_seen c.args.behind.now) c.requires.blank refl)
+    reads_as_err c.args.phrases.limited _ _ c.from_residual-in_err-arguments-in-Goto.result c.in_err-arguments-in-Goto.field-0.0 m c.args.tokens.now _ _
+    c.from_residual-in_err-arguments-in-Goto.ensures.1
+    (refuses_from c.args.phrases.limited c.in_err-arguments-in-Goto.field-0.0 _ _
+    (at_keyword m o condition c.args.keyword keyword.Goto (tokens_seen c.args.tokens.now) c.in-Goto.is ∙
+    blank_opens m o condition (Of keyword.Goto) (EntryWanted Jumps true) (tokens_seen c.args.tokens.now) (tokens_seen c.args.behind.now) c.requires.blank refl)
     (c.in_err-arguments-in-Goto.ensures.reads tt m (room_for c.args.phrases.limited m c.args.tokens.now c.args.behind.now c.requires.room r) tt o condition (Of keyword.Goto) []))
 
 pub returns-in_err-arguments-in-New-clause-reads : goal.returns-in_err-arguments-in-New-clause-reads
 returns-in_err-arguments-in-New-clause-reads c = λ m r o condition.
     reads_as_err c.args.phrases.limited _ _ c.from_residual-in_err-arguments-in-New.result c.in_err-arguments-in-New.field-0.0 m c.args.tokens.now _ _ c.from_residual-in_err-arguments-in-New.ensures.1
-    (refuses_from c.args.phrases.limited c.in_err-arguments-in-New.field-0.0 _ _ (at_keyword m o condition c.args.keyword keyword.New (tokens_seen c.args.tokens.now) c.in-New.is ∙ blank_opens m o condition (Of keyword.New) (NewWanted true) (tokens_seen c.args.tokens.now) (tokens_seen c.args.behind.now) c.requires.blank refl)
-    (c.in_err-arguments-in-New.ensures.reads tt m (room_for c.args.phrases.limited m c.args.tokens.now c.args.behind.now c.requires.room r) (c.requires.other (ap (λ (k : Keyword). may_be_bare (Of k)) c.in-New.is)) o condition (Of keyword.New) []))
+    (refuses_from c.args.phrases.limited c.in_err-arguments-in-New.field-0.0 _ _
+    (at_keyword m o condition c.args.keyword keyword.New (tokens_seen c.args.tokens.now) c.in-New.is ∙
+    blank_opens m o condition (Of keyword.New) (NewWanted true) (tokens_seen c.args.tokens.now) (tokens_seen c.args.behind.now) c.requires.blank refl)
+    (c.in_err-arguments-in-New.ensures.reads tt m (room_for c.args.phrases.limited m c.args.tokens.now c.args.behind.now c.requires.room r)
+    (c.requires.other (ap (λ (k : Keyword). may_be_bare (Of k)) c.in-New.is)) o condition (Of keyword.New) []))
 
 pub returns-in_err-arguments-in-Open-clause-reads : goal.returns-in_err-arguments-in-Open-clause-reads
 returns-in_err-arguments-in-Open-clause-reads c = λ m r o condition.
-    reads_as_err c.args.phrases.limited _ _ c.from_residual-in_err-arguments-in-Open.result c.in_err-arguments-in-Open.field-0.0 m c.args.tokens.now _ _ c.from_residual-in_err-arguments-in-Open.ensures.1
-    (refuses_from c.args.phrases.limited c.in_err-arguments-in-Open.field-0.0 _ _ (at_keyword m o condition c.args.keyword keyword.Open (tokens_seen c.args.tokens.now) c.in-Open.is ∙ blank_opens m o condition (Of keyword.Open) DeviceWanted (tokens_seen c.args.tokens.now) (tokens_seen c.args.behind.now) c.requires.blank refl)
+    reads_as_err c.args.phrases.limited _ _ c.from_residual-in_err-arguments-in-Open.result c.in_err-arguments-in-Open.field-0.0 m c.args.tokens.now _ _
+    c.from_residual-in_err-arguments-in-Open.ensures.1
+    (refuses_from c.args.phrases.limited c.in_err-arguments-in-Open.field-0.0 _ _
+    (at_keyword m o condition c.args.keyword keyword.Open (tokens_seen c.args.tokens.now) c.in-Open.is ∙
+    blank_opens m o condition (Of keyword.Open) DeviceWanted (tokens_seen c.args.tokens.now) (tokens_seen c.args.behind.now) c.requires.blank refl)
     (c.in_err-arguments-in-Open.ensures.reads tt m (room_for c.args.phrases.limited m c.args.tokens.now c.args.behind.now c.requires.room r) tt o condition (Of keyword.Open) []))
 
 pub returns-in_err-arguments-in-Use-clause-reads : goal.returns-in_err-arguments-in-Use-clause-reads
 returns-in_err-arguments-in-Use-clause-reads c = λ m r o condition.
     reads_as_err c.args.phrases.limited _ _ c.from_residual-in_err-arguments-in-Use.result c.in_err-arguments-in-Use.field-0.0 m c.args.tokens.now _ _ c.from_residual-in_err-arguments-in-Use.ensures.1
-    (refuses_from c.args.phrases.limited c.in_err-arguments-in-Use.field-0.0 _ _ (at_keyword m o condition c.args.keyword keyword.Use (tokens_seen c.args.tokens.now) c.in-Use.is ∙ blank_opens m o condition (Of keyword.Use) (ValueWanted false) (tokens_seen c.args.tokens.now) (tokens_seen c.args.behind.now) c.requires.blank refl)
+    (refuses_from c.args.phrases.limited c.in_err-arguments-in-Use.field-0.0 _ _
+    (at_keyword m o condition c.args.keyword keyword.Use (tokens_seen c.args.tokens.now) c.in-Use.is ∙
+    blank_opens m o condition (Of keyword.Use) (ValueWanted false) (tokens_seen c.args.tokens.now) (tokens_seen c.args.behind.now) c.requires.blank refl)
     (c.in_err-arguments-in-Use.ensures.reads false m (room_for c.args.phrases.limited m c.args.tokens.now c.args.behind.now c.requires.room r) (inl refl) o condition (Of keyword.Use) []))
 
 pub returns-in_err-arguments-in-Close-clause-reads : goal.returns-in_err-arguments-in-Close-clause-reads
 returns-in_err-arguments-in-Close-clause-reads c = λ m r o condition.
-    reads_as_err c.args.phrases.limited _ _ c.from_residual-in_err-arguments-in-Close.result c.in_err-arguments-in-Close.field-0.0 m c.args.tokens.now _ _ c.from_residual-in_err-arguments-in-Close.ensures.1
-    (refuses_from c.args.phrases.limited c.in_err-arguments-in-Close.field-0.0 _ _ (at_keyword m o condition c.args.keyword keyword.Close (tokens_seen c.args.tokens.now) c.in-Close.is ∙ blank_opens m o condition (Of keyword.Close) (ValueWanted false) (tokens_seen c.args.tokens.now) (tokens_seen c.args.behind.now) c.requires.blank refl)
+    reads_as_err c.args.phrases.limited _ _ c.from_residual-in_err-arguments-in-Close.result c.in_err-arguments-in-Close.field-0.0 m c.args.tokens.now _ _
+    c.from_residual-in_err-arguments-in-Close.ensures.1
+    (refuses_from c.args.phrases.limited c.in_err-arguments-in-Close.field-0.0 _ _
+    (at_keyword m o condition c.args.keyword keyword.Close (tokens_seen c.args.tokens.now) c.in-Close.is ∙
+    blank_opens m o condition (Of keyword.Close) (ValueWanted false) (tokens_seen c.args.tokens.now) (tokens_seen c.args.behind.now) c.requires.blank refl)
     (c.in_err-arguments-in-Close.ensures.reads false m (room_for c.args.phrases.limited m c.args.tokens.now c.args.behind.now c.requires.room r) (inl refl) o condition (Of keyword.Close) []))
 
 pub returns-in_err-arguments-in-Read-clause-reads : goal.returns-in_err-arguments-in-Read-clause-reads
 returns-in_err-arguments-in-Read-clause-reads c = λ m r o condition.
-    reads_as_err c.args.phrases.limited _ _ c.from_residual-in_err-arguments-in-Read.result c.in_err-arguments-in-Read.field-0.0 m c.args.tokens.now _ _ c.from_residual-in_err-arguments-in-Read.ensures.1
-    (refuses_from c.args.phrases.limited c.in_err-arguments-in-Read.field-0.0 _ _ (at_keyword m o condition c.args.keyword keyword.Read (tokens_seen c.args.tokens.now) c.in-Read.is ∙ blank_opens m o condition (Of keyword.Read) (OutputWanted Reads) (tokens_seen c.args.tokens.now) (tokens_seen c.args.behind.now) c.requires.blank refl)
+    reads_as_err c.args.phrases.limited _ _ c.from_residual-in_err-arguments-in-Read.result c.in_err-arguments-in-Read.field-0.0 m c.args.tokens.now _ _
+    c.from_residual-in_err-arguments-in-Read.ensures.1
+    (refuses_from c.args.phrases.limited c.in_err-arguments-in-Read.field-0.0 _ _
+    (at_keyword m o condition c.args.keyword keyword.Read (tokens_seen c.args.tokens.now) c.in-Read.is ∙
+    blank_opens m o condition (Of keyword.Read) (OutputWanted Reads) (tokens_seen c.args.tokens.now) (tokens_seen c.args.behind.now) c.requires.blank refl)
     (c.in_err-arguments-in-Read.ensures.reads tt m (room_for c.args.phrases.limited m c.args.tokens.now c.args.behind.now c.requires.room r) tt o condition (Of keyword.Read) []))
 
 pub returns-in_ok-argument-in-TStart-clause-reads : goal.returns-in_ok-argument-in-TStart-clause-reads
@@ -327,6 +377,9 @@ returns-in_ok-argument-in-TStart-clause-reads c = λ m r o condition.
 
 pub returns-in_err-argument-in-TStart-clause-reads : goal.returns-in_err-argument-in-TStart-clause-reads
 returns-in_err-argument-in-TStart-clause-reads c = λ m r o condition.
-    reads_as_err c.args.phrases.limited _ _ c.from_residual-in_err-argument-in-TStart.result c.in_err-argument-in-TStart.field-0.0 m c.args.tokens.now _ _ c.from_residual-in_err-argument-in-TStart.ensures.1
-    (refuses_from c.args.phrases.limited c.in_err-argument-in-TStart.field-0.0 _ _ (at_keyword m o condition c.args.keyword keyword.TStart (tokens_seen c.args.tokens.now) c.in-TStart.is ∙ blank_opens m o condition (Of keyword.TStart) RestartWanted (tokens_seen c.args.tokens.now) (tokens_seen c.args.behind.now) c.requires.blank refl)
+    reads_as_err c.args.phrases.limited _ _ c.from_residual-in_err-argument-in-TStart.result c.in_err-argument-in-TStart.field-0.0 m c.args.tokens.now _ _
+    c.from_residual-in_err-argument-in-TStart.ensures.1
+    (refuses_from c.args.phrases.limited c.in_err-argument-in-TStart.field-0.0 _ _
+    (at_keyword m o condition c.args.keyword keyword.TStart (tokens_seen c.args.tokens.now) c.in-TStart.is ∙
+    blank_opens m o condition (Of keyword.TStart) RestartWanted (tokens_seen c.args.tokens.now) (tokens_seen c.args.behind.now) c.requires.blank refl)
     (c.in_err-argument-in-TStart.ensures.reads m o condition (Of keyword.TStart) []))

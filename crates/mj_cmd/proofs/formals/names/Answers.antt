@@ -20,7 +20,8 @@ commas-init c = record {
       unclosed m label (tokens_seen c.args.tokens.now) c.in-None.ensures
       ∙ ap (λ (xs : List (List ℕ)). run m (tokens_seen c.args.tokens.now) (At (FormalWanted label xs))) (sym (c.deref.ensures.value ∙ c.new-names.ensures.items))
       ∙ h.2
-      ∙ ap (λ (xs : List (List ℕ)). run m (tokens_seen c.in_ok-first-in-None.rest.now) (At (FormalBehind label xs))) (h.1 refl ∙ ap (λ (xs : List (List ℕ)). xs ++ c.in_ok-first-in-None.first ∷ []) c.deref.ensures.value ∙ sym c.in_ok-added-in-None.ensures);
+      ∙ ap (λ (xs : List (List ℕ)). run m (tokens_seen c.in_ok-first-in-None.rest.now) (At (FormalBehind label xs))) (h.1 refl ∙
+      ap (λ (xs : List (List ℕ)). xs ++ c.in_ok-first-in-None.first ∷ []) c.deref.ensures.value ∙ sym c.in_ok-added-in-None.ensures);
   falls = c.in_ok-first-in-None.ensures.shorter;
 }
 
@@ -32,6 +33,7 @@ commas-preserved c = record {
       ∙ comma_goes m label c.commas.names.items (tokens_seen c.commas.rest.now) (tokens_seen c.in-Some-behind_comma.behind.now) c.in-Some-behind_comma.ensures.0
       ∙ ap (λ (xs : List (List ℕ)). run m (tokens_seen c.in-Some-behind_comma.behind.now) (At (FormalWanted label xs))) (sym c.deref-in-Some-behind_comma.ensures.value)
       ∙ h.2
-      ∙ ap (λ (xs : List (List ℕ)). run m (tokens_seen c.in_ok-name-in-None.behind.now) (At (FormalBehind label xs))) (h.1 refl ∙ ap (λ (xs : List (List ℕ)). xs ++ c.in_ok-name-in-None.name ∷ []) c.deref-in-Some-behind_comma.ensures.value ∙ sym c.in_ok-added-in-None-2.ensures);
+      ∙ ap (λ (xs : List (List ℕ)). run m (tokens_seen c.in_ok-name-in-None.behind.now) (At (FormalBehind label xs))) (h.1 refl ∙
+      ap (λ (xs : List (List ℕ)). xs ++ c.in_ok-name-in-None.name ∷ []) c.deref-in-Some-behind_comma.ensures.value ∙ sym c.in_ok-added-in-None-2.ensures);
   falls = omega (arith, c.in_ok-name-in-None.ensures.shorter, c.in-Some-behind_comma.ensures.1, c.commas.invariant.falls);
 }

@@ -15,7 +15,8 @@ pub record SoFar (Goes : Type 0) (Some : Type 0) (Falls : Type 0) : Type 0 where
 
 abbrev pub invariant-commas : goal.invariant-commas
 invariant-commas l = SoFar
-    ((m : Limits) → (new : NameList) → (o : Sentence) → (condition : Option Expr) → (k : Verb) → (done : List Part) → Went l.phrases.limited (with_commas name_parts l.names.items) m l.tokens (name_wanted new) l.rest (name_behind new) o condition k done)
+    ((m : Limits) → (new : NameList) → (o : Sentence) → (condition : Option Expr) → (k : Verb) → (done : List Part) →
+    Went l.phrases.limited (with_commas name_parts l.names.items) m l.tokens (name_wanted new) l.rest (name_behind new) o condition k done)
     (1 ≤ length l.names.items)
     (length l.rest ≤ length l.tokens)
 

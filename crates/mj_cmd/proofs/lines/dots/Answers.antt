@@ -17,7 +17,8 @@ dots-preserved c = record {
   goes = λ m o.
       c.dots.invariant.goes m o
       ∙ dot_passes m o c.dots.dots (tokens_seen c.dots.rest.now) (tokens_seen c.in-Some.behind.now) c.in-Some.ensures.0
-      ∙ blanks_pass m (with_dots (c.dots.dots + 1) o) c.behind_blanks-in-Some.result.0 (tokens_seen c.in-Some.behind.now) (tokens_seen c.behind_blanks-in-Some.result.1.now) c.behind_blanks-in-Some.ensures.blanks;
+      ∙ blanks_pass m (with_dots (c.dots.dots + 1) o) c.behind_blanks-in-Some.result.0 (tokens_seen c.in-Some.behind.now)
+      (tokens_seen c.behind_blanks-in-Some.result.1.now) c.behind_blanks-in-Some.ensures.blanks;
   bare = c.behind_blanks-in-Some.ensures.none;
   falls = omega (arith, c.behind_blanks-in-Some.ensures.count, c.in-Some.ensures.1, c.dots.invariant.falls);
 }

@@ -2,7 +2,7 @@ use Rattle.std.proofs.Common.{refl}
 use Rattle.mj_ast.specs.Trees.{line_of}
 use Rattle.mj_expr.specs.Reads.{limits}
 use Rattle.mj_lex.specs.Seen.{tokens_seen}
-use Rattle.mj_expr.specs.declared.stop.Stop.TheVariants as stop
+use Rattle.mj_expr.specs.declared.stop.ParseError.TheVariants as stop
 use Rattle.mj_cmd.proofs.Said.{read_as, refused_as}
 use Rattle.mj_cmd.proofs.lines.line.Goals as goal
 

@@ -2,7 +2,8 @@ use Rattle.std.proofs.Common.{◌∙◌, refl, [], ◌∷◌, ◌++◌, sym, ap,
 use Rattle.mj_ast.specs.Trees.{step_of}
 use Rattle.mj_lex.specs.Seen.{tokens_seen}
 use Rattle.mj_line.specs.Machine.{with_clause}
-use Rattle.mj_cmd.proofs.Follow.{ends_as_err, refuses_from, room_for, written_pushed, blanks_skip, blanks_stay, no_steps, more_steps, unknown_stuck, known_goes, with_steps}
+use Rattle.mj_cmd.proofs.Follow.{ends_as_err, refuses_from, room_for}
+use Rattle.mj_cmd.proofs.FollowLines.{written_pushed, blanks_skip, blanks_stay, no_steps, more_steps, unknown_stuck, known_goes, with_steps}
 use Rattle.mj_cmd.proofs.lines.steps.Goals as goal
 
 pub steps-init : goal.steps-init
@@ -29,20 +30,26 @@ returns-in_err-read-in-Some-verb_of c = λ m r o.
     let h = c.steps.invariant.goes m r o in
     ends_as_err c.args.phrases.limited _ c.from_residual.result c.in_err-read-in-Some-verb_of.field-0.0 m c.args.tokens.now _ _ c.from_residual.ensures.1
     (refuses_from c.args.phrases.limited c.in_err-read-in-Some-verb_of.field-0.0 _ _
-    (h.2 ∙ known_goes m (with_steps o h.0) (tokens_seen c.steps.rest.now) (tokens_seen c.in-Some.behind.now) c.in-Some.word.now c.in-Some-verb_of.verb c.in-Some.ensures.0 (sym c.verb_of.ensures ∙ c.in-Some-verb_of.is))
-    (c.in_err-read-in-Some-verb_of.ensures.reads m (room_for c.args.phrases.limited m c.args.tokens.now c.in-Some.behind.now (omega (arith, c.in-Some.ensures.1, c.steps.invariant.falls)) r) (with_steps o h.0)))
+    (h.2 ∙ known_goes m (with_steps o h.0) (tokens_seen c.steps.rest.now) (tokens_seen c.in-Some.behind.now) c.in-Some.word.now c.in-Some-verb_of.verb
+    c.in-Some.ensures.0 (sym c.verb_of.ensures ∙ c.in-Some-verb_of.is))
+    (c.in_err-read-in-Some-verb_of.ensures.reads m (room_for c.args.phrases.limited m c.args.tokens.now c.in-Some.behind.now
+    (omega (arith, c.in-Some.ensures.1, c.steps.invariant.falls)) r) (with_steps o h.0)))
 
 pub steps-preserved : goal.steps-preserved
 steps-preserved c = record {
   goes = λ m r o.
       let h = c.steps.invariant.goes m r o in
-      let a = c.in_ok-read-in-Some-verb_of.ensures.reads m (room_for c.args.phrases.limited m c.args.tokens.now c.in-Some.behind.now (omega (arith, c.in-Some.ensures.1, c.steps.invariant.falls)) r) (with_steps o h.0) in (
+      let a = c.in_ok-read-in-Some-verb_of.ensures.reads m (room_for c.args.phrases.limited m c.args.tokens.now c.in-Some.behind.now
+      (omega (arith, c.in-Some.ensures.1, c.steps.invariant.falls)) r) (with_steps o h.0) in (
         h.0 ++ a.0 ∷ [],
         λ l. written_pushed c.steps.steps.items c.added.new.list.items c.in_ok-read-in-Some-verb_of.read h.0 a.0 c.in_ok-added-in-Some-verb_of.ensures (h.1 l) (a.1 l),
         h.2
-            ∙ known_goes m (with_steps o h.0) (tokens_seen c.steps.rest.now) (tokens_seen c.in-Some.behind.now) c.in-Some.word.now c.in-Some-verb_of.verb c.in-Some.ensures.0 (sym c.verb_of.ensures ∙ c.in-Some-verb_of.is)
+            ∙ known_goes m (with_steps o h.0) (tokens_seen c.steps.rest.now) (tokens_seen c.in-Some.behind.now) c.in-Some.word.now c.in-Some-verb_of.verb
+            c.in-Some.ensures.0 (sym c.verb_of.ensures ∙ c.in-Some-verb_of.is)
             ∙ a.2
-            ∙ blanks_skip m (with_clause (with_steps o h.0) a.0) c.behind_blanks-in-Some-verb_of.result.0 (tokens_seen c.in_ok-read-in-Some-verb_of.behind.now) (tokens_seen c.behind_blanks-in-Some-verb_of.result.1.now) c.in_ok-read-in-Some-verb_of.ensures.parted c.behind_blanks-in-Some-verb_of.ensures.none c.behind_blanks-in-Some-verb_of.ensures.blanks
+            ∙ blanks_skip m (with_clause (with_steps o h.0) a.0) c.behind_blanks-in-Some-verb_of.result.0 (tokens_seen c.in_ok-read-in-Some-verb_of.behind.now)
+            (tokens_seen c.behind_blanks-in-Some-verb_of.result.1.now) c.in_ok-read-in-Some-verb_of.ensures.parted
+            c.behind_blanks-in-Some-verb_of.ensures.none c.behind_blanks-in-Some-verb_of.ensures.blanks
             ∙ more_steps m o h.0 a.0 (tokens_seen c.behind_blanks-in-Some-verb_of.result.1.now),
       );
   bare = c.behind_blanks-in-Some-verb_of.ensures.none;

@@ -15,7 +15,14 @@ pub record SoFar (Goes : Type 0) (Bare : Type 0) (Falls : Type 0) : Type 0 where
 
 abbrev pub invariant-steps : goal.invariant-steps
 invariant-steps l = SoFar
-    ((m : Limits) → HasRoom l.phrases.limited m l.tokens → (o : Sentence) → (ss : List Clause) × (l.phrases.limited ≡ true → AreWritten ss (map step_of l.steps.items)) × (run m (tokens_seen l.tokens) (At (Behind (record { line = o; gap = 0; comment = 0 }))) ≡ run m (tokens_seen l.rest) (At (Behind (record { line = record { label = o.label; formals = o.formals; level = o.level; clauses = o.clauses ++ ss }; gap = 0; comment = 0 })))))
+    ((m : Limits) → HasRoom l.phrases.limited m l.tokens → (o : Sentence) →
+    (ss : List Clause) × (l.phrases.limited ≡ true → AreWritten ss (map step_of l.steps.items)) ×
+    (run m (tokens_seen l.tokens) (At (Behind (record { line = o; gap = 0; comment = 0 }))) ≡
+    run m (tokens_seen l.rest) (At (Behind (record {
+      line = record { label = o.label; formals = o.formals; level = o.level; clauses = o.clauses ++ ss };
+      gap = 0;
+      comment = 0;
+    })))))
     (HasNoBlank (tokens_seen l.rest))
     (length l.rest ≤ length l.tokens)
 

@@ -17,7 +17,9 @@ pub record SoFar (Goes : Type 0) (Some : Type 0) (Falls : Type 0) : Type 0 where
 
 abbrev pub invariant-commas : goal.invariant-commas
 invariant-commas g l = SoFar
-    ((q : g.T.Item.lists) → (m : Limits) → HasRoom l.phrases.limited m l.tokens → g.T.Item.begins q (tokens_seen l.tokens) → (o : Sentence) → (condition : Option Expr) → (k : Verb) → (done : List Part) → WentAs l.phrases.limited (λ ps. AreItems g.T.Item.spells ps l.items.items) m l.tokens (g.T.Item.first_at q) l.rest (g.T.Item.behind_at q) o condition k done)
+    ((q : g.T.Item.lists) → (m : Limits) → HasRoom l.phrases.limited m l.tokens → g.T.Item.begins q (tokens_seen l.tokens) → (o : Sentence) →
+    (condition : Option Expr) → (k : Verb) → (done : List Part) →
+    WentAs l.phrases.limited (λ ps. AreItems g.T.Item.spells ps l.items.items) m l.tokens (g.T.Item.first_at q) l.rest (g.T.Item.behind_at q) o condition k done)
     (1 ≤ length l.items.items)
     (length l.rest ≤ length l.tokens)
 

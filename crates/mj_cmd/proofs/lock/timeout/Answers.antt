@@ -16,10 +16,21 @@ returns-in-None-clause-reads c = λ m r o condition k done. went_untimed c.args.
 pub returns-in_err-timeout-in-Some-clause-reads : goal.returns-in_err-timeout-in-Some-clause-reads
 returns-in_err-timeout-in-Some-clause-reads c = λ m r o condition k done.
     reads_err c.args.phrases.limited _ _ c.from_residual.result c.in_err-timeout-in-Some.field-0.0 m c.args.tokens.now _ _ c.from_residual.ensures.1
-    (fails_then c.args.phrases.limited (Put Colon ∷ []) c.in_err-timeout-in-Some.field-0.0 m c.args.tokens.now LockNamed c.in-Some.behind.now LockTimed o condition k done (went_token c.args.phrases.limited (Signed Colon) (Put Colon) m c.args.tokens.now LockNamed c.in-Some.behind.now LockTimed o condition k done c.in-Some.ensures.0 refl refl)
-    (λ d. fails_enter c.args.phrases.limited c.in_err-timeout-in-Some.field-0.0 m c.in-Some.behind.now LockTimed (AnExpr 0 LockEnd) o condition k d tt refl (timed_untaken (tokens_seen c.in-Some.behind.now)) (inl refl) (c.in_err-timeout-in-Some.ensures.reads m (room_for c.args.phrases.limited m c.args.tokens.now c.in-Some.behind.now (omega (arith, c.in-Some.ensures.1)) r) (Argument o condition k d (AnExpr 0 LockEnd)) refl refl)))
+    (fails_then c.args.phrases.limited (Put Colon ∷ []) c.in_err-timeout-in-Some.field-0.0 m c.args.tokens.now LockNamed c.in-Some.behind.now LockTimed o
+    condition k done (went_token c.args.phrases.limited (Signed Colon) (Put Colon) m c.args.tokens.now LockNamed c.in-Some.behind.now LockTimed o condition
+    k done c.in-Some.ensures.0 refl refl)
+    (λ d. fails_enter c.args.phrases.limited c.in_err-timeout-in-Some.field-0.0 m c.in-Some.behind.now LockTimed (AnExpr 0 LockEnd) o condition k d tt refl
+    (timed_untaken (tokens_seen c.in-Some.behind.now)) (inl refl)
+    (c.in_err-timeout-in-Some.ensures.reads m (room_for c.args.phrases.limited m c.args.tokens.now c.in-Some.behind.now (omega (arith, c.in-Some.ensures.1))
+    r) (Argument o condition k d (AnExpr 0 LockEnd)) refl refl)))
 
 pub returns-in_ok-timeout-in-Some-clause-reads : goal.returns-in_ok-timeout-in-Some-clause-reads
 returns-in_ok-timeout-in-Some-clause-reads c = λ m r o condition k done.
-    went_then c.args.phrases.limited (Put Colon ∷ []) (Text 0 (expr_of c.in_ok-timeout-in-Some.timeout) ∷ []) m c.args.tokens.now LockNamed c.in-Some.behind.now LockTimed c.in_ok-timeout-in-Some.rest.now LockEnd o condition k done (went_token c.args.phrases.limited (Signed Colon) (Put Colon) m c.args.tokens.now LockNamed c.in-Some.behind.now LockTimed o condition k done c.in-Some.ensures.0 refl refl)
-    (λ d. went_text c.args.phrases.limited 0 (expr_of c.in_ok-timeout-in-Some.timeout) m c.in-Some.behind.now LockTimed c.in_ok-timeout-in-Some.rest.now LockEnd o condition k d refl (timed_untaken (tokens_seen c.in-Some.behind.now)) (inl refl) (c.in_ok-timeout-in-Some.ensures.reads m (room_for c.args.phrases.limited m c.args.tokens.now c.in-Some.behind.now (omega (arith, c.in-Some.ensures.1)) r) (Argument o condition k d (AnExpr 0 LockEnd)) refl refl))
+    went_then c.args.phrases.limited (Put Colon ∷ []) (Text 0 (expr_of c.in_ok-timeout-in-Some.timeout) ∷
+    []) m c.args.tokens.now LockNamed c.in-Some.behind.now LockTimed c.in_ok-timeout-in-Some.rest.now LockEnd o condition k done
+    (went_token c.args.phrases.limited (Signed Colon) (Put Colon) m c.args.tokens.now LockNamed c.in-Some.behind.now LockTimed o condition k done
+    c.in-Some.ensures.0 refl refl)
+    (λ d. went_text c.args.phrases.limited 0 (expr_of c.in_ok-timeout-in-Some.timeout) m c.in-Some.behind.now LockTimed c.in_ok-timeout-in-Some.rest.now LockEnd
+    o condition k d refl (timed_untaken (tokens_seen c.in-Some.behind.now)) (inl refl)
+    (c.in_ok-timeout-in-Some.ensures.reads m (room_for c.args.phrases.limited m c.args.tokens.now c.in-Some.behind.now (omega (arith, c.in-Some.ensures.1))
+    r) (Argument o condition k d (AnExpr 0 LockEnd)) refl refl))

@@ -16,8 +16,10 @@ returns-in_err-serial-clause-reads c = λ limited m o condition k done.
 pub returns-in_err-rest-clause-reads : goal.returns-in_err-rest-clause-reads
 returns-in_err-rest-clause-reads c = λ limited m o condition k done.
     reads_err limited _ _ c.from_residual-in_err-rest.result c.in_err-rest.field-0.0 m c.args.tokens.now _ _ c.from_residual-in_err-rest.ensures.1
-    (fails_then limited (serial_parts c.in_ok-serial.serial) c.in_err-rest.field-0.0 m c.args.tokens.now RestoredEnd c.in_ok-serial.rest.now SerialEnd o condition k done (c.in_ok-serial.ensures.reads limited m o condition k done)
-    (λ d. fails_here limited c.in_err-rest.field-0.0 m c.in_ok-serial.rest.now SerialEnd o condition k d refl (end_untaken (tokens_seen c.in_ok-serial.rest.now)) (inr c.in_err-rest.ensures.other) (c.in_err-rest.ensures.refused limited)))
+    (fails_then limited (serial_parts c.in_ok-serial.serial) c.in_err-rest.field-0.0 m c.args.tokens.now RestoredEnd c.in_ok-serial.rest.now SerialEnd o
+    condition k done (c.in_ok-serial.ensures.reads limited m o condition k done)
+    (λ d. fails_here limited c.in_err-rest.field-0.0 m c.in_ok-serial.rest.now SerialEnd o condition k d refl
+    (end_untaken (tokens_seen c.in_ok-serial.rest.now)) (inr c.in_err-rest.ensures.other) (c.in_err-rest.ensures.refused limited)))
 
 pub returns-clause-reads : goal.returns-clause-reads
 returns-clause-reads c = λ limited m o condition k done.

@@ -1,4 +1,3 @@
-use Rattle.std.proofs.Common.{refl}
 use Rattle.mj_ast.specs.Commands.{restored_parts, serial_parts}
 use Rattle.mj_ast.specs.Trees.{restored_of}
 use Rattle.mj_line.specs.Forms.{RestartWanted, RestoredEnd, SerialEnd}
@@ -12,10 +11,12 @@ returns-in_err-restored-clause-reads c = λ m o condition k done.
 
 pub returns-in-Err-clause-reads : goal.returns-in-Err-clause-reads
 returns-in-Err-clause-reads c = λ m o condition k done.
-    fails_then c.args.phrases.limited (restored_parts (restored_of c.in_ok-restored.restored)) c.in-Err.stop m c.args.tokens.now RestartWanted c.in_ok-restored.rest.now RestoredEnd o condition k done (c.in_ok-restored.ensures.reads m o condition k done)
+    fails_then c.args.phrases.limited (restored_parts (restored_of c.in_ok-restored.restored)) c.in-Err.stop m c.args.tokens.now RestartWanted
+    c.in_ok-restored.rest.now RestoredEnd o condition k done (c.in_ok-restored.ensures.reads m o condition k done)
     (λ d. c.in-Err.ensures.reads c.args.phrases.limited m o condition k d)
 
 pub returns-in-Ok-clause-reads : goal.returns-in-Ok-clause-reads
 returns-in-Ok-clause-reads c = λ m o condition k done.
-    went_then c.args.phrases.limited (restored_parts (restored_of c.in_ok-restored.restored)) (serial_parts c.in-Ok.serial) m c.args.tokens.now RestartWanted c.in_ok-restored.rest.now RestoredEnd c.in-Ok.rest.now SerialEnd o condition k done (c.in_ok-restored.ensures.reads m o condition k done)
+    went_then c.args.phrases.limited (restored_parts (restored_of c.in_ok-restored.restored)) (serial_parts c.in-Ok.serial) m c.args.tokens.now RestartWanted
+    c.in_ok-restored.rest.now RestoredEnd c.in-Ok.rest.now SerialEnd o condition k done (c.in_ok-restored.ensures.reads m o condition k done)
     (λ d. c.in-Ok.ensures.reads c.args.phrases.limited m o condition k d)

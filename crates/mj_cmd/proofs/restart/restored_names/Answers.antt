@@ -11,7 +11,9 @@ use Rattle.mj_cmd.proofs.restart.restored_names.Goals as goal
 
 pub returns-in-None-clause-reads : goal.returns-in-None-clause-reads
 returns-in-None-clause-reads c = λ m o condition k done.
-    reads_same c.args.phrases.limited (λ x. with_commas name_parts x.0.items ++ Put Close ∷ []) (λ x. x.1.now) c.names.result m RestoredOpens RestoredWanted RestoredEnd c.args.tokens.now o condition k done (first_same m (tokens_seen c.args.tokens.now) c.in-None.ensures)
+    reads_same c.args.phrases.limited (λ x. with_commas name_parts x.0.items ++ Put Close ∷
+    []) (λ x. x.1.now) c.names.result m RestoredOpens RestoredWanted RestoredEnd c.args.tokens.now o condition k done
+    (first_same m (tokens_seen c.args.tokens.now) c.in-None.ensures)
     (c.names.ensures.reads m Restoring o condition k done)
 
 pub returns-in-Some-clause-reads : goal.returns-in-Some-clause-reads

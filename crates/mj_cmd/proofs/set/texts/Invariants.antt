@@ -18,7 +18,9 @@ pub record SoFar (Goes : Type 0) (Some : Type 0) (Falls : Type 0) : Type 0 where
 
 abbrev pub invariant-commas : goal.invariant-commas
 invariant-commas l = SoFar
-    ((m : Limits) → HasRoom l.phrases.limited m l.tokens → (listed : Bool) → (o : Sentence) → (condition : Option Expr) → (k : Verb) → (done : List Part) → Went l.phrases.limited (more_parts (exprs_of l.texts.items)) m l.tokens (PieceComma listed) l.rest (piece_node listed (length l.texts.items)) o condition k done)
+    ((m : Limits) → HasRoom l.phrases.limited m l.tokens → (listed : Bool) → (o : Sentence) → (condition : Option Expr) → (k : Verb) → (done : List Part) →
+    Went l.phrases.limited (more_parts (exprs_of l.texts.items)) m l.tokens (PieceComma listed) l.rest (piece_node listed (length l.texts.items)) o
+    condition k done)
     ((1 ≤ length l.texts.items) × (length l.texts.items ≤ 3))
     (length l.rest ≤ length l.tokens)
 

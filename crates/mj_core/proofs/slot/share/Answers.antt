@@ -27,7 +27,8 @@ answer-requires g c =
     let opening = g.O.Opening.opening in
     let S : Served Heard → Type 0 = λ t. Serves opening c.args.system.now c.args.claim.now ask c.args.late t c.serve.new.self c.serve.new.claim in
     let serves = subst S c.in-Ok-Reply.field-0-is c.in-Ok-Reply.ensures.ok in
-    let fit : fits ask c.in-Ok-Reply.reply ≡ true = fits_served (state_of opening c.args.system.now.history) c.args.claim.now.job ask c.args.late c.in-Ok-Reply.reply (state_of opening c.serve.new.self.history)
+    let fit : fits ask c.in-Ok-Reply.reply ≡ true =
+    fits_served (state_of opening c.args.system.now.history) c.args.claim.now.job ask c.args.late c.in-Ok-Reply.reply (state_of opening c.serve.new.self.history)
     shared serves.tells.0 in
     (ask, pending, fit)
 
@@ -87,6 +88,7 @@ returns-in-Some-place-clause-ok g c =
         (λ name. ap (λ l. is_some (session_of name l)) c.open.ensures.sessions
             ∙ there_more name c.place_for.new.sessions.sessions (record { name = c.in-Some-place.name; session = c.in-Ok-Opened.session })
             ∙ ap (λ l. if bytes_eq c.in-Some-place.name name && true then true else is_some (session_of name l)) c.place_for.ensures.sessions
-            ∙ sym (moved (state_of opening c.args.system.now.history) name ask (is_some (session_of name c.args.sessions.now.sessions)) c.place_for.new.sessions c.in-Some-place.name serves.tells.1 place)),
+            ∙ sym (moved (state_of opening c.args.system.now.history) name ask (is_some (session_of name c.args.sessions.now.sessions)) c.place_for.new.sessions c.in-Some-place.name
+            serves.tells.1 place)),
       ),
     )

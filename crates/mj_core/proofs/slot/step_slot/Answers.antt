@@ -6,7 +6,7 @@ use Rattle.mj_jobs.specs.Rows.{IsLive}
 use Rattle.std.specs.Prelude.{Ok}
 use Rattle.std.specs.declared.alloc.AllocError.{AllocError}
 use Rattle.mj_jobvm.specs.Run.{Log, GoesOn, HasEnded}
-use Rattle.mj_jobvm.specs.Told.{Told, spent_after}
+use Rattle.mj_jobvm.specs.Told.{AdvanceTells, spent_after}
 use Rattle.mj_jobvm.specs.declared.job.Turn.{Turn}
 use Rattle.mj_sys.specs.History.{state_of}
 use Rattle.mj_core.specs.Runs.{start_in}
@@ -20,7 +20,8 @@ ask-requires-clause-asks g c =
     let P : Placed → Type 0 = λ p. IsPlaced c.args.image.now g.O.Opening.opening c.args.system.now p in
     let tied : IsTied c.args.image.now g.O.Opening.opening c.args.system.now s.claim s.job s.sessions.sessions = subst P (sym c.slot.view_is) c.requires.tied in
     let start = start_in s.claim.job s.claim.start in
-    ap is_some (needed c.args.image.now start c.advance.new.self.run (let T : Turn → Type 0 = λ t. Told (routines_of c.args.image.now) start t c.advance.new.self.run in subst T c.in-Ok-Asks.field-0-is (c.in-Ok-Asks.ensures.told start tied.run))).1
+    ap is_some (needed c.args.image.now start c.advance.new.self.run (let T : Turn → Type 0 = λ t. AdvanceTells (routines_of c.args.image.now) start t c.advance.new.self.run in
+    subst T c.in-Ok-Asks.field-0-is (c.in-Ok-Asks.ensures.told start tied.run))).1
 
 pub returns-in-Ok-Ran-clause-gives : goal.returns-in-Ok-Ran-clause-gives
 returns-in-Ok-Ran-clause-gives g c =
@@ -32,8 +33,14 @@ returns-in-Ok-Ran-clause-gives g c =
     let S : Turn → Type 0 = λ t. spent ≡ spent_after {E = AllocError} (Ok t) 10000 s.job.run.spent in
     let counted = subst S c.in-Ok-Ran.field-0-is c.in-Ok-Ran.ensures.spent in
     let Q : Log → Type 0 = λ l. GoesOn (routines_of c.args.image.now) start l spent in
-    rw (← c.slot.view_is)
-    (counted, subst Q c.advance.ensures.log (let T : Turn → Type 0 = λ t. Told (routines_of c.args.image.now) start t c.advance.new.self.run in subst T c.in-Ok-Ran.field-0-is (c.in-Ok-Ran.ensures.told start tied.run)), refl, c.advance.ensures.log, refl)
+    rw (← c.slot.view_is) (
+      counted,
+      subst Q c.advance.ensures.log (let T : Turn → Type 0 = λ t. AdvanceTells (routines_of c.args.image.now) start t c.advance.new.self.run in
+          subst T c.in-Ok-Ran.field-0-is (c.in-Ok-Ran.ensures.told start tied.run)),
+      refl,
+      c.advance.ensures.log,
+      refl,
+    )
 
 pub returns-in-Ok-Ended-clause-gives : goal.returns-in-Ok-Ended-clause-gives
 returns-in-Ok-Ended-clause-gives g c =
@@ -42,8 +49,17 @@ returns-in-Ok-Ended-clause-gives g c =
     let tied : IsTied c.args.image.now g.O.Opening.opening c.args.system.now s.claim s.job s.sessions.sessions = subst P (sym c.slot.view_is) c.requires.tied in
     let start = start_in s.claim.job s.claim.start in
     let Q : Log → Type 0 = λ l. HasEnded (routines_of c.args.image.now) start l in
-    rw (← c.slot.view_is)
-    (subst Q c.advance.ensures.log (let T : Turn → Type 0 = λ t. Told (routines_of c.args.image.now) start t c.advance.new.self.run in subst T c.in-Ok-Ended.field-0-is (c.in-Ok-Ended.ensures.told start tied.run)), refl, (c.advance.ensures.log, (let U : Turn → Type 0 = λ t. c.advance.new.self.run.spent ≡ spent_after {E = AllocError} (Ok t) 10000 s.job.run.spent in subst U c.in-Ok-Ended.field-0-is c.in-Ok-Ended.ensures.spent), refl))
+    rw (← c.slot.view_is) (
+      subst Q c.advance.ensures.log (let T : Turn → Type 0 = λ t. AdvanceTells (routines_of c.args.image.now) start t c.advance.new.self.run in
+          subst T c.in-Ok-Ended.field-0-is (c.in-Ok-Ended.ensures.told start tied.run)),
+      refl,
+      (
+        c.advance.ensures.log,
+        (let U : Turn → Type 0 = λ t. c.advance.new.self.run.spent ≡ spent_after {E = AllocError} (Ok t) 10000 s.job.run.spent in
+            subst U c.in-Ok-Ended.field-0-is c.in-Ok-Ended.ensures.spent),
+        refl,
+      ),
+    )
 
 pub returns-in-Ok-Asks-clause-gives : goal.returns-in-Ok-Asks-clause-gives
 returns-in-Ok-Asks-clause-gives g c =
@@ -56,11 +72,14 @@ returns-in-Ok-Asks-clause-gives g c =
     let L : Placed → Type 0 = λ p. IsLive (state_of opening system.history).rows p.claim.job in
     let live : IsLive (state_of opening system.history).rows s.claim.job = subst L (sym c.slot.view_is) c.requires.live in
     let start = start_in s.claim.job s.claim.start in
-    let n = needed image start c.advance.new.self.run (let T : Turn → Type 0 = λ t. Told (routines_of c.args.image.now) start t c.advance.new.self.run in subst T c.in-Ok-Asks.field-0-is (c.in-Ok-Asks.ensures.told start tied.run)) in
+    let n =
+    needed image start c.advance.new.self.run (let T : Turn → Type 0 = λ t. AdvanceTells (routines_of c.args.image.now) start t c.advance.new.self.run in
+    subst T c.in-Ok-Asks.field-0-is (c.in-Ok-Asks.ensures.told start tied.run)) in
     rw (← c.slot.view_is)
     (stepped_ok image opening system c.ask.new.system s.claim c.ask.new.claim s.job c.advance.new.self c.ask.new.job s.sessions.sessions c.ask.new.sessions.sessions c.args.late
     tied (c.advance.ensures.run start tied.run) c.advance.ensures.log live n.0 n.1 n.2
-    (let U : Turn → Type 0 = λ t. c.advance.new.self.run.spent ≡ spent_after {E = AllocError} (Ok t) 10000 s.job.run.spent in subst U c.in-Ok-Asks.field-0-is c.in-Ok-Asks.ensures.spent) s.sessions.room c.ask.new.sessions.room
+    (let U : Turn → Type 0 = λ t. c.advance.new.self.run.spent ≡ spent_after {E = AllocError} (Ok t) 10000 s.job.run.spent in subst U c.in-Ok-Asks.field-0-is c.in-Ok-Asks.ensures.spent)
+    s.sessions.room c.ask.new.sessions.room
     c.ask.result c.ask.ensures.ok)
 
 pub returns-in-Ok-Asks-clause-refused : goal.returns-in-Ok-Asks-clause-refused
@@ -74,11 +93,14 @@ returns-in-Ok-Asks-clause-refused g c =
     let L : Placed → Type 0 = λ p. IsLive (state_of opening system.history).rows p.claim.job in
     let live : IsLive (state_of opening system.history).rows s.claim.job = subst L (sym c.slot.view_is) c.requires.live in
     let start = start_in s.claim.job s.claim.start in
-    let n = needed image start c.advance.new.self.run (let T : Turn → Type 0 = λ t. Told (routines_of c.args.image.now) start t c.advance.new.self.run in subst T c.in-Ok-Asks.field-0-is (c.in-Ok-Asks.ensures.told start tied.run)) in
+    let n =
+    needed image start c.advance.new.self.run (let T : Turn → Type 0 = λ t. AdvanceTells (routines_of c.args.image.now) start t c.advance.new.self.run in
+    subst T c.in-Ok-Asks.field-0-is (c.in-Ok-Asks.ensures.told start tied.run)) in
     rw (← c.slot.view_is)
     (stepped_err image opening system c.ask.new.system s.claim c.ask.new.claim s.job c.advance.new.self c.ask.new.job s.sessions.sessions c.ask.new.sessions.sessions c.args.late
     tied (c.advance.ensures.run start tied.run) c.advance.ensures.log live n.0 n.1 n.2
-    (let U : Turn → Type 0 = λ t. c.advance.new.self.run.spent ≡ spent_after {E = AllocError} (Ok t) 10000 s.job.run.spent in subst U c.in-Ok-Asks.field-0-is c.in-Ok-Asks.ensures.spent) s.sessions.room c.ask.new.sessions.room
+    (let U : Turn → Type 0 = λ t. c.advance.new.self.run.spent ≡ spent_after {E = AllocError} (Ok t) 10000 s.job.run.spent in subst U c.in-Ok-Asks.field-0-is c.in-Ok-Asks.ensures.spent)
+    s.sessions.room c.ask.new.sessions.room
     c.ask.result c.ask.ensures.refused)
 
 pub returns-in-Ok-Asks-clause-kept : goal.returns-in-Ok-Asks-clause-kept
@@ -92,11 +114,14 @@ returns-in-Ok-Asks-clause-kept g c =
     let L : Placed → Type 0 = λ p. IsLive (state_of opening system.history).rows p.claim.job in
     let live : IsLive (state_of opening system.history).rows s.claim.job = subst L (sym c.slot.view_is) c.requires.live in
     let start = start_in s.claim.job s.claim.start in
-    let n = needed image start c.advance.new.self.run (let T : Turn → Type 0 = λ t. Told (routines_of c.args.image.now) start t c.advance.new.self.run in subst T c.in-Ok-Asks.field-0-is (c.in-Ok-Asks.ensures.told start tied.run)) in
+    let n =
+    needed image start c.advance.new.self.run (let T : Turn → Type 0 = λ t. AdvanceTells (routines_of c.args.image.now) start t c.advance.new.self.run in
+    subst T c.in-Ok-Asks.field-0-is (c.in-Ok-Asks.ensures.told start tied.run)) in
     rw (← c.slot.view_is)
     (stepped_still image opening system c.ask.new.system s.claim c.ask.new.claim s.job c.advance.new.self c.ask.new.job s.sessions.sessions c.ask.new.sessions.sessions c.args.late
     tied (c.advance.ensures.run start tied.run) c.advance.ensures.log live n.0 n.1 n.2
-    (let U : Turn → Type 0 = λ t. c.advance.new.self.run.spent ≡ spent_after {E = AllocError} (Ok t) 10000 s.job.run.spent in subst U c.in-Ok-Asks.field-0-is c.in-Ok-Asks.ensures.spent) s.sessions.room c.ask.new.sessions.room
+    (let U : Turn → Type 0 = λ t. c.advance.new.self.run.spent ≡ spent_after {E = AllocError} (Ok t) 10000 s.job.run.spent in subst U c.in-Ok-Asks.field-0-is c.in-Ok-Asks.ensures.spent)
+    s.sessions.room c.ask.new.sessions.room
     c.ask.result c.ask.ensures.kept)
 
 pub returns-in-Ok-Asks-clause-tied : goal.returns-in-Ok-Asks-clause-tied
@@ -110,8 +135,11 @@ returns-in-Ok-Asks-clause-tied g c =
     let L : Placed → Type 0 = λ p. IsLive (state_of opening system.history).rows p.claim.job in
     let live : IsLive (state_of opening system.history).rows s.claim.job = subst L (sym c.slot.view_is) c.requires.live in
     let start = start_in s.claim.job s.claim.start in
-    let n = needed image start c.advance.new.self.run (let T : Turn → Type 0 = λ t. Told (routines_of c.args.image.now) start t c.advance.new.self.run in subst T c.in-Ok-Asks.field-0-is (c.in-Ok-Asks.ensures.told start tied.run)) in
+    let n =
+    needed image start c.advance.new.self.run (let T : Turn → Type 0 = λ t. AdvanceTells (routines_of c.args.image.now) start t c.advance.new.self.run in
+    subst T c.in-Ok-Asks.field-0-is (c.in-Ok-Asks.ensures.told start tied.run)) in
     stepped_tied image opening system c.ask.new.system s.claim c.ask.new.claim s.job c.advance.new.self c.ask.new.job s.sessions.sessions c.ask.new.sessions.sessions c.args.late
     tied (c.advance.ensures.run start tied.run) c.advance.ensures.log live n.0 n.1 n.2
-    (let U : Turn → Type 0 = λ t. c.advance.new.self.run.spent ≡ spent_after {E = AllocError} (Ok t) 10000 s.job.run.spent in subst U c.in-Ok-Asks.field-0-is c.in-Ok-Asks.ensures.spent) s.sessions.room c.ask.new.sessions.room
+    (let U : Turn → Type 0 = λ t. c.advance.new.self.run.spent ≡ spent_after {E = AllocError} (Ok t) 10000 s.job.run.spent in subst U c.in-Ok-Asks.field-0-is c.in-Ok-Asks.ensures.spent)
+    s.sessions.room c.ask.new.sessions.room
     c.ask.result c.ask.ensures.ok c.ask.ensures.kept

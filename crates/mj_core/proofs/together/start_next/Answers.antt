@@ -17,7 +17,8 @@ returns-clause-kept g c =
     c.start-job.result (ap (λ (j : Running). j.run.log) c.start-job.ensures.opening) (ap (λ (j : Running). j.run.spent) c.start-job.ensures.opening) c.start-job.ensures.run
     c.open.new.self c.from_number.result (c.from_number.ensures ∙ decimal_digit 0 (lit< tt))
     (c.open.ensures.sessions ∙ ap (λ l. l ++ record { name = c.from_number.result; session = c.in-Some-take.session } ∷ []) (c.in_ok-reserve-2.ensures.sessions ∙ c.new-sessions.ensures))
-    c.push_reserved.new.self.items (c.push_reserved.ensures.items ∙ ap (λ l. l ++ record { claim = c.in-Some-take.claim; job = c.start-job.result; sessions = c.open.new.self } ∷ []) c.in_ok-reserve.ensures.items) c.take.new.self c.take.ensures.after
+    c.push_reserved.new.self.items (c.push_reserved.ensures.items ∙ ap (λ l. l ++ record { claim = c.in-Some-take.claim; job = c.start-job.result; sessions = c.open.new.self } ∷ [])
+    c.in_ok-reserve.ensures.items) c.take.new.self c.take.ensures.after
 
 pub returns-clause-woven : goal.returns-clause-woven
 returns-clause-woven g c =
@@ -30,7 +31,8 @@ returns-clause-woven g c =
     c.start-job.result (ap (λ (j : Running). j.run.log) c.start-job.ensures.opening) (ap (λ (j : Running). j.run.spent) c.start-job.ensures.opening) c.start-job.ensures.run
     c.open.new.self c.from_number.result (c.from_number.ensures ∙ decimal_digit 0 (lit< tt))
     (c.open.ensures.sessions ∙ ap (λ l. l ++ record { name = c.from_number.result; session = c.in-Some-take.session } ∷ []) (c.in_ok-reserve-2.ensures.sessions ∙ c.new-sessions.ensures))
-    c.push_reserved.new.self.items (c.push_reserved.ensures.items ∙ ap (λ l. l ++ record { claim = c.in-Some-take.claim; job = c.start-job.result; sessions = c.open.new.self } ∷ []) c.in_ok-reserve.ensures.items)
+    c.push_reserved.new.self.items (c.push_reserved.ensures.items ∙ ap (λ l. l ++ record { claim = c.in-Some-take.claim; job = c.start-job.result; sessions = c.open.new.self } ∷ [])
+    c.in_ok-reserve.ensures.items)
 
 pub returns-clause-turns : goal.returns-clause-turns
 returns-clause-turns g c =
@@ -43,4 +45,5 @@ returns-clause-turns g c =
     c.start-job.result (ap (λ (j : Running). j.run.log) c.start-job.ensures.opening) (ap (λ (j : Running). j.run.spent) c.start-job.ensures.opening) c.start-job.ensures.run
     c.open.new.self c.from_number.result (c.from_number.ensures ∙ decimal_digit 0 (lit< tt))
     (c.open.ensures.sessions ∙ ap (λ l. l ++ record { name = c.from_number.result; session = c.in-Some-take.session } ∷ []) (c.in_ok-reserve-2.ensures.sessions ∙ c.new-sessions.ensures))
-    c.push_reserved.new.self.items (c.push_reserved.ensures.items ∙ ap (λ l. l ++ record { claim = c.in-Some-take.claim; job = c.start-job.result; sessions = c.open.new.self } ∷ []) c.in_ok-reserve.ensures.items)
+    c.push_reserved.new.self.items (c.push_reserved.ensures.items ∙ ap (λ l. l ++ record { claim = c.in-Some-take.claim; job = c.start-job.result; sessions = c.open.new.self } ∷ [])
+    c.in_ok-reserve.ensures.items)

@@ -11,8 +11,10 @@ returns-clause-history g c = (ready_keeps g.O.Opening.opening c.args.core.now c.
 
 pub returns-clause-replica : goal.returns-clause-replica
 returns-clause-replica g c = λ replica is.
-    replica_on g.O.Opening.opening c.args.core.now c.ready_job.new.self replica (ready_grows g.O.Opening.opening c.args.core.now c.ready_job.new.self c.args.job (turn_of c.ready_job.result) c.ready_job.ensures.gives) is
+    replica_on g.O.Opening.opening c.args.core.now c.ready_job.new.self replica
+    (ready_grows g.O.Opening.opening c.args.core.now c.ready_job.new.self c.args.job (turn_of c.ready_job.result) c.ready_job.ensures.gives) is
 
 pub returns-clause-views : goal.returns-clause-views
 returns-clause-views g c = λ views are.
-    views_on g.O.Opening.opening c.args.core.now c.ready_job.new.self views (ready_grows g.O.Opening.opening c.args.core.now c.ready_job.new.self c.args.job (turn_of c.ready_job.result) c.ready_job.ensures.gives) are
+    views_on g.O.Opening.opening c.args.core.now c.ready_job.new.self views (ready_grows g.O.Opening.opening c.args.core.now c.ready_job.new.self c.args.job (turn_of c.ready_job.result)
+    c.ready_job.ensures.gives) are

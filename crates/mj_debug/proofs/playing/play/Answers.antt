@@ -31,7 +31,8 @@ returns-then-not-branch-2 g c =
     let mid = c.asks_it.new.job in
     let asks = c.in_ok-asks_it.ensures.asks (start_of claim) c.requires.tied.run in
     let shared : is_shared ask ≡ true = sym c.is_shared.ensures ∙ c.if-is_shared.true in
-    isnt_served image opening old claim job heeds ask reply c.requires.tied mid c.in_ok-serves_it.field-0 c.if-not-branch-2.true shared c.serves_it.new.system c.serves_it.new.claim c.in_ok-serves_it.ensures
+    isnt_served image opening old claim job heeds ask reply c.requires.tied mid c.in_ok-serves_it.field-0 c.if-not-branch-2.true shared c.serves_it.new.system c.serves_it.new.claim
+    c.in_ok-serves_it.ensures
 
 pub tell-requires : goal.tell-requires
 tell-requires g c =
@@ -63,7 +64,8 @@ returns-then-is_shared g c =
     let asks = c.in_ok-asks_it.ensures.asks (start_of claim) c.requires.tied.run in
     let shared : is_shared ask ≡ true = sym c.is_shared.ensures ∙ c.if-is_shared.true in
     let P : Bool → Type 0 = λ b. AsksIt image (start_of claim) job ask reply b mid in
-    is_served_on image opening old claim job heeds ask reply c.requires.tied mid c.requires.live c.asks_it.ensures.log (c.asks_it.ensures.run (start_of claim) c.requires.tied.run) c.tell.new.job (subst P c.if-not-branch.false asks)
+    is_served_on image opening old claim job heeds ask reply c.requires.tied mid c.requires.live c.asks_it.ensures.log (c.asks_it.ensures.run (start_of claim) c.requires.tied.run)
+    c.tell.new.job (subst P c.if-not-branch.false asks)
     c.in_ok-serves_it.field-0 c.if-not-branch-2.false shared c.serves_it.new.system c.serves_it.new.claim c.in_ok-serves_it.ensures c.tell.result c.tell.ensures
 
 pub returns-then-not-branch-3 : goal.returns-then-not-branch-3
@@ -111,5 +113,6 @@ returns g c =
     let asks = c.in_ok-asks_it.ensures.asks (start_of claim) c.requires.tied.run in
     let unshared : is_shared ask ≡ false = sym c.is_shared.ensures ∙ c.if-is_shared.false in
     let P : Bool → Type 0 = λ b. AsksIt image (start_of claim) job ask reply b mid in
-    is_heard_on image opening old claim job heeds ask reply c.requires.tied mid c.requires.live c.asks_it.ensures.log (c.asks_it.ensures.run (start_of claim) c.requires.tied.run) c.tell-2.new.job (subst P c.if-not-branch.false asks)
+    is_heard_on image opening old claim job heeds ask reply c.requires.tied mid c.requires.live c.asks_it.ensures.log (c.asks_it.ensures.run (start_of claim) c.requires.tied.run)
+    c.tell-2.new.job (subst P c.if-not-branch.false asks)
     c.in_ok-hear.field-0 c.if-not-branch-3.false unshared c.hear.new.self (c.in_ok-hear.ensures job.run.log c.requires.tied.heard) c.tell-2.result c.tell-2.ensures

@@ -1,8 +1,8 @@
 use Rattle.std.proofs.Common.{◌≡◌, ◌++◌, sym, ◌∙◌, List, ℕ, [], refl, arith, subst}
 use Rattle.std.specs.Io.KnownBytes.{Appends}
-use Rattle.mj_commands.specs.declared.command.Command.TheVariants as commands
+use Rattle.mj_dialogue.specs.declared.command.Command.TheVariants as commands
 use Rattle.mj_dialogue.specs.declared.answering.Trouble.{Trouble}
-use Rattle.mj_dialogue.specs.Fails.{Fails, IsWritten, trouble_of}
+use Rattle.mj_dialogue.specs.Fails.{Fails, IsOutputWritten, trouble_of}
 use Rattle.mj_dialogue.proofs.Failing.{at_err, written}
 use Rattle.mj_dialogue.proofs.Going.{appends_none, appends_more, made_more, goes_all, goes_last}
 use Rattle.mj_dialogue.proofs.answering.go.Goals as goal
@@ -30,7 +30,7 @@ returns-in_err-passed-clause-err g c =
     let why = trouble_of c.in_err-passed.field-0.0 in
     let P : Trouble → Type 0 = λ e.
     (bytes : List ℕ) × Fails g.O.Opening.opening c.args.debugger.now (commands.Go c.args.count) bytes e c.pass.new.debugger
-    × IsWritten e (g.W.Write.contents c.args.out.now) (g.W.Write.contents c.loop-made.out) bytes in
+    × IsOutputWritten e (g.W.Write.contents c.args.out.now) (g.W.Write.contents c.loop-made.out) bytes in
     at_err c.from_residual.result why P (
       so.0,
       (c.loop-made.made, c.loop-made-test.true, (c.loop-made.debugger, so.1, c.in_err-passed.ensures.err)),
@@ -45,7 +45,7 @@ returns-in_err-put-clause-err g c =
     let line : List ℕ = c.in_ok-passed.passed.told.bytes.items in
     let P : Trouble → Type 0 = λ e.
     (bytes : List ℕ) × Fails g.O.Opening.opening c.args.debugger.now (commands.Go c.args.count) bytes e c.pass.new.debugger
-    × IsWritten e (g.W.Write.contents c.args.out.now) (g.W.Write.contents c.put.new.out) bytes in
+    × IsOutputWritten e (g.W.Write.contents c.args.out.now) (g.W.Write.contents c.put.new.out) bytes in
     at_err c.from_residual-in_err-put.result c.in_err-put.field-0.0 P
     (subst P (sym c.in_err-put.ensures.err) (so.0, (c.loop-made.made, c.loop-made-test.true, (c.loop-made.debugger, so.1, (passed.0, line, passed.1))), tt))
     c.from_residual-in_err-put.ensures.1

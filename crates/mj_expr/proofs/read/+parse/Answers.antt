@@ -40,7 +40,8 @@ expr-joins-preserved t c = record {
       c.joins.invariant.reads o d e f
       ∙ binary_goes (limits d) (symbols_seen c.joins.rest.now) (symbols_seen c.in-Some.after.now) c.in-Some.op (operand_of c.joins.first-1) (tails_of c.joins.tails.items) o c.in-Some.ensures.0
       ∙ c.in_ok-operand.ensures.reads (Right (operand_of c.joins.first-1) (tails_of c.joins.tails.items) c.in-Some.op o) d e f
-      ∙ ap (λ (ts : Tails). run (limits d) (symbols_seen c.in_ok-operand.behind.now) (Held (operand_of c.joins.first-1) ts o)) (sym (ap tails_of c.in_ok-added.ensures ∙ tails_push c.joins.tails.items (record { op = c.in-Some.op; operand = c.in_ok-operand.operand })));
+      ∙ ap (λ (ts : Tails). run (limits d) (symbols_seen c.in_ok-operand.behind.now) (Held (operand_of c.joins.first-1) ts o))
+      (sym (ap tails_of c.in_ok-added.ensures ∙ tails_push c.joins.tails.items (record { op = c.in-Some.op; operand = c.in_ok-operand.operand })));
   shorter = omega (arith, c.in_ok-operand.ensures.shorter, c.in-Some.ensures.1, c.joins.invariant.shorter);
 }
 
@@ -122,7 +123,8 @@ list-returns-clause-reads t c = λ w d e k.
     let n = count_exprs c.commas.items.items in
     refuses_from c.refusal-in-None.result _ _
     (c.commas.invariant.reads w d e k
-    ∙ list_refuses (limits d) (symbols_seen c.commas.rest.now) w (exprs_of c.commas.items.items) (omega (arith, n, c.commas.invariant.shorter.1)) c.commas.invariant.shorter.2 c.in_default.ensures c.in-None.ensures)
+    ∙ list_refuses (limits d) (symbols_seen c.commas.rest.now) w (exprs_of c.commas.items.items) (omega (arith, n, c.commas.invariant.shorter.1))
+    c.commas.invariant.shorter.2 c.in_default.ensures c.in-None.ensures)
     c.refusal-in-None.ensures
 
 pub named-returns-in_ok-subscripts-in-Some-clause-reads : goal.named-returns-in_ok-subscripts-in-Some-clause-reads
@@ -149,7 +151,8 @@ operand-returns-else-room-levels-clause-reads t c = λ c' d e f.
     let went = ap (λ (ks : List Symbol). run (limits d) ks (Wanted c')) c.in-Some.ensures.0
     ∙ ap (λ (k : Symbol). run (limits d) (k ∷ symbols_seen c.in-Some.rest.now) (Wanted c')) head
     ∙ call_goes (limits d) (symbols_seen c.in-Some.rest.now) c.in-Callee.callee c' (omega (arith, e, c.if-room-levels.false, c.levels.ensures)) in
-    reads_from _ _ c.call.result d c.args.tokens.now c.in-Some.rest.now _ _ _ went (c.call.ensures.reads c' d (omega (arith, e, c.if-room-levels.false, c.levels.ensures, levels_some c.in-Callee.callee)))
+    reads_from _ _ c.call.result d c.args.tokens.now c.in-Some.rest.now _ _ _ went
+    (c.call.ensures.reads c' d (omega (arith, e, c.if-room-levels.false, c.levels.ensures, levels_some c.in-Callee.callee)))
 
 pub operand-returns-in-Nothing-clause-reads : goal.operand-returns-in-Nothing-clause-reads
 operand-returns-in-Nothing-clause-reads t c = λ c' d e f.
@@ -205,7 +208,8 @@ about-returns-in_err-other-clause-reads t c = λ c' d e.
     let n = c.len.ensures ∙ (out-Variable v).subscripts.ok.0 ∙ sym (variable_count v) in
     let went = c.in_ok-variable.ensures.reads (AsNamed f c') d e refl
     ∙ ap (λ (ks : List Symbol). run (limits d) ks (Behind f (variable_of v) c')) c.in-Some-behind_comma.ensures.0
-    ∙ about_goes (limits d) (symbols_seen c.in-Some-behind_comma.behind.now) f (variable_of v) c' (omega (arith, n, c.if-len-least_subscripts.false, c.least_subscripts.ensures)) (omega (arith, c.if-most_others-eq0.false, c.most_others.ensures)) in
+    ∙ about_goes (limits d) (symbols_seen c.in-Some-behind_comma.behind.now) f (variable_of v) c'
+    (omega (arith, n, c.if-len-least_subscripts.false, c.least_subscripts.ensures)) (omega (arith, c.if-most_others-eq0.false, c.most_others.ensures)) in
     reads_from _ _ c.from_residual-in_err-other.result d c.args.tokens.now c.in-Some-behind_comma.behind.now _ _ _ went
     (reads_err _ _ c.from_residual-in_err-other.result c.in_err-other.field-0.0 d c.in-Some-behind_comma.behind.now _ _ c.from_residual-in_err-other.ensures.1
     (c.in_err-other.ensures.other f (variable_of v) c' d e))
@@ -217,7 +221,8 @@ about-returns-clause-reads t c = λ c' d e.
     let n = c.len.ensures ∙ (out-Variable v).subscripts.ok.0 ∙ sym (variable_count v) in
     c.in_ok-variable.ensures.reads (AsNamed f c') d e refl
     ∙ ap (λ (ks : List Symbol). run (limits d) ks (Behind f (variable_of v) c')) c.in-Some-behind_comma.ensures.0
-    ∙ about_goes (limits d) (symbols_seen c.in-Some-behind_comma.behind.now) f (variable_of v) c' (omega (arith, n, c.if-len-least_subscripts.false, c.least_subscripts.ensures)) (omega (arith, c.if-most_others-eq0.false, c.most_others.ensures))
+    ∙ about_goes (limits d) (symbols_seen c.in-Some-behind_comma.behind.now) f (variable_of v) c'
+    (omega (arith, n, c.if-len-least_subscripts.false, c.least_subscripts.ensures)) (omega (arith, c.if-most_others-eq0.false, c.most_others.ensures))
     ∙ c.in_ok-other.ensures.other f (variable_of v) c' d e
     ∙ ap (λ (es : Exprs). run (limits d) (symbols_seen c.in_ok-other.rest.now) (filled (About f (variable_of v) es) c'))
     (sym (others_made c.added.new.list ∙ ap exprs_of (c.in_ok-added.ensures ∙ ap (λ (es : List expr.Expr). es ++ c.in_ok-other.other ∷ []) c.new-others.ensures.items)))

@@ -12,5 +12,6 @@ returns-in-Some-Over-clause-err c =
 
 pub returns-then-is_after-clause-ok : goal.returns-then-is_after-clause-ok
 returns-then-is_after-clause-ok c =
-    judged_within (option_copied c.args.last) c.args.number c.in-Some-Within.node (line_of c.args.line.now) (ap Some (sym c.in-Some-Within.field-0-is) ∙ sym c.in-Some-Within.is ∙ c.in_ok-read_line.ensures)
+    judged_within (option_copied c.args.last) c.args.number c.in-Some-Within.node (line_of c.args.line.now)
+    (ap Some (sym c.in-Some-Within.field-0-is) ∙ sym c.in-Some-Within.is ∙ c.in_ok-read_line.ensures)
     ∙ ap (λ b. cond b (Ok c.in-Some-Within.node) (Err (error.Order c.args.number))) (sym c.is_after.ensures ∙ c.if-is_after.true)

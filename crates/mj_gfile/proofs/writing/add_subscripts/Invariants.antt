@@ -1,10 +1,10 @@
 use Rattle.std.proofs.Common.{◌≡◌, ◌++◌, drop}
-use Rattle.mj_gfile.specs.Begins.{Begins}
+use Rattle.mj_gfile.specs.Begins.{HasFront}
 use Rattle.mj_gfile.specs.Spelling.{listed_rest}
 use Rattle.mj_gfile.proofs.writing.add_subscripts.Given as goal
 
 abbrev pub invariant-loop-sub : goal.invariant-loop-sub
 invariant-loop-sub l = record {
   all : l.bytes.items ++ listed_rest (drop l.sub-index l.rest) ≡ l.initial.bytes.items ++ listed_rest l.rest;
-  kept : Begins l.fn.bytes.items l.bytes.items;
+  kept : HasFront l.fn.bytes.items l.bytes.items;
 }

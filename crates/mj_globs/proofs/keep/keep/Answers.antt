@@ -14,7 +14,8 @@ returns-clause-rises c =
     let list = c.args.list.now in
     let es = c.args.words.now.entries in
     let kept = c.retain.new.self.entries in
-    let is : kept ≡ filter (λ k. list_any (bytes_eq k.0.items) list) es = filter_same_pairs _ (λ k. list_any (bytes_eq k.0.items) list) _ (λ k v b w f call. search rules) es kept c.retain.ensures.filtered in
+    let is : kept ≡ filter (λ k. list_any (bytes_eq k.0.items) list) es =
+    filter_same_pairs _ (λ k. list_any (bytes_eq k.0.items) list) _ (λ k v b w f call. search rules) es kept c.retain.ensures.filtered in
     subst (λ (ks : Words). T (is_sorted W ks)) (sym (ap spelled is ∙ spelled_kept list es)) (rises_kept list (spelled es) c.requires)
 
 pub returns-clause-content : goal.returns-clause-content
@@ -22,5 +23,6 @@ returns-clause-content c = λ g.
     let list = c.args.list.now in
     let es = c.args.words.now.entries in
     let kept = c.retain.new.self.entries in
-    let is : kept ≡ filter (λ k. list_any (bytes_eq k.0.items) list) es = filter_same_pairs _ (λ k. list_any (bytes_eq k.0.items) list) _ (λ k v b w f call. search rules) es kept c.retain.ensures.filtered in
+    let is : kept ≡ filter (λ k. list_any (bytes_eq k.0.items) list) es =
+    filter_same_pairs _ (λ k. list_any (bytes_eq k.0.items) list) _ (λ k v b w f call. search rules) es kept c.retain.ensures.filtered in
     ap (of_kind g) (ap spelled is ∙ spelled_kept list es) ∙ kind_kept list g (spelled es)

@@ -7,16 +7,27 @@ use Rattle.mj_globs.proofs.Restores.{restore_there, restore_removed, restore_abs
 use Rattle.mj_globs.proofs.words.restore.Goals as goal
 
 pub returns-in_default-clause-content : goal.returns-in_default-clause-content
-returns-in_default-clause-content c = restore_absent c.args.words.now.entries c.get_mut.follows.lender-at-none.entries c.bytes-key.result.now c.args.word.now c.bytes-key.ensures.value c.args.path.now c.args.text (sym c.in_default.ensures.value) (ap (λ (m : BTreeMap (Vec ℕ Global) Subtree). spelled m.entries) c.get_mut.follows.holds-at-none)
+returns-in_default-clause-content c =
+    restore_absent c.args.words.now.entries c.get_mut.follows.lender-at-none.entries c.bytes-key.result.now c.args.word.now c.bytes-key.ensures.value c.args.path.now c.args.text
+    (sym c.in_default.ensures.value) (ap (λ (m : BTreeMap (Vec ℕ Global) Subtree). spelled m.entries) c.get_mut.follows.holds-at-none)
 
 pub returns-then-is_empty-clause-rises : goal.returns-then-is_empty-clause-rises
-returns-then-is_empty-clause-rises c = rises_removed c.args.words.now.entries (c.get_mut.follows.lender c.restore.new.self).entries c.bytes-key.result.now c.args.word.now c.bytes-key.ensures.value c.args.path.now c.in-Some.found.now c.restore.new.self (sym c.in-Some.ensures.value) (c.get_mut.follows.holds c.restore.new.self).0 c.requires c.remove.new.words.entries c.remove.ensures
+returns-then-is_empty-clause-rises c =
+    rises_removed c.args.words.now.entries (c.get_mut.follows.lender c.restore.new.self).entries c.bytes-key.result.now c.args.word.now c.bytes-key.ensures.value c.args.path.now c.in-Some.found.now
+    c.restore.new.self (sym c.in-Some.ensures.value) (c.get_mut.follows.holds c.restore.new.self).0 c.requires c.remove.new.words.entries c.remove.ensures
 
 pub returns-then-is_empty-clause-content : goal.returns-then-is_empty-clause-content
-returns-then-is_empty-clause-content c = restore_removed c.args.words.now.entries (c.get_mut.follows.lender c.restore.new.self).entries c.bytes-key.result.now c.args.word.now c.bytes-key.ensures.value c.args.path.now c.args.text c.in-Some.found.now c.restore.new.self (sym c.in-Some.ensures.value) (c.get_mut.follows.holds c.restore.new.self).0 c.requires c.restore.ensures c.remove.new.words.entries c.remove.ensures (c.if-is_empty.ensures.0 refl)
+returns-then-is_empty-clause-content c =
+    restore_removed c.args.words.now.entries (c.get_mut.follows.lender c.restore.new.self).entries c.bytes-key.result.now c.args.word.now c.bytes-key.ensures.value c.args.path.now c.args.text
+    c.in-Some.found.now c.restore.new.self (sym c.in-Some.ensures.value) (c.get_mut.follows.holds c.restore.new.self).0 c.requires c.restore.ensures c.remove.new.words.entries c.remove.ensures
+    (c.if-is_empty.ensures.0 refl)
 
 pub returns-else-is_empty-clause-rises : goal.returns-else-is_empty-clause-rises
-returns-else-is_empty-clause-rises c = rises_there c.args.words.now.entries (c.get_mut.follows.lender c.restore.new.self).entries c.bytes-key.result.now c.args.word.now c.bytes-key.ensures.value c.args.path.now c.in-Some.found.now c.restore.new.self (sym c.in-Some.ensures.value) (c.get_mut.follows.holds c.restore.new.self).0 c.requires
+returns-else-is_empty-clause-rises c =
+    rises_there c.args.words.now.entries (c.get_mut.follows.lender c.restore.new.self).entries c.bytes-key.result.now c.args.word.now c.bytes-key.ensures.value c.args.path.now c.in-Some.found.now
+    c.restore.new.self (sym c.in-Some.ensures.value) (c.get_mut.follows.holds c.restore.new.self).0 c.requires
 
 pub returns-else-is_empty-clause-content : goal.returns-else-is_empty-clause-content
-returns-else-is_empty-clause-content c = restore_there c.args.words.now.entries (c.get_mut.follows.lender c.restore.new.self).entries c.bytes-key.result.now c.args.word.now c.bytes-key.ensures.value c.args.path.now c.args.text c.in-Some.found.now c.restore.new.self (sym c.in-Some.ensures.value) (c.get_mut.follows.holds c.restore.new.self).0 c.requires c.restore.ensures
+returns-else-is_empty-clause-content c =
+    restore_there c.args.words.now.entries (c.get_mut.follows.lender c.restore.new.self).entries c.bytes-key.result.now c.args.word.now c.bytes-key.ensures.value c.args.path.now c.args.text
+    c.in-Some.found.now c.restore.new.self (sym c.in-Some.ensures.value) (c.get_mut.follows.holds c.restore.new.self).0 c.requires c.restore.ensures

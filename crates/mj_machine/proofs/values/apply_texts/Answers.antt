@@ -5,7 +5,7 @@ use Rattle.mj_text.specs.Failing.{Answers}
 use Rattle.mj_oper.specs.Operators.{binary_value}
 use Rattle.mj_semantics.specs.Outcome.{Timed, given}
 use Rattle.mj_pcode.specs.Machine.{Next, top, below}
-use Rattle.mj_machine.specs.declared.machine.Step.TheVariants as steps
+use Rattle.mj_machine.specs.declared.machine.TurnOutcome.TheVariants as steps
 use Rattle.mj_machine.specs.Kept.{stack_of, state_of, context_of, with_value}
 use Rattle.mj_machine.proofs.Operands.{below_twice}
 use Rattle.mj_machine.proofs.Asks.{does_as, or_memory}

@@ -26,4 +26,5 @@ pub loop-place-preserved : goal.loop-place-preserved
 loop-place-preserved c =
     let read = rw (c.in-Some.is, c.in-Some-next.is) at c.in_ok-sub.ensures in
     let pushed = of_ok c.push.result _ c.push.ensures.ok (sym c.is_err.ensures.value ∙ c.if-is_err.false) in
-    next_item c.loop-place.subs (30 - c.loop-place._place) (31 - c.loop-place._place) c.loop-place.rest.now _ c.loop-place.invariant (omega arith) c.in-Some.sub c.in-Some-next.list.now c.push.new.self _ read pushed (omega arith)
+    next_item c.loop-place.subs (30 - c.loop-place._place) (31 - c.loop-place._place) c.loop-place.rest.now _ c.loop-place.invariant (omega arith) c.in-Some.sub c.in-Some-next.list.now c.push.new.self
+    _ read pushed (omega arith)

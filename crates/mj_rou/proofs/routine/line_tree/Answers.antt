@@ -18,7 +18,8 @@ returns-then-twice-clause-refused c = λ before h.
     (c.in-Ok-tree_of.ensures.read.short, subst P c.if-twice.true (c.is_kept-twice.ensures before (tokens c.args.line.now) h said))
 
 pub returns-else-twice-clause-label : goal.returns-else-twice-clause-label
-returns-else-twice-clause-label c = c.label-label.ensures ∙ ap label_of (ap tokens_seen c.as_slice-lexemes.ensures.value ∙ seen_tokens c.tokens_into.new.lexemes.items c.args.line.now c.in-Ok.ensures.placed)
+returns-else-twice-clause-label c = c.label-label.ensures ∙ ap label_of (ap tokens_seen c.as_slice-lexemes.ensures.value ∙
+    seen_tokens c.tokens_into.new.lexemes.items c.args.line.now c.in-Ok.ensures.placed)
 
 pub returns-else-twice-clause-apart : goal.returns-else-twice-clause-apart
 returns-else-twice-clause-apart c = λ before h.

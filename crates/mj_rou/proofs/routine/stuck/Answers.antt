@@ -16,7 +16,8 @@ left_out-requires-clause-label c =
 
 pub returns-in-Ok-None : goal.returns-in-Ok-None
 returns-in-Ok-None c =
-    line_stuck c.args.line.now (tokens_seen c.args.lexemes.now) c.args.left c.column-column.result None (seen_tokens c.args.lexemes.now c.args.line.now c.requires.placed) c.requires.short c.requires.stuck
+    line_stuck c.args.line.now (tokens_seen c.args.lexemes.now) c.args.left c.column-column.result None
+    (seen_tokens c.args.lexemes.now c.args.line.now c.requires.placed) c.requires.short c.requires.stuck
     (λ place e. c.column-column.ensures place (omega (arith, e, length-map c.args.lexemes.now (λ l. token_seen l.token))))
     (λ place e.
     let P : Option Construct → Type 0 = λ x. IsNamedAt (tokens_seen c.args.lexemes.now) place x in
@@ -24,7 +25,8 @@ returns-in-Ok-None c =
 
 pub returns-in-Ok-Some : goal.returns-in-Ok-Some
 returns-in-Ok-Some c =
-    line_stuck c.args.line.now (tokens_seen c.args.lexemes.now) c.args.left c.column-column.result (Some c.in-Ok-Some.construct) (seen_tokens c.args.lexemes.now c.args.line.now c.requires.placed) c.requires.short c.requires.stuck
+    line_stuck c.args.line.now (tokens_seen c.args.lexemes.now) c.args.left c.column-column.result (Some c.in-Ok-Some.construct)
+    (seen_tokens c.args.lexemes.now c.args.line.now c.requires.placed) c.requires.short c.requires.stuck
     (λ place e. c.column-column.ensures place (omega (arith, e, length-map c.args.lexemes.now (λ l. token_seen l.token))))
     (λ place e.
     let P : Option Construct → Type 0 = λ x. IsNamedAt (tokens_seen c.args.lexemes.now) place x in

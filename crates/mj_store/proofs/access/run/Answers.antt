@@ -9,6 +9,8 @@ returns-in_err-push-clause-front g c =
 
 pub loop-access-preserved : goal.loop-access-preserved
 loop-access-preserved g c = record {
-  answered = rw (c.in_ok-push.ensures.items, c.in_ok-answer.ensures.answer) (answers_next _ _ _ _ _ _ c.loop-access-test.true c.access-item.is c.in_ok-answer.ensures.content ∙ c.loop-access.invariant.answered);
+  answered =
+      rw (c.in_ok-push.ensures.items, c.in_ok-answer.ensures.answer) (answers_next _ _ _ _ _ _ c.loop-access-test.true c.access-item.is c.in_ok-answer.ensures.content
+      ∙ c.loop-access.invariant.answered);
   content = after_next _ _ _ _ _ _ c.loop-access-test.true c.access-item.is c.loop-access.invariant.content c.in_ok-answer.ensures.content;
 }

@@ -11,5 +11,6 @@ use Rattle.mj_store.proofs.flat.query.Given as goal
 -- the best so far and those to come have the least of all
 abbrev pub invariant-loop-entry : goal.invariant-loop-entry
 invariant-loop-entry l =
-    fold (first_of (slice_cmp subscript_cmp)) (option_copied l.best) (filter (λ q. is_lt (slice_cmp subscript_cmp l.name.subscripts q)) (map (λ e. e.0) (subtree_at (drop l.entry-index l.entries) (with_subscripts l.name []))))
+    fold (first_of (slice_cmp subscript_cmp)) (option_copied l.best) (filter (λ q. is_lt (slice_cmp subscript_cmp l.name.subscripts q))
+    (map (λ e. e.0) (subtree_at (drop l.entry-index l.entries) (with_subscripts l.name []))))
     ≡ next_after subscript_cmp l.name.subscripts (subtree_at l.entries (with_subscripts l.name []))

@@ -11,4 +11,5 @@ returns-then-at-eq0 c =
 pub returns : goal.returns
 returns c =
     let is = sym c.number_or.ensures ∙ c.in_ok-number_or.was in
-    ascii_some c.args.text.now _ (option_copied c.args.at) _ _ _ _ _ c.bytes-bytes.ensures.value c.from_truth.ensures is c.place-at.ensures.value c.if-at-eq0.false c.if-at-bytes.false c.from.ensures c.count_text.ensures
+    ascii_some c.args.text.now _ (option_copied c.args.at) _ _ _ _ _ c.bytes-bytes.ensures.value c.from_truth.ensures is c.place-at.ensures.value c.if-at-eq0.false c.if-at-bytes.false c.from.ensures
+    c.count_text.ensures

@@ -5,7 +5,8 @@ use Rattle.mj_strfn.proofs.PieceLaws.{assembled_within, repeat_more, room_more, 
 use Rattle.mj_strfn.proofs.pieces.assembled_short.Goals as goal
 
 pub put-requires-in-loop-time : goal.put-requires-in-loop-time
-put-requires-in-loop-time c = room_more _ c.args.front.now c.args.filling.now c.args.middle.now c.args.back.now c.loop-time._time c.args.times 256 c.loop-time.invariant c.loop-time-test.true c.requires
+put-requires-in-loop-time c =
+    room_more _ c.args.front.now c.args.filling.now c.args.middle.now c.args.back.now c.loop-time._time c.args.times 256 c.loop-time.invariant c.loop-time-test.true c.requires
 
 pub loop-time-preserved : goal.loop-time-preserved
 loop-time-preserved c =

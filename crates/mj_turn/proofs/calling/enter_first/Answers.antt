@@ -53,5 +53,5 @@ returns-clause-ok c = λ reply. (
       ∙ ap goes (sym (c.in_ok-open_frame.ensures.ok reply))
       ∙ ap (λ ls. there ls [] tallied) (sym c.clear.ensures.items)
       ∙ ap (λ ks. there c.clear.new.self.items ks tallied) (sym c.clear-2.ensures.items)
-      ∙ ap (λ st. there c.clear.new.self.items c.clear-2.new.self.items st) (sym c.put_tallies.ensures),
+      ∙ ap (λ st. there c.clear.new.self.items c.clear-2.new.self.items st) (sym c.put_tallies.ensures.items),
 )

@@ -27,7 +27,7 @@ returns-in-Ok-clause-ok c =
     let e : numbers ends stack ≡ Ok r = sym (ap (λ st. numbers ends (reverse st)) c.deref.ensures.value) ∙ sym c.numbers.ensures ∙ c.in-Ok.is in
     IfOk-weaker c.first_pass.result _ _
     (λ step d. λ reply all u.
-    does_as (λ next. machines.begins (if ends then spans.UpTo else spans.Endless) ls next ctx c.args.pc stack)
+    does_as (λ next. machines.for_begins (if ends then spans.UpTo else spans.Endless) ls next ctx c.args.pc stack)
     (λ next. starts ls r.0 r.1 r.2 c.operands_of-taken.result next ctx c.args.pc stack) m reply step _
     (λ next n back replies. ranged next ctx c.args.pc stack n back (state_of m) replies ends c.operands_of-taken.result ls l is c.operands_of-taken.ensures (Ok r) e) (d reply))
     c.first_pass.ensures.ok
@@ -43,5 +43,5 @@ returns-in-Err-clause-ok c = λ reply all u.
     let l : Loop = some.0 in
     let is : innermost ls ≡ Some l = some.1 in
     let e : numbers ends stack ≡ Err c.in-Err.fault = sym (ap (λ st. numbers ends (reverse st)) c.deref.ensures.value) ∙ sym c.numbers.ensures ∙ c.in-Err.is in
-    does_as (λ next. machines.begins (if ends then spans.UpTo else spans.Endless) ls next ctx c.args.pc stack) (λ next. told.fault c.in-Err.fault) m reply c.fail.result _
+    does_as (λ next. machines.for_begins (if ends then spans.UpTo else spans.Endless) ls next ctx c.args.pc stack) (λ next. told.fault c.in-Err.fault) m reply c.fail.result _
     (λ next n back replies. unread next ctx c.args.pc stack n back (state_of m) replies ends ls l is c.in-Err.fault e) (c.fail.ensures reply)

@@ -7,7 +7,7 @@ use Rattle.mj_turn.specs.Starts.{start_of}
 use Rattle.mj_turn.specs.Faults.{telling, closing}
 use Rattle.mj_pcode.specs.Machine.{act, act_in, exec}
 use Rattle.mj_machine.specs.declared.control.Control.TheVariants as controls
-use Rattle.mj_pcode.specs.declared.instr.Instr.TheVariants.{MarkRestart, BeginAgain}
+use Rattle.mj_pcode.specs.declared.instr.Instr.TheVariants.{MarkRestart, BeginRestart}
 use Rattle.mj_machine.specs.Standing.{Code, left, from, begin}
 use Rattle.mj_machine.specs.Kept.{stack_of, state_of, context_of, restart_of, replied}
 use Rattle.mj_pcode.specs.Checked.{footing, Holds, footings_in}
@@ -189,8 +189,8 @@ returns-in-MarkRestart-clause-ok c =
     (d (replied c.args.given) units u))
     c.mark_restart.ensures.ok
 
-pub returns-in-BeginAgain-clause-ok : goal.returns-in-BeginAgain-clause-ok
-returns-in-BeginAgain-clause-ok c =
+pub returns-in-BeginRestart-clause-ok : goal.returns-in-BeginRestart-clause-ok
+returns-in-BeginRestart-clause-ok c =
     let old = c.args.machine.now in
     let units = c.args.units.now in
     let code : Code = record { units = units; start = start_of c.args.start.now } in
@@ -200,15 +200,15 @@ returns-in-BeginAgain-clause-ok c =
     let h = c.in-Some.ensures.lookup in
     let found : slice_get units old.unit ≡ Some u = slice_get-get_or units old.unit u h.3.0 ∙ ap Some (sym h.1) in
     let g = c.in-Some-get.ensures.lookup in
-    let at : slice_get u.instrs.items pc ≡ Some BeginAgain =
-    ap (λ l. slice_get l pc) (sym c.deref.ensures.value) ∙ slice_get-get_or c.deref.result.now pc i g.3.0 ∙ ap Some (sym g.1) ∙ ap Some c.in-BeginAgain.is in
-    IfOk-weaker c.begin_again.result _ _
-    (λ step d. steps_among code (λ next. act units u (Some BeginAgain) next (context_of old) pc (stack_of old)) old (replied c.args.given) step _
+    let at : slice_get u.instrs.items pc ≡ Some BeginRestart =
+    ap (λ l. slice_get l pc) (sym c.deref.ensures.value) ∙ slice_get-get_or c.deref.result.now pc i g.3.0 ∙ ap Some (sym g.1) ∙ ap Some c.in-BeginRestart.is in
+    IfOk-weaker c.begin_restart.result _ _
+    (λ step d. steps_among code (λ next. act units u (Some BeginRestart) next (context_of old) pc (stack_of old)) old (replied c.args.given) step _
     (λ n h replies. ap (λ k. left code k (context_of old) (stack_of old) (suc n) h (state_of old) replies) c.in-At.is
     ∙ ap (λ o. act_in units o (exec units n) (context_of old) pc (stack_of old) n h (state_of old) replies) found
     ∙ ap (λ i. act units u i (exec units n) (context_of old) pc (stack_of old) n h (state_of old) replies) at)
     (d pc units u))
-    c.begin_again.ensures.ok
+    c.begin_restart.ensures.ok
 
 pub returns-in-MarkRestart-clause-sound : goal.returns-in-MarkRestart-clause-sound
 returns-in-MarkRestart-clause-sound c =
@@ -226,10 +226,10 @@ returns-in-MarkRestart-clause-sound c =
     subst (λ k. MayStand units k (context_of old) (stack_of old) (restart_of old)) c.in-At.is c.requires.sound in
     mark_sound units c.requires.checked u pc old c.mark_restart.new.machine c.mark_restart.result found at stands.0 c.requires.sound c.mark_restart.ensures.goes c.mark_restart.ensures.err
 
-pub returns-in-BeginAgain-clause-sound : goal.returns-in-BeginAgain-clause-sound
-returns-in-BeginAgain-clause-sound c =
+pub returns-in-BeginRestart-clause-sound : goal.returns-in-BeginRestart-clause-sound
+returns-in-BeginRestart-clause-sound c =
     let old = c.args.machine.now in
     let units = c.args.units.now in
     let stands : MayStand units (controls.At c.in-At.pc) (context_of old) (stack_of old) (restart_of old) =
     subst (λ k. MayStand units k (context_of old) (stack_of old) (restart_of old)) c.in-At.is c.requires.sound in
-    again_sound units old (replied c.args.given) c.begin_again.new.machine c.begin_again.result stands.1 c.requires.sound c.begin_again.ensures.goes c.begin_again.ensures.err
+    again_sound units old (replied c.args.given) c.begin_restart.new.machine c.begin_restart.result stands.1 c.requires.sound c.begin_restart.ensures.goes c.begin_restart.ensures.err

@@ -3,6 +3,6 @@ use Rattle.mj_machine.specs.Kept.{replied}
 use Rattle.mj_turn.proofs.Turns.{obeys}
 use Rattle.mj_turn.proofs.turn.obey.Goals as goal
 
-pub returns-in-NoneTrue-clause-ok : goal.returns-in-NoneTrue-clause-ok
-returns-in-NoneTrue-clause-ok c =
-    obeys c.args.units.now c.args.unit.now c.args.instr.now instrs.NoneTrue c.args.pc c.args.machine.now (replied c.args.given) c.fail.result _ c.in-NoneTrue.is (c.fail.ensures (replied c.args.given))
+pub returns-in-SelectFails-clause-ok : goal.returns-in-SelectFails-clause-ok
+returns-in-SelectFails-clause-ok c =
+    obeys c.args.units.now c.args.unit.now c.args.instr.now instrs.SelectFails c.args.pc c.args.machine.now (replied c.args.given) c.fail.result _ c.in-SelectFails.is (c.fail.ensures (replied c.args.given))

@@ -1,5 +1,5 @@
 use Rattle.mj_pcode.specs.declared.instr.Instr.TheVariants as instrs
-use Rattle.mj_machine.specs.declared.machine.Step.TheVariants as steps
+use Rattle.mj_machine.specs.declared.machine.TurnOutcome.TheVariants as steps
 use Rattle.mj_machine.specs.Kept.{replied}
 use Rattle.mj_turn.proofs.Turns.{obeys}
 use Rattle.mj_turn.proofs.turn.obey_control.Goals as goal

@@ -8,7 +8,7 @@ use Rattle.mj_store.specs.Changes.{followed_by}
 use Rattle.mj_txlog.specs.Accesses.{Accesses, seen}
 use Rattle.mj_txlog.specs.Laid.{IsLaid, is_before}
 use Rattle.mj_txlog.specs.Steps.{IsStep}
-use Rattle.mj_txlog.specs.declared.next.Step.{Step}
+use Rattle.mj_txlog.specs.declared.next.StepOutcome.{StepOutcome}
 use Rattle.mj_txlog.specs.Skips.{AreSkips, IsJump, IsFar}
 use Rattle.mj_txlog.proofs.Passing.{killed}
 use Rattle.mj_txlog.proofs.Bare.{end_bare, far_jump, one_jump, unseen_bare, bare_order}
@@ -36,7 +36,9 @@ pass_over-loop-init t c = record {
 
 pub pass_over-returns-in_default : goal.pass_over-returns-in_default
 pass_over-returns-in_default t c = record {
-  found = found_next c.args.own.now c.args.globals.now c.args.front.now c.args.way c.args.at.now c.loop.at c.loop.invariant.passed c.args.mine.now c.requires.mine c.in_ok-found.found c.take_step.new.at c.in_ok-found.ensures.step;
+  found =
+      found_next c.args.own.now c.args.globals.now c.args.front.now c.args.way c.args.at.now c.loop.at c.loop.invariant.passed c.args.mine.now c.requires.mine c.in_ok-found.found c.take_step.new.at
+      c.in_ok-found.ensures.step;
   skips = c.in_ok-found.ensures.skips;
 }
 
@@ -47,7 +49,7 @@ pass_over-loop-preserved t c =
     let f = c.args.front.now in
     let way = c.args.way in
     let far = c.take_step.new.at in
-    let passed = subst (λ (x : Step). IsStep g o f way c.args.mine.now c.loop.at x far) c.in-Passed.is c.in_ok-found.ensures.step in
+    let passed = subst (λ (x : StepOutcome). IsStep g o f way c.args.mine.now c.loop.at x far) c.in-Passed.is c.in_ok-found.ensures.step in
     record {
       passed = λ es laid. run_passed o es laid g f way c.args.at.now c.loop.at (c.loop.invariant.passed es laid) passed.0 far (sym passed.1) passed.2 (passed.3 es laid);
       bare = λ es laid e. end_bare g o.gone f way passed.0 far (passed.3 es laid);
@@ -65,7 +67,9 @@ take_step-returns-in-Ok-Some-clause-skips t c es laid =
     let jump : IsJump g o.gone f way next far =
     subst (λ (r : Option (List ℕ)). IfSome r (λ far. (es : Accesses) → IsLaid o es → IsJump g o.gone f way next far)) c.in-Ok-Some.field-0-is c.in-Ok-Some.ensures.passed es laid
     in
-    let before = subst (λ (r : Option (List ℕ)). IfSome r (λ u. (order_at g (followed_by f (c.args.at.now ∷ [])) way ≡ Some u) × (is_before (along way subscript_cmp) u c.args.mine.now ≡ true))) c.in-Some.is c.in_ok-next_before.ensures.before in
+    let before =
+    subst (λ (r : Option (List ℕ)). IfSome r (λ u. (order_at g (followed_by f (c.args.at.now ∷ [])) way ≡ Some u) × (is_before (along way subscript_cmp) u c.args.mine.now ≡ true))) c.in-Some.is
+    c.in_ok-next_before.ensures.before in
     c.pass_on-step.ensures.skips g o.gone (c.in-Ok-Some.ensures.skips es laid)
     (λ e. joins_on o es laid g f way c.args.at.now next far (sym before.0) (c.requires.bare es laid e) jump)
     jump.bare
@@ -109,7 +113,8 @@ next_below-returns-then-is_leaf-2 t c = record {
 pub stands-returns-then-is_any : goal.stands-returns-then-is_any
 stands-returns-then-is_any t c = record {
   there = λ es laid.
-      let own : stands c.args.own.now.over c.args.name.now ≡ true = ap (λ (x : Content). stands x c.args.name.now) (sym c.over.ensures.which) ∙ sym (data_stands c.over.result.now c.args.name.now) ∙ sym c.if-is_any.ensures in
+      let own : stands c.args.own.now.over c.args.name.now ≡ true =
+      ap (λ (x : Content). stands x c.args.name.now) (sym c.over.ensures.which) ∙ sym (data_stands c.over.result.now c.args.name.now) ∙ sym c.if-is_any.ensures in
       said (seen c.args.globals.now es) c.args.name.now true (own_stands c.args.own.now es laid c.args.globals.now c.args.name.now own);
   skips = c.requires;
 }
@@ -117,7 +122,8 @@ stands-returns-then-is_any t c = record {
 pub stands-returns-then-branch : goal.stands-returns-then-branch
 stands-returns-then-branch t c = record {
   there = λ es laid.
-      let own : stands c.args.own.now.over c.args.name.now ≡ false = ap (λ (x : Content). stands x c.args.name.now) (sym c.over.ensures.which) ∙ sym (data_stands c.over.result.now c.args.name.now) ∙ sym c.if-is_any.ensures in
+      let own : stands c.args.own.now.over c.args.name.now ≡ false =
+      ap (λ (x : Content). stands x c.args.name.now) (sym c.over.ensures.which) ∙ sym (data_stands c.over.result.now c.args.name.now) ∙ sym c.if-is_any.ensures in
       said (seen c.args.globals.now es) c.args.name.now false (gone_stands c.args.own.now es laid c.args.globals.now c.args.name.now (sym c.in_ok-went.ensures ∙ c.if-branch.true) ∙ own);
   skips = c.requires;
 }
@@ -125,7 +131,8 @@ stands-returns-then-branch t c = record {
 pub stands-returns-then-not-is_any_gone : goal.stands-returns-then-not-is_any_gone
 stands-returns-then-not-is_any_gone t c = record {
   there = λ es laid.
-      let own : stands c.args.own.now.over c.args.name.now ≡ false = ap (λ (x : Content). stands x c.args.name.now) (sym c.over.ensures.which) ∙ sym (data_stands c.over.result.now c.args.name.now) ∙ sym c.if-is_any.ensures in
+      let own : stands c.args.own.now.over c.args.name.now ≡ false =
+      ap (λ (x : Content). stands x c.args.name.now) (sym c.over.ensures.which) ∙ sym (data_stands c.over.result.now c.args.name.now) ∙ sym c.if-is_any.ensures in
       let none : data_at c.args.own.now.gone c.args.name.now ≡ 0 = none_gone (data_at c.args.own.now.gone c.args.name.now) (sym c.if-not-is_any_gone.ensures) in
       c.is_any-then-not-is_any_gone.ensures
       ∙ data_stands c.args.globals.now c.args.name.now
@@ -146,7 +153,8 @@ pub stands-returns : goal.stands-returns
 stands-returns t c = record {
   there = λ es laid.
       let sees = seen c.args.globals.now es in
-      let own : stands c.args.own.now.over c.args.name.now ≡ false = ap (λ (x : Content). stands x c.args.name.now) (sym c.over.ensures.which) ∙ sym (data_stands c.over.result.now c.args.name.now) ∙ sym c.if-is_any.ensures in
+      let own : stands c.args.own.now.over c.args.name.now ≡ false =
+      ap (λ (x : Content). stands x c.args.name.now) (sym c.over.ensures.which) ∙ sym (data_stands c.over.result.now c.args.name.now) ∙ sym c.if-is_any.ensures in
       let text : is_some (value_at c.args.globals.now c.args.name.now) ≡ false = search rules in
       let none : is_some (value_at sees c.args.name.now) ≡ false = no_text c.args.own.now es laid c.args.globals.now c.args.name.now own (sym c.in_ok-went.ensures ∙ c.if-branch.false) text in
       c.is_some-2.ensures

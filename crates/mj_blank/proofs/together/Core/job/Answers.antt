@@ -2,10 +2,10 @@ use Rattle.std.specs.Prelude.{slice_get}
 use Rattle.std.proofs.Common.{◌≡◌, ◌<◌, ◌≤◌, suc, length, None, Some, refl, sym, ap, ◌∙◌, subst, arith}
 use Rattle.std.proofs.lemmas.Option.{slice_get_read, slice_get_past}
 use Rattle.mj_jobs.specs.Rows.{Row, row_at}
-use Rattle.mj_core.specs.Jobs.{IsRunOf}
+use Rattle.mj_jobvm.specs.Jobs.{IsRunOf}
 use Rattle.mj_sys.specs.History.{state_of, log_of}
-use Rattle.mj_events.specs.Woven.{woven}
-use Rattle.mj_events.proofs.Logs.{silent_zero}
+use Rattle.mj_core.specs.Woven.{woven}
+use Rattle.mj_core.proofs.Logs.{silent_zero}
 use Rattle.mj_core.specs.Runs.{start_in}
 use Rattle.mj_core.specs.Shown.{Shown}
 use Rattle.mj_blank.specs.Ties.{Placed}
@@ -72,6 +72,8 @@ returns-in-Some-get-clause-run g c =
     let at = c.in-Some.at in
     let opening = g.O.Opening.opening in
     subst (λ (s : Shown). (row : Row) × (row_at (state_of opening s.history).rows job ≡ Some row) × IsRunOf s.image (start_in job row.start) c.slot.inside.job) c.self.view_is
-    (subst (λ j. (row : Row) × (row_at (state_of opening (woven (logs_of i.slots.items) i.order.items)).rows j ≡ Some row) × IsRunOf i.image (start_in j row.start) c.slot.inside.job) (sym (number g c))
-    (subst (λ (p : Placed). (row : Row) × (row_at (state_of opening (woven (logs_of i.slots.items) i.order.items)).rows (suc at) ≡ Some row) × IsRunOf i.image (start_in (suc at) row.start) p.job) (sym c.slot.view_is)
+    (subst (λ j. (row : Row) × (row_at (state_of opening (woven (logs_of i.slots.items) i.order.items)).rows j ≡ Some row) × IsRunOf i.image (start_in j row.start) c.slot.inside.job)
+    (sym (number g c))
+    (subst (λ (p : Placed). (row : Row) × (row_at (state_of opening (woven (logs_of i.slots.items) i.order.items)).rows (suc at) ≡ Some row)
+    × IsRunOf i.image (start_in (suc at) row.start) p.job) (sym c.slot.view_is)
     (shown_run i.image opening i.system i.slots.items (claim_of i.waiting) i.order.items c.self.invariant.0 at c.in-Some-get.slot.now (here g c))))

@@ -5,13 +5,13 @@ use Rattle.std.specs.Vec.{with_items}
 use Rattle.std.specs.Prelude.{Ok, Err, option_copied}
 use Rattle.std.specs.List.{slice_index_or}
 use Rattle.mj_sys.specs.System.{history_limit}
-use Rattle.mj_events.specs.Woven.{woven}
-use Rattle.mj_events.specs.declared.happened.Happened.{Happened}
+use Rattle.mj_core.specs.Woven.{woven}
+use Rattle.mj_core.specs.declared.happened.Happened.{Happened}
 use Rattle.mj_core.specs.declared.seen.Seen.TheVariants as seen
-use Rattle.mj_core.specs.declared.seen.Refusal.TheVariants as refusals
+use Rattle.mj_steps.specs.declared.step.Refusal.TheVariants as refusals
 use Rattle.mj_core.specs.Shown.{Shown}
 use Rattle.mj_core.specs.Gives.{is_late}
-use Rattle.mj_blank.specs.Gives.{Gives}
+use Rattle.mj_blank.specs.Gives.{CoreStepGives}
 use Rattle.mj_blank.proofs.Answering.{late_is}
 use Rattle.mj_blank.specs.Ties.{Placed}
 use Rattle.mj_core.specs.Kept.{claim_of}
@@ -45,7 +45,7 @@ returns-then-not-is_live g c =
     let room = room_as i.image opening i.system i.slots.items (claim_of i.waiting) i.order.items c.self.invariant.0 i.over.items 255 c.args.self.now c.self.view_is few in
     let done = done_as i.image opening i.system i.slots.items (claim_of i.waiting) i.order.items c.self.invariant.0 i.over.items 255 c.args.self.now c.self.view_is c.args.step.job
     (λ live. false≢true (c.if-not-is_live.ensures.1 live)) in
-    let P : Shown → Type 0 = λ s. Gives opening c.args.self.now c.args.step given (Ok seen.Ended) s in
+    let P : Shown → Type 0 = λ s. CoreStepGives opening c.args.self.now c.args.step given (Ok seen.Ended) s in
     subst P (ap (λ (s : Shown). let t : Shown = record s { over = slice_set s.over c.in-Some.at true } in t) (sym c.self.view_is))
     (is_done opening c.args.self.now c.args.step given c.in-Some.at there.0 there.2 going room done)
 
@@ -62,7 +62,7 @@ returns-in_default-reserve g c =
     let room = room_as i.image opening i.system i.slots.items (claim_of i.waiting) i.order.items c.self.invariant.0 i.over.items 255 c.args.self.now c.self.view_is few in
     let reserved : shown i.image i.slots.items c.reserve.new.self.items i.over.items 255 ≡ c.args.self.now =
     ap (λ o. shown i.image i.slots.items o i.over.items 255) c.reserve.ensures.items ∙ c.self.view_is in
-    let P : Shown → Type 0 = λ s. Gives opening c.args.self.now c.args.step given (Err refusals.Memory) s in
+    let P : Shown → Type 0 = λ s. CoreStepGives opening c.args.self.now c.args.step given (Err refusals.Memory) s in
     subst P (sym reserved) (is_short opening c.args.self.now c.args.step given c.in-Some.at there.0 there.2 going room)
 
 pub admit-requires-clause-row : goal.admit-requires-clause-row
@@ -91,7 +91,7 @@ returns-in_default-admit g c =
     shown_same i.image i.slots.items c.admit.new.slots.items c.reserve.new.self.items i.over.items 255
     (let W : List Happened → Type 0 = λ o. woven (logs_of c.admit.new.slots.items) o ≡ woven (logs_of i.slots.items) o in subst W c.deref.ensures.value c.admit.ensures.woven)
     (c.admit.ensures.turns 255) ∙ reserved in
-    let P : Shown → Type 0 = λ s. Gives opening c.args.self.now c.args.step given (Err refusals.Memory) s in
+    let P : Shown → Type 0 = λ s. CoreStepGives opening c.args.self.now c.args.step given (Err refusals.Memory) s in
     subst P (sym admitted) (is_short opening c.args.self.now c.args.step given c.in-Some.at there.0 there.2 going room)
 
 pub returns : goal.returns
@@ -116,7 +116,7 @@ returns g c =
     with_items_is c.admit.new.slots c.go.new.slots (c.go.auto.slots ∙ ap (λ l. length l) c.deref_mut.ensures.value ∙ sym c.admit.new.slots.ok.0) in
     let over_are : (with_items i.over c.go.new.over).items ≡ c.go.new.over =
     with_items_is i.over c.go.new.over (c.go.auto.over ∙ ap (λ l. length l) c.deref_mut-2.ensures.value ∙ sym i.over.ok.0) in
-    let P : List Placed → List Bool → Type 0 = λ s o. Gives opening c.args.self.now c.args.step given c.go.result (shown i.image s c.go.new.order.items o 255) in
+    let P : List Placed → List Bool → Type 0 = λ s o. CoreStepGives opening c.args.self.now c.args.step given c.go.result (shown i.image s c.go.new.order.items o 255) in
     subst (λ s. P s (with_items i.over c.go.new.over).items) (sym slots_are)
     (subst (λ o. P c.go.new.slots o) (sym over_are)
     (is_made opening c.args.self.now c.args.step given c.in-Some.at there.0 there.2 going room c.go.result (shown i.image c.go.new.slots c.go.new.order.items c.go.new.over 255)

@@ -11,7 +11,8 @@ use Rattle.mj_blank.proofs.together.Core.ready.Goals as goal
 pub returns-then-not-is_live : goal.returns-then-not-is_live
 returns-then-not-is_live g c =
     let i = c.self.inside in
-    readied_done i.image g.O.Opening.opening i.system i.slots.items (claim_of i.waiting) i.order.items c.self.invariant.0 i.over.items c.args.self.now c.self.view_is c.args.job c.in-Some.at c.in-Some.ensures.some.0 c.in-Some.ensures.some.2
+    readied_done i.image g.O.Opening.opening i.system i.slots.items (claim_of i.waiting) i.order.items c.self.invariant.0 i.over.items c.args.self.now c.self.view_is c.args.job c.in-Some.at
+    c.in-Some.ensures.some.0 c.in-Some.ensures.some.2
     c.index.result.now c.self.invariant.1 c.in-Some.ensures.some.1 c.index.ensures c.if-index.false
     (λ live. (let no : false ≡ true = c.if-not-is_live.ensures.1 live in cc))
 
@@ -24,7 +25,8 @@ admit-requires-clause-row g c =
 pub returns-in_default-admit : goal.returns-in_default-admit
 returns-in_default-admit g c =
     let i = c.self.inside in
-    readied_short i.image g.O.Opening.opening i.system i.slots.items (claim_of i.waiting) i.order.items c.self.invariant.0 i.over.items c.args.self.now c.self.view_is c.args.job c.in-Some.at c.in-Some.ensures.some.0 c.in-Some.ensures.some.2
+    readied_short i.image g.O.Opening.opening i.system i.slots.items (claim_of i.waiting) i.order.items c.self.invariant.0 i.over.items c.args.self.now c.self.view_is c.args.job c.in-Some.at
+    c.in-Some.ensures.some.0 c.in-Some.ensures.some.2
     c.index.result.now c.self.invariant.1 c.in-Some.ensures.some.1 c.index.ensures c.if-index.false
     c.admit.new.slots.items c.deref.result.now c.deref.ensures.value c.admit.ensures.woven c.admit.ensures.turns
 
@@ -34,7 +36,8 @@ returns g c =
     let long : length c.go_ready.new.slots ≡ c.admit.new.slots.len = c.go_ready.auto.slots ∙ ap (λ l. length l) c.deref_mut.ensures.value ∙ sym c.admit.new.slots.ok.0 in
     let P : List Placed → Type 0 = λ l. GivesReady g.O.Opening.opening c.args.self.now c.args.job c.go_ready.result (shown i.image l i.order.items i.over.items 255) in
     subst P (sym (with_items_is c.admit.new.slots c.go_ready.new.slots long)) (
-    readied i.image g.O.Opening.opening i.system i.slots.items (claim_of i.waiting) i.order.items c.self.invariant.0 i.over.items c.args.self.now c.self.view_is c.args.job c.in-Some.at c.in-Some.ensures.some.0 c.in-Some.ensures.some.2
+    readied i.image g.O.Opening.opening i.system i.slots.items (claim_of i.waiting) i.order.items c.self.invariant.0 i.over.items c.args.self.now c.self.view_is c.args.job c.in-Some.at
+    c.in-Some.ensures.some.0 c.in-Some.ensures.some.2
     c.index.result.now c.self.invariant.1 c.in-Some.ensures.some.1 c.index.ensures c.if-index.false
     c.admit.new.slots.items c.deref.result.now c.deref.ensures.value c.admit.ensures.woven c.admit.ensures.turns
     c.deref_mut.result.now c.go_ready.new.slots c.deref-2.result.now c.deref_mut.ensures.value c.deref-2.ensures.value c.go_ready.result c.go_ready.ensures.readies)

@@ -14,7 +14,14 @@ returns-in-Some-clause-ok g c =
     let opening = g.O.Opening.opening in
     let core : c.ready_on.new.core ≡ c.self.inside.core =
     asks_core opening c.self.inside.core c.ready_on.new.core c.args.job (turn_of c.ready_on.result) (ap turn_of c.in-Ok.ensures.asks) c.ready_on.ensures.gives in
-    let W : Shown → Walk = λ k. record { core = k; place = c.self.inside.place; ready = is_ready c.self.inside.place c.self.inside.views c.self.inside.replica; marks = c.self.inside.marks.items; turn = c.self.inside.turn } in
+    let W : Shown → Walk =
+    λ k. record {
+      core = k;
+      place = c.self.inside.place;
+      ready = is_ready c.self.inside.place c.self.inside.views c.self.inside.replica;
+      marks = c.self.inside.marks.items;
+      turn = c.self.inside.turn;
+    } in
     let same : W c.ready_on.new.core ≡ c.args.self.now = ap W core ∙ c.self.view_is in
     stopped opening (W c.ready_on.new.core) c.args.self.now _ c.args.job c.in-Some.routine c.in-Some.line same c.requires.end c.requires.ready c.requires.turn
     c.in-Some.ensures.some refl
@@ -24,7 +31,14 @@ returns-clause-ok g c =
     let opening = g.O.Opening.opening in
     let core : c.ready_on.new.core ≡ c.self.inside.core =
     asks_core opening c.self.inside.core c.ready_on.new.core c.args.job (turn_of c.ready_on.result) (ap turn_of c.in-Ok.ensures.asks) c.ready_on.ensures.gives in
-    let W : Shown → Walk = λ k. record { core = k; place = c.self.inside.place; ready = is_ready c.self.inside.place c.self.inside.views c.self.inside.replica; marks = c.self.inside.marks.items; turn = c.self.inside.turn } in
+    let W : Shown → Walk =
+    λ k. record {
+      core = k;
+      place = c.self.inside.place;
+      ready = is_ready c.self.inside.place c.self.inside.views c.self.inside.replica;
+      marks = c.self.inside.marks.items;
+      turn = c.self.inside.turn;
+    } in
     let same : W c.ready_on.new.core ≡ c.args.self.now = ap W core ∙ c.self.view_is in
     passed_so opening (W c.ready_on.new.core) c.args.self.now _ c.args.job c.pass.result c.pass.new.self same c.requires.end c.requires.turn
     (inr (refl, c.in_default.ensures.none)) c.pass.ensures

@@ -25,4 +25,5 @@ returns-clause-replica g c =
     let ready : is_ready c.self.inside.place c.self.inside.views c.self.inside.replica ≡ true = ap (λ (w : Walk). w.ready) c.self.view_is ∙ c.requires in
     let P : Walk → Type 0 = λ w. IsView w.core.image opening (front w) (view_of opening c.at_hand.result.now) in
     subst P c.self.view_is
-    (run_shows c.self.inside.core.image opening c.self.inside.core.history c.self.inside.place c.self.inside.views c.self.inside.replica c.at_hand.result.now c.self.invariant.3 c.at_hand.ensures none ready)
+    (run_shows c.self.inside.core.image opening c.self.inside.core.history c.self.inside.place c.self.inside.views c.self.inside.replica c.at_hand.result.now c.self.invariant.3
+    c.at_hand.ensures none ready)

@@ -12,7 +12,8 @@ loop-job-preserved g c = λ other from below. by other from (next_or_before othe
   by other from (inr earlier) = c.loop-job.invariant other from earlier
   by other from (inl is) = λ live. (
       let L : History → Type 0 = λ h. IsLive (state_of g.O.Opening.opening h).rows c.loop-job.job in
-      let here : IsLive (state_of g.O.Opening.opening c.args.self.now.system.history).rows c.loop-job.job = subst (λ (j : ℕ). IsLive (state_of g.O.Opening.opening c.args.self.now.system.history).rows j) is live in
+      let here : IsLive (state_of g.O.Opening.opening c.args.self.now.system.history).rows c.loop-job.job =
+      subst (λ (j : ℕ). IsLive (state_of g.O.Opening.opening c.args.self.now.system.history).rows j) is live in
       let inside : IsLive (state_of g.O.Opening.opening c.self.inside.system.history).rows c.loop-job.job = subst L (ap (λ (r : Replayed). r.system.history) (sym c.self.view_is)) here in
       let no : true ≡ false = sym (c.is_live.ensures.1 inside) ∙ c.if-is_live.false in cc)
 

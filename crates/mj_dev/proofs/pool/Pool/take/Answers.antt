@@ -14,7 +14,8 @@ pub invariant_of-self : goal.invariant_of-self
 invariant_of-self g c =
     let found : IsFound c.args.name.now c.self.inside.rows.items c.in_ok-place.place c.index_mut-row.result.now =
     found-named _ _ _ _ (ap (λ rows. position (is_named c.args.name.now) rows) (sym c.as_slice.ensures.value) ∙ sym c.place_of.ensures ∙ c.in_ok-place.was) c.index_mut-row.ensures.value in
-    rising-taken c.take.result c.args.name.now c.self.inside.rows.items c.in_ok-place.place c.index_mut-row.result.now c.take.new.self found c.index_mut-row.ensures.value c.take.ensures.kept c.take.ensures.taken c.self.invariant
+    rising-taken c.take.result c.args.name.now c.self.inside.rows.items c.in_ok-place.place c.index_mut-row.result.now c.take.new.self found c.index_mut-row.ensures.value c.take.ensures.kept
+    c.take.ensures.taken c.self.invariant
 
 pub returns-clause-none : goal.returns-clause-none
 returns-clause-none g c =

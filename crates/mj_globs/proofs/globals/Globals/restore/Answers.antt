@@ -10,13 +10,33 @@ use Rattle.mj_globs.proofs.Restores.{restore_globals, restore_locals}
 use Rattle.mj_globs.proofs.globals.Globals.restore.Goals as goal
 
 pub invariant_of-self : goal.invariant_of-self
-invariant_of-self c = (c.restore.ensures.rises, c.self.invariant.1, subst (λ (es : Content). T (is_sorted name_cmp es)) (sym (restore_globals (spelled c.self.inside.globals.entries) (spelled c.self.inside.locals.entries) c.args.name.now c.args.text (spelled c.restore.new.words.entries) c.if-is_global.ensures (λ g. c.restore.ensures.content g ∙ (λ i. restored name_cmp (name g (c.word.ensures i) (c.subscripts.ensures i)) c.args.text (of_kind g (spelled c.self.inside.globals.entries)))))) (sorted_restored name_cmp c.args.name.now c.args.text (of_both (spelled c.self.inside.globals.entries) (spelled c.self.inside.locals.entries)) c.self.invariant.2))
+invariant_of-self c = (
+  c.restore.ensures.rises,
+  c.self.invariant.1,
+  subst (λ (es : Content). T (is_sorted name_cmp es))
+      (sym (restore_globals (spelled c.self.inside.globals.entries) (spelled c.self.inside.locals.entries) c.args.name.now c.args.text (spelled c.restore.new.words.entries) c.if-is_global.ensures
+      (λ g. c.restore.ensures.content g ∙ (λ i. restored name_cmp (name g (c.word.ensures i) (c.subscripts.ensures i)) c.args.text (of_kind g (spelled c.self.inside.globals.entries))))))
+      (sorted_restored name_cmp c.args.name.now c.args.text (of_both (spelled c.self.inside.globals.entries) (spelled c.self.inside.locals.entries)) c.self.invariant.2),
+)
 
 pub returns-then-is_global : goal.returns-then-is_global
-returns-then-is_global c = (restore_globals (spelled c.self.inside.globals.entries) (spelled c.self.inside.locals.entries) c.args.name.now c.args.text (spelled c.restore.new.words.entries) c.if-is_global.ensures (λ g. c.restore.ensures.content g ∙ (λ i. restored name_cmp (name g (c.word.ensures i) (c.subscripts.ensures i)) c.args.text (of_kind g (spelled c.self.inside.globals.entries))))) ∙ ap (λ (es : Content). restored name_cmp c.args.name.now c.args.text es) c.self.view_is
+returns-then-is_global c =
+    (restore_globals (spelled c.self.inside.globals.entries) (spelled c.self.inside.locals.entries) c.args.name.now c.args.text (spelled c.restore.new.words.entries) c.if-is_global.ensures
+    (λ g. c.restore.ensures.content g ∙ (λ i. restored name_cmp (name g (c.word.ensures i) (c.subscripts.ensures i)) c.args.text (of_kind g (spelled c.self.inside.globals.entries)))))
+    ∙ ap (λ (es : Content). restored name_cmp c.args.name.now c.args.text es) c.self.view_is
 
 pub invariant_of-self-2 : goal.invariant_of-self-2
-invariant_of-self-2 c = (c.self.invariant.0, c.restore-2.ensures.rises, subst (λ (es : Content). T (is_sorted name_cmp es)) (sym (restore_locals (spelled c.self.inside.globals.entries) (spelled c.self.inside.locals.entries) c.args.name.now c.args.text (spelled c.restore-2.new.words.entries) c.if-is_global.ensures (λ g. c.restore-2.ensures.content g ∙ (λ i. restored name_cmp (name g (c.word-2.ensures i) (c.subscripts-2.ensures i)) c.args.text (of_kind g (spelled c.self.inside.locals.entries)))))) (sorted_restored name_cmp c.args.name.now c.args.text (of_both (spelled c.self.inside.globals.entries) (spelled c.self.inside.locals.entries)) c.self.invariant.2))
+invariant_of-self-2 c = (
+  c.self.invariant.0,
+  c.restore-2.ensures.rises,
+  subst (λ (es : Content). T (is_sorted name_cmp es))
+      (sym (restore_locals (spelled c.self.inside.globals.entries) (spelled c.self.inside.locals.entries) c.args.name.now c.args.text (spelled c.restore-2.new.words.entries) c.if-is_global.ensures
+      (λ g. c.restore-2.ensures.content g ∙ (λ i. restored name_cmp (name g (c.word-2.ensures i) (c.subscripts-2.ensures i)) c.args.text (of_kind g (spelled c.self.inside.locals.entries))))))
+      (sorted_restored name_cmp c.args.name.now c.args.text (of_both (spelled c.self.inside.globals.entries) (spelled c.self.inside.locals.entries)) c.self.invariant.2),
+)
 
 pub returns : goal.returns
-returns c = (restore_locals (spelled c.self.inside.globals.entries) (spelled c.self.inside.locals.entries) c.args.name.now c.args.text (spelled c.restore-2.new.words.entries) c.if-is_global.ensures (λ g. c.restore-2.ensures.content g ∙ (λ i. restored name_cmp (name g (c.word-2.ensures i) (c.subscripts-2.ensures i)) c.args.text (of_kind g (spelled c.self.inside.locals.entries))))) ∙ ap (λ (es : Content). restored name_cmp c.args.name.now c.args.text es) c.self.view_is
+returns c =
+    (restore_locals (spelled c.self.inside.globals.entries) (spelled c.self.inside.locals.entries) c.args.name.now c.args.text (spelled c.restore-2.new.words.entries) c.if-is_global.ensures
+    (λ g. c.restore-2.ensures.content g ∙ (λ i. restored name_cmp (name g (c.word-2.ensures i) (c.subscripts-2.ensures i)) c.args.text (of_kind g (spelled c.self.inside.locals.entries)))))
+    ∙ ap (λ (es : Content). restored name_cmp c.args.name.now c.args.text es) c.self.view_is

@@ -4,10 +4,10 @@ use Rattle.mj_semantics.specs.Job.{Start}
 use Rattle.mj_load.specs.Image.{routines_of}
 use Rattle.mj_machine.specs.Standing.{Standing}
 use Rattle.mj_machine.specs.Kept.{standing}
-use Rattle.mj_segment.specs.Starts.{start_of}
+use Rattle.mj_turn.specs.Starts.{start_of}
 use Rattle.mj_jobvm.specs.Run.{Log, IsRunAfter}
 use Rattle.mj_jobvm.specs.declared.job.Turn.TheVariants as reports
-use Rattle.mj_jobvm.specs.Told.{Told}
+use Rattle.mj_jobvm.specs.Told.{AdvanceTells}
 use Rattle.mj_jobvm.specs.Jobs.{Running, IsRunOfAfter, running, given_of, code_in}
 use Rattle.mj_jobvm.proofs.Advance.{counted_as, went_ahead, went_on, went_asks, went_over, told_over}
 use Rattle.mj_jobvm.proofs.Jobs.{run, told_again, told_asks, told_ran}
@@ -218,7 +218,7 @@ returns-in-Asks-clause-told c = λ start (turns, is).
     (c.args.self.now.run.spent + c.turns.done) more s.machine c.run_segment-made.new.machine s.given c.run_segment-made.ensures.turns c.run_segment-made.ensures.sound (i.run start turns is) in
     let spent = c.args.self.now.run.spent + c.turns.done + more in
     let at : Standing = standing c.go_on.new.machine (given_of c.go_on.new.given s.log.items) in
-    let P : Option Ask → Type 0 = λ p. Told (routines_of c.args.image.now) start reports.Asks (run s.log.items p spent at) in
+    let P : Option Ask → Type 0 = λ p. AdvanceTells (routines_of c.args.image.now) start reports.Asks (run s.log.items p spent at) in
     subst P (sym c.wait.ensures)
     (told_asks (routines_of c.args.image.now) start (code_in c.args.image.now (start_of s.start)) s.log.items spent c.in-Asks.ask.value at (
       turns + c.turns.done + more,

@@ -1,11 +1,11 @@
 use Rattle.std.proofs.Common.{◌≡◌, ℕ, ◌+◌, ◌-◌, ◌<◌, ◌≤◌, None}
 use Rattle.mj_semantics.specs.Job.{Start}
-use Rattle.mj_segment.specs.Starts.{start_of}
+use Rattle.mj_turn.specs.Starts.{start_of}
 use Rattle.mj_jobvm.specs.Jobs.{IsRunOfAfter, running}
 use Rattle.mj_pcode.specs.Sound.{AreChecked}
 use Rattle.mj_machine.specs.Kept.{standing}
-use Rattle.mj_segment.specs.Sound.{IsSound}
-use Rattle.mj_segment.specs.Units.{AreSmall}
+use Rattle.mj_turn.specs.Sound.{IsSound}
+use Rattle.mj_turn.specs.Units.{AreSmall}
 use Rattle.mj_jobvm.proofs.job.Job.advance.Given as goal
 
 abbrev pub invariant-turns : goal.invariant-turns

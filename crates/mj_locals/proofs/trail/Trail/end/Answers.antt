@@ -1,6 +1,6 @@
 use Rattle.std.proofs.Common.{◌≡◌, Option, None, Some, ap, ◌∙◌, arith}
 use Rattle.std.specs.Prelude.{MatchOption}
-use Rattle.mj_locals.specs.declared.trail.Mark.{Mark}
+use Rattle.mj_locals.specs.declared.trail.NewMark.{NewMark}
 use Rattle.mj_locals.specs.Groups.{newest, rest}
 use Rattle.mj_locals.proofs.Marks.{ended, ended_keeps}
 use Rattle.mj_locals.proofs.trail.Trail.end.Goals as goal
@@ -9,7 +9,7 @@ pub invariant_of-self : goal.invariant_of-self
 invariant_of-self c =
     ended_keeps c.self.inside.marks.items c.pop-mark.new.self.items c.self.inside.pairs.items c.pop-mark.result c.pop-mark.ensures.items (ap newest c.self.view_is ∙ c.requires) c.self.invariant
 
-left : (r : Option Mark) (P : Type 0) (Q : Mark → Type 0) → MatchOption r P Q → r ≡ None → P
+left : (r : Option NewMark) (P : Type 0) (Q : NewMark → Type 0) → MatchOption r P Q → r ≡ None → P
 left None P Q h e = h
 left (Some m) P Q h e = absurd cc
 

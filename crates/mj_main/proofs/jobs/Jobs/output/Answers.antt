@@ -1,7 +1,7 @@
 use Rattle.std.proofs.Common.{◌≡◌, ◌∙◌, ℕ, List, subst, lit<}
 use Rattle.std.proofs.lemmas.Fmt.{decimal_digit}
 use Rattle.std.specs.Prelude.{IfOk}
-use Rattle.mj_dialogue.specs.Runs.{out_of}
+use Rattle.mj_core.specs.Runs.{out_of}
 use Rattle.mj_main.proofs.jobs.Jobs.output.Goals as goal
 
 -- the name of the principal device is the spelling of 0

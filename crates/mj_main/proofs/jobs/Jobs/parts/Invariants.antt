@@ -1,7 +1,7 @@
 use Rattle.std.proofs.Common.{◌≡◌}
 use Rattle.mj_dev.specs.Shelves.{principal}
-use Rattle.mj_dialogue.specs.Runs.{out_of}
-use Rattle.mj_many.specs.Printed.{parts}
+use Rattle.mj_core.specs.Runs.{out_of}
+use Rattle.mj_main.specs.Printed.{parts}
 use Rattle.mj_main.proofs.jobs.Jobs.parts.Given as goal
 
 -- the parts of the jobs that are done

@@ -59,7 +59,8 @@ pub returns-then-left-ne0 : goal.returns-then-left-ne0
 returns-then-left-ne0 c =
     let nz = ap is_zero c.other.view_is ∙ sym c.is_zero.ensures ∙ c.if-is_zero.false in
     let is = c.new.ensures
-    ∙ moved c.self.inside.value c.other.inside.value c.rem_euclid-left.result c.self.invariant c.other.invariant nz c.rem_euclid-left.ensures.value c.rem_euclid-left.type_inv c.if-other-lt0.true c.if-left-ne0.true
+    ∙ moved c.self.inside.value c.other.inside.value c.rem_euclid-left.result c.self.invariant c.other.invariant nz c.rem_euclid-left.ensures.value c.rem_euclid-left.type_inv c.if-other-lt0.true
+    c.if-left-ne0.true
     ∙ (λ i. remainder_of (c.self.view_is i) (c.other.view_is i)) in
     record { value = is; place = remainder_of_lies c.args.self c.args.other c.new.result is }
 

@@ -33,7 +33,9 @@ invariant_of-self-then-is_empty t c =
     let there = sym c.in-Some.ensures.value in
     let removed = c.remove.ensures ∙ ap (λ (xs : List (List ℕ × Subtree)). remove_entry (is_at (subscript_cmp c.sub-item.result)) xs) written in
     subst (λ (xs : List (List ℕ × Subtree)). T (is_sorted subscript_cmp xs) × AreFilled xs) (sym removed) (
-      sorted_removed subscript_cmp c.sub-item.result (set_value (is_at (subscript_cmp c.sub-item.result)) ks c.kill.new.self) (sorted_written subscript_cmp subscript_cmp_total ks (set_value (is_at (subscript_cmp c.sub-item.result)) ks c.kill.new.self) c.sub-item.result c.in-Some.child.now c.kill.new.self refl there c.self.invariant.0 c.self.invariant.1),
+      sorted_removed subscript_cmp c.sub-item.result (set_value (is_at (subscript_cmp c.sub-item.result)) ks c.kill.new.self)
+          (sorted_written subscript_cmp subscript_cmp_total ks (set_value (is_at (subscript_cmp c.sub-item.result)) ks c.kill.new.self) c.sub-item.result c.in-Some.child.now c.kill.new.self refl there
+          c.self.invariant.0 c.self.invariant.1),
       filled_removed subscript_cmp c.sub-item.result ks c.kill.new.self c.self.invariant.1,
     )
 
@@ -55,7 +57,8 @@ returns-then-is_empty t c =
     let written = (c.get_mut.follows.holds c.kill.new.self).0 in
     let there = sym c.in-Some.ensures.value in
     let path = first_and_rest c.args.path.now c.sub-item.result c.in-len1-up.len_at_least c.sub-item.is in
-    kill_removed subscript_cmp subscript_cmp_total ks c.sub-item.result (take (length c.args.path.now - 1) (drop 1 c.args.path.now)) c.in-Some.child.now c.kill.new.self there c.self.invariant.0 c.kill.ensures es c.remove.new.children.entries c.self.inside.text written c.remove.ensures (c.if-is_empty.ensures.0 refl)
+    kill_removed subscript_cmp subscript_cmp_total ks c.sub-item.result (take (length c.args.path.now - 1) (drop 1 c.args.path.now)) c.in-Some.child.now c.kill.new.self there c.self.invariant.0
+    c.kill.ensures es c.remove.new.children.entries c.self.inside.text written c.remove.ensures (c.if-is_empty.ensures.0 refl)
     ∙ (λ i. without subscript_cmp (sym path i) (c.self.view_is i))
 
 pub returns-else-is_empty : goal.returns-else-is_empty
@@ -65,5 +68,6 @@ returns-else-is_empty t c =
     let written = (c.get_mut.follows.holds c.kill.new.self).0 in
     let there = sym c.in-Some.ensures.value in
     let path = first_and_rest c.args.path.now c.sub-item.result c.in-len1-up.len_at_least c.sub-item.is in
-    kill_written subscript_cmp subscript_cmp_total ks c.sub-item.result (take (length c.args.path.now - 1) (drop 1 c.args.path.now)) c.in-Some.child.now c.kill.new.self there c.self.invariant.0 c.kill.ensures es c.self.inside.text written
+    kill_written subscript_cmp subscript_cmp_total ks c.sub-item.result (take (length c.args.path.now - 1) (drop 1 c.args.path.now)) c.in-Some.child.now c.kill.new.self there c.self.invariant.0
+    c.kill.ensures es c.self.inside.text written
     ∙ (λ i. without subscript_cmp (sym path i) (c.self.view_is i))

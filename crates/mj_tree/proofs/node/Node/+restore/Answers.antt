@@ -21,7 +21,8 @@ returns-in_default t c =
     let path = first_and_rest c.args.path.now c.sub-item.result c.in-len1-up.len_at_least c.sub-item.is in
     let before = ap (λ (m : BTreeMap (List ℕ) Subtree). own c.self.inside.text ++ below m.entries) c.get_mut.follows.holds-at-none in
     before
-    ∙ sym (restore_none subscript_cmp c.sub-item.result (take (length c.args.path.now - 1) (drop 1 c.args.path.now)) c.args.text c.self.inside.text c.self.inside.children.entries (sym c.in_default.ensures.value))
+    ∙ sym (restore_none subscript_cmp c.sub-item.result (take (length c.args.path.now - 1) (drop 1 c.args.path.now)) c.args.text c.self.inside.text c.self.inside.children.entries
+    (sym c.in_default.ensures.value))
     ∙ (λ i. restored (slice_cmp subscript_cmp) (sym path i) c.args.text (c.self.view_is i))
 
 pub invariant_of-self-then-is_empty : goal.invariant_of-self-then-is_empty
@@ -31,7 +32,9 @@ invariant_of-self-then-is_empty t c =
     let there = sym c.in-Some.ensures.value in
     let removed = c.remove.ensures ∙ ap (λ (xs : List (List ℕ × Subtree)). remove_entry (is_at (subscript_cmp c.sub-item.result)) xs) written in
     subst (λ (xs : List (List ℕ × Subtree)). T (is_sorted subscript_cmp xs) × AreFilled xs) (sym removed) (
-      sorted_removed subscript_cmp c.sub-item.result (set_value (is_at (subscript_cmp c.sub-item.result)) ks c.restore.new.self) (sorted_written subscript_cmp subscript_cmp_total ks (set_value (is_at (subscript_cmp c.sub-item.result)) ks c.restore.new.self) c.sub-item.result c.in-Some.child.now c.restore.new.self refl there c.self.invariant.0 c.self.invariant.1),
+      sorted_removed subscript_cmp c.sub-item.result (set_value (is_at (subscript_cmp c.sub-item.result)) ks c.restore.new.self)
+          (sorted_written subscript_cmp subscript_cmp_total ks (set_value (is_at (subscript_cmp c.sub-item.result)) ks c.restore.new.self) c.sub-item.result c.in-Some.child.now c.restore.new.self refl
+          there c.self.invariant.0 c.self.invariant.1),
       filled_removed subscript_cmp c.sub-item.result ks c.restore.new.self c.self.invariant.1,
     )
 
@@ -53,7 +56,8 @@ returns-then-is_empty t c =
     let written = (c.get_mut.follows.holds c.restore.new.self).0 in
     let there = sym c.in-Some.ensures.value in
     let path = first_and_rest c.args.path.now c.sub-item.result c.in-len1-up.len_at_least c.sub-item.is in
-    restore_removed subscript_cmp subscript_cmp_total ks c.sub-item.result (take (length c.args.path.now - 1) (drop 1 c.args.path.now)) c.args.text c.in-Some.child.now c.restore.new.self there c.self.invariant.0 c.restore.ensures es c.remove.new.children.entries c.self.inside.text written c.remove.ensures (c.if-is_empty.ensures.0 refl)
+    restore_removed subscript_cmp subscript_cmp_total ks c.sub-item.result (take (length c.args.path.now - 1) (drop 1 c.args.path.now)) c.args.text c.in-Some.child.now c.restore.new.self there
+    c.self.invariant.0 c.restore.ensures es c.remove.new.children.entries c.self.inside.text written c.remove.ensures (c.if-is_empty.ensures.0 refl)
     ∙ (λ i. restored (slice_cmp subscript_cmp) (sym path i) c.args.text (c.self.view_is i))
 
 pub returns-else-is_empty : goal.returns-else-is_empty
@@ -63,7 +67,8 @@ returns-else-is_empty t c =
     let written = (c.get_mut.follows.holds c.restore.new.self).0 in
     let there = sym c.in-Some.ensures.value in
     let path = first_and_rest c.args.path.now c.sub-item.result c.in-len1-up.len_at_least c.sub-item.is in
-    restore_written subscript_cmp subscript_cmp_total ks c.sub-item.result (take (length c.args.path.now - 1) (drop 1 c.args.path.now)) c.args.text c.in-Some.child.now c.restore.new.self there c.self.invariant.0 c.restore.ensures es c.self.inside.text written
+    restore_written subscript_cmp subscript_cmp_total ks c.sub-item.result (take (length c.args.path.now - 1) (drop 1 c.args.path.now)) c.args.text c.in-Some.child.now c.restore.new.self there
+    c.self.invariant.0 c.restore.ensures es c.self.inside.text written
     ∙ (λ i. restored (slice_cmp subscript_cmp) (sym path i) c.args.text (c.self.view_is i))
 
 pub returns-else-is_some : goal.returns-else-is_some

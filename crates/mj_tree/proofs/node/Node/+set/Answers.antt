@@ -24,7 +24,8 @@ invariant_of-self-in-Some t c =
     let there = sym c.in-Some.ensures.value in (
       sorted_written subscript_cmp subscript_cmp_total ks es c.sub-item.result c.in-Some.child.now c.set.new.self written there c.self.invariant.0 c.self.invariant.1,
       filled_written subscript_cmp subscript_cmp_total ks es c.sub-item.result c.in-Some.child.now c.set.new.self written there c.self.invariant.0 c.self.invariant.1
-          (filled_after subscript_cmp c.set.result (take (length c.args.path.now - 1) (drop 1 c.args.path.now)) c.args.text c.in-Some.child.now c.set.new.self c.set.ensures.ok c.set.ensures.err (filled_lookup subscript_cmp ks c.sub-item.result c.in-Some.child.now c.self.invariant.1 there)),
+          (filled_after subscript_cmp c.set.result (take (length c.args.path.now - 1) (drop 1 c.args.path.now)) c.args.text c.in-Some.child.now c.set.new.self c.set.ensures.ok c.set.ensures.err
+          (filled_lookup subscript_cmp ks c.sub-item.result c.in-Some.child.now c.self.invariant.1 there)),
     )
 
 pub returns-in-Some-clause-ok : goal.returns-in-Some-clause-ok
@@ -35,7 +36,8 @@ returns-in-Some-clause-ok t c =
     let there = sym c.in-Some.ensures.value in
     let path = first_and_rest c.args.path.now c.sub-item.result c.in-len1-up.len_at_least c.sub-item.is in
     on_ok_weaker c.set.result (λ is.
-    put_written subscript_cmp subscript_cmp_total ks es c.sub-item.result c.in-Some.child.now c.set.new.self written there c.self.invariant.0 c.self.invariant.1 subscript_cmp-IsAntisymmetric (take (length c.args.path.now - 1) (drop 1 c.args.path.now)) c.args.text c.self.inside.text is
+    put_written subscript_cmp subscript_cmp_total ks es c.sub-item.result c.in-Some.child.now c.set.new.self written there c.self.invariant.0 c.self.invariant.1 subscript_cmp-IsAntisymmetric
+    (take (length c.args.path.now - 1) (drop 1 c.args.path.now)) c.args.text c.self.inside.text is
     ∙ (λ i. put (slice_cmp subscript_cmp) (sym path i) c.args.text (c.self.view_is i))) c.set.ensures.ok
 
 pub returns-in-Some-clause-err : goal.returns-in-Some-clause-err
@@ -67,5 +69,6 @@ returns-in_ok-child-in-None-clause-ok t c =
     let path = first_and_rest c.args.path.now c.sub-item.result c.in-len1-up.len_at_least c.sub-item.is in
     on_ok_weaker c.add.result (λ added.
     put_added subscript_cmp subscript_cmp_total ks c.add.new.children.entries c.sub-item.result (take (length c.args.path.now - 1) (drop 1 c.args.path.now)) c.args.text n
-    (added ∙ ap (λ (xs : List (List ℕ × Subtree)). insert_entry subscript_cmp xs c.sub-item.result n) before) c.in_ok-child-in-None.ensures c.self.invariant.0 c.self.invariant.1 subscript_cmp-IsAntisymmetric c.self.inside.text (sym c.in-None.ensures.value)
+    (added ∙ ap (λ (xs : List (List ℕ × Subtree)). insert_entry subscript_cmp xs c.sub-item.result n) before) c.in_ok-child-in-None.ensures c.self.invariant.0 c.self.invariant.1
+    subscript_cmp-IsAntisymmetric c.self.inside.text (sym c.in-None.ensures.value)
     ∙ (λ i. put (slice_cmp subscript_cmp) (sym path i) c.args.text (c.self.view_is i))) c.add.ensures.ok

@@ -7,8 +7,12 @@ use Rattle.mj_tree.proofs.node.Node.data.Goals as goal
 
 pub returns-in-true-false : goal.returns-in-true-false
 returns-in-true-false c =
-    sym (ap (λ (n : Subtree). data_of n) (sym c.in-Some.ensures ∙ sym c.node.view_is) ∙ data_told subscript_cmp c.node.inside.text c.node.inside.children.entries (λ e. let f : false ≡ true = c.in-true-false.ensures'.1 e in absurd cc) c.node.invariant.1 ∙ ap (λ b. cond b 11 10) (sym c.in-true-false.ensures))
+    sym (ap (λ (n : Subtree). data_of n) (sym c.in-Some.ensures ∙ sym c.node.view_is)
+    ∙ data_told subscript_cmp c.node.inside.text c.node.inside.children.entries (λ e. let f : false ≡ true = c.in-true-false.ensures'.1 e in absurd cc) c.node.invariant.1
+    ∙ ap (λ b. cond b 11 10) (sym c.in-true-false.ensures))
 
 pub returns-in-false-false : goal.returns-in-false-false
 returns-in-false-false c =
-    sym (ap (λ (n : Subtree). data_of n) (sym c.in-Some.ensures ∙ sym c.node.view_is) ∙ data_told subscript_cmp c.node.inside.text c.node.inside.children.entries (λ e. let f : false ≡ true = c.in-false-false.ensures'.1 e in absurd cc) c.node.invariant.1 ∙ ap (λ b. cond b 11 10) (sym c.in-false-false.ensures))
+    sym (ap (λ (n : Subtree). data_of n) (sym c.in-Some.ensures ∙ sym c.node.view_is)
+    ∙ data_told subscript_cmp c.node.inside.text c.node.inside.children.entries (λ e. let f : false ≡ true = c.in-false-false.ensures'.1 e in absurd cc) c.node.invariant.1
+    ∙ ap (λ b. cond b 11 10) (sym c.in-false-false.ensures))

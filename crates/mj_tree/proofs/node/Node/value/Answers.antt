@@ -13,4 +13,5 @@ returns-in-None c = sym (find-subtree subscript_cmp c.args.path.now c.args.self.
 pub returns-in-Some : goal.returns-in-Some
 returns-in-Some c =
     c.as_ref.ensures.value
-    ∙ sym (find-subtree subscript_cmp c.args.path.now c.args.self.now ∙ ap (λ (n : Subtree). find (slice_cmp subscript_cmp) [] n) (sym c.in-Some.ensures ∙ sym c.node.view_is) ∙ find_own subscript_cmp c.node.inside.text c.node.inside.children.entries)
+    ∙ sym (find-subtree subscript_cmp c.args.path.now c.args.self.now ∙ ap (λ (n : Subtree). find (slice_cmp subscript_cmp) [] n) (sym c.in-Some.ensures ∙ sym c.node.view_is)
+    ∙ find_own subscript_cmp c.node.inside.text c.node.inside.children.entries)

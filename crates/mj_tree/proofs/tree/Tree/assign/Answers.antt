@@ -10,4 +10,5 @@ use Rattle.mj_tree.proofs.tree.Tree.assign.Goals as goal
 
 pub invariant_of-self : goal.invariant_of-self
 invariant_of-self c =
-    subst (λ (es : Subtree). T (is_sorted (slice_cmp subscript_cmp) es)) (sym c.assign.ensures) (is_sorted-put (slice_cmp subscript_cmp) (lists_total subscript_cmp_total) [] c.args.text c.self.inside.root c.self.invariant)
+    subst (λ (es : Subtree). T (is_sorted (slice_cmp subscript_cmp) es)) (sym c.assign.ensures)
+    (is_sorted-put (slice_cmp subscript_cmp) (lists_total subscript_cmp_total) [] c.args.text c.self.inside.root c.self.invariant)

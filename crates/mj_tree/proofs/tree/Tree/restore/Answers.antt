@@ -9,4 +9,5 @@ use Rattle.mj_tree.proofs.tree.Tree.restore.Goals as goal
 
 pub invariant_of-self : goal.invariant_of-self
 invariant_of-self c =
-    subst (λ (es : Subtree). T (is_sorted (slice_cmp subscript_cmp) es)) (sym c.restore.ensures) (sorted_restored (slice_cmp subscript_cmp) c.as_slice.result.now c.args.text c.self.inside.root c.self.invariant)
+    subst (λ (es : Subtree). T (is_sorted (slice_cmp subscript_cmp) es)) (sym c.restore.ensures)
+    (sorted_restored (slice_cmp subscript_cmp) c.as_slice.result.now c.args.text c.self.inside.root c.self.invariant)

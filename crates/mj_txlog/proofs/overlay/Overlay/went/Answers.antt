@@ -10,5 +10,6 @@ returns-then-is_some c =
 
 pub returns : goal.returns
 returns c =
-    let all : c.loop-count.count ≡ suc (length c.args.name.now.subscripts) = omega (arith, c.loop-count-test.false, c.loop-count.auto.count-end, ap length c.as_slice-list.ensures.value, ap length c.subscripts.ensures) in
+    let all : c.loop-count.count ≡ suc (length c.args.name.now.subscripts) =
+    omega (arith, c.loop-count-test.false, c.loop-count.auto.count-end, ap length c.as_slice-list.ensures.value, ap length c.subscripts.ensures) in
     sym (subst (λ (k : ℕ). went_before c.args.self.now.gone c.args.name.now k ≡ false) all c.loop-count.invariant)

@@ -1,6 +1,0 @@
-use Rattle.std.proofs.lemmas.Result.{IfOk-weaker}
-use Rattle.mj_machine.specs.Kept.{replied}
-use Rattle.mj_access.proofs.about.about.Goals as goal
-
-pub returns-then-is_told_here-clause-ok : goal.returns-then-is_told_here-clause-ok
-returns-then-is_told_here-clause-ok c = IfOk-weaker c.about_local.result _ _ (λ step d. d (replied c.args.given)) c.about_local.ensures.ok

@@ -1,6 +1,0 @@
-use Rattle.std.proofs.lemmas.Result.{IfOk-weaker}
-use Rattle.mj_machine.specs.Kept.{replied}
-use Rattle.mj_access.proofs.pieces.renew_range.Goals as goal
-
-pub returns-clause-ok : goal.returns-clause-ok
-returns-clause-ok c = IfOk-weaker c.renew_local.result _ _ (λ step d. d (replied c.args.given)) c.renew_local.ensures.ok

@@ -1,0 +1,76 @@
+// What the words ask for, or why they ask for nothing.
+
+use std::alloc::AllocError;
+
+/// What the words ask for.
+#[derive(Drop)]
+pub enum Order<'a> {
+    /// to run jobs
+    Run(Run<'a>),
+    /// to step jobs by the commands of a debugger
+    Debug(Debug<'a>),
+    /// to load the routines of these files, and to say how many there are
+    Check { files: Vec<&'a str> },
+    /// to say whether a trace is that of a run
+    Replay(Replay<'a>),
+}
+
+/// Jobs that are to run.
+#[derive(Drop)]
+pub struct Run<'a> {
+    /// where the first jobs start, one for each; at least one
+    pub starts: Vec<&'a str>,
+    /// the files of the routines
+    pub files: Vec<&'a str>,
+    /// the file that lists the globals that are there at first
+    pub globals: Option<&'a str>,
+    /// the file to which the listing of the globals that are left goes
+    pub save: Option<&'a str>,
+    /// the file to which the trace of the run goes
+    pub trace: Option<&'a str>,
+    /// whether the first job's input is standard input
+    pub stdin: bool,
+    /// the devices that there are beside the principal ones, each as `NAME=in:FILE` or `NAME=out:FILE`
+    pub devices: Vec<&'a str>,
+    /// the file of the steps; without one the jobs are stepped in turn
+    pub steps: Option<&'a str>,
+    /// whether to say, where all jobs wait, what each waits for
+    pub why: bool,
+}
+
+/// Jobs that are to be stepped by the commands of a debugger.
+#[derive(Drop)]
+pub struct Debug<'a> {
+    /// the jobs; standard input isn't theirs, and no file has their steps
+    pub run: Run<'a>,
+    /// whether a prompt is shown where a command is to be given
+    pub prompt: bool,
+}
+
+/// A trace that is to be replayed.
+#[derive(Drop)]
+pub struct Replay<'a> {
+    /// the file of the trace
+    pub trace: &'a str,
+    /// the files of the routines
+    pub files: Vec<&'a str>,
+    /// the file that lists the globals that were there at first
+    pub globals: Option<&'a str>,
+}
+
+/// Why words are no order.
+#[derive(Drop)]
+pub enum NoOrder {
+    /// they ask for help or for the version, which is this text
+    Help(String),
+    /// they are wrong, and this text says why
+    Wrong(String),
+    /// an allocation was refused
+    Memory,
+}
+
+impl From<AllocError> for NoOrder {
+    fn from(_error: AllocError) -> NoOrder {
+        NoOrder::Memory
+    }
+}

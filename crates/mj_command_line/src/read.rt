@@ -1,0 +1,123 @@
+// The words of the command line.
+
+use crate::order::{Debug, NoOrder, Order, Replay, Run};
+use crate::words::command;
+use clap::error::ErrorKind;
+use clap::{ArgMatches, Command, Error};
+use std::alloc::{AllocError, Global};
+use std::convert::AsStr;
+
+/// Reads the words, of which the first is the program's name.
+pub fn read_words<'a, S: AsStr>(alloc: Global, words: &'a [S]) -> Result<Order<'a>, NoOrder> {
+    match order(alloc, words) {
+        Ok(order) => Ok(order),
+        Err(error) => Err(refusal(alloc, &error)),
+    }
+}
+
+// What the words ask for.
+fn order<'a, S: AsStr>(alloc: Global, words: &'a [S]) -> Result<Order<'a>, Error> {
+    let mut command = command(alloc)?;
+    ordered(alloc, &mut command, words)
+}
+
+// What they ask of this command. What owns a command, or what was found, does little else, since each way out of such a function drops it.
+fn ordered<'a, S: AsStr>(
+    alloc: Global,
+    command: &mut Command<'a>,
+    words: &'a [S],
+) -> Result<Order<'a>, Error> {
+    let matches = command.try_get_matches_from_mut(words)?;
+    order_of(alloc, command, &matches)
+}
+
+// An order is made by one function, and handed on by the others as it is.
+fn order_of<'a>(
+    alloc: Global,
+    command: &mut Command<'a>,
+    matches: &ArgMatches<'a>,
+) -> Result<Order<'a>, Error> {
+    let Some((name, found)) = matches.subcommand() else {
+        return no_order(command);
+    };
+    match name {
+        "run" | "step" => run_order(alloc, found),
+        "debug" => debug_order(alloc, found),
+        "check" => check_order(alloc, found),
+        "replay" => replay_order(alloc, found),
+        _ => no_order(command),
+    }
+}
+
+fn no_order<'a>(command: &mut Command<'a>) -> Result<Order<'a>, Error> {
+    Err(command.error(ErrorKind::MissingSubcommand, "a command is required")?)
+}
+
+// What an error says to the user. Help, which was asked for, is one that isn't for standard error.
+fn refusal(alloc: Global, error: &Error) -> NoOrder {
+    if error.kind() == ErrorKind::OutOfMemory {
+        return NoOrder::Memory;
+    }
+    match format!(in alloc; "{error}") {
+        Ok(text) if error.use_stderr() => NoOrder::Wrong(text),
+        Ok(text) => NoOrder::Help(text),
+        Err(_) => NoOrder::Memory,
+    }
+}
+
+fn run_of<'a>(alloc: Global, found: &ArgMatches<'a>) -> Result<Run<'a>, AllocError> {
+    Ok(Run {
+        starts: value_given(alloc, found, "start")?,
+        files: value_given(alloc, found, "routines")?,
+        globals: found.get_str("globals"),
+        save: found.get_str("save"),
+        trace: found.get_str("trace"),
+        stdin: found.get_flag("stdin"),
+        devices: value_given(alloc, found, "device")?,
+        steps: found.get_str("steps"),
+        why: found.get_flag("why"),
+    })
+}
+
+fn run_order<'a>(alloc: Global, found: &ArgMatches<'a>) -> Result<Order<'a>, Error> {
+    Ok(Order::Run(run_of(alloc, found)?))
+}
+
+fn debug_order<'a>(alloc: Global, found: &ArgMatches<'a>) -> Result<Order<'a>, Error> {
+    Ok(Order::Debug(Debug {
+        run: run_of(alloc, found)?,
+        prompt: found.get_flag("prompt"),
+    }))
+}
+
+fn check_order<'a>(alloc: Global, found: &ArgMatches<'a>) -> Result<Order<'a>, Error> {
+    Ok(Order::Check {
+        files: value_given(alloc, found, "routines")?,
+    })
+}
+
+// The trace is required, so that it is given.
+fn replay_order<'a>(alloc: Global, found: &ArgMatches<'a>) -> Result<Order<'a>, Error> {
+    let trace = match found.get_str("trace") {
+        Some(trace) => trace,
+        None => "",
+    };
+    Ok(Order::Replay(Replay {
+        trace,
+        files: value_given(alloc, found, "routines")?,
+        globals: found.get_str("globals"),
+    }))
+}
+
+// What was given for the argument of this name. One that the command hasn't counts as one that isn't given.
+fn value_given<'a>(
+    alloc: Global,
+    found: &ArgMatches<'a>,
+    name: &str,
+) -> Result<Vec<&'a str>, AllocError> {
+    let mut given = Vec::new(alloc);
+    if let Some(texts) = found.get_strs(name) {
+        given.extend_from_slice(texts)?;
+    }
+    Ok(given)
+}

@@ -1,0 +1,66 @@
+// The longer texts of help.
+
+/// The version, and the kit that it was tested with.
+pub const VERSION: &str = "0.1.0, tested with rattle-kit-13f logic dac8208d650f15bf";
+
+/// What stands below the help of the program.
+pub const EXAMPLES: &str = "\
+Examples:
+  mj run --start ^R R.m
+  mj run --stdin --start ^HELLO HELLO.m < NAMES
+  mj run --device LIST=in:NAMES --device OUT=out:LETTER --start ^R R.m
+  mj run --trace TRACE --globals DATA --save DATA --start ^R R.m
+  mj step --steps STEPS --start A^R --start B^R R.m
+  mj debug --start ^R R.m
+  mj check R.m _TOOL.m
+  mj replay --trace TRACE R.m
+
+Exit statuses:
+  0  all is done
+  1  a job faulted, or a trace isn't that of a run
+  2  a routine, a listing of globals, a trace or a file of steps was refused, or a step was
+  3  the words of the command line are wrong
+  4  memory was refused, a file failed, all jobs wait, or they went on for too long";
+
+/// What stands below the help of `run`.
+pub const RUN_EXAMPLE: &str = "\
+Examples, from the label LATER of the routine in R.m, two jobs, and one over globals that are kept in a file:
+  mj run --start LATER^R R.m _TOOL.m
+  mj run --start A^R --start B^R R.m
+  mj run --start ^R --globals DATA --save DATA R.m
+
+A job that reads the lines of standard input, one that opens LIST and OUT, and one whose events are written down, a line each:
+  mj run --stdin --start ^HELLO HELLO.m < NAMES
+  mj run --device LIST=in:NAMES --device OUT=out:LETTER --start ^R R.m
+  mj run --trace TRACE --start ^R R.m";
+
+/// What stands below the help of `step`.
+pub const STEP_EXAMPLE: &str = "\
+Examples, by the steps in a file (`1`, `2` and `1 late` are such lines), and in turn:
+  mj step --steps STEPS --start A^R --start B^R R.m
+  mj step --why --trace TRACE --start A^R --start B^R R.m";
+
+/// What stands below the help of `debug`.
+pub const DEBUG_EXAMPLE: &str = "\
+Commands, one a line:
+  s N         steps job N; `s N late` steps it where its timeout is over
+  go K        steps the jobs in turn, up to K times or to a breakpoint
+  b R:L       stops `go` at line L of the routine R; `d R:L` doesn't any more
+  back, fwd   go one event back or on along the record of what happened
+  f N, v N    show the frames and the variables of job N
+  k, g        show who holds which names, and the globals
+  q           ends
+
+Examples, at a terminal, and by the commands in a file:
+  mj debug --start ^R R.m
+  mj debug --globals DATA --start A^R --start B^R R.m < COMMANDS";
+
+/// What stands below the help of `check`.
+pub const CHECK_EXAMPLE: &str = "\
+Example, which prints `ok 2`, or why one of the routines is refused:
+  mj check R.m _TOOL.m";
+
+/// What stands below the help of `replay`.
+pub const REPLAY_EXAMPLE: &str = "\
+Example, which prints `same`, or `differs at line 6` where the event in line 6 of the trace isn't made, over the globals that were there at first:
+  mj replay --trace TRACE --globals DATA R.m";

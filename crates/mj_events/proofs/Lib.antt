@@ -1,3 +1,0 @@
-pub mod Happen
-pub mod Weave
-pub mod Logs

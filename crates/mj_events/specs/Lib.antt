@@ -1,2 +1,0 @@
-pub mod Happen
-pub mod Woven

@@ -1,0 +1,102 @@
+-- What a turn of LOCK or JOB does, by what its operands ask for.
+use Rattle.std.proofs.Common.{◌≡◌, ℕ, zero, ◌<◌, ◌≤◌, suc, ◌+◌, List, [], ◌∷◌, ◌++◌, length, drop, append_assoc, Option, Some, None, Bool, true, false, Result, Ok, Err, refl, sym, ap, ◌∙◌, arith}
+use Rattle.std.specs.Prelude.{ℤ, not, nat_lt, if◌then◌else◌}
+use Rattle.std.proofs.lemmas.Bool.{lt-ltb}
+use Rattle.mj_text.specs.declared.fault.Fault.{Fault}
+use Rattle.mj_text.specs.declared.fault.Fault.TheVariants.{InTransaction}
+use Rattle.mj_text.specs.Failing.{then_value}
+use Rattle.mj_num.specs.Number.{reading}
+use Rattle.mj_subs.specs.Name.{Name}
+use Rattle.mj_ask.specs.declared.ask.Ask.TheVariants as asks
+use Rattle.mj_ask.specs.declared.ask.SharedAsk.TheVariants as shared_asks
+use Rattle.mj_ask.specs.declared.ask.Reply.{Reply}
+use Rattle.mj_semantics.specs.State.{State}
+use Rattle.mj_semantics.specs.Outcome.{Handler, Timed, ask, given, fault}
+use Rattle.mj_semantics.specs.Sharing.{served, in_time, out_of_transaction, take_names, give_names}
+use Rattle.mj_pcode.specs.declared.instr.Reference.{Reference}
+use Rattle.mj_pcode.specs.declared.instr.Wait.{Wait}
+use Rattle.mj_pcode.specs.declared.instr.Wait.TheVariants.{Ever, Timed as Limited}
+use Rattle.mj_semantics.specs.Evaluation.{name_of}
+use Rattle.mj_pcode.specs.Machine.{Stack, top, wait_size, waits, counts, names_on, operands}
+use Rattle.mj_lock_ops.specs.Wanted.{timeout_in, test_after, listed, wanted_in}
+
+-- how long an ask may wait is known before the rest
+pub waits_known : (w : Wait) (stack : Stack) (f : Option ℤ → Timed) (n : ℕ) → waits w stack f n ≡ given (timeout_in w stack) f n
+waits_known Ever stack f n = refl
+waits_known Limited stack f n = by (reading (top stack))
+  where
+    by : (r : Result ℤ Fault) → given r (λ i. f (Some i)) n ≡ given (then_value r (λ i. Ok (Some i))) f n
+    by (Ok i) = refl
+    by (Err e) = refl
+
+-- what is done with what LOCK is to take or give up
+abbrev pub with_wanted : (List Name → Option ℤ → Timed) → Option ℤ × List Name → Timed
+with_wanted f p = f p.1 p.0
+
+-- what LOCK is to take or give up is known before the rest
+pub wanted_known : (rs : List Reference) (w : Wait) (stack : Stack) (f : List Name → Option ℤ → Timed) (n : ℕ) (back : Handler) (s : State) (replies : List Reply)
+    → waits w stack (λ y. given (names_on rs (drop (wait_size w) stack)) (λ xs. f xs y)) n back s replies
+    ≡ given (wanted_in rs w stack) (with_wanted f) n back s replies
+wanted_known rs w stack f n back s replies =
+    ap (λ q. q back s replies) (waits_known w stack (λ y. given (names_on rs (drop (wait_size w) stack)) (λ xs. f xs y)) n) ∙ by (timeout_in w stack)
+  where
+    named : (y : Option ℤ) (r : Result (List Name) Fault)
+        → given r (λ xs. f xs y) n back s replies ≡ given {A = Option ℤ × List Name} (then_value r (λ xs. Ok (y, xs))) (with_wanted f) n back s replies
+    named y (Ok xs) = refl
+    named y (Err e) = refl
+
+    by : (t : Result (Option ℤ) Fault) → given t (λ y. given (names_on rs (drop (wait_size w) stack)) (λ xs. f xs y)) n back s replies
+        ≡ given {A = Option ℤ × List Name} (then_value t (λ y. then_value (names_on rs (drop (wait_size w) stack)) (λ xs. Ok (y, xs)))) (with_wanted f)
+        n back s replies
+    by (Ok y) = named y (names_on rs (drop (wait_size w) stack))
+    by (Err e) = refl
+
+-- what LOCK does is what it does with what it is to take or give up
+pub wanted_is : (rs : List Reference) (w : Wait) (stack : Stack) (f : List Name → Option ℤ → Timed) (found : Result (Option ℤ × List Name) Fault)
+    (n : ℕ) (back : Handler) (s : State) (replies : List Reply) → wanted_in rs w stack ≡ found
+    → waits w stack (λ y. given (names_on rs (drop (wait_size w) stack)) (λ xs. f xs y)) n back s replies ≡ given found (with_wanted f) n back s replies
+wanted_is rs w stack f found n back s replies e =
+    wanted_known rs w stack f n back s replies ∙ ap (λ r. given r (with_wanted f) n back s replies) e
+
+-- `$TEST` behind an ask
+pub test_is : (timeout : Option ℤ) (late : Bool) (s : State) → record s { test = test_after timeout late s.test } ≡ in_time timeout (not late) s
+test_is None late s = refl
+test_is (Some n) late s = refl
+
+-- names of which there is one at least
+pub some_taken : (xs : List Name) (timeout : Option ℤ) (rest : Timed) → 0 < length xs → take_names xs timeout rest ≡ ask (asks.Shared (shared_asks.Try xs timeout)) (λ r. served timeout r rest)
+some_taken [] timeout rest lt = absurd (omega (arith, lt))
+some_taken (x ∷ xs) timeout rest lt = refl
+
+pub some_given : (xs : List Name) (timeout : Option ℤ) (rest : Timed) → 0 < length xs → give_names xs timeout rest ≡ ask (asks.Shared (shared_asks.Unlock xs)) (λ r. served timeout r rest)
+some_given [] timeout rest lt = absurd (omega (arith, lt))
+some_given (x ∷ xs) timeout rest lt = refl
+
+-- the names of what is left of some variables have no more subscripts
+pub counts_left : (rs : List Reference) (i : ℕ) → counts (drop i rs) ≤ counts rs
+counts_left rs zero = omega arith
+counts_left [] (suc i) = omega arith
+counts_left (r ∷ rs) (suc i) = omega (arith, counts_left rs i)
+
+abbrev first_of : Reference → List Reference → Stack → Result Name Fault
+first_of r rs stack = name_of r.scope r.word (operands r.count (drop (counts rs) stack))
+
+-- a name that isn't one
+pub names_fault : (r : Reference) (rs : List Reference) (stack : Stack) (f : Fault) → first_of r rs stack ≡ Err f → names_on (r ∷ rs) stack ≡ Err f
+names_fault r rs stack f e = ap (λ o. then_value o (λ x. then_value (names_on rs stack) (λ xs. Ok (x ∷ xs)))) e
+
+-- one more name
+pub names_step : (r : Reference) (rs : List Reference) (stack : Stack) (x : Name) → first_of r rs stack ≡ Ok x → names_on (r ∷ rs) stack ≡ then_value (names_on rs stack) (λ xs. Ok (x ∷ xs))
+names_step r rs stack x e = ap (λ o. then_value o (λ y. then_value (names_on rs stack) (λ ys. Ok (y ∷ ys)))) e
+
+pub names_grow : (r : Result (List Name) Fault) (old new : List Name) (x : Name) → new ≡ old ++ x ∷ []
+    → then_value r (λ xs. Ok (new ++ xs)) ≡ then_value (then_value r (λ xs. Ok (x ∷ xs))) (λ xs. Ok (old ++ xs))
+names_grow (Ok xs) old new x e = ap Ok (ap (λ l. l ++ xs) e ∙ append_assoc old (x ∷ []) xs)
+names_grow (Err f) old new x e = refl
+
+-- In a transaction, and outside one.
+pub in_it : (rest : Timed) (n : ℕ) (back : Handler) (s : State) (replies : List Reply) → 0 < s.level → out_of_transaction rest n back s replies ≡ fault InTransaction n back s replies
+in_it rest n back s replies h = ap (λ b. (if b then fault InTransaction else rest) n back s replies) (lt-ltb 0 s.level h)
+
+pub outside_it : (rest : Timed) (n : ℕ) (back : Handler) (s : State) (replies : List Reply) → s.level ≡ 0 → out_of_transaction rest n back s replies ≡ rest n back s replies
+outside_it rest n back s replies e = ap (λ k. (if nat_lt 0 k then fault InTransaction else rest) n back s replies) e

@@ -1,0 +1,30 @@
+-- What is asked for by operands: how long that may take, and names.
+use Rattle.std.specs.Prelude.{ℤ, List, [], drop, Option, Some, None, Bool, not, Result, Ok, Err}
+use Rattle.mj_text.specs.declared.fault.Fault.{Fault}
+use Rattle.mj_text.specs.Failing.{then_value}
+use Rattle.mj_num.specs.Number.{reading}
+use Rattle.mj_subs.specs.Name.{Name}
+use Rattle.mj_pcode.specs.declared.instr.Wait.{Wait}
+use Rattle.mj_pcode.specs.declared.instr.Wait.TheVariants.{Ever, Timed}
+use Rattle.mj_pcode.specs.declared.instr.Reference.{Reference}
+use Rattle.mj_pcode.specs.Machine.{Stack, top, wait_size, names_on}
+
+-- how long an ask may wait: the topmost operand says it, where it is limited
+abbrev pub timeout_in : Wait → Stack → Result (Option ℤ) Fault
+timeout_in Ever stack = Ok None
+timeout_in Timed stack = then_value (reading (top stack)) (λ n. Ok (Some n))
+
+-- `$TEST` behind a reply that came late or in time
+abbrev pub test_after : Option ℤ → Bool → Bool → Bool
+test_after None late before = before
+test_after (Some n) late before = not late
+
+-- names, if there are any
+abbrev pub listed : Option (List Name) → List Name
+listed None = []
+listed (Some xs) = xs
+
+-- what LOCK is to take or give up, and how long that may take: the names of its variables, whose subscripts lie below the timeout
+abbrev pub wanted_in : List Reference → Wait → Stack → Result (Option ℤ × List Name) Fault
+wanted_in references w stack =
+    then_value (timeout_in w stack) (λ timeout. then_value (names_on references (drop (wait_size w) stack)) (λ xs. Ok (timeout, xs)))

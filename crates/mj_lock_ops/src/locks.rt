@@ -1,0 +1,197 @@
+// LOCK.
+
+ghost use Rattle.std.specs.Prelude.{◌≡◌, ◌+◌, ◌<◌, ◌≤◌, ◌^◌, ◌∷◌, [], ◌++◌, Ok, IfOk, IfSome, OnErr, length, drop};
+ghost use Rattle.mj_text.specs.Failing.{then_value};
+ghost use Rattle.mj_pcode.specs.Machine as machines;
+ghost use Rattle.mj_pcode.specs.declared.instr.Instr.TheVariants as instrs;
+ghost use Rattle.mj_machine.specs.Kept.{stack_of, Obeys, Stays, replied};
+ghost use Rattle.mj_lock_ops.specs.Wanted.{listed, wanted_in};
+
+use crate::timed::{ask_in_time, timeout_of, wait_size};
+use mj_ask::{Ask, Names, Reply, SharedAsk};
+use mj_machine::quiet::{discard, fail};
+use mj_machine::{Machine, TurnOutcome};
+use mj_num::Num;
+use mj_pcode::{Reference, References, Wait};
+use mj_subs::Name;
+use mj_text::Fault;
+use mj_variable_ops::names::name_below;
+use std::alloc::{AllocError, Global};
+
+/// Gives up all names that the job holds. In a transaction it is a fault.
+#[inline(never)]
+pub fn unlock_all(
+    alloc: Global,
+    pc: usize,
+    machine: &mut Machine,
+    given: Option<&Reply>,
+) -> Result<TurnOutcome, AllocError>
+    requires next { pc + 1 < 2 ^ 64 }
+    ensures ok { IfOk result (λ step. Obeys instrs.UnlockAll pc machine.old (replied given.entry) step machine.new) }
+    ensures err { OnErr result (Stays machine.old machine.new) }
+{
+    if machine.level > 0 {
+        return Ok(fail(Fault::InTransaction, machine));
+    }
+    ask_in_time(
+        alloc,
+        pc,
+        0,
+        Ask::Shared(SharedAsk::UnlockAll),
+        None,
+        machine,
+        given,
+    )
+}
+
+/// Takes the names of variables, all or none.
+#[inline(never)]
+pub fn lock(
+    alloc: Global,
+    pc: usize,
+    references: &References,
+    wait: Wait,
+    machine: &mut Machine,
+    given: Option<&Reply>,
+) -> Result<TurnOutcome, AllocError>
+    requires next { pc + 1 < 2 ^ 64 }
+    requires enough { machines.counts references.now + machines.wait_size wait ≤ length machine.old.stack.items }
+    ensures ok { IfOk result (λ step. Obeys (instrs.Lock references.now wait) pc machine.old (replied given.entry) step machine.new) }
+    ensures err { OnErr result (Stays machine.old machine.new) }
+{
+    let wanted = match read_wanted(alloc, references, wait, machine)? {
+        Ok(wanted) => wanted,
+        Err(fault) => return Ok(fail(fault, machine)),
+    };
+    let timeout = wanted.timeout;
+    let count = wanted.count;
+    let names = wanted.names;
+    match names {
+        None => Ok(discard(pc, count, machine)),
+        Some(names) => {
+            let ask = Ask::Shared(SharedAsk::Try(names, timeout));
+            let limit = ask.timeout();
+            ask_in_time(alloc, pc, count, ask, limit, machine, given)
+        }
+    }
+}
+
+/// Gives up the names of variables.
+#[inline(never)]
+pub fn unlock(
+    alloc: Global,
+    pc: usize,
+    references: &References,
+    wait: Wait,
+    machine: &mut Machine,
+    given: Option<&Reply>,
+) -> Result<TurnOutcome, AllocError>
+    requires next { pc + 1 < 2 ^ 64 }
+    requires enough { machines.counts references.now + machines.wait_size wait ≤ length machine.old.stack.items }
+    ensures ok { IfOk result (λ step. Obeys (instrs.Unlock references.now wait) pc machine.old (replied given.entry) step machine.new) }
+    ensures err { OnErr result (Stays machine.old machine.new) }
+{
+    let wanted = match read_wanted(alloc, references, wait, machine)? {
+        Ok(wanted) => wanted,
+        Err(fault) => return Ok(fail(fault, machine)),
+    };
+    let timeout = wanted.timeout;
+    let count = wanted.count;
+    let names = wanted.names;
+    match names {
+        None => Ok(discard(pc, count, machine)),
+        Some(names) => {
+            let ask = Ask::Shared(SharedAsk::Unlock(names));
+            ask_in_time(alloc, pc, count, ask, timeout, machine, given)
+        }
+    }
+}
+
+// What the operands of LOCK say.
+#[derive(Drop)]
+struct Wanted {
+    // the names of its variables, if it has any
+    names: Option<Names>,
+    // how long it may wait
+    timeout: Option<Num>,
+    // how many operands say both
+    count: usize,
+}
+
+// Takes from the topmost operands what LOCK is to take or give up, or gives the fault of the first that says nothing of the kind.
+fn read_wanted(
+    alloc: Global,
+    references: &References,
+    wait: Wait,
+    machine: &Machine,
+) -> Result<Result<Wanted, Fault>, AllocError>
+    requires { machines.counts references.now + machines.wait_size wait ≤ length machine.now.stack.items }
+    ensures wanted { IfOk result
+        (λ r. then_value r (λ found. Ok (found.timeout, listed found.names)) ≡ wanted_in references.now wait (stack_of machine.now)) }
+    ensures count { IfOk result (λ r. IfOk r (λ found. found.count ≡ machines.counts references.now + machines.wait_size wait)) }
+    ensures some { IfOk result (λ r. IfOk r (λ found. IfSome found.names (λ xs. 0 < length xs))) }
+{
+    let timeout = match timeout_of(wait, &machine.stack) {
+        Ok(timeout) => timeout,
+        Err(fault) => return Ok(Err(fault)),
+    };
+    let above = wait_size(wait);
+    let variables = references.as_slice();
+    match names_below(alloc, variables, machine, above)? {
+        Err(fault) => Ok(Err(fault)),
+        Ok(names) => Ok(Ok(Wanted {
+            names,
+            timeout,
+            count: counts(variables) + above,
+        })),
+    }
+}
+
+// Counts the subscripts of variables.
+fn counts(references: &[Reference]) -> usize
+    requires { machines.counts references.now < 2 ^ 64 }
+    ensures { result ≡ machines.counts references.now }
+{
+    let mut count = 0;
+    for reference in references {
+        count += reference.count;
+    }
+    count
+}
+
+// Makes the names of variables, whose subscripts lie below `above` other operands.
+fn names_below(
+    alloc: Global,
+    references: &[Reference],
+    machine: &Machine,
+    above: usize,
+) -> Result<Result<Option<Names>, Fault>, AllocError>
+    requires { above + machines.counts references.now ≤ length machine.now.stack.items }
+    ensures names { IfOk result (λ r. then_value r (λ o. Ok (listed o)) ≡ machines.names_on references.now (drop above (stack_of machine.now))) }
+    ensures some { IfOk result (λ r. IfOk r (λ o. IfSome o (λ xs. 0 < length xs))) }
+{
+    let mut more = counts(references);
+    let mut names = None;
+    for reference in references {
+        more -= reference.count;
+        let name = match name_below(alloc, reference, machine, above, more)? {
+            Ok(name) => name,
+            Err(fault) => return Ok(Err(fault)),
+        };
+        names = Some(one_more(alloc, names, name)?);
+    }
+    Ok(Ok(names))
+}
+
+// Adds a name to names, if there are any.
+fn one_more(alloc: Global, names: Option<Names>, name: Name) -> Result<Names, AllocError>
+    ensures { IfOk result (λ all. all ≡ listed names ++ name ∷ []) }
+{
+    match names {
+        None => Names::one(alloc, name),
+        Some(mut names) => {
+            names.push(name)?;
+            Ok(names)
+        }
+    }
+}

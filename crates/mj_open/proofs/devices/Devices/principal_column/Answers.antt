@@ -1,7 +1,0 @@
-use Rattle.std.proofs.Common.{ap}
-use Rattle.mj_semantics.specs.State.{column_at, principal}
-use Rattle.mj_open.specs.Opened.{Opened, alone}
-use Rattle.mj_open.proofs.devices.Devices.principal_column.Goals as goal
-
-pub returns : goal.returns
-returns c = ap (λ (o : Opened). column_at principal (alone o)) c.self.view_is

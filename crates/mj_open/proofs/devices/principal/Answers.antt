@@ -1,6 +1,0 @@
-use Rattle.std.proofs.Common.{◌∙◌, arith}
-use Rattle.std.proofs.lemmas.Fmt.{decimal_digit}
-use Rattle.mj_open.proofs.devices.principal.Goals as goal
-
-pub returns : goal.returns
-returns c = c.from_number.ensures ∙ decimal_digit 0 (omega arith)

@@ -1,0 +1,19 @@
+use Rattle.std.proofs.Common.{◌≡◌, false, not, sym, ap, ◌∙◌}
+use Rattle.std.specs.Prelude.{◌&&◌}
+use Rattle.std.specs.Option.{is_some}
+use Rattle.std.specs.Str.{bytes_eq}
+use Rattle.std.specs.List.{position}
+use Rattle.mj_semantics.specs.State.{is_open, principal}
+use Rattle.mj_open_devices.specs.Opened.{Opened, alone, is_named}
+use Rattle.mj_open_devices.proofs.Known.{is_there, past_first, same_turned}
+use Rattle.mj_open_devices.proofs.devices.Devices.may_close.Goals as goal
+
+pub returns-then-not-is_principal : goal.returns-then-not-is_principal
+returns-then-not-is_principal c =
+    let s = c.self.inside in
+    let name = c.args.name.now in
+    let at : position (is_named name) s.others.items ≡ c.place.result = sym (c.place.ensures ∙ ap (position (is_named name)) c.deref.ensures.value) in
+    let apart : bytes_eq principal name ≡ false = sym c.if-not-is_principal.ensures in
+    c.is_some.ensures ∙ is_there name s.others.items c.place.result at
+    ∙ ap is_some (sym (past_first s.principal s.others.items name apart)) ∙ ap (λ (q : Opened). is_open name (alone q)) c.self.view_is
+    ∙ sym (ap (λ b. not b && is_open name (alone c.args.self.now)) (same_turned name principal ∙ apart))

@@ -1,6 +1,0 @@
-use Rattle.mj_sys.specs.Opening.{opening_of}
-use Rattle.mj_replay.proofs.replaying.over.Given as goal
-
--- the opening is that of these globals, devices and starts
-abbrev pub ghosts-replay : goal.ghosts-replay
-ghosts-replay a = record { opening = opening_of a.globals a.pool a.starts.items }

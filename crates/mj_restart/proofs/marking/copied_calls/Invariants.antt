@@ -1,6 +1,0 @@
-use Rattle.std.proofs.Common.{◌≡◌, map, take}
-use Rattle.mj_machine.specs.Contexts.{call_of}
-use Rattle.mj_restart.proofs.marking.copied_calls.Given as goal
-
-abbrev pub invariant-loop-call : goal.invariant-loop-call
-invariant-loop-call l = map call_of l.copy.items ≡ map call_of (take l.call-index l.calls)

@@ -1,0 +1,13 @@
+// Rows of the whole program, as in `mj_test_program`: several jobs, what their steps come to, and traces, as they are written and replayed.
+#![tactic(auto)]
+
+#[cfg(test)]
+mod clashes;
+#[cfg(test)]
+mod limits;
+#[cfg(test)]
+mod many;
+#[cfg(test)]
+mod replays;
+#[cfg(test)]
+mod traces;

@@ -1,0 +1,216 @@
+// Trees beside the plain list: some thousand accesses by chance, each of which both stores answer alike. And that calls that allocate
+// can succeed.
+
+ghost use Rattle.std.specs.Prelude.{◌<◌};
+
+use mj_globs::{Change, Globals};
+use mj_store::{Access, Answer, Direction, Flat, Nodes, Store, perform};
+use mj_subs::{Name, Sub, Subs};
+use mj_text::{Failure, Fault, Text};
+use std::alloc::Global;
+use std::test::Fail;
+
+const SUBSCRIPTS: [&str; 10] = ["", "0", "1", "-1", "10", "2", "01", "a", "b", "1.5"];
+
+const STEPS: u64 = 3_000;
+
+// Numbers by chance, the same in each run.
+#[derive(Drop)]
+struct Chance {
+    state: u64,
+}
+
+impl Chance {
+    fn below(&mut self, count: u64) -> u64
+        requires { 0 < count }
+        ensures { result < count }
+    {
+        self.state = self
+            .state
+            .wrapping_mul(6_364_136_223_846_793_005)
+            .wrapping_add(1_442_695_040_888_963_407);
+        (self.state >> 33) % count
+    }
+}
+
+#[test]
+fn trees_answer_as_the_plain_list(rt: HostRuntime) -> Result<(), Fail> {
+    assert_eq!(rt; first_difference(rt.alloc())?, None);
+    Ok(())
+}
+
+#[test]
+fn changes_are_made_whole(rt: HostRuntime) -> Result<(), Fail> {
+    assert_eq!(rt; data_after(rt.alloc(), 30)?, (None, 10));
+    assert_eq!(rt;
+        data_after(rt.alloc(), 31)?,
+        (Some(Failure::Fault(Fault::Limit)), 1)
+    );
+    Ok(())
+}
+
+// The first step at which the answers differ. One function has the stores, and those that may fail borrow them: all that a function has is
+// dropped anew at each of its ends, and each drop is proved.
+fn first_difference(alloc: Global) -> Result<Option<u64>, Failure> {
+    let mut trees = Globals::new(alloc);
+    let mut list = Flat::new(alloc);
+    let step = difference(alloc, &mut trees, &mut list);
+    drop(trees);
+    drop(list);
+    step
+}
+
+fn difference(alloc: Global, trees: &mut Globals, list: &mut Flat) -> Result<Option<u64>, Failure> {
+    let mut chance = Chance { state: 1 };
+    for step in 0..STEPS {
+        if !is_alike(alloc, trees, list, &mut chance)? {
+            return Ok(Some(step));
+        }
+    }
+    Ok(None)
+}
+
+// Whether both stores answer one access alike.
+fn is_alike(
+    alloc: Global,
+    trees: &mut Globals,
+    list: &mut Flat,
+    chance: &mut Chance,
+) -> Result<bool, Failure> {
+    let access = access(alloc, chance)?;
+    let answer = perform(trees, &access)?;
+    let alike = is_answer(list, &access, &answer);
+    drop(answer);
+    drop(access);
+    alike
+}
+
+fn is_answer(list: &mut Flat, access: &Access, answer: &Answer) -> Result<bool, Failure> {
+    let plain = perform(list, access)?;
+    let alike = is_same(answer, &plain);
+    drop(plain);
+    Ok(alike)
+}
+
+// What `$DATA` of a name with a text is after two changes: it goes, and lists of so many subscripts follow one below it.
+fn data_after(alloc: Global, count: u64) -> Result<(Option<Failure>, u8), Failure> {
+    let mut store = Globals::new(alloc);
+    let found = data_in(alloc, &mut store, count);
+    drop(store);
+    found
+}
+
+fn data_in(
+    alloc: Global,
+    store: &mut Globals,
+    count: u64,
+) -> Result<(Option<Failure>, u8), Failure> {
+    let above = Name::global(Text::from(alloc, b"A")?, Subs::new(alloc));
+    set_7(alloc, store, &above)?;
+    let failed = apply_both(alloc, store, &above, count)?;
+    let data = store.data(&above);
+    Ok((failed, data))
+}
+
+fn set_7(alloc: Global, store: &mut Globals, name: &Name) -> Result<(), Failure> {
+    let text = Text::from_number(alloc, 7);
+    store.set(name, &text)?;
+    Ok(())
+}
+
+fn apply_both(
+    alloc: Global,
+    store: &mut Globals,
+    above: &Name,
+    count: u64,
+) -> Result<Option<Failure>, Failure> {
+    let changes = changes(alloc, above, count)?;
+    let failed = store.apply(&changes).err();
+    drop(changes);
+    Ok(failed)
+}
+
+fn changes(alloc: Global, above: &Name, count: u64) -> Result<[Change; 2], Failure> {
+    let above = above.try_clone()?;
+    Ok([Change::Kill(above), put(alloc, count)?])
+}
+
+fn put(alloc: Global, count: u64) -> Result<Change, Failure> {
+    let mut chance = Chance { state: 2 };
+    let first = subscripts(alloc, &mut chance, 1)?;
+    let below = Name::global(Text::from(alloc, b"A")?, first);
+    Ok(Change::Put(below, one_node(alloc, &mut chance, count)?))
+}
+
+fn one_node(alloc: Global, chance: &mut Chance, count: u64) -> Result<Nodes, Failure> {
+    let list = subscripts(alloc, chance, count)?;
+    let mut nodes = Nodes::new(alloc);
+    nodes.push(list, Text::from_number(alloc, 7))?;
+    Ok(nodes)
+}
+
+fn access(alloc: Global, chance: &mut Chance) -> Result<Access, Failure> {
+    let name = name(alloc, chance)?;
+    Ok(match chance.below(14) {
+        0 => Access::Kill(name),
+        1 => Access::Put(name, nodes(alloc, chance)?),
+        2 => Access::Value(name),
+        3 => Access::Data(name),
+        4 | 5 => Access::Order(name, Direction::Forward),
+        6 | 7 => Access::Order(name, Direction::Backward),
+        8 => Access::Query(name),
+        9 => Access::Subtree(name),
+        _ => Access::Set(name, number(alloc, chance)),
+    })
+}
+
+fn name(alloc: Global, chance: &mut Chance) -> Result<Name, Failure> {
+    let bytes: &[u8] = if chance.below(3) == 0 { b"A" } else { b"%B" };
+    let word = Text::from(alloc, bytes)?;
+    let count = chance.below(4);
+    let list = subscripts(alloc, chance, count)?;
+    Ok(if chance.below(3) == 0 {
+        Name::local(word, list)
+    } else {
+        Name::global(word, list)
+    })
+}
+
+fn subscripts(alloc: Global, chance: &mut Chance, count: u64) -> Result<Subs, Failure> {
+    let mut list = Subs::new(alloc);
+    for _ in 0..count {
+        let text = SUBSCRIPTS[chance.below(10) as usize];
+        list.push(Sub::from_text(Text::from(alloc, text.as_bytes())?))?;
+    }
+    Ok(list)
+}
+
+fn nodes(alloc: Global, chance: &mut Chance) -> Result<Nodes, Failure> {
+    let mut nodes = Nodes::new(alloc);
+    for _ in 0..chance.below(4) {
+        let count = if chance.below(8) == 0 {
+            30
+        } else {
+            chance.below(3)
+        };
+        let list = subscripts(alloc, chance, count)?;
+        nodes.push(list, number(alloc, chance))?;
+    }
+    Ok(nodes)
+}
+
+fn number(alloc: Global, chance: &mut Chance) -> Text {
+    Text::from_number(alloc, chance.below(100) as i64)
+}
+
+fn is_same(a: &Answer, b: &Answer) -> bool {
+    match (a, b) {
+        (Answer::Value(a), Answer::Value(b)) => a == b,
+        (Answer::Data(a), Answer::Data(b)) => a == b,
+        (Answer::Order(a), Answer::Order(b)) => a == b,
+        (Answer::Query(a), Answer::Query(b)) => a == b,
+        (Answer::Subtree(a), Answer::Subtree(b)) => a.as_slice() == b.as_slice(),
+        (Answer::Done, Answer::Done) | (Answer::Limit, Answer::Limit) => true,
+        _ => false,
+    }
+}

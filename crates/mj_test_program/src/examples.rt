@@ -1,0 +1,191 @@
+// The examples under examples/: the same files, and what they print and leave.
+
+use mj_test_runs::{comes_to, folder, judge_file, left, remove, write};
+use std::test::Fail;
+
+// Fails where a routine of this name and these bytes, over the globals of a listing, doesn't print this, or leaves no listing, or another than one that
+// is given. Its starts come with the words before them.
+fn prints(
+    rt: &HostRuntime,
+    name: &str,
+    bytes: &str,
+    starts: &str,
+    listing: &str,
+    out: &str,
+    saved: Option<&str>,
+) -> Result<(), Fail> {
+    let folder = folder(rt, name)?;
+    let told = prints_in(
+        rt,
+        folder.as_str(),
+        name,
+        bytes,
+        starts,
+        listing,
+        out,
+        saved,
+    );
+    drop(folder);
+    told
+}
+
+fn prints_in(
+    rt: &HostRuntime,
+    folder: &str,
+    name: &str,
+    bytes: &str,
+    starts: &str,
+    listing: &str,
+    out: &str,
+    saved: Option<&str>,
+) -> Result<(), Fail> {
+    write(rt, folder, "before", listing.as_bytes())?;
+    write_routine(rt, folder, name, bytes)?;
+    runs(rt, folder, name, starts, out)?;
+    if saved.is_some() {
+        judge_file(rt, folder, "after", saved)?;
+    } else {
+        is_left(rt, folder, "after")?;
+    }
+    remove(rt, folder)
+}
+
+// Fails where a file isn't there. What an example leaves whose jobs take numbers in turn isn't judged.
+fn is_left(rt: &HostRuntime, folder: &str, name: &str) -> Result<(), Fail> {
+    match left(rt, folder, name)? {
+        Some(text) => {
+            drop(text);
+            Ok(())
+        }
+        None => Err(Fail::new(format_args!("no {name}"))),
+    }
+}
+
+fn write_routine(rt: &HostRuntime, folder: &str, name: &str, bytes: &str) -> Result<(), Fail> {
+    let file = format!(in rt.alloc(); "{name}.m")?;
+    let written = write(rt, folder, file.as_str(), bytes.as_bytes());
+    drop(file);
+    written
+}
+
+fn runs(rt: &HostRuntime, folder: &str, name: &str, starts: &str, out: &str) -> Result<(), Fail> {
+    let words = format!(in rt.alloc();
+        "run|{starts}|--globals|DIR/before|--save|DIR/after|DIR/{name}.m"
+    )?;
+    let told = comes_to(rt, folder, words.as_str(), b"", out, "", 0);
+    drop(words);
+    told
+}
+
+// The example examples/transfer: the sum of two accounts never changes.
+#[test]
+fn money_is_moved(rt: HostRuntime) -> Result<(), Fail> {
+    prints(
+        &rt,
+        "TRANSFER",
+        "TRANSFER ; three jobs move money between two accounts while a fourth looks: their sum never changes
+ SET ^BALANCE(\"Ann\")=1000,^BALANCE(\"Bob\")=500
+ JOB PAY(\"Ann\",\"Bob\",7),PAY(\"Bob\",\"Ann\",5),PAY(\"Ann\",\"Bob\",3)
+ FOR I=1:1:5 DO LOOK
+ QUIT
+PAY(FROM,TO,AMOUNT) ; ten times
+ FOR I=1:1:10 DO MOVE
+ QUIT
+MOVE ; both accounts change at once, or neither does
+ TSTART ():SERIAL
+ SET ^BALANCE(FROM)=^BALANCE(FROM)-AMOUNT
+ SET ^BALANCE(TO)=^BALANCE(TO)+AMOUNT
+ TCOMMIT
+ QUIT
+LOOK ; the sum, of one moment
+ TSTART ():SERIAL
+ SET SUM=^BALANCE(\"Ann\")+^BALANCE(\"Bob\")
+ TCOMMIT
+ WRITE SUM,!
+ QUIT
+",
+        "--start|^TRANSFER",
+        "mj-globals 1\n",
+        "--- job 1\n1500\n1500\n1500\n1500\n1500\n--- job 2\n--- job 3\n--- job 4\n",
+        Some("mj-globals 1\n^BALANCE(\"Ann\")=\"950\"\n^BALANCE(\"Bob\")=\"550\"\n"),
+    )
+}
+
+// The example examples/registry: the index is never wrong.
+#[test]
+fn people_are_registered(rt: HostRuntime) -> Result<(), Fail> {
+    prints(
+        &rt,
+        "REGISTRY",
+        "REGISTRY ; two jobs add people, each with a number of its own and in an index by name
+ JOB ADDALL(\"Cid,Ann,Eve\"),ADDALL(\"Bob,Flo,Dan\")
+ FOR  QUIT:$GET(^PERSON)=6  HANG 1
+ DO REMOVE(\"Eve\")
+ DO LIST
+ QUIT
+ADDALL(NAMES)
+ FOR I=1:1:3 DO ADD($PIECE(NAMES,\",\",I))
+ QUIT
+ADD(NAME) ; the next number, the person and the index: all of it or nothing
+ TSTART ():SERIAL
+ SET N=$GET(^PERSON)+1,^PERSON=N
+ SET ^PERSON(N)=NAME,^INDEX(NAME)=N
+ TCOMMIT
+ QUIT
+REMOVE(NAME) ; from both
+ TSTART ():SERIAL
+ SET N=^INDEX(NAME)
+ KILL ^PERSON(N),^INDEX(NAME)
+ TCOMMIT
+ QUIT
+LIST ; by name, each with what the index leads to
+ SET NAME=\"\"
+ FOR  SET NAME=$ORDER(^INDEX(NAME)) QUIT:NAME=\"\"  WRITE NAME,\" is \",^PERSON(^INDEX(NAME)),!
+ QUIT
+",
+        "--start|^REGISTRY",
+        "mj-globals 1\n",
+        "--- job 1\nAnn is Ann\nBob is Bob\nCid is Cid\nDan is Dan\nFlo is Flo\n--- job 2\n--- job 3\n",
+        None,
+    )
+}
+
+// The example examples/on_call: one doctor stays, where each would leave if it weren't for SERIAL.
+#[test]
+fn one_doctor_stays(rt: HostRuntime) -> Result<(), Fail> {
+    let bytes = "ONCALL ; each doctor may leave where another one stays
+ANN DO LEAVE(\"Ann\") QUIT
+BOB DO LEAVE(\"Bob\") QUIT
+LEAVE(WHO) ; counts who is on call, and leaves if there are others
+ TSTART ():SERIAL
+ SET COUNT=0,NAME=\"\"
+ FOR  SET NAME=$ORDER(^ONCALL(NAME)) QUIT:NAME=\"\"  SET COUNT=COUNT+1
+ KILL:COUNT>1 ^ONCALL(WHO)
+ TCOMMIT
+ WRITE WHO,$SELECT(COUNT>1:\" leaves\",1:\" stays\"),!
+ QUIT
+";
+    let doctors = "mj-globals 1\n^ONCALL(\"Ann\")=\"\"\n^ONCALL(\"Bob\")=\"\"\n";
+    let starts = "--start|ANN^ONCALL|--start|BOB^ONCALL";
+    prints(
+        &rt,
+        "ONCALL",
+        bytes,
+        starts,
+        doctors,
+        "--- job 1\nAnn leaves\n--- job 2\nBob stays\n",
+        Some("mj-globals 1\n^ONCALL(\"Bob\")=\"\"\n"),
+    )?;
+    let plain = bytes.replace(rt.alloc(), ":SERIAL", "")?;
+    let done = prints(
+        &rt,
+        "ONCALL",
+        plain.as_str(),
+        starts,
+        doctors,
+        "--- job 1\nAnn leaves\n--- job 2\nBob leaves\n",
+        Some("mj-globals 1\n"),
+    );
+    drop(plain);
+    done
+}

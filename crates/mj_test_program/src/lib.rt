@@ -1,0 +1,38 @@
+// Rows: runs of the whole program, from the words of the command line to what it prints and its exit status. These are of routines in one
+// job (expressions, commands, faults and refusals), of the words of the command line, listings, standard input and output, devices over files,
+// of the examples of this repository, and of the debugger. Those of several jobs and of traces are in `mj_test_jobs`. Their expected values
+// were written down before the program ran. A crate with tests is proved twice, so they stand here; and in few crates, since what it costs
+// to begin a proof over the whole program is more than what most rows cost. Rows of single crates are in `mj_test_parts` and
+// `mj_test_reading`, those of a core in `mj_test_core`.
+#![tactic(auto)]
+
+#[cfg(test)]
+mod commands;
+#[cfg(test)]
+mod control;
+#[cfg(test)]
+mod devices;
+#[cfg(test)]
+mod examples;
+#[cfg(test)]
+mod functions;
+#[cfg(test)]
+mod input;
+#[cfg(test)]
+mod listings;
+#[cfg(test)]
+mod names;
+#[cfg(test)]
+mod operators;
+#[cfg(test)]
+mod outputs;
+#[cfg(test)]
+mod runs;
+#[cfg(test)]
+mod sessions;
+#[cfg(test)]
+mod sharing;
+#[cfg(test)]
+mod transactions;
+#[cfg(test)]
+mod words;

@@ -1,0 +1,170 @@
+// Traces: what is read and written, and what is refused.
+
+use crate::fronts::{Form, wrong_code, wrong_front};
+use crate::tables::{Reading, judge};
+use crate::traces::trace_told;
+use std::test::Fail;
+
+// A trace of two devices and two jobs, with every ask and every reply.
+const ALL: &str = "mj-trace 1
+pool \"0\" 255
+pool \"F\" 0
+pool \"F\\0a\" 4294967295
+start ^R
+start %1^Rx
+start 007^R
+1 dev \"0\" begin done
+2 dev \"0\" begin failed
+1 set ^A \"20\" done
+1 set ^A(1,\"x\",-5) \"a\"\"b\\\\\\ff\" limit
+1 value ^A \"20\"
+1 value ^A(\"01\") -
+1 value ^A limit
+1 data ^A 11
+1 order ^A(\"\") 1 -
+1 order ^A(1,\"\") -1 -7
+1 order ^A 1 \"x\"
+1 query ^A(\"\") ^A(1,\"x\")
+1 query ^A -
+1 subtree ^A {}
+1 subtree ^A {()=\"20\",(1)=\"\",(1,\"x\")=\"a,)\"}
+1 kill ^A done
+1 put ^A {(1)=\"1\"} done
+1 put ^A {} limit
+1 try ^A,A(1),^A(1,2) :5 late
+1 try A got
+1 try A :-3 limit
+1 unlock A,^B done
+1 unlock * limit
+1 begin done
+1 begin serial done
+1 commit done
+1 commit clash 1 - \"x\"
+1 commit clash 65536 -5 ^A(1)
+1 commit clash 2 {()=\"1\"} {}
+1 rollback done
+1 open \"F\" got
+1 open \"F\" :0 none
+1 close \"F\" done
+1 start ^R () job 4294967295
+1 start A^R (\"x\",-,\"\") :999999999999999999 limit
+1 dev \"0\" write \"20\" done
+1 dev \"0\" line \"\"
+1 dev \"0\" line :1 end
+1 dev \"0\" byte 255
+1 dev \"0\" byte :1 late
+1 dev \"0\" end failed
+1 rest -1 done
+1 halt done
+4294967295 halt F22 done
+";
+
+// The trace of `SET ^A=2+3*4 WRITE ^A,! HALT`.
+const FIRST: &str = "mj-trace 1
+pool \"0\" 255
+start ^R
+1 dev \"0\" begin done
+1 set ^A \"20\" done
+1 value ^A \"20\"
+1 dev \"0\" write \"20\" done
+1 dev \"0\" write \"\\0a\" done
+1 dev \"0\" end done
+1 halt done
+";
+
+#[test]
+fn traces_are_read_and_written(rt: HostRuntime) -> Result<(), Fail> {
+    for text in [FIRST, ALL, SHORT, "mj-trace 1\npool \"0\" 1\nstart ^R\n"] {
+        let said = trace_told(rt.alloc(), text.as_bytes())?;
+        assert_eq!(rt; said.as_str(), "same");
+    }
+    Ok(())
+}
+
+// Behind a device and a start.
+#[test]
+fn what_is_no_event_is_refused_by_its_line(rt: HostRuntime) -> Result<(), Fail> {
+    let rows = "1 value ^A \"20\" => X2 line 4
+~ => X2 line 4
+1 halt done~1 halt F23 done~ => X2 line 5
+1 halt F0 done~ => X2 line 4
+01 halt done~ => X2 line 4
+-1 halt done~ => X2 line 4
+4294967296 halt done~ => X2 line 4
+1  halt done~ => X2 line 4
+1 halt done ~ => X2 line 4
+1 halt done\r~ => X2 line 4
+1 halt limit~ => X2 line 4
+1 value A \"20\"~ => X2 line 4
+1 value ^A(\"\") -~ => X2 line 4
+1 value ^A(\"5\") -~ => X2 line 4
+1 order ^A(\"\",1) 1 -~ => X2 line 4
+1 order ^A(\"\") 2 -~ => X2 line 4
+1 order ^A(\"\") 1 \"\"~ => X2 line 4
+1 order ^A(\"\") 1 \"5\"~ => X2 line 4
+1 query ^A A~ => X2 line 4
+1 data ^A 2~ => X2 line 4
+1 value ^A \"\\41\"~ => X2 line 4
+1 value ^A \"\\FF\"~ => X2 line 4
+1 subtree ^A {(2)=\"\",(1)=\"\"}~ => X2 line 4
+1 subtree ^A {(1)=\"\",(1)=\"\"}~ => X2 line 4
+1 subtree ^A {(\"\")=\"\"}~ => X2 line 4
+1 try  got~ => X2 line 4
+1 try A :5~ => X2 line 4
+1 try A :1000000000000000000 got~ => X2 line 4
+1 commit clash 0 - \"x\"~ => X2 line 4
+1 commit clash 1 - A~ => X2 line 4
+1 dev \"0\" byte 256~ => X2 line 4
+1 start R () job 2~ => X2 line 4
+start ^R~start ^R~ => X2 line 5
+1 halt done~start ^R~ => X2 line 5
+pool \"1\" 1~ => X2 line 4
+";
+    judge(&rt, Reading::Events, rows)
+}
+
+#[test]
+fn what_is_no_trace_is_refused_by_its_first_line(rt: HostRuntime) -> Result<(), Fail> {
+    let rows = " => X1
+mj-trace 1 => X1
+mj-trace 2~ => X1
+mj-trace 1~ => X2 line 2
+mj-trace 1~pool \"0\" 1~ => X2 line 3
+mj-trace 1~pool \"0\" 1~1 halt done~ => X2 line 3
+mj-trace 1~start ^R~ => X2 line 2
+mj-trace 1~pool \"F\" 1~pool \"0\" 1~ => X2 line 3
+mj-trace 1~pool \"0\" 1~pool \"0\" 1~ => X2 line 3
+mj-trace 1~pool \"0\" 1~start ^R~start ^R~ => X2 line 4
+mj-trace 1~pool \"0\" 4294967296~ => X2 line 2
+mj-trace 1~pool \"0\" 01~ => X2 line 2
+";
+    judge(&rt, Reading::Trace, rows)
+}
+
+#[test]
+fn each_front_of_a_trace_is_read_or_refused(rt: HostRuntime) -> Result<(), Fail> {
+    assert_eq!(rt; wrong_front(rt.alloc(), Form::Trace, ALL.as_bytes())?, None);
+    Ok(())
+}
+
+// A trace whose bytes are replaced, one after the other.
+const SHORT: &str = "mj-trace 1
+pool \"0\" 2
+start A^R
+1 dev \"0\" begin done
+1 set ^A(1,\"x\") \"\\0a\" done
+1 order ^A(\"\") -1 -5
+1 try A,^B :5 late
+1 start ^R (-,\"\") job 2
+1 subtree ^A {()=\"v\",(1)=\"w\"}
+2 dev \"0\" byte 13
+1 commit clash 1 - 7
+1 halt F2 done
+";
+
+// The place and the code of the first that is neither.
+#[test]
+fn a_trace_with_one_byte_replaced_is_read_or_refused(rt: HostRuntime) -> Result<(), Fail> {
+    assert_eq!(rt; wrong_code(rt.alloc(), Form::Trace, SHORT)?, None);
+    Ok(())
+}

@@ -1,0 +1,38 @@
+use Rattle.std.proofs.Common.{◌≡◌, ℕ, ◌+◌, ◌<◌, true, false, sym, ◌∙◌, arith}
+use Rattle.mj_text.specs.declared.fault.Fault.TheVariants.{NoTransaction, NoRestart, Steps}
+use Rattle.mj_semantics.specs.Outcome.{Timed, fault}
+use Rattle.mj_semantics.specs.State.{can_restart}
+use Rattle.mj_semantics.specs.Transactions.{roll_back_for_restart}
+use Rattle.mj_pcode.specs.Machine.{Next}
+use Rattle.mj_machine.specs.Kept.{context_of, stack_of, state_of, replied}
+use Rattle.mj_machine.proofs.Asks.{does_as}
+use Rattle.mj_transaction_ops.proofs.Levels.{none_open, no_restart, no_give_back}
+use Rattle.mj_transaction_ops.proofs.ending.roll_back_for_restart.Goals as goal
+
+pub returns-then-machine-eq0-clause-ok : goal.returns-then-machine-eq0-clause-ok
+returns-then-machine-eq0-clause-ok c = λ all u.
+    let old = c.args.machine.now in
+    let rest : ℕ → Next → Timed = λ k next. next (context_of old) (c.args.pc + k) (stack_of old) in
+    does_as (λ next. roll_back_for_restart (rest 1 next)) (λ next. fault NoTransaction) old (replied c.args.given) c.fail.result c.fail.new.machine
+    (λ next n back replies. none_open n back (state_of old) replies _ c.if-machine-eq0.true)
+    (c.fail.ensures (replied c.args.given))
+
+pub returns-then-not-can_restart-clause-ok : goal.returns-then-not-can_restart-clause-ok
+returns-then-not-can_restart-clause-ok c = λ all u.
+    let old = c.args.machine.now in
+    let rest : ℕ → Next → Timed = λ k next. next (context_of old) (c.args.pc + k) (stack_of old) in
+    let some : 0 < old.level = omega (arith, c.if-machine-eq0.false) in
+    let never : can_restart (state_of old) ≡ false = sym c.can_restart.ensures ∙ c.if-not-can_restart.true in
+    does_as (λ next. roll_back_for_restart (rest 1 next)) (λ next. fault NoRestart) old (replied c.args.given) c.fail-then-not-can_restart.result c.fail-then-not-can_restart.new.machine
+    (λ next n back replies. no_restart n back (state_of old) replies (rest 1 next) some never)
+    (c.fail-then-not-can_restart.ensures (replied c.args.given))
+
+pub returns-then-machine-ge-STEPS_LIMIT-clause-ok : goal.returns-then-machine-ge-STEPS_LIMIT-clause-ok
+returns-then-machine-ge-STEPS_LIMIT-clause-ok c = λ all u.
+    let old = c.args.machine.now in
+    let rest : ℕ → Next → Timed = λ k next. next (context_of old) (c.args.pc + k) (stack_of old) in
+    let some : 0 < old.level = omega (arith, c.if-machine-eq0.false) in
+    let can : can_restart (state_of old) ≡ true = sym c.can_restart.ensures ∙ c.if-not-can_restart.false in
+    does_as (λ next. roll_back_for_restart (rest 1 next)) (λ next. fault Steps) old (replied c.args.given) c.fail-then-machine-ge-STEPS_LIMIT.result c.fail-then-machine-ge-STEPS_LIMIT.new.machine
+    (λ next n back replies. no_give_back n back (state_of old) replies (rest 1 next) some can c.if-machine-ge-STEPS_LIMIT.true)
+    (c.fail-then-machine-ge-STEPS_LIMIT.ensures (replied c.args.given))
